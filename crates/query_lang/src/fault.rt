@@ -1,0 +1,59 @@
+//! Places in a query's text, and the faults that stand there.
+
+/// Bytes of the text, from `start` up to `end`.
+#[derive(Clone, Copy, Debug, PartialEq, Eq)]
+pub struct Span {
+    pub start: u32,
+    pub end: u32,
+}
+
+/// The first fault of a query, and where it stands. A fault at a token has the token's span, and any other one has the
+/// byte's offset at both ends.
+#[derive(Clone, Copy, Debug, PartialEq, Eq)]
+pub struct QueryFault {
+    pub kind: FaultKind,
+    pub span: Span,
+}
+
+#[derive(Clone, Copy, Debug, PartialEq, Eq)]
+pub enum FaultKind {
+    /// The text has more than 65,536 bytes.
+    QueryTooLong,
+    /// A byte that begins no token, or the first byte of a word that is neither a number nor a name.
+    BadByte,
+    /// No query goes on with this token.
+    UnexpectedToken,
+    /// A number of 2^64 or more.
+    NumberTooLarge,
+    /// A name that stands for nothing here.
+    UnknownName,
+    /// A name that stands for something else already.
+    NameTaken,
+    /// A word for a condition, a fold for a stream, and the like.
+    WrongKind,
+    /// A function without its two arguments, or a second `emit`.
+    WrongArity,
+    /// A divisor, a shift or a count that isn't a constant in its range.
+    BadConstant,
+    /// A fold's state is read while packets pass.
+    StateOnLine,
+    /// More of something than there may be.
+    OverLimit(Limit),
+    /// A query that prints no table.
+    NothingPrinted,
+    /// A query of a form that can't be run yet.
+    NotBuilt,
+}
+
+#[derive(Clone, Copy, Debug, PartialEq, Eq)]
+pub enum Limit {
+    Groupbys,
+    Keys,
+    States,
+    Args,
+    Statements,
+    Nodes,
+    Bindings,
+    Nesting,
+    Stages,
+}

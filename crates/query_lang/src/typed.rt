@@ -1,0 +1,57 @@
+//! A query whose names and kinds were checked: streams, folds and tables by number, columns as slots.
+
+use crate::fold::{TypedExpr, TypedFold};
+use crate::query::Name;
+use marple_base::Seq;
+
+/// Whether a fold is linear in its state.
+#[derive(Clone, Copy, Debug, PartialEq, Eq)]
+pub enum Class {
+    Linear,
+    Other,
+}
+
+/// A stream. Streams are numbered from 0, and number 0 is `pktstream`, which has no entry.
+#[derive(Drop)]
+pub struct TypedStream {
+    pub name: Name,
+    pub columns: Seq<u32>,
+    pub op: TypedOp,
+}
+
+/// What makes a stream, of streams by number and columns by slot.
+#[derive(Drop)]
+pub enum TypedOp {
+    Filter(u16, TypedExpr),
+    Map(u16, Seq<TypedExpr>),
+    /// Two streams, and the columns that are taken from the second.
+    Zip(u16, u16, Seq<u16>),
+    /// A stream, its key columns, a fold, and the columns that are the fold's arguments.
+    Group(u16, Seq<u16>, u16, Seq<u16>),
+}
+
+/// A table made of tables. Tables are numbered with the groupbys first, and then the finals.
+#[derive(Drop)]
+pub struct TypedFinal {
+    pub name: Name,
+    pub columns: Seq<u32>,
+    pub keys: u8,
+    pub op: TypedFinalOp,
+}
+
+#[derive(Drop)]
+pub enum TypedFinalOp {
+    Filter(u16, TypedExpr),
+    Map(u16, Seq<TypedExpr>),
+    Group(u16, Seq<u16>, u16, Seq<u16>),
+    Join(u16, u16),
+    /// A table, a column, and how many rows are kept.
+    Top(u16, u16, u64),
+}
+
+/// A printed table: a groupby or a final, each counted from 0.
+#[derive(Clone, Copy, Debug, PartialEq, Eq)]
+pub enum PrintOf {
+    Group(u16),
+    Final(u16),
+}
