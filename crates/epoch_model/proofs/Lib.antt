@@ -1,0 +1,16 @@
+pub mod KeyLists
+pub mod KeyOrder
+pub mod StackDistance
+pub mod EpochLists
+pub mod MachineSteps
+pub mod PacketSteps
+pub mod Following
+pub mod Turns
+pub mod Rows
+pub mod EndOfTrace
+pub mod WellFormed
+pub mod Cuts
+pub mod Merges
+pub mod Consecutive
+pub mod TableRows
+pub mod Driving

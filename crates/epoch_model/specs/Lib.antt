@@ -1,0 +1,9 @@
+pub mod Keys
+pub mod Epochs
+pub mod Machine
+pub mod Timeline
+pub mod Laws
+pub mod Tables
+pub mod TableLaws
+pub mod Driving
+pub mod Examples
