@@ -1,0 +1,5 @@
+pub mod NumberFacts
+pub mod ReadingFacts
+pub mod EachFacts
+pub mod ColumnFacts
+pub mod TraceFacts

@@ -1,0 +1,28 @@
+use Rattle.std.proofs.Common.{arith, refl}
+use Rattle.std.proofs.Math.ListN.{length-set}
+use Rattle.std.proofs.lemmas.List.{drop_all}
+use Rattle.csv.specs.Records.{fields_of}
+use Rattle.marple_base.specs.Field.{all_fields}
+use Rattle.marple_base.specs.declared.field.Field.TheVariants as f
+use Rattle.trace_reader.specs.Traces.{column_of, each}
+use Rattle.trace_reader.proofs.EachFacts.{all_written, each_more, error_met, value_written}
+use Rattle.trace_reader.proofs.record.columns.Goals as goal
+
+pub returns-in-Err-clause-value : goal.returns-in-Err-clause-value
+returns-in-Err-clause-value c =
+    let step = each_more (column_of c.args.reads (fields_of c.args.header.now)) all_fields c.loop-i.i f.Switch c.loop-i-test.true in
+    error_met _ _ _ _ _ _ c.loop-i.invariant.filled step c.in-Err.ensures.value
+
+pub loop-i-preserved : goal.loop-i-preserved
+loop-i-preserved c =
+    let step = each_more (column_of c.args.reads (fields_of c.args.header.now)) all_fields c.loop-i.i f.Switch c.loop-i-test.true in
+    record {
+      filled = value_written _ _ _ _ c.loop-i.columns c.loop-i.i c.in-Ok.found (omega arith) c.loop-i.invariant.filled step c.in-Ok.ensures.value;
+      size = simp length-set c.loop-i.invariant.size;
+    }
+
+pub returns-clause-value : goal.returns-clause-value
+unfolding each
+returns-clause-value c =
+    let none = drop_all c.loop-i.i all_fields c.loop-i-test.false in
+    all_written _ _ c.loop-i.columns c.loop-i.i (omega arith) c.loop-i.invariant.filled (rw none refl)

@@ -1,0 +1,6 @@
+pub mod Numbers
+pub mod Reading
+pub mod Traces
+pub mod Upcoming
+pub mod TraceView
+pub mod Faults

@@ -1,0 +1,10 @@
+//! Packets from the text of a trace, one record at a time.
+#![tactic(auto)]
+
+mod fault;
+mod number;
+mod record;
+mod trace;
+
+pub use fault::{MAX_BYTES, MAX_RECORDS, TraceAnswer, TraceFault};
+pub use trace::{Trace, open_trace};

@@ -1,0 +1,135 @@
+//! Numbers in the fields of a trace.
+
+ghost use Rattle.std.specs.Prelude.{◌≡◌, ◌+◌, ◌*◌, ◌^◌, ◌==◌, ◌<◌, ◌≤◌, ◌∷◌, [], drop, length, take, IfNone, IfSome, MatchOption};
+ghost use Rattle.std.specs.List.{slice_split};
+ghost use Rattle.trace_reader.specs.Numbers as Numbers;
+ghost use Rattle.trace_reader.specs.Numbers.{decimal_word, is_dot, octet_word, quad_word, without_blanks, without_first_blanks, without_last_blanks, word_of};
+
+use marple_base::Field;
+
+fn is_blank(byte: u8) -> bool
+    ensures { result ≡ Numbers.is_blank byte }
+{
+    byte == b' ' || byte == b'\t'
+}
+
+// Where the first byte stands that is no blank.
+fn first_kept(text: &[u8]) -> usize
+    ensures value { drop result text.now ≡ without_first_blanks text.now }
+    ensures bound { result ≤ length text.now }
+{
+    for i in 0..text.len() {
+        if !is_blank(text[i]) {
+            return i;
+        }
+    }
+    text.len()
+}
+
+// Where the blanks at the end begin.
+fn kept_end(text: &[u8]) -> usize
+    ensures value { take result text.now ≡ without_last_blanks text.now }
+    ensures bound { result ≤ length text.now }
+{
+    let len = text.len();
+    for k in 0..len {
+        if !is_blank(text[len - k - 1]) {
+            return len - k;
+        }
+    }
+    0
+}
+
+/// A text without the spaces and tabs at its ends.
+pub fn trimmed(text: &[u8]) -> &[u8]
+    ensures { result.now ≡ without_blanks text.now }
+{
+    let rest = &text[first_kept(text)..];
+    &rest[..kept_end(rest)]
+}
+
+// One more digit at the end of a number, where the number still fits.
+fn with_digit(number: u64, digit: u64) -> Option<u64>
+    requires { digit < 10 }
+    ensures some { IfSome result (λ n. (n ≡ number * 10 + digit) × (n < 2 ^ 64)) }
+    ensures none { IfNone result (2 ^ 64 ≤ number * 10 + digit) }
+{
+    number.checked_mul(10)?.checked_add(digit)
+}
+
+// A number of 1 to 20 digits.
+fn decimal(text: &[u8]) -> Option<u64>
+    ensures { result ≡ decimal_word text.now }
+{
+    if text.is_empty() || text.len() > 20 {
+        return None;
+    }
+    let mut number = 0u64;
+    for byte in text {
+        if !byte.is_ascii_digit() {
+            return None;
+        }
+        let Some(next) = with_digit(number, u64::from(*byte - b'0')) else {
+            return None;
+        };
+        number = next;
+    }
+    Some(number)
+}
+
+// A number of 1 to 3 digits that is at most 255.
+fn octet(text: &[u8]) -> Option<u64>
+    ensures value { result ≡ octet_word text.now }
+    ensures small { IfSome result (λ n. n < 256) }
+{
+    if text.len() > 3 {
+        return None;
+    }
+    match decimal(text) {
+        Some(number) if number < 256 => Some(number),
+        _ => None,
+    }
+}
+
+// What stands before the first dot, and what stands after it.
+fn cut_at_dot(text: &[u8]) -> Option<(&[u8], &[u8])>
+    ensures { MatchOption result (slice_split is_dot text.now ≡ text.now ∷ []) (λ parts. slice_split is_dot text.now ≡ parts.0.now ∷ slice_split is_dot parts.1.now) }
+{
+    for (i, byte) in text.iter().enumerate() {
+        if *byte == b'.' {
+            return Some((&text[..i], &text[i + 1..]));
+        }
+    }
+    None
+}
+
+// Four numbers parted by dots, the first the most significant byte.
+fn quad(text: &[u8]) -> Option<u64>
+    ensures { result ≡ quad_word text.now }
+{
+    let (first, rest) = cut_at_dot(text)?;
+    let (second, rest) = cut_at_dot(rest)?;
+    let (third, fourth) = cut_at_dot(rest)?;
+    if let Some(_) = cut_at_dot(fourth) {
+        return None;
+    }
+    let first = octet(first)?;
+    let second = octet(second)?;
+    let third = octet(third)?;
+    let fourth = octet(fourth)?;
+    Some(((first * 256 + second) * 256 + third) * 256 + fourth)
+}
+
+/// The word of a field's text, if the text is in the field's form.
+pub fn word(field: Field, text: &[u8]) -> Option<u64>
+    ensures { result ≡ word_of field text.now }
+{
+    if let Some(number) = decimal(text) {
+        return Some(number);
+    }
+    match field {
+        Field::SrcIp | Field::DstIp => quad(text),
+        Field::Tout if text == b"inf".as_slice() => Some(u64::MAX),
+        _ => None,
+    }
+}

@@ -1,0 +1,150 @@
+//! A trace, packet by packet.
+
+ghost use Rattle.std.specs.Prelude.{◌≡◌, Err, IfErr, IfOk, IfSome, None, Ok, Some, false, is_ok, true};
+ghost use Rattle.trace_reader.specs.Traces.{opening, packets, trace_fault};
+ghost use Rattle.trace_reader.specs.Faults.{IfRefused, IsEarly, IsLate};
+ghost use Rattle.trace_reader.specs.Upcoming.{Gives, IsAtEnd, IsAtFault, IsSetUp, upcoming_of};
+
+use crate::fault::{MAX_BYTES, MAX_RECORDS, TraceAnswer, TraceFault};
+use crate::record::{columns, next_record, packet_into};
+use csv::{ByteRecord, Reader, ReaderBuilder};
+use marple_base::{FieldSet, Packet};
+use std::alloc::Global;
+use std::marker::Model;
+
+// How far a trace is.
+#[derive(Clone, Copy)]
+enum Progress {
+    Reading,
+    Ended,
+    Stopped(TraceAnswer),
+}
+
+/// A trace that is read packet by packet. Contracts see the packets that are still to come, the fault that
+/// stands behind them, if there is one, and the answer that stopped the trace, if one did.
+#[derive(Drop)]
+pub struct Trace<'a> {
+    reader: Reader<&'a [u8]>,
+    row: ByteRecord,
+    width: usize,
+    columns: [Option<usize>; 14],
+    given: u32,
+    progress: Progress,
+}
+
+impl<'a> Model for Trace<'a> {
+    ghost use Rattle.trace_reader.specs.Upcoming.{Upcoming};
+
+    ghost Value = { Upcoming };
+
+    ghost use Rattle.trace_reader.specs.TraceView.{upcoming_in, IsSound};
+
+    ghost view = { upcoming_in };
+
+    ghost invariant = { IsSound };
+}
+
+// A reader that gives each record of the text, the first too, of any length.
+fn reader_of(alloc: Global, bytes: &[u8]) -> Reader<&[u8]>
+    ensures { IsSetUp bytes.now result }
+{
+    ReaderBuilder::new()
+        .has_headers(false)
+        .flexible(true)
+        .from_reader(alloc, bytes)
+}
+
+/// Opens a trace of which some fields are read.
+pub fn open_trace<'a>(
+    alloc: Global,
+    bytes: &'a [u8],
+    reads: FieldSet,
+) -> Result<Trace<'a>, TraceAnswer>
+    ensures opened { IfOk result (λ trace. trace ≡ upcoming_of bytes.now reads) }
+    ensures accepted { IfOk result (λ trace. is_ok (opening bytes.now reads) ≡ true) }
+    ensures refused { IfErr result (λ answer. IfRefused answer (λ fault. trace_fault bytes.now reads ≡ Some fault)) }
+    ensures opening { IfErr result (λ answer. IfRefused answer (λ fault. opening bytes.now reads ≡ Err fault)) }
+    ensures early { IfErr result (λ answer. IfRefused answer IsEarly) }
+{
+    if bytes.len() > MAX_BYTES {
+        return Err(TraceAnswer::Refused(TraceFault::TraceTooLong));
+    }
+    let mut reader = reader_of(alloc, bytes);
+    let mut row = ByteRecord::new(alloc);
+    match next_record(&mut reader, &mut row) {
+        Err(answer) => Err(answer),
+        Ok(false) => Err(TraceAnswer::Refused(TraceFault::NoHeader)),
+        Ok(true) => match columns(&row, reads) {
+            Err(fault) => Err(TraceAnswer::Refused(fault)),
+            Ok(columns) => {
+                let width = row.len();
+                Ok(Trace {
+                    reader,
+                    row,
+                    width,
+                    columns,
+                    given: 0,
+                    progress: Progress::Reading,
+                })
+            }
+        },
+    }
+}
+
+impl<'a> Trace<'a> {
+    /// The next packet, none at the end. Once it answers an error it answers the same from then on.
+    pub fn next(&mut self) -> Result<Option<Packet>, TraceAnswer>
+        ensures packet { IfOk result (λ found. IfSome found (λ packet. Gives self.old packet self.new)) }
+        ensures end { result ≡ Ok None → IsAtEnd self.old × (self.new ≡ self.old) }
+        ensures refused { IfErr result (λ answer. IfRefused answer (λ fault. IsAtFault self.old fault × IsAtFault self.new fault)) }
+        ensures late { IfErr result (λ answer. IfRefused answer IsLate) }
+        ensures stopped { IfErr result (λ answer. self.new.stopped ≡ Some answer) }
+        ensures again { IfSome self.old.stopped (λ answer. result ≡ Err answer) }
+    {
+        let mut packet = Packet { words: [0; 14] };
+        match self.next_into(&mut packet) {
+            Ok(true) => Ok(Some(packet)),
+            Ok(false) => Ok(None),
+            Err(answer) => Err(answer),
+        }
+    }
+
+    /// The next packet into `packet`, and whether there was one: the same as `next`, with no copy of the packet.
+    /// Where there is none, the words of `packet` are free.
+    pub fn next_into(&mut self, packet: &mut Packet) -> Result<bool, TraceAnswer>
+        ensures packet { result ≡ Ok true → Gives self.old packet.new self.new }
+        ensures end { result ≡ Ok false → IsAtEnd self.old × (self.new ≡ self.old) }
+        ensures refused { IfErr result (λ answer. IfRefused answer (λ fault. IsAtFault self.old fault × IsAtFault self.new fault)) }
+        ensures late { IfErr result (λ answer. IfRefused answer IsLate) }
+        ensures stopped { IfErr result (λ answer. self.new.stopped ≡ Some answer) }
+        ensures again { IfSome self.old.stopped (λ answer. result ≡ Err answer) }
+    {
+        match self.progress {
+            Progress::Stopped(answer) => return Err(answer),
+            Progress::Ended => return Ok(false),
+            Progress::Reading => {}
+        }
+        match next_record(&mut self.reader, &mut self.row) {
+            Err(answer) => {
+                self.progress = Progress::Stopped(answer);
+                Err(answer)
+            }
+            Ok(false) => {
+                self.progress = Progress::Ended;
+                Ok(false)
+            }
+            Ok(true) => {
+                match packet_into(&self.row, self.given + 1, self.width, &self.columns, packet) {
+                    Ok(()) => {
+                        self.given += 1;
+                        Ok(true)
+                    }
+                    Err(fault) => {
+                        self.progress = Progress::Stopped(TraceAnswer::Refused(fault));
+                        Err(TraceAnswer::Refused(fault))
+                    }
+                }
+            }
+        }
+    }
+}
