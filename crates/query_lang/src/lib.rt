@@ -3,13 +3,17 @@
 
 mod fault;
 mod fold;
+mod names;
 mod query;
+mod token;
 mod typed;
 
 pub use fault::{FaultKind, Limit, QueryFault, Span};
 pub use fold::{Op, TypedExpr, TypedFold, TypedStmt};
+pub use names::Names;
 pub use query::{
     Column, Expr, FinalDef, FinalOp, FoldDef, Item, Key, Name, Query, StateVar, Stmt, StreamDef,
     StreamOp,
 };
+pub use token::{Mark, Piece, Token, TokenKind, Word};
 pub use typed::{Class, PrintOf, TypedFinal, TypedFinalOp, TypedOp, TypedStream};

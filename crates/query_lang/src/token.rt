@@ -1,0 +1,93 @@
+//! Tokens of a query's text, with where they stand.
+
+use crate::fault::{FaultKind, Span};
+
+/// A reserved word.
+#[derive(Clone, Copy, Debug, PartialEq, Eq)]
+pub enum Word {
+    Def,
+    If,
+    Else,
+    Emit,
+    Filter,
+    Map,
+    Zip,
+    Groupby,
+    Final,
+    Print,
+    Join,
+    Top,
+    Max,
+    Min,
+    Sadd,
+    Decay,
+    Infinity,
+    Mark,
+    Epoch,
+    Epochs,
+}
+
+/// A mark.
+#[derive(Clone, Copy, Debug, PartialEq, Eq)]
+pub enum Mark {
+    OpenParen,
+    CloseParen,
+    OpenBracket,
+    CloseBracket,
+    OpenBrace,
+    CloseBrace,
+    Comma,
+    Semicolon,
+    Assign,
+    Equal,
+    NotEqual,
+    Less,
+    LessOrEqual,
+    Greater,
+    GreaterOrEqual,
+    ShiftLeft,
+    ShiftRight,
+    Plus,
+    Minus,
+    Times,
+    Slash,
+    Percent,
+    And,
+    Both,
+    Or,
+    Either,
+    Xor,
+    Bang,
+}
+
+/// What stands in the text.
+#[derive(Clone, Copy, Debug, PartialEq, Eq)]
+pub enum TokenKind {
+    /// A name, whose text is that of the span. Names are numbered from 0 by first appearance in the text.
+    Name(u32),
+    Number(u64),
+    /// The word `5tuple`.
+    FiveTuple,
+    Word(Word),
+    Mark(Mark),
+    /// The end of the text.
+    End,
+}
+
+#[derive(Clone, Copy, Debug, PartialEq, Eq)]
+pub struct Token {
+    pub kind: TokenKind,
+    pub span: Span,
+}
+
+/// What stands first in some bytes, and how many of them it takes.
+#[derive(Clone, Copy, Debug, PartialEq, Eq)]
+pub enum Piece {
+    /// A blank or a comment.
+    Blank(usize),
+    Name(usize),
+    /// A token of any other kind.
+    Token(TokenKind, usize),
+    /// A fault, which stands so many bytes on.
+    Fault(FaultKind, usize),
+}

@@ -1,0 +1,302 @@
+//! Cuts a text into tokens.
+
+ghost use Rattle.std.specs.Prelude.{◌≡◌, ℕ, ◌^◌, length, slice_index, ◌<◌, ◌≤◌, ◌+◌, true};
+ghost use Rattle.std.specs.Str.{bytes_eq};
+ghost use Rattle.std.specs.Str.Parse.{digits_value};
+ghost use Rattle.std.specs.List.{prefix_len};
+ghost use Rattle.query_lang.specs.Lexis.{is_word_byte, is_digit, is_not_line_feed, is_blank, one_mark, two_mark, reserved, below_limit, word_piece, mark_at, piece, token_at, fault_at, tokens_of};
+ghost use Rattle.query_parser.specs.Given.{GivesTokens, IsWithin};
+ghost use Rattle.std.specs.Char.{digit_value};
+
+use crate::answer::ParseAnswer;
+use marple_base::Seq;
+use query_lang::{FaultKind, Mark, Names, Piece, QueryFault, Span, Token, TokenKind, Word};
+use std::alloc::{AllocError, Global};
+
+fn is_word_byte_at(b: u8) -> bool
+    ensures { result ≡ is_word_byte b }
+{
+    matches!(b, b'0'..=b'9' | b'A'..=b'Z' | b'a'..=b'z' | b'_')
+}
+
+fn is_digit_at(b: u8) -> bool
+    ensures { result ≡ is_digit b }
+{
+    matches!(b, b'0'..=b'9')
+}
+
+fn is_blank_at(b: u8) -> bool
+    ensures { result ≡ is_blank b }
+{
+    matches!(b, b' ' | b'\t' | b'\n' | b'\r')
+}
+
+/// How many bytes of a word stand first.
+fn word_len(bytes: &[u8]) -> usize
+    ensures { result ≡ prefix_len is_word_byte bytes.now }
+{
+    bytes.iter().take_while(|b| is_word_byte_at(**b)).count()
+}
+
+/// How many digits stand first.
+fn digits_len(bytes: &[u8]) -> usize
+    ensures { result ≡ prefix_len is_digit bytes.now }
+{
+    bytes.iter().take_while(|b| is_digit_at(**b)).count()
+}
+
+/// How many bytes stand before the end of the line.
+fn line_len(bytes: &[u8]) -> usize
+    ensures value { result ≡ prefix_len is_not_line_feed bytes.now }
+    ensures within { result ≤ length bytes.now }
+{
+    bytes.iter().take_while(|b| **b != b'\n').count()
+}
+
+fn one_mark_at(b: u8) -> Option<Mark>
+    ensures { result ≡ one_mark b }
+{
+    match b {
+        b'(' => Some(Mark::OpenParen),
+        b')' => Some(Mark::CloseParen),
+        b'[' => Some(Mark::OpenBracket),
+        b']' => Some(Mark::CloseBracket),
+        b'{' => Some(Mark::OpenBrace),
+        b'}' => Some(Mark::CloseBrace),
+        b',' => Some(Mark::Comma),
+        b';' => Some(Mark::Semicolon),
+        b'=' => Some(Mark::Assign),
+        b'<' => Some(Mark::Less),
+        b'>' => Some(Mark::Greater),
+        b'+' => Some(Mark::Plus),
+        b'-' => Some(Mark::Minus),
+        b'*' => Some(Mark::Times),
+        b'/' => Some(Mark::Slash),
+        b'%' => Some(Mark::Percent),
+        b'&' => Some(Mark::And),
+        b'|' => Some(Mark::Or),
+        b'^' => Some(Mark::Xor),
+        b'!' => Some(Mark::Bang),
+        _ => None,
+    }
+}
+
+fn two_mark_at(a: u8, b: u8) -> Option<Mark>
+    ensures { result ≡ two_mark a b }
+{
+    match (a, b) {
+        (b'=', b'=') => Some(Mark::Equal),
+        (b'!', b'=') => Some(Mark::NotEqual),
+        (b'<', b'=') => Some(Mark::LessOrEqual),
+        (b'>', b'=') => Some(Mark::GreaterOrEqual),
+        (b'<', b'<') => Some(Mark::ShiftLeft),
+        (b'>', b'>') => Some(Mark::ShiftRight),
+        (b'&', b'&') => Some(Mark::Both),
+        (b'|', b'|') => Some(Mark::Either),
+        _ => None,
+    }
+}
+
+/// Whether two texts are the same.
+fn is_text(w: &[u8], text: &[u8]) -> bool
+    ensures { result ≡ bytes_eq w.now text.now }
+{
+    w == text
+}
+
+#[tactic(auto, unfolding(query_lang::specs::Lexis::reserved))]
+fn reserved_of(w: &[u8]) -> Option<Word>
+    ensures { result ≡ reserved w.now }
+{
+    if is_text(w, b"def") {
+        Some(Word::Def)
+    } else if is_text(w, b"if") {
+        Some(Word::If)
+    } else if is_text(w, b"else") {
+        Some(Word::Else)
+    } else if is_text(w, b"emit") {
+        Some(Word::Emit)
+    } else if is_text(w, b"filter") {
+        Some(Word::Filter)
+    } else if is_text(w, b"map") {
+        Some(Word::Map)
+    } else if is_text(w, b"zip") {
+        Some(Word::Zip)
+    } else if is_text(w, b"groupby") {
+        Some(Word::Groupby)
+    } else if is_text(w, b"final") {
+        Some(Word::Final)
+    } else if is_text(w, b"print") {
+        Some(Word::Print)
+    } else if is_text(w, b"join") {
+        Some(Word::Join)
+    } else if is_text(w, b"top") {
+        Some(Word::Top)
+    } else if is_text(w, b"max") {
+        Some(Word::Max)
+    } else if is_text(w, b"min") {
+        Some(Word::Min)
+    } else if is_text(w, b"sadd") {
+        Some(Word::Sadd)
+    } else if is_text(w, b"decay") {
+        Some(Word::Decay)
+    } else if is_text(w, b"infinity") {
+        Some(Word::Infinity)
+    } else if is_text(w, b"mark") {
+        Some(Word::Mark)
+    } else if is_text(w, b"epoch") {
+        Some(Word::Epoch)
+    } else if is_text(w, b"epochs") {
+        Some(Word::Epochs)
+    } else {
+        None
+    }
+}
+
+/// The number that the digits write, where it is below 2 ^ 64.
+fn number_of(digits: &[u8]) -> Option<u64>
+    requires { (k : ℕ) → k < length digits.now → is_digit (slice_index digits.now k) ≡ true }
+    ensures { result ≡ below_limit (digits_value 10 digits.now) }
+{
+    let mut n: u64 = 0;
+    for d in digits {
+        let digit = digit_of(*d);
+        if n > (u64::MAX - digit) / 10 {
+            return None;
+        }
+        n = n * 10 + digit;
+    }
+    Some(n)
+}
+
+fn digit_of(b: u8) -> u64
+    requires { is_digit b ≡ true }
+    ensures value { result ≡ digit_value b }
+    ensures small { result < 10 }
+{
+    u64::from(b - b'0')
+}
+
+/// What a word is, which begins with so many digits.
+fn piece_of_word(w: &[u8], digits: usize) -> Piece
+    requires digits { (k : ℕ) → k < digits → is_digit (slice_index w.now k) ≡ true }
+    requires within { digits ≤ length w.now }
+    ensures value { result ≡ word_piece w.now digits }
+    ensures within { IsWithin result (length w.now) }
+{
+    if digits == w.len() {
+        match number_of(w) {
+            Some(n) => Piece::Token(TokenKind::Number(n), w.len()),
+            None => Piece::Fault(FaultKind::NumberTooLarge, 0),
+        }
+    } else if is_text(w, b"5tuple") {
+        Piece::Token(TokenKind::FiveTuple, w.len())
+    } else if digits == 0 {
+        match reserved_of(w) {
+            Some(word) => Piece::Token(TokenKind::Word(word), w.len()),
+            None => Piece::Name(w.len()),
+        }
+    } else {
+        Piece::Fault(FaultKind::BadByte, digits)
+    }
+}
+
+/// The longest mark that begins with these bytes.
+fn piece_of_mark(a: u8, rest: &[u8]) -> Piece
+    ensures value { result ≡ mark_at a rest.now }
+    ensures within { IsWithin result (length rest.now + 1) }
+{
+    if let [b, ..] = rest {
+        if let Some(mark) = two_mark_at(a, *b) {
+            return Piece::Token(TokenKind::Mark(mark), 2);
+        }
+    }
+    match one_mark_at(a) {
+        Some(mark) => Piece::Token(TokenKind::Mark(mark), 1),
+        None => Piece::Fault(FaultKind::BadByte, 0),
+    }
+}
+
+/// What stands first.
+fn piece_of(bytes: &[u8]) -> Piece
+    requires { length bytes.now ≤ 65536 }
+    ensures value { result ≡ piece bytes.now }
+    ensures within { IsWithin result (length bytes.now) }
+{
+    let [first, rest @ ..] = bytes else {
+        return Piece::Blank(0);
+    };
+    if is_blank_at(*first) {
+        return Piece::Blank(1);
+    }
+    if *first == b'#' {
+        return Piece::Blank(1 + line_len(rest));
+    }
+    if !is_word_byte_at(*first) {
+        return piece_of_mark(*first, rest);
+    }
+    let len = word_len(bytes);
+    piece_of_word(&bytes[..len], digits_len(bytes))
+}
+
+/// The tokens of a text, the end being the last one, and its names, whose numbers the tokens have.
+#[derive(Drop)]
+pub struct Lexed {
+    pub tokens: Seq<Token>,
+    pub names: Names,
+}
+
+fn token_from(kind: TokenKind, start: usize, end: usize) -> Token
+    requires start { start ≤ 65536 }
+    requires end { end ≤ 65536 }
+    ensures { result ≡ token_at kind start end }
+{
+    let span = Span {
+        start: start as u32,
+        end: end as u32,
+    };
+    Token { kind, span }
+}
+
+fn fault_from(kind: FaultKind, at: usize) -> QueryFault
+    requires { at ≤ 65536 }
+    ensures { result ≡ fault_at kind at }
+{
+    let span = Span {
+        start: at as u32,
+        end: at as u32,
+    };
+    QueryFault { kind, span }
+}
+
+/// Cuts a text into its tokens, and numbers its names by first appearance. Where a byte begins no token or a number is
+/// too large, the first such fault is the answer.
+pub fn cut_text(alloc: Global, text: &[u8]) -> Result<Lexed, ParseAnswer>
+    requires { length text.now ≤ 65536 }
+    ensures { GivesTokens result (tokens_of text.now) }
+{
+    let mut tokens = Seq::new(alloc);
+    let mut names = Names::new(alloc);
+    let mut at: usize = 0;
+    for _ in 0..text.len() {
+        if at >= text.len() {
+            break;
+        }
+        let rest = &text[at..];
+        match piece_of(rest) {
+            Piece::Blank(len) => at += len,
+            Piece::Name(len) => {
+                let id = names.number(&rest[..len])?;
+                tokens.push(token_from(TokenKind::Name(id), at, at + len))?;
+                at += len;
+            }
+            Piece::Token(kind, len) => {
+                tokens.push(token_from(kind, at, at + len))?;
+                at += len;
+            }
+            Piece::Fault(kind, len) => return Err(ParseAnswer::Refused(fault_from(kind, at + len))),
+        }
+    }
+    tokens.push(token_from(TokenKind::End, at, at))?;
+    Ok(Lexed { tokens, names })
+}

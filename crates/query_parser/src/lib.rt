@@ -1,0 +1,8 @@
+//! Reads a query: its text is cut into tokens, and those into items.
+#![tactic(auto)]
+
+mod answer;
+mod lexer;
+
+pub use answer::ParseAnswer;
+pub use lexer::{Lexed, cut_text};
