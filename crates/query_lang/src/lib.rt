@@ -3,6 +3,7 @@
 
 mod fault;
 mod fold;
+pub mod laws;
 mod names;
 mod query;
 mod token;
