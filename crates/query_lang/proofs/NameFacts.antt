@@ -1,6 +1,8 @@
 -- Where a text stands among names.
 use Rattle.std.proofs.Common.{◌≡◌, ℕ, zero, suc, ◌+◌, ◌<◌, ◌≤◌, Bool, true, false, cond, not, ◌||◌, List, [], ◌∷◌, ◌++◌, length, map, slice_get, Option, Some, None, refl, sym, ap, ◌∙◌, arith, add-one, add_comm, Vec, Global, position}
 use Rattle.std.specs.List.{list_any, position_or_len}
+use Rattle.std.specs.List.{IsDistinct, AllByRecursion}
+use Rattle.std.proofs.lemmas.Map.Keys.{IsDistinct-head, IsDistinct-tail}
 use Rattle.std.specs.Option.{is_some}
 use Rattle.std.specs.Str.{bytes_eq}
 use Rattle.std.proofs.lemmas.Slice.Eq.{bytes_eq-Decides}
@@ -77,3 +79,21 @@ with_inserted keys after v text e h k =
     let absent : list_any (is_key v.items) keys ≡ false = rw e h in
     let last : after ≡ keys ++ v ∷ [] = k ∙ ap (λ (b : Bool). cond b keys (keys ++ v ∷ [])) absent in
     ap texts_of last ∙ map-append (λ (x : Key). x.items) keys (v ∷ []) ∙ ap (λ (x : List ℕ). texts_of keys ++ x ∷ []) e ∙ sym (with_new keys text h)
+
+abbrev same_key : Key → Key → Bool
+same_key a b = bytes_eq a.items b.items
+
+-- a text that no key has stands nowhere
+elsewhere : (k : Key) (keys : List Key) → AllByRecursion (λ (y : Key). same_key k y ≡ false) keys → (j : ℕ) → slice_get (texts_of keys) j ≡ Some k.items → ⊥
+elsewhere k [] all j h = cc h
+elsewhere k (y ∷ keys) all zero h =
+    let e : bytes_eq k.items y.items ≡ true = (bytes_eq-Decides k.items y.items).1 (sym (same_Some _ _ h)) in cc (e, all.0)
+elsewhere k (y ∷ keys) all (suc j) h = elsewhere k keys all.1 j h
+
+-- distinct keys have distinct texts
+pub once : (keys : List Key) → IsDistinct same_key keys → (i j : ℕ) (text : List ℕ) → slice_get (texts_of keys) i ≡ Some text → slice_get (texts_of keys) j ≡ Some text → i ≡ j
+once [] d i j text h g = cc h
+once (k ∷ keys) d zero zero text h g = refl
+once (k ∷ keys) d (suc i) (suc j) text h g = ap suc (once keys (IsDistinct-tail same_key k keys d) i j text h g)
+once (k ∷ keys) d zero (suc j) text h g = absurd (elsewhere k keys (IsDistinct-head same_key k keys d) j (g ∙ sym h))
+once (k ∷ keys) d (suc i) zero text h g = absurd (elsewhere k keys (IsDistinct-head same_key k keys d) i (h ∙ sym g))

@@ -1,7 +1,7 @@
 //! The names of a query, by number.
 
 ghost use Rattle.std.specs.Prelude.{◌≡◌, ℕ, ◌-◌, ◌^◌, ◌<◌, Some, [], length, slice_get, IfOk, OnOk, OnErr};
-ghost use Rattle.query_lang.specs.Names.{number_in, with_name};
+ghost use Rattle.query_lang.specs.Names.{AreOnce, number_in, with_name};
 
 use indexmap::IndexSet;
 use std::alloc::{AllocError, Global};
@@ -38,6 +38,13 @@ impl Names {
         ensures { result ≡ length self.now }
     {
         self.texts.len()
+    }
+
+    /// No two numbers have the same text.
+    pub fn known(&self)
+        ensures { AreOnce self.now }
+    {
+        let _count = self.texts.len();
     }
 
     /// The number of a name, which is the next one where the name is new.
