@@ -1,0 +1,58 @@
+-- How a line goes on, part by part.
+use Rattle.std.proofs.Common.{◌≡◌, ℕ, length, ◌==◌, List, [], ◌∷◌, ◌++◌, Bool, true, false, refl, sym, ap, ◌∙◌, append_assoc, append-nil}
+use Rattle.std.proofs.Common.{inl, inr, arith}
+use Rattle.std.proofs.lemmas.Bool.Decides.{eqb_tells}
+use Rattle.table_printer.specs.TableText.{continued, joined}
+use Rattle.table_printer.specs.Parts.{parts_from}
+
+pub no_parts : (begins : Bool) → parts_from begins [] ≡ []
+no_parts true = refl
+no_parts false = refl
+
+-- one part, and then the others
+pub part_first : (begins : Bool) (part : List ℕ) (rest : List (List ℕ)) → parts_from begins (part ∷ rest) ≡ parts_from begins (part ∷ []) ++ parts_from false rest
+part_first true part rest = ap (λ p. p ++ continued rest) (sym (append-nil part))
+part_first false part rest = ap (λ p. p ++ continued rest) (sym (append-nil (44 ∷ part)))
+
+-- A part is written: what is still to be written behind it makes the whole.
+pub written : (whole before after : List ℕ) (begins : Bool) (part : List ℕ) (left rest : List (List ℕ))
+    → left ≡ part ∷ rest → before ++ parts_from begins left ≡ whole → after ≡ before ++ parts_from begins (part ∷ []) → after ++ parts_from false rest ≡ whole
+written whole before after begins part left rest split so_far wrote =
+    ap (λ text. text ++ parts_from false rest) wrote
+    ∙ append_assoc before (parts_from begins (part ∷ [])) (parts_from false rest)
+    ∙ ap (λ text. before ++ text) (sym (part_first begins part rest) ∙ ap (parts_from begins) (sym split))
+    ∙ so_far
+
+-- Nothing is left to be written.
+pub all_written : (whole before : List ℕ) (begins : Bool) (left : List (List ℕ)) → left ≡ [] → before ++ parts_from begins left ≡ whole → before ≡ whole
+all_written whole before begins left none so_far =
+    sym (append-nil before) ∙ ap (λ text. before ++ text) (sym (no_parts begins) ∙ ap (parts_from begins) (sym none)) ∙ so_far
+
+pub continued_append : (a b : List (List ℕ)) → continued (a ++ b) ≡ continued a ++ continued b
+continued_append [] b = refl
+continued_append (part ∷ a) b = ap (λ rest. (44 ∷ part) ++ rest) (continued_append a b) ∙ sym (append_assoc (44 ∷ part) (continued a) (continued b))
+
+abbrev is_none : List (List ℕ) → Bool
+is_none [] = true
+is_none (part ∷ parts) = false
+
+no_length : (parts : List (List ℕ)) → (length parts == 0) ≡ is_none parts
+no_length [] = refl
+no_length (part ∷ parts) = elim (eqb_tells (length (part ∷ parts)) 0) [
+  | inl same ↦ absurd (grind (arith, same.1))
+  | inr differs ↦ differs.0
+]
+
+three : (keys middle others : List (List ℕ)) (part : List ℕ)
+    → joined ((keys ++ (part ∷ middle)) ++ others) ≡ (joined keys ++ parts_from (is_none keys) (part ∷ middle)) ++ continued others
+three [] middle others part = ap (λ rest. part ++ rest) (continued_append middle others) ∙ sym (append_assoc part (continued middle) (continued others))
+three (key ∷ keys) middle others part =
+    ap (λ rest. key ++ rest) (continued_append (keys ++ (part ∷ middle)) others ∙ ap (λ rest. rest ++ continued others) (continued_append keys (part ∷ middle)))
+    ∙ sym (append_assoc key (continued keys ++ continued (part ∷ middle)) (continued others))
+    ∙ ap (λ rest. rest ++ continued others) (sym (append_assoc key (continued keys) (continued (part ∷ middle))))
+
+-- keys, then a middle that begins the line where there is no key, and then the other parts
+pub joined_three : (keys middle others : List (List ℕ)) (part : List ℕ) (begins : Bool) → begins ≡ (length keys == 0)
+    → joined ((keys ++ (part ∷ middle)) ++ others) ≡ (joined keys ++ parts_from begins (part ∷ middle)) ++ continued others
+joined_three keys middle others part begins empty =
+    three keys middle others part ∙ ap (λ first. (joined keys ++ parts_from first (part ∷ middle)) ++ continued others) (sym (empty ∙ no_length keys))

@@ -1,0 +1,135 @@
+//! Titles, headings and rows.
+ghost use Rattle.std.specs.Prelude.{◌≡◌, ◌≤◌, ◌++◌, ◌∷◌, [], length, map, flat_map, codes, decimal, IfOk, OnOk};
+ghost use Rattle.table_printer.specs.TableText.{joined, mark_text, class_text, epoch_text, numbers, line, group_parts, final_parts, row_parts, heading, kind_text, title, table_text};
+ghost use Rattle.table_printer.specs.Parts.{parts_from};
+
+use crate::parts::{push_names, push_number, push_part, push_word, push_words};
+use final_queries::{Mark, Row, Table, TableKind};
+use marple_base::Text;
+use query_lang::Class;
+use std::alloc::{AllocError, Global};
+
+fn class_word(class: Class) -> &'static [u8]
+    ensures { result.now ≡ class_text class }
+{
+    match class {
+        Class::Linear => b"linear",
+        Class::Other => b"other",
+    }
+}
+
+fn mark_word(mark: Mark) -> &'static [u8]
+    ensures { result.now ≡ mark_text mark }
+{
+    match mark {
+        Mark::Exact => b"exact",
+        Mark::Valid => b"valid",
+        Mark::Invalid => b"invalid",
+        Mark::Plain => b"plain",
+    }
+}
+
+/// Writes the line that says what a table is.
+fn push_title(text: &mut Text, table: &Table) -> Result<(), AllocError>
+    ensures { OnOk result (text.new ≡ text.old ++ title table.now) }
+{
+    text.push_slice(b"table ")?;
+    text.push_slice(table.name.as_slice())?;
+    text.push(b' ')?;
+    push_kind(text, table.kind, table.rows.len())?;
+    text.push(b'\n')
+}
+
+fn push_kind(text: &mut Text, kind: TableKind, rows: usize) -> Result<(), AllocError>
+    ensures { OnOk result (text.new ≡ text.old ++ kind_text kind rows) }
+{
+    match kind {
+        TableKind::Group(class, depth, epochs) => {
+            text.push_slice(class_word(class))?;
+            text.push(b' ')?;
+            push_number(text, u64::from(depth))?;
+            text.push(b' ')?;
+            push_number(text, epochs)
+        }
+        TableKind::Final => {
+            text.push_slice(b"final ")?;
+            push_number(text, rows as u64)
+        }
+    }
+}
+
+/// Writes the names of a groupby's three columns of its own.
+fn push_epoch_names(text: &mut Text, begins: bool) -> Result<(), AllocError>
+    ensures { OnOk result (text.new ≡ text.old ++ parts_from begins (codes "mark" ∷ codes "epoch" ∷ codes "epochs" ∷ [])) }
+{
+    push_part(text, begins, b"mark")?;
+    push_part(text, false, b"epoch")?;
+    push_part(text, false, b"epochs")
+}
+
+/// Writes the heading of a groupby's table.
+fn push_group_names(text: &mut Text, keys: &[Text], others: &[Text]) -> Result<(), AllocError>
+    ensures { OnOk result (text.new ≡ text.old ++ joined (keys.now ++ (codes "mark" ∷ codes "epoch" ∷ codes "epochs" ∷ []) ++ others.now)) }
+{
+    push_names(text, true, keys)?;
+    push_epoch_names(text, keys.is_empty())?;
+    push_names(text, false, others)?;
+    Ok(())
+}
+
+/// Writes the names of the columns.
+fn push_heading(text: &mut Text, table: &Table) -> Result<(), AllocError>
+    requires { table.now.keys ≤ length table.now.columns }
+    ensures { OnOk result (text.new ≡ text.old ++ line (heading table.now.kind table.now.keys table.now.columns)) }
+{
+    let columns = table.columns.as_slice();
+    match table.kind {
+        TableKind::Group(_, _, _) => {
+            let (keys, others) = columns.split_at(usize::from(table.keys));
+            push_group_names(text, keys, others)?;
+        }
+        TableKind::Final => push_names(text, true, columns)?,
+    }
+    text.push(b'\n')
+}
+
+/// Writes what a groupby's row says of its key's epochs.
+fn push_epoch(text: &mut Text, begins: bool, row: &Row) -> Result<(), AllocError>
+    ensures { OnOk result (text.new ≡ text.old ++ parts_from begins (mark_text row.now.mark ∷ epoch_text row.now.mark row.now.epoch ∷ decimal row.now.epochs ∷ [])) }
+{
+    push_part(text, begins, mark_word(row.mark))?;
+    if row.mark == Mark::Exact {
+        push_part(text, false, b"*")?;
+    } else {
+        push_word(text, false, row.epoch)?;
+    }
+    push_word(text, false, row.epochs)
+}
+
+fn push_row(text: &mut Text, kind: TableKind, row: &Row) -> Result<(), AllocError>
+    ensures { OnOk result (text.new ≡ text.old ++ line (row_parts kind row.now)) }
+{
+    let key = row.key.as_slice();
+    push_words(text, true, key)?;
+    let mut begins = key.is_empty();
+    if kind != TableKind::Final {
+        push_epoch(text, begins, row)?;
+        begins = false;
+    }
+    push_words(text, begins, row.values.as_slice())?;
+    text.push(b'\n')
+}
+
+/// The text of the table: a line that says what it is, a heading, and a line for each row.
+pub fn table_text(alloc: Global, table: &Table) -> Result<Text, AllocError>
+    requires keys { table.now.keys ≤ length table.now.columns }
+    ensures { IfOk result (λ text. text ≡ table_text table.now) }
+{
+    let mut text = Text::new(alloc);
+    push_title(&mut text, table)?;
+    push_heading(&mut text, table)?;
+    'rows: for row in table.rows.as_slice() {
+        push_row(&mut text, table.kind, row)?;
+    }
+    Ok(text)
+}
