@@ -1,0 +1,5 @@
+pub mod Kinds
+pub mod Language
+pub mod Grammar
+pub mod Parser
+pub mod Reading

@@ -1,0 +1,7 @@
+//! The grammar of queries: which tokens are a query and what they mean, which fault is the first, and parsers by the next
+//! token that give the one or the other.
+#![tactic(auto)]
+
+mod stop;
+
+pub use stop::{Counts, Stop};
