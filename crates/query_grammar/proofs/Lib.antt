@@ -1,0 +1,9 @@
+pub mod Parses
+pub mod Chains
+pub mod Lines
+pub mod GrammarLines
+pub mod Nests
+pub mod Depths
+pub mod Splits
+pub mod Runs
+pub mod Whole

@@ -1,5 +1,5 @@
 -- The grammar, a definition for each line. Each gives the words of the line with what they mean.
-use Rattle.std.specs.Prelude.{◌≡◌, ℕ, ◌+◌, ◌-◌, ◌^◌, zero, suc, Bool, true, false, List, [], ◌∷◌, ◌++◌, Option, Some, None, nat_eq, if◌then◌else◌, ◌⊎◌}
+use Rattle.std.specs.Prelude.{◌≡◌, ℕ, ◌-◌, ◌^◌, zero, suc, List, [], ◌∷◌, Option, Some, None, ◌⊎◌}
 use Rattle.std.proofs.Common.{inl, inr}
 use Rattle.query_lang.specs.declared.fault.Span.{Span}
 use Rattle.query_lang.specs.declared.fold.Op.{Op}
@@ -10,7 +10,6 @@ use Rattle.query_lang.specs.declared.query.Expr.TheVariants as exprs
 use Rattle.query_lang.specs.declared.query.Stmt.{Stmt}
 use Rattle.query_lang.specs.declared.query.Stmt.TheVariants as stmts
 use Rattle.query_lang.specs.declared.query.StateVar.{StateVar}
-use Rattle.query_lang.specs.declared.query.FoldDef.{FoldDef}
 use Rattle.query_lang.specs.declared.query.Column.{Column}
 use Rattle.query_lang.specs.declared.query.Key.{Key}
 use Rattle.query_lang.specs.declared.query.Key.TheVariants as keys
@@ -25,8 +24,8 @@ use Rattle.query_lang.specs.declared.token.Mark.TheVariants as marks
 use Rattle.query_lang.specs.declared.token.TokenKind.{TokenKind}
 use Rattle.query_lang.specs.declared.token.TokenKind.TheVariants as kinds
 use Rattle.query_lang.specs.declared.token.Token.{Token}
-use Rattle.query_grammar.specs.Language.{Role, Plain, Node, Statement, Opening, Leaf, Language, tokens_of, Word, Then, Repeated, AtMostOnce, Either, Meaning, Chained}
-use Rattle.query_grammar.specs.Kinds.{kind, is, name, number, operator, sign, keyword}
+use Rattle.query_grammar.specs.Language.{Plain, Node, Statement, Opening, Leaf, Language, tokens_of, Word, Then, Repeated, AtMostOnce, Either, Meaning, Chained}
+use Rattle.query_grammar.specs.Kinds.{is, name, number, operator, sign, keyword}
 
 -- ---- what the words mean
 

@@ -1,5 +1,5 @@
 -- Kinds of tokens by number, and which tokens a word of the grammar stands for.
-use Rattle.std.specs.Prelude.{ℕ, ◌+◌, Option, Some, None, List, [], ◌∷◌, nat_eq, if◌then◌else◌, map}
+use Rattle.std.specs.Prelude.{ℕ, Bool, true, false, Option, Some, None, List, [], ◌∷◌, nat_eq, if◌then◌else◌}
 use Rattle.query_lang.specs.declared.fault.Span.{Span}
 use Rattle.query_lang.specs.declared.fold.Op.{Op}
 use Rattle.query_lang.specs.declared.query.Name.{Name}
@@ -110,3 +110,12 @@ sign m = kinds.Mark m
 
 abbrev pub keyword : Word → TokenKind
 keyword w = kinds.Word w
+
+-- whether a number is in the list
+abbrev pub one_of : List ℕ → ℕ → Bool
+one_of [] n = false
+one_of (x ∷ xs) n = if nat_eq n x then true else one_of xs n
+
+-- whether the token is of one of these kinds
+abbrev pub among : List ℕ → Token → Bool
+among xs t = one_of xs (kind t)

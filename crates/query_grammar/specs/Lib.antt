@@ -3,3 +3,4 @@ pub mod Language
 pub mod Grammar
 pub mod Parser
 pub mod Reading
+pub mod Fault

@@ -1,5 +1,5 @@
 -- The parser of each line, by the next token. What it is given says how many more brackets may be opened.
-use Rattle.std.specs.Prelude.{◌≡◌, ℕ, ◌-◌, ◌^◌, zero, suc, Bool, true, false, List, [], ◌∷◌, ◌++◌, Option, Some, None, nat_eq, if◌then◌else◌, ◌⊎◌}
+use Rattle.std.specs.Prelude.{ℕ, ◌-◌, ◌^◌, zero, suc, List, [], ◌∷◌, Option, Some, None, ◌⊎◌}
 use Rattle.query_lang.specs.declared.fault.Span.{Span}
 use Rattle.query_lang.specs.declared.query.Name.{Name}
 use Rattle.query_lang.specs.declared.query.Expr.{Expr}
@@ -7,9 +7,6 @@ use Rattle.query_lang.specs.declared.query.Expr.TheVariants as exprs
 use Rattle.query_lang.specs.declared.query.Stmt.{Stmt}
 use Rattle.query_lang.specs.declared.query.Stmt.TheVariants as stmts
 use Rattle.query_lang.specs.declared.query.StateVar.{StateVar}
-use Rattle.query_lang.specs.declared.query.FoldDef.{FoldDef}
-use Rattle.query_lang.specs.declared.query.StreamDef.{StreamDef}
-use Rattle.query_lang.specs.declared.query.FinalDef.{FinalDef}
 use Rattle.query_lang.specs.declared.query.Column.{Column}
 use Rattle.query_lang.specs.declared.query.Key.{Key}
 use Rattle.query_lang.specs.declared.query.Key.TheVariants as keys
@@ -24,22 +21,11 @@ use Rattle.query_lang.specs.declared.token.Mark.TheVariants as marks
 use Rattle.query_lang.specs.declared.token.TokenKind.{TokenKind}
 use Rattle.query_lang.specs.declared.token.TokenKind.TheVariants as kinds
 use Rattle.query_lang.specs.declared.token.Token.{Token}
-use Rattle.query_grammar.specs.declared.stop.Counts.{Counts}
-use Rattle.query_grammar.specs.declared.stop.Stop.{Stop}
 use Rattle.query_grammar.specs.declared.stop.Stop.TheVariants.{Unexpected, Nesting}
-use Rattle.query_grammar.specs.Language.{Role, Plain, Node, Statement, Opening}
-use Rattle.query_grammar.specs.Kinds.{kind, is, name, number, operator, kinds_of, sign, keyword}
+use Rattle.query_grammar.specs.Language.{Plain, Node, Statement, Opening}
+use Rattle.query_grammar.specs.Kinds.{among, is, name, number, operator, kinds_of, sign, keyword}
 use Rattle.query_grammar.specs.Parser.{no_counts, Limits, Limited, Unlimited, Outcome, Done, Stopped, Parser, word, followed_by, mapped, at_most_once, either, repeated, chained}
 use Rattle.query_grammar.specs.Grammar.{grouped, compared, negated, list_of, listed, is_last, is_another, else_of, initial_of, Operators, either_ops, both_ops, comparing_ops, or_ops, xor_ops, and_ops, shift_ops, sum_ops, product_ops, functions}
-
--- whether a number is in the list
-abbrev pub one_of : List ℕ → ℕ → Bool
-one_of [] n = false
-one_of (x ∷ xs) n = if nat_eq n x then true else one_of xs n
-
--- whether the token is of one of these kinds
-abbrev pub among : List ℕ → Token → Bool
-among xs t = one_of xs (kind t)
 
 -- ---- signs and words around
 

@@ -2,6 +2,7 @@
 //! token that give the one or the other.
 #![tactic(auto)]
 
+pub mod laws;
 mod stop;
 
 pub use stop::{Counts, Stop};

@@ -1,0 +1,32 @@
+// Laws about the grammar: a text has one meaning at most, and the function on tokens gives it or exactly the first fault.
+
+ghost use Rattle.std.specs.Prelude.{◌≡◌, List, [], ◌∷◌, ◌++◌};
+ghost use Rattle.query_lang.specs.declared.fault.Span.{Span};
+ghost use Rattle.query_lang.specs.declared.query.Item.{Item};
+ghost use Rattle.query_lang.specs.declared.token.Token.{Token};
+ghost use Rattle.query_grammar.specs.declared.stop.Counts.{Counts};
+ghost use Rattle.query_grammar.specs.declared.stop.Stop.{Stop};
+ghost use Rattle.query_grammar.specs.Parser.{Done, Stopped};
+ghost use Rattle.query_grammar.specs.Grammar.{Derives};
+ghost use Rattle.query_grammar.specs.Reading.{parsed};
+ghost use Rattle.query_grammar.specs.Fault.{StandsAt, IsAccepted, HasEnd, Says};
+
+/// Tokens are those of one query at most.
+pub fn one_meaning()
+    ensures { (ts : List Token) (p q : List Item × Span) → Derives ts p → Derives ts q → p ≡ q }
+{}
+
+/// What parsing gives is a query that the tokens derive within all limits, or a fault that stands at the token that is named.
+pub fn first_fault()
+    ensures { (ts : List Token) → HasEnd ts → Says ts (parsed ts) }
+{}
+
+/// A fault that stands at a token is what parsing gives, whatever follows the token.
+pub fn fault_is_found()
+    ensures { (k : Stop) (front : List Token) (t : Token) (more : List Token) → StandsAt k front t → parsed (front ++ t ∷ more) ≡ Stopped k (t ∷ more) }
+{}
+
+/// A query that tokens derive within all limits is what parsing gives.
+pub fn query_is_found()
+    ensures { (ts : List Token) (q : List Item × Span) → IsAccepted ts q → (c : Counts) × (parsed ts ≡ Done q c []) }
+{}
