@@ -1,0 +1,4 @@
+pub mod StoreFacts
+pub mod LendingFacts
+pub mod StoreKept
+pub mod StoreWhole

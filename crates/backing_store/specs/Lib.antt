@@ -1,0 +1,6 @@
+pub mod Store
+pub mod StoreLines
+pub mod StoreView
+pub mod Lending
+pub mod StoreLending
+pub mod SortedRows

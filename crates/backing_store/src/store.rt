@@ -1,0 +1,165 @@
+ghost use Rattle.std.specs.Prelude.{◌≡◌, ◌<◌, ◌↔◌, Some, option_map, slice_get, ◌++◌, ◌∷◌, [], IfOk, OnErr, OnOk, length};
+ghost use Rattle.backing_store.specs.Store.{IsLastRowOf, IsStore, counted, epochs_of, number_of};
+ghost use Rattle.backing_store.specs.StoreLines.{lines};
+ghost use Rattle.std.specs.Borrow.{sem};
+
+use indexmap::IndexMap;
+use std::alloc::{AllocError, Global};
+use std::marker::Model;
+
+// How often a key was merged, and the place of its last row.
+#[derive(Clone, Copy, Drop)]
+struct Merged {
+    epochs: u64,
+    last: usize,
+}
+
+// A row, with the number of its key.
+#[derive(Drop)]
+struct Row {
+    of: usize,
+    words: Vec<u64>,
+}
+
+/// Keys in the order of their first epochs, each with its number of epochs, and the rows in the order of their
+/// making. A row's place is its number.
+#[derive(Drop)]
+pub struct BackingStore {
+    alloc: Global,
+    keys: IndexMap<Vec<u64>, Merged>,
+    rows: Vec<Row>,
+    key_words: usize,
+    state_words: usize,
+}
+
+impl Model for BackingStore {
+    ghost use Rattle.backing_store.specs.Store.{Store};
+
+    ghost Value = { Store };
+
+    ghost use Rattle.backing_store.specs.StoreView.{store_of, IsSound};
+
+    ghost view = { store_of };
+
+    ghost invariant = { IsSound };
+}
+
+impl Row {
+    ghost use Rattle.backing_store.specs.Lending.{LendsWords};
+
+    // Its words.
+    fn words_mut(&mut self) -> &mut [u64]
+        ensures* writes_back { sem 𝓛 (LendsWords self.entry result) }
+        ensures value { result.now ≡ self.old.words.items }
+    {
+        self.words.as_mut_slice()
+    }
+}
+
+// A new last row, whose place is answered.
+fn add_row(
+    alloc: Global,
+    rows: &mut Vec<Row>,
+    of: usize,
+    initial: &[u64],
+) -> Result<usize, AllocError>
+    ensures place { IfOk result (λ place. place ≡ length rows.old.items) }
+    ensures ok { OnOk result (lines rows.new.items ≡ lines rows.old.items ++ record { key = of; words = initial.now } ∷ []) }
+    ensures err { OnErr result (rows.new.items ≡ rows.old.items) }
+{
+    let words = Vec::from_slice(alloc, initial)?;
+    let place = rows.len();
+    rows.push(Row { of, words })?;
+    Ok(place)
+}
+
+impl BackingStore {
+    /// A store with no keys.
+    pub fn new(alloc: Global, key_words: usize, state_words: usize) -> BackingStore
+        ensures { result ≡ record { keys = []; rows = []; key_words = key_words; state_words = state_words } }
+    {
+        BackingStore {
+            alloc,
+            keys: IndexMap::new(alloc),
+            rows: Vec::new(alloc),
+            key_words,
+            state_words,
+        }
+    }
+
+    /// What holds of every store: keys and rows have their numbers of words, and no key is there twice.
+    pub fn known(&self)
+        ensures { IsStore self.now }
+    {
+        let _words = self.key_words;
+    }
+
+    /// How many epochs of a key were counted, 0 where the key isn't there.
+    pub fn epochs(&self, key: &[u64]) -> u64
+        ensures value { result ≡ epochs_of self.now.keys key.now }
+        ensures zero { (result ≡ 0) ↔ (number_of self.now.keys key.now ≡ length self.now.keys) }
+    {
+        match self.keys.get(key) {
+            Some(merged) => merged.epochs,
+            None => 0,
+        }
+    }
+
+    /// Counts an epoch of a key, and answers the place of the key's last row. A key without a row gets one, and
+    /// each key does where `row_per_epoch` is set. All memory is taken first.
+    pub fn row_for(
+        &mut self,
+        key: &[u64],
+        initial: &[u64],
+        row_per_epoch: bool,
+    ) -> Result<usize, AllocError>
+        requires key { length key.now ≡ self.old.key_words }
+        requires initial { length initial.now ≡ self.old.state_words }
+        ensures ok { OnOk result (self.new ≡ counted self.old key.now initial.now row_per_epoch) }
+        ensures place { IfOk result (λ place. IsLastRowOf self.new key.now place) }
+        ensures err { OnErr result (self.new ≡ self.old) }
+    {
+        match self.keys.get_index_of(key) {
+            Some(at) if row_per_epoch => {
+                let last = add_row(self.alloc, &mut self.rows, at, initial)?;
+                let merged = self.keys[at];
+                self.keys[at] = Merged {
+                    epochs: merged.epochs.saturating_add(1),
+                    last,
+                };
+                Ok(last)
+            }
+            Some(at) => {
+                let merged = self.keys[at];
+                self.keys[at] = Merged {
+                    epochs: merged.epochs.saturating_add(1),
+                    last: merged.last,
+                };
+                Ok(merged.last)
+            }
+            None => {
+                let owned = Vec::from_slice(self.alloc, key)?;
+                let number = self.keys.len();
+                let last = add_row(self.alloc, &mut self.rows, number, initial)?;
+                if let Ok(_) = self.keys.insert(owned, Merged { epochs: 1, last }) {
+                    return Ok(last);
+                }
+                self.rows.truncate(last);
+                Err(AllocError)
+            }
+        }
+    }
+
+    ghost use Rattle.backing_store.specs.StoreLending.{LendsRow};
+
+    /// The words of the row at a place.
+    pub fn row_mut(&mut self, at: usize) -> &mut [u64]
+        requires { at < length self.old.rows }
+        ensures* writes_back { sem 𝓛 (LendsRow self.entry at result) }
+        ensures value { option_map (λ row. row.words) (slice_get self.old.rows at) ≡ Some result.now }
+        ensures length { length result.now ≡ self.old.state_words }
+    {
+        let row = &mut self.rows[at];
+        row.words_mut()
+    }
+}
