@@ -2,3 +2,5 @@ pub mod StoreFacts
 pub mod LendingFacts
 pub mod StoreKept
 pub mod StoreWhole
+pub mod RowOrderFacts
+pub mod SortedFacts

@@ -235,7 +235,7 @@ map-push : (es : List Entry) (e : Entry) → map stored (es ++ e ∷ []) ≡ map
 map-push [] e = refl
 map-push (x ∷ es) e = ap (λ rest. stored x ∷ rest) (map-push es e)
 
-length-stored : (es : List Entry) → length (map stored es) ≡ length es
+pub length-stored : (es : List Entry) → length (map stored es) ≡ length es
 length-stored [] = refl
 length-stored (e ∷ es) = ap suc (length-stored es)
 

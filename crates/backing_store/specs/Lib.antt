@@ -4,3 +4,4 @@ pub mod StoreView
 pub mod Lending
 pub mod StoreLending
 pub mod SortedRows
+pub mod RowOrder

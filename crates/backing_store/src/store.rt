@@ -1,9 +1,12 @@
-ghost use Rattle.std.specs.Prelude.{◌≡◌, ◌<◌, ◌↔◌, Some, option_map, slice_get, ◌++◌, ◌∷◌, [], IfOk, OnErr, OnOk, length};
-ghost use Rattle.backing_store.specs.Store.{IsLastRowOf, IsStore, counted, epochs_of, number_of};
-ghost use Rattle.backing_store.specs.StoreLines.{lines};
+ghost use Rattle.std.specs.Prelude.{◌≡◌, ◌<◌, ◌↔◌, ℕ, Some, option_map, slice_get, ◌++◌, ◌∷◌, [], IfOk, OnErr, OnOk, length};
+ghost use Rattle.backing_store.specs.SortedRows.{IsMade, sorted_rows};
+ghost use Rattle.backing_store.specs.Store.{AreOnce, AreRowsOf, IsLastRowOf, IsStore, counted, epochs_of, number_of};
+ghost use Rattle.backing_store.specs.StoreLines.{lines, stored_keys};
 ghost use Rattle.std.specs.Borrow.{sem};
 
+use crate::table::{StoreRow, sort_rows, store_row};
 use indexmap::IndexMap;
+use marple_base::Seq;
 use std::alloc::{AllocError, Global};
 use std::marker::Model;
 
@@ -71,6 +74,29 @@ fn add_row(
     let place = rows.len();
     rows.push(Row { of, words })?;
     Ok(place)
+}
+
+// The rows in the order of their making, each with its number among its key's rows.
+fn made_rows(
+    alloc: Global,
+    keys: &IndexMap<Vec<u64>, Merged>,
+    rows: &[Row],
+) -> Result<Vec<StoreRow>, AllocError>
+    requires once { AreOnce (stored_keys keys.now.entries) }
+    requires rows { (words : ℕ) × AreRowsOf (length (stored_keys keys.now.entries)) words (lines rows.now) }
+    ensures { IfOk result (λ made. IsMade (stored_keys keys.now.entries) made.items (lines rows.now)) }
+{
+    let mut given = vec![in alloc; 0u64; keys.len()]?;
+    let mut made = Vec::with_capacity(alloc, rows.len())?;
+    for row in rows {
+        if let Some((key, merged)) = keys.get_index(row.of) {
+            let epoch = given[row.of] + 1;
+            let (key, state) = (key.as_slice(), row.words.as_slice());
+            made.push(store_row(alloc, key, epoch, merged.epochs, state)?)?;
+            given[row.of] = epoch;
+        }
+    }
+    Ok(made)
 }
 
 impl BackingStore {
@@ -161,5 +187,14 @@ impl BackingStore {
     {
         let row = &mut self.rows[at];
         row.words_mut()
+    }
+
+    /// One row for each row of the store, by ascending key, compared word by word, and then by number.
+    pub fn sorted(&self) -> Result<Seq<StoreRow>, AllocError>
+        ensures { IfOk result (λ rows. rows ≡ sorted_rows self.now) }
+    {
+        let mut rows = made_rows(self.alloc, &self.keys, self.rows.as_slice())?;
+        sort_rows(&mut rows)?;
+        Ok(Seq::from_vec(rows))
     }
 }
