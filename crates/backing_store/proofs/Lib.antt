@@ -4,3 +4,4 @@ pub mod StoreKept
 pub mod StoreWhole
 pub mod RowOrderFacts
 pub mod SortedFacts
+pub mod CopyFacts

@@ -1,11 +1,10 @@
 -- What holds of every store is kept by a counted epoch and by what is written into a row.
-use Rattle.std.proofs.Common.{◌≡◌, ◌↔◌, Some, option_map, slice_get, ℕ, suc, zero, ◌+◌, ◌<◌, ◌≤◌, ◌^◌, Bool, true, false, List, [], ◌∷◌, ◌++◌, length, take, drop, length-append, length-drop, refl, sym, ap, ◌∙◌, arith}
-use Rattle.std.specs.Prelude.{min}
+use Rattle.std.proofs.Common.{◌≡◌, ◌↔◌, Some, option_map, slice_get, ℕ, suc, zero, ◌<◌, ◌≤◌, ◌^◌, Bool, false, List, [], ◌∷◌, ◌++◌, length, drop, length-append, length-drop, refl, sym, ap, ◌∙◌, arith}
 use Rattle.std.proofs.lemmas.List.{length-take-le}
 use Rattle.std.proofs.lemmas.Option.{same_Some}
 use Rattle.epoch_model.specs.Keys.{Key, key_eq}
-use Rattle.epoch_model.proofs.KeyLists.{by_test, key_eq-sym_false, key_eq-true}
-use Rattle.backing_store.specs.Store.{AreKeysOf, AreOnce, AreRowsOf, IsKeyOf, IsStore, Store, StoredKey, StoredRow, counted, epochs_of, makes_row, number_of, one_more, with_epoch}
+use Rattle.epoch_model.proofs.KeyLists.{by_test, key_eq-sym_false}
+use Rattle.backing_store.specs.Store.{AreKeysOf, AreOnce, AreRowsOf, IsStore, Store, StoredKey, StoredRow, counted, epochs_of, makes_row, number_of, one_more, with_epoch}
 use Rattle.backing_store.specs.StoreLending.{replaced, with_words_at}
 
 -- one epoch more is one at least, and a word
@@ -25,10 +24,10 @@ missing_counted [] key other missing apart = rw (key_eq-sym_false key other apar
 missing_counted (stored ∷ rest) key other missing apart = by_test (key_eq other stored.key)
     (λ same. absurd (omega (arith, rw same at missing)))
     (λ differs.
-      let later : number_of rest other ≡ length rest = omega (arith, rw differs at missing) in
-      by_test (key_eq key stored.key)
-      (λ here. rw (here, differs, later) (omega arith))
-      (λ there. rw (there, differs, missing_counted rest key other later apart) (omega arith)))
+    let later : number_of rest other ≡ length rest = omega (arith, rw differs at missing) in
+    by_test (key_eq key stored.key)
+    (λ here. rw (here, differs, later) (omega arith))
+    (λ there. rw (there, differs, missing_counted rest key other later apart) (omega arith)))
 
 once_counted : (keys : List StoredKey) (key : Key) → AreOnce keys → AreOnce (with_epoch keys key)
 once_counted [] key once = (refl, tt)
@@ -42,8 +41,8 @@ within_counted [] key = (omega arith, omega arith)
 within_counted (stored ∷ rest) key = by_test (key_eq key stored.key)
     (λ same. rw same (omega arith, omega arith))
     (λ other.
-      let more = within_counted rest key in
-      rw other (omega (arith, more.0), omega (arith, more.1)))
+    let more = within_counted rest key in
+    rw other (omega (arith, more.0), omega (arith, more.1)))
 
 more_keys : (few many words : ℕ) (rows : List StoredRow) → few ≤ many → AreRowsOf few words rows → AreRowsOf many words rows
 more_keys few many words [] more kept = tt
@@ -62,8 +61,8 @@ store_counted store key initial row_per_epoch kept key_size row_size =
       once = once_counted store.keys key kept.once;
       keys = keys_counted store.key_words store.keys key key_size kept.keys;
       rows = by_test (makes_row store key row_per_epoch)
-        (λ made. rw made (row_pushed (length (with_epoch store.keys key)) store.state_words store.rows (record { key = number_of store.keys key; words = initial }) rows within.0 row_size))
-        (λ kept. rw kept rows);
+          (λ made. rw made (row_pushed (length (with_epoch store.keys key)) store.state_words store.rows (record { key = number_of store.keys key; words = initial }) rows within.0 row_size))
+          (λ kept. rw kept rows);
     }
 
 length-replaced : (old words : List ℕ) → length (replaced old words) ≡ length old
@@ -94,5 +93,5 @@ no_epochs words [] key kept = ((λ _. refl), (λ _. refl))
 no_epochs words (stored ∷ rest) key kept = by_test (key_eq key stored.key)
     (λ same. rw same ((λ zero. absurd (omega (arith, kept.0.positive))), (λ past. absurd (omega (arith, past)))))
     (λ other.
-      let more = no_epochs words rest key kept.1 in
-      rw other ((λ zero. omega (arith, more.0 zero)), (λ past. more.1 (omega (arith, past)))))
+    let more = no_epochs words rest key kept.1 in
+    rw other ((λ zero. omega (arith, more.0 zero)), (λ past. more.1 (omega (arith, past)))))

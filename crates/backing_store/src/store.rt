@@ -1,7 +1,7 @@
 ghost use Rattle.std.specs.Prelude.{◌≡◌, ◌<◌, ◌↔◌, ℕ, Some, option_map, slice_get, ◌++◌, ◌∷◌, [], IfOk, OnErr, OnOk, length};
 ghost use Rattle.backing_store.specs.SortedRows.{IsMade, sorted_rows};
 ghost use Rattle.backing_store.specs.Store.{AreOnce, AreRowsOf, IsLastRowOf, IsStore, counted, epochs_of, number_of};
-ghost use Rattle.backing_store.specs.StoreLines.{lines, stored_keys};
+ghost use Rattle.backing_store.specs.StoreLines.{lines, shown, stored_keys};
 ghost use Rattle.std.specs.Borrow.{sem};
 
 use crate::table::{StoreRow, sort_rows, store_row};
@@ -99,6 +99,35 @@ fn made_rows(
     Ok(made)
 }
 
+// A copy of the map.
+fn copied_keys(
+    alloc: Global,
+    keys: &IndexMap<Vec<u64>, Merged>,
+) -> Result<IndexMap<Vec<u64>, Merged>, AllocError>
+    requires { AreOnce (stored_keys keys.now.entries) }
+    ensures { IfOk result (λ copy. shown copy.entries ≡ shown keys.now.entries) }
+{
+    let mut copy = IndexMap::new(alloc);
+    for place in 0..keys.len() {
+        if let Some((key, merged)) = keys.get_index(place) {
+            let owned = Vec::from_slice(alloc, key.as_slice())?;
+            copy.insert(owned, *merged)?;
+        }
+    }
+    Ok(copy)
+}
+
+// A copy of the rows.
+fn copied_rows(alloc: Global, rows: &[Row]) -> Result<Vec<Row>, AllocError>
+    ensures { IfOk result (λ copy. lines copy.items ≡ lines rows.now) }
+{
+    let mut copy = Vec::with_capacity(alloc, rows.len())?;
+    for row in rows {
+        add_row(alloc, &mut copy, row.of, row.words.as_slice())?;
+    }
+    Ok(copy)
+}
+
 impl BackingStore {
     /// A store with no keys.
     pub fn new(alloc: Global, key_words: usize, state_words: usize) -> BackingStore
@@ -157,10 +186,8 @@ impl BackingStore {
             }
             Some(at) => {
                 let merged = self.keys[at];
-                self.keys[at] = Merged {
-                    epochs: merged.epochs.saturating_add(1),
-                    last: merged.last,
-                };
+                let epochs = merged.epochs.saturating_add(1);
+                self.keys[at] = Merged { epochs, ..merged };
                 Ok(merged.last)
             }
             None => {
@@ -196,5 +223,18 @@ impl BackingStore {
         let mut rows = made_rows(self.alloc, &self.keys, self.rows.as_slice())?;
         sort_rows(&mut rows)?;
         Ok(Seq::from_vec(rows))
+    }
+
+    /// A store of its own memory with the same keys and rows.
+    pub fn copy(&self) -> Result<BackingStore, AllocError>
+        ensures { IfOk result (λ copy. copy ≡ self.now) }
+    {
+        Ok(BackingStore {
+            alloc: self.alloc,
+            keys: copied_keys(self.alloc, &self.keys)?,
+            rows: copied_rows(self.alloc, self.rows.as_slice())?,
+            key_words: self.key_words,
+            state_words: self.state_words,
+        })
     }
 }

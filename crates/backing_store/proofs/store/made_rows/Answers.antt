@@ -1,4 +1,4 @@
-use Rattle.std.proofs.Common.{◌≡◌, ◌<◌, ◌+◌, ◌∙◌, ◌++◌, ◌∷◌, [], Some, get_or, length, set, slice_get, sym, ap, refl, arith, take}
+use Rattle.std.proofs.Common.{◌≡◌, ◌+◌, ◌∙◌, ◌++◌, ◌∷◌, [], Some, length, set, slice_get, sym, ap, refl, arith, take}
 use Rattle.std.proofs.Math.ListN.{length-set}
 use Rattle.std.proofs.lemmas.Option.{slice_get_read}
 use Rattle.std.proofs.lemmas.List.{length-take}
@@ -23,30 +23,30 @@ overflow_add-epoch c =
 
 pub loop-row-preserved : goal.loop-row-preserved
 loop-row-preserved c =
-  let i = c.loop-row.row-index in
-  let row = c.row-item.result in
-  let rows = c.args.rows.now in
-  let entries = c.args.keys.now.entries in
-  let here : slice_get rows i ≡ Some row = slice_get_read rows (length rows) i row refl c.loop-row-test.true c.row-item.is in
-  elim c.match-get_index.branch [
-  | in-Some+in_ok-store_row+in_ok-push w ↦
-    let at : slice_get entries row.of ≡ Some (w.in-Some.key.now, w.in-Some.merged.now) = sym w.in-Some.ensures.entry in
-    let within = got_within entries row.of _ at in
-    let given = c.loop-row.given.items in
-    let count : w.index.result.now ≡ length (states_at (take i (lines rows)) row.of) =
-      w.index.ensures ∙ same_default given row.of w.index.result.now 0 (omega (arith, c.loop-row.invariant.size)) ∙ c.loop-row.invariant.counts row.of within in
-    let new : c.match-get_index.given.items ≡ set given row.of (length (states_at (take i (lines rows)) row.of) + 1) =
-      ap (λ v. v.items) w.given-is ∙ ap (λ n. set given row.of (n + 1)) count in
-    let made : c.match-get_index.made.items
-        ≡ c.loop-row.made.items ++ record { key = w.in-Some.key.now.items; epoch = length (states_at (take i (lines rows)) row.of) + 1; epochs = w.in-Some.merged.now.epochs; state = row.words.items } ∷ [] =
-      ap (λ v. v.items) w.made-is ∙ w.in_ok-push.ensures.items
-      ∙ ap (λ (r : StoreRow). c.loop-row.made.items ++ r ∷ []) (rw (w.in_ok-store_row.ensures, w.as_slice-key.ensures.value, w.as_slice-state.ensures.value, count) refl) in
-    record {
-      size = ap length new ∙ length-set given row.of (length (states_at (take i (lines rows)) row.of) + 1) ∙ c.loop-row.invariant.size;
-      counts = rw new (turn_counts rows i row given (length entries) here c.loop-row.invariant.size within c.loop-row.invariant.counts);
-      made = rw made (turn_made entries rows i row (w.in-Some.key.now, w.in-Some.merged.now) c.loop-row.made.items c.requires.once at here c.loop-row.invariant.made);
-    }
-  | in_default w ↦
-    let within = row_has_key (length (stored_keys entries)) c.requires.rows.0 rows i row c.requires.rows.1 here in
-    absurd (got_some entries row.of (omega (arith, within, length-stored entries)) (rw w.in_default.is at c.get_index.ensures.entry))
-  ]
+    let i = c.loop-row.row-index in
+    let row = c.row-item.result in
+    let rows = c.args.rows.now in
+    let entries = c.args.keys.now.entries in
+    let here : slice_get rows i ≡ Some row = slice_get_read rows (length rows) i row refl c.loop-row-test.true c.row-item.is in
+    elim c.match-get_index.branch [
+      | in-Some+in_ok-store_row+in_ok-push w ↦
+          let at : slice_get entries row.of ≡ Some (w.in-Some.key.now, w.in-Some.merged.now) = sym w.in-Some.ensures.entry in
+          let within = got_within entries row.of _ at in
+          let given = c.loop-row.given.items in
+          let count : w.index.result.now ≡ length (states_at (take i (lines rows)) row.of) =
+          w.index.ensures ∙ same_default given row.of w.index.result.now 0 (omega (arith, c.loop-row.invariant.size)) ∙ c.loop-row.invariant.counts row.of within in
+          let new : c.match-get_index.given.items ≡ set given row.of (length (states_at (take i (lines rows)) row.of) + 1) =
+          ap (λ v. v.items) w.given-is ∙ ap (λ n. set given row.of (n + 1)) count in
+          let made : c.match-get_index.made.items
+          ≡ c.loop-row.made.items ++ record { key = w.in-Some.key.now.items; epoch = length (states_at (take i (lines rows)) row.of) + 1; epochs = w.in-Some.merged.now.epochs; state = row.words.items } ∷ [] =
+          ap (λ v. v.items) w.made-is ∙ w.in_ok-push.ensures.items
+          ∙ ap (λ (r : StoreRow). c.loop-row.made.items ++ r ∷ []) (rw (w.in_ok-store_row.ensures, w.as_slice-key.ensures.value, w.as_slice-state.ensures.value, count) refl) in
+          record {
+            size = ap length new ∙ length-set given row.of (length (states_at (take i (lines rows)) row.of) + 1) ∙ c.loop-row.invariant.size;
+            counts = rw new (turn_counts rows i row given (length entries) here c.loop-row.invariant.size within c.loop-row.invariant.counts);
+            made = rw made (turn_made entries rows i row (w.in-Some.key.now, w.in-Some.merged.now) c.loop-row.made.items c.requires.once at here c.loop-row.invariant.made);
+          }
+      | in_default w ↦
+          let within = row_has_key (length (stored_keys entries)) c.requires.rows.0 rows i row c.requires.rows.1 here in
+          absurd (got_some entries row.of (omega (arith, within, length-stored entries)) (rw w.in_default.is at c.get_index.ensures.entry))
+    ]

@@ -1,4 +1,4 @@
-use Rattle.std.proofs.Common.{◌≡◌, ◌∙◌, sym, ap, refl, None, length}
+use Rattle.std.proofs.Common.{◌≡◌, ◌∙◌, sym, ap, refl, None}
 use Rattle.std.specs.Map.{lookup}
 use Rattle.backing_store.specs.StoreLines.{lines}
 use Rattle.backing_store.specs.declared.store.Merged.{Merged}
@@ -16,25 +16,25 @@ pub invariant_of-self-in-Some-2 : goal.invariant_of-self-in-Some-2
 invariant_of-self-in-Some-2 c =
     let a = c.self.inside in
     let first = first_of_position c.args.key.now a.keys.entries c.in-Some.at (sym c.in-Some.ensures.index) in
-    let now : Merged = record { epochs = c.saturating_add-in-Some-2.result; last = c.index-merged-in-Some-2.result.now.last } in
+    let now : Merged = record { epochs = c.saturating_add-epochs.result; last = c.index-merged-in-Some-2.result.now.last } in
     whole_again c.args.key.now c.args.initial.now a.keys.entries (lines a.rows.items) a.key_words a.state_words c.in-Some.at c.index-merged-in-Some-2.result.now now first
-    c.index-merged-in-Some-2.ensures c.saturating_add-in-Some-2.ensures refl
+    c.index-merged-in-Some-2.ensures c.saturating_add-epochs.ensures refl
     (c.requires.key ∙ sym (ap (λ s. s.key_words) c.self.view_is)) (c.requires.initial ∙ sym (ap (λ s. s.state_words) c.self.view_is)) c.self.invariant
 
 pub returns-in-Some-2-clause-ok : goal.returns-in-Some-2-clause-ok
 returns-in-Some-2-clause-ok c =
     let a = c.self.inside in
     let first = first_of_position c.args.key.now a.keys.entries c.in-Some.at (sym c.in-Some.ensures.index) in
-    let now : Merged = record { epochs = c.saturating_add-in-Some-2.result; last = c.index-merged-in-Some-2.result.now.last } in
+    let now : Merged = record { epochs = c.saturating_add-epochs.result; last = c.index-merged-in-Some-2.result.now.last } in
     rw (← c.self.view_is, c.if-row_per_epoch.false) (
     counted_again c.args.key.now c.args.initial.now a.keys.entries (lines a.rows.items) a.key_words a.state_words c.in-Some.at c.index-merged-in-Some-2.result.now now first
-    c.index-merged-in-Some-2.ensures c.saturating_add-in-Some-2.ensures)
+    c.index-merged-in-Some-2.ensures c.saturating_add-epochs.ensures)
 
 pub returns-in-Some-2-clause-place : goal.returns-in-Some-2-clause-place
 returns-in-Some-2-clause-place c =
     let a = c.self.inside in
     let first = first_of_position c.args.key.now a.keys.entries c.in-Some.at (sym c.in-Some.ensures.index) in
-    let now : Merged = record { epochs = c.saturating_add-in-Some-2.result; last = c.index-merged-in-Some-2.result.now.last } in
+    let now : Merged = record { epochs = c.saturating_add-epochs.result; last = c.index-merged-in-Some-2.result.now.last } in
     place_kept c.args.key.now a.keys.entries (lines a.rows.items) c.in-Some.at now first (invariant_of-self-in-Some-2 c).1
 
 pub invariant_of-self-then-row_per_epoch : goal.invariant_of-self-then-row_per_epoch

@@ -23,7 +23,7 @@ returns c =
     let within : c.args.at < length items = omega (arith, c.requires, ap (λ s. length s.rows) c.self.view_is, length-lines items) in
     let here = slice_get_read items (length items) c.args.at c.index_mut-row.result.now refl within c.index_mut-row.ensures.value in
     let value : option_map (λ row. row.words) (slice_get c.args.self.now.rows c.args.at) ≡ Some c.words_mut.result.now =
-      rw (← c.self.view_is) (words-lines items c.args.at c.index_mut-row.result.now c.words_mut.result.now here c.words_mut.ensures.value) in (
+    rw (← c.self.view_is) (words-lines items c.args.at c.index_mut-row.result.now c.words_mut.result.now here c.words_mut.ensures.value) in (
       (refl, (λ w. rw (lines-set items c.args.at c.index_mut-row.result.now w here, ← c.self.view_is) refl)),
       record { writes_back = tt; value = value; length = words_length (length c.args.self.now.keys) c.args.self.now.state_words c.args.self.now.rows c.args.at c.words_mut.result.now (rw c.self.view_is at c.self.invariant.0).rows value },
     )

@@ -1,5 +1,4 @@
-use Rattle.std.proofs.Common.{◌≡◌, ◌∙◌}
-use Rattle.backing_store.specs.RowOrder.{is_of}
+use Rattle.std.proofs.Common.{◌∙◌}
 use Rattle.backing_store.proofs.SortedFacts.{rows_sorted}
 use Rattle.backing_store.proofs.store.BackingStore.sorted.Goals as goal
 
@@ -10,4 +9,4 @@ pub returns : goal.returns
 returns c =
     let kept = rw c.self.view_is at c.self.invariant.0 in
     rw c.from_vec.ensures (rows_sorted c.args.self.now c.sort_rows.new.rows.items kept c.in_ok-sort_rows.ensures.ascends
-      (λ key. c.in_ok-sort_rows.ensures.same key ∙ rw (← c.self.view_is, ← c.as_slice.ensures.value) (c.in_ok-rows.ensures key)))
+    (λ key. c.in_ok-sort_rows.ensures.same key ∙ rw (← c.self.view_is, ← c.as_slice.ensures.value) (c.in_ok-rows.ensures key)))
