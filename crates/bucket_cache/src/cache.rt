@@ -1,0 +1,182 @@
+//! The buckets of a cache.
+
+ghost use Rattle.std.specs.Prelude.{◌≡◌, ℕ, ◌+◌, ◌-◌, ◌*◌, ◌<◌, ◌≤◌, length, take, false, IfOk, Some, slice_get, sum_by};
+ghost use Rattle.std.specs.Borrow.{sem};
+ghost use Rattle.bucket_cache.specs.Buckets.{Pair, has_key, places_of};
+ghost use Rattle.bucket_cache.specs.Touches.{Touches, IsLeast, least_place, with_front, touch_cost};
+ghost use Rattle.bucket_cache.specs.Caches.{Cache, list_at, entry_at, with_list, empty_cache, IsSoundCache};
+
+use crate::bucket::{Bucket, Touch};
+use crate::entries::Entries;
+use marple_base::Steps;
+use std::alloc::{AllocError, Global};
+use std::marker::Model;
+use std::sync::ledger::Ledger;
+
+/// Buckets of keys by recent use, at most `WAYS` in each, with the words of an entry at each key's place.
+/// Only `new` takes memory.
+#[derive(Drop)]
+pub struct BucketCache<const WAYS: usize> {
+    key_words: usize,
+    entry_words: usize,
+    buckets: Vec<Bucket>,
+    entries: Entries,
+}
+
+impl<const WAYS: usize> Model for BucketCache<WAYS> {
+    ghost use Rattle.std.specs.Prelude.{map};
+    ghost use Rattle.bucket_cache.specs.Caches.{Cache};
+    ghost use Rattle.bucket_cache.specs.Shapes.{IsShaped};
+
+    ghost Value = { Cache };
+
+    ghost view = { λ c. record { key_words = c.key_words; entry_words = c.entry_words; lists = map (λ r. r.pairs) c.buckets.items; entries = c.entries } };
+
+    ghost invariant = { λ c. IsShaped WAYS c.key_words c.entry_words c.buckets.items c.entries };
+}
+
+impl<const WAYS: usize> BucketCache<WAYS> {
+    ghost use Rattle.bucket_cache.specs.LendingCaches.{LendsCacheEntry};
+
+    /// A cache with no pair, for keys and entries of so many words.
+    pub fn new(
+        alloc: Global,
+        buckets: u32,
+        key_words: usize,
+        entry_words: usize,
+    ) -> Result<BucketCache<WAYS>, AllocError>
+        requires ways { 0 < WAYS }
+        requires buckets { 0 < buckets }
+        requires places { buckets * WAYS ≤ 65536 }
+        requires key { (0 < key_words) × (key_words ≤ 8) }
+        requires entry { entry_words ≤ 512 }
+        ensures { IfOk result (λ cache. cache ≡ empty_cache buckets WAYS key_words entry_words) }
+    {
+        let mut made = Vec::new(alloc);
+        let mut first = 0;
+        for _bucket in 0..buckets {
+            made.push(Bucket::new(alloc, first, WAYS, key_words)?)?;
+            first += WAYS;
+        }
+        let entries = Entries::new(alloc, first, entry_words)?;
+        Ok(BucketCache {
+            key_words,
+            entry_words,
+            buckets: made,
+            entries,
+        })
+    }
+
+    /// The number of buckets.
+    pub fn buckets(&self) -> u32
+        ensures number { result ≡ length self.now.lists }
+        ensures sound { IsSoundCache WAYS self.now }
+    {
+        self.buckets.len() as u32
+    }
+
+    /// Brings the key to the front of its bucket where it is there or where a place is free.
+    pub fn touch<L: Ledger>(&mut self, bucket: u32, key: &[u64], steps: &mut Steps<L>) -> Touch
+        requires range { bucket < length self.old.lists }
+        requires words { length key.now ≡ self.old.key_words }
+        ensures touched { Touches WAYS key.now (list_at self.old bucket) result (list_at self.new bucket) }
+        ensures rest { self.new ≡ with_list self.old bucket (list_at self.new bucket) }
+        ensures sound { IsSoundCache WAYS self.new }
+        ensures at_least { steps.old ≤ steps.new }
+        ensures cost { steps.new ≤ steps.old + touch_cost WAYS self.old.key_words result }
+    {
+        let bucket = &mut self.buckets[bucket as usize];
+        let touch = bucket.touch(key, steps);
+        bucket.known();
+        touch
+    }
+
+    /// Gives the least recently used place of a full bucket to the key.
+    pub fn replace<L: Ledger>(&mut self, bucket: u32, key: &[u64], steps: &mut Steps<L>) -> usize
+        requires range { bucket < length self.old.lists }
+        requires words { length key.now ≡ self.old.key_words }
+        requires full { length (list_at self.old bucket) ≡ WAYS }
+        requires absent { has_key key.now (list_at self.old bucket) ≡ false }
+        ensures place { IsLeast (list_at self.old bucket) result }
+        ensures pairs { let old = list_at self.old bucket in self.new ≡ with_list self.old bucket (with_front key.now result (take (length old - 1) old)) }
+        ensures sound { IsSoundCache WAYS self.new }
+        ensures cost { steps.new ≡ steps.old + (WAYS + self.old.key_words) }
+    {
+        let bucket = &mut self.buckets[bucket as usize];
+        let place = bucket.replace(key, steps);
+        bucket.known();
+        place
+    }
+
+    /// The place of a pair of a bucket, the most recently used one being 0. None where the bucket has no such pair.
+    pub fn place(&self, bucket: u32, i: usize) -> Option<usize>
+        requires { bucket < length self.now.lists }
+        ensures { result ≡ slice_get (places_of (list_at self.now bucket)) i }
+    {
+        let bucket = &self.buckets[bucket as usize];
+        bucket.place(i)
+    }
+
+    /// The least recently used place of a bucket. None where the bucket is empty.
+    pub fn least(&self, bucket: u32) -> Option<usize>
+        requires { bucket < length self.now.lists }
+        ensures { result ≡ least_place (list_at self.now bucket) }
+    {
+        let bucket = &self.buckets[bucket as usize];
+        bucket.least()
+    }
+
+    /// The least recently used pair of a bucket goes.
+    pub fn drop_entry<L: Ledger>(&mut self, bucket: u32, steps: &mut Steps<L>)
+        requires range { bucket < length self.old.lists }
+        requires some { 0 < length (list_at self.old bucket) }
+        ensures pairs { let old = list_at self.old bucket in self.new ≡ with_list self.old bucket (take (length old - 1) old) }
+        ensures sound { IsSoundCache WAYS self.new }
+        ensures cost { steps.new ≡ steps.old + 1 }
+    {
+        let bucket = &mut self.buckets[bucket as usize];
+        bucket.drop_last();
+        bucket.known();
+        steps.tick();
+    }
+
+    /// The key of the pair that has this place.
+    pub fn key(&self, at: usize) -> &[u64]
+        requires { at < length self.now.entries }
+        ensures { (bucket i : ℕ) (pair : Pair) → slice_get (list_at self.now bucket) i ≡ Some pair → pair.place ≡ at → result.now ≡ pair.key }
+    {
+        let bucket = &self.buckets[at / WAYS];
+        bucket.key(at % WAYS)
+    }
+
+    /// The words of the entry at a place.
+    pub fn entry(&self, at: usize) -> &[u64]
+        requires { at < length self.now.entries }
+        ensures words { result.now ≡ entry_at self.now at }
+        ensures length { length result.now ≡ self.now.entry_words }
+    {
+        self.entries.entry(at)
+    }
+
+    /// Lends the words of the entry at a place.
+    pub fn entry_mut(&mut self, at: usize) -> &mut [u64]
+        requires { at < length self.old.entries }
+        ensures* writes_back { sem 𝓛 (LendsCacheEntry WAYS.row self.entry at result) }
+        ensures value { result.now ≡ entry_at self.old at }
+        ensures length { length result.now ≡ self.old.entry_words }
+    {
+        self.entries.entry_mut(at)
+    }
+
+    /// The number of pairs over all buckets.
+    pub fn held(&self) -> usize
+        ensures number { result ≡ sum_by (λ pairs. length pairs) self.now.lists }
+        ensures bound { result ≤ length self.now.lists * WAYS }
+    {
+        let mut held = 0;
+        for bucket in &self.buckets {
+            held += bucket.len();
+        }
+        held
+    }
+}

@@ -1,0 +1,119 @@
+//! The ways of one bucket: their order by recent use, with free ways at the end, and the words of their keys.
+
+ghost use Rattle.std.specs.Prelude.{◌≡◌, ℕ, ◌+◌, ◌-◌, ◌*◌, ◌<◌, ◌≤◌, length, take, slice_index, slice_index_or, slice_set, IfSome, IfNone, true, false, All, []};
+ghost use Rattle.epoch_model.specs.Keys.{key_eq};
+ghost use Rattle.bucket_cache.specs.Slices.{at_front, rows_of};
+ghost use Rattle.bucket_cache.specs.Buckets.{pairs_at, has_key, IsBucket};
+ghost use Rattle.bucket_cache.specs.Touches.{Touches, IsLeast, with_front, touch_cost};
+
+use crate::bucket::Touch;
+use crate::slices;
+use marple_base::Steps;
+use std::sync::ledger::Ledger;
+
+/// Where the key stands among the ways in use.
+fn find_key<L: Ledger>(
+    order: &[usize],
+    used: usize,
+    words: &[u64],
+    key: &[u64],
+    steps: &mut Steps<L>,
+) -> Option<usize>
+    requires within { used ≤ length order.now }
+    requires ways { All (λ way. way < length order.now) order.now }
+    requires flat { length words.now ≡ length order.now * length key.now }
+    ensures found { IfSome result (λ at. at < used) }
+    ensures same { IfSome result (λ at. key_eq (slice_index_or (rows_of (length key.now) (length order.now) words.now) (slice_index order.now at) []) key.now ≡ true) }
+    ensures none { IfNone result ((at : ℕ) → at < used → key_eq (slice_index_or (rows_of (length key.now) (length order.now) words.now) (slice_index order.now at) []) key.now ≡ false) }
+    ensures at_least { steps.old ≤ steps.new }
+    ensures cost { steps.new ≤ steps.old + used * length key.now }
+{
+    for i in 0..used {
+        let held = slices::row(words, key.len(), order[i]);
+        if slices::same_words(held, key, steps) {
+            return Some(i);
+        }
+    }
+    None
+}
+
+/// Moves a way to the front and gives it the key. Answers the way.
+fn put<L: Ledger>(
+    order: &mut [usize],
+    words: &mut [u64],
+    at: usize,
+    key: &[u64],
+    steps: &mut Steps<L>,
+) -> usize
+    requires within { at < length order.old }
+    requires ways { All (λ way. way < length order.old) order.old }
+    requires flat { length words.old ≡ length order.old * length key.now }
+    ensures way { result ≡ slice_index order.old at }
+    ensures moved { order.new ≡ at_front at order.old }
+    ensures keys { rows_of (length key.now) (length order.old) words.new ≡ slice_set (rows_of (length key.now) (length order.old) words.old) result key.now }
+    ensures cost { steps.new ≡ steps.old + (at + 1) + length key.now }
+{
+    let way = order[at];
+    slices::move_to_front(order, at, steps);
+    let start = way * key.len();
+    slices::copy_words(&mut words[start..start + key.len()], key, steps);
+    way
+}
+
+/// Brings the key to the front of the ways in use where it is there or where a way is free.
+pub fn touch_ways<L: Ledger>(
+    first: usize,
+    used: &mut usize,
+    order: &mut [usize],
+    words: &mut [u64],
+    key: &[u64],
+    steps: &mut Steps<L>,
+) -> Touch
+    requires bucket { IsBucket first (length key.now) used.old order.old (rows_of (length key.now) (length order.old) words.old) }
+    requires flat { length words.old ≡ length order.old * length key.now }
+    ensures bucket { IsBucket first (length key.now) used.new order.new (rows_of (length key.now) (length order.old) words.new) }
+    ensures touched { Touches (length order.old) key.now
+        (pairs_at first (rows_of (length key.now) (length order.old) words.old) (take used.old order.old)) result
+        (pairs_at first (rows_of (length key.now) (length order.old) words.new) (take used.new order.new)) }
+    ensures at_least { steps.old ≤ steps.new }
+    ensures cost { steps.new ≤ steps.old + touch_cost (length order.old) (length key.now) result }
+{
+    match find_key(order, *used, words, key, steps) {
+        Some(at) => {
+            let way = order[at];
+            slices::move_to_front(order, at, steps);
+            Touch::Hit(first + way)
+        }
+        None => {
+            if *used < order.len() {
+                let way = put(order, words, *used, key, steps);
+                *used += 1;
+                Touch::Free(first + way)
+            } else {
+                Touch::Full(first + order[*used - 1])
+            }
+        }
+    }
+}
+
+/// Gives the least recently used way of a full bucket to the key.
+pub fn replace_way<L: Ledger>(
+    first: usize,
+    order: &mut [usize],
+    words: &mut [u64],
+    key: &[u64],
+    steps: &mut Steps<L>,
+) -> usize
+    requires bucket { IsBucket first (length key.now) (length order.old) order.old (rows_of (length key.now) (length order.old) words.old) }
+    requires flat { length words.old ≡ length order.old * length key.now }
+    requires absent { has_key key.now (pairs_at first (rows_of (length key.now) (length order.old) words.old) (take (length order.old) order.old)) ≡ false }
+    ensures bucket { IsBucket first (length key.now) (length order.old) order.new (rows_of (length key.now) (length order.old) words.new) }
+    ensures place { IsLeast (pairs_at first (rows_of (length key.now) (length order.old) words.old) (take (length order.old) order.old)) result }
+    ensures pairs { let old = pairs_at first (rows_of (length key.now) (length order.old) words.old) (take (length order.old) order.old) in
+        pairs_at first (rows_of (length key.now) (length order.old) words.new) (take (length order.old) order.new) ≡ with_front key.now result (take (length old - 1) old) }
+    ensures cost { steps.new ≡ steps.old + (length order.old + length key.now) }
+{
+    let last = order.len() - 1;
+    let way = put(order, words, last, key, steps);
+    first + way
+}
