@@ -25,8 +25,12 @@ Touches ways key old (Free place) new =
 Touches ways key old (Full place) new =
     (has_key key old ≡ false) × (length old ≡ ways) × IsLeast old place × (new ≡ old)
 
--- the most steps that a touch takes. After Full there is room for a replacement, which takes ways + key_words.
+-- the most steps that a touch takes. After Full there is room for a replacement.
 abbrev pub touch_cost : ℕ → ℕ → Touch → ℕ
 touch_cost ways key_words (Hit place) = ways * key_words + ways
 touch_cost ways key_words (Free place) = ways * key_words + (ways + key_words)
 touch_cost ways key_words (Full place) = ways * key_words
+
+-- the steps that a replacement takes
+abbrev pub replace_cost : ℕ → ℕ → ℕ
+replace_cost ways key_words = ways + key_words

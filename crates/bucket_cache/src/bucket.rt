@@ -2,7 +2,7 @@
 
 ghost use Rattle.std.specs.Prelude.{◌≡◌, ℕ, ◌+◌, ◌-◌, ◌*◌, ◌<◌, ◌≤◌, ◌^◌, length, take, false, IfOk, Some, [], slice_get};
 ghost use Rattle.bucket_cache.specs.Buckets.{Pair, Recency, with_pairs, has_key, places_of, IsSound};
-ghost use Rattle.bucket_cache.specs.Touches.{Touches, IsLeast, least_place, with_front, touch_cost};
+ghost use Rattle.bucket_cache.specs.Touches.{Touches, IsLeast, least_place, with_front, touch_cost, replace_cost};
 
 use crate::slices;
 use crate::ways::{replace_way, touch_ways};
@@ -96,7 +96,7 @@ impl Bucket {
         requires absent { has_key key.now self.old.pairs ≡ false }
         ensures place { IsLeast self.old.pairs result }
         ensures pairs { self.new ≡ with_pairs self.old (with_front key.now result (take (length self.old.pairs - 1) self.old.pairs)) }
-        ensures cost { steps.new ≡ steps.old + (self.old.ways + self.old.key_words) }
+        ensures cost { steps.new ≡ steps.old + replace_cost self.old.ways self.old.key_words }
     {
         replace_way(self.first, &mut self.order, &mut self.words, key, steps)
     }

@@ -3,7 +3,7 @@
 ghost use Rattle.std.specs.Prelude.{◌≡◌, ℕ, ◌+◌, ◌-◌, ◌*◌, ◌<◌, ◌≤◌, length, take, false, IfOk, Some, slice_get, sum_by};
 ghost use Rattle.std.specs.Borrow.{sem};
 ghost use Rattle.bucket_cache.specs.Buckets.{Pair, has_key, places_of};
-ghost use Rattle.bucket_cache.specs.Touches.{Touches, IsLeast, least_place, with_front, touch_cost};
+ghost use Rattle.bucket_cache.specs.Touches.{Touches, IsLeast, least_place, with_front, touch_cost, replace_cost};
 ghost use Rattle.bucket_cache.specs.Caches.{Cache, list_at, entry_at, with_list, empty_cache, IsSoundCache};
 
 use crate::bucket::{Bucket, Touch};
@@ -100,7 +100,7 @@ impl<const WAYS: usize> BucketCache<WAYS> {
         ensures place { IsLeast (list_at self.old bucket) result }
         ensures pairs { let old = list_at self.old bucket in self.new ≡ with_list self.old bucket (with_front key.now result (take (length old - 1) old)) }
         ensures sound { IsSoundCache WAYS self.new }
-        ensures cost { steps.new ≡ steps.old + (WAYS + self.old.key_words) }
+        ensures cost { steps.new ≡ steps.old + replace_cost WAYS self.old.key_words }
     {
         let bucket = &mut self.buckets[bucket as usize];
         let place = bucket.replace(key, steps);

@@ -2,6 +2,8 @@
 //! All of its memory is taken when it is made.
 #![tactic(auto)]
 
+ghost use Rattle.bucket_cache.specs.Bounds.{UsesAreBounded};
+
 mod bucket;
 mod cache;
 mod entries;
@@ -12,3 +14,9 @@ mod ways;
 pub use bucket::Touch;
 pub use cache::BucketCache;
 pub use hash::bucket_of;
+
+/// A touch, or a touch that finds the bucket full with the replacement after it, takes at most
+/// 2 × ways × (key words + 1) steps.
+pub fn uses_are_bounded()
+    ensures { UsesAreBounded }
+{}

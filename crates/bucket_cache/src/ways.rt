@@ -4,7 +4,7 @@ ghost use Rattle.std.specs.Prelude.{◌≡◌, ℕ, ◌+◌, ◌-◌, ◌*◌, �
 ghost use Rattle.epoch_model.specs.Keys.{key_eq};
 ghost use Rattle.bucket_cache.specs.Slices.{at_front, rows_of};
 ghost use Rattle.bucket_cache.specs.Buckets.{pairs_at, has_key, IsBucket};
-ghost use Rattle.bucket_cache.specs.Touches.{Touches, IsLeast, with_front, touch_cost};
+ghost use Rattle.bucket_cache.specs.Touches.{Touches, IsLeast, with_front, touch_cost, replace_cost};
 
 use crate::bucket::Touch;
 use crate::slices;
@@ -111,7 +111,7 @@ pub fn replace_way<L: Ledger>(
     ensures place { IsLeast (pairs_at first (rows_of (length key.now) (length order.old) words.old) (take (length order.old) order.old)) result }
     ensures pairs { let old = pairs_at first (rows_of (length key.now) (length order.old) words.old) (take (length order.old) order.old) in
         pairs_at first (rows_of (length key.now) (length order.old) words.new) (take (length order.old) order.new) ≡ with_front key.now result (take (length old - 1) old) }
-    ensures cost { steps.new ≡ steps.old + (length order.old + length key.now) }
+    ensures cost { steps.new ≡ steps.old + replace_cost (length order.old) (length key.now) }
 {
     let last = order.len() - 1;
     let way = put(order, words, last, key, steps);
