@@ -1,177 +1,17 @@
 -- A bucket's pairs after a key moves to the front, or a new one comes.
-use Rattle.std.proofs.Common.{◌≡◌, ◌≢◌, ◌⊎◌, length-set, ℕ, zero, suc, ◌+◌, ◌-◌, ◌*◌, ◌<◌, ◌≤◌, Bool, true, false, cond, ◌||◌, List, [], ◌∷◌, ◌++◌, Some, None, length, take, drop, get_or, set, map, find, option_map, refl, sym, ap, ap₂, ◌∙◌, subst, ⊎_elim, arith, All, AllPairs, get_or-take, get_or-drop, get_or-set_other, get_or-set_same, length-take, length-drop, length-append, take-take, take-append-drop, append_assoc, ltb}
+use Rattle.std.proofs.Common.{◌≡◌, ◌≢◌, length-set, ℕ, zero, suc, ◌+◌, ◌-◌, ◌*◌, ◌<◌, ◌≤◌, Bool, true, false, List, [], ◌∷◌, Some, None, length, take, get_or, set, refl, sym, ap, ap₂, ◌∙◌, subst, arith, All, AllPairs, get_or-take, get_or-set_other, get_or-set_same, take-take}
 use Rattle.std.specs.List.{AllByRecursion}
-use Rattle.std.proofs.lemmas.List.{get_or_default, length-map, drop-append-le, drop_more, map-append, take-map, drop-map, get_or-map, get_or_append_left, get_or-append_right, take-append-le, take_at, length-take-le}
-use Rattle.std.proofs.lemmas.List.Elements.{All-append, All-take, All-drop, All-set, recursion_from_All}
-use Rattle.std.proofs.lemmas.Bool.{true≢false, cases_order, ltb-true, ltb-false}
-use Rattle.std.specs.Cmp.Lexicographic.{bytes_decides}
+use Rattle.std.proofs.lemmas.List.{get_or_default, length-map, take-map, get_or-map, length-take-le}
+use Rattle.std.proofs.lemmas.List.Elements.{All-set, recursion_from_All}
 use Rattle.std.proofs.lemmas.Option.{slice_get-get_or, slice_get_past, get_or_from_slice_get}
 use Rattle.epoch_model.specs.Keys.{Key, key_eq}
 use Rattle.std.specs.Prelude.{slice_get}
 use Rattle.bucket_cache.specs.Slices.{at_front, rows_of}
 use Rattle.bucket_cache.specs.Touches.{IsLeast}
 use Rattle.bucket_cache.proofs.FlatRows.{length-rows_of, rows_of-words}
-use Rattle.bucket_cache.specs.Buckets.{Pair, is_pair_of, has_key, place_of, places_of, without_key, AreOnce, pair_at, pairs_at, IsBucket, IsSound}
-
-pub by_test : {P : Type 0} (t : Bool) → (t ≡ true → P) → (t ≡ false → P) → P
-by_test true so not_so = so refl
-by_test false so not_so = not_so refl
-
-key_eq-true : (a b : Key) → key_eq a b ≡ true → a ≡ b
-unfolding key_eq
-key_eq-true a b = (bytes_decides a b).0
-
--- the element that comes to the front, and the others
-pub front-cons : {X : Type 0} (at : ℕ) (d : X) (xs : List X) → at < length xs → at_front at xs ≡ get_or xs at d ∷ (take at xs ++ drop (at + 1) xs)
-front-cons at d xs h = ap (λ ys. take 1 ys ++ (take at xs ++ drop (at + 1) xs)) (drop_more xs at d h)
-
-pub length-at_front : {X : Type 0} (at : ℕ) (xs : List X) → at < length xs → length (at_front at xs) ≡ length xs
-length-at_front at xs h =
-    let a = length-append (take 1 (drop at xs)) (take at xs ++ drop (at + 1) xs) in
-    let b = length-append (take at xs) (drop (at + 1) xs) in
-    let c = length-take 1 (drop at xs) in
-    let d = length-drop at xs in
-    let e = length-take at xs in
-    let f = length-drop (at + 1) xs in
-    omega arith
-
-pub front-append : {X : Type 0} (at : ℕ) (p q : List X) → at < length p → at_front at (p ++ q) ≡ at_front at p ++ q
-front-append {X} at p q h =
-    let one : take 1 (drop at (p ++ q)) ≡ take 1 (drop at p) =
-    ap (take 1) (drop-append-le at p q (omega arith)) ∙ take-append-le 1 (drop at p) q (omega (arith, length-drop at p)) in
-    let before : take at (p ++ q) ≡ take at p = take-append-le at p q (omega arith) in
-    let after : drop (at + 1) (p ++ q) ≡ drop (at + 1) p ++ q = drop-append-le (at + 1) p q (omega arith) in
-    ap₂ (λ xs ys. xs ++ ys) one (ap₂ (λ xs ys. xs ++ ys) before after)
-    ∙ simp append_assoc
-
--- a move among the first n elements
-pub take-at_front : {X : Type 0} (n at : ℕ) (xs : List X) → at < n → n ≤ length xs → take n (at_front at xs) ≡ at_front at (take n xs)
-take-at_front {X} n at xs h l =
-    let long : length (take n xs) ≡ n = length-take-le n xs l in
-    ap (λ ys. take n (at_front at ys)) (sym (take-append-drop n xs))
-    ∙ (ap (take n) (front-append at (take n xs) (drop n xs) (omega arith))
-    ∙ take_at (at_front at (take n xs)) (drop n xs) n (length-at_front at (take n xs) (omega arith) ∙ long))
-
-pub map-at_front : {X Y : Type 0} (f : X → Y) (at : ℕ) (xs : List X) → map f (at_front at xs) ≡ at_front at (map f xs)
-map-at_front f at xs =
-    map-append f (take 1 (drop at xs)) (take at xs ++ drop (at + 1) xs)
-    ∙ ap₂ (λ ys zs. ys ++ zs) (sym (take-map f 1 (drop at xs)) ∙ ap (take 1) (sym (drop-map f at xs)))
-    (map-append f (take at xs) (drop (at + 1) xs) ∙ ap₂ (λ ys zs. ys ++ zs) (sym (take-map f at xs)) (sym (drop-map f (at + 1) xs)))
-
--- the element from just behind the first n comes to their front
-pub take_more-at_front : {X : Type 0} (n : ℕ) (d : X) (xs : List X) → n < length xs → take (n + 1) (at_front n xs) ≡ get_or xs n d ∷ take n xs
-take_more-at_front n d xs h =
-    ap (λ k. take k (at_front n xs)) (let e : n + 1 ≡ suc n = omega arith in e)
-    ∙ (ap (take (suc n)) (front-cons n d xs h)
-    ∙ ap (λ ys. get_or xs n d ∷ ys) (take_at (take n xs) (drop (n + 1) xs) n (length-take-le n xs (omega arith))))
-
-pub All-at_front : {X : Type 0} (P : X → Type 0) (at : ℕ) (xs : List X) → All P xs → All P (at_front at xs)
-All-at_front P at xs a = All-append P (take 1 (drop at xs)) (take at xs ++ drop (at + 1) xs) (All-take P 1 (drop at xs) (All-drop P at xs a)) (All-append P (take at xs) (drop (at + 1) xs) (All-take P at xs a) (All-drop P (at + 1) xs a))
-
--- where the element at a place stood before
-abbrev pub source : ℕ → ℕ → ℕ
-source at zero = at
-source at (suc k) = cond (ltb k at) k (suc k)
-
-source-apart : (at i j : ℕ) → i < j → source at i ≡ source at j → ⊥
-source-apart at i zero h e = omega arith
-source-apart at zero (suc j) h e = by_test (ltb j at)
-    (λ t. let l = ltb-true j at t in let f : at ≡ j = rw t at e in omega arith)
-    (λ t. let l = ltb-false j at t in let f : at ≡ suc j = rw t at e in omega arith)
-source-apart at (suc i) (suc j) h e = by_test (ltb i at)
-    (λ s. let k = ltb-true i at s in by_test (ltb j at)
-    (λ t. let l = ltb-true j at t in let f : i ≡ j = rw (s, t) at e in omega arith)
-    (λ t. let l = ltb-false j at t in let f : i ≡ suc j = rw (s, t) at e in omega arith))
-    (λ s. let k = ltb-false i at s in by_test (ltb j at)
-    (λ t. let l = ltb-true j at t in omega arith)
-    (λ t. let l = ltb-false j at t in let f : suc i ≡ suc j = rw (s, t) at e in omega arith))
-
-source-lt : (at k n : ℕ) → at < n → k < n → source at k < n
-source-lt at zero n h l = h
-source-lt at (suc k) n h l = by_test (ltb k at) (λ t. rw t (omega arith)) (λ t. rw t l)
-
-pub at_front-get : {X : Type 0} (at k : ℕ) (d : X) (xs : List X) → at < length xs → k < length xs → get_or (at_front at xs) k d ≡ get_or xs (source at k) d
-at_front-get at zero d xs h l = ap (λ ys. get_or ys 0 d) (front-cons at d xs h)
-at_front-get at (suc k) d xs h l =
-    let long : length (take at xs) ≡ at = length-take-le at xs (omega arith) in
-    ap (λ ys. get_or ys (suc k) d) (front-cons at d xs h)
-    ∙ by_test (ltb k at)
-    (λ t. let below = ltb-true k at t in rw t (get_or_append_left (take at xs) (drop (at + 1) xs) d k (omega arith) ∙ get_or-take at xs k d below))
-    (λ t. let above = ltb-false k at t in rw t (get_or-append_right (take at xs) (drop (at + 1) xs) at k d long above ∙ (get_or-drop (at + 1) xs (k - at) d ∙ ap (λ n. get_or xs n d) (let e : at + 1 + (k - at) ≡ suc k = omega arith in e))))
-
-pub AllPairs-at_front : (at : ℕ) (xs : List ℕ) → at < length xs → AllPairs (λ a b. a ≢ b) xs → AllPairs (λ a b. a ≢ b) (at_front at xs)
-AllPairs-at_front at xs h a i j d l m =
-    let long = length-at_front at xs h in
-    let i_in : i < length xs = omega arith in
-    let j_in : j < length xs = omega arith in
-    λ e.
-    let same : get_or xs (source at i) d ≡ get_or xs (source at j) d = sym (at_front-get at i d xs h i_in) ∙ (e ∙ at_front-get at j d xs h j_in) in
-    ⊎_elim (λ (p : source at i ≡ source at j). source-apart at i j l p)
-    (λ (p : (source at i < source at j) ⊎ (source at j < source at i)). ⊎_elim
-    (λ (q : source at i < source at j). a (source at i) (source at j) d q (source-lt at j (length xs) h j_in) same)
-    (λ (q : source at j < source at i). a (source at j) (source at i) d q (source-lt at i (length xs) h i_in) (sym same))
-    p)
-    (cases_order (source at i) (source at j))
-
-absent_head : (key : Key) (pair : Pair) (pairs : List Pair) → has_key key (pair ∷ pairs) ≡ false → (key_eq pair.key key ≡ false) × (has_key key pairs ≡ false)
-absent_head key pair pairs h = by_test (key_eq pair.key key)
-    (λ e. absurd (true≢false (sym (ap (λ t. t || has_key key pairs) e) ∙ h)))
-    (λ e. (e, sym (ap (λ t. t || has_key key pairs) e) ∙ h))
-
-without_absent : (key : Key) (pairs : List Pair) → has_key key pairs ≡ false → without_key key pairs ≡ pairs
-without_absent key [] h = refl
-without_absent key (pair ∷ pairs) h = let a = absent_head key pair pairs h in rw a.0 (ap (λ ps. pair ∷ ps) (without_absent key pairs a.1))
-
-has-without : (key other : Key) (pairs : List Pair) → has_key other pairs ≡ false → has_key other (without_key key pairs) ≡ false
-has-without key other [] h = refl
-has-without key other (pair ∷ pairs) h = let a = absent_head other pair pairs h in by_test (key_eq pair.key key)
-    (λ e. rw e (has-without key other pairs a.1))
-    (λ e. rw (e, a.0) (has-without key other pairs a.1))
-
-has-without_same : (key : Key) (pairs : List Pair) → has_key key (without_key key pairs) ≡ false
-has-without_same key [] = refl
-has-without_same key (pair ∷ pairs) = by_test (key_eq pair.key key)
-    (λ e. rw e (has-without_same key pairs))
-    (λ e. rw (e, e) (has-without_same key pairs))
-
-once-without : (key : Key) (pairs : List Pair) → AreOnce pairs → AreOnce (without_key key pairs)
-once-without key [] o = tt
-once-without key (pair ∷ pairs) o = by_test (key_eq pair.key key)
-    (λ e. rw e (once-without key pairs o.1))
-    (λ e. rw e (has-without key pair.key pairs o.0, once-without key pairs o.1))
-
-pub once-front : (key : Key) (place : ℕ) (pairs : List Pair) → AreOnce pairs → AreOnce (record { key = key; place = place } ∷ without_key key pairs)
-once-front key place pairs o = (has-without_same key pairs, once-without key pairs o)
-
-pub has-at : (at : ℕ) (d : Pair) (key : Key) (pairs : List Pair) → at < length pairs → key_eq (get_or pairs at d).key key ≡ true → has_key key pairs ≡ true
-has-at at d key [] h e = absurd (omega arith)
-has-at zero d key (pair ∷ pairs) h e = rw e refl
-has-at (suc at) d key (pair ∷ pairs) h e = by_test (key_eq pair.key key) (λ t. rw t refl) (λ t. rw t (has-at at d key pairs (omega arith) e))
-
-find-at : (at : ℕ) (d : Pair) (key : Key) (pairs : List Pair) → at < length pairs → AreOnce pairs → key_eq (get_or pairs at d).key key ≡ true → find (is_pair_of key) pairs ≡ Some (get_or pairs at d)
-find-at at d key [] h o e = absurd (omega arith)
-find-at zero d key (pair ∷ pairs) h o e = rw e refl
-find-at (suc at) d key (pair ∷ pairs) h o e = by_test (key_eq pair.key key)
-    (λ t. absurd (true≢false (sym (has-at at d key pairs (omega arith) e) ∙ subst (λ k. has_key k pairs ≡ false) (key_eq-true pair.key key t) o.0)))
-    (λ t. rw t (find-at at d key pairs (omega arith) o.1 e))
-
-pub place-at : (at : ℕ) (d : Pair) (key : Key) (pairs : List Pair) → at < length pairs → AreOnce pairs → key_eq (get_or pairs at d).key key ≡ true → place_of key pairs ≡ Some (get_or pairs at d).place
-place-at at d key pairs h o e = ap (option_map (λ pair. pair.place)) (find-at at d key pairs h o e)
-
--- of distinct keys the one at this place goes, and no other
-without-at : (at : ℕ) (d : Pair) (key : Key) (pairs : List Pair) → at < length pairs → AreOnce pairs → key_eq (get_or pairs at d).key key ≡ true → take at pairs ++ drop (suc at) pairs ≡ without_key key pairs
-without-at at d key [] h o e = absurd (omega arith)
-without-at zero d key (pair ∷ pairs) h o e = rw e (sym (without_absent key pairs (subst (λ k. has_key k pairs ≡ false) (key_eq-true pair.key key e) o.0)))
-without-at (suc at) d key (pair ∷ pairs) h o e = by_test (key_eq pair.key key)
-    (λ t. absurd (true≢false (sym (has-at at d key pairs (omega arith) e) ∙ subst (λ k. has_key k pairs ≡ false) (key_eq-true pair.key key t) o.0)))
-    (λ t. rw t (ap (λ ps. pair ∷ ps) (without-at at d key pairs (omega arith) o.1 e)))
-
-pub front-pair : (at : ℕ) (d : Pair) (key : Key) (pairs : List Pair) → at < length pairs → AreOnce pairs → key_eq (get_or pairs at d).key key ≡ true
-    → at_front at pairs ≡ record { key = key; place = (get_or pairs at d).place } ∷ without_key key pairs
-front-pair at d key pairs h o e =
-    front-cons at d pairs h
-    ∙ ap₂ (λ k ps. record { key = k; place = (get_or pairs at d).place } ∷ ps) (key_eq-true (get_or pairs at d).key key e)
-    (ap (λ n. take at pairs ++ drop n pairs) (let e : at + 1 ≡ suc at = omega arith in e) ∙ without-at at d key pairs h o e)
+use Rattle.bucket_cache.specs.Buckets.{Pair, has_key, place_of, places_of, without_key, AreOnce, pair_at, pairs_at, IsBucket, IsSound}
+use Rattle.bucket_cache.proofs.Fronts.{length-at_front, take-at_front, map-at_front, take_more-at_front, All-at_front, AllPairs-at_front}
+use Rattle.bucket_cache.proofs.PairLists.{has-at, place-at, front-pair, once-front, has-front, once-take}
 
 -- what `find_key` tells of a way
 abbrev pub Matches : List Key → List ℕ → ℕ → Key → Bool → Type 0
@@ -319,16 +159,6 @@ least-pair first used order keys h l =
 
 pub few-pairs : (first used : ℕ) (order : List ℕ) (keys : List Key) → used ≤ length order → length (pairs_at first keys (take used order)) ≡ used
 few-pairs first used order keys l = long_pairs first (take used order) keys ∙ length-take-le used order l
-
-has-front : (key : Key) (n : ℕ) (pairs : List Pair) → has_key key pairs ≡ false → has_key key (take n pairs) ≡ false
-has-front key zero pairs h = refl
-has-front key (suc n) [] h = refl
-has-front key (suc n) (pair ∷ pairs) h = let a = absent_head key pair pairs h in rw a.0 (has-front key n pairs a.1)
-
-once-take : (n : ℕ) (pairs : List Pair) → AreOnce pairs → AreOnce (take n pairs)
-once-take zero pairs o = tt
-once-take (suc n) [] o = tt
-once-take (suc n) (pair ∷ pairs) o = (has-front pair.key n pairs o.0, once-take n pairs o.1)
 
 -- the pairs of one way fewer
 pub fewer-pairs : (first used : ℕ) (order : List ℕ) (keys : List Key) → used ≤ length order

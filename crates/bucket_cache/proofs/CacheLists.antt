@@ -14,7 +14,8 @@ use Rattle.bucket_cache.specs.Touches.{Touches}
 use Rattle.bucket_cache.specs.Caches.{Cache, with_list, IsSoundCache}
 use Rattle.bucket_cache.specs.Shapes.{IsHome, IsShaped}
 use Rattle.bucket_cache.proofs.FlatRows.{row_fits}
-use Rattle.bucket_cache.proofs.BucketLists.{by_test, some-get}
+use Rattle.bucket_cache.proofs.BucketLists.{some-get}
+use Rattle.bucket_cache.proofs.Fronts.{by_test}
 
 abbrev pub lists_of : List Recency → List (List Pair)
 lists_of buckets = map (λ r. r.pairs) buckets
