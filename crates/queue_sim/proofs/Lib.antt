@@ -1,0 +1,3 @@
+pub mod QueueFacts
+pub mod Bounds
+pub mod FollowingFacts

@@ -1,0 +1,4 @@
+pub mod Generator
+pub mod Draws
+pub mod Queue
+pub mod Following

@@ -1,0 +1,8 @@
+//! A trace made by a generator: packets of 64 flows come to four switches, wait in the switches' queues or are dropped.
+#![tactic(auto)]
+
+mod draws;
+mod generator;
+mod queue;
+
+pub use generator::simulate;
