@@ -1,3 +1,4 @@
 pub mod QueueFacts
 pub mod Bounds
 pub mod FollowingFacts
+pub mod TextFacts

@@ -2,3 +2,4 @@ pub mod Generator
 pub mod Draws
 pub mod Queue
 pub mod Following
+pub mod TraceText

@@ -4,5 +4,7 @@
 mod draws;
 mod generator;
 mod queue;
+mod text;
 
 pub use generator::simulate;
+pub use text::trace_text;
