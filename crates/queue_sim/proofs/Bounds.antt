@@ -1,7 +1,7 @@
 -- No number of the generator is large.
-use Rattle.std.proofs.Common.{◌≡◌, ℕ, suc, zero, ◌+◌, ◌*◌, ◌%◌, ◌<◌, ◌≤◌, Bool, true, false, List, [], ◌∷◌, max, arith}
+use Rattle.std.proofs.Common.{ℕ, suc, zero, ◌+◌, ◌*◌, ◌%◌, ◌<◌, ◌≤◌, arith}
 use Rattle.std.specs.Prelude.{◌==◌, nat_lt}
-use Rattle.queue_sim.specs.Generator.{Arrival, Drawn, arrival_by, arrivals, drawn_after, draw, first_or_0, last_time, leaves, next_number, switch_of, still_there, touts_at}
+use Rattle.queue_sim.specs.Generator.{arrivals, drawn_after, draw, first_or_0, last_time, next_number, switch_of, still_there, touts_at}
 use Rattle.queue_sim.proofs.QueueFacts.{by_test}
 
 -- what a packet draws
@@ -19,8 +19,8 @@ number_small start capacity zero flow = omega arith
 number_small start capacity (suc n) flow =
     let drawn = drawn_after start (4 * n) in
     by_test (drawn.flow == flow)
-      (λ same. rw same (omega (arith, number_small start capacity n drawn.flow, (drawn_small start (4 * n)).2, (drawn_small start (4 * n)).3)))
-      (λ other. rw other (omega (arith, number_small start capacity n flow)))
+    (λ same. rw same (omega (arith, number_small start capacity n drawn.flow, (drawn_small start (4 * n)).2, (drawn_small start (4 * n)).3)))
+    (λ other. rw other (omega (arith, number_small start capacity n flow)))
 
 pub tout_small : (start capacity n switch : ℕ) → first_or_0 (touts_at switch (arrivals start capacity n)) ≤ 236 * n
 unfolding arrivals
@@ -31,7 +31,7 @@ tout_small start capacity (suc n) switch =
     let before = tout_small start capacity n switch in
     let touts = touts_at (switch_of drawn.flow) earlier in
     by_test (switch_of drawn.flow == switch)
-      (λ here. by_test (nat_lt (still_there (last_time earlier + drawn.gap) touts) capacity)
-        (λ sent. rw (here, sent) (omega (arith, tout_small start capacity n (switch_of drawn.flow), time_small start capacity n, (drawn_small start (4 * n)).0, (drawn_small start (4 * n)).2)))
-        (λ dropped. rw (here, dropped) (omega (arith, before))))
-      (λ there. rw there (omega (arith, before)))
+    (λ here. by_test (nat_lt (still_there (last_time earlier + drawn.gap) touts) capacity)
+    (λ sent. rw (here, sent) (omega (arith, tout_small start capacity n (switch_of drawn.flow), time_small start capacity n, (drawn_small start (4 * n)).0, (drawn_small start (4 * n)).2)))
+    (λ dropped. rw (here, dropped) (omega (arith, before))))
+    (λ there. rw there (omega (arith, before)))

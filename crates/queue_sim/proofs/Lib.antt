@@ -2,3 +2,6 @@ pub mod QueueFacts
 pub mod Bounds
 pub mod FollowingFacts
 pub mod TextFacts
+pub mod WrittenFacts
+pub mod DigitFacts
+pub mod ReadBackFacts

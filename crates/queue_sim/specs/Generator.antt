@@ -1,5 +1,5 @@
 -- The packets of the generator: each is decided by its draws and by the packets before it.
-use Rattle.std.specs.Prelude.{ℕ, suc, zero, ◌+◌, ◌-◌, ◌*◌, ◌/◌, ◌%◌, ◌^◌, ◌==◌, Bool, nat_lt, if◌then◌else◌, List, [], ◌∷◌, ◌++◌, filter, length, max, Option, Some, None, unwrap_or}
+use Rattle.std.specs.Prelude.{ℕ, suc, zero, ◌+◌, ◌-◌, ◌*◌, ◌/◌, ◌%◌, ◌^◌, ◌==◌, nat_lt, if◌then◌else◌, List, [], ◌∷◌, ◌++◌, filter, length, max, Option, Some, None, unwrap_or}
 use Rattle.marple_base.specs.declared.field.Packet.{Packet}
 
 -- the state of the draws after so many of them
@@ -16,10 +16,10 @@ draw start n = state_after start n / 2 ^ 16
 
 -- what four draws in a row say of a packet
 pub record Drawn : Type 0 where
-  pub gap : ℕ       -- the time since the packet before it
-  pub flow : ℕ      -- its flow, of 64
-  pub payload : ℕ   -- the bytes that it carries
-  pub skipped : ℕ   -- how many of its flow's numbers it leaves out
+  pub gap : ℕ  -- the time since the packet before it
+  pub flow : ℕ  -- its flow, of 64
+  pub payload : ℕ  -- the bytes that it carries
+  pub skipped : ℕ  -- how many of its flow's numbers it leaves out
 
 -- what is drawn after so many draws
 abbrev pub drawn_after : ℕ → ℕ → Drawn
@@ -35,9 +35,9 @@ pub record Arrival : Type 0 where
   pub time : ℕ
   pub flow : ℕ
   pub payload : ℕ
-  pub seq : ℕ           -- the number of its first byte in its flow
-  pub qsize : ℕ         -- how many packets it finds in the queue
-  pub tout : Option ℕ   -- when it leaves the queue; none where it is dropped
+  pub seq : ℕ  -- the number of its first byte in its flow
+  pub qsize : ℕ  -- how many packets it finds in the queue
+  pub tout : Option ℕ  -- when it leaves the queue; none where it is dropped
 
 -- the switch of a flow, from 0
 abbrev pub switch_of : ℕ → ℕ

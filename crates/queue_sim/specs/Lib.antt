@@ -3,3 +3,4 @@ pub mod Draws
 pub mod Queue
 pub mod Following
 pub mod TraceText
+pub mod ReadBack

@@ -1,5 +1,5 @@
 -- A queue: when the packets leave that wait in it.
-use Rattle.std.specs.Prelude.{ℕ, ◌≡◌, ◌+◌, ◌≤◌, ⊤, List, [], ◌∷◌}
+use Rattle.std.specs.Prelude.{ℕ, ◌≡◌, ◌≤◌, ⊤, List, [], ◌∷◌}
 use Rattle.queue_sim.specs.Generator.{first_or_0, still_there}
 use Rattle.queue_sim.specs.declared.queue.Queue.{Queue}
 

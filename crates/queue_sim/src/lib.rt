@@ -7,4 +7,4 @@ mod queue;
 mod text;
 
 pub use generator::simulate;
-pub use text::trace_text;
+pub use text::{texts_read_back, trace_text};

@@ -1,6 +1,7 @@
 //! The text of a trace.
 
 ghost use Rattle.std.specs.Prelude.{◌≡◌, ◌++◌, ◌∷◌, [], IfOk, OnOk};
+ghost use Rattle.queue_sim.specs.ReadBack.{TextsReadBack};
 ghost use Rattle.queue_sim.specs.TraceText.{header, joined, line, packet_texts, trace_text, word_text};
 
 use itoa::Buffer;
@@ -46,3 +47,8 @@ pub fn trace_text(alloc: Global, packets: &Seq<Packet>) -> Result<Text, AllocErr
     }
     Ok(text)
 }
+
+/// The text of packets reads back as these packets.
+pub fn texts_read_back()
+    ensures { TextsReadBack }
+{}

@@ -1,4 +1,4 @@
-use Rattle.std.proofs.Common.{ap, length, arith}
+use Rattle.std.proofs.Common.{arith}
 use Rattle.queue_sim.proofs.FollowingFacts.{empty_push}
 use Rattle.queue_sim.proofs.generator.empty_queues.Goals as goal
 

@@ -1,7 +1,5 @@
-use Rattle.std.proofs.Common.{◌≡◌, ◌+◌, ◌∷◌, ◌++◌, [], ◌∙◌, ap, refl, sym}
-use Rattle.marple_base.specs.declared.field.Packet.{Packet}
+use Rattle.std.proofs.Common.{◌≡◌, ◌+◌, ◌∙◌, ap, refl, sym}
 use Rattle.queue_sim.specs.Following.{nth_packet}
-use Rattle.queue_sim.specs.Generator.{simulated}
 use Rattle.queue_sim.proofs.FollowingFacts.{simulated_more, simulated_none}
 use Rattle.queue_sim.proofs.generator.simulate.Goals as goal
 

@@ -1,4 +1,4 @@
-use Rattle.std.proofs.Common.{◌≡◌, ◌++◌, ◌∷◌, [], ◌∙◌, ap, get_or, length, sym, refl, take, ◌<◌, arith}
+use Rattle.std.proofs.Common.{◌++◌, [], ◌∙◌, ap, get_or, length, sym, refl, take, ◌<◌, arith}
 use Rattle.std.proofs.lemmas.List.{take_all, take_more}
 use Rattle.queue_sim.specs.TraceText.{line, packet_texts, trace_text}
 use Rattle.marple_base.specs.declared.field.Packet.{Packet}

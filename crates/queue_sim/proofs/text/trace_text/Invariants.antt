@@ -1,4 +1,4 @@
-use Rattle.std.proofs.Common.{◌≡◌, ◌++◌, take}
+use Rattle.std.proofs.Common.{◌≡◌, take}
 use Rattle.queue_sim.specs.TraceText.{trace_text}
 use Rattle.queue_sim.proofs.text.trace_text.Given as goal
 

@@ -1,8 +1,7 @@
-use Rattle.std.proofs.Common.{◌≡◌, ◌+◌, ◌*◌, ◌%◌, ◌∷◌, ◌∙◌, List, Some, ap, add-one, length, refl, set, slice_get, sym, arith}
+use Rattle.std.proofs.Common.{◌≡◌, ◌+◌, ◌*◌, ◌%◌, ◌∷◌, ◌∙◌, ap, add-one, length, refl, sym, arith}
 use Rattle.std.proofs.Math.ListN.{length-set}
 use Rattle.std.proofs.lemmas.Option.{slice_get_read}
 use Rattle.queue_sim.specs.Generator.{Arrival, arrival_by, arrivals, drawn_after, packet_of, state_after, touts_at}
-use Rattle.queue_sim.specs.declared.queue.Queue.{Queue}
 use Rattle.queue_sim.proofs.Bounds.{number_small, time_small, tout_small}
 use Rattle.queue_sim.proofs.FollowingFacts.{arrivals_more, arrived, flows_next, queues_next}
 use Rattle.queue_sim.proofs.generator.Generator.next.Goals as goal
@@ -43,13 +42,15 @@ packet_of-requires c =
     let at = c.requires.follows.flows flow c.next_packet-drawn.ensures.small.1 in
     let number = number_small g.start g.capacity g.number flow in
     let time = time_small g.start g.capacity g.number in
-    record { small = (
-      omega (arith, c.requires.more),
-      omega (arith, c.requires.follows.time, time, c.requires.more, c.next_packet-drawn.ensures.small),
-      omega (arith, c.next_seq-seq.ensures.seq, at, number, c.requires.more, c.next_packet-drawn.ensures.small),
-      c.next_packet-drawn.ensures.small.1,
-      c.next_packet-drawn.ensures.small.2,
-    ) }
+    record {
+      small = (
+        omega (arith, c.requires.more),
+        omega (arith, c.requires.follows.time, time, c.requires.more, c.next_packet-drawn.ensures.small),
+        omega (arith, c.next_seq-seq.ensures.seq, at, number, c.requires.more, c.next_packet-drawn.ensures.small),
+        c.next_packet-drawn.ensures.small.1,
+        c.next_packet-drawn.ensures.small.2,
+      );
+    }
 
 pub returns-clause-packet : goal.returns-clause-packet
 returns-clause-packet c =
@@ -65,7 +66,7 @@ returns-clause-packet c =
     let seq = c.next_seq-seq.ensures.seq ∙ ap (λ n. n + d.skipped) (c.requires.follows.flows d.flow c.next_packet-drawn.ensures.small.1) in
     let qsize = c.in_ok-place.ensures.qsize g.time (touts_at switch earlier) holds (omega arith) in
     let is = arrived earlier g.capacity d (drawn_after g.start (4 * g.number)) (g.time + d.gap) c.next_seq-seq.result c.in_ok-place.place.qsize queue.last c.in_ok-place.place.tout
-      drawn.1 time seq qsize c.in_ok-place.ensures.tout holds.last in
+    drawn.1 time seq qsize c.in_ok-place.ensures.tout holds.last in
     c.packet_of.ensures ∙ ap (λ (a : Arrival). packet_of (g.number + 1) a) is ∙ ap (λ n. packet_of n (arrival_by (drawn_after g.start (4 * g.number)) g.capacity earlier)) (add-one g.number)
 
 pub returns-clause-follows : goal.returns-clause-follows
@@ -82,9 +83,9 @@ returns-clause-follows c =
     let seq = c.next_seq-seq.ensures.seq ∙ ap (λ n. n + d.skipped) (c.requires.follows.flows d.flow c.next_packet-drawn.ensures.small.1) in
     let qsize = c.in_ok-place.ensures.qsize g.time (touts_at switch earlier) holds (omega arith) in
     let is = arrived earlier g.capacity d (drawn_after g.start (4 * g.number)) (g.time + d.gap) c.next_seq-seq.result c.in_ok-place.place.qsize queue.last c.in_ok-place.place.tout
-      drawn.1 time seq qsize c.in_ok-place.ensures.tout holds.last in
+    drawn.1 time seq qsize c.in_ok-place.ensures.tout holds.last in
     let a : Arrival =
-      record { time = g.time + d.gap; flow = d.flow; payload = d.payload; seq = c.next_seq-seq.result; qsize = c.in_ok-place.place.qsize; tout = c.in_ok-place.place.tout } in
+    record { time = g.time + d.gap; flow = d.flow; payload = d.payload; seq = c.next_seq-seq.result; qsize = c.in_ok-place.place.qsize; tout = c.in_ok-place.place.tout } in
     let more : arrivals g.start g.capacity (g.number + 1) ≡ a ∷ earlier = arrivals_more g.start g.capacity g.number ∙ ap (λ (b : Arrival). b ∷ earlier) (sym is) in
     record {
       draws = drawn.0 ∙ ap (state_after g.start) (omega arith);

@@ -1,4 +1,4 @@
-use Rattle.std.proofs.Common.{◌≡◌, ◌+◌, ◌∙◌, refl, arith}
+use Rattle.std.proofs.Common.{◌+◌, ◌∙◌, refl, arith}
 use Rattle.queue_sim.proofs.QueueFacts.{climbs_push, still_more}
 use Rattle.queue_sim.proofs.queue.Queue.arrive.Goals as goal
 

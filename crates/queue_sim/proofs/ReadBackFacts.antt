@@ -1,0 +1,140 @@
+-- The records of a written trace, and what a reader finds in them.
+use Rattle.std.proofs.Common.{◌≡◌, ℕ, ◌+◌, ◌≤◌, true, false, List, [], ◌∷◌, ◌++◌, length, map, Ok, Option, Some, None, refl, sym, ap, ◌∙◌, eq-eqb, arith}
+use Rattle.std.specs.Prelude.{⊤, ◌==◌, flat_map, nat_lt}
+use Rattle.std.specs.List.{list_any}
+use Rattle.std.proofs.lemmas.Bool.Decides.{nat_tests}
+use Rattle.csv.specs.Quoting.{needs_byte}
+use Rattle.csv.specs.Reading.{strip_bom}
+use Rattle.csv.specs.Records.{field_at}
+use Rattle.csv.specs.Writing.{default_writer, fields_text, is_blank, row_text}
+use Rattle.csv.proofs.RoundTrip.{rows_text}
+use Rattle.marple_base.specs.Field.{HasField, all_fields, field_name}
+use Rattle.marple_base.specs.declared.field.Field.{Field}
+use Rattle.marple_base.specs.declared.field.Field.TheVariants.{Switch, Qid, Uid, SrcIp, DstIp, SrcPort, DstPort, Proto, PktLen, PayloadLen, TcpSeq, Tin, Tout, QSize}
+use Rattle.marple_base.specs.declared.field.FieldSet.{FieldSet}
+use Rattle.marple_base.specs.declared.field.Packet.{Packet}
+use Rattle.trace_reader.specs.Reading.{records}
+use Rattle.trace_reader.specs.Traces.{Contents, Layout, columns_of, contents, contents_from, each, most_records, packet_of, words_of}
+use Rattle.trace_reader.proofs.TraceFacts.{contents_good}
+use Rattle.queue_sim.specs.ReadBack.{ArePackets, AreWords, TextsReadBack}
+use Rattle.queue_sim.specs.TraceText.{continued, header, line, packet_texts, texts_of, trace_text}
+use Rattle.queue_sim.proofs.DigitFacts.{word_plain, word_read}
+use Rattle.queue_sim.proofs.TextFacts.{length-texts}
+use Rattle.queue_sim.proofs.WrittenFacts.{AllMany, records-rows_text}
+
+-- no field needs quotes
+abbrev ArePlain : List (List ℕ) → Type 0
+ArePlain [] = ⊤
+ArePlain (text ∷ texts) = (list_any (needs_byte default_writer) text ≡ false) × ArePlain texts
+
+plain_fields : (texts : List (List ℕ)) → ArePlain texts → fields_text default_writer texts ≡ continued texts
+unfolding fields_text
+plain_fields [] plain = refl
+plain_fields (text ∷ texts) plain = rw plain.0 (ap (λ rest. 44 ∷ (text ++ rest)) (plain_fields texts plain.1))
+
+plain_row : (x y : List ℕ) (ys : List (List ℕ)) → ArePlain (x ∷ y ∷ ys) → row_text default_writer (x ∷ y ∷ ys) ≡ line (x ∷ y ∷ ys)
+unfolding is_blank
+plain_row x y ys plain = rw plain.0 (ap (λ rest. (x ++ rest) ++ 10 ∷ []) (plain_fields (y ∷ ys) plain.1))
+
+plain_texts : (fields : List Field) (words : List ℕ) → AreWords words → ArePlain (texts_of fields words)
+plain_texts [] words small = tt
+plain_texts (f ∷ fields) [] small = tt
+plain_texts (f ∷ fields) (w ∷ words) small = (word_plain f w small.0, plain_texts fields words small.1)
+
+-- the line of a packet is the text of its record
+packet_row : (words : List ℕ) → length words ≡ 14 → AreWords words → row_text default_writer (texts_of all_fields words) ≡ line (texts_of all_fields words)
+packet_row [] size small = absurd (omega arith)
+packet_row (w ∷ []) size small = absurd (omega (arith, size))
+packet_row (v ∷ w ∷ words) size small = plain_row _ _ _ (plain_texts all_fields (v ∷ w ∷ words) small)
+
+abbrev rows_of : List Packet → List (List (List ℕ))
+rows_of sent = map packet_texts sent
+
+lines_rows : (sent : List Packet) → ArePackets sent → rows_text (rows_of sent) ≡ flat_map (λ packet. line (packet_texts packet)) sent
+unfolding rows_text
+lines_rows [] are = refl
+lines_rows (packet ∷ sent) are = rw (packet_row packet.words are.0 are.1, lines_rows sent are.2) refl
+
+header_plain : ArePlain header
+header_plain = (refl, (refl, (refl, (refl, (refl, (refl, (refl, (refl, (refl, (refl, (refl, (refl, (refl, (refl, tt))))))))))))))
+
+header_row : row_text default_writer header ≡ line header
+header_row =
+    plain_row (field_name Switch) (field_name Qid)
+    (map field_name (Uid ∷ SrcIp ∷ DstIp ∷ SrcPort ∷ DstPort ∷ Proto ∷ PktLen ∷ PayloadLen ∷ TcpSeq ∷ Tin ∷ Tout ∷ QSize ∷ [])) header_plain
+
+-- the text is that of the records
+text_rows : (sent : List Packet) → ArePackets sent → rows_text (header ∷ rows_of sent) ≡ trace_text sent
+unfolding rows_text
+text_rows sent are = ap (λ t. t ++ rows_text (rows_of sent)) header_row ∙ ap (λ t. line header ++ t) (lines_rows sent are)
+
+many_first : (words : List ℕ) (rows : List (List (List ℕ))) → length words ≡ 14 → AllMany rows → AllMany (texts_of all_fields words ∷ rows)
+many_first [] rows size many = absurd (omega arith)
+many_first (w ∷ []) rows size many = absurd (omega (arith, size))
+many_first (v ∷ w ∷ words) rows size many = many
+
+many_rows : (sent : List Packet) → ArePackets sent → AllMany (rows_of sent)
+many_rows [] are = tt
+many_rows (packet ∷ sent) are = many_first packet.words (rows_of sent) are.0 (many_rows sent are.2)
+
+no_mark : (sent : List Packet) → strip_bom (trace_text sent) ≡ trace_text sent
+unfolding strip_bom
+no_mark sent = refl
+
+-- the records of the text
+text_records : (sent : List Packet) → ArePackets sent → records (trace_text sent) ≡ header ∷ rows_of sent
+text_records sent are =
+    let same = text_rows sent are in
+    ap records (sym same) ∙ records-rows_text (header ∷ rows_of sent) (many_rows sent are) (ap strip_bom same ∙ no_mark sent ∙ sym same)
+
+-- the places of the fields in the header
+abbrev places : List (Option ℕ)
+places = Some 0 ∷ Some 1 ∷ Some 2 ∷ Some 3 ∷ Some 4 ∷ Some 5 ∷ Some 6 ∷ Some 7 ∷ Some 8 ∷ Some 9 ∷ Some 10 ∷ Some 11 ∷ Some 12 ∷ Some 13 ∷ []
+
+header_columns : (reads : FieldSet) → ((field : Field) → HasField reads field) → Ok places ≡ columns_of reads header
+unfolding each
+header_columns reads all =
+    rw (all Switch, all Qid, all Uid, all SrcIp, all DstIp, all SrcPort, all DstPort, all Proto, all PktLen, all PayloadLen, all TcpSeq, all Tin, all Tout, all QSize) refl
+
+-- the words that a record gives
+row_words : (words : List ℕ) → length words ≡ 14 → AreWords words → words_of places (texts_of all_fields words) ≡ Ok words
+unfolding each field_at
+row_words (a ∷ b ∷ c ∷ d ∷ e ∷ f ∷ g ∷ h ∷ i ∷ j ∷ k ∷ l ∷ m ∷ n ∷ []) size small =
+    let rest1 = small.1 in
+    let rest2 = rest1.1 in
+    let rest3 = rest2.1 in
+    let rest4 = rest3.1 in
+    let rest5 = rest4.1 in
+    let rest6 = rest5.1 in
+    let rest7 = rest6.1 in
+    let rest8 = rest7.1 in
+    let rest9 = rest8.1 in
+    let rest10 = rest9.1 in
+    let rest11 = rest10.1 in
+    let rest12 = rest11.1 in
+    let rest13 = rest12.1 in
+    rw (word_read Switch a small.0, word_read Qid b rest1.0, word_read Uid c rest2.0, word_read SrcIp d rest3.0, word_read DstIp e rest4.0, word_read SrcPort f rest5.0, word_read DstPort g rest6.0, word_read Proto h rest7.0, word_read PktLen i rest8.0, word_read PayloadLen j rest9.0, word_read TcpSeq k rest10.0, word_read Tin l rest11.0, word_read Tout m rest12.0, word_read QSize n rest13.0) refl
+row_words words size small = absurd (omega (arith, size))
+
+-- the layout of a trace with the whole header
+abbrev full : Layout
+full = record { width = 14; columns = places }
+
+packet_read : (packet : Packet) (n : ℕ) → length packet.words ≡ 14 → AreWords packet.words → n ≤ most_records → packet_of full n (packet_texts packet) ≡ Ok packet
+unfolding packet_of
+packet_read packet n size small within =
+    let few : nat_lt most_records n ≡ false = grind (arith, nat_tests) in
+    let width : (length (packet_texts packet) == 14) ≡ true = eq-eqb (length (packet_texts packet)) 14 (length-texts all_fields packet.words (sym size)) in
+    rw (few, width, row_words packet.words size small) refl
+
+sent_read : (sent : List Packet) (n : ℕ) → ArePackets sent → n + length sent ≤ most_records + 1 → contents_from full n (rows_of sent) ≡ record { packets = sent; fault = None }
+unfolding contents_from
+sent_read [] n are within = refl
+sent_read (packet ∷ sent) n are within =
+    rw (packet_read packet n are.0 are.1 (omega arith), sent_read sent (n + 1) are.2 (omega arith)) refl
+
+pub texts_read_back_lem : TextsReadBack
+texts_read_back_lem sent reads are all few short =
+    let is : contents (trace_text sent) reads ≡ record { packets = sent; fault = None } =
+    contents_good (trace_text sent) reads header (rows_of sent) places short (text_records sent are) (header_columns reads all) ∙ sent_read sent 1 are (omega arith) in
+    (ap (λ (c : Contents). c.packets) is, ap (λ (c : Contents). c.fault) is)

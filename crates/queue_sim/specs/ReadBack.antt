@@ -1,0 +1,24 @@
+-- A trace that was written reads back.
+use Rattle.std.specs.Prelude.{ℕ, ◌≡◌, ◌<◌, ◌≤◌, ◌^◌, ⊤, List, [], ◌∷◌, length, None}
+use Rattle.marple_base.specs.Field.{HasField}
+use Rattle.marple_base.specs.declared.field.Field.{Field}
+use Rattle.marple_base.specs.declared.field.FieldSet.{FieldSet}
+use Rattle.marple_base.specs.declared.field.Packet.{Packet}
+use Rattle.trace_reader.specs.Traces.{most_bytes, most_records, packets, trace_fault}
+use Rattle.queue_sim.specs.TraceText.{trace_text}
+
+abbrev pub AreWords : List ℕ → Type 0
+AreWords [] = ⊤
+AreWords (word ∷ words) = (word < 2 ^ 64) × AreWords words
+
+-- each packet has a word for each field, as every packet of the program has
+abbrev pub ArePackets : List Packet → Type 0
+ArePackets [] = ⊤
+ArePackets (packet ∷ packets) = (length packet.words ≡ 14) × AreWords packet.words × ArePackets packets
+
+-- The text of packets, with all fields read, contains these packets and no fault, if there are not too many of them
+-- and the text is not too long for a trace.
+abbrev pub TextsReadBack : Type 0
+TextsReadBack = (sent : List Packet) (reads : FieldSet) → ArePackets sent → ((field : Field) → HasField reads field)
+    → length sent ≤ most_records → length (trace_text sent) ≤ most_bytes
+    → (packets (trace_text sent) reads ≡ sent) × (trace_fault (trace_text sent) reads ≡ None)
