@@ -2,7 +2,10 @@
 #![tactic(auto)]
 
 mod answer;
+mod halt;
 mod lexer;
+mod operators;
+mod word;
 
 pub use answer::ParseAnswer;
 pub use lexer::{Lexed, cut_text};

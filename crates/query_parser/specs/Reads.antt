@@ -1,0 +1,99 @@
+-- What the functions that read tokens give, unless memory runs out.
+use Rattle.std.specs.Prelude.{◌≡◌, ℕ, zero, suc, Bool, true, false, List, [], ◌∷◌, nat_eq, if◌then◌else◌, Option, Some, None, Result, Ok, Err}
+use Rattle.std.specs.Borrow.{Bor}
+use Rattle.query_lang.specs.declared.fault.Span.{Span}
+use Rattle.query_lang.specs.declared.fold.Op.{Op}
+use Rattle.query_lang.specs.declared.query.Expr.{Expr}
+use Rattle.query_lang.specs.declared.token.Mark.TheVariants as marks
+use Rattle.query_lang.specs.declared.token.Token.{Token}
+use Rattle.query_lang.specs.declared.token.TokenKind.{TokenKind}
+use Rattle.query_grammar.specs.declared.stop.Counts.{Counts}
+use Rattle.query_grammar.specs.declared.stop.Stop.{Stop}
+use Rattle.query_grammar.specs.Kinds.{kind_number, operator, sign}
+use Rattle.query_grammar.specs.Language as roles
+use Rattle.query_grammar.specs.Language.{Node}
+use Rattle.query_grammar.specs.Grammar.{Operators, either_ops, both_ops, or_ops, xor_ops, and_ops, shift_ops, sum_ops, product_ops}
+use Rattle.query_grammar.specs.Parser.{Limited, Outcome, Done, Stopped, Parser, limit_of, word, followed_by}
+use Rattle.query_grammar.specs.Reading.{blocked, parens, listed_by, expr_starts, level, primary, unary, product, sum, shift, bit_and, bit_xor, bit_or, comparison, conjunction, expr_at}
+use Rattle.query_parser.specs.declared.operators.Level.{Level}
+use Rattle.query_parser.specs.declared.operators.Level.TheVariants as levels
+use Rattle.query_parser.specs.declared.halt.Halt.{Halt}
+use Rattle.query_parser.specs.declared.halt.Halt.TheVariants as halts
+use Rattle.query_parser.specs.declared.halt.Role.{Role}
+use Rattle.query_parser.specs.declared.halt.Role.TheVariants as code
+
+abbrev pub role_of : Role → roles.Role
+role_of code.Plain = roles.Plain
+role_of code.Node = roles.Node
+role_of code.Statement = roles.Statement
+role_of code.Opening = roles.Opening
+
+-- the same fault, unless memory ran out
+abbrev pub Fails : {A : Type 0} → Halt → Outcome A → Type 0
+Fails halts.Memory o = Unit {0}
+Fails (halts.At k rest) o = o ≡ Stopped k rest.now
+
+-- what a parser of the grammar gives
+abbrev pub Gives : {A : Type 0} → Result (A × Counts × Bor (List Token)) Halt → Outcome A → Type 0
+Gives (Ok x) o = o ≡ Done x.0 x.1 x.2.now
+Gives (Err e) o = Fails e o
+
+-- the counts after one more, or the limit at the first of the tokens
+abbrev pub Charges : Result Counts Halt → Option Counts → roles.Role → List Token → Type 0
+Charges (Ok c) o role ts = o ≡ Some c
+Charges (Err halts.Memory) o role ts = ⊥
+Charges (Err (halts.At k rest)) o role ts = (o ≡ None) × (k ≡ limit_of role) × (rest.now ≡ ts)
+
+-- ---- operators
+
+abbrev pub op_among : Operators → TokenKind → Option Op
+op_among [] kind = None
+op_among (o ∷ others) kind = if nat_eq (kind_number kind) (kind_number o.0) then Some o.1 else op_among others kind
+
+abbrev pub is_op : Option Op → Bool
+is_op (Some op) = true
+is_op None = false
+
+abbrev pub op_with : Span → Option Op → Option (Op × Span)
+op_with span None = None
+op_with span (Some op) = Some (op, span)
+
+-- the operators of a level
+abbrev pub ops_of : Level → Operators
+ops_of levels.Product = product_ops
+ops_of levels.Sum = sum_ops
+ops_of levels.Shift = shift_ops
+ops_of levels.And = and_ops
+ops_of levels.Xor = xor_ops
+ops_of levels.Or = or_ops
+ops_of levels.Both = both_ops
+ops_of levels.Either = either_ops
+
+-- the operands of a level, over primaries
+abbrev pub operands_of : Level → Parser Expr → Parser Expr
+operands_of levels.Product p = unary Limited p
+operands_of levels.Sum p = product Limited p
+operands_of levels.Shift p = sum Limited p
+operands_of levels.And p = shift Limited p
+operands_of levels.Xor p = bit_and Limited p
+operands_of levels.Or p = bit_xor Limited p
+operands_of levels.Both p = comparison Limited p
+operands_of levels.Either p = conjunction Limited p
+
+abbrev pub operation_of : Level → Parser Expr → Parser ((Op × Span) × Expr)
+operation_of l p = followed_by (word Limited Node (operator (ops_of l))) (operands_of l p)
+
+abbrev pub level_of : Level → Parser Expr → Parser Expr
+level_of l p = level Limited (ops_of l) (operands_of l p)
+
+-- An expression in its bracket, the list of a call, and a primary, in which at most so many brackets may be opened.
+abbrev pub bracket_at : ℕ → Parser Expr
+bracket_at zero = blocked (sign marks.OpenParen)
+bracket_at (suc e) = parens Limited (expr_at Limited e)
+
+abbrev pub arguments_at : ℕ → Parser (List Expr)
+arguments_at zero = blocked (sign marks.OpenParen)
+arguments_at (suc e) = parens Limited (listed_by Limited expr_starts (expr_at Limited e))
+
+abbrev pub primary_at : ℕ → Parser Expr
+primary_at e = primary Limited (bracket_at e) (arguments_at e)

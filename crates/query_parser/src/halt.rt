@@ -1,0 +1,53 @@
+//! What reading gives, what it counts, and why it stops.
+
+ghost use Rattle.std.specs.Prelude.{◌≡◌};
+ghost use Rattle.query_grammar.specs.Parser.{Limited, charge};
+ghost use Rattle.query_parser.specs.declared.halt.Halt.TheVariants.{Memory};
+ghost use Rattle.query_parser.specs.Reads.{Charges, role_of};
+
+use query_grammar::{Counts, Stop};
+use query_lang::Token;
+use std::alloc::AllocError;
+
+/// Why nothing was read: the first of these tokens is a fault, or memory ran out.
+#[derive(Debug, Drop)]
+pub enum Halt<'a> {
+    At(Stop, &'a [Token]),
+    Memory,
+}
+
+impl<'a> From<AllocError> for Halt<'a> {
+    ghost from_gives = { λ _ h. h ≡ Memory };
+
+    fn from(_e: AllocError) -> Halt<'a> {
+        Halt::Memory
+    }
+}
+
+/// A value, what the item has counted up to its end, and the tokens behind it.
+pub type Read<'a, T> = Result<(T, Counts, &'a [Token]), Halt<'a>>;
+
+/// What a token counts as: nothing, a node of an expression, the first token of a statement, or the first of an item, at
+/// which the counts begin again.
+#[derive(Clone, Copy, Debug, PartialEq, Eq)]
+pub enum Role {
+    Plain,
+    Node,
+    Statement,
+    Opening,
+}
+
+/// The counts after the first of the tokens.
+pub fn charged(role: Role, counts: Counts, rest: &[Token]) -> Result<Counts, Halt<'_>>
+    ensures { Charges result (charge Limited (role_of role) counts) (role_of role) rest.now }
+{
+    let Counts { nodes, statements } = counts;
+    match role {
+        Role::Plain => Ok(counts),
+        Role::Node if nodes < 512 => Ok(Counts { nodes: nodes + 1, statements }),
+        Role::Node => Err(Halt::At(Stop::Nodes, rest)),
+        Role::Statement if statements < 64 => Ok(Counts { nodes, statements: statements + 1 }),
+        Role::Statement => Err(Halt::At(Stop::Statements, rest)),
+        Role::Opening => Ok(Counts { nodes: 0, statements: 0 }),
+    }
+}

@@ -1,0 +1,179 @@
+//! Operators, by how close they bind, and the functions.
+
+ghost use Rattle.std.specs.Prelude.{◌≡◌, [], ◌∷◌};
+ghost use Rattle.query_grammar.specs.Grammar.{comparing_ops, functions, either_ops, both_ops, or_ops, xor_ops, and_ops, shift_ops, sum_ops, product_ops};
+ghost use Rattle.query_grammar.specs.Kinds.{kinds_of, sign, operator as operator_of};
+ghost use Rattle.query_grammar.specs.Language.{Node};
+ghost use Rattle.query_grammar.specs.Parser.{Limited, word, next_is};
+ghost use Rattle.query_grammar.specs.Reading.{among};
+ghost use Rattle.query_parser.specs.Reads.{Gives, op_among, op_with, is_op, ops_of};
+
+use crate::halt::{Halt, Read, Role, charged};
+use crate::word::{is_mark, is_word};
+use query_grammar::{Counts, Stop};
+use query_lang::{Mark, Op, Span, Token, TokenKind, Word};
+
+/// Operators that bind alike and group from the left, from the closest on. Comparisons, which don't group, stand
+/// between `Or` and `Both`.
+#[derive(Clone, Copy, Debug, PartialEq, Eq)]
+pub enum Level {
+    Product,
+    Sum,
+    Shift,
+    And,
+    Xor,
+    Or,
+    Both,
+    Either,
+}
+
+fn product_op(kind: TokenKind) -> Option<Op>
+    ensures { result ≡ op_among product_ops kind }
+{
+    if is_mark(kind, Mark::Times) {
+        Some(Op::Mul)
+    } else if is_mark(kind, Mark::Slash) {
+        Some(Op::Div)
+    } else if is_mark(kind, Mark::Percent) {
+        Some(Op::Rem)
+    } else {
+        None
+    }
+}
+
+/// The first operator, where the token is the first mark, or else the second one, where it is the second.
+fn one_of_two(kind: TokenKind, first: (Mark, Op), second: (Mark, Op)) -> Option<Op>
+    ensures { result ≡ op_among ((sign first.0, first.1) ∷ (sign second.0, second.1) ∷ []) kind }
+{
+    if is_mark(kind, first.0) {
+        Some(first.1)
+    } else if is_mark(kind, second.0) {
+        Some(second.1)
+    } else {
+        None
+    }
+}
+
+fn only(kind: TokenKind, mark: Mark, op: Op) -> Option<Op>
+    ensures { result ≡ op_among ((sign mark, op) ∷ []) kind }
+{
+    if is_mark(kind, mark) { Some(op) } else { None }
+}
+
+/// The operator of this level that the token is.
+fn level_op(level: Level, kind: TokenKind) -> Option<Op>
+    ensures { result ≡ op_among (ops_of level) kind }
+{
+    match level {
+        Level::Product => product_op(kind),
+        Level::Sum => one_of_two(kind, (Mark::Plus, Op::Add), (Mark::Minus, Op::Sub)),
+        Level::Shift => one_of_two(kind, (Mark::ShiftLeft, Op::Shl), (Mark::ShiftRight, Op::Shr)),
+        Level::And => only(kind, Mark::And, Op::And),
+        Level::Xor => only(kind, Mark::Xor, Op::Xor),
+        Level::Or => only(kind, Mark::Or, Op::Or),
+        Level::Both => only(kind, Mark::Both, Op::Both),
+        Level::Either => only(kind, Mark::Either, Op::Either),
+    }
+}
+
+/// The comparison that the token is.
+fn comparison_op(kind: TokenKind) -> Option<Op>
+    ensures { result ≡ op_among comparing_ops kind }
+{
+    if is_mark(kind, Mark::Equal) {
+        Some(Op::Eq)
+    } else if is_mark(kind, Mark::NotEqual) {
+        Some(Op::Ne)
+    } else if is_mark(kind, Mark::Less) {
+        Some(Op::Lt)
+    } else if is_mark(kind, Mark::LessOrEqual) {
+        Some(Op::Le)
+    } else if is_mark(kind, Mark::Greater) {
+        Some(Op::Gt)
+    } else if is_mark(kind, Mark::GreaterOrEqual) {
+        Some(Op::Ge)
+    } else {
+        None
+    }
+}
+
+/// The function that the token is.
+fn function_op(kind: TokenKind) -> Option<Op>
+    ensures { result ≡ op_among functions kind }
+{
+    if is_word(kind, Word::Max) {
+        Some(Op::Max)
+    } else if is_word(kind, Word::Min) {
+        Some(Op::Min)
+    } else if is_word(kind, Word::Sadd) {
+        Some(Op::Sadd)
+    } else if is_word(kind, Word::Decay) {
+        Some(Op::Decay)
+    } else {
+        None
+    }
+}
+
+/// Whether an operator of this level comes next.
+#[tactic(auto, using(crate::proofs::OperatorLists::next_is_op))]
+pub fn at_operator(level: Level, rest: &[Token]) -> bool
+    ensures { result ≡ next_is (among (kinds_of (ops_of level))) rest.now }
+{
+    match rest {
+        [first, ..] => level_op(level, first.kind).is_some(),
+        [] => false,
+    }
+}
+
+/// Whether a comparison comes next.
+#[tactic(auto, using(crate::proofs::OperatorLists::next_is_op))]
+pub fn at_comparison(rest: &[Token]) -> bool
+    ensures { result ≡ next_is (among (kinds_of comparing_ops)) rest.now }
+{
+    match rest {
+        [first, ..] => comparison_op(first.kind).is_some(),
+        [] => false,
+    }
+}
+
+/// An operator of this level, which counts as a node.
+#[tactic(auto, using(crate::proofs::OperatorLists::operator_is))]
+pub fn operator(level: Level, counts: Counts, rest: &[Token]) -> Read<'_, (Op, Span)>
+    ensures { Gives result (word Limited Node (operator_of (ops_of level)) counts rest.now) }
+{
+    let [first, behind @ ..] = rest else {
+        return Err(Halt::At(Stop::Unexpected, rest));
+    };
+    match level_op(level, first.kind) {
+        Some(op) => Ok(((op, first.span), charged(Role::Node, counts, rest)?, behind)),
+        None => Err(Halt::At(Stop::Unexpected, rest)),
+    }
+}
+
+/// A comparison's operator, which counts as a node.
+#[tactic(auto, using(crate::proofs::OperatorLists::operator_is))]
+pub fn comparison_operator(counts: Counts, rest: &[Token]) -> Read<'_, (Op, Span)>
+    ensures { Gives result (word Limited Node (operator_of comparing_ops) counts rest.now) }
+{
+    let [first, behind @ ..] = rest else {
+        return Err(Halt::At(Stop::Unexpected, rest));
+    };
+    match comparison_op(first.kind) {
+        Some(op) => Ok(((op, first.span), charged(Role::Node, counts, rest)?, behind)),
+        None => Err(Halt::At(Stop::Unexpected, rest)),
+    }
+}
+
+/// A function's word, which counts as a node.
+#[tactic(auto, using(crate::proofs::OperatorLists::operator_is))]
+pub fn function(counts: Counts, rest: &[Token]) -> Read<'_, (Op, Span)>
+    ensures { Gives result (word Limited Node (operator_of functions) counts rest.now) }
+{
+    let [first, behind @ ..] = rest else {
+        return Err(Halt::At(Stop::Unexpected, rest));
+    };
+    match function_op(first.kind) {
+        Some(op) => Ok(((op, first.span), charged(Role::Node, counts, rest)?, behind)),
+        None => Err(Halt::At(Stop::Unexpected, rest)),
+    }
+}
