@@ -9,12 +9,12 @@ use Rattle.query_lang.specs.declared.token.Token.{Token}
 use Rattle.query_lang.specs.declared.token.TokenKind.{TokenKind}
 use Rattle.query_grammar.specs.declared.stop.Counts.{Counts}
 use Rattle.query_grammar.specs.declared.stop.Stop.{Stop}
-use Rattle.query_grammar.specs.Kinds.{kind_number, operator, sign}
+use Rattle.query_grammar.specs.Kinds.{kind_number, kinds_of, operator, sign}
 use Rattle.query_grammar.specs.Language as roles
 use Rattle.query_grammar.specs.Language.{Node}
-use Rattle.query_grammar.specs.Grammar.{Operators, either_ops, both_ops, or_ops, xor_ops, and_ops, shift_ops, sum_ops, product_ops}
-use Rattle.query_grammar.specs.Parser.{Limited, Outcome, Done, Stopped, Parser, limit_of, word, followed_by}
-use Rattle.query_grammar.specs.Reading.{blocked, parens, listed_by, expr_starts, level, primary, unary, product, sum, shift, bit_and, bit_xor, bit_or, comparison, conjunction, expr_at}
+use Rattle.query_grammar.specs.Grammar.{Operators, compared, comparing_ops, either_ops, both_ops, or_ops, xor_ops, and_ops, shift_ops, sum_ops, product_ops}
+use Rattle.query_grammar.specs.Parser.{Limited, Outcome, Done, Stopped, Parser, limit_of, word, followed_by, mapped, at_most_once}
+use Rattle.query_grammar.specs.Reading.{among, blocked, parens, listed_by, expr_starts, level, primary, unary, product, sum, shift, bit_and, bit_xor, bit_or, comparison, conjunction, expr_at}
 use Rattle.query_parser.specs.declared.operators.Level.{Level}
 use Rattle.query_parser.specs.declared.operators.Level.TheVariants as levels
 use Rattle.query_parser.specs.declared.halt.Halt.{Halt}
@@ -70,7 +70,7 @@ ops_of levels.Both = both_ops
 ops_of levels.Either = either_ops
 
 -- the operands of a level, over primaries
-abbrev pub operands_of : Level → Parser Expr → Parser Expr
+unfoldable pub operands_of : Level → Parser Expr → Parser Expr
 operands_of levels.Product p = unary Limited p
 operands_of levels.Sum p = product Limited p
 operands_of levels.Shift p = sum Limited p
@@ -80,11 +80,18 @@ operands_of levels.Or p = bit_xor Limited p
 operands_of levels.Both p = comparison Limited p
 operands_of levels.Either p = conjunction Limited p
 
+-- an operator of a level, and what stands behind it
 abbrev pub operation_of : Level → Parser Expr → Parser ((Op × Span) × Expr)
 operation_of l p = followed_by (word Limited Node (operator (ops_of l))) (operands_of l p)
 
 abbrev pub level_of : Level → Parser Expr → Parser Expr
 level_of l p = level Limited (ops_of l) (operands_of l p)
+
+abbrev pub compared_with : Parser Expr → Parser ((Op × Span) × Expr)
+compared_with p = followed_by (word Limited Node (operator comparing_ops)) (level_of levels.Or p)
+
+abbrev pub comparison_of : Parser Expr → Parser Expr
+comparison_of p = mapped (λ v. compared v.0 v.1) (followed_by (level_of levels.Or p) (at_most_once (among (kinds_of comparing_ops)) (compared_with p)))
 
 -- An expression in its bracket, the list of a call, and a primary, in which at most so many brackets may be opened.
 abbrev pub bracket_at : ℕ → Parser Expr

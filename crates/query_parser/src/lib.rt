@@ -2,6 +2,7 @@
 #![tactic(auto)]
 
 mod answer;
+mod expression;
 mod halt;
 mod lexer;
 mod operators;
