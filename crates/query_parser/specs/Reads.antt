@@ -1,9 +1,11 @@
 -- What the functions that read tokens give, unless memory runs out.
-use Rattle.std.specs.Prelude.{◌≡◌, ℕ, zero, suc, Bool, true, false, List, [], ◌∷◌, nat_eq, if◌then◌else◌, Option, Some, None, Result, Ok, Err}
+use Rattle.std.specs.Prelude.{◌≡◌, ℕ, zero, suc, Bool, true, false, List, [], ◌∷◌, nat_eq, if◌then◌else◌, ◌⊎◌, Option, Some, None, Result, Ok, Err}
 use Rattle.std.specs.Borrow.{Bor}
+use Rattle.std.proofs.Common.{inl, inr}
 use Rattle.query_lang.specs.declared.fault.Span.{Span}
 use Rattle.query_lang.specs.declared.fold.Op.{Op}
 use Rattle.query_lang.specs.declared.query.Expr.{Expr}
+use Rattle.query_lang.specs.declared.query.Stmt.{Stmt}
 use Rattle.query_lang.specs.declared.token.Mark.TheVariants as marks
 use Rattle.query_lang.specs.declared.token.Token.{Token}
 use Rattle.query_lang.specs.declared.token.TokenKind.{TokenKind}
@@ -14,7 +16,9 @@ use Rattle.query_grammar.specs.Language as roles
 use Rattle.query_grammar.specs.Language.{Node}
 use Rattle.query_grammar.specs.Grammar.{Operators, compared, comparing_ops, either_ops, both_ops, or_ops, xor_ops, and_ops, shift_ops, sum_ops, product_ops}
 use Rattle.query_grammar.specs.Parser.{Limited, Outcome, Done, Stopped, Parser, limit_of, word, followed_by, mapped, at_most_once}
-use Rattle.query_grammar.specs.Reading.{among, blocked, parens, listed_by, expr_starts, level, primary, unary, product, sum, shift, bit_and, bit_xor, bit_or, comparison, conjunction, expr_at}
+use Rattle.query_grammar.specs.Reading.{among, blocked, parens, listed_by, expr_starts, level, primary, unary, product, sum, shift, bit_and, bit_xor, bit_or, comparison, conjunction, expr_at, block, empty_parens, else_part, stmt_at}
+use Rattle.query_parser.specs.declared.statement.ElsePart.{ElsePart}
+use Rattle.query_parser.specs.declared.statement.ElsePart.TheVariants as parts
 use Rattle.query_parser.specs.declared.operators.Level.{Level}
 use Rattle.query_parser.specs.declared.operators.Level.TheVariants as levels
 use Rattle.query_parser.specs.declared.halt.Halt.{Halt}
@@ -104,3 +108,27 @@ arguments_at (suc e) = parens Limited (listed_by Limited expr_starts (expr_at Li
 
 abbrev pub primary_at : ℕ → Parser Expr
 primary_at e = primary Limited (bracket_at e) (arguments_at e)
+
+-- ---- statements
+
+-- a block in its brace, and the brackets of an emit, where at most so many brackets may be opened
+abbrev pub block_at : ℕ → Parser (List Stmt)
+block_at zero = blocked (sign marks.OpenBrace)
+block_at (suc e) = block Limited (stmt_at Limited e)
+
+abbrev pub empty_at : ℕ → Parser (Span × Span)
+empty_at zero = blocked (sign marks.OpenParen)
+empty_at (suc e) = empty_parens Limited
+
+abbrev pub else_part_at : ℕ → Parser ((Expr × List Stmt) ⊎ List Stmt)
+else_part_at e = else_part Limited (bracket_at e) (block_at e)
+
+-- what stands after an `else`
+abbrev pub part_of : ElsePart → (Expr × List Stmt) ⊎ List Stmt
+part_of (parts.Another branch) = inl branch
+part_of (parts.Last body) = inr body
+
+-- what a parser of the grammar gives, as the code has it
+abbrev pub GivesPart : Result (ElsePart × Counts × Bor (List Token)) Halt → Outcome ((Expr × List Stmt) ⊎ List Stmt) → Type 0
+GivesPart (Ok x) o = o ≡ Done (part_of x.0) x.1 x.2.now
+GivesPart (Err e) o = Fails e o

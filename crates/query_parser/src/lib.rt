@@ -3,9 +3,11 @@
 
 mod answer;
 mod expression;
+mod fold;
 mod halt;
 mod lexer;
 mod operators;
+mod statement;
 mod word;
 
 pub use answer::ParseAnswer;

@@ -1,0 +1,12 @@
+use Rattle.std.proofs.Common.{◌≡◌, ◌+◌, ◌-◌, [], ◌∷◌, length}
+use Rattle.query_lang.specs.declared.token.Mark.TheVariants as marks
+use Rattle.query_grammar.specs.Kinds.{sign}
+use Rattle.query_grammar.specs.Parser.{Limited, turns}
+use Rattle.query_grammar.specs.Reading.{among, after, separated, state_variable}
+use Rattle.query_parser.proofs.Loops.{finished, behind}
+use Rattle.query_parser.proofs.fold.state_variables.Given as goal
+
+abbrev pub invariant-variables : goal.invariant-variables
+invariant-variables l =
+    finished (behind l.found) (turns (length l.initial.rest - l.counter) (among (30 ∷ [])) (after Limited (sign marks.Comma) (state_variable Limited)) l.counts l.rest)
+    ≡ separated Limited (state_variable Limited) l.fn.counts l.fn.rest
