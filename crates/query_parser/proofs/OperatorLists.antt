@@ -4,9 +4,8 @@ use Rattle.std.specs.Prelude.{nat_eq}
 use Rattle.query_lang.specs.declared.fold.Op.{Op}
 use Rattle.query_lang.specs.declared.token.Token.{Token}
 use Rattle.query_lang.specs.declared.token.TokenKind.{TokenKind}
-use Rattle.query_grammar.specs.Kinds.{kind_number, kinds_of, operator}
+use Rattle.query_grammar.specs.Kinds.{among, kind_number, kinds_of, operator}
 use Rattle.query_grammar.specs.Grammar.{Operators}
-use Rattle.query_grammar.specs.Reading.{among}
 use Rattle.query_parser.specs.Reads.{op_among, is_op, op_with}
 
 pub operator_is : (ops : Operators) (t : Token) → operator ops t ≡ op_with t.span (op_among ops t.kind)

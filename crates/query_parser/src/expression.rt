@@ -2,10 +2,10 @@
 
 ghost use Rattle.std.specs.Prelude.{◌≡◌, ℕ, [], ◌∷◌, ◌^◌, ◌-◌, IfOk};
 ghost use Rattle.query_grammar.specs.Grammar.{negated as negated_by, functions};
-ghost use Rattle.query_grammar.specs.Kinds.{is, sign};
+ghost use Rattle.query_grammar.specs.Kinds.{among, is, sign};
 ghost use Rattle.query_grammar.specs.Language.{Node};
 ghost use Rattle.query_grammar.specs.Parser.{Limited, word, next_is, repeated};
-ghost use Rattle.query_grammar.specs.Reading.{among, atom as atom_of, atom_starts, expr_starts, unary as unary_of, expr_at, separated, listed_by, call_of, after};
+ghost use Rattle.query_grammar.specs.Reading.{atom as atom_of, atom_starts, expr_starts, unary as unary_of, expr_at, separated, listed_by, call_of, after};
 ghost use Rattle.query_lang.specs.declared.query.Expr.TheVariants as exprs;
 ghost use Rattle.query_lang.specs.declared.token.Mark.TheVariants as marks;
 ghost use Rattle.query_parser.specs.Reads.{Gives, operands_of, operation_of, level_of, compared_with, comparison_of, bracket_at, arguments_at, primary_at};

@@ -1,9 +1,10 @@
 //! Statements and blocks. What each function is given says how many brackets may still be opened.
 
 ghost use Rattle.std.specs.Prelude.{◌≡◌, ℕ, [], ◌∷◌, IfOk};
+ghost use Rattle.query_grammar.specs.Kinds.{among};
 ghost use Rattle.query_grammar.specs.Grammar.{else_of as else_block};
 ghost use Rattle.query_grammar.specs.Parser.{Limited, next_is, repeated, chained};
-ghost use Rattle.query_grammar.specs.Reading.{among, expr_at, stmt_at, stmt_starts, assignment as assignment_of, emission as emission_of, block as block_of, if_part as if_part_of, if_statement as if_statement_of};
+ghost use Rattle.query_grammar.specs.Reading.{expr_at, stmt_at, stmt_starts, assignment as assignment_of, emission as emission_of, block as block_of, if_part as if_part_of, if_statement as if_statement_of};
 ghost use Rattle.query_lang.specs.declared.query.Stmt.TheVariants as stmts;
 ghost use Rattle.query_parser.specs.Reads.{Gives, GivesPart, bracket_at, block_at, empty_at, else_part_at};
 

@@ -1,9 +1,9 @@
 //! One token: a mark, a reserved word, a name, a number, or the like.
 
 ghost use Rattle.std.specs.Prelude.{◌≡◌, [], ◌∷◌, nat_eq};
-ghost use Rattle.query_grammar.specs.Kinds.{is, name as name_of, number as number_of, kind_number, mark_number, word_number, sign, keyword as keyword_of};
+ghost use Rattle.query_grammar.specs.Kinds.{among, is, name as name_of, number as number_of, kind_number, mark_number, word_number, sign, keyword as keyword_of};
 ghost use Rattle.query_grammar.specs.Parser.{Limited, word, next_is};
-ghost use Rattle.query_grammar.specs.Reading.{among, token_of, blocked};
+ghost use Rattle.query_grammar.specs.Reading.{token_of, blocked};
 ghost use Rattle.query_lang.specs.declared.token.TokenKind.TheVariants as kinds;
 ghost use Rattle.query_parser.specs.Reads.{Gives, role_of};
 

@@ -4,9 +4,9 @@ use Rattle.query_lang.specs.declared.fold.Op.{Op}
 use Rattle.query_lang.specs.declared.fault.Span.{Span}
 use Rattle.query_lang.specs.declared.token.Mark.TheVariants as marks
 use Rattle.query_grammar.specs.Grammar.{grouped}
-use Rattle.query_grammar.specs.Kinds.{kinds_of, sign}
+use Rattle.query_grammar.specs.Kinds.{among, kinds_of, sign}
 use Rattle.query_grammar.specs.Parser.{Limited, turns}
-use Rattle.query_grammar.specs.Reading.{among, after, separated, expr_at}
+use Rattle.query_grammar.specs.Reading.{after, separated, expr_at}
 use Rattle.query_parser.specs.declared.operators.Level.{Level}
 use Rattle.query_parser.specs.declared.operators.Level.TheVariants as levels
 use Rattle.query_parser.specs.Reads.{ops_of, operation_of, level_of, primary_at}

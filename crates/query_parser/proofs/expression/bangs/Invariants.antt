@@ -1,9 +1,8 @@
 use Rattle.std.proofs.Common.{◌≡◌, ◌-◌, [], ◌∷◌, length}
 use Rattle.query_lang.specs.declared.token.Mark.TheVariants as marks
-use Rattle.query_grammar.specs.Kinds.{is, sign}
+use Rattle.query_grammar.specs.Kinds.{among, is, sign}
 use Rattle.query_grammar.specs.Language.{Node}
 use Rattle.query_grammar.specs.Parser.{Limited, turns, repeated, word}
-use Rattle.query_grammar.specs.Reading.{among}
 use Rattle.query_parser.proofs.Loops.{finished, behind}
 use Rattle.query_parser.proofs.expression.bangs.Given as goal
 

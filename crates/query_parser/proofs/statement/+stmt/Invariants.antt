@@ -1,6 +1,7 @@
 use Rattle.std.proofs.Common.{◌≡◌, ℕ, ◌+◌, ◌*◌, ◌-◌, [], ◌∷◌, length}
+use Rattle.query_grammar.specs.Kinds.{among}
 use Rattle.query_grammar.specs.Parser.{Limited, turns, repeated, chain_turns, chained}
-use Rattle.query_grammar.specs.Reading.{among, stmt_at, stmt_starts}
+use Rattle.query_grammar.specs.Reading.{stmt_at, stmt_starts}
 use Rattle.query_parser.specs.Reads.{else_part_at}
 use Rattle.query_parser.proofs.Loops.{finished, behind}
 use Rattle.query_parser.proofs.Statements.{chained_on}
