@@ -7,3 +7,4 @@ pub mod Depths
 pub mod Splits
 pub mod Runs
 pub mod Whole
+pub mod TextFaults

@@ -4,3 +4,4 @@ pub mod Grammar
 pub mod Parser
 pub mod Reading
 pub mod Fault
+pub mod Texts

@@ -1,8 +1,10 @@
 // Laws about the grammar: a text has one meaning at most, and the function on tokens gives it or exactly the first fault.
 
-ghost use Rattle.std.specs.Prelude.{◌≡◌, List, [], ◌∷◌, ◌++◌};
+ghost use Rattle.std.specs.Prelude.{◌≡◌, ◌↔◌, ℕ, List, [], ◌∷◌, ◌++◌};
+ghost use Rattle.query_lang.specs.declared.fault.QueryFault.{QueryFault};
 ghost use Rattle.query_lang.specs.declared.fault.Span.{Span};
 ghost use Rattle.query_lang.specs.declared.query.Item.{Item};
+ghost use Rattle.query_lang.specs.declared.query.Query.{Query};
 ghost use Rattle.query_lang.specs.declared.token.Token.{Token};
 ghost use Rattle.query_grammar.specs.declared.stop.Counts.{Counts};
 ghost use Rattle.query_grammar.specs.declared.stop.Stop.{Stop};
@@ -10,6 +12,7 @@ ghost use Rattle.query_grammar.specs.Parser.{Done, Stopped};
 ghost use Rattle.query_grammar.specs.Grammar.{Derives};
 ghost use Rattle.query_grammar.specs.Reading.{parsed};
 ghost use Rattle.query_grammar.specs.Fault.{StandsAt, IsAccepted, HasEnd, Says};
+ghost use Rattle.query_grammar.specs.Texts.{IsFaultOf, IsQueryOf, parsed_text};
 
 /// Tokens are those of one query at most.
 pub fn one_meaning()
@@ -30,3 +33,15 @@ pub fn fault_is_found()
 pub fn query_is_found()
     ensures { (ts : List Token) (q : List Item × Span) → IsAccepted ts q → (c : Counts) × (parsed ts ≡ Done q c []) }
 {}
+
+/// A text gives a query exactly where that is the query that the grammar relates to it.
+pub fn query_of_text()
+    ensures { (text : List ℕ) (q : Query) → (parsed_text text ≡ Ok q) ↔ IsQueryOf text q }
+{
+}
+
+/// A text gives a fault exactly where that is the first fault of the text.
+pub fn fault_of_text()
+    ensures { (text : List ℕ) (fault : QueryFault) → (parsed_text text ≡ Err fault) ↔ IsFaultOf text fault }
+{
+}

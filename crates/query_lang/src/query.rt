@@ -2,6 +2,7 @@
 
 use crate::fault::Span;
 use crate::fold::Op;
+use crate::names::Names;
 use marple_base::{Boxed, Seq};
 
 #[derive(Clone, Copy, PartialEq, Eq, Debug)]
@@ -12,6 +13,7 @@ pub struct Name {
 
 #[derive(Drop)]
 pub struct Query {
+    pub names: Names,
     pub items: Seq<Item>,
     pub end: Span,
 }
