@@ -1,0 +1,5 @@
+pub mod Machine
+pub mod Tree
+pub mod Code
+pub mod Meaning
+pub mod Additive
