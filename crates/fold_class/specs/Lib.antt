@@ -1,0 +1,10 @@
+pub mod Tables
+pub mod Depth
+pub mod Kinds
+pub mod Parts
+pub mod Fitting
+pub mod Algebras
+pub mod Step
+pub mod StepMap
+pub mod Stored
+pub mod Entries
