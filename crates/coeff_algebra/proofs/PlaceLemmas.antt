@@ -6,7 +6,7 @@ use Rattle.std.proofs.lemmas.Slice.{take-put_mid_below, drop-put_mid}
 use borrow.Rule.Slice.PartMut.{put_mid, post_of}
 use Rattle.coeff_algebra.specs.Maps.{stored_at}
 
-one_less : (o p w : ℕ) → o < p → o * w + w ≤ p * w
+pub one_less : (o p w : ℕ) → o < p → o * w + w ≤ p * w
 one_less o p w h = grind arith
 
 -- an element at another place stays

@@ -8,3 +8,4 @@ pub mod Step
 pub mod StepMap
 pub mod Stored
 pub mod Entries
+pub mod Rows

@@ -52,7 +52,7 @@ fn put_part<C: Coeff>(part: Part<C>, to: &mut [u64])
 }
 
 // The part at a place.
-fn load_part<C: Coeff>(words: &[u64], place: usize) -> Part<C>
+pub(crate) fn load_part<C: Coeff>(words: &[u64], place: usize) -> Part<C>
     requires { place * 3 + 3 ≤ length words.now }
     ensures { result ≡ part_at C.from_words C.WORDS words.now place }
 {
@@ -60,7 +60,7 @@ fn load_part<C: Coeff>(words: &[u64], place: usize) -> Part<C>
 }
 
 // A new part at a place. The others stay.
-fn store_part<C: Coeff>(words: &mut [u64], place: usize, part: Part<C>)
+pub(crate) fn store_part<C: Coeff>(words: &mut [u64], place: usize, part: Part<C>)
     requires { place * 3 + 3 ≤ length words.old }
     ensures here { part_at C.from_words C.WORDS words.new place ≡ part }
     ensures others { (other : ℕ) → other ≢ place → part_at C.from_words C.WORDS words.new other ≡ part_at C.from_words C.WORDS words.old other }
@@ -88,7 +88,7 @@ fn role_of(algebra: Algebra, op: Op) -> Role
 }
 
 // A word's share in one column.
-fn lift<C: Coeff>(word: u64, column: usize, dimension: usize) -> C
+pub(crate) fn lift<C: Coeff>(word: u64, column: usize, dimension: usize) -> C
     ensures { result ≡ (column_shares C.elements dimension column).lift word }
 {
     if column == dimension {
@@ -279,7 +279,7 @@ fn store_value<C: Coeff, L: Ledger>(
 }
 
 // One run of instructions over the parts of a column. The variables' parts stand first in `scratch`.
-fn run_column<C: Coeff, L: Ledger>(
+pub(crate) fn run_column<C: Coeff, L: Ledger>(
     instrs: &[Instr],
     states: usize,
     algebra: Algebra,
