@@ -9,3 +9,5 @@ pub mod StepMap
 pub mod Stored
 pub mod Entries
 pub mod Rows
+pub mod Walk
+pub mod Program

@@ -1,5 +1,10 @@
 // What a fold, an expression and an operator are said to be.
 
+ghost use Rattle.std.specs.Prelude.{◌≡◌};
+ghost use Rattle.fold_class.specs.Kinds.{role};
+
+use query_lang::Op;
+
 /// Over which sums and products it is affine.
 #[derive(Clone, Copy, Debug, PartialEq, Eq)]
 pub enum Algebra {
@@ -22,4 +27,23 @@ pub enum Role {
     Difference,
     Product,
     Outside,
+}
+
+/// What an operator is in an algebra.
+pub(crate) fn role_of(algebra: Algebra, op: Op) -> Role
+    ensures { result ≡ role algebra op }
+{
+    match algebra {
+        Algebra::Sums => match op {
+            Op::Add => Role::Sum,
+            Op::Sub => Role::Difference,
+            Op::Mul => Role::Product,
+            _ => Role::Outside,
+        },
+        Algebra::Maxima => match op {
+            Op::Max => Role::Sum,
+            Op::Sadd => Role::Product,
+            _ => Role::Outside,
+        },
+    }
 }

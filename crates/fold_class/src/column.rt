@@ -8,7 +8,7 @@ ghost use Rattle.fold_class.specs.Parts.{parts, part_operation, part_negation, p
 ghost use Rattle.fold_class.specs.Step.{list_of};
 ghost use Rattle.fold_class.specs.Stored.{part_of, part_at, IfKeeps};
 
-use crate::class::{Algebra, Role};
+use crate::class::{role_of, Algebra, Role};
 use crate::part::Part;
 use coeff_algebra::Coeff;
 use fold_code::Instr;
@@ -66,25 +66,6 @@ pub(crate) fn store_part<C: Coeff>(words: &mut [u64], place: usize, part: Part<C
     ensures others { (other : ℕ) → other ≢ place → part_at C.from_words C.WORDS words.new other ≡ part_at C.from_words C.WORDS words.old other }
 {
     put_part(part, &mut words[place * 3..place * 3 + 3]);
-}
-
-// What an operator is in an algebra.
-fn role_of(algebra: Algebra, op: Op) -> Role
-    ensures { result ≡ role algebra op }
-{
-    match algebra {
-        Algebra::Sums => match op {
-            Op::Add => Role::Sum,
-            Op::Sub => Role::Difference,
-            Op::Mul => Role::Product,
-            _ => Role::Outside,
-        },
-        Algebra::Maxima => match op {
-            Op::Max => Role::Sum,
-            Op::Sadd => Role::Product,
-            _ => Role::Outside,
-        },
-    }
 }
 
 // A word's share in one column.

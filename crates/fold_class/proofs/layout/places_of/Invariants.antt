@@ -1,0 +1,14 @@
+use Rattle.std.proofs.Common.{◌≡◌, ◌≤◌, ℕ, Bool, not, length}
+use Rattle.fold_class.specs.Depth.{is_history}
+use Rattle.fold_class.specs.Step.{places, list_of}
+use Rattle.fold_class.specs.Program.{origin_of}
+use Rattle.fold_class.proofs.layout.places_of.Given as goal
+
+abbrev pub invariant-loop-v : goal.invariant-loop-v
+invariant-loop-v l = record {
+  linear : l.linear ≡ places (λ v. not (is_history l.f v)) l.v;
+  history : l.history ≡ places (is_history l.f) l.v;
+  origins : l.origins ≡ list_of l.v (origin_of l.f);
+  few_linear : length l.linear ≤ l.v;
+  few_history : length l.history ≤ l.v;
+}

@@ -1,0 +1,104 @@
+// Which variables have a depth, and how deep a fold is.
+
+ghost use Rattle.std.specs.Prelude.{◌≡◌, ℕ, ◌<◌, ◌≤◌, Bool, true, false, not, ◌&&◌, ◌||◌, length, slice_get};
+ghost use Rattle.query_lang.specs.Folds.{IsValidFold, fold_states};
+ghost use Rattle.fold_class.specs.Tables.{all_below};
+ghost use Rattle.fold_class.specs.Depth.{fold_reads, is_within, is_history, IsDepth};
+ghost use Rattle.fold_class.specs.Walk.{kinds_in, is_other, flag_in};
+
+use crate::class::Kind;
+use crate::walk::walk_block;
+use query_lang::TypedFold;
+
+// For each variable whether the old value of variable u reaches it: then it is Other.
+fn readers_of(f: &TypedFold, u: usize) -> [Kind; 8]
+    requires valid { IsValidFold f.now }
+    requires variable { u < fold_states f.now }
+    ensures { (v : ℕ) → is_other (kinds_in result v) ≡ fold_reads f.now v u }
+{
+    let mut kinds = [Kind::Pure; 8];
+    kinds[u] = Kind::Other;
+    walk_block(None, &mut kinds, f.body.as_slice());
+    kinds
+}
+
+// Takes the flag from each variable that is Other.
+fn strike(flags: &mut [bool], kinds: &[Kind])
+    requires { length flags.old ≡ length kinds.now }
+    ensures { (v : ℕ) → v < length flags.old → flag_in flags.new v ≡ (flag_in flags.old v && not (is_other (kinds_in kinds.now v))) }
+{
+    for (v, kind) in kinds.iter().enumerate() {
+        if let Kind::Other = kind {
+            flags[v] = false;
+        }
+    }
+}
+
+// From the variables of one depth at most to those of one more: a variable is among them where all that it reads were.
+fn next_round(f: &TypedFold, within: &[bool]) -> [bool; 8]
+    requires valid { IsValidFold f.now }
+    requires size { length within.now ≡ 8 }
+    ensures { (v : ℕ) → v < fold_states f.now → flag_in result v ≡ all_below (fold_states f.now) (λ u. not (fold_reads f.now v u) || flag_in within.now u) }
+{
+    let mut next = [true; 8];
+    for u in 0..f.state_names.len() {
+        if !within[u] {
+            let readers = readers_of(f, u);
+            strike(&mut next, &readers);
+        }
+    }
+    next
+}
+
+// The same in place.
+fn advance(f: &TypedFold, within: &mut [bool])
+    requires valid { IsValidFold f.now }
+    requires size { length within.old ≡ 8 }
+    ensures { (v : ℕ) → v < fold_states f.now → flag_in within.new v ≡ all_below (fold_states f.now) (λ u. not (fold_reads f.now v u) || flag_in within.old u) }
+{
+    let next = next_round(f, within);
+    within.copy_from_slice(&next);
+}
+
+/// Which variables have a depth.
+pub(crate) fn history_of(f: &TypedFold) -> [bool; 8]
+    requires { IsValidFold f.now }
+    ensures { (v : ℕ) → v < fold_states f.now → flag_in result v ≡ is_history f.now v }
+{
+    let mut within = [false; 8];
+    for _round in 0..f.state_names.len() {
+        advance(f, &mut within);
+    }
+    within
+}
+
+// Whether all flags of the first variables stand in other flags too.
+fn covers(states: usize, flags: &[bool], others: &[bool]) -> bool
+    requires size { states ≤ length flags.now }
+    requires others { states ≤ length others.now }
+    ensures { result ≡ all_below states (λ v. not (flag_in flags.now v) || flag_in others.now v) }
+{
+    let mut all = true;
+    for v in 0..states {
+        all = all && (!flags[v] || others[v]);
+    }
+    all
+}
+
+/// The least depth that no variable which has one is over.
+pub(crate) fn depth_of(f: &TypedFold, history: &[bool]) -> u8
+    requires valid { IsValidFold f.now }
+    requires size { length history.now ≡ 8 }
+    requires history { (v : ℕ) → v < fold_states f.now → flag_in history.now v ≡ is_history f.now v }
+    ensures { IsDepth f.now result }
+{
+    let mut within = [false; 8];
+    let states = f.state_names.len();
+    for depth in 0..states {
+        if covers(states, history, &within) {
+            return depth as u8;
+        }
+        advance(f, &mut within);
+    }
+    states as u8
+}

@@ -1,0 +1,77 @@
+// The order of a fold's variables in the words of an entry.
+
+ghost use Rattle.std.specs.Prelude.{◌≡◌, ℕ, ◌<◌, ◌≤◌, Bool, true, false, not, length, IfOk};
+ghost use Rattle.query_lang.specs.Folds.{IsValidFold, fold_states, fold_args};
+ghost use Rattle.fold_class.specs.Depth.{is_history};
+ghost use Rattle.fold_class.specs.Step.{linear_places, history_places};
+ghost use Rattle.fold_class.specs.Program.{origins_of};
+ghost use Rattle.fold_class.specs.Walk.{flag_in};
+
+use crate::origin::Origin;
+use marple_base::Seq;
+use query_lang::TypedFold;
+use std::alloc::{AllocError, Global};
+
+/// Which variables have a depth, and what else of a fold its entries need. The lists of variables are in the order of
+/// declaration, and so are the initial words.
+#[derive(Drop)]
+pub struct Layout {
+    pub linear: Seq<u8>,
+    pub history: Seq<u8>,
+    pub initial: Seq<u64>,
+    pub args: u8,
+    pub nodes: u32,
+    pub statements: u32,
+}
+
+/// The linear and the history variables, and for each variable its number among those of its sort.
+#[derive(Drop)]
+pub(crate) struct Places {
+    pub(crate) linear: Seq<u8>,
+    pub(crate) history: Seq<u8>,
+    pub(crate) origins: Seq<Origin>,
+}
+
+/// The places of a fold's variables, by which of them have a depth.
+pub(crate) fn places_of(alloc: Global, f: &TypedFold, flags: &[bool]) -> Result<Places, AllocError>
+    requires valid { IsValidFold f.now }
+    requires size { length flags.now ≡ 8 }
+    requires history { (v : ℕ) → v < fold_states f.now → flag_in flags.now v ≡ is_history f.now v }
+    ensures linear { IfOk result (λ p. p.linear ≡ linear_places f.now) }
+    ensures history { IfOk result (λ p. p.history ≡ history_places f.now) }
+    ensures origins { IfOk result (λ p. p.origins ≡ origins_of f.now) }
+{
+    let mut linear = Seq::new(alloc);
+    let mut history = Seq::new(alloc);
+    let mut origins = Seq::new(alloc);
+    for v in 0..f.state_names.len() {
+        if flags[v] {
+            origins.push(Origin::Remembered(history.len() as u8))?;
+            history.push(v as u8)?;
+        } else {
+            origins.push(Origin::Carried(linear.len() as u8))?;
+            linear.push(v as u8)?;
+        }
+    }
+    Ok(Places {
+        linear,
+        history,
+        origins,
+    })
+}
+
+impl Layout {
+    /// A layout with the same parts.
+    pub fn copy(&self, alloc: Global) -> Result<Layout, AllocError>
+        ensures { IfOk result (λ copy. copy ≡ self.now) }
+    {
+        Ok(Layout {
+            linear: Seq::from_vec(self.linear.as_slice().to_vec(alloc)?),
+            history: Seq::from_vec(self.history.as_slice().to_vec(alloc)?),
+            initial: Seq::from_vec(self.initial.as_slice().to_vec(alloc)?),
+            args: self.args,
+            nodes: self.nodes,
+            statements: self.statements,
+        })
+    }
+}
