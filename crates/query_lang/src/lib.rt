@@ -8,6 +8,7 @@ mod names;
 mod query;
 mod token;
 mod typed;
+pub mod typing;
 
 pub use fault::{FaultKind, Limit, QueryFault, Span};
 pub use fold::{Op, TypedExpr, TypedFold, TypedStmt};
@@ -17,4 +18,4 @@ pub use query::{
     StreamOp,
 };
 pub use token::{Mark, Piece, Token, TokenKind, Word};
-pub use typed::{Class, PrintOf, TypedFinal, TypedFinalOp, TypedOp, TypedStream};
+pub use typed::{Class, PrintOf, TypedFinal, TypedFinalOp, TypedOp, TypedQuery, TypedStream};

@@ -1,6 +1,7 @@
 //! A query whose names and kinds were checked: streams, folds and tables by number, columns as slots.
 
 use crate::fold::{TypedExpr, TypedFold};
+use crate::names::Names;
 use crate::query::Name;
 use marple_base::Seq;
 
@@ -9,6 +10,17 @@ use marple_base::Seq;
 pub enum Class {
     Linear,
     Other,
+}
+
+/// A query that was checked. Its names are those of the text, and then the names of fields that the text hasn't got, in
+/// the order of the fields.
+#[derive(Drop)]
+pub struct TypedQuery {
+    pub names: Names,
+    pub folds: Seq<TypedFold>,
+    pub streams: Seq<TypedStream>,
+    pub finals: Seq<TypedFinal>,
+    pub prints: Seq<PrintOf>,
 }
 
 /// A stream. Streams are numbered from 0, and number 0 is `pktstream`, which has no entry.
