@@ -1,5 +1,6 @@
 -- The typing of finals.
-use Rattle.std.specs.Prelude.{ℕ, ◌+◌, Bool, true, false, ◌&&◌, nat_eq, nat_lt, nat_le, List, [], ◌∷◌, ◌++◌, length, take, drop, Option, Some, None, Ok}
+use Rattle.std.specs.Prelude.{ℕ, ◌+◌, Bool, ◌&&◌, nat_eq, nat_lt, nat_le, List, [], ◌∷◌, ◌++◌, length, take, drop, Option, Some, None, Ok}
+use Rattle.std.specs.Cmp.Lexicographic.{pointwise}
 use Rattle.std.specs.List.{list_any}
 use Rattle.query_lang.specs.declared.fault.FaultKind.TheVariants.{UnknownName, NameTaken, WrongKind, BadConstant}
 use Rattle.query_lang.specs.declared.fault.Span.{Span}
@@ -78,9 +79,7 @@ final_group given earlier input keys fold_name =
 
 -- the same names in the same order
 abbrev pub same_names : List ℕ → List ℕ → Bool
-same_names [] [] = true
-same_names (a ∷ rest) (b ∷ others) = nat_eq a b && same_names rest others
-same_names _ _ = false
+same_names names others = pointwise nat_eq names others
 
 abbrev pub key_columns : TableView → List ℕ
 key_columns table = take table.keys table.columns
@@ -126,4 +125,5 @@ with_final earlier name made = record earlier {
 }
 
 abbrev pub final_checked : Given → Earlier → FinalDef → Checked Earlier
-final_checked given earlier d = begun earlier d.name (and_then (made_final given earlier d.op) (λ made. Ok (with_final earlier d.name made)))
+final_checked given earlier d =
+    and_then (begun earlier d.name) (λ _. and_then (made_final given earlier d.op) (λ made. Ok (with_final earlier d.name made)))

@@ -35,10 +35,10 @@ meaning_of [] id = None
 meaning_of (one ∷ rest) id = if nat_eq one.name id then Some one.meaning else meaning_of rest id
 
 -- A new stream or final. Its name is free, and there are at most 32 of them.
-abbrev pub begun : {A : Type 0} → Earlier → Name → Checked A → Checked A
-begun earlier name next =
+abbrev pub begun : Earlier → Name → Checked (Unit {0})
+begun earlier name =
     must_not (is_some (meaning_of earlier.known name.id)) NameTaken name.span (
-    must (nat_lt (length earlier.streams + length earlier.finals) 32) (OverLimit Bindings) name.span next)
+    must (nat_lt (length earlier.streams + length earlier.finals) 32) (OverLimit Bindings) name.span (Ok tt))
 
 -- a name that has to stand for a stream
 abbrev pub as_stream : Option Meaning → Span → Checked StreamView
@@ -191,4 +191,5 @@ with_stream earlier name made = record earlier {
 }
 
 abbrev pub stream_checked : List ℕ → Earlier → StreamDef → Checked Earlier
-stream_checked five earlier d = begun earlier d.name (and_then (made_stream five earlier d.name d.op) (λ made. Ok (with_stream earlier d.name made)))
+stream_checked five earlier d =
+    and_then (begun earlier d.name) (λ _. and_then (made_stream five earlier d.name d.op) (λ made. Ok (with_stream earlier d.name made)))

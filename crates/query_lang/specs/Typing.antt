@@ -3,6 +3,7 @@ use Rattle.std.specs.Prelude.{ℕ, Bool, true, false, nat_lt, min, is_some, List
 use Rattle.marple_base.specs.declared.field.Field.{Field}
 use Rattle.marple_base.specs.Field.{all_fields, field_name}
 use Rattle.query_lang.specs.declared.fault.FaultKind.TheVariants.{NameTaken, NothingPrinted}
+use Rattle.query_lang.specs.declared.fault.Span.{Span}
 use Rattle.query_lang.specs.declared.query.Query.{Query}
 use Rattle.query_lang.specs.declared.query.Item.{Item}
 use Rattle.query_lang.specs.declared.query.Item.TheVariants as item
@@ -63,9 +64,9 @@ with_fields names fields = fold (λ known f. with_name known (field_name f)) nam
 abbrev pub typed_names : List (List ℕ) → List (List ℕ)
 typed_names names = with_fields names all_fields
 
--- the numbers of the fields' names among all names
+-- the numbers of the fields' names among these
 abbrev pub field_numbers : List (List ℕ) → List ℕ
-field_numbers names = map (λ f. number_in (typed_names names) (field_name f)) all_fields
+field_numbers names = map (λ f. number_in names (field_name f)) all_fields
 
 abbrev pub is_group : StreamOp → Bool
 is_group (ops.Group input keys f) = true
@@ -75,7 +76,7 @@ abbrev pub is_groupby : Item → Bool
 is_groupby (item.Stream d) = is_group d.op
 is_groupby _ = false
 
--- a ninth groupby is refused
+-- what is known from the start, where the names are these and those of all fields; a ninth groupby is refused
 abbrev pub given_of : List (List ℕ) → List Item → Given
 given_of names items = record { fields = field_numbers names; groups = min (count_by is_groupby items) 8 }
 
@@ -83,7 +84,7 @@ given_of names items = record { fields = field_numbers names; groups = min (coun
 abbrev pub start_of : List (List ℕ) → Earlier
 start_of names = record {
   known = record {
-    name = number_in (typed_names names) (codes "pktstream");
+    name = number_in names (codes "pktstream");
     meaning = meaning.Stream (record {
       number = 0;
       columns = map (λ id. record { name = id; origin = origin.Field }) (field_numbers names);
@@ -100,9 +101,9 @@ start_of names = record {
 }
 
 -- a query prints some table
-abbrev pub ended : Query → Earlier → Checked TypedQuery
-ended q earlier = must (nat_lt 0 (length earlier.prints)) NothingPrinted q.end (Ok (record {
-  names = typed_names q.names;
+abbrev pub ended : List (List ℕ) → Span → Earlier → Checked TypedQuery
+ended names end earlier = must (nat_lt 0 (length earlier.prints)) NothingPrinted end (Ok (record {
+  names = names;
   folds = earlier.folds;
   streams = earlier.streams;
   finals = earlier.finals;
@@ -111,4 +112,6 @@ ended q earlier = must (nat_lt 0 (length earlier.prints)) NothingPrinted q.end (
 
 -- The typed query, or the first fault.
 abbrev pub checked : Query → Checked TypedQuery
-checked q = and_then (items_checked (given_of q.names q.items) (start_of q.names) q.items) (ended q)
+checked q =
+    let names = typed_names q.names in
+    and_then (items_checked (given_of names q.items) (start_of names) q.items) (ended names q.end)

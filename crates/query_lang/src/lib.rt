@@ -6,6 +6,7 @@ mod fold;
 pub mod laws;
 mod names;
 mod query;
+pub mod stream_laws;
 mod token;
 mod typed;
 pub mod typing;
