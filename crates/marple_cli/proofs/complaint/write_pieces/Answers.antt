@@ -1,0 +1,10 @@
+use Rattle.std.proofs.Common.{[]}
+use Rattle.marple_cli.specs.Piece.{piece_text}
+use Rattle.marple_cli.specs.declared.complaint.Piece.TheVariants.{Text}
+use Rattle.marple_cli.proofs.Pieces.{TakesFront-piece}
+use Rattle.marple_cli.proofs.complaint.write_pieces.Goals as goal
+
+pub returns-in_err-write-clause-front : goal.returns-in_err-write-clause-front
+returns-in_err-write-clause-front g c =
+    TakesFront-piece piece_text _ _ _ c.args.pieces.now c.loop-piece.piece-index (Text (record { ref_ptr = (0, 0); now = [] })) c.loop-piece-test.true
+    c.loop-piece.invariant.taken c.in_err-write.ensures.front

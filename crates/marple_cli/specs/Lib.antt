@@ -1,0 +1,4 @@
+pub mod Command
+pub mod Complaint
+pub mod Number
+pub mod Piece

@@ -1,0 +1,55 @@
+//! How a command ends.
+ghost use Rattle.std.specs.Prelude.{◌≡◌};
+ghost use Rattle.marple_cli.specs.Complaint.{number_of};
+ghost use Rattle.marple_cli.specs.declared.status.Status.TheVariants.{Memory, OutputFault};
+
+use marple_base::{Failed, Which};
+use query_lang::QueryFault;
+use std::alloc::AllocError;
+use trace_reader::TraceFault;
+
+/// How a command ends. The statuses are numbered from 0 in this order.
+#[derive(Clone, Copy, Debug, PartialEq, Eq)]
+pub enum Status {
+    Ok,
+    Memory,
+    Usage,
+    InputFault(Which),
+    QueryRefused(QueryFault),
+    TraceRefused(TraceFault),
+    OutputFault,
+}
+
+impl Status {
+    /// The exit status of the program.
+    pub fn number(&self) -> u8
+        ensures { result ≡ number_of self.now }
+    {
+        match self {
+            Status::Ok => 0,
+            Status::Memory => 1,
+            Status::Usage => 2,
+            Status::InputFault(_) => 3,
+            Status::QueryRefused(_) => 4,
+            Status::TraceRefused(_) => 5,
+            Status::OutputFault => 6,
+        }
+    }
+}
+
+impl From<AllocError> for Status {
+    ghost from_gives = { λ _ status. status ≡ Memory };
+
+    fn from(_: AllocError) -> Status {
+        Status::Memory
+    }
+}
+
+/// A fault of the output.
+impl From<Failed> for Status {
+    ghost from_gives = { λ _ status. status ≡ OutputFault };
+
+    fn from(_: Failed) -> Status {
+        Status::OutputFault
+    }
+}
