@@ -1,4 +1,9 @@
+pub mod Call
 pub mod Command
 pub mod Complaint
+pub mod CountingQuery
+pub mod Ends
 pub mod Number
+pub mod Output
 pub mod Piece
+pub mod QueryAnswers

@@ -16,6 +16,17 @@ pub enum Command {
     Run(Geometry),
 }
 
+impl Command {
+    /// The shape of the command's caches.
+    pub fn geometry(self) -> Geometry
+        ensures { Command.Run result ≡ self }
+    {
+        match self {
+            Command::Run(geometry) => geometry,
+        }
+    }
+}
+
 /// The number that 1 to 20 digits spell.
 fn number(text: &[u8]) -> Option<u128>
     ensures { result ≡ number text.now }

@@ -3,8 +3,18 @@
 
 mod command;
 mod complaint;
+mod counting_query;
+mod driven;
+mod operands;
+mod packets;
+mod run;
 mod status;
+mod table;
+mod top;
 
 pub use command::{Command, Geometry, command_of};
 pub use complaint::complain;
+pub use counting_query::{CountingQuery, MAX_QUERY, query_of};
+pub use driven::Driven;
 pub use status::Status;
+pub use top::marple;

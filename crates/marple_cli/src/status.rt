@@ -1,12 +1,13 @@
 //! How a command ends.
 ghost use Rattle.std.specs.Prelude.{◌≡◌};
 ghost use Rattle.marple_cli.specs.Complaint.{number_of};
+ghost use Rattle.marple_cli.specs.Ends.{status_for};
 ghost use Rattle.marple_cli.specs.declared.status.Status.TheVariants.{Memory, OutputFault};
 
 use marple_base::{Failed, Which};
 use query_lang::QueryFault;
 use std::alloc::AllocError;
-use trace_reader::TraceFault;
+use trace_reader::{TraceAnswer, TraceFault};
 
 /// How a command ends. The statuses are numbered from 0 in this order.
 #[derive(Clone, Copy, Debug, PartialEq, Eq)]
@@ -42,6 +43,17 @@ impl From<AllocError> for Status {
 
     fn from(_: AllocError) -> Status {
         Status::Memory
+    }
+}
+
+impl From<TraceAnswer> for Status {
+    ghost from_gives = { λ answer status. status ≡ status_for answer };
+
+    fn from(answer: TraceAnswer) -> Status {
+        match answer {
+            TraceAnswer::Refused(fault) => Status::TraceRefused(fault),
+            TraceAnswer::Memory => Status::Memory,
+        }
     }
 }
 

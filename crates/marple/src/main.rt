@@ -1,0 +1,60 @@
+//! The program: real files and streams under the top call.
+#![tactic(auto)]
+
+ghost use Rattle.std.specs.Prelude.{◌≡◌, ◌<◌};
+
+use marple_base::{FileInputs, StdSink, Steps};
+use marple_cli::{Status, marple};
+use std::alloc::{AllocError, Global};
+use std::env;
+use std::io::ErrorKind;
+use std::marker::Brand;
+use std::process::ExitCode;
+use std::sync::ledger::{Blank, Ledger};
+
+/// The words after the program's name. Where they can't be told as text there are none, which is no command.
+fn words_of(rt: &HostRuntime) -> Result<Vec<String>, AllocError> {
+    let alloc = rt.alloc();
+    let mut words = Vec::new(alloc);
+    match env::args(rt) {
+        Ok(all) => {
+            for word in all.skip(1) {
+                words.push(word)?;
+            }
+            Ok(words)
+        }
+        Err(error) if error.kind() == ErrorKind::OutOfMemory => Err(AllocError),
+        Err(_) => Ok(words),
+    }
+}
+
+/// Runs the command under the one counter of this ledger.
+fn run<L: Ledger>(rt: HostRuntime, alloc: Global, words: &[String], blank: Blank) -> u8
+    requires name { blank.name ≡ L.name }
+    requires parts { blank.parts ≡ L.parts }
+    requires whole { 0 < blank.parts }
+{
+    let mut steps = Steps::<L>::new(blank);
+    let mut inputs = FileInputs::new(rt, words);
+    let mut out = StdSink::output(rt);
+    let mut err = StdSink::error(rt);
+    let mut driven = None;
+    marple(
+        alloc,
+        words,
+        &mut inputs,
+        &mut out,
+        &mut err,
+        &mut driven,
+        &mut steps,
+    )
+    .number()
+}
+
+fn main(rt: HostRuntime) -> ExitCode {
+    let status = match words_of(&rt) {
+        Ok(words) => run::<Brand>(rt, rt.alloc(), words.as_slice(), Blank::new(1)),
+        Err(_) => Status::Memory.number(),
+    };
+    ExitCode::from(status)
+}

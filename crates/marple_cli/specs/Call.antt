@@ -1,0 +1,80 @@
+-- What a call of `marple` is about, and what each of its answers says.
+use Rattle.std.specs.Prelude.{◌≡◌, ℕ, true, List, Option, None, Some, ⊤}
+use Rattle.std.specs.Io.KnownBytes.{Appends}
+use Rattle.marple_base.specs.Faults.{Rose}
+use Rattle.marple_base.specs.Inputs.{Input}
+use Rattle.marple_base.specs.Sink.{TakesFront}
+use Rattle.marple_base.specs.declared.inputs.Which.{Which}
+use Rattle.marple_base.specs.declared.inputs.Which.TheVariants.{Query, Trace}
+use Rattle.marple_cli.specs.CountingQuery.{query_of}
+use Rattle.marple_cli.specs.Output.{takes, IsAccepted, IsDrained, StandsForEnd, output}
+use Rattle.marple_cli.specs.declared.command.Command.{Command}
+use Rattle.marple_cli.specs.declared.command.Command.TheVariants.{Run}
+use Rattle.marple_cli.specs.declared.command.Geometry.{Geometry}
+use Rattle.marple_cli.specs.declared.driven.Driven.{Driven}
+use Rattle.marple_cli.specs.declared.driven.Driven.TheVariants.{Ways1}
+use Rattle.marple_cli.specs.declared.status.Status.{Status}
+use Rattle.marple_cli.specs.declared.status.Status.TheVariants as statuses
+
+-- The command is asked for, and this input is one of its operands.
+abbrev pub Takes : Option Command → Which → Type 0
+Takes None which = ⊥
+Takes (Some command) which = takes command which ≡ true
+
+-- The inputs tell these bytes of the command's operands.
+pub record Holds (command : Command) (inputs : Which → Input) (query trace : List ℕ) : Type 0 where
+  pub of_query : takes command Query ≡ true → (inputs Query).left ≡ Some query
+  pub of_trace : takes command Trace ≡ true → (inputs Trace).left ≡ Some trace
+
+-- P holds of the command and the bytes of its operands, where a command is asked for and the inputs tell them.
+abbrev pub WhereTold : Option Command → (Which → Input) → (Command → List ℕ → List ℕ → Type 0) → Type 0
+WhereTold asked inputs P =
+    (command : Command) (query trace : List ℕ) → asked ≡ Some command → Holds command inputs query trace → P command query trace
+
+-- P holds of the bytes of the query, where a command with a query is asked for and the input tells them, whatever the other input tells.
+abbrev pub WhereQueryTold : Option Command → (Which → Input) → (List ℕ → Type 0) → Type 0
+WhereQueryTold asked inputs P = (query : List ℕ) → Takes asked Query → (inputs Query).left ≡ Some query → P query
+
+-- The counts of the command's inputs and of the output did not rise.
+pub record IsQuiet (command : Command) (before after : Which → Input) (out_before out_after : ℕ) : Type 0 where
+  pub inputs : (which : Which) → takes command which ≡ true → Rose (before which).faults (after which).faults → ⊥
+  pub out : Rose out_before out_after → ⊥
+
+-- The output took exactly what the command writes, of operands that are accepted.
+pub record WritesOutput (old new : Option (List ℕ)) (command : Command) (query trace : List ℕ) : Type 0 where
+  pub accepted : IsAccepted command query trace
+  pub whole : Appends old new (output command query trace)
+
+-- The operands are accepted, and the output took some front of what the command writes.
+pub record WritesFront (old new : Option (List ℕ)) (command : Command) (query trace : List ℕ) : Type 0 where
+  pub accepted : IsAccepted command query trace
+  pub front : TakesFront old new (output command query trace)
+
+-- The sink is left as it was by these.
+abbrev pub IsBeforeOutput : Status → Type 0
+IsBeforeOutput statuses.Usage = ⊤
+IsBeforeOutput (statuses.InputFault which) = ⊤
+IsBeforeOutput (statuses.QueryRefused fault) = ⊤
+IsBeforeOutput (statuses.TraceRefused fault) = ⊤
+IsBeforeOutput status = ⊥
+
+-- The trace is left as it was by these.
+abbrev pub IsBeforeTrace : Status → Type 0
+IsBeforeTrace statuses.Usage = ⊤
+IsBeforeTrace (statuses.InputFault Query) = ⊤
+IsBeforeTrace (statuses.QueryRefused fault) = ⊤
+IsBeforeTrace status = ⊥
+
+-- P holds of the bytes of the command's operands, where the inputs tell them.
+abbrev pub ToldOf : Command → (Which → Input) → (List ℕ → List ℕ → Type 0) → Type 0
+ToldOf command inputs P = (query trace : List ℕ) → Holds command inputs query trace → P query trace
+
+-- The working parts of a run are there, in the variant of its ways. They are drained, and where the inputs tell their bytes they are the machine at the trace's end.
+abbrev pub IsDriven : Geometry → (Which → Input) → Option Driven → Type 0
+IsDriven geometry before None = ⊥
+IsDriven geometry before (Some (Ways1 lane)) = IsDrained lane × ToldOf (Run geometry) before (λ query trace. StandsForEnd geometry (query_of query) trace lane)
+
+-- What a run that answers Ok leaves of its working parts. Every other command and status leaves them as they were.
+abbrev pub DrivenAfter : Option Command → (Which → Input) → Option Driven → Option Driven → Status → Type 0
+DrivenAfter (Some (Run geometry)) before old new statuses.Ok = IsDriven geometry before new
+DrivenAfter asked before old new status = new ≡ old

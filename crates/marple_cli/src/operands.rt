@@ -1,0 +1,49 @@
+//! The operands of a command: read, and accepted or refused.
+ghost use Rattle.std.specs.Prelude.{◌≡◌, ◌+◌, ◌≤◌, Ok, IfOk, IfErr, IfSome, take};
+ghost use Rattle.marple_base.specs.Inputs.{IsClosed};
+ghost use Rattle.marple_cli.specs.CountingQuery.{query_of};
+ghost use Rattle.marple_cli.specs.Ends.{QueryEnds, ReadEnds};
+
+use crate::counting_query::{CountingQuery, MAX_QUERY, query_of};
+use crate::status::Status;
+use marple_base::{Inputs, ReadAnswer, Text, Which, read_input};
+use query_parser::ParseAnswer;
+use std::alloc::Global;
+
+/// The most bytes of a trace.
+pub const MAX_TRACE: usize = 268_435_456;
+
+/// Reads the query, to its end or to one byte more than the limit.
+pub fn read_query<I: Inputs>(alloc: Global, inputs: &mut I) -> Result<CountingQuery, Status>
+    requires { IsClosed (I.input inputs.old Which.Query) }
+    ensures ok { IfOk result (λ found. IfSome (I.input inputs.old Which.Query).left (λ query. query_of query ≡ Ok found)) }
+    ensures err { IfErr result (QueryEnds (I.input inputs.old Which.Query) (I.input inputs.new Which.Query)) }
+    ensures later { (I.input inputs.old Which.Query).faults ≤ (I.input inputs.new Which.Query).faults }
+    ensures trace_kept { I.input inputs.new Which.Trace ≡ I.input inputs.old Which.Trace }
+{
+    let text = match read_input(alloc, inputs, Which::Query, MAX_QUERY + 1) {
+        Ok(text) => text,
+        Err(ReadAnswer::Failed) => return Err(Status::InputFault(Which::Query)),
+        Err(ReadAnswer::Memory) => return Err(Status::Memory),
+    };
+    match query_of(alloc, text.as_slice()) {
+        Ok(query) => Ok(query),
+        Err(ParseAnswer::Refused(fault)) => Err(Status::QueryRefused(fault)),
+        Err(ParseAnswer::Memory) => Err(Status::Memory),
+    }
+}
+
+/// Reads the bytes of the trace, to its end or to one byte more than the limit.
+pub fn read_trace<I: Inputs>(alloc: Global, inputs: &mut I) -> Result<Text, Status>
+    requires { IsClosed (I.input inputs.old Which.Trace) }
+    ensures ok { IfOk result (λ text. IfSome (I.input inputs.old Which.Trace).left (λ trace. text ≡ take (MAX_TRACE + 1) trace)) }
+    ensures err { IfErr result (ReadEnds (I.input inputs.old Which.Trace) (I.input inputs.new Which.Trace)) }
+    ensures later { (I.input inputs.old Which.Trace).faults ≤ (I.input inputs.new Which.Trace).faults }
+    ensures query_kept { I.input inputs.new Which.Query ≡ I.input inputs.old Which.Query }
+{
+    match read_input(alloc, inputs, Which::Trace, MAX_TRACE + 1) {
+        Ok(text) => Ok(text),
+        Err(ReadAnswer::Failed) => Err(Status::InputFault(Which::Trace)),
+        Err(ReadAnswer::Memory) => Err(Status::Memory),
+    }
+}
