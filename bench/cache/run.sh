@@ -11,6 +11,8 @@ for crate in marple_base epoch_model bucket_cache; do
     cp -r "$top/crates/$crate" "$work/crates/$crate"
 done
 cp -r "$here/program" "$work/crates/cache_bench"
+# the program's sources carry one more suffix, since the gate reads the sources of crates/ alone
+find "$work/crates/cache_bench" -name '*.txt' | while IFS= read -r file; do mv "$file" "${file%.txt}"; done
 cp "$top/HANDLES" "$work/HANDLES"
 grep -E '^(marple_base|epoch_model|bucket_cache):' "$top/crates.txt" > "$work/crates.txt"
 echo 'cache_bench: marple_base bucket_cache' >> "$work/crates.txt"
