@@ -1,5 +1,6 @@
 -- What the lexer gives, unless memory runs out.
 use Rattle.std.specs.Prelude.{◌≡◌, ◌≤◌, ℕ, Result, Ok, Err}
+use Rattle.query_lang.specs.declared.fault.QueryFault.{QueryFault}
 use Rattle.query_lang.specs.declared.token.Piece.{Piece}
 use Rattle.query_lang.specs.declared.token.Piece.TheVariants as pieces
 use Rattle.query_lang.specs.Lexis.{Cut}
@@ -19,3 +20,14 @@ IsWithin (pieces.Blank n) len = n ≤ len
 IsWithin (pieces.Name n) len = n ≤ len
 IsWithin (pieces.Token kind n) len = n ≤ len
 IsWithin (pieces.Fault kind n) len = n ≤ len
+
+-- the same value or fault, unless memory runs out
+abbrev pub Answers : {A : Type 0} → Result A ParseAnswer → Result A QueryFault → Type 0
+Answers (Ok x) o = o ≡ Ok x
+Answers (Err (Refused fault)) o = o ≡ Err fault
+Answers (Err Memory) o = Unit {0}
+
+abbrev pub IfRefused : {A : Type 0} → Result A ParseAnswer → (QueryFault → Type 0) → Type 0
+IfRefused (Ok x) holds = Unit {0}
+IfRefused (Err (Refused fault)) holds = holds fault
+IfRefused (Err Memory) holds = Unit {0}

@@ -258,7 +258,8 @@ fn token_from(kind: TokenKind, start: usize, end: usize) -> Token
     Token { kind, span }
 }
 
-fn fault_from(kind: FaultKind, at: usize) -> QueryFault
+/// A fault that stands at a byte.
+pub fn fault_from(kind: FaultKind, at: usize) -> QueryFault
     requires { at ≤ 65536 }
     ensures { result ≡ fault_at kind at }
 {

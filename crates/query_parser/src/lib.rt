@@ -3,12 +3,17 @@
 
 mod answer;
 mod expression;
+mod final_table;
 mod fold;
 mod halt;
+mod item;
 mod lexer;
 mod operators;
+mod reading;
 mod statement;
+mod stream;
 mod word;
 
 pub use answer::ParseAnswer;
 pub use lexer::{Lexed, cut_text};
+pub use reading::parse;
