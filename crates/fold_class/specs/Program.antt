@@ -3,7 +3,7 @@ use Rattle.std.specs.Prelude.{◌≡◌, ℕ, ◌+◌, ◌*◌, ◌<◌, ◌≤�
 use Rattle.query_lang.specs.declared.fold.TypedFold.{TypedFold}
 use Rattle.query_lang.specs.declared.typed.Class.TheVariants.{Linear}
 use Rattle.query_lang.specs.Words.{AreWords}
-use Rattle.query_lang.specs.Folds.{body, fold_states, fold_args, IsValidFold}
+use Rattle.query_lang.specs.Folds.{body, fold_states, fold_args, initial_state, IsValidFold}
 use Rattle.fold_code.specs.Meaning.{IsCodeOf}
 use Rattle.coeff_algebra.specs.Elements.{Elements}
 use Rattle.coeff_algebra.specs.Maps.{map_apply, table_of, HasWord}
@@ -11,6 +11,8 @@ use Rattle.coeff_algebra.specs.WrappingModel.{wrapping_from_words}
 use Rattle.coeff_algebra.specs.MaxPlusModel.{max_plus_from_words}
 use Rattle.fold_class.specs.declared.class.Algebra.{Algebra}
 use Rattle.fold_class.specs.declared.class.Algebra.TheVariants.{Sums, Maxima}
+use Rattle.fold_class.specs.declared.layout.Layout.{Layout}
+use Rattle.fold_class.specs.declared.program.FoldProgram.{FoldProgram}
 use Rattle.fold_class.specs.Depth.{is_history, IsDepth}
 use Rattle.fold_class.specs.Kinds.{class_of, algebra_of}
 use Rattle.fold_class.specs.Algebras.{sums, maxima}
@@ -59,3 +61,22 @@ origin_of f v = if is_history f v then Remembered (length (places (is_history f)
 
 abbrev pub origins_of : TypedFold → List Origin
 origins_of f = list_of (fold_states f) (origin_of f)
+
+-- the layout of a fold's variables and words
+pub record IsLayoutOf (f : TypedFold) (layout : Layout) : Type 0 where
+  pub linear : layout.linear ≡ linear_places f
+  pub history : layout.history ≡ history_places f
+  pub initial : layout.initial ≡ initial_state f
+  pub args : layout.args ≡ fold_args f
+  pub nodes : layout.nodes ≡ f.nodes
+  pub statements : layout.statements ≡ f.statements
+
+-- the program of a valid fold: its parts are those of the fold, the code and the rows by their meaning and their bounds on steps
+pub record IsProgramOf (f : TypedFold) (program : FoldProgram) : Type 0 where
+  pub valid : IsValidFold f
+  pub class : program.class ≡ class_of f
+  pub algebra : program.algebra ≡ algebra_of f
+  pub depth : IsDepth f program.depth
+  pub code : IsCodeOf f program.code
+  pub rows : IsRowsOf f program.rows
+  pub layout : IsLayoutOf f program.layout

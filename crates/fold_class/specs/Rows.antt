@@ -75,6 +75,7 @@ fixed_word _ = 0
 pub record Leaves {C : Type 0} (k : Elements C) (words : C → List ℕ) (size : ℕ) (rows : Rows) (history args map' history' : List ℕ) : Type 0 where
   pub entries : (i c : ℕ) → i < rows_dimension rows → c ≤ rows_dimension rows →
       stored_entry size (rows_dimension rows) map' i c ≡ words (entry_of k rows history args i c)
+  pub long : length history' ≡ length rows.history
   pub kept : (i : ℕ) → i < length rows.history →
       slice_index history' i ≡ fixed_word (at (parts (column_shares k (rows_dimension rows) (rows_dimension rows)) rows.algebra) (column_after k rows (rows_dimension rows) history args) (slice_index rows.history i))
 

@@ -152,6 +152,25 @@ fn write_history<C: Coeff, L: Ledger>(
 }
 
 impl AffineRows {
+    pub(crate) fn new(
+        code: FoldCode,
+        algebra: Algebra,
+        origins: Seq<Origin>,
+        linear: Seq<u8>,
+        history: Seq<u8>,
+    ) -> AffineRows
+        requires { AreSoundRows (record { code = code; algebra = algebra; origins = origins; linear = linear; history = history }) }
+        ensures { result ≡ record { code = code; algebra = algebra; origins = origins; linear = linear; history = history } }
+    {
+        AffineRows {
+            code,
+            algebra,
+            origins,
+            linear,
+            history,
+        }
+    }
+
     // The parts of the variables at the end of one column.
     fn parts_into<C: Coeff, L: Ledger>(
         &self,

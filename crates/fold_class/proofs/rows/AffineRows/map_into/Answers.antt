@@ -29,6 +29,7 @@ returns-clause-leaves g c =
       entries = last_column m.elements m.words m.WORDS rows c.args.history.now c.args.args.now c.loop-column.map c.column_into-2.new.map c.len-dimension.result size
           (λ i k hi hk. c.loop-column.invariant.entries i k hi (omega (arith, hk, size, c.loop-column-test.false)))
           c.column_into-2.ensures.others c.column_into-2.ensures.entries;
+      long = c.write_history.auto.history ∙ c.requires.history;
       kept = kept_from m.elements rows c.args.history.now c.args.args.now d (length rows.origins) (part_at m.from_words m.WORDS c.column_into-2.new.scratch)
           (subst (λ n. list_of (length rows.origins) (part_at m.from_words m.WORDS c.column_into-2.new.scratch) ≡ column_after m.elements rows n c.args.history.now c.args.args.now) size c.column_into-2.ensures.vars)
           c.write_history.new.history c.as_slice.result.now (c.as_slice.ensures ∙ ap (λ r. r.history) c.self.view_is) places c.write_history.ensures.words;
