@@ -21,7 +21,7 @@ column_of c (Fixed w) = Fixed w
 column_of c (Share e) = Share (e c)
 column_of c Lost = Lost
 
-get_or-map : {A B : Type 0} (h : A → B) (xs : List A) (i : ℕ) (d : A) → h (get_or xs i d) ≡ get_or (map h xs) i (h d)
+pub get_or-map : {A B : Type 0} (h : A → B) (xs : List A) (i : ℕ) (d : A) → h (get_or xs i d) ≡ get_or (map h xs) i (h d)
 get_or-map h [] i d = refl
 get_or-map h (x ∷ xs) zero d = refl
 get_or-map h (x ∷ xs) (suc i) d = get_or-map h xs i d

@@ -20,6 +20,13 @@ use marple_base::Seq;
 use query_lang::{Class, TypedFold};
 use std::alloc::{AllocError, Global};
 
+// The kind of a variable at the start of a body.
+fn start_kind(has_depth: bool) -> Kind
+    ensures { result ≡ (if has_depth then Kind.Pure else Kind.Affine) }
+{
+    if has_depth { Kind::Pure } else { Kind::Affine }
+}
+
 // The kinds at the start of a body: Pure for a variable with a depth, and Affine for the others.
 fn first_kinds(states: usize, history: &[bool]) -> [Kind; 8]
     requires size { length history.now ≡ 8 }
@@ -28,9 +35,7 @@ fn first_kinds(states: usize, history: &[bool]) -> [Kind; 8]
 {
     let mut kinds = [Kind::Pure; 8];
     for v in 0..states {
-        if !history[v] {
-            kinds[v] = Kind::Affine;
-        }
+        kinds[v] = start_kind(history[v]);
     }
     kinds
 }

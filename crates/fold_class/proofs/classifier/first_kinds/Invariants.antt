@@ -1,7 +1,10 @@
-use Rattle.std.proofs.Common.{◌≡◌, ℕ, Bool, nat_lt, if◌then◌else◌}
+use Rattle.std.proofs.Common.{◌≡◌, ℕ, Bool, nat_lt, if◌then◌else◌, length}
 use Rattle.fold_class.specs.declared.class.Kind.TheVariants.{Pure, Affine}
 use Rattle.fold_class.specs.Walk.{kinds_in, flag_in}
 use Rattle.fold_class.proofs.classifier.first_kinds.Given as goal
 
 abbrev pub invariant-loop-v : goal.invariant-loop-v
-invariant-loop-v l = (s : ℕ) → kinds_in l.kinds s ≡ (if nat_lt s l.v then (if flag_in l.history s then Pure else Affine) else Pure)
+invariant-loop-v l = record {
+  kinds : (s : ℕ) → kinds_in l.kinds s ≡ (if nat_lt s l.v then (if flag_in l.history s then Pure else Affine) else Pure);
+  long : length l.kinds ≡ 8;
+}

@@ -1,0 +1,48 @@
+-- The walk from the kinds at the start says whether a fold is linear.
+use Rattle.std.proofs.Common.{◌≡◌, ◌≢◌, ℕ, ◌+◌, ◌<◌, ◌≤◌, Bool, true, false, ◌==◌, nat_lt, if◌then◌else◌, List, length, set, refl, sym, ap, ◌∙◌, subst, arith, get_or-set_same, get_or-set_other}
+use Rattle.std.proofs.lemmas.Bool.Decides.{nat_tests}
+use mathlib.Core.Path.{fun_ext}
+use Rattle.query_lang.specs.declared.fold.TypedFold.{TypedFold}
+use Rattle.query_lang.specs.declared.fold.TypedStmt.{TypedStmt}
+use Rattle.query_lang.specs.Blocks.{block_of}
+use Rattle.query_lang.specs.Folds.{fold_states, fold_block}
+use Rattle.fold_class.specs.declared.class.Algebra.{Algebra}
+use Rattle.fold_class.specs.declared.class.Kind.{Kind}
+use Rattle.fold_class.specs.declared.class.Kind.TheVariants.{Pure, Affine}
+use Rattle.fold_class.specs.Tables.{all_below}
+use Rattle.fold_class.specs.Depth.{is_history}
+use Rattle.fold_class.specs.Kinds.{role, kinds_after, kinds_first, is_no_other, is_linear_by}
+use Rattle.fold_class.specs.Walk.{kinds_in, flag_in}
+
+pub start_first : (f : TypedFold) (n : ℕ) (history : List Bool) (start : List Kind) → n ≡ fold_states f → ((v : ℕ) → v < fold_states f → flag_in history v ≡ is_history f v) →
+    ((s : ℕ) → kinds_in start s ≡ (if nat_lt s n then (if flag_in history s then Pure else Affine) else Pure)) → kinds_in start ≡ kinds_first f
+start_first f n history start en eh es = fun_ext (λ s. es s ∙ ap (λ m. if nat_lt s m then (if flag_in history s then Pure else Affine) else Pure) en ∙ at s (nat_lt s (fold_states f)) refl)
+  where
+    at : (s : ℕ) (b : Bool) → nat_lt s (fold_states f) ≡ b → (if b then (if flag_in history s then Pure else Affine) else Pure) ≡ (if b then (if is_history f s then Pure else Affine) else Pure)
+    at s true e = let lt : s < fold_states f = grind (arith, nat_tests) in ap (λ z. if z then Pure else Affine) (eh s lt)
+    at s false e = refl
+
+pub linear_from : (f : TypedFold) (algebra : Algebra) (n : ℕ) (block : List TypedStmt) (start walked : List Kind) (b : Bool) → n ≡ fold_states f → block ≡ f.body → kinds_in start ≡ kinds_first f →
+    kinds_in walked ≡ kinds_after (role algebra) (block_of block) (kinds_in start) → b ≡ all_below n (λ v. is_no_other (kinds_in walked v)) → b ≡ is_linear_by algebra f
+linear_from f algebra n block start walked b en eb es ew e =
+    e
+    ∙ ap (λ m. all_below m (λ v. is_no_other (kinds_in walked v))) en
+    ∙ ap (λ z. all_below (fold_states f) (λ v. is_no_other (z v))) (ew ∙ ap (λ l. kinds_after (role algebra) (block_of l) (kinds_in start)) eb ∙ ap (kinds_after (role algebra) (fold_block f)) es)
+
+-- one variable more has its kind
+pub kind_step : (kinds : List Kind) (g : ℕ → Kind) (v : ℕ) (k : Kind) → v < length kinds → k ≡ g v → ((s : ℕ) → kinds_in kinds s ≡ (if nat_lt s v then g s else Pure)) →
+    (s : ℕ) → kinds_in (set kinds v k) s ≡ (if nat_lt s (v + 1) then g s else Pure)
+kind_step kinds g v k h e old s = at (s == v) refl
+  where
+    at : (b : Bool) → (s == v) ≡ b → kinds_in (set kinds v k) s ≡ (if nat_lt s (v + 1) then g s else Pure)
+    at true t =
+        let same : v ≡ s = grind (arith, nat_tests) in
+        let in_now : nat_lt s (v + 1) ≡ true = grind (arith, nat_tests) in
+        subst (λ j. kinds_in (set kinds v k) j ≡ g j) same (get_or-set_same kinds v k Pure h ∙ e) ∙ sym (ap (λ b. if b then g s else Pure) in_now)
+    at false t =
+        let off : s ≢ v = grind (arith, nat_tests) in
+        get_or-set_other kinds v s k Pure off ∙ old s ∙ ap (λ b. if b then g s else Pure) (same_test (nat_lt s v) refl off)
+      where
+        same_test : (b : Bool) → nat_lt s v ≡ b → s ≢ v → nat_lt s v ≡ nat_lt s (v + 1)
+        same_test true u off = let next : nat_lt s (v + 1) ≡ true = grind (arith, nat_tests) in u ∙ sym next
+        same_test false u off = let next : nat_lt s (v + 1) ≡ false = grind (arith, nat_tests) in u ∙ sym next
