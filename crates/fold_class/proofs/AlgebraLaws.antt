@@ -1,20 +1,19 @@
 -- Wrapping words are the algebra of sums, and words with an absent element that of maxima.
-use Rattle.std.proofs.Common.{◌≡◌, ℕ, ◌+◌, ◌-◌, ◌*◌, ◌%◌, ◌^◌, ◌<◌, ◌≤◌, min, max, refl, sym, ap, ◌∙◌, subst, arith}
+use Rattle.std.proofs.Common.{◌≡◌, ℕ, ◌+◌, ◌-◌, ◌%◌, ◌^◌, min, max, refl, ap, arith}
 use Rattle.std.proofs.Math.Nat.{mul_comm}
 use Rattle.query_lang.specs.declared.fold.Op.{Op}
-use Rattle.query_lang.specs.declared.fold.Op.TheVariants.{Mul, Div, Rem, Add, Sub, Shl, Shr, And, Xor, Or, Eq, Ne, Lt, Le, Gt, Ge, Both, Either, Max, Min, Sadd, Decay}
+use Rattle.query_lang.specs.declared.fold.Op.TheVariants.{Mul, Add, Sub, Max, Sadd}
 use Rattle.query_lang.specs.Words.{IsWord, op_value}
 use Rattle.coeff_algebra.specs.declared.wrapping.Wrapping64.{Wrapping64}
 use Rattle.coeff_algebra.specs.declared.max_plus.MaxPlus64.{MaxPlus64}
 use Rattle.coeff_algebra.specs.declared.max_plus.MaxPlus64.TheVariants.{Absent, Word}
-use Rattle.coeff_algebra.specs.Elements.{Elements, ElementLaws, IsWordOf}
+use Rattle.coeff_algebra.specs.Elements.{ElementLaws, IsWordOf}
 use Rattle.coeff_algebra.specs.WrappingModel.{IsWrapping}
 use Rattle.coeff_algebra.specs.WrappingLaws.{wrapping_laws}
 use Rattle.coeff_algebra.specs.MaxPlusModel.{IsMaxPlus}
 use Rattle.coeff_algebra.specs.MaxPlusLaws.{max_plus_laws}
-use Rattle.fold_class.specs.declared.class.Algebra.{Algebra}
 use Rattle.fold_class.specs.declared.class.Algebra.TheVariants.{Sums, Maxima}
-use Rattle.fold_class.specs.Kinds.{Role, Sum, Difference, Product, Outside, role}
+use Rattle.fold_class.specs.Kinds.{Sum, Difference, Product, role}
 use Rattle.fold_class.specs.Parts.{minus_one, IsAlgebraOf}
 use Rattle.fold_class.specs.Algebras.{sums, maxima}
 

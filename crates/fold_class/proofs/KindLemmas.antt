@@ -1,8 +1,7 @@
 -- What the walk with kinds says of a run over parts.
-use Rattle.std.proofs.Common.{◌≡◌, ◌≢◌, ℕ, zero, suc, ◌+◌, ◌<◌, ◌≤◌, Bool, true, false, not, ◌&&◌, ◌||◌, ◌==◌, nat_lt, if◌then◌else◌, List, [], ◌∷◌, ◌++◌, length, get_or, set, refl, sym, ap, ◌∙◌, subst, arith, length-set, length-append, get_or-set_same, get_or-set_other}
+use Rattle.std.proofs.Common.{◌≡◌, ◌≢◌, ℕ, ◌<◌, Bool, true, false, not, ◌==◌, if◌then◌else◌, List, ◌++◌, length, set, refl, sym, ap, ◌∙◌, subst, arith, length-set, length-append, get_or-set_same, get_or-set_other}
 use Rattle.std.proofs.lemmas.Bool.Decides.{nat_tests}
 use Rattle.std.proofs.lemmas.List.{set-get_or, set-append_left}
-use Rattle.query_lang.specs.declared.fold.Op.{Op}
 use Rattle.query_lang.specs.Terms.{Term, Literal, Read, Negation, Operation}
 use Rattle.query_lang.specs.Words.{flag, holds, op_value}
 use Rattle.query_lang.specs.Blocks.{Block, End, Set, Fork}
@@ -14,7 +13,7 @@ use Rattle.fold_class.specs.declared.class.Algebra.{Algebra}
 use Rattle.fold_class.specs.declared.class.Kind.{Kind}
 use Rattle.fold_class.specs.declared.class.Kind.TheVariants.{Pure, Affine}
 use Rattle.fold_class.specs.Kinds.{Role, Sum, Difference, Product, Outside, role, greater, product_kind, outside_kind, role_kind, expr_kind, marked, chosen_kinds, kinds_after}
-use Rattle.fold_class.specs.Parts.{Part, Fixed, Share, Lost, Shares, minus_one, parts, part_test, part_mask, part_choice, part_negation, part_operation}
+use Rattle.fold_class.specs.Parts.{Part, Fixed, Share, Lost, Shares, minus_one, parts, part_mask, part_choice, part_negation, part_operation}
 use Rattle.fold_class.specs.Fitting.{Allows}
 use Rattle.fold_class.specs.Tables.{update}
 

@@ -1,10 +1,10 @@
 -- What rows of shares give at the words of the linear variables.
-use Rattle.std.proofs.Common.{◌≡◌, ◌≢◌, ℕ, zero, suc, ◌+◌, ◌-◌, ◌^◌, ◌<◌, ◌≤◌, Bool, true, false, not, ◌==◌, nat_lt, if◌then◌else◌, refl, sym, ap, ◌∙◌, subst, arith}
+use Rattle.std.proofs.Common.{◌≡◌, ◌≢◌, ℕ, ◌<◌, ◌≤◌, Bool, true, false, ◌==◌, nat_lt, if◌then◌else◌, refl, sym, ap, ◌∙◌, subst, arith}
 use Rattle.std.proofs.lemmas.Bool.Decides.{nat_tests}
 use Rattle.query_lang.specs.declared.fold.Op.{Op}
-use Rattle.query_lang.specs.Words.{IsWord, flag, holds, op_value}
+use Rattle.query_lang.specs.Words.{IsWord, op_value}
 use Rattle.coeff_algebra.specs.Elements.{Elements, ElementLaws, IsWordOf}
-use Rattle.coeff_algebra.specs.Maps.{sum_below, map_apply, HasWord}
+use Rattle.coeff_algebra.specs.Maps.{sum_below, HasWord}
 use Rattle.coeff_algebra.proofs.MapLemmas.{sum_same, sum_nothing, sum_add, mul_sum, exchange, word_add, sum_word}
 use Rattle.fold_class.specs.declared.class.Algebra.{Algebra}
 use Rattle.fold_class.specs.Kinds.{Role, Sum, Difference, Product, Outside, role}

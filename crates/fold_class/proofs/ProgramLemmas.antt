@@ -1,10 +1,10 @@
 -- The rows that are made of a fold's code and the places of its variables are the fold's rows.
-use Rattle.std.proofs.Common.{◌≡◌, ℕ, zero, suc, ◌+◌, ◌*◌, ◌<◌, ◌≤◌, Bool, true, false, not, ◌||◌, nat_lt, if◌then◌else◌, List, [], ◌∷◌, length, get_or, slice_index, All, refl, sym, ap, ◌∙◌, subst, arith}
+use Rattle.std.proofs.Common.{◌≡◌, ℕ, zero, suc, ◌+◌, ◌*◌, ◌<◌, ◌≤◌, Bool, true, false, not, ◌||◌, if◌then◌else◌, List, [], ◌∷◌, length, get_or, slice_index, All, refl, sym, ap, ◌∙◌, subst, arith}
 use Rattle.std.proofs.Math.Nat.{mul-le-mul_left, mul-le-mul_right}
 use Rattle.query_lang.specs.declared.fold.TypedFold.{TypedFold}
 use Rattle.query_lang.specs.declared.typed.Class.{Class}
 use Rattle.query_lang.specs.declared.typed.Class.TheVariants.{Linear}
-use Rattle.query_lang.specs.Folds.{fold_states, fold_args, fold_block, IsValidFold}
+use Rattle.query_lang.specs.Folds.{fold_states, fold_block, IsValidFold}
 use Rattle.fold_code.specs.Code.{fold_instrs}
 use Rattle.fold_code.specs.Machine.{steps_of}
 use Rattle.fold_code.specs.Meaning.{IsCodeOf}
@@ -18,8 +18,8 @@ use Rattle.fold_class.specs.declared.class.Algebra.{Algebra}
 use Rattle.fold_class.specs.declared.class.Algebra.TheVariants.{Sums, Maxima}
 use Rattle.fold_class.specs.Depth.{is_history}
 use Rattle.fold_class.specs.Kinds.{is_linear_by, class_of, algebra_of}
-use Rattle.fold_class.specs.Step.{list_of, places, linear_places, history_places}
-use Rattle.fold_class.specs.Rows.{Rows, Origin, Remembered, Carried, rows_steps, element_size, leaves_in, IsWithin, AreSoundRows}
+use Rattle.fold_class.specs.Step.{places, linear_places, history_places}
+use Rattle.fold_class.specs.Rows.{Rows, Remembered, Carried, rows_steps, element_size, leaves_in, IsWithin, AreSoundRows}
 use Rattle.fold_class.specs.Program.{origin_of, origins_of, WritesAlgebra, IsRowsOf}
 use Rattle.fold_class.proofs.StepLemmas.{length-list_of, list_of_at}
 use Rattle.fold_class.proofs.AlgebraLaws.{sums_laws, maxima_laws, sums_are, maxima_are}

@@ -1,5 +1,5 @@
 -- The walk where only reads count gives what each variable reads.
-use Rattle.std.proofs.Common.{◌≡◌, ◌≢◌, ℕ, zero, suc, ◌<◌, ◌≤◌, Bool, true, false, not, ◌&&◌, ◌||◌, ◌==◌, nat_lt, if◌then◌else◌, List, [], ◌∷◌, set, length, get_or, refl, sym, ap, ◌∙◌, subst, arith}
+use Rattle.std.proofs.Common.{◌≡◌, ℕ, zero, suc, ◌<◌, ◌≤◌, Bool, true, false, ◌&&◌, ◌||◌, ◌==◌, nat_lt, if◌then◌else◌, List, [], ◌∷◌, set, length, refl, sym, ap, ◌∙◌, arith}
 use Rattle.std.proofs.lemmas.Bool.Decides.{nat_tests}
 use mathlib.Core.Path.{fun_ext}
 use Rattle.query_lang.specs.declared.fold.Op.{Op}
@@ -8,7 +8,7 @@ use Rattle.query_lang.specs.declared.fold.TypedFold.{TypedFold}
 use Rattle.query_lang.specs.Blocks.{Block, End, Set, Fork}
 use Rattle.query_lang.specs.Folds.{IsValidBlock, fold_states, fold_block}
 use Rattle.fold_class.specs.declared.class.Kind.{Kind}
-use Rattle.fold_class.specs.declared.class.Kind.TheVariants.{Pure, Affine}
+use Rattle.fold_class.specs.declared.class.Kind.TheVariants.{Pure}
 use Rattle.fold_class.specs.Tables.{update}
 use Rattle.fold_class.specs.Depth.{assigns, expr_reads, reads_after, reads_first, fold_reads}
 use Rattle.fold_class.specs.Kinds.{Role, Outside, greater, outside_kind, expr_kind, marked, chosen_kinds, kinds_after}

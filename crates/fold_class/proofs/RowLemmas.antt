@@ -1,5 +1,5 @@
 -- Parts that stand in words, one variable more, and entries of a map, one row more.
-use Rattle.std.proofs.Common.{◌≡◌, ◌≢◌, ℕ, zero, suc, ◌+◌, ◌*◌, ◌<◌, ◌≤◌, Bool, true, false, nat_lt, List, [], ◌∷◌, ◌++◌, map, length, get_or, drop, slice_index, All, refl, sym, ap, ◌∙◌, subst, arith, append_assoc}
+use Rattle.std.proofs.Common.{◌≡◌, ◌≢◌, ℕ, ◌+◌, ◌*◌, ◌<◌, ◌≤◌, Bool, true, false, nat_lt, List, [], ◌∷◌, ◌++◌, map, length, get_or, drop, slice_index, All, refl, sym, ap, ◌∙◌, subst, arith, append_assoc}
 use Rattle.std.proofs.lemmas.Bool.Decides.{nat_tests}
 use Rattle.std.proofs.lemmas.List.{drop_more}
 use Rattle.coeff_algebra.proofs.PlaceLemmas.{one_less}
@@ -8,7 +8,7 @@ use Rattle.coeff_algebra.specs.Elements.{Elements}
 use Rattle.coeff_algebra.specs.Maps.{stored_entry}
 use Rattle.fold_class.specs.Parts.{Part, Fixed, parts, column_shares}
 use Rattle.fold_class.specs.Step.{list_of, share_of}
-use Rattle.fold_class.specs.Rows.{Rows, rows_dimension, column_after, entry_of, fixed_word, Leaves}
+use Rattle.fold_class.specs.Rows.{Rows, rows_dimension, column_after, entry_of, fixed_word}
 use Rattle.fold_class.proofs.StepLemmas.{list_of_at}
 use Rattle.fold_class.proofs.StoredLemmas.{list_more}
 

@@ -1,5 +1,5 @@
 -- What the rows of a fold leave is one step of it.
-use Rattle.std.proofs.Common.{◌≡◌, ℕ, zero, suc, ◌+◌, ◌*◌, ◌<◌, ◌≤◌, Bool, true, false, not, ◌==◌, nat_lt, if◌then◌else◌, List, [], ◌∷◌, ◌++◌, map, length, get_or, slice_index, refl, sym, ap, ◌∙◌, subst, arith}
+use Rattle.std.proofs.Common.{◌≡◌, ℕ, zero, suc, ◌<◌, ◌≤◌, Bool, true, false, not, ◌==◌, nat_lt, if◌then◌else◌, List, [], ◌∷◌, ◌++◌, map, length, get_or, slice_index, refl, sym, ap, ◌∙◌, subst, arith}
 use Rattle.std.proofs.lemmas.Bool.Decides.{nat_tests}
 use Rattle.std.proofs.lemmas.List.{map-append, get_or_past, ext_get_or}
 use Rattle.query_lang.specs.declared.fold.TypedFold.{TypedFold}
@@ -14,10 +14,10 @@ use Rattle.coeff_algebra.proofs.MapLemmas.{sum_same}
 use Rattle.fold_class.specs.declared.class.Algebra.{Algebra}
 use Rattle.fold_class.specs.Depth.{is_history}
 use Rattle.fold_class.specs.Kinds.{is_linear_by}
-use Rattle.fold_class.specs.Parts.{Part, Fixed, Share, Lost, parts, row_shares, column_shares, row_value, IsAlgebraOf}
+use Rattle.fold_class.specs.Parts.{Part, Fixed, Share, Lost, parts, row_shares, column_shares, IsAlgebraOf}
 use Rattle.fold_class.specs.Step.{list_of, rank, dimension, places, linear_places, history_places, words_at, step_rows, first_column, step_column, share_of}
 use Rattle.fold_class.specs.StepMap.{Fitting, IsStepOf}
-use Rattle.fold_class.specs.Rows.{Rows, Origin, Remembered, Carried, rows_dimension, first_part, column_after, entry_of, fixed_word, Leaves}
+use Rattle.fold_class.specs.Rows.{Rows, Remembered, Carried, rows_dimension, first_part, column_after, entry_of, fixed_word, Leaves}
 use Rattle.fold_class.specs.Program.{IsStateWith, IsStepFrom, origin_of, origins_of}
 use Rattle.fold_class.proofs.StepLemmas.{length-list_of, is_step}
 use Rattle.fold_class.proofs.Columns.{column_of, get_or-map, step_column_is}

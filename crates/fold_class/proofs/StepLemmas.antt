@@ -1,13 +1,12 @@
 -- The rows of a step stand for the state after the body.
-use Rattle.std.proofs.Common.{◌≡◌, ◌≢◌, ℕ, zero, suc, ◌+◌, ◌-◌, ◌<◌, ◌≤◌, Bool, true, false, not, ◌==◌, nat_lt, if◌then◌else◌, List, [], ◌∷◌, ◌++◌, map, length, get_or, set, slice_index, refl, sym, ap, ◌∙◌, subst, arith, length-append}
+use Rattle.std.proofs.Common.{◌≡◌, ◌≢◌, ℕ, zero, suc, ◌+◌, ◌-◌, ◌<◌, ◌≤◌, Bool, true, false, ◌==◌, nat_lt, if◌then◌else◌, List, [], ◌∷◌, ◌++◌, map, length, get_or, slice_index, refl, sym, ap, ◌∙◌, subst, arith, length-append}
 use Rattle.std.proofs.lemmas.Bool.Decides.{nat_tests}
 use Rattle.std.proofs.lemmas.List.{get_or_append_left, get_or-append_right, get_or_push}
 use Rattle.query_lang.specs.declared.fold.TypedFold.{TypedFold}
 use Rattle.query_lang.specs.declared.fold.Op.TheVariants.{Add}
 use Rattle.query_lang.specs.Words.{IsWord}
-use Rattle.query_lang.specs.Folds.{body, after, fold_states, fold_args, fold_block, IsValidFold}
+use Rattle.query_lang.specs.Folds.{body, fold_states, fold_args, fold_block}
 use Rattle.fold_code.specs.Machine.{Domain, at}
-use Rattle.fold_code.specs.Tree.{after_in}
 use Rattle.fold_code.proofs.Runs.{length-after}
 use Rattle.coeff_algebra.specs.Elements.{Elements, ElementLaws, IsWordOf}
 use Rattle.coeff_algebra.specs.Maps.{sum_below, HasWord}
@@ -23,7 +22,7 @@ use Rattle.fold_class.specs.Step.{list_of, rank, dimension, first_row, step_rows
 use Rattle.fold_class.specs.StepMap.{Fitting, IsStepOf}
 use Rattle.fold_class.proofs.TableLemmas.{below_at}
 use Rattle.fold_class.proofs.PartLemmas.{lift_stands, lift_has}
-use Rattle.fold_class.proofs.PartRuns.{AllStand, VarsStand, live_stands}
+use Rattle.fold_class.proofs.PartRuns.{AllStand, live_stands}
 use Rattle.fold_class.proofs.KindLemmas.{AllAllowed, live_allowed}
 use Rattle.fold_class.proofs.HistoryKinds.{history_pure}
 

@@ -1,16 +1,16 @@
 -- The walk over a block is that over its first statement and then that over the rest.
-use Rattle.std.proofs.Common.{◌≡◌, ◌≢◌, ℕ, zero, suc, ◌+◌, ◌<◌, ◌≤◌, Bool, true, false, ◌==◌, if◌then◌else◌, List, [], ◌∷◌, length, get_or, set, drop, refl, sym, ap, ◌∙◌, subst, arith, get_or-set_same, get_or-set_other}
+use Rattle.std.proofs.Common.{◌≡◌, ◌≢◌, ℕ, ◌+◌, ◌<◌, ◌≤◌, Bool, true, false, ◌==◌, if◌then◌else◌, List, length, get_or, set, drop, refl, sym, ap, ◌∙◌, subst, arith, get_or-set_same, get_or-set_other}
 use Rattle.std.proofs.lemmas.Bool.Decides.{nat_tests}
 use Rattle.std.proofs.lemmas.List.{drop_more, drop_all}
 use mathlib.Core.Path.{fun_ext}
 use Rattle.query_lang.specs.declared.fold.Op.{Op}
 use Rattle.query_lang.specs.declared.fold.TypedExpr.{TypedExpr}
-use Rattle.query_lang.specs.declared.fold.TypedStmt.{TypedStmt, Assign, If}
+use Rattle.query_lang.specs.declared.fold.TypedStmt.{TypedStmt, If}
 use Rattle.query_lang.specs.Terms.{term_of}
 use Rattle.query_lang.specs.Blocks.{Block, End, Set, Fork, followed, stmt_block, block_of}
-use Rattle.query_lang.proofs.TreeLemmas.{block_if, block_assign}
+use Rattle.query_lang.proofs.TreeLemmas.{block_if}
 use Rattle.fold_class.specs.declared.class.Kind.{Kind}
-use Rattle.fold_class.specs.declared.class.Kind.TheVariants.{Pure, Affine}
+use Rattle.fold_class.specs.declared.class.Kind.TheVariants.{Pure}
 use Rattle.fold_class.specs.Tables.{update}
 use Rattle.fold_class.specs.Kinds.{Role, greater, expr_kind, marked, chosen_kinds, kinds_after}
 use Rattle.fold_class.specs.Walk.{kinds_in, AssignsBelow}

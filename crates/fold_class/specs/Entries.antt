@@ -1,5 +1,5 @@
 -- What an entry of a fold's epoch stands for.
-use Rattle.std.specs.Prelude.{◌≡◌, ℕ, ◌+◌, ◌<◌, ◌≤◌, min, false, true, List, length, take, map, slice_index}
+use Rattle.std.specs.Prelude.{◌≡◌, ℕ, ◌<◌, ◌≤◌, List, length, take, slice_index}
 use Rattle.query_lang.specs.declared.fold.TypedFold.{TypedFold}
 use Rattle.query_lang.specs.Words.{AreWords}
 use Rattle.query_lang.specs.Folds.{folded, fold_states, initial_state}

@@ -1,5 +1,5 @@
 -- The kinds of expressions and variables, and the class of a fold.
-use Rattle.std.specs.Prelude.{◌≡◌, ℕ, Bool, true, false, ◌&&◌, ◌||◌, ◌==◌, nat_lt, if◌then◌else◌}
+use Rattle.std.specs.Prelude.{ℕ, Bool, true, false, ◌||◌, nat_lt, if◌then◌else◌}
 use Rattle.query_lang.specs.declared.fold.Op.{Op}
 use Rattle.query_lang.specs.declared.fold.Op.TheVariants.{Mul, Add, Sub, Max, Sadd}
 use Rattle.query_lang.specs.Terms.{Term, Literal, Read, Negation, Operation}

@@ -1,5 +1,5 @@
 -- What a fold's program is: its class, its depth, its code, and for a linear fold the affine map of one step.
-use Rattle.std.specs.Prelude.{◌≡◌, ℕ, ◌+◌, ◌*◌, ◌<◌, ◌≤◌, Bool, true, false, not, if◌then◌else◌, List, length, slice_index}
+use Rattle.std.specs.Prelude.{◌≡◌, ℕ, ◌+◌, ◌*◌, ◌<◌, ◌≤◌, not, if◌then◌else◌, List, length, slice_index}
 use Rattle.query_lang.specs.declared.fold.TypedFold.{TypedFold}
 use Rattle.query_lang.specs.declared.typed.Class.TheVariants.{Linear}
 use Rattle.query_lang.specs.Words.{AreWords}
@@ -17,7 +17,7 @@ use Rattle.fold_class.specs.Depth.{is_history, IsDepth}
 use Rattle.fold_class.specs.Kinds.{class_of, algebra_of}
 use Rattle.fold_class.specs.Algebras.{sums, maxima}
 use Rattle.fold_class.specs.Step.{dimension, places, linear_places, history_places, words_at, list_of}
-use Rattle.fold_class.specs.Rows.{Rows, Origin, Remembered, Carried, rows_dimension, rows_steps, element_size, LeavesRows}
+use Rattle.fold_class.specs.Rows.{Rows, Origin, Remembered, Carried, rows_steps, element_size, LeavesRows}
 
 -- a state of words in which the history variables have these words
 pub record IsStateWith (f : TypedFold) (history state : List ℕ) : Type 0 where

@@ -10,7 +10,7 @@ use Rattle.fold_class.specs.declared.class.Algebra.{Algebra}
 use Rattle.fold_class.specs.declared.class.Algebra.TheVariants.{Sums, Maxima}
 pub use Rattle.fold_class.specs.declared.origin.Origin.{Origin}
 pub use Rattle.fold_class.specs.declared.origin.Origin.TheVariants.{Remembered, Carried}
-use Rattle.fold_class.specs.Parts.{Part, Fixed, Share, Lost, parts, column_shares}
+use Rattle.fold_class.specs.Parts.{Part, Fixed, Share, parts, column_shares}
 use Rattle.fold_class.specs.Algebras.{sums, maxima}
 use Rattle.fold_class.specs.Step.{share_of}
 

@@ -1,9 +1,7 @@
 -- The affine map of one run of a fold's body on its linear variables.
-use Rattle.std.specs.Prelude.{◌≡◌, ℕ, zero, suc, ◌+◌, ◌<◌, Bool, true, false, not, ◌==◌, nat_lt, if◌then◌else◌, List, [], ◌∷◌, ◌++◌, map, length, slice_index}
+use Rattle.std.specs.Prelude.{ℕ, zero, suc, ◌+◌, Bool, not, ◌==◌, if◌then◌else◌, List, [], ◌∷◌, ◌++◌, map, slice_index}
 use Rattle.query_lang.specs.declared.fold.TypedFold.{TypedFold}
-use Rattle.query_lang.specs.Words.{IsWord}
 use Rattle.query_lang.specs.Folds.{fold_states, fold_block}
-use Rattle.fold_code.specs.Machine.{at}
 use Rattle.fold_code.specs.Tree.{after_in}
 use Rattle.coeff_algebra.specs.Elements.{Elements}
 use Rattle.fold_class.specs.declared.class.Algebra.{Algebra}

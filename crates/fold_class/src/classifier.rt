@@ -11,11 +11,11 @@ ghost use Rattle.fold_class.specs.Program.{IsRowsOf, IsLayoutOf, IsProgramOf};
 
 use crate::class::{Algebra, Kind};
 use crate::depth::{depth_of, history_of};
-use crate::layout::{places_of, Layout, Places};
+use crate::layout::{Layout, Places, places_of};
 use crate::program::FoldProgram;
 use crate::rows::AffineRows;
 use crate::walk::walk_block;
-use fold_code::{compile, FoldCode};
+use fold_code::{FoldCode, compile};
 use marple_base::Seq;
 use query_lang::{Class, TypedFold};
 use std::alloc::{AllocError, Global};
@@ -99,7 +99,11 @@ fn rows_of(
 {
     let code = compile(alloc, f)?;
     let places = places_of(alloc, f, history)?;
-    let Places { linear, history, origins } = places;
+    let Places {
+        linear,
+        history,
+        origins,
+    } = places;
     Ok(AffineRows::new(code, algebra, origins, linear, history))
 }
 
@@ -112,7 +116,11 @@ fn layout_of(alloc: Global, f: &TypedFold, history: &[bool]) -> Result<Layout, A
 {
     let initial = Seq::from_vec(f.initial.as_slice().to_vec(alloc)?);
     let places = places_of(alloc, f, history)?;
-    let Places { linear, history, origins: _ } = places;
+    let Places {
+        linear,
+        history,
+        origins: _,
+    } = places;
     Ok(Layout {
         linear,
         history,

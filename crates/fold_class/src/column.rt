@@ -8,7 +8,7 @@ ghost use Rattle.fold_class.specs.Parts.{parts, part_operation, part_negation, p
 ghost use Rattle.fold_class.specs.Step.{list_of};
 ghost use Rattle.fold_class.specs.Stored.{part_of, part_at, IfKeeps};
 
-use crate::class::{role_of, Algebra, Role};
+use crate::class::{Algebra, Role, role_of};
 use crate::part::Part;
 use coeff_algebra::Coeff;
 use fold_code::Instr;

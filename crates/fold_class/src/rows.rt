@@ -12,7 +12,7 @@ use crate::class::Algebra;
 use crate::column::{lift, load_part, run_column, store_part};
 use crate::origin::Origin;
 use crate::part::Part;
-use coeff_algebra::{store_at, Coeff, MaxPlus64, Wrapping64};
+use coeff_algebra::{Coeff, MaxPlus64, Wrapping64, store_at};
 use fold_code::FoldCode;
 use marple_base::{Seq, Steps};
 use std::alloc::{AllocError, Global};
@@ -125,7 +125,11 @@ fn write_column<C: Coeff, L: Ledger>(
     let dimension = linear.len();
     for (row, v) in linear.iter().enumerate() {
         let part: Part<C> = load_part(scratch, *v as usize);
-        store_at(map, row * (dimension + 1) + column, share(part, column, dimension));
+        store_at(
+            map,
+            row * (dimension + 1) + column,
+            share(part, column, dimension),
+        );
         tick_words(C::WORDS, steps);
     }
 }
@@ -246,7 +250,11 @@ impl AffineRows {
         }
         self.column_into::<C, L>(dimension, history, args, map, scratch, steps);
         write_history::<C, L>(
-            self.history.as_slice(), self.origins.len(), scratch, history, steps,
+            self.history.as_slice(),
+            self.origins.len(),
+            scratch,
+            history,
+            steps,
         );
     }
 

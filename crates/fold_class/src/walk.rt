@@ -7,7 +7,7 @@ ghost use Rattle.fold_class.specs.Kinds.{role, greater, product_kind, outside_ki
 ghost use Rattle.fold_class.specs.Tables.{update};
 ghost use Rattle.fold_class.specs.Walk.{kinds_in, roles_of, AssignsBelow};
 
-use crate::class::{role_of, Algebra, Kind, Role};
+use crate::class::{Algebra, Kind, Role, role_of};
 use query_lang::{Op, TypedExpr, TypedStmt};
 
 // The greater kind.
@@ -77,7 +77,9 @@ fn kind_of(walk: Option<Algebra>, kinds: &[Kind], e: &TypedExpr) -> Kind
             }
         }
         TypedExpr::Not(inner) => combined(
-            Role::Outside, Kind::Pure, kind_of(walk, kinds, inner.get()),
+            Role::Outside,
+            Kind::Pure,
+            kind_of(walk, kinds, inner.get()),
         ),
         TypedExpr::Binary(op, left, right) => {
             let first = kind_of(walk, kinds, left.get());

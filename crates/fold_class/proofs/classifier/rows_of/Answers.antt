@@ -1,4 +1,4 @@
-use Rattle.std.proofs.Common.{refl, sym, subst}
+use Rattle.std.proofs.Common.{sym, subst}
 use Rattle.fold_class.specs.Rows.{Rows}
 use Rattle.fold_class.specs.Program.{IsRowsOf}
 use Rattle.fold_class.proofs.ProgramLemmas.{sound_rows, rows_are}

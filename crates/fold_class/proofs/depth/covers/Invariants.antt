@@ -1,4 +1,4 @@
-use Rattle.std.proofs.Common.{◌≡◌, ℕ, Bool, not, ◌||◌}
+use Rattle.std.proofs.Common.{◌≡◌, not, ◌||◌}
 use Rattle.fold_class.specs.Tables.{all_below}
 use Rattle.fold_class.specs.Walk.{flag_in}
 use Rattle.fold_class.proofs.depth.covers.Given as goal

@@ -1,4 +1,4 @@
-use Rattle.std.proofs.Common.{◌≡◌, ℕ, ◌<◌, Bool, not, ◌||◌}
+use Rattle.std.proofs.Common.{◌≡◌, ℕ, ◌<◌, not, ◌||◌}
 use Rattle.query_lang.specs.Folds.{fold_states}
 use Rattle.fold_class.specs.Tables.{all_below}
 use Rattle.fold_class.specs.Depth.{fold_reads}

@@ -1,4 +1,4 @@
-use Rattle.std.proofs.Common.{◌≡◌, ℕ, ◌<◌, Bool, not, ◌&&◌, nat_lt, if◌then◌else◌, length}
+use Rattle.std.proofs.Common.{◌≡◌, ℕ, ◌<◌, not, ◌&&◌, nat_lt, if◌then◌else◌, length}
 use Rattle.fold_class.specs.Walk.{kinds_in, is_other, flag_in}
 use Rattle.fold_class.proofs.depth.strike.Given as goal
 

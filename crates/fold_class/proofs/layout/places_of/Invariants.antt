@@ -1,4 +1,4 @@
-use Rattle.std.proofs.Common.{◌≡◌, ◌≤◌, ℕ, Bool, not, length}
+use Rattle.std.proofs.Common.{◌≡◌, ◌≤◌, not, length}
 use Rattle.fold_class.specs.Depth.{is_history}
 use Rattle.fold_class.specs.Step.{places, list_of}
 use Rattle.fold_class.specs.Program.{origin_of}

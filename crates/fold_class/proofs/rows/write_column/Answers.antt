@@ -1,4 +1,4 @@
-use Rattle.std.proofs.Common.{◌≡◌, ◌≢◌, ℕ, ◌+◌, ◌*◌, arith, ap, ◌∙◌, sym, length, below_more}
+use Rattle.std.proofs.Common.{◌≡◌, ◌≢◌, ◌+◌, ◌*◌, arith, ap, ◌∙◌, length, below_more}
 use Rattle.fold_class.specs.Parts.{column_shares}
 use Rattle.fold_class.specs.Step.{share_of}
 use Rattle.fold_class.proofs.RowLemmas.{same_column, same_row}

@@ -1,4 +1,4 @@
-use Rattle.std.proofs.Common.{◌≡◌, drop, length}
+use Rattle.std.proofs.Common.{◌≡◌, drop}
 use Rattle.query_lang.specs.Blocks.{block_of}
 use Rattle.fold_class.specs.Kinds.{kinds_after}
 use Rattle.fold_class.specs.Walk.{kinds_in, roles_of, AssignsBelow}

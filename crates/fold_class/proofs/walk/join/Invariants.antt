@@ -1,4 +1,4 @@
-use Rattle.std.proofs.Common.{◌≡◌, ℕ, Bool, nat_lt, if◌then◌else◌}
+use Rattle.std.proofs.Common.{◌≡◌, ℕ, nat_lt, if◌then◌else◌}
 use Rattle.fold_class.specs.Kinds.{greater}
 use Rattle.fold_class.specs.Walk.{kinds_in}
 use Rattle.fold_class.proofs.walk.join.Given as goal

@@ -1,4 +1,4 @@
-use Rattle.std.proofs.Common.{◌≡◌, ℕ, ◌<◌, List, All, length, subst, sym, ap, ◌∙◌}
+use Rattle.std.proofs.Common.{ℕ, ◌<◌, All, length, subst, sym, ap, ◌∙◌}
 use Rattle.fold_class.specs.Stored.{part_at}
 use Rattle.fold_class.specs.Rows.{AreSoundRows}
 use Rattle.fold_class.proofs.RowLemmas.{entries_from}

@@ -1,4 +1,4 @@
-use Rattle.std.proofs.Common.{◌≡◌, ◌≢◌, ℕ, ◌+◌, ◌*◌, ◌<◌, ◌≤◌, Bool, true, false, nat_lt, List, All, length, subst, sym, ap, ◌∙◌, arith, below_more}
+use Rattle.std.proofs.Common.{◌≡◌, ◌≢◌, ℕ, ◌<◌, All, length, subst, sym, ap, ◌∙◌, arith, below_more}
 use Rattle.coeff_algebra.specs.Maps.{stored_entry}
 use Rattle.fold_class.specs.Step.{list_of}
 use Rattle.fold_class.specs.Stored.{part_at}
