@@ -5,3 +5,4 @@ pub mod StoreWhole
 pub mod RowOrderFacts
 pub mod SortedFacts
 pub mod CopyFacts
+pub mod LawFacts

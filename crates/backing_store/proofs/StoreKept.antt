@@ -18,7 +18,7 @@ keys_counted words (stored ∷ rest) key size kept = by_test (key_eq key stored.
     (λ other. rw other (kept.0, keys_counted words rest key size kept.1))
 
 -- a key that isn't there isn't there after an epoch of another
-missing_counted : (keys : List StoredKey) (key other : Key) → number_of keys other ≡ length keys → key_eq key other ≡ false
+pub missing_counted : (keys : List StoredKey) (key other : Key) → number_of keys other ≡ length keys → key_eq key other ≡ false
     → number_of (with_epoch keys key) other ≡ length (with_epoch keys key)
 missing_counted [] key other missing apart = rw (key_eq-sym_false key other apart) refl
 missing_counted (stored ∷ rest) key other missing apart = by_test (key_eq other stored.key)

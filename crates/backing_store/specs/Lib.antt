@@ -5,3 +5,4 @@ pub mod Lending
 pub mod StoreLending
 pub mod SortedRows
 pub mod RowOrder
+pub mod StoreLaws
