@@ -5,7 +5,8 @@ use Rattle.query_lang.specs.declared.token.Token.{Token}
 use Rattle.query_grammar.specs.declared.stop.Counts.{Counts}
 use Rattle.query_grammar.specs.Language.{Leaf, tokens_of, Chain, Chained}
 use Rattle.query_grammar.specs.Parser.{Limits, Outcome, Done, Stopped, Parser, and_then, next_is, linked, next_turn, chain_turns, chained}
-use Rattle.query_grammar.proofs.Parses.{SameNext, Found, Meets, Reads, reads, passes, Begins, nothing, something, Parses, starts_of, next_starts, next_clear, next_of, same_next, fewer, tokens-append, pays_both, shorter}
+use Rattle.query_grammar.proofs.Parses.{SameNext, Found, Meets, Reads, reads, passes, Begins, nothing, something, Parses, starts_of, next_starts, next_clear, next_of, same_next, fewer, tokens-append, pays_both}
+use Rattle.query_grammar.proofs.Repeats.{shorter}
 
 module _ {A B : Type 0} (m : Limits) (T : List Leaf → A ⊎ B → Type 0) (p : Parser (A ⊎ B)) (test : Token → Bool)
     (pm : (c : Counts) (ts : List Token) → Meets m T p c ts (p c ts)) (pb : (w : List Leaf) (v : A ⊎ B) → T w v → Begins test false w) where

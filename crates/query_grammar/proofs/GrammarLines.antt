@@ -17,7 +17,9 @@ use Rattle.query_grammar.specs.Parser.{Limits, Limited, Unlimited, Parser, word,
 use Rattle.query_grammar.specs.Kinds.{one_of, among, kind, kind_number, is, name, name_of, number, number_of, operator, kinds_of, sign, keyword}
 use Rattle.query_grammar.specs.Grammar.{Token_of, After, Before, Parens, Brackets, Separated, Listed, Operators, either_ops, both_ops, comparing_ops, or_ops, xor_ops, and_ops, shift_ops, sum_ops, product_ops, functions, Level, Atom, Primary, Unary, Product, Sum, Shift, BitAnd, BitXor, BitOr, Comparison, Conjunction, Disjunction, Expression, Assignment, Emission, Block, IfPart, IfStatement, Statement_at, StateVariable, Parameters, Fold, Filter, ColumnOf, Mapping, Pairing, KeyOf, Group, Best, Streaming, Stream, Finishing, Final, Print, ItemOf, Query}
 use Rattle.query_grammar.specs.Reading.{token_of, after, before, parens, brackets, separated, listed_by, blocked, atom_starts, primary_starts, expr_starts, level, atom, primary, unary, product, sum, shift, bit_and, bit_xor, bit_or, comparison, conjunction, disjunction, expr_at, assignment, emission, stmt_starts, block, if_part, if_statement, statement, stmt_at, state_variable, parameters, fold_def, filter_of, column_of, mapping, pairing, key_of, group, best, streaming, stream, finishing, final, print, item, item_starts, query}
-use Rattle.query_grammar.proofs.Parses.{Parses, is_some_of, parses_wider, parses_wider_on, parses_blocked, parses_null_then, parses_word}
+use Rattle.query_grammar.proofs.Parses.{Parses, is_some_of, parses_wider, parses_wider_on, parses_word}
+use Rattle.query_grammar.proofs.Choices.{parses_blocked}
+use Rattle.query_grammar.proofs.Sequences.{parses_null_then}
 use Rattle.query_grammar.proofs.Lines.{disjoint, disjoint_is, Line, EndFree, free_word, free_both, line_word, line_then, line_then_null, line_null_then, line_either, line_once, line_repeated, line_meaning, line_sets, line_chained, more_left, more_right, less_left}
 
 -- ---- words

@@ -1,8 +1,12 @@
 pub mod Parses
+pub mod Sequences
+pub mod Choices
+pub mod Repeats
 pub mod Chains
 pub mod Lines
 pub mod GrammarLines
 pub mod Nests
+pub mod NestLines
 pub mod Depths
 pub mod Splits
 pub mod Runs

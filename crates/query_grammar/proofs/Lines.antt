@@ -6,7 +6,10 @@ use Rattle.query_grammar.specs.Language.{Role, Leaf, Word, Then, Repeated, AtMos
 use Rattle.query_grammar.specs.Parser.{Limits, Parser, word, followed_by, mapped, at_most_once, either, repeated, chained}
 use Rattle.query_grammar.specs.Kinds.{one_of, among, kind}
 use Rattle.query_grammar.proofs.Chains.{parses_chained}
-use Rattle.query_grammar.proofs.Parses.{Parses, is_some_of, parses_word, parses_then, parses_null_then, parses_mapped, parses_either, parses_once, parses_repeated, parses_wider, parses_wider_on}
+use Rattle.query_grammar.proofs.Parses.{Parses, is_some_of, parses_word, parses_wider, parses_wider_on}
+use Rattle.query_grammar.proofs.Sequences.{parses_then, parses_null_then, parses_mapped}
+use Rattle.query_grammar.proofs.Choices.{parses_either, parses_once}
+use Rattle.query_grammar.proofs.Repeats.{parses_repeated}
 
 abbrev pub disjoint : List ℕ → List ℕ → Bool
 disjoint [] ys = true

@@ -2,21 +2,16 @@
 use Rattle.std.proofs.Common.{◌≡◌, ℕ, zero, suc, ◌+◌, ◌<◌, ◌≤◌, Bool, true, false, cond, eqb, List, [], ◌∷◌, ◌++◌, length, Option, Some, None, refl, sym, ap, subst, ◌∙◌, append_assoc, arith, inl, inr, ◌⊎◌}
 use Rattle.std.proofs.lemmas.Bool.{eqb-true}
 use Rattle.query_lang.specs.declared.fault.Span.{Span}
-use Rattle.query_lang.specs.declared.query.Expr.{Expr}
-use Rattle.query_lang.specs.declared.query.Stmt.{Stmt}
-use Rattle.query_lang.specs.declared.token.Word.TheVariants as words
-use Rattle.query_lang.specs.declared.token.Mark.TheVariants as marks
 use Rattle.query_lang.specs.declared.token.TokenKind.{TokenKind}
-use Rattle.query_lang.specs.declared.token.TokenKind.TheVariants as kinds
 use Rattle.query_lang.specs.declared.token.Token.{Token}
 use Rattle.query_grammar.specs.declared.stop.Counts.{Counts}
 use Rattle.query_grammar.specs.declared.stop.Stop.{Stop}
 use Rattle.query_grammar.specs.declared.stop.Stop.TheVariants.{Unexpected, Nodes, Statements, Nesting}
-use Rattle.query_grammar.specs.Language.{Role, Plain, Node, Statement, Opening, Leaf, Language, Word, Then, Repeated, AtMostOnce, Either, Meaning, Chained}
+use Rattle.query_grammar.specs.Language.{Role, Plain, Node, Statement, Opening, Leaf, Word, Then, Repeated, AtMostOnce, Either, Meaning, Chained}
 use Rattle.query_grammar.specs.Parser.{Limited, Outcome, Done, Stopped, Parser, charge, limit_of, paid, taken, word, and_then, followed_by, mapped, next_is, at_most_once, either, turns, repeated, linked, next_turn, chain_turns, chained}
-use Rattle.query_grammar.specs.Kinds.{one_of, among, kind, kind_number, is, name, number, operator, kinds_of, sign, keyword}
-use Rattle.query_grammar.specs.Grammar.{Token_of, After, Before, Between, Parens, Brackets, Separated, Listed, Operators, either_ops, both_ops, comparing_ops, or_ops, xor_ops, and_ops, shift_ops, sum_ops, product_ops, functions, Level, Primary, Unary, Product, Sum, Shift, BitAnd, BitXor, BitOr, Comparison, Conjunction, Disjunction, Expression, Assignment, Emission, Block, IfPart, IfStatement, Statement_at, StateVariable, Parameters, Fold, Filter, Mapping, Pairing, Group, Best, Stream, Final, Print}
-use Rattle.query_grammar.specs.Reading.{after, before, between, parens, brackets, separated, listed_by, blocked, blocked_at, atom_starts, expr_starts, level, primary, unary, product, sum, shift, bit_and, bit_xor, bit_or, comparison, conjunction, disjunction, expr_at, assignment, emission, empty_parens, stmt_starts, block, if_part, if_statement, statement, stmt_at, state_variable, parameters, fold_def, filter_of, mapping, pairing, group, best, stream, final, print, item, item_starts, query}
+use Rattle.query_grammar.specs.Kinds.{one_of, among, kind, kind_number, is, name, number, operator, kinds_of}
+use Rattle.query_grammar.specs.Grammar.{Operators}
+use Rattle.query_grammar.specs.Reading.{blocked, blocked_at}
 use Rattle.query_grammar.specs.Fault.{opening, closing, opens, closes, opened, closed, IsShallow}
 use Rattle.query_grammar.proofs.Parses.{is_some_of}
 use Rattle.query_grammar.proofs.Lines.{disjoint, disjoint_is, less_left, less_right}
@@ -149,7 +144,7 @@ nests_word {A} {role} {takes} {e} up down h = record { meets = λ c ts. meets c 
     meets c [] = none_reached e []
     meets c (t ∷ ts) = take c t ts (takes t) refl
 
-nests_then : {A B : Type 0} {L : List Leaf → A → Type 0} {M : List Leaf → B → Type 0} {p : Parser A} {q : Parser B} {u d u' d' e' e : ℕ} → Nests L p u d e → Nests M q u' d' e' → u + e' ≡ d + e → Nests (Then L M) (followed_by p q) (u + u') (d + d') e
+pub nests_then : {A B : Type 0} {L : List Leaf → A → Type 0} {M : List Leaf → B → Type 0} {p : Parser A} {q : Parser B} {u d u' d' e' e : ℕ} → Nests L p u d e → Nests M q u' d' e' → u + e' ≡ d + e → Nests (Then L M) (followed_by p q) (u + u') (d + d') e
 nests_then {A} {B} {L} {M} {p} {q} {u} {d} {u'} {d'} {e'} {e} f g h = record { meets = λ c ts. first ts (p c ts) (f.meets c ts) }
   where
     second : (ts : List Token) (a : A) (mid : List Token) → Level_is u d e ts mid → (o : Outcome B) → LevelMeets u' d' e' mid o → LevelMeets {A = A × B} (u + u') (d + d') e ts (and_then o (λ b c rest. Done (a, b) c rest))
@@ -160,28 +155,28 @@ nests_then {A} {B} {L} {M} {p} {q} {u} {d} {u'} {d'} {e'} {e} f g h = record { m
     first ts (Done a c mid) l = second ts a mid l (q c mid) (g.meets c mid)
     first ts (Stopped k rest) l = l
 
-nests_level : {A : Type 0} {L : List Leaf → A → Type 0} {p : Parser A} {u d e : ℕ} → (u' d' : ℕ) → u + d' ≡ u' + d → Nests L p u d e → Nests L p u' d' e
+pub nests_level : {A : Type 0} {L : List Leaf → A → Type 0} {p : Parser A} {u d e : ℕ} → (u' d' : ℕ) → u + d' ≡ u' + d → Nests L p u d e → Nests L p u' d' e
 nests_level {A} {L} {p} {u} {d} {e} u' d' h f = record { meets = λ c ts. go ts (p c ts) (f.meets c ts) }
   where
     go : (ts : List Token) (o : Outcome A) → LevelMeets u d e ts o → LevelMeets u' d' e ts o
     go ts (Done a c rest) l = changed u d u' d' e ts rest h l
     go ts (Stopped k rest) l = l
 
-nests_mapped : {A B : Type 0} {f : A → B} {L : List Leaf → A → Type 0} {p : Parser A} {u d e : ℕ} → Nests L p u d e → Nests (Meaning f L) (mapped f p) u d e
+pub nests_mapped : {A B : Type 0} {f : A → B} {L : List Leaf → A → Type 0} {p : Parser A} {u d e : ℕ} → Nests L p u d e → Nests (Meaning f L) (mapped f p) u d e
 nests_mapped {A} {B} {f} {L} {p} {u} {d} {e} g = record { meets = λ c ts. go ts (p c ts) (g.meets c ts) }
   where
     go : (ts : List Token) (o : Outcome A) → LevelMeets u d e ts o → LevelMeets u d e ts (and_then o (λ a c' rest. Done (f a) c' rest))
     go ts (Done a c rest) l = l
     go ts (Stopped k rest) l = l
 
-nests_either : {A : Type 0} {L M : List Leaf → A → Type 0} {p q : Parser A} {u d e : ℕ} → (test : Token → Bool) → Nests L p u d e → Nests M q u d e → Nests (Either L M) (either test p q) u d e
+pub nests_either : {A : Type 0} {L M : List Leaf → A → Type 0} {p q : Parser A} {u d e : ℕ} → (test : Token → Bool) → Nests L p u d e → Nests M q u d e → Nests (Either L M) (either test p q) u d e
 nests_either {A} {L} {M} {p} {q} {u} {d} {e} test f g = record { meets = λ c ts. go c ts (next_is test ts) }
   where
     go : (c : Counts) (ts : List Token) (b : Bool) → LevelMeets u d e ts (cond b (p c ts) (q c ts))
     go c ts true = f.meets c ts
     go c ts false = g.meets c ts
 
-nests_once : {A : Type 0} {L : List Leaf → A → Type 0} {p : Parser A} {e : ℕ} → (test : Token → Bool) → Nests L p 0 0 e → Nests (AtMostOnce L) (at_most_once test p) 0 0 e
+pub nests_once : {A : Type 0} {L : List Leaf → A → Type 0} {p : Parser A} {e : ℕ} → (test : Token → Bool) → Nests L p 0 0 e → Nests (AtMostOnce L) (at_most_once test p) 0 0 e
 nests_once {A} {L} {p} {e} test f = record { meets = λ c ts. go c ts (next_is test ts) }
   where
     some : (ts : List Token) (o : Outcome A) → LevelMeets 0 0 e ts o → LevelMeets 0 0 e ts (and_then o (λ a c' rest. Done (Some a) c' rest))
@@ -208,7 +203,7 @@ nests_turns {A} {L} {p} {e} test (suc n) f = let g = nests_turns test n f in rec
     go g c ts true = first g ts (p c ts) (f.meets c ts)
     go g c ts false = none_read e ts
 
-nests_repeated : {A : Type 0} {L : List Leaf → A → Type 0} {p : Parser A} {e : ℕ} → (test : Token → Bool) → Nests L p 0 0 e → Nests (Repeated L) (repeated test p) 0 0 e
+pub nests_repeated : {A : Type 0} {L : List Leaf → A → Type 0} {p : Parser A} {e : ℕ} → (test : Token → Bool) → Nests L p 0 0 e → Nests (Repeated L) (repeated test p) 0 0 e
 nests_repeated {A} {L} {p} {e} test f = record { meets = λ c ts. (nests_turns test (length ts) f).meets c ts }
 
 nests_chain_turns : {A B : Type 0} {T : List Leaf → A ⊎ B → Type 0} {p : Parser (A ⊎ B)} {e : ℕ} → (test : Token → Bool) (n : ℕ) → Nests T p 0 0 e → Nests (Chained T) (chain_turns n test p) 0 0 e
@@ -228,7 +223,7 @@ nests_chain_turns {A} {B} {T} {p} {e} test (suc n) f = let g = nests_chain_turns
     go g c ts true = first g ts (p c ts) (f.meets c ts)
     go g c ts false = none_read e ts
 
-nests_chained : {A B : Type 0} {T : List Leaf → A ⊎ B → Type 0} {p : Parser (A ⊎ B)} {e : ℕ} → (test : Token → Bool) → Nests T p 0 0 e → Nests (Chained T) (chained test p) 0 0 e
+pub nests_chained : {A B : Type 0} {T : List Leaf → A ⊎ B → Type 0} {p : Parser (A ⊎ B)} {e : ℕ} → (test : Token → Bool) → Nests T p 0 0 e → Nests (Chained T) (chained test p) 0 0 e
 nests_chained {A} {B} {T} {p} {e} test f = record { meets = λ c ts. (nests_chain_turns test (length ts) f).meets c ts }
 
 -- ---- words
@@ -252,26 +247,26 @@ nests_flat : {A : Type 0} {role : Role} {takes : Token → Option A} {e : ℕ} �
     → Nests (Word role takes) (word Limited role takes) 0 0 e
 nests_flat {A} {role} {takes} {e} ks d s = nests_word 0 0 (λ t a h. let b = flat ks (kind t) d (s t (ap is_some_of h)) in (omega (arith, b.0, b.1), omega (arith, b.0)))
 
-nests_is : {role : Role} {e : ℕ} → (k : TokenKind) → opens (kind_number k) ≤ e → Nests (Word role (is k)) (word Limited role (is k)) (opens (kind_number k)) (closes (kind_number k)) e
+pub nests_is : {role : Role} {e : ℕ} → (k : TokenKind) → opens (kind_number k) ≤ e → Nests (Word role (is k)) (word Limited role (is k)) (opens (kind_number k)) (closes (kind_number k)) e
 nests_is {role} {e} k le = nests_word (opens (kind_number k)) (closes (kind_number k)) (λ t a h.
     let same = one_kind k t a h in
     let o : opens (kind t) ≡ opens (kind_number k) = ap opens same in
     let c : closes (kind t) ≡ closes (kind_number k) = ap closes same in
     (omega (arith, o, c), omega (arith, o, le)))
 
-nests_keyword : {role : Role} {e : ℕ} → (k : TokenKind) → disjoint (kind_number k ∷ []) (opening ++ closing) ≡ true → Nests (Word role (is k)) (word Limited role (is k)) 0 0 e
+pub nests_keyword : {role : Role} {e : ℕ} → (k : TokenKind) → disjoint (kind_number k ∷ []) (opening ++ closing) ≡ true → Nests (Word role (is k)) (word Limited role (is k)) 0 0 e
 nests_keyword k d = nests_flat (kind_number k ∷ []) d (is_kind k)
 
-nests_operator : {role : Role} {e : ℕ} → (ops : Operators) → disjoint (kinds_of ops) (opening ++ closing) ≡ true → Nests (Word role (operator ops)) (word Limited role (operator ops)) 0 0 e
+pub nests_operator : {role : Role} {e : ℕ} → (ops : Operators) → disjoint (kinds_of ops) (opening ++ closing) ≡ true → Nests (Word role (operator ops)) (word Limited role (operator ops)) 0 0 e
 nests_operator ops d = nests_flat (kinds_of ops) d (operator_kind ops)
 
-nests_name : {role : Role} {e : ℕ} → Nests (Word role name) (word Limited role name) 0 0 e
+pub nests_name : {role : Role} {e : ℕ} → Nests (Word role name) (word Limited role name) 0 0 e
 nests_name = nests_flat (0 ∷ []) refl (λ t h. name_kind_of t.kind t.span h)
 
-nests_number : {role : Role} {e : ℕ} → Nests (Word role number) (word Limited role number) 0 0 e
+pub nests_number : {role : Role} {e : ℕ} → Nests (Word role number) (word Limited role number) 0 0 e
 nests_number = nests_flat (1 ∷ []) refl (λ t h. number_kind_of t.kind t.span h)
 
-nests_blocked : {A : Type 0} → (L : List Leaf → A → Type 0) (k : TokenKind) → opens (kind_number k) ≡ 1 → Nests L (blocked k) 0 0 0
+pub nests_blocked : {A : Type 0} → (L : List Leaf → A → Type 0) (k : TokenKind) → opens (kind_number k) ≡ 1 → Nests L (blocked k) 0 0 0
 nests_blocked {A} L k bracket = record { meets = λ c ts. meets c ts }
   where
     go : (u : Token) (ts : List Token) (o : Option Span) → is k u ≡ o → LevelMeets {A = A} 0 0 0 (u ∷ ts) (blocked_at o (u ∷ ts))
@@ -281,140 +276,3 @@ nests_blocked {A} L k bracket = record { meets = λ c ts. meets c ts }
     meets : (c : Counts) (ts : List Token) → LevelMeets {A = A} 0 0 0 ts (blocked k c ts)
     meets c [] = none_reached 0 []
     meets c (u ∷ ts) = go u ts (is k u) refl
-
--- ---- the grammar
-
-nests_after : {A : Type 0} {L : List Leaf → A → Type 0} {p : Parser A} {e : ℕ} → (k : TokenKind) → disjoint (kind_number k ∷ []) (opening ++ closing) ≡ true → Nests L p 0 0 e → Nests (After k L) (after Limited k p) 0 0 e
-nests_after {A} {L} {p} {e} k d f = nests_mapped (nests_then (nests_keyword {e = e} k d) f refl)
-
-nests_before : {A : Type 0} {L : List Leaf → A → Type 0} {p : Parser A} {e : ℕ} → (k : TokenKind) → disjoint (kind_number k ∷ []) (opening ++ closing) ≡ true → Nests L p 0 0 e → Nests (Before L k) (before Limited p k) 0 0 e
-nests_before {A} {L} {p} {e} k d f = nests_mapped (nests_then f (nests_keyword {e = e} k d) refl)
-
-nests_between : {A : Type 0} {L : List Leaf → A → Type 0} {p : Parser A} {e : ℕ} → (s t : TokenKind) → opens (kind_number s) ≡ 1 → closes (kind_number s) ≡ 0 → opens (kind_number t) ≡ 0 → closes (kind_number t) ≡ 1 → Nests L p 0 0 e
-    → Nests (Between s L t) (between Limited s p t) 0 0 (suc e)
-nests_between {A} {L} {p} {e} s t os cs ot ct f =
-    nests_level 0 0 (omega (arith, os, cs, ot, ct)) (nests_mapped (nests_then (nests_is {e = suc e} s (omega (arith, os))) (nests_mapped (nests_then f (nests_is {e = e} t (omega (arith, ot))) refl)) (omega (arith, os, cs))))
-
-nests_parens : {A : Type 0} {L : List Leaf → A → Type 0} {p : Parser A} {e : ℕ} → Nests L p 0 0 e → Nests (Parens L) (parens Limited p) 0 0 (suc e)
-nests_parens f = nests_between (sign marks.OpenParen) (sign marks.CloseParen) refl refl refl refl f
-
-nests_brackets : {A : Type 0} {L : List Leaf → A → Type 0} {p : Parser A} {e : ℕ} → Nests L p 0 0 e → Nests (Brackets L) (brackets Limited p) 0 0 (suc e)
-nests_brackets f = nests_between (sign marks.OpenBracket) (sign marks.CloseBracket) refl refl refl refl f
-
-nests_comma : {A : Type 0} {L : List Leaf → A → Type 0} {p : Parser A} {e : ℕ} → Nests L p 0 0 e → Nests (After (sign marks.Comma) L) (after Limited (sign marks.Comma) p) 0 0 e
-nests_comma f = nests_after (sign marks.Comma) refl f
-
-nests_separated : {A : Type 0} {L : List Leaf → A → Type 0} {p : Parser A} {e : ℕ} → Nests L p 0 0 e → Nests (Separated L) (separated Limited p) 0 0 e
-nests_separated f = nests_mapped (nests_then f (nests_repeated (among (30 ∷ [])) (nests_comma f)) refl)
-
-nests_listed : {A : Type 0} {L : List Leaf → A → Type 0} {p : Parser A} {e : ℕ} → (xs : List ℕ) → Nests L p 0 0 e → Nests (Listed L) (listed_by Limited xs p) 0 0 e
-nests_listed xs f = nests_mapped (nests_once (among xs) (nests_separated f))
-
-nests_of_level : {L : Language Expr} {p : Parser Expr} {e : ℕ} → (ops : Operators) → disjoint (kinds_of ops) (opening ++ closing) ≡ true → Nests L p 0 0 e → Nests (Level ops L) (level Limited ops p) 0 0 e
-nests_of_level {L} {p} {e} ops d f = nests_mapped (nests_then f (nests_repeated (among (kinds_of ops)) (nests_then (nests_operator {e = e} ops d) f refl)) refl)
-
-nests_bit_or : {P : Language Expr} {p : Parser Expr} {e : ℕ} → Nests P p 0 0 e → Nests (BitOr P) (bit_or Limited p) 0 0 e
-nests_bit_or {P} {p} {e} f =
-    let un : Nests (Unary P) (unary Limited p) 0 0 e = nests_mapped (nests_then (nests_repeated (among (51 ∷ [])) (nests_keyword (sign marks.Bang) refl)) f refl) in
-    let pr : Nests (Product P) (product Limited p) 0 0 e = nests_of_level product_ops refl un in
-    let su : Nests (Sum P) (sum Limited p) 0 0 e = nests_of_level sum_ops refl pr in
-    let sh : Nests (Shift P) (shift Limited p) 0 0 e = nests_of_level shift_ops refl su in
-    let an : Nests (BitAnd P) (bit_and Limited p) 0 0 e = nests_of_level and_ops refl sh in
-    let xo : Nests (BitXor P) (bit_xor Limited p) 0 0 e = nests_of_level xor_ops refl an in
-    nests_of_level or_ops refl xo
-
-nests_disjunction : {P : Language Expr} {p : Parser Expr} {e : ℕ} → Nests P p 0 0 e → Nests (Disjunction P) (disjunction Limited p) 0 0 e
-nests_disjunction {P} {p} {e} f =
-    let bo : Nests (BitOr P) (bit_or Limited p) 0 0 e = nests_bit_or f in
-    let co : Nests (Comparison P) (comparison Limited p) 0 0 e = nests_mapped (nests_then bo (nests_once (among (kinds_of comparing_ops)) (nests_then (nests_operator {e = e} comparing_ops refl) bo refl)) refl) in
-    let cj : Nests (Conjunction P) (conjunction Limited p) 0 0 e = nests_of_level both_ops refl co in
-    nests_of_level either_ops refl cj
-
-nests_primary : {p : Parser Expr} {q : Parser (List Expr)} {e : ℕ} → (E : Language Expr) → Nests (Parens E) p 0 0 e → Nests (Parens (Listed E)) q 0 0 e → Nests (Primary E) (primary Limited p q) 0 0 e
-nests_primary {p} {q} {e} E f g = nests_either (among atom_starts)
-    (nests_either (among (1 ∷ [])) (nests_mapped nests_number) (nests_either (among (20 ∷ [])) (nests_mapped (nests_keyword (keyword words.Infinity) refl)) (nests_mapped nests_name)))
-    (nests_either (among (24 ∷ [])) f (nests_mapped (nests_then (nests_operator {e = e} functions refl) g refl)))
-
-nests_expr : (e : ℕ) → Nests (Expression (suc e)) (expr_at Limited e) 0 0 e
-unfolding expr_at
-nests_expr zero = nests_disjunction (nests_primary (Expression 0) (nests_blocked (Parens (Expression 0)) (sign marks.OpenParen) refl) (nests_blocked (Parens (Listed (Expression 0))) (sign marks.OpenParen) refl))
-nests_expr (suc e) = let f = nests_expr e in nests_disjunction (nests_primary (Expression (suc e)) (nests_parens f) (nests_parens (nests_listed expr_starts f)))
-
-nests_assignment : {E : Language Expr} {p : Parser Expr} {e : ℕ} → Nests E p 0 0 e → Nests (Assignment E) (assignment Limited p) 0 0 e
-nests_assignment {E} {p} {e} f = nests_mapped (nests_then (nests_name {e = e}) (nests_after (sign marks.Assign) refl (nests_before (sign marks.Semicolon) refl f)) refl)
-
-nests_if : {p : Parser Expr} {q : Parser (List Stmt)} {e : ℕ} → (E : Language Expr) (S : Language Stmt) → Nests (Parens E) p 0 0 e → Nests (Block S) q 0 0 e → Nests (IfStatement E S) (if_statement Limited p q) 0 0 e
-nests_if {p} {q} {e} E S f g =
-    let i : Nests (IfPart E S) (if_part Limited p q) 0 0 e = nests_then (nests_keyword {e = e} (keyword words.If) refl) (nests_then f g refl) refl in
-    nests_mapped (nests_then i (nests_chained (among (6 ∷ [])) (nests_after (keyword words.Else) refl (nests_either (among (28 ∷ [])) (nests_mapped g) (nests_mapped i)))) refl)
-
-nests_block : {p : Parser Stmt} {e : ℕ} → (S : Language Stmt) → Nests S p 0 0 e → Nests (Block S) (block Limited p) 0 0 (suc e)
-nests_block S f = nests_between (sign marks.OpenBrace) (sign marks.CloseBrace) refl refl refl refl (nests_repeated (among stmt_starts) f)
-
-abbrev Closing : Language (Span × Span)
-Closing = After (sign marks.OpenParen) (Then (Token_of (sign marks.CloseParen)) (Token_of (sign marks.Semicolon)))
-
-nests_emission : {p : Parser (Span × Span)} {e : ℕ} → Nests Closing p 0 0 e → Nests Emission (emission Limited p) 0 0 e
-nests_emission {p} {e} f = nests_mapped (nests_then (nests_keyword {e = e} (keyword words.Emit) refl) f refl)
-
-nests_empty : (e : ℕ) → Nests Closing (empty_parens Limited) 0 0 (suc e)
-nests_empty e = nests_level 0 0 refl (nests_mapped (nests_then (nests_is {e = suc e} (sign marks.OpenParen) (omega arith))
-    (nests_then (nests_is {e = e} (sign marks.CloseParen) (omega arith)) (nests_keyword {e = suc e} (sign marks.Semicolon) refl) (omega arith)) (omega arith)))
-
-nests_statement : {v p : Parser Expr} {q : Parser (List Stmt)} {r : Parser (Span × Span)} {e : ℕ} → (V E : Language Expr) (S : Language Stmt) → Nests V v 0 0 e → Nests (Parens E) p 0 0 e → Nests (Block S) q 0 0 e → Nests Closing r 0 0 e
-    → Nests (Either (Assignment V) (Either (IfStatement E S) Emission)) (statement Limited v p q r) 0 0 e
-nests_statement V E S a f g h = nests_either (among (0 ∷ [])) (nests_assignment a) (nests_either (among (5 ∷ [])) (nests_if E S f g) (nests_emission h))
-
-nests_stmt : (e : ℕ) → Nests (Statement_at (suc e)) (stmt_at Limited e) 0 0 e
-unfolding stmt_at
-nests_stmt zero = nests_statement (Expression 1) (Expression 0) (Statement_at 0) (nests_expr zero) (nests_blocked (Parens (Expression 0)) (sign marks.OpenParen) refl) (nests_blocked (Block (Statement_at 0)) (sign marks.OpenBrace) refl) (nests_blocked Closing (sign marks.OpenParen) refl)
-nests_stmt (suc e) = nests_statement (Expression (suc (suc e))) (Expression (suc e)) (Statement_at (suc e)) (nests_expr (suc e)) (nests_parens (nests_expr e)) (nests_block (Statement_at (suc e)) (nests_stmt e)) (nests_empty e)
-
--- ---- items, which stand in no bracket
-
-nests_variable : (e : ℕ) → Nests StateVariable (state_variable Limited) 0 0 e
-nests_variable e = nests_mapped (nests_then (nests_name {e = e}) (nests_once (among (32 ∷ [])) (nests_after (sign marks.Assign) refl nests_number)) refl)
-
-nests_parameters : (e : ℕ) → Nests Parameters (parameters Limited) 0 0 (suc (suc e))
-nests_parameters e = nests_parens (nests_then (nests_brackets (nests_listed (0 ∷ []) (nests_variable e))) (nests_comma (nests_brackets (nests_listed (0 ∷ []) (nests_name {e = e})))) refl)
-
-nests_fold : (e : ℕ) → Nests (Fold (suc (suc e))) (fold_def Limited (stmt_at Limited (suc e))) 0 0 (suc (suc e))
-nests_fold e = nests_mapped (nests_then (nests_keyword {e = suc (suc e)} (keyword words.Def) refl) (nests_then (nests_name {e = suc (suc e)}) (nests_then (nests_parameters e) (nests_block (Statement_at (suc (suc e))) (nests_stmt (suc e))) refl) refl) refl)
-
-nests_filter : (e : ℕ) → Nests (Filter (Expression (suc (suc e)))) (filter_of Limited (expr_at Limited (suc e))) 0 0 (suc (suc e))
-nests_filter e = nests_after (keyword words.Filter) refl (nests_parens (nests_then (nests_name {e = suc e}) (nests_comma (nests_expr (suc e))) refl))
-
-nests_mapping : (e : ℕ) → Nests (Mapping (Expression (suc e))) (mapping Limited (expr_at Limited e)) 0 0 (suc (suc e))
-nests_mapping e = nests_after (keyword words.Map) refl (nests_parens (nests_then (nests_name {e = suc e}) (nests_comma (nests_brackets (nests_separated
-    (nests_mapped (nests_then (nests_name {e = e}) (nests_after (sign marks.Assign) refl (nests_expr e)) refl))))) refl))
-
-nests_pairing : (e : ℕ) (k : TokenKind) → disjoint (kind_number k ∷ []) (opening ++ closing) ≡ true → Nests (Pairing k) (pairing Limited k) 0 0 (suc e)
-nests_pairing e k d = nests_after k d (nests_parens (nests_then (nests_name {e = e}) (nests_comma (nests_name {e = e})) refl))
-
-nests_group : (e : ℕ) → Nests Group (group Limited) 0 0 (suc (suc e))
-nests_group e = nests_after (keyword words.Groupby) refl (nests_parens (nests_then (nests_name {e = suc e}) (nests_comma (nests_then
-    (nests_brackets (nests_separated (nests_either (among (0 ∷ [])) (nests_mapped (nests_name {e = e})) (nests_mapped (nests_keyword kinds.FiveTuple refl))))) (nests_comma (nests_name {e = suc e})) refl)) refl))
-
-nests_best : (e : ℕ) → Nests Best (best Limited) 0 0 (suc e)
-nests_best e = nests_after (keyword words.Top) refl (nests_parens (nests_then (nests_name {e = e}) (nests_comma (nests_then (nests_name {e = e}) (nests_comma (nests_number {e = e})) refl)) refl))
-
-nests_stream : (e : ℕ) → Nests (Stream (Expression (suc (suc e))) (Expression (suc e))) (stream Limited (expr_at Limited (suc e)) (expr_at Limited e)) 0 0 (suc (suc e))
-nests_stream e = nests_mapped (nests_then (nests_name {e = suc (suc e)}) (nests_after (sign marks.Assign) refl (nests_before (sign marks.Semicolon) refl
-    (nests_either (among (8 ∷ [])) (nests_mapped (nests_filter e)) (nests_either (among (9 ∷ [])) (nests_mapped (nests_mapping e))
-    (nests_either (among (10 ∷ [])) (nests_mapped (nests_pairing (suc e) (keyword words.Zip) refl)) (nests_mapped (nests_group e))))))) refl)
-
-nests_final : (e : ℕ) → Nests (Final (Expression (suc (suc e))) (Expression (suc e))) (final Limited (expr_at Limited (suc e)) (expr_at Limited e)) 0 0 (suc (suc e))
-nests_final e = nests_mapped (nests_then (nests_keyword {e = suc (suc e)} (keyword words.Final) refl) (nests_then (nests_name {e = suc (suc e)}) (nests_after (sign marks.Assign) refl (nests_before (sign marks.Semicolon) refl
-    (nests_either (among (8 ∷ [])) (nests_mapped (nests_filter e)) (nests_either (among (9 ∷ [])) (nests_mapped (nests_mapping e))
-    (nests_either (among (11 ∷ [])) (nests_mapped (nests_group e)) (nests_either (among (14 ∷ [])) (nests_mapped (nests_pairing (suc e) (keyword words.Join) refl)) (nests_mapped (nests_best (suc e))))))))) refl) refl)
-
-nests_print : (e : ℕ) → Nests Print (print Limited) 0 0 e
-nests_print e = nests_mapped (nests_then (nests_keyword {e = e} (keyword words.Print) refl) (nests_before (sign marks.Semicolon) refl (nests_name {e = e})) refl)
-
-nests_item : (e : ℕ) → Nests (Either (Fold (suc (suc e))) (Either (Stream (Expression (suc (suc e))) (Expression (suc e))) (Either (Final (Expression (suc (suc e))) (Expression (suc e))) Print)))
-    (item Limited (stmt_at Limited (suc e)) (expr_at Limited (suc e)) (expr_at Limited e)) 0 0 (suc (suc e))
-nests_item e = nests_either (among (4 ∷ [])) (nests_fold e) (nests_either (among (0 ∷ [])) (nests_stream e) (nests_either (among (12 ∷ [])) (nests_final e) (nests_print (suc (suc e)))))
-
-pub nests_query : (e : ℕ) → Nests (Then (Repeated (Either (Fold (suc (suc e))) (Either (Stream (Expression (suc (suc e))) (Expression (suc e))) (Either (Final (Expression (suc (suc e))) (Expression (suc e))) Print)))) (Token_of kinds.End))
-    (query Limited (suc e) e) 0 0 (suc (suc e))
-nests_query e = nests_then (nests_repeated (among item_starts) (nests_item e)) (nests_keyword {e = suc (suc e)} kinds.End refl) refl

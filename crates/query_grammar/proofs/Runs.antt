@@ -15,7 +15,8 @@ use Rattle.query_grammar.specs.Grammar.{Query, Derives}
 use Rattle.query_grammar.specs.Reading.{query, item_starts}
 use Rattle.query_grammar.specs.Fault.{opens, opened, closed, IsShallow, BeginsQuery, counted}
 use Rattle.query_grammar.proofs.Parses.{Parses, Found, Halted, Meets, Reads, reads, passes, Stops, pays, pays-append}
-use Rattle.query_grammar.proofs.Nests.{Shallow, Level_is, reached_of, StopLevel, LevelMeets, nests_query}
+use Rattle.query_grammar.proofs.Nests.{Shallow, Level_is, reached_of, StopLevel, LevelMeets}
+use Rattle.query_grammar.proofs.NestLines.{nests_query}
 use Rattle.query_grammar.proofs.GrammarLines.{Deeper, here, under, parses_unlimited, parses_limited}
 use Rattle.query_grammar.proofs.Depths.{deeper_query}
 

@@ -1,19 +1,15 @@
 -- The query of a text is the one that the grammar relates to it, and its fault the first.
-use Rattle.std.proofs.Common.{◌≡◌, ℕ, zero, suc, ◌+◌, ◌<◌, ◌≤◌, Bool, true, false, cond, ltb, List, [], ◌∷◌, ◌++◌, length, drop, take, refl, sym, ap, subst, ◌∙◌, arith, Ok, Err, Result, ◌⊎◌, inl, inr}
+use Rattle.std.proofs.Common.{◌≡◌, ℕ, zero, suc, ◌+◌, ◌<◌, ◌≤◌, Bool, true, false, cond, ltb, List, [], ◌∷◌, length, drop, refl, sym, ap, subst, ◌∙◌, arith, Ok, Err, Result, ◌⊎◌, inl, inr}
 use Rattle.std.proofs.lemmas.Bool.{le-ltb, cases_lt}
 use Rattle.query_lang.specs.declared.fault.FaultKind.TheVariants.{QueryTooLong}
 use Rattle.query_lang.specs.declared.fault.QueryFault.{QueryFault}
-use Rattle.query_lang.specs.declared.fault.Span.{Span}
-use Rattle.query_lang.specs.declared.query.Item.{Item}
 use Rattle.query_lang.specs.declared.query.Query.{Query}
 use Rattle.query_lang.specs.declared.token.Piece.{Piece}
 use Rattle.query_lang.specs.declared.token.Piece.TheVariants as pieces
-use Rattle.query_lang.specs.declared.token.TokenKind.TheVariants.{End, Name}
+use Rattle.query_lang.specs.declared.token.TokenKind.TheVariants.{End}
 use Rattle.query_lang.specs.declared.token.Token.{Token}
 use Rattle.query_lang.specs.Lexis.{Cut, cut, cut_piece, fault_at, piece, token_at, tokens_of, with_front}
-use Rattle.query_grammar.specs.declared.stop.Counts.{Counts}
-use Rattle.query_grammar.specs.declared.stop.Stop.{Stop}
-use Rattle.query_grammar.specs.Fault.{HasEnd, IsAccepted, Says, StandsAt}
+use Rattle.query_grammar.specs.Fault.{HasEnd, Says}
 use Rattle.query_grammar.specs.Parser.{Outcome, Done, Stopped}
 use Rattle.query_grammar.specs.Reading.{parsed}
 use Rattle.query_grammar.specs.Texts.{IsQueryOf, IsFaultOf, too_long, in_lexis, in_grammar, answered, fault_of, with_names, parsed_cut, parsed_text}

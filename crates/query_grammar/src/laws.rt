@@ -37,11 +37,9 @@ pub fn query_is_found()
 /// A text gives a query exactly where that is the query that the grammar relates to it.
 pub fn query_of_text()
     ensures { (text : List ℕ) (q : Query) → (parsed_text text ≡ Ok q) ↔ IsQueryOf text q }
-{
-}
+{}
 
 /// A text gives a fault exactly where that is the first fault of the text.
 pub fn fault_of_text()
     ensures { (text : List ℕ) (fault : QueryFault) → (parsed_text text ≡ Err fault) ↔ IsFaultOf text fault }
-{
-}
+{}

@@ -1,6 +1,6 @@
 -- Each piece takes a byte.
-use Rattle.std.proofs.Common.{◌≡◌, ℕ, zero, suc, ◌+◌, ◌-◌, ◌^◌, ◌<◌, ◌≤◌, Bool, true, false, cond, ◌&&◌, ◌||◌, eqb, List, [], ◌∷◌, length, drop, take, Option, Some, None, refl, sym, ap, subst, ◌∙◌, arith, Ok, Err}
-use Rattle.std.specs.Prelude.{codes, nat_eq, nat_lt}
+use Rattle.std.proofs.Common.{◌≡◌, ℕ, zero, suc, ◌+◌, ◌<◌, ◌≤◌, Bool, true, false, cond, List, [], ◌∷◌, length, drop, take, Option, Some, None, refl, sym, ap, ◌∙◌, arith, Ok}
+use Rattle.std.specs.Prelude.{codes, nat_eq}
 use Rattle.std.specs.List.{prefix_len}
 use Rattle.std.specs.Str.{bytes_eq}
 use Rattle.std.specs.Str.Parse.{digits_value}
@@ -11,7 +11,6 @@ use Rattle.query_lang.specs.declared.token.Word.{Word}
 use Rattle.query_lang.specs.declared.token.Mark.{Mark}
 use Rattle.query_lang.specs.declared.token.Piece.{Piece}
 use Rattle.query_lang.specs.declared.token.Piece.TheVariants as pieces
-use Rattle.query_lang.specs.declared.token.TokenKind.{TokenKind}
 use Rattle.query_lang.specs.declared.token.TokenKind.TheVariants.{End, Name, FiveTuple}
 use Rattle.query_lang.specs.declared.fault.FaultKind.TheVariants.{BadByte}
 use Rattle.query_lang.specs.Names.{with_name, number_in}

@@ -1,9 +1,7 @@
-use Rattle.std.proofs.Common.{◌≡◌, ℕ, List, [], ◌∷◌, ◌++◌, Option, Some, true, false, slice_get, map, refl, sym, ap, subst, ◌∙◌}
+use Rattle.std.proofs.Common.{◌≡◌, ℕ, List, slice_get, sym, ap, ◌∙◌}
 use Rattle.std.proofs.lemmas.List.{length-map}
-use Rattle.std.specs.List.{list_any}
-use Rattle.std.specs.Option.{is_some}
 use Rattle.query_lang.specs.Names.{number_in, with_name}
-use Rattle.query_lang.proofs.NameFacts.{Key, is_key, texts_of, any_of, number_of, position_is, new_number, has_number, with_known, with_inserted}
+use Rattle.query_lang.proofs.NameFacts.{Key, texts_of, any_of, number_of, position_is, new_number, has_number, with_known, with_inserted}
 use Rattle.query_lang.proofs.names.Names.number.Goals as goal
 
 pub returns-in-Some-clause-number : goal.returns-in-Some-clause-number
