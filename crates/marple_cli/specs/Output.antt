@@ -1,7 +1,6 @@
 -- Which queries and traces are accepted, and what a command writes.
-use Rattle.std.specs.Prelude.{◌≡◌, ℕ, ◌^◌, ◌&&◌, Bool, true, suc, List, [], ◌∷◌, length, map, slice_index, Option, None, Some, is_some, Result, Ok, Err, if◌then◌else◌}
+use Rattle.std.specs.Prelude.{◌≡◌, ℕ, ◌^◌, ◌&&◌, Bool, true, false, List, [], ◌∷◌, length, map, slice_index, Option, None, Some, is_some, Result, Ok, Err, if◌then◌else◌}
 use Rattle.marple_base.specs.Field.{number_of, field_name}
-use Rattle.marple_base.specs.declared.field.Field.{Field}
 use Rattle.marple_base.specs.declared.field.FieldSet.{FieldSet}
 use Rattle.marple_base.specs.declared.field.Packet.{Packet}
 use Rattle.marple_base.specs.declared.inputs.Which.{Which}
@@ -18,16 +17,19 @@ use Rattle.count_lane.specs.Lanes.{one_way}
 use Rattle.count_lane.specs.Totals.{counting}
 use Rattle.final_queries.specs.GroupTable.{Heading, group_table}
 use Rattle.final_queries.specs.declared.table.Table.{Table}
+use Rattle.queue_sim.specs.Generator.{simulated}
+use Rattle.queue_sim.specs.TraceText.{trace_text}
 use Rattle.table_printer.specs.TableText.{table_text}
 use Rattle.marple_cli.specs.CountingQuery.{query_of}
 use Rattle.marple_cli.specs.declared.command.Command.{Command}
-use Rattle.marple_cli.specs.declared.command.Command.TheVariants.{Run}
+use Rattle.marple_cli.specs.declared.command.Command.TheVariants.{Gen, Run}
 use Rattle.marple_cli.specs.declared.command.Geometry.{Geometry}
 use Rattle.marple_cli.specs.declared.counting_query.CountingQuery.{CountingQuery}
 
 -- Is this input an operand of the command?
 abbrev pub takes : Command → Which → Bool
 takes (Run geometry) which = true
+takes (Gen generation) which = false
 
 abbrev pub fault_in : Result CountingQuery QueryFault → Option QueryFault
 fault_in (Ok query) = None
@@ -76,9 +78,11 @@ abbrev pub output_for : Geometry → Result CountingQuery QueryFault → List �
 output_for geometry (Ok query) trace = table_text (table_of geometry query (traces.packets trace (reads_of query)))
 output_for geometry (Err fault) trace = []
 
--- what the command writes where its operands are accepted: the text of the query's table
+-- what the command writes where its operands are accepted: the text of the query's table, or of the trace that the
+-- generator makes with queues of 16 packets
 abbrev pub output : Command → List ℕ → List ℕ → List ℕ
 output (Run geometry) query trace = output_for geometry (query_of query) trace
+output (Gen generation) query trace = trace_text (simulated generation.packets generation.start 16)
 
 -- the text that is defined for the command: nothing where a refusal stands
 abbrev pub defined_text : Command → List ℕ → List ℕ → List ℕ

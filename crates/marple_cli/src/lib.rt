@@ -5,6 +5,7 @@ mod command;
 mod complaint;
 mod counting_query;
 mod driven;
+mod generate;
 mod operands;
 mod packets;
 mod run;
@@ -12,7 +13,7 @@ mod status;
 mod table;
 mod top;
 
-pub use command::{Command, Geometry, command_of};
+pub use command::{Command, Generation, Geometry, command_of};
 pub use complaint::complain;
 pub use counting_query::{CountingQuery, MAX_QUERY, query_of};
 pub use driven::Driven;

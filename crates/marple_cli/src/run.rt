@@ -8,6 +8,7 @@ ghost use Rattle.marple_cli.specs.Output.{takes};
 
 use crate::command::{Command, Geometry};
 use crate::driven::Driven;
+use crate::generate::generate;
 use crate::operands::read_query;
 use crate::packets::drained_lane;
 use crate::status::Status;
@@ -62,5 +63,8 @@ pub fn perform<I: Inputs, O: Sink, L: Ledger>(
     ensures out_later { O.faults out.old ≤ O.faults out.new }
     ensures steps { steps.old ≤ steps.new }
 {
-    run(alloc, command.geometry(), inputs, out, driven, steps)
+    match command {
+        Command::Run(geometry) => run(alloc, geometry, inputs, out, driven, steps),
+        Command::Gen(generation) => generate(alloc, generation, out),
+    }
 }
