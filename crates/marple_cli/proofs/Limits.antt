@@ -5,7 +5,7 @@ use Rattle.std.proofs.lemmas.Grind.{common_steps}
 use Rattle.query_lang.specs.Lexis.{fault_at}
 use Rattle.query_lang.specs.declared.fault.FaultKind.TheVariants as kinds
 use Rattle.marple_base.specs.declared.field.FieldSet.{FieldSet}
-use Rattle.trace_reader.specs.Traces.{Contents, contents, opening, packets, trace_fault}
+use Rattle.trace_reader.specs.Traces.{contents, opening, packets, trace_fault}
 use Rattle.trace_reader.specs.declared.fault.TraceFault.{TraceFault}
 use Rattle.epoch_model.specs.Machine.{Machine}
 use Rattle.marple_base.specs.Inputs.{Input}

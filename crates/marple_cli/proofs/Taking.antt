@@ -1,5 +1,5 @@
 -- The packets of a trace, taken one by one.
-use Rattle.std.proofs.Common.{◌≡◌, ℕ, suc, ◌-◌, ◌<◌, ◌≤◌, List, [], ◌∷◌, None, Some, length, map, drop, get_or, refl, sym, ap, ◌∙◌, arith, subst, length-drop, lit<}
+use Rattle.std.proofs.Common.{◌≡◌, ℕ, suc, ◌<◌, ◌≤◌, List, [], ◌∷◌, None, Some, length, map, drop, get_or, sym, ap, ◌∙◌, arith, subst, length-drop, lit<}
 use Rattle.std.specs.List.{slice_get}
 use Rattle.std.proofs.lemmas.List.{get_or-map, length-map}
 use Rattle.std.proofs.lemmas.Option.{get_or_from_slice_get}
@@ -8,7 +8,7 @@ use Rattle.marple_base.specs.Field.{number_of}
 use Rattle.marple_base.specs.declared.field.Packet.{Packet}
 use Rattle.epoch_model.specs.Driving.{PacketsFollowTheTrace, TakenUsesAreInTrace, SweepsReachTheEnd, event_of}
 use Rattle.epoch_model.specs.Laws.{SameEpochs, IsInTrace}
-use Rattle.epoch_model.specs.Machine.{Machine, packet, run, packets_of, after_packets, empty_buckets, end_of}
+use Rattle.epoch_model.specs.Machine.{Machine, packet, run, packets_of, after_packets, empty_buckets}
 use Rattle.count_lane.specs.Lanes.{one_way, IsDrainedFrom}
 use Rattle.count_lane.specs.Totals.{counting}
 use Rattle.final_queries.specs.GroupTable.{ClosedGiveTheGroupTable, closed_table}
@@ -71,7 +71,7 @@ end_reached follow sweeps geometry query all count lane done whole stands draine
     let here = stands ∙ ap (after_packets g uses) whole in
     let same : length lane.recent ≡ geometry.buckets = ap (λ (m : Machine). length m.recent) here ∙ follow.buckets g uses (length all) in
     let swept : empty_buckets (length lane.recent) lane ≡ empty_buckets geometry.buckets (after_packets g uses (length all)) =
-        ap (λ (n : ℕ). empty_buckets n lane) same ∙ ap (empty_buckets geometry.buckets) here in
+    ap (λ (n : ℕ). empty_buckets n lane) same ∙ ap (empty_buckets geometry.buckets) here in
     sweeps.whole g uses (length all) done (subst (SameEpochs done) swept drained.swept) drained.merged
 
 pub end_drained : SweepsReachTheEnd → (geometry : Geometry) (query : CountingQuery) (all : List Packet) (done : Machine) → done ≡ machine_for geometry query all → IsDrained done

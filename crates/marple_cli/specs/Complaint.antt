@@ -5,7 +5,6 @@ use Rattle.marple_base.specs.declared.inputs.Which.TheVariants.{Query, Trace}
 use Rattle.query_lang.specs.declared.fault.FaultKind.{FaultKind}
 use Rattle.query_lang.specs.declared.fault.FaultKind.TheVariants as kinds
 use Rattle.query_lang.specs.declared.fault.Limit.TheVariants as limits
-use Rattle.query_lang.specs.declared.fault.QueryFault.{QueryFault}
 use Rattle.trace_reader.specs.declared.fault.TraceFault.{TraceFault}
 use Rattle.trace_reader.specs.declared.fault.TraceFault.TheVariants as faults
 use Rattle.marple_cli.specs.declared.status.Status.{Status}

@@ -76,20 +76,44 @@ fn trace_pieces(fault: TraceFault) -> [Piece; 5]
         TraceFault::NoHeader => alone(b"marple: trace: NoHeader\n"),
         TraceFault::FieldTwice(field) => {
             let name = Piece::Text(field.name());
-            [Piece::Text(b"marple: trace: FieldTwice("), name, close, NONE, NONE]
+            [
+                Piece::Text(b"marple: trace: FieldTwice("),
+                name,
+                close,
+                NONE,
+                NONE,
+            ]
         }
         TraceFault::FieldMissing(field) => {
             let name = Piece::Text(field.name());
-            [Piece::Text(b"marple: trace: FieldMissing("), name, close, NONE, NONE]
+            [
+                Piece::Text(b"marple: trace: FieldMissing("),
+                name,
+                close,
+                NONE,
+                NONE,
+            ]
         }
         TraceFault::FieldCount(record) => {
             let number = Piece::Number(record);
-            [Piece::Text(b"marple: trace: FieldCount("), number, close, NONE, NONE]
+            [
+                Piece::Text(b"marple: trace: FieldCount("),
+                number,
+                close,
+                NONE,
+                NONE,
+            ]
         }
         TraceFault::BadNumber(record, field) => {
             let number = Piece::Number(record);
             let name = Piece::Text(field.name());
-            [Piece::Text(b"marple: trace: BadNumber("), number, Piece::Text(b","), name, close]
+            [
+                Piece::Text(b"marple: trace: BadNumber("),
+                number,
+                Piece::Text(b","),
+                name,
+                close,
+            ]
         }
         TraceFault::TooManyPackets => alone(b"marple: trace: TooManyPackets\n"),
     }

@@ -1,4 +1,4 @@
-use Rattle.std.proofs.Common.{◌≡◌, ℕ, zero, suc, ◌≤◌, drop, sym, ap, ◌∙◌, Ok, arith}
+use Rattle.std.proofs.Common.{◌≡◌, zero, suc, drop, sym, ap, ◌∙◌, Ok, arith}
 use Rattle.trace_reader.specs.Traces.{packets, trace_fault}
 use Rattle.count_lane.specs.Lanes.{one_way}
 use Rattle.marple_cli.specs.Output.{reads_of, uses_of}
@@ -31,7 +31,7 @@ packets-preserved g c =
       rest = next.1;
       fault = given.fault ∙ c.packets.invariant.fault;
       machine = packet_taken c.packets_follow_the_trace.ensures c.taken_uses_are_in_trace.ensures c.args.geometry.buckets c.args.query.now all count c.get.result
-        c.next_into.new.packet c.packets.lane c.packet.new.self within next.0 c.get.ensures c.packets.invariant.machine c.in_ok-packet.ensures.ok;
+          c.next_into.new.packet c.packets.lane c.packet.new.self within next.0 c.get.ensures c.packets.invariant.machine c.in_ok-packet.ensures.ok;
       later = omega arith;
     }
 

@@ -1,4 +1,4 @@
-use Rattle.std.proofs.Common.{◌≡◌, ◌≤◌, ℕ, List, length, drop, map}
+use Rattle.std.proofs.Common.{◌≡◌, ◌≤◌, ℕ, length, drop}
 use Rattle.epoch_model.specs.Machine.{after_packets}
 use Rattle.trace_reader.specs.Traces.{packets, trace_fault}
 use Rattle.count_lane.specs.Lanes.{one_way}

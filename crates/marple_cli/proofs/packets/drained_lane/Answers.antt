@@ -1,8 +1,5 @@
-use Rattle.std.proofs.Common.{◌≡◌, None, IfSome}
 use Rattle.marple_base.specs.declared.inputs.Which.TheVariants.{Trace}
-use Rattle.trace_reader.specs.Traces.{trace_fault, packets}
-use Rattle.marple_cli.specs.Ends.{PacketsEnd, TraceEnds}
-use Rattle.marple_cli.specs.Output.{machine_for, reads_of}
+use Rattle.marple_cli.specs.Output.{reads_of}
 use Rattle.marple_cli.proofs.Limits.{IfOk-map, IfErr-map, told_accepted, told_machine, trace_ends}
 use Rattle.marple_cli.proofs.packets.drained_lane.Goals as goal
 
