@@ -133,7 +133,8 @@ impl Bucket {
     /// The key of the pair that has this way.
     pub fn key(&self, way: usize) -> &[u64]
         requires { way < self.now.ways }
-        ensures { (i : ℕ) (pair : Pair) → slice_get self.now.pairs i ≡ Some pair → pair.place ≡ self.now.first + way → result.now ≡ pair.key }
+        ensures length { length result.now ≡ self.now.key_words }
+        ensures key { (i : ℕ) (pair : Pair) → slice_get self.now.pairs i ≡ Some pair → pair.place ≡ self.now.first + way → result.now ≡ pair.key }
     {
         slices::row(&self.words, self.key_words, way)
     }

@@ -121,7 +121,8 @@ impl<const WAYS: usize> BucketCache<WAYS> {
     /// The least recently used place of a bucket. None where the bucket is empty.
     pub fn least(&self, bucket: u32) -> Option<usize>
         requires { bucket < length self.now.lists }
-        ensures { result ≡ least_place (list_at self.now bucket) }
+        ensures place { result ≡ least_place (list_at self.now bucket) }
+        ensures sound { IsSoundCache WAYS self.now }
     {
         let bucket = &self.buckets[bucket as usize];
         bucket.least()
@@ -144,7 +145,8 @@ impl<const WAYS: usize> BucketCache<WAYS> {
     /// The key of the pair that has this place.
     pub fn key(&self, at: usize) -> &[u64]
         requires { at < length self.now.entries }
-        ensures { (bucket i : ℕ) (pair : Pair) → slice_get (list_at self.now bucket) i ≡ Some pair → pair.place ≡ at → result.now ≡ pair.key }
+        ensures length { length result.now ≡ self.now.key_words }
+        ensures key { (bucket i : ℕ) (pair : Pair) → slice_get (list_at self.now bucket) i ≡ Some pair → pair.place ≡ at → result.now ≡ pair.key }
     {
         let bucket = &self.buckets[at / WAYS];
         bucket.key(at % WAYS)

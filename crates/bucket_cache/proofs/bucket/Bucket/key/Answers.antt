@@ -4,8 +4,8 @@ use Rattle.bucket_cache.proofs.FlatRows.{get-rows_of}
 use Rattle.bucket_cache.proofs.BucketLists.{key-pair}
 use Rattle.bucket_cache.proofs.bucket.Bucket.key.Goals as goal
 
-pub returns : goal.returns
-returns c =
+pub returns-clause-key : goal.returns-clause-key
+returns-clause-key c =
     let b = c.self.inside in
     let keys = rows_of b.key_words (length b.order.items) b.words.items in
     let way : c.args.way < length b.order.items = subst (λ n. c.args.way < n) (ap (λ r. r.ways) (sym c.self.view_is)) c.requires in

@@ -3,8 +3,8 @@ use Rattle.std.specs.Prelude.{slice_get, ◌%◌, ◌+◌}
 use Rattle.bucket_cache.proofs.CacheLists.{lists_of, list_old, home_at, place_in, bucket_in_range, pair_home}
 use Rattle.bucket_cache.proofs.cache.BucketCache.key.Goals as goal
 
-pub returns : goal.returns
-returns g c =
+pub returns-clause-key : goal.returns-clause-key
+returns-clause-key g c =
     let b = c.self.inside in
     let ways = g.row.WAYS in
     let at = c.args.at in
@@ -16,6 +16,6 @@ returns g c =
     let home = home_at ways b.key_words b.entry_words b.buckets.items b.entries (at / ways) r s range c.index-bucket.ensures in
     rw (← c.self.view_is) (λ bucket i pair e p.
     let same = pair_home ways b.key_words b.entry_words b.buckets.items b.entries bucket i at pair s e p in
-    c.key.ensures i pair
+    c.key.ensures.key i pair
     (sym (ap (λ ps. slice_get ps i) (list_old b.buckets.items (at / ways) r range c.index-bucket.ensures)) ∙ (ap (λ n. slice_get (get_or (lists_of b.buckets.items) n []) i) (sym same) ∙ e))
     (p ∙ (sym split.0 ∙ ap (λ n. n + at % ways) (sym home.of_first))))
