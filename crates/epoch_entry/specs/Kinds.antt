@@ -1,0 +1,14 @@
+-- What the meanings of a kind of entry are made of.
+use Rattle.std.specs.Prelude.{◌≡◌, ℕ, true, List}
+use Rattle.epoch_model.specs.Tables.{Folding}
+
+-- numbers of words
+pub record Sizes : Type 0 where
+  pub args : ℕ  -- of an argument row
+  pub entry : ℕ  -- of an entry
+  pub state : ℕ  -- of a state
+  pub scratch : ℕ  -- of the room that absorbing and merging work in
+
+-- An entry is merged into any state, but where each epoch has a row of its own only into the initial one.
+abbrev pub MayTake : Folding → List ℕ → Type 0
+MayTake f state = f.row_per_epoch ≡ true → state ≡ f.initial
