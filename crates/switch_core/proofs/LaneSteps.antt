@@ -1,0 +1,61 @@
+-- What a lane's events leave of its merged epochs, and what an empty lane stands for.
+use Rattle.std.proofs.Common.{◌≡◌, ◌≤◌, ℕ, zero, suc, [], length, take, replicate, get_or, refl, sym, ap, ◌∙◌, subst, arith, length-append}
+use Rattle.std.specs.Prelude.{nat_lt}
+use Rattle.std.proofs.lemmas.List.{take-append-le, length-replicate}
+use Rattle.epoch_model.specs.Keys.{Key, ArgRow, bucket_of}
+use Rattle.epoch_model.specs.Epochs.{Geometry}
+use Rattle.epoch_model.specs.Machine.{Machine, lists_of, open_in, evict, packet, is_open, empty_machine, last_alone}
+use Rattle.epoch_model.specs.Tables.{Folding, epochs_shown}
+use Rattle.bucket_cache.specs.Caches.{Cache, empty_cache}
+use Rattle.evict_pipe.specs.Pipes.{Pipe}
+use Rattle.backing_store.specs.Store.{Store, epochs_of, states_at, number_of}
+use Rattle.switch_core.specs.Lanes.{Standing, PairStands, PairsStand, RecordsStand, StoreStands, stored, LaneStands, geometry}
+use Rattle.switch_core.proofs.Standing.{by_test}
+
+-- the merged epochs are as they were
+abbrev pub SameMerged : Machine → Machine → Type 0
+SameMerged m n = (take n.merged n.closed ≡ take m.merged m.closed) × (n.merged ≤ length n.closed)
+
+pub evict_merged_same : (m : Machine) (bucket : ℕ) → m.merged ≤ length m.closed → SameMerged m (evict m bucket)
+evict_merged_same m bucket few = by_test (nat_lt 0 (length (open_in m bucket)))
+    (λ t. let longer = length-append m.closed (last_alone (open_in m bucket)) in rw t (take-append-le m.merged m.closed (last_alone (open_in m bucket)) few, omega arith))
+    (λ t. rw t (refl, few))
+
+pub packet_merged_same : (g : Geometry) (m : Machine) (key : Key) (row : ArgRow) → m.merged ≤ length m.closed → SameMerged m (packet g m key row)
+packet_merged_same g m key row few =
+    let bucket = bucket_of g.buckets key in
+    by_test (is_open key (open_in m bucket))
+    (λ t. rw t (refl, few))
+    (λ t. by_test (nat_lt (length (open_in m bucket)) g.ways)
+    (λ l. rw (t, l) (refl, few))
+    (λ l. rw (t, l) (evict_merged_same m bucket few)))
+
+pub store_same : (f : Folding) (store : Store) (m n : Machine) → SameMerged m n → StoreStands f store m → StoreStands f store n
+store_same f store m n e s = record {
+  count = λ key. s.count key ∙ ap (λ es. epochs_shown (length (lists_of key es))) (sym e.0);
+  rows = λ key. s.rows key ∙ ap (λ es. stored f (lists_of key es)) (sym e.0);
+}
+
+-- nothing stands for nothing
+
+none_at : {X : Type 0} (n i : ℕ) (d : X) → get_or (replicate n d) i d ≡ d
+none_at zero i d = refl
+none_at (suc n) zero d = refl
+none_at (suc n) (suc i) d = none_at n i d
+
+pub empty_stands : (stands : Standing) (f : Folding) (ways buckets kw ew : ℕ) (cache : Cache) (pipe : Pipe) (store : Store) → cache ≡ empty_cache buckets ways kw ew → pipe.records ≡ [] → store.keys ≡ [] → store.rows ≡ []
+    → LaneStands stands f cache pipe store (empty_machine (geometry ways cache))
+empty_stands stands f ways buckets kw ew cache pipe store c p k r = record {
+  cached = record {
+    buckets = sym (length-replicate (length cache.lists) []);
+    each = λ b.
+        subst (λ ps. PairsStand (PairStands stands cache) ps (get_or (replicate (length cache.lists) []) b [])) (sym (ap (λ x. get_or x.lists b []) c ∙ none_at buckets b []))
+        (subst (λ es. PairsStand (PairStands stands cache) [] es) (sym (none_at (length cache.lists) b [])) tt);
+  };
+  piped = subst (λ rs. RecordsStand stands rs []) (sym p) tt;
+  kept = record {
+    count = λ key. ap (λ ks. epochs_of ks key) k;
+    rows = λ key. ap (λ rs. states_at rs (number_of store.keys key)) r ∙ by_test f.row_per_epoch (λ t. rw t refl) (λ t. rw t refl);
+  };
+  few = omega arith;
+}

@@ -1,0 +1,4 @@
+pub mod Standing
+pub mod CacheSteps
+pub mod PipeSteps
+pub mod LaneSteps

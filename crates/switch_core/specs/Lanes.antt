@@ -1,0 +1,67 @@
+-- When cache, pipe and store stand for a machine.
+use Rattle.std.specs.Prelude.{◌≡◌, ◌≤◌, ℕ, List, [], ◌∷◌, ◌++◌, length, map, take, drop, flat_map, if◌then◌else◌}
+use Rattle.epoch_model.specs.Keys.{Key, ArgRow}
+use Rattle.epoch_model.specs.Epochs.{Geometry}
+use Rattle.epoch_model.specs.Machine.{Epoch, Machine, open_in, lists_of}
+use Rattle.epoch_model.specs.Tables.{Folding, folded, epochs_shown}
+use Rattle.bucket_cache.specs.Buckets.{Pair}
+use Rattle.bucket_cache.specs.Caches.{Cache, list_at, entry_at}
+use Rattle.evict_pipe.specs.Pipes.{Pipe}
+use Rattle.backing_store.specs.Store.{Store, epochs_of, states_of}
+
+-- what an entry's words stand for is the kind's to say
+abbrev pub Standing : Type 1
+Standing = List ℕ → List ArgRow → Type 0
+
+-- the pair has the epoch's key, and its entry stands for the epoch's rows
+abbrev pub PairStands : Standing → Cache → Pair → Epoch → Type 0
+PairStands stands cache pair epoch = (pair.key ≡ epoch.key) × stands (entry_at cache pair.place) epoch.rows
+
+-- one pair for each epoch, in one order
+abbrev pub PairsStand : (Pair → Epoch → Type 0) → List Pair → List Epoch → Type 0
+PairsStand R [] [] = Unit {0}
+PairsStand R [] (epoch ∷ epochs) = ⊥
+PairsStand R (pair ∷ pairs) [] = ⊥
+PairsStand R (pair ∷ pairs) (epoch ∷ epochs) = R pair epoch × PairsStand R pairs epochs
+
+pub record CacheStands (stands : Standing) (cache : Cache) (m : Machine) : Type 0 where
+  pub buckets : length cache.lists ≡ length m.recent
+  pub each : (bucket : ℕ) → PairsStand (PairStands stands cache) (list_at cache bucket) (open_in m bucket)
+
+-- the record has the epoch's key words, and then words that stand for its rows
+abbrev pub RecordStands : Standing → List ℕ → Epoch → Type 0
+RecordStands stands words epoch = (entry : List ℕ) × (words ≡ epoch.key ++ entry) × stands entry epoch.rows
+
+abbrev pub RecordsStand : Standing → List (List ℕ) → List Epoch → Type 0
+RecordsStand stands [] [] = Unit {0}
+RecordsStand stands [] (epoch ∷ epochs) = ⊥
+RecordsStand stands (words ∷ records) [] = ⊥
+RecordsStand stands (words ∷ records) (epoch ∷ epochs) = RecordStands stands words epoch × RecordsStand stands records epochs
+
+-- the pipe's records, from the oldest, stand for the closed epochs that aren't merged
+abbrev pub PipeStands : Standing → List (List ℕ) → Machine → Type 0
+PipeStands stands records m = RecordsStand stands records (drop m.merged m.closed)
+
+-- the states that the store holds of a key with these merged row lists: one for each list, or one for all their rows
+abbrev pub stored : Folding → List (List ArgRow) → List (List ℕ)
+stored f lists = if f.row_per_epoch then map (folded f) lists else merged_state lists
+  where
+    merged_state : List (List ArgRow) → List (List ℕ)
+    merged_state [] = []
+    merged_state (rows ∷ more) = folded f (flat_map (λ rs. rs) (rows ∷ more)) ∷ []
+
+-- the store stands for the merged epochs
+pub record StoreStands (f : Folding) (store : Store) (m : Machine) : Type 0 where
+  pub count : (key : Key) → epochs_of store.keys key ≡ epochs_shown (length (lists_of key (take m.merged m.closed)))
+  pub rows : (key : Key) → states_of store key ≡ stored f (lists_of key (take m.merged m.closed))
+
+-- the buckets and ways of a cache
+abbrev pub geometry : ℕ → Cache → Geometry
+geometry ways cache = record { buckets = length cache.lists; ways = ways; refresh = 0 }
+
+-- A lane stands for a machine: the cache for its open epochs, the pipe for its closed ones that aren't merged, and the store for its merged ones.
+pub record LaneStands (stands : Standing) (f : Folding) (cache : Cache) (pipe : Pipe) (store : Store) (m : Machine) : Type 0 where
+  pub cached : CacheStands stands cache m
+  pub piped : PipeStands stands pipe.records m
+  pub kept : StoreStands f store m
+  pub few : m.merged ≤ length m.closed

@@ -1,0 +1,4 @@
+pub mod Places
+pub mod Lanes
+pub mod Shapes
+pub mod LaneParts
