@@ -2,11 +2,9 @@
 use Rattle.std.proofs.Common.{◌≡◌, ℕ, zero, suc, ◌-◌, ◌<◌, List, refl, ap, arith}
 use Rattle.query_lang.specs.declared.query.Expr.{Expr}
 use Rattle.query_lang.specs.declared.token.Token.{Token}
-use Rattle.query_lang.specs.declared.token.Mark.TheVariants as marks
 use Rattle.query_grammar.specs.declared.stop.Counts.{Counts}
-use Rattle.query_grammar.specs.Kinds.{sign}
-use Rattle.query_grammar.specs.Parser.{Limited, Parser, Outcome}
-use Rattle.query_grammar.specs.Reading.{blocked, parens, listed_by, expr_starts, unary, expr_at}
+use Rattle.query_grammar.specs.Parser.{Limited, Parser}
+use Rattle.query_grammar.specs.Reading.{parens, listed_by, expr_starts, unary, expr_at}
 use Rattle.query_parser.specs.declared.operators.Level.TheVariants as levels
 use Rattle.query_parser.specs.Reads.{operands_of, level_of, comparison_of, bracket_at, arguments_at, primary_at}
 

@@ -1,9 +1,7 @@
 -- Operators of a list, by the kind of the token.
-use Rattle.std.proofs.Common.{◌≡◌, ℕ, Bool, true, false, List, [], ◌∷◌, Option, Some, None, refl}
+use Rattle.std.proofs.Common.{◌≡◌, Bool, true, false, [], ◌∷◌, refl}
 use Rattle.std.specs.Prelude.{nat_eq}
-use Rattle.query_lang.specs.declared.fold.Op.{Op}
 use Rattle.query_lang.specs.declared.token.Token.{Token}
-use Rattle.query_lang.specs.declared.token.TokenKind.{TokenKind}
 use Rattle.query_grammar.specs.Kinds.{among, kind_number, kinds_of, operator}
 use Rattle.query_grammar.specs.Grammar.{Operators}
 use Rattle.query_parser.specs.Reads.{op_among, is_op, op_with}

@@ -10,13 +10,12 @@ use Rattle.query_lang.specs.declared.token.Mark.TheVariants as marks
 use Rattle.query_lang.specs.declared.token.Token.{Token}
 use Rattle.query_lang.specs.declared.token.TokenKind.{TokenKind}
 use Rattle.query_grammar.specs.declared.stop.Counts.{Counts}
-use Rattle.query_grammar.specs.declared.stop.Stop.{Stop}
 use Rattle.query_grammar.specs.Kinds.{among, kind_number, kinds_of, operator, sign}
 use Rattle.query_grammar.specs.Language as roles
 use Rattle.query_grammar.specs.Language.{Node}
 use Rattle.query_grammar.specs.Grammar.{Operators, compared, comparing_ops, either_ops, both_ops, or_ops, xor_ops, and_ops, shift_ops, sum_ops, product_ops}
 use Rattle.query_grammar.specs.Parser.{Limited, Outcome, Done, Stopped, Parser, limit_of, word, followed_by, mapped, at_most_once}
-use Rattle.query_grammar.specs.Reading.{blocked, parens, listed_by, expr_starts, level, primary, unary, product, sum, shift, bit_and, bit_xor, bit_or, comparison, conjunction, expr_at, block, empty_parens, else_part, stmt_at}
+use Rattle.query_grammar.specs.Reading.{blocked, parens, listed_by, expr_starts, level, primary, unary, product, sum, shift, bit_and, bit_xor, comparison, conjunction, expr_at, block, empty_parens, else_part, stmt_at}
 use Rattle.query_parser.specs.declared.statement.ElsePart.{ElsePart}
 use Rattle.query_parser.specs.declared.statement.ElsePart.TheVariants as parts
 use Rattle.query_parser.specs.declared.operators.Level.{Level}

@@ -11,8 +11,13 @@ ghost use Rattle.query_lang.specs.declared.token.Mark.TheVariants as marks;
 ghost use Rattle.query_parser.specs.Reads.{Gives, operands_of, operation_of, level_of, compared_with, comparison_of, bracket_at, arguments_at, primary_at};
 
 use crate::halt::{Read, Role};
-use crate::operators::{Level, at_comparison, at_operator, comparison_operator, function, operator};
-use crate::word::{at_mark, at_number, at_word, is_mark, is_name, is_number, is_word, keyword, mark, name, no_bracket, number, plain_mark};
+use crate::operators::{
+    Level, at_comparison, at_operator, comparison_operator, function, operator,
+};
+use crate::word::{
+    at_mark, at_number, at_word, is_mark, is_name, is_number, is_word, keyword, mark, name,
+    no_bracket, number, plain_mark,
+};
 use marple_base::{Boxed, Seq};
 use query_grammar::Counts;
 use query_lang::{Expr, Mark, Op, Span, Token, Word};
@@ -23,7 +28,12 @@ fn binary(alloc: Global, op: (Op, Span), left: Expr, right: Expr) -> Result<Expr
     ensures { IfOk result (λ e. e ≡ exprs.Binary op.0 op.1 left right) }
 {
     let (op, span) = op;
-    Ok(Expr::Binary(op, span, Boxed::new(alloc, left)?, Boxed::new(alloc, right)?))
+    Ok(Expr::Binary(
+        op,
+        span,
+        Boxed::new(alloc, left)?,
+        Boxed::new(alloc, right)?,
+    ))
 }
 
 fn not(alloc: Global, span: Span, inner: Expr) -> Result<Expr, AllocError>
@@ -94,7 +104,10 @@ fn at_function(rest: &[Token]) -> bool
 fn at_expression(rest: &[Token]) -> bool
     ensures { result ≡ next_is (among expr_starts) rest.now }
 {
-    at_mark(Mark::Bang, rest) || at_atom(rest) || at_mark(Mark::OpenParen, rest) || at_function(rest)
+    at_mark(Mark::Bang, rest)
+        || at_atom(rest)
+        || at_mark(Mark::OpenParen, rest)
+        || at_function(rest)
 }
 
 /// A number, `infinity` or a name.
@@ -222,7 +235,13 @@ fn unary(alloc: Global, brackets: u32, counts: Counts, rest: &[Token]) -> Read<'
 /// An operand of this level.
 #[cycle(expr)]
 #[tactic(auto, using(crate::proofs::Levels::operands_product, crate::proofs::Levels::operands_sum, crate::proofs::Levels::operands_shift, crate::proofs::Levels::operands_and, crate::proofs::Levels::operands_xor, crate::proofs::Levels::operands_or, crate::proofs::Levels::operands_both, crate::proofs::Levels::operands_either))]
-fn operand(alloc: Global, of: Level, brackets: u32, counts: Counts, rest: &[Token]) -> Read<'_, Expr>
+fn operand(
+    alloc: Global,
+    of: Level,
+    brackets: u32,
+    counts: Counts,
+    rest: &[Token],
+) -> Read<'_, Expr>
     ensures { Gives result (operands_of of (primary_at brackets) counts rest.now) }
 {
     match of {
@@ -273,7 +292,12 @@ fn level(alloc: Global, of: Level, brackets: u32, counts: Counts, rest: &[Token]
 
 /// A comparison's operator, and what stands behind it.
 #[cycle(expr)]
-fn compared_to(alloc: Global, brackets: u32, counts: Counts, rest: &[Token]) -> Read<'_, ((Op, Span), Expr)>
+fn compared_to(
+    alloc: Global,
+    brackets: u32,
+    counts: Counts,
+    rest: &[Token],
+) -> Read<'_, ((Op, Span), Expr)>
     ensures { Gives result (compared_with (primary_at brackets) counts rest.now) }
 {
     let (op, counts, rest) = comparison_operator(counts, rest)?;

@@ -133,5 +133,14 @@ pub fn fold(alloc: Global, counts: Counts, rest: &[Token]) -> Read<'_, Item>
     let (name, counts, rest) = name(Role::Plain, counts, rest)?;
     let ((states, args), counts, rest) = parameters(alloc, counts, rest)?;
     let (body, counts, rest) = block_within(alloc, WITHIN_BODY, counts, rest)?;
-    Ok((Item::Fold(FoldDef { name, states, args, body }), counts, rest))
+    Ok((
+        Item::Fold(FoldDef {
+            name,
+            states,
+            args,
+            body,
+        }),
+        counts,
+        rest,
+    ))
 }

@@ -44,10 +44,19 @@ pub fn charged(role: Role, counts: Counts, rest: &[Token]) -> Result<Counts, Hal
     let Counts { nodes, statements } = counts;
     match role {
         Role::Plain => Ok(counts),
-        Role::Node if nodes < 512 => Ok(Counts { nodes: nodes + 1, statements }),
+        Role::Node if nodes < 512 => Ok(Counts {
+            nodes: nodes + 1,
+            statements,
+        }),
         Role::Node => Err(Halt::At(Stop::Nodes, rest)),
-        Role::Statement if statements < 64 => Ok(Counts { nodes, statements: statements + 1 }),
+        Role::Statement if statements < 64 => Ok(Counts {
+            nodes,
+            statements: statements + 1,
+        }),
         Role::Statement => Err(Halt::At(Stop::Statements, rest)),
-        Role::Opening => Ok(Counts { nodes: 0, statements: 0 }),
+        Role::Opening => Ok(Counts {
+            nodes: 0,
+            statements: 0,
+        }),
     }
 }

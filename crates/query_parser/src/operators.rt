@@ -66,7 +66,11 @@ fn level_op(level: Level, kind: TokenKind) -> Option<Op>
     match level {
         Level::Product => product_op(kind),
         Level::Sum => one_of_two(kind, (Mark::Plus, Op::Add), (Mark::Minus, Op::Sub)),
-        Level::Shift => one_of_two(kind, (Mark::ShiftLeft, Op::Shl), (Mark::ShiftRight, Op::Shr)),
+        Level::Shift => one_of_two(
+            kind,
+            (Mark::ShiftLeft, Op::Shl),
+            (Mark::ShiftRight, Op::Shr),
+        ),
         Level::And => only(kind, Mark::And, Op::And),
         Level::Xor => only(kind, Mark::Xor, Op::Xor),
         Level::Or => only(kind, Mark::Or, Op::Or),

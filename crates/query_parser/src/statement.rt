@@ -10,7 +10,9 @@ ghost use Rattle.query_parser.specs.Reads.{Gives, GivesPart, bracket_at, block_a
 
 use crate::expression::{bracketed, expression};
 use crate::halt::{Read, Role};
-use crate::word::{at_mark, at_name, at_word, is_name, is_word, keyword, name, no_bracket, plain_mark};
+use crate::word::{
+    at_mark, at_name, at_word, is_name, is_word, keyword, name, no_bracket, plain_mark,
+};
 use marple_base::Seq;
 use query_grammar::Counts;
 use query_lang::{Expr, Mark, Span, Stmt, Token, Word};
@@ -83,7 +85,11 @@ fn only_if(alloc: Global, branch: Branch, otherwise: Seq<Stmt>) -> Result<Seq<St
 
 /// The block for what stands behind the first branch of an `if`: each further branch is an `if` in the block of the one
 /// before it.
-fn else_of(alloc: Global, branches: Seq<Branch>, last: Option<Seq<Stmt>>) -> Result<Seq<Stmt>, AllocError>
+fn else_of(
+    alloc: Global,
+    branches: Seq<Branch>,
+    last: Option<Seq<Stmt>>,
+) -> Result<Seq<Stmt>, AllocError>
     ensures { IfOk result (λ block. block ≡ else_block branches last) }
 {
     let mut branches = branches.into_vec();
@@ -198,7 +204,12 @@ fn statements(alloc: Global, brackets: u32, counts: Counts, rest: &[Token]) -> R
 
 /// A block in its brace, inside of which so many brackets may be opened.
 #[cycle(stmt)]
-pub fn block_within(alloc: Global, brackets: u32, counts: Counts, rest: &[Token]) -> Read<'_, Seq<Stmt>>
+pub fn block_within(
+    alloc: Global,
+    brackets: u32,
+    counts: Counts,
+    rest: &[Token],
+) -> Read<'_, Seq<Stmt>>
     ensures { Gives result (block_of Limited (stmt_at Limited brackets) counts rest.now) }
 {
     let (_, counts, rest) = plain_mark(Mark::OpenBrace, counts, rest)?;

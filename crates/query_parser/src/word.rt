@@ -111,8 +111,17 @@ pub fn name(role: Role, counts: Counts, rest: &[Token]) -> Read<'_, Name>
     ensures { Gives result (word Limited (role_of role) name_of counts rest.now) }
 {
     match rest {
-        [Token { kind: TokenKind::Name(id), span }, behind @ ..] => {
-            let name = Name { id: *id, span: *span };
+        [
+            Token {
+                kind: TokenKind::Name(id),
+                span,
+            },
+            behind @ ..,
+        ] => {
+            let name = Name {
+                id: *id,
+                span: *span,
+            };
             Ok((name, charged(role, counts, rest)?, behind))
         }
         _ => Err(Halt::At(Stop::Unexpected, rest)),
@@ -124,9 +133,13 @@ pub fn number(role: Role, counts: Counts, rest: &[Token]) -> Read<'_, (u64, Span
     ensures { Gives result (word Limited (role_of role) number_of counts rest.now) }
 {
     match rest {
-        [Token { kind: TokenKind::Number(n), span }, behind @ ..] => {
-            Ok(((*n, *span), charged(role, counts, rest)?, behind))
-        }
+        [
+            Token {
+                kind: TokenKind::Number(n),
+                span,
+            },
+            behind @ ..,
+        ] => { Ok(((*n, *span), charged(role, counts, rest)?, behind)) }
         _ => Err(Halt::At(Stop::Unexpected, rest)),
     }
 }
@@ -136,7 +149,13 @@ pub fn five_tuple(counts: Counts, rest: &[Token]) -> Read<'_, Span>
     ensures { Gives result (token_of Limited kinds.FiveTuple counts rest.now) }
 {
     match rest {
-        [Token { kind: TokenKind::FiveTuple, span }, behind @ ..] => Ok((*span, counts, behind)),
+        [
+            Token {
+                kind: TokenKind::FiveTuple,
+                span,
+            },
+            behind @ ..,
+        ] => Ok((*span, counts, behind)),
         _ => Err(Halt::At(Stop::Unexpected, rest)),
     }
 }
@@ -146,7 +165,13 @@ pub fn end(counts: Counts, rest: &[Token]) -> Read<'_, Span>
     ensures { Gives result (token_of Limited kinds.End counts rest.now) }
 {
     match rest {
-        [Token { kind: TokenKind::End, span }, behind @ ..] => Ok((*span, counts, behind)),
+        [
+            Token {
+                kind: TokenKind::End,
+                span,
+            },
+            behind @ ..,
+        ] => Ok((*span, counts, behind)),
         _ => Err(Halt::At(Stop::Unexpected, rest)),
     }
 }

@@ -1,4 +1,4 @@
-use Rattle.std.proofs.Common.{List, ◌∷◌, refl, sym, ◌∙◌}
+use Rattle.std.proofs.Common.{List, refl, sym, ◌∙◌}
 use Rattle.query_lang.specs.declared.fault.Span.{Span}
 use Rattle.query_lang.specs.declared.fold.Op.{Op}
 use Rattle.query_lang.specs.declared.query.Expr.{Expr}

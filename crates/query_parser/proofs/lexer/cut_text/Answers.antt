@@ -1,4 +1,4 @@
-use Rattle.std.proofs.Common.{◌≡◌, ℕ, ◌≤◌, ◌<◌, ◌+◌, ◌-◌, length, drop, take, arith, sym, ap, subst, ◌∙◌, inl, inr, List, [], ◌∷◌, ◌++◌, refl}
+use Rattle.std.proofs.Common.{ℕ, ◌-◌, length, drop, take, arith, ap, ◌∙◌, inl, inr}
 use Rattle.std.proofs.lemmas.List.{length-take, length-drop}
 use Rattle.query_lang.specs.Lexis.{piece, tokens_of}
 use Rattle.query_parser.proofs.Cuts.{blank, token, numbered, fault, ends, rest_all, one_more}

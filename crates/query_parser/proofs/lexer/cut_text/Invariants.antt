@@ -1,4 +1,4 @@
-use Rattle.std.proofs.Common.{◌≡◌, ℕ, ◌≤◌, ◌-◌, length, drop}
+use Rattle.std.proofs.Common.{◌≡◌, ◌≤◌, ◌-◌, length, drop}
 use Rattle.query_lang.specs.Lexis.{cut, tokens_of}
 use Rattle.query_parser.proofs.Cuts.{with_all}
 use Rattle.query_parser.proofs.lexer.cut_text.Given as goal

@@ -1,8 +1,7 @@
-use Rattle.std.proofs.Common.{◌≡◌, ℕ, ◌<◌, ◌≤◌, get_or, take, length, arith, sym, subst}
-use Rattle.std.specs.List.{prefix_len}
+use Rattle.std.proofs.Common.{arith}
 use Rattle.std.proofs.lemmas.List.{length-take}
 use Rattle.std.proofs.lemmas.List.Sums.{prefix_len-le-length}
-use Rattle.query_lang.specs.Lexis.{is_word_byte, is_digit, is_not_line_feed}
+use Rattle.query_lang.specs.Lexis.{is_word_byte}
 use Rattle.query_parser.proofs.Words.{digits_of_word, digits_within}
 use Rattle.query_parser.proofs.lexer.piece_of.Goals as goal
 

@@ -1,4 +1,4 @@
-use Rattle.std.proofs.Common.{◌≡◌, ℕ, ◌+◌, ◌*◌, ◌-◌, [], ◌∷◌, length}
+use Rattle.std.proofs.Common.{◌≡◌, ◌+◌, ◌*◌, ◌-◌, [], ◌∷◌, length}
 use Rattle.query_grammar.specs.Kinds.{among}
 use Rattle.query_grammar.specs.Parser.{Limited, turns, repeated, chain_turns, chained}
 use Rattle.query_grammar.specs.Reading.{stmt_at, stmt_starts}
