@@ -37,6 +37,10 @@ pub operands_or : (p : Parser Expr) (c : Counts) (ts : List Token) → operands_
 unfolding operands_of
 operands_or p c ts = refl
 
+pub operands_comparison : (p : Parser Expr) (c : Counts) (ts : List Token) → operands_of levels.Comparison p c ts ≡ level_of levels.Or p c ts
+unfolding operands_of
+operands_comparison p c ts = refl
+
 pub operands_both : (p : Parser Expr) (c : Counts) (ts : List Token) → operands_of levels.Both p c ts ≡ comparison_of p c ts
 unfolding operands_of
 operands_both p c ts = refl

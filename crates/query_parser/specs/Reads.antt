@@ -15,7 +15,7 @@ use Rattle.query_grammar.specs.Language as roles
 use Rattle.query_grammar.specs.Language.{Node}
 use Rattle.query_grammar.specs.Grammar.{Operators, compared, comparing_ops, either_ops, both_ops, or_ops, xor_ops, and_ops, shift_ops, sum_ops, product_ops}
 use Rattle.query_grammar.specs.Parser.{Limited, Outcome, Done, Stopped, Parser, limit_of, word, followed_by, mapped, at_most_once}
-use Rattle.query_grammar.specs.Reading.{blocked, parens, listed_by, expr_starts, level, primary, unary, product, sum, shift, bit_and, bit_xor, comparison, conjunction, expr_at, block, empty_parens, else_part, stmt_at}
+use Rattle.query_grammar.specs.Reading.{blocked, parens, listed_by, expr_starts, level, primary, unary, product, sum, shift, bit_and, bit_xor, bit_or, comparison, conjunction, expr_at, block, empty_parens, else_part, stmt_at}
 use Rattle.query_parser.specs.declared.statement.ElsePart.{ElsePart}
 use Rattle.query_parser.specs.declared.statement.ElsePart.TheVariants as parts
 use Rattle.query_parser.specs.declared.operators.Level.{Level}
@@ -69,6 +69,7 @@ ops_of levels.Shift = shift_ops
 ops_of levels.And = and_ops
 ops_of levels.Xor = xor_ops
 ops_of levels.Or = or_ops
+ops_of levels.Comparison = comparing_ops
 ops_of levels.Both = both_ops
 ops_of levels.Either = either_ops
 
@@ -80,6 +81,7 @@ operands_of levels.Shift p = sum Limited p
 operands_of levels.And p = shift Limited p
 operands_of levels.Xor p = bit_and Limited p
 operands_of levels.Or p = bit_xor Limited p
+operands_of levels.Comparison p = bit_or Limited p
 operands_of levels.Both p = comparison Limited p
 operands_of levels.Either p = conjunction Limited p
 
@@ -90,11 +92,9 @@ operation_of l p = followed_by (word Limited Node (operator (ops_of l))) (operan
 abbrev pub level_of : Level → Parser Expr → Parser Expr
 level_of l p = level Limited (ops_of l) (operands_of l p)
 
-abbrev pub compared_with : Parser Expr → Parser ((Op × Span) × Expr)
-compared_with p = followed_by (word Limited Node (operator comparing_ops)) (level_of levels.Or p)
-
+-- one comparison at most
 abbrev pub comparison_of : Parser Expr → Parser Expr
-comparison_of p = mapped (λ v. compared v.0 v.1) (followed_by (level_of levels.Or p) (at_most_once (among (kinds_of comparing_ops)) (compared_with p)))
+comparison_of p = mapped (λ v. compared v.0 v.1) (followed_by (operands_of levels.Comparison p) (at_most_once (among (kinds_of comparing_ops)) (operation_of levels.Comparison p)))
 
 -- An expression in its bracket, the list of a call, and a primary, in which at most so many brackets may be opened.
 abbrev pub bracket_at : ℕ → Parser Expr

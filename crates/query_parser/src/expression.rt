@@ -8,12 +8,10 @@ ghost use Rattle.query_grammar.specs.Parser.{Limited, word, next_is, repeated};
 ghost use Rattle.query_grammar.specs.Reading.{atom as atom_of, atom_starts, expr_starts, unary as unary_of, expr_at, separated, listed_by, call_of, after};
 ghost use Rattle.query_lang.specs.declared.query.Expr.TheVariants as exprs;
 ghost use Rattle.query_lang.specs.declared.token.Mark.TheVariants as marks;
-ghost use Rattle.query_parser.specs.Reads.{Gives, operands_of, operation_of, level_of, compared_with, comparison_of, bracket_at, arguments_at, primary_at};
+ghost use Rattle.query_parser.specs.Reads.{Gives, operands_of, operation_of, level_of, comparison_of, bracket_at, arguments_at, primary_at};
 
 use crate::halt::{Read, Role};
-use crate::operators::{
-    Level, at_comparison, at_operator, comparison_operator, function, operator,
-};
+use crate::operators::{Level, at_operator, function, operator};
 use crate::word::{
     at_mark, at_number, at_word, is_mark, is_name, is_number, is_word, keyword, mark, name,
     no_bracket, number, plain_mark,
@@ -234,7 +232,7 @@ fn unary(alloc: Global, brackets: u32, counts: Counts, rest: &[Token]) -> Read<'
 
 /// An operand of this level.
 #[cycle(expr)]
-#[tactic(auto, using(crate::proofs::Levels::operands_product, crate::proofs::Levels::operands_sum, crate::proofs::Levels::operands_shift, crate::proofs::Levels::operands_and, crate::proofs::Levels::operands_xor, crate::proofs::Levels::operands_or, crate::proofs::Levels::operands_both, crate::proofs::Levels::operands_either))]
+#[tactic(auto, using(crate::proofs::Levels::operands_product, crate::proofs::Levels::operands_sum, crate::proofs::Levels::operands_shift, crate::proofs::Levels::operands_and, crate::proofs::Levels::operands_xor, crate::proofs::Levels::operands_or, crate::proofs::Levels::operands_comparison, crate::proofs::Levels::operands_both, crate::proofs::Levels::operands_either))]
 fn operand(
     alloc: Global,
     of: Level,
@@ -251,6 +249,7 @@ fn operand(
         Level::And => level(alloc, Level::Shift, brackets, counts, rest),
         Level::Xor => level(alloc, Level::And, brackets, counts, rest),
         Level::Or => level(alloc, Level::Xor, brackets, counts, rest),
+        Level::Comparison => level(alloc, Level::Or, brackets, counts, rest),
         Level::Both => comparison(alloc, brackets, counts, rest),
         Level::Either => level(alloc, Level::Both, brackets, counts, rest),
     }
@@ -290,31 +289,16 @@ fn level(alloc: Global, of: Level, brackets: u32, counts: Counts, rest: &[Token]
     Ok((left, counts, rest))
 }
 
-/// A comparison's operator, and what stands behind it.
-#[cycle(expr)]
-fn compared_to(
-    alloc: Global,
-    brackets: u32,
-    counts: Counts,
-    rest: &[Token],
-) -> Read<'_, ((Op, Span), Expr)>
-    ensures { Gives result (compared_with (primary_at brackets) counts rest.now) }
-{
-    let (op, counts, rest) = comparison_operator(counts, rest)?;
-    let (right, counts, rest) = level(alloc, Level::Or, brackets, counts, rest)?;
-    Ok(((op, right), counts, rest))
-}
-
 /// One comparison at most.
 #[cycle(expr)]
 fn comparison(alloc: Global, brackets: u32, counts: Counts, rest: &[Token]) -> Read<'_, Expr>
     ensures { Gives result (comparison_of (primary_at brackets) counts rest.now) }
 {
-    let (left, counts, rest) = level(alloc, Level::Or, brackets, counts, rest)?;
-    if !at_comparison(rest) {
+    let (left, counts, rest) = operand(alloc, Level::Comparison, brackets, counts, rest)?;
+    if !at_operator(Level::Comparison, rest) {
         return Ok((left, counts, rest));
     }
-    let ((op, right), counts, rest) = compared_to(alloc, brackets, counts, rest)?;
+    let ((op, right), counts, rest) = operation(alloc, Level::Comparison, brackets, counts, rest)?;
     Ok((binary(alloc, op, left, right)?, counts, rest))
 }
 

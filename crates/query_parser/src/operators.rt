@@ -12,8 +12,8 @@ use crate::word::{is_mark, is_word};
 use query_grammar::{Counts, Stop};
 use query_lang::{Mark, Op, Span, Token, TokenKind, Word};
 
-/// Operators that bind alike and group from the left, from the closest on. Comparisons, which don't group, stand
-/// between `Or` and `Both`.
+/// Operators that bind alike, from the closest on. Those of one level group from the left, but for comparisons, which
+/// don't group.
 #[derive(Clone, Copy, Debug, PartialEq, Eq)]
 pub enum Level {
     Product,
@@ -22,6 +22,7 @@ pub enum Level {
     And,
     Xor,
     Or,
+    Comparison,
     Both,
     Either,
 }
@@ -59,26 +60,6 @@ fn only(kind: TokenKind, mark: Mark, op: Op) -> Option<Op>
     if is_mark(kind, mark) { Some(op) } else { None }
 }
 
-/// The operator of this level that the token is.
-fn level_op(level: Level, kind: TokenKind) -> Option<Op>
-    ensures { result ≡ op_among (ops_of level) kind }
-{
-    match level {
-        Level::Product => product_op(kind),
-        Level::Sum => one_of_two(kind, (Mark::Plus, Op::Add), (Mark::Minus, Op::Sub)),
-        Level::Shift => one_of_two(
-            kind,
-            (Mark::ShiftLeft, Op::Shl),
-            (Mark::ShiftRight, Op::Shr),
-        ),
-        Level::And => only(kind, Mark::And, Op::And),
-        Level::Xor => only(kind, Mark::Xor, Op::Xor),
-        Level::Or => only(kind, Mark::Or, Op::Or),
-        Level::Both => only(kind, Mark::Both, Op::Both),
-        Level::Either => only(kind, Mark::Either, Op::Either),
-    }
-}
-
 /// The comparison that the token is.
 fn comparison_op(kind: TokenKind) -> Option<Op>
     ensures { result ≡ op_among comparing_ops kind }
@@ -97,6 +78,27 @@ fn comparison_op(kind: TokenKind) -> Option<Op>
         Some(Op::Ge)
     } else {
         None
+    }
+}
+
+/// The operator of this level that the token is.
+fn level_op(level: Level, kind: TokenKind) -> Option<Op>
+    ensures { result ≡ op_among (ops_of level) kind }
+{
+    match level {
+        Level::Product => product_op(kind),
+        Level::Sum => one_of_two(kind, (Mark::Plus, Op::Add), (Mark::Minus, Op::Sub)),
+        Level::Shift => one_of_two(
+            kind,
+            (Mark::ShiftLeft, Op::Shl),
+            (Mark::ShiftRight, Op::Shr),
+        ),
+        Level::And => only(kind, Mark::And, Op::And),
+        Level::Xor => only(kind, Mark::Xor, Op::Xor),
+        Level::Or => only(kind, Mark::Or, Op::Or),
+        Level::Comparison => comparison_op(kind),
+        Level::Both => only(kind, Mark::Both, Op::Both),
+        Level::Either => only(kind, Mark::Either, Op::Either),
     }
 }
 
@@ -128,17 +130,6 @@ pub fn at_operator(level: Level, rest: &[Token]) -> bool
     }
 }
 
-/// Whether a comparison comes next.
-#[tactic(auto, using(crate::proofs::OperatorLists::next_is_op))]
-pub fn at_comparison(rest: &[Token]) -> bool
-    ensures { result ≡ next_is (among (kinds_of comparing_ops)) rest.now }
-{
-    match rest {
-        [first, ..] => comparison_op(first.kind).is_some(),
-        [] => false,
-    }
-}
-
 /// An operator of this level, which counts as a node.
 #[tactic(auto, using(crate::proofs::OperatorLists::operator_is))]
 pub fn operator(level: Level, counts: Counts, rest: &[Token]) -> Read<'_, (Op, Span)>
@@ -148,20 +139,6 @@ pub fn operator(level: Level, counts: Counts, rest: &[Token]) -> Read<'_, (Op, S
         return Err(Halt::At(Stop::Unexpected, rest));
     };
     match level_op(level, first.kind) {
-        Some(op) => Ok(((op, first.span), charged(Role::Node, counts, rest)?, behind)),
-        None => Err(Halt::At(Stop::Unexpected, rest)),
-    }
-}
-
-/// A comparison's operator, which counts as a node.
-#[tactic(auto, using(crate::proofs::OperatorLists::operator_is))]
-pub fn comparison_operator(counts: Counts, rest: &[Token]) -> Read<'_, (Op, Span)>
-    ensures { Gives result (word Limited Node (operator_of comparing_ops) counts rest.now) }
-{
-    let [first, behind @ ..] = rest else {
-        return Err(Halt::At(Stop::Unexpected, rest));
-    };
-    match comparison_op(first.kind) {
         Some(op) => Ok(((op, first.span), charged(Role::Node, counts, rest)?, behind)),
         None => Err(Halt::At(Stop::Unexpected, rest)),
     }

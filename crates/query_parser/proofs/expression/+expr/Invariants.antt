@@ -18,6 +18,7 @@ rank levels.Shift = 3
 rank levels.And = 4
 rank levels.Xor = 5
 rank levels.Or = 6
+rank levels.Comparison = 7
 rank levels.Both = 8
 rank levels.Either = 9
 
@@ -45,11 +46,8 @@ decreases-operation l = 50 * l.brackets + 4 * rank l.of + 1
 abbrev pub decreases-level : goal.decreases-level
 decreases-level l = 50 * l.brackets + 4 * rank l.of + 2
 
-abbrev pub decreases-compared_to : goal.decreases-compared_to
-decreases-compared_to l = 50 * l.brackets + 28
-
 abbrev pub decreases-comparison : goal.decreases-comparison
-decreases-comparison l = 50 * l.brackets + 29
+decreases-comparison l = 50 * l.brackets + 30
 
 abbrev pub decreases-expression : goal.decreases-expression
 decreases-expression l = 50 * l.brackets + 39
