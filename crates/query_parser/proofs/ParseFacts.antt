@@ -1,5 +1,5 @@
 -- What parsing gives, as the grammar relates it to the text.
-use Rattle.std.proofs.Common.{◌≡◌, ℕ, List, Ok, Err, Result}
+use Rattle.std.proofs.Common.{ℕ, List, Ok, Err, Result}
 use Rattle.std.specs.Prelude.{IfOk}
 use Rattle.query_lang.specs.declared.query.Query.{Query}
 use Rattle.query_grammar.specs.Texts.{IsFaultOf, IsQueryOf, parsed_text}

@@ -46,7 +46,10 @@ fn item(alloc: Global, counts: Counts, rest: &[Token]) -> Read<'_, Item>
 fn at_item(rest: &[Token]) -> bool
     ensures { result ≡ next_is (among item_starts) rest.now }
 {
-    at_word(Word::Def, rest) || at_name(rest) || at_word(Word::Final, rest) || at_word(Word::Print, rest)
+    at_word(Word::Def, rest)
+        || at_name(rest)
+        || at_word(Word::Final, rest)
+        || at_word(Word::Print, rest)
 }
 
 /// Any number of items.

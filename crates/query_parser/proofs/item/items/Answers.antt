@@ -12,10 +12,10 @@ pub returns-in_err-next : goal.returns-in_err-next
 returns-in_err-next c =
     let p = err_from_is_err_and c.from_residual.result c.from_residual.ensures.1 in
     rw (p.1, p.2) (fails _ _ _ (behind c.items.found) _ c.items.counter c.items.counts c.items.rest.now c.in_err-next.field-0.0
-      c.items-test.true (sym c.at_item.ensures ∙ c.if-not-at_item.false) c.in_err-next.ensures c.items.invariant)
+    c.items-test.true (sym c.at_item.ensures ∙ c.if-not-at_item.false) c.in_err-next.ensures c.items.invariant)
 
 pub returns : goal.returns
 returns c = elim c.items-test.branch [
-    | else-items-test w ↦ ends_list _ _ _ c.items.found _ c.items.counter c.items.counts c.items.rest.now (inl w.items-test.false) c.items.invariant
-    | then-items-test+then-not-at_item w ↦ ends_list _ _ _ c.items.found _ c.items.counter c.items.counts c.items.rest.now (inr (sym w.at_item.ensures ∙ w.if-not-at_item.true)) c.items.invariant
-  ]
+  | else-items-test w ↦ ends_list _ _ _ c.items.found _ c.items.counter c.items.counts c.items.rest.now (inl w.items-test.false) c.items.invariant
+  | then-items-test+then-not-at_item w ↦ ends_list _ _ _ c.items.found _ c.items.counter c.items.counts c.items.rest.now (inr (sym w.at_item.ensures ∙ w.if-not-at_item.true)) c.items.invariant
+]

@@ -1,4 +1,4 @@
-use Rattle.std.proofs.Common.{◌≡◌, ◌-◌, [], ◌∷◌, length}
+use Rattle.std.proofs.Common.{◌≡◌, ◌-◌, length}
 use Rattle.query_grammar.specs.Kinds.{among}
 use Rattle.query_grammar.specs.Parser.{Limited, turns, repeated}
 use Rattle.query_grammar.specs.Reading.{item, item_starts, expr_at, stmt_at}

@@ -11,4 +11,4 @@ pub returns-in_err-next : goal.returns-in_err-next
 returns-in_err-next c =
     let p = err_from_is_err_and c.from_residual-in_err-next.result c.from_residual-in_err-next.ensures.1 in
     rw (p.1, p.2) (fails _ _ _ (behind c.columns.found) _ c.columns.counter c.columns.counts c.columns.rest.now c.in_err-next.field-0.0
-      c.columns-test.true (sym c.at_mark.ensures ∙ c.if-not-at_mark.false) c.in_err-next.ensures c.columns.invariant)
+    c.columns-test.true (sym c.at_mark.ensures ∙ c.if-not-at_mark.false) c.in_err-next.ensures c.columns.invariant)

@@ -2,7 +2,7 @@ use Rattle.std.proofs.Common.{◌≡◌, ◌-◌, [], ◌∷◌, length}
 use Rattle.query_lang.specs.declared.token.Mark.TheVariants as marks
 use Rattle.query_grammar.specs.Kinds.{among, sign}
 use Rattle.query_grammar.specs.Parser.{Limited, turns}
-use Rattle.query_grammar.specs.Reading.{key_of,  after, separated}
+use Rattle.query_grammar.specs.Reading.{key_of, after, separated}
 use Rattle.query_parser.proofs.Loops.{finished, behind}
 use Rattle.query_parser.proofs.stream.keys.Given as goal
 
