@@ -9,7 +9,7 @@ ghost use Rattle.query_parser.specs.Reads.{Gives};
 
 use crate::halt::{Read, Role};
 use crate::statement::block_within;
-use crate::word::{at_mark, at_name, keyword, name, number, plain_mark};
+use crate::word::{at_mark, at_name, comma_name, keyword, name, number, plain_mark};
 use marple_base::Seq;
 use query_grammar::Counts;
 use query_lang::{FoldDef, Item, Mark, Name, StateVar, Token, Word};
@@ -72,14 +72,6 @@ fn state(alloc: Global, counts: Counts, rest: &[Token]) -> Read<'_, Seq<StateVar
     Ok((found, counts, rest))
 }
 
-fn next_name(counts: Counts, rest: &[Token]) -> Read<'_, Name>
-    ensures { Gives result (after Limited (sign marks.Comma) (plain_name Limited) counts rest.now) }
-{
-    let (_, counts, rest) = plain_mark(Mark::Comma, counts, rest)?;
-    let (next, counts, rest) = name(Role::Plain, counts, rest)?;
-    Ok((next, counts, rest))
-}
-
 /// Names with commas between them.
 fn names(alloc: Global, counts: Counts, rest: &[Token]) -> Read<'_, Seq<Name>>
     ensures { Gives result (separated Limited (plain_name Limited) counts rest.now) }
@@ -91,7 +83,7 @@ fn names(alloc: Global, counts: Counts, rest: &[Token]) -> Read<'_, Seq<Name>>
         if !at_mark(Mark::Comma, rest) {
             break;
         }
-        let (next, after, behind) = next_name(counts, rest)?;
+        let (next, after, behind) = comma_name(counts, rest)?;
         found.push(next)?;
         counts = after;
         rest = behind;

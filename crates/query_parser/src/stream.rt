@@ -9,27 +9,24 @@ ghost use Rattle.query_parser.specs.Reads.{Gives};
 
 use crate::expression::expression;
 use crate::halt::{Read, Role};
-use crate::word::{at_mark, at_name, at_word, five_tuple, keyword, name, plain_mark};
+use crate::word::{at_mark, at_name, at_word, comma_name, five_tuple, keyword, name, plain_mark};
 use marple_base::Seq;
 use query_grammar::Counts;
 use query_lang::{Column, Expr, Item, Key, Mark, Name, StreamDef, StreamOp, Token, Word};
 use std::alloc::Global;
 
-/// A comma, and a name behind it.
-pub fn comma_name(counts: Counts, rest: &[Token]) -> Read<'_, Name>
-    ensures { Gives result (after Limited (sign marks.Comma) (plain_name Limited) counts rest.now) }
-{
-    let (_, counts, rest) = plain_mark(Mark::Comma, counts, rest)?;
-    let (next, counts, rest) = name(Role::Plain, counts, rest)?;
-    Ok((next, counts, rest))
-}
+/// How many brackets may be opened inside the one of a filter: at most 64 are open at once.
+const WITHIN_FILTER: u32 = 63;
+
+/// How many brackets may be opened inside the two of a map's columns.
+const WITHIN_COLUMNS: u32 = 62;
 
 /// A comma, and a condition behind it.
 fn comma_condition(alloc: Global, counts: Counts, rest: &[Token]) -> Read<'_, Expr>
     ensures { Gives result (after Limited (sign marks.Comma) (expr_at Limited 63) counts rest.now) }
 {
     let (_, counts, rest) = plain_mark(Mark::Comma, counts, rest)?;
-    let (value, counts, rest) = expression(alloc, 63, counts, rest)?;
+    let (value, counts, rest) = expression(alloc, WITHIN_FILTER, counts, rest)?;
     Ok((value, counts, rest))
 }
 
@@ -59,7 +56,7 @@ fn column(alloc: Global, counts: Counts, rest: &[Token]) -> Read<'_, Column>
 {
     let (name, counts, rest) = name(Role::Plain, counts, rest)?;
     let (_, counts, rest) = plain_mark(Mark::Assign, counts, rest)?;
-    let (value, counts, rest) = expression(alloc, 62, counts, rest)?;
+    let (value, counts, rest) = expression(alloc, WITHIN_COLUMNS, counts, rest)?;
     Ok((Column { name, value }, counts, rest))
 }
 

@@ -3,7 +3,8 @@
 ghost use Rattle.std.specs.Prelude.{◌≡◌, [], ◌∷◌, nat_eq};
 ghost use Rattle.query_grammar.specs.Kinds.{among, is, name as name_of, number as number_of, kind_number, mark_number, word_number, sign, keyword as keyword_of};
 ghost use Rattle.query_grammar.specs.Parser.{Limited, word, next_is};
-ghost use Rattle.query_grammar.specs.Reading.{token_of, blocked};
+ghost use Rattle.query_grammar.specs.Reading.{token_of, blocked, after, plain_name};
+ghost use Rattle.query_lang.specs.declared.token.Mark.TheVariants as marks;
 ghost use Rattle.query_lang.specs.declared.token.TokenKind.TheVariants as kinds;
 ghost use Rattle.query_parser.specs.Reads.{Gives, role_of};
 
@@ -126,6 +127,15 @@ pub fn name(role: Role, counts: Counts, rest: &[Token]) -> Read<'_, Name>
         }
         _ => Err(Halt::At(Stop::Unexpected, rest)),
     }
+}
+
+/// A comma, and a name behind it.
+pub fn comma_name(counts: Counts, rest: &[Token]) -> Read<'_, Name>
+    ensures { Gives result (after Limited (sign marks.Comma) (plain_name Limited) counts rest.now) }
+{
+    let (_, counts, rest) = plain_mark(Mark::Comma, counts, rest)?;
+    let (next, counts, rest) = name(Role::Plain, counts, rest)?;
+    Ok((next, counts, rest))
 }
 
 /// A number, and where it stands.
