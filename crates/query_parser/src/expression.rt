@@ -34,6 +34,7 @@ fn binary(alloc: Global, op: (Op, Span), left: Expr, right: Expr) -> Result<Expr
     ))
 }
 
+/// An expression behind a `!`.
 fn not(alloc: Global, span: Span, inner: Expr) -> Result<Expr, AllocError>
     ensures { IfOk result (λ e. e ≡ exprs.Not span inner) }
 {
@@ -271,7 +272,7 @@ fn operation(
     Ok(((op, right), counts, rest))
 }
 
-/// Operands with operators of this level between them, which group from the left.
+/// Operands with operators of this level between them, which group from the left. No comparisons are read so.
 #[cycle(expr)]
 fn level(alloc: Global, of: Level, brackets: u32, counts: Counts, rest: &[Token]) -> Read<'_, Expr>
     ensures { Gives result (level_of of (primary_at brackets) counts rest.now) }

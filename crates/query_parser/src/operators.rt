@@ -27,6 +27,7 @@ pub enum Level {
     Either,
 }
 
+/// The multiplying operator that the token is.
 fn product_op(kind: TokenKind) -> Option<Op>
     ensures { result ≡ op_among product_ops kind }
 {
@@ -54,6 +55,7 @@ fn one_of_two(kind: TokenKind, first: (Mark, Op), second: (Mark, Op)) -> Option<
     }
 }
 
+/// The operator, where the token is its mark.
 fn only(kind: TokenKind, mark: Mark, op: Op) -> Option<Op>
     ensures { result ≡ op_among ((sign mark, op) ∷ []) kind }
 {

@@ -39,7 +39,7 @@ fn assignment(alloc: Global, brackets: u32, counts: Counts, rest: &[Token]) -> R
     Ok((Stmt::Assign(name, value), counts, rest))
 }
 
-/// What stands behind `emit`.
+/// The empty brackets behind `emit`, and the semicolon.
 #[tactic(auto, using(crate::proofs::Statements::empty_more))]
 fn no_arguments(brackets: u32, counts: Counts, rest: &[Token]) -> Read<'_, (Span, Span)>
     ensures { Gives result (empty_at brackets counts rest.now) }
@@ -53,6 +53,7 @@ fn no_arguments(brackets: u32, counts: Counts, rest: &[Token]) -> Read<'_, (Span
     Ok(((close, semicolon), counts, rest))
 }
 
+/// `emit`, with its empty brackets.
 fn emission(brackets: u32, counts: Counts, rest: &[Token]) -> Read<'_, Stmt>
     ensures { Gives result (emission_of Limited (empty_at brackets) counts rest.now) }
 {
