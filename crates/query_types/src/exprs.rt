@@ -1,0 +1,247 @@
+// Expressions over columns.
+
+ghost use Rattle.std.specs.Prelude.{◌≡◌, ◌∷◌, [], Ok};
+ghost use Rattle.query_lang.specs.Checks.{is_among, place_of};
+ghost use Rattle.query_lang.specs.TypedExprs.{slot_of, is_condition_sort, is_operand, is_right_constant, sort_of, of_two, call_of, negated, expr_checked, condition_of, word_of};
+ghost use Rattle.query_types.specs.Answers.{Answers};
+
+use crate::answer::{CheckAnswer, fault};
+use marple_base::{Boxed, Seq};
+use query_lang::typing::{Found, Sort};
+use query_lang::{Expr, FaultKind, Name, Op, Span, TypedExpr};
+use std::alloc::{AllocError, Global};
+
+// Is the name among these?
+fn has_name(names: &[u32], id: u32) -> bool
+    ensures { result ≡ is_among id names.now }
+{
+    names.contains(&id)
+}
+
+// The name's place among these.
+fn find_place(names: &[u32], id: u32) -> Option<usize>
+    ensures { result ≡ place_of names.now id }
+{
+    for (at, name) in names.iter().enumerate() {
+        if *name == id {
+            return Some(at);
+        }
+    }
+    None
+}
+
+// A place as a slot.
+fn slot_number(at: usize) -> Result<u16, CheckAnswer>
+    ensures { Answers result (Ok at) }
+{
+    if at < 65536 {
+        Ok(at as u16)
+    } else {
+        Err(CheckAnswer::Memory)
+    }
+}
+
+// The slot of a column.
+fn find_slot(columns: &[u32], hidden: &[u32], name: Name) -> Result<u16, CheckAnswer>
+    ensures { Answers result (slot_of columns.now hidden.now name) }
+{
+    match find_place(columns, name.id) {
+        Some(at) => slot_number(at),
+        None => {
+            if has_name(hidden, name.id) {
+                Err(fault(FaultKind::StateOnLine, name.span))
+            } else {
+                Err(fault(FaultKind::UnknownName, name.span))
+            }
+        }
+    }
+}
+
+fn is_condition(sort: Sort) -> bool
+    ensures { result ≡ is_condition_sort sort }
+{
+    match sort {
+        Sort::Condition => true,
+        Sort::Number(_) | Sort::Word => false,
+    }
+}
+
+// May this stand beside the operator?
+fn fits(op: Op, sort: Sort) -> bool
+    ensures { result ≡ is_operand op sort }
+{
+    match op {
+        Op::Both | Op::Either => is_condition(sort),
+        _ => !is_condition(sort),
+    }
+}
+
+// May this stand to the right of the operator, where it fits?
+fn fits_right(op: Op, sort: Sort) -> bool
+    ensures { result ≡ is_right_constant op sort }
+{
+    match op {
+        Op::Div | Op::Rem => match sort {
+            Sort::Number(n) => 0 < n,
+            Sort::Word | Sort::Condition => false,
+        },
+        Op::Shl | Op::Shr | Op::Decay => match sort {
+            Sort::Number(n) => n < 64,
+            Sort::Word | Sort::Condition => false,
+        },
+        _ => true,
+    }
+}
+
+fn sort_made(op: Op) -> Sort
+    ensures { result ≡ sort_of op }
+{
+    match op {
+        Op::Eq | Op::Ne | Op::Lt | Op::Le | Op::Gt | Op::Ge | Op::Both | Op::Either => {
+            Sort::Condition
+        }
+        _ => Sort::Word,
+    }
+}
+
+// An operator between two expressions.
+fn typed_binary(
+    alloc: Global,
+    op: Op,
+    left: TypedExpr,
+    right: TypedExpr,
+) -> Result<TypedExpr, CheckAnswer>
+    ensures { Answers result (Ok (TypedExpr.Binary op left right)) }
+{
+    Ok(TypedExpr::Binary(op, Boxed::new(alloc, left)?, Boxed::new(alloc, right)?))
+}
+
+// An operator or function between two operands.
+fn join(alloc: Global, op: Op, at: Span, left: Found, right: Found) -> Result<Found, CheckAnswer>
+    ensures { Answers result (of_two op at left right) }
+{
+    if !fits(op, left.sort) {
+        return Err(fault(FaultKind::WrongKind, left.at));
+    }
+    if !fits(op, right.sort) {
+        return Err(fault(FaultKind::WrongKind, right.at));
+    }
+    if !fits_right(op, right.sort) {
+        return Err(fault(FaultKind::BadConstant, right.at));
+    }
+    let tree = typed_binary(alloc, op, left.tree, right.tree)?;
+    Ok(Found {
+        tree,
+        sort: sort_made(op),
+        at,
+    })
+}
+
+// A function of its operands.
+fn call(alloc: Global, op: Op, span: Span, operands: Seq<Found>) -> Result<Found, CheckAnswer>
+    ensures { Answers result (call_of op span operands) }
+{
+    let mut items = operands.into_vec();
+    if items.len() == 2 {
+        if let Some(second) = items.pop() {
+            if let Some(first) = items.pop() {
+                return join(alloc, op, span, first, second);
+            }
+        }
+    }
+    Err(fault(FaultKind::WrongArity, span))
+}
+
+// `!` before an expression.
+fn negate(alloc: Global, span: Span, inner: Found) -> Result<Found, CheckAnswer>
+    ensures { Answers result (negated span inner) }
+{
+    if !is_condition(inner.sort) {
+        return Err(fault(FaultKind::WrongKind, inner.at));
+    }
+    Ok(Found {
+        tree: TypedExpr::Not(Boxed::new(alloc, inner.tree)?),
+        sort: Sort::Condition,
+        at: span,
+    })
+}
+
+/// The typed expression over these columns, or its first fault: the operands first, from left to right, and then the node. The
+/// hidden states are the names that are not read while packets pass.
+pub fn check_expr(
+    alloc: Global,
+    columns: &[u32],
+    hidden: &[u32],
+    e: &Expr,
+) -> Result<Found, CheckAnswer>
+    ensures { Answers result (expr_checked columns.now hidden.now e.now) }
+{
+    match e {
+        Expr::Number(n, span) => Ok(Found {
+            tree: TypedExpr::Number(*n),
+            sort: Sort::Number(*n),
+            at: *span,
+        }),
+        Expr::Named(name) => {
+            let slot = find_slot(columns, hidden, *name)?;
+            Ok(Found {
+                tree: TypedExpr::Slot(slot),
+                sort: Sort::Word,
+                at: name.span,
+            })
+        }
+        Expr::Not(span, inner) => {
+            let of = check_expr(alloc, columns, hidden, inner.get())?;
+            let whole = negate(alloc, *span, of)?;
+            Ok(whole)
+        }
+        Expr::Binary(op, _, left, right) => {
+            let first = check_expr(alloc, columns, hidden, left.get())?;
+            let second = check_expr(alloc, columns, hidden, right.get())?;
+            let at = first.at;
+            let whole = join(alloc, *op, at, first, second)?;
+            Ok(whole)
+        }
+        Expr::Call(op, span, arguments) => {
+            let mut operands = Seq::new(alloc);
+            'arguments: for argument in arguments.as_slice() {
+                let operand = check_expr(alloc, columns, hidden, argument)?;
+                operands.push(operand)?;
+            }
+            let whole = call(alloc, *op, *span, operands)?;
+            Ok(whole)
+        }
+    }
+}
+
+/// The same of an expression that has to be a condition.
+pub fn check_condition(
+    alloc: Global,
+    columns: &[u32],
+    hidden: &[u32],
+    e: &Expr,
+) -> Result<TypedExpr, CheckAnswer>
+    ensures { Answers result (condition_of columns.now hidden.now e.now) }
+{
+    let found = check_expr(alloc, columns, hidden, e)?;
+    if !is_condition(found.sort) {
+        return Err(fault(FaultKind::WrongKind, found.at));
+    }
+    Ok(found.tree)
+}
+
+/// The same of an expression that has to be a word.
+pub fn check_word(
+    alloc: Global,
+    columns: &[u32],
+    hidden: &[u32],
+    e: &Expr,
+) -> Result<TypedExpr, CheckAnswer>
+    ensures { Answers result (word_of columns.now hidden.now e.now) }
+{
+    let found = check_expr(alloc, columns, hidden, e)?;
+    if is_condition(found.sort) {
+        return Err(fault(FaultKind::WrongKind, found.at));
+    }
+    Ok(found.tree)
+}

@@ -1,0 +1,9 @@
+//! The typing of queries: names get numbers and slots, and the first fault is told. So far of expressions; and what the
+//! groupbys of a typed query take from the packets.
+#![tactic(auto)]
+
+mod answer;
+mod exprs;
+
+pub use answer::CheckAnswer;
+pub use exprs::{check_condition, check_expr, check_word};
