@@ -12,3 +12,5 @@ pub mod Splits
 pub mod Runs
 pub mod Whole
 pub mod TextFaults
+pub mod Weights
+pub mod ItemWeights
