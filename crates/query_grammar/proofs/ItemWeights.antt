@@ -1,17 +1,11 @@
 -- The items of an accepted query keep the limits on nodes and statements.
-use Rattle.std.proofs.Common.{◌≡◌, ℕ, zero, suc, ◌+◌, ◌<◌, ◌≤◌, Bool, true, false, cond, ltb, List, [], ◌∷◌, ◌++◌, length, get_or, Option, Some, None, refl, sym, ap, subst, ◌∙◌, arith, inl, inr, ◌⊎◌}
-use Rattle.std.specs.Prelude.{sum_by, All}
+use Rattle.std.proofs.Common.{◌≡◌, ℕ, zero, suc, ◌+◌, ◌<◌, ◌≤◌, Bool, true, false, cond, ltb, List, [], ◌∷◌, ◌++◌, Option, Some, None, refl, sym, ap, ◌∙◌, arith, inl, inr, ◌⊎◌}
+use Rattle.std.specs.Prelude.{All}
 use Rattle.std.specs.Option.{option_and_then}
 use Rattle.std.proofs.lemmas.Bool.{ltb-true}
 use Rattle.query_lang.specs.declared.fault.Span.{Span}
 use Rattle.query_lang.specs.declared.query.Column.{Column}
-use Rattle.query_lang.specs.declared.query.Name.{Name}
-use Rattle.query_lang.specs.declared.query.Key.{Key}
 use Rattle.query_lang.specs.declared.query.Expr.{Expr}
-use Rattle.query_lang.specs.declared.query.Stmt.{Stmt}
-use Rattle.query_lang.specs.declared.query.StateVar.{StateVar}
-use Rattle.query_lang.specs.declared.query.StreamOp.{StreamOp}
-use Rattle.query_lang.specs.declared.query.FinalOp.{FinalOp}
 use Rattle.query_lang.specs.declared.query.Item.{Item}
 use Rattle.query_lang.specs.declared.query.Item.TheVariants as items
 use Rattle.query_lang.specs.declared.token.Mark.TheVariants as marks
@@ -21,14 +15,14 @@ use Rattle.query_lang.specs.declared.token.Token.{Token}
 use Rattle.query_lang.specs.TypedFolds.{expr_nodes, stmt_nodes, stmt_count}
 use Rattle.query_lang.specs.Limits.{columns_nodes, stream_nodes, final_nodes, KeepsLimits}
 use Rattle.query_grammar.specs.declared.stop.Counts.{Counts}
-use Rattle.query_grammar.specs.Kinds.{sign, keyword, name, number}
-use Rattle.query_grammar.specs.Language.{Role, Plain, Node, Statement, Opening, Leaf, Language, Word, Then, Repeated, AtMostOnce, Either, Meaning}
-use Rattle.query_grammar.specs.Parser.{Limits, Limited, charge, no_counts}
-use Rattle.query_grammar.specs.Grammar.{Plain_name, After, Before, Brackets, Parens, Separated, Listed, Expression, Statement_at, Block, StateVariable, Parameters, Fold, Filter, ColumnOf, Mapping, Pairing, KeyOf, Group, Best, Streaming, Stream, Finishing, Final, Print, ItemOf, Query}
+use Rattle.query_grammar.specs.Kinds.{sign, keyword}
+use Rattle.query_grammar.specs.Language.{Role, Plain, Node, Statement, Opening, Leaf, Language, Word, Then, Repeated, Either, Meaning}
+use Rattle.query_grammar.specs.Parser.{Limited, charge, no_counts}
+use Rattle.query_grammar.specs.Grammar.{Plain_name, After, Brackets, Separated, Listed, StateVariable, Parameters, Fold, Filter, ColumnOf, Mapping, Pairing, KeyOf, Group, Best, Streaming, Stream, Finishing, Final, Print, ItemOf}
 use Rattle.query_grammar.specs.Fault.{IsAccepted}
 use Rattle.query_grammar.proofs.Parses.{pays, pays-append}
 use Rattle.query_grammar.proofs.Runs.{Value, pays_is}
-use Rattle.query_grammar.proofs.Weights.{total, sum_total, is_node, is_statement, is_opening, leaves_by, Weight, Weighs, none, weigh_plain, weigh_then, weigh_meaning, weigh_either, weigh_repeated, weigh_once, weigh_same, weigh_after, weigh_before, weigh_between, weigh_separated, weigh_listed, weigh_parens, weigh_block, weigh_expr, weigh_stmt, if_some, nothing_in}
+use Rattle.query_grammar.proofs.Weights.{total, sum_total, is_node, is_statement, is_opening, leaves_by, Weight, Weighs, none, weigh_plain, weigh_then, weigh_meaning, weigh_either, weigh_once, weigh_same, weigh_after, weigh_before, weigh_between, weigh_separated, weigh_listed, weigh_parens, weigh_block, weigh_expr, weigh_stmt, if_some, nothing_in}
 
 -- ---- what a limit leaves
 
@@ -81,8 +75,10 @@ opens_then : {A B : Type 0} {takes : Token → Option A} {M : Language B} (f g :
 opens_then f g p = record { is = λ w v h. (record { role = Opening; token = h.3.0 }, h.1, h.2 ∙ ap (λ (u : List Leaf). u ++ h.1) h.3.1, refl, p.is h.1 v.1 h.4) }
 
 opens_meaning : {A B : Type 0} {L : Language A} {h : A → B} (f g : A → ℕ) (f' g' : B → ℕ) → Opens L f g → ((a : A) → f a ≡ f' (h a)) → ((a : A) → g a ≡ g' (h a)) → Opens (Meaning h L) f' g'
-opens_meaning {h = h} f g f' g' p e d = record { is = λ w v m. let o = p.is w m.0 m.1 in
-    (o.0, o.1, o.2, o.3, record { nodes = o.4.nodes ∙ e m.0 ∙ ap f' m.2; statements = o.4.statements ∙ d m.0 ∙ ap g' m.2; inner = o.4.inner }) }
+opens_meaning {h = h} f g f' g' p e d = record {
+  is = λ w v m. let o = p.is w m.0 m.1 in
+      (o.0, o.1, o.2, o.3, record { nodes = o.4.nodes ∙ e m.0 ∙ ap f' m.2; statements = o.4.statements ∙ d m.0 ∙ ap g' m.2; inner = o.4.inner });
+}
 
 opens_either : {A : Type 0} {L M : Language A} (f g : A → ℕ) → Opens L f g → Opens M f g → Opens (Either L M) f g
 opens_either {A} {L} {M} f g p q = record { is = λ w v h. go w v h }
@@ -137,7 +133,7 @@ item_count (items.Print table) = 0
 opens_fold : (d : ℕ) → Opens (Fold d) item_nodes item_count
 opens_fold d = opens_meaning (λ v. 0 + total stmt_nodes v.1.1.1) (λ v. 0 + total stmt_count v.1.1.1) item_nodes item_count
     (opens_then (λ v. 0 + total stmt_nodes v.1.1) (λ v. 0 + total stmt_count v.1.1)
-      (named (λ v. 0 + total stmt_nodes v.1) (λ v. 0 + total stmt_count v.1) (weigh_then none none (total stmt_nodes) (total stmt_count) weigh_parameters (weigh_block (weigh_stmt d)))))
+    (named (λ v. 0 + total stmt_nodes v.1) (λ v. 0 + total stmt_count v.1) (weigh_then none none (total stmt_nodes) (total stmt_count) weigh_parameters (weigh_block (weigh_stmt d)))))
     (λ a. omega arith) (λ a. omega arith)
 
 weigh_filter : {E : Language Expr} → Weighs E expr_nodes none → Weighs (Filter E) (λ v. expr_nodes v.1) none

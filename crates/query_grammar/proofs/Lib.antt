@@ -14,3 +14,4 @@ pub mod Whole
 pub mod TextFaults
 pub mod Weights
 pub mod ItemWeights
+pub mod Numbered

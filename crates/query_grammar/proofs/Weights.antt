@@ -1,10 +1,8 @@
 -- The nodes and statements of what a word means are counted among the word's leaves.
-use Rattle.std.proofs.Common.{◌≡◌, ℕ, zero, suc, ◌+◌, ◌-◌, ◌^◌, ◌<◌, ◌≤◌, Bool, true, false, cond, ltb, List, [], ◌∷◌, ◌++◌, length, map, Option, Some, None, refl, sym, ap, subst, ◌∙◌, arith, inl, inr, ◌⊎◌}
-use Rattle.std.specs.Prelude.{sum, sum_by, fold, All}
-use Rattle.std.specs.Option.{option_and_then}
+use Rattle.std.proofs.Common.{◌≡◌, ℕ, zero, suc, ◌+◌, ◌-◌, ◌^◌, List, [], ◌∷◌, ◌++◌, map, Option, Some, None, refl, sym, ap, subst, ◌∙◌, arith, inl, inr, ◌⊎◌}
+use Rattle.std.specs.Prelude.{sum, sum_by, fold}
 use Rattle.query_lang.specs.declared.fault.Span.{Span}
 use Rattle.query_lang.specs.declared.fold.Op.{Op}
-use Rattle.query_lang.specs.declared.query.Column.{Column}
 use Rattle.query_lang.specs.declared.query.Name.{Name}
 use Rattle.query_lang.specs.declared.query.Expr.{Expr, Number, Named, Not, Binary, Call, fold-roll-Expr}
 use Rattle.query_lang.specs.declared.query.Expr.TheOpen as expr
@@ -19,7 +17,7 @@ use Rattle.query_lang.specs.declared.token.Token.{Token}
 use Rattle.query_lang.specs.TypedFolds.{expr_nodes, nodes_step, stmt_nodes, stmt_nodes_step, stmt_count, count_step}
 use Rattle.query_grammar.specs.Language.{Role, Plain, Node, Statement, Opening, Leaf, Language, Word, Then, Repeated, AtMostOnce, Either, Meaning, Chain, Chained}
 use Rattle.query_grammar.specs.Kinds.{sign, keyword}
-use Rattle.query_grammar.specs.Grammar.{grouped, compared, negated, list_of, listed, else_of, Token_of, After, Before, Between, Parens, Brackets, Separated, Listed, Operators, either_ops, both_ops, comparing_ops, or_ops, xor_ops, and_ops, shift_ops, sum_ops, product_ops, functions, Level, Atom, CallOf, Primary, Unary, Product, Sum, Shift, BitAnd, BitXor, BitOr, Comparison, Conjunction, Disjunction, Expression, Assignment, Emission, Block, IfPart, ElsePart, IfStatement, Statement_at}
+use Rattle.query_grammar.specs.Grammar.{grouped, compared, negated, listed, else_of, After, Before, Between, Parens, Separated, Listed, Operators, either_ops, both_ops, or_ops, xor_ops, and_ops, shift_ops, sum_ops, product_ops, Level, Atom, CallOf, Unary, Product, Sum, Shift, BitAnd, BitXor, BitOr, Comparison, Conjunction, Disjunction, Expression, Assignment, Emission, Block, IfPart, ElsePart, IfStatement, Statement_at}
 
 -- ---- sums
 
@@ -113,10 +111,10 @@ pub record Weight (w : List Leaf) (n s : ℕ) : Type 0 where
 
 pub both : (w u x : List Leaf) (n s m t : ℕ) → w ≡ u ++ x → Weight u n s → Weight x m t → Weight w (n + m) (s + t)
 both w u x n s m t e f g = subst (λ (z : List Leaf). Weight z (n + m) (s + t)) (sym e) (record {
-    nodes = omega (arith, total_append (λ (l : Leaf). is_node l.role) u x, f.nodes, g.nodes);
-    statements = omega (arith, total_append (λ (l : Leaf). is_statement l.role) u x, f.statements, g.statements);
-    inner = omega (arith, total_append (λ (l : Leaf). is_opening l.role) u x, f.inner, g.inner);
-  })
+  nodes = omega (arith, total_append (λ (l : Leaf). is_node l.role) u x, f.nodes, g.nodes);
+  statements = omega (arith, total_append (λ (l : Leaf). is_statement l.role) u x, f.statements, g.statements);
+  inner = omega (arith, total_append (λ (l : Leaf). is_opening l.role) u x, f.inner, g.inner);
+})
 
 nothing : (w : List Leaf) → w ≡ [] → Weight w 0 0
 nothing w e = subst (λ (z : List Leaf). Weight z 0 0) (sym e) (record { nodes = refl; statements = refl; inner = refl })
@@ -147,8 +145,10 @@ pub weigh_then : {A B : Type 0} {L : Language A} {M : Language B} (f g : A → �
 weigh_then f g f' g' p q = record { is = λ w v h. both w h.0 h.1 (f v.0) (g v.0) (f' v.1) (g' v.1) h.2 (p.is h.0 v.0 h.3) (q.is h.1 v.1 h.4) }
 
 pub weigh_meaning : {A B : Type 0} {L : Language A} {h : A → B} (f g : A → ℕ) (f' g' : B → ℕ) → Weighs L f g → ((a : A) → f a ≡ f' (h a)) → ((a : A) → g a ≡ g' (h a)) → Weighs (Meaning h L) f' g'
-weigh_meaning {h = h} f g f' g' p e d = record { is = λ w v m.
-    same_weight w (f m.0) (g m.0) (f' v) (g' v) (e m.0 ∙ ap f' m.2) (d m.0 ∙ ap g' m.2) (p.is w m.0 m.1) }
+weigh_meaning {h = h} f g f' g' p e d = record {
+  is = λ w v m.
+      same_weight w (f m.0) (g m.0) (f' v) (g' v) (e m.0 ∙ ap f' m.2) (d m.0 ∙ ap g' m.2) (p.is w m.0 m.1);
+}
 
 pub weigh_either : {A : Type 0} {L M : Language A} (f g : A → ℕ) → Weighs L f g → Weighs M f g → Weighs (Either L M) f g
 weigh_either {A} {L} {M} f g p q = record { is = λ w v h. go w v h }
@@ -225,7 +225,7 @@ nothing_more (x ∷ xs) = omega (arith, nothing_more xs)
 pub weigh_level : {P : Language Expr} (ops : Operators) → Weighs P expr_nodes none → Weighs (Level ops P) expr_nodes none
 weigh_level ops p = weigh_meaning (λ v. expr_nodes v.0 + total (λ (o : (Op × Span) × Expr). 1 + expr_nodes o.1) v.1) (λ v. 0 + total (λ (o : (Op × Span) × Expr). 0 + 0) v.1) expr_nodes none
     (weigh_then expr_nodes none (total (λ (o : (Op × Span) × Expr). 1 + expr_nodes o.1)) (total (λ (o : (Op × Span) × Expr). 0 + 0)) p
-      (weigh_repeated (λ (o : (Op × Span) × Expr). 1 + expr_nodes o.1) (λ (o : (Op × Span) × Expr). 0 + 0) (weigh_then one none expr_nodes none weigh_node p)))
+    (weigh_repeated (λ (o : (Op × Span) × Expr). 1 + expr_nodes o.1) (λ (o : (Op × Span) × Expr). 0 + 0) (weigh_then one none expr_nodes none weigh_node p)))
     (λ a. grouped_nodes a.0 a.1) (λ a. omega (arith, nothing_more a.1))
 
 weigh_unary : {P : Language Expr} → Weighs P expr_nodes none → Weighs (Unary P) expr_nodes none
@@ -242,9 +242,9 @@ weigh_comparison {P} p =
     let xo : Weighs (BitXor P) expr_nodes none = weigh_level xor_ops an in
     let bo : Weighs (BitOr P) expr_nodes none = weigh_level or_ops xo in
     weigh_meaning (λ v. expr_nodes v.0 + if_some (λ (o : (Op × Span) × Expr). 1 + expr_nodes o.1) v.1) (λ v. 0 + if_some (λ (o : (Op × Span) × Expr). 0 + 0) v.1) expr_nodes none
-      (weigh_then expr_nodes none (if_some (λ (o : (Op × Span) × Expr). 1 + expr_nodes o.1)) (if_some (λ (o : (Op × Span) × Expr). 0 + 0)) bo
-        (weigh_once (λ (o : (Op × Span) × Expr). 1 + expr_nodes o.1) (λ (o : (Op × Span) × Expr). 0 + 0) (weigh_then one none expr_nodes none weigh_node bo)))
-      (λ a. compared_nodes a.0 a.1) (λ a. no_more a.1)
+    (weigh_then expr_nodes none (if_some (λ (o : (Op × Span) × Expr). 1 + expr_nodes o.1)) (if_some (λ (o : (Op × Span) × Expr). 0 + 0)) bo
+    (weigh_once (λ (o : (Op × Span) × Expr). 1 + expr_nodes o.1) (λ (o : (Op × Span) × Expr). 0 + 0) (weigh_then one none expr_nodes none weigh_node bo)))
+    (λ a. compared_nodes a.0 a.1) (λ a. no_more a.1)
   where
     no_more : (o : Option ((Op × Span) × Expr)) → 0 + if_some (λ (o : (Op × Span) × Expr). 0 + 0) o ≡ 0
     no_more None = refl
@@ -310,8 +310,8 @@ chains T p w [] None h = nothing w h
 chains T p w [] (Some b) h = same_weight w (total stmt_nodes b) (total stmt_count b) (0 + total stmt_nodes b) (0 + total stmt_count b) (omega arith) (omega arith) (p.is w (inr b) h)
 chains T p w (a ∷ others) o h =
     same_weight w (branch_nodes a + (total branch_nodes others + if_some (total stmt_nodes) o)) (branch_count a + (total branch_count others + if_some (total stmt_count) o))
-      (branch_nodes a + total branch_nodes others + if_some (total stmt_nodes) o) (branch_count a + total branch_count others + if_some (total stmt_count) o) (omega arith) (omega arith)
-      (both w h.0 h.1 (branch_nodes a) (branch_count a) (total branch_nodes others + if_some (total stmt_nodes) o) (total branch_count others + if_some (total stmt_count) o) h.2 (p.is h.0 (inl a) h.3) (chains T p h.1 others o h.4))
+    (branch_nodes a + total branch_nodes others + if_some (total stmt_nodes) o) (branch_count a + total branch_count others + if_some (total stmt_count) o) (omega arith) (omega arith)
+    (both w h.0 h.1 (branch_nodes a) (branch_count a) (total branch_nodes others + if_some (total stmt_nodes) o) (total branch_count others + if_some (total stmt_count) o) h.2 (p.is h.0 (inl a) h.3) (chains T p h.1 others o h.4))
 
 weigh_chained : {T : Language ((Expr × List Stmt) ⊎ List Stmt)} → Weighs T else_nodes else_count → Weighs (Chained T) (chain_by branch_nodes (total stmt_nodes)) (chain_by branch_count (total stmt_count))
 weigh_chained {T} p = record { is = λ w v h. chains T p w v.0 v.1 h }

@@ -8,6 +8,7 @@ ghost use Rattle.query_lang.specs.declared.query.Query.{Query};
 ghost use Rattle.query_lang.specs.declared.token.Token.{Token};
 ghost use Rattle.query_grammar.specs.declared.stop.Counts.{Counts};
 ghost use Rattle.query_grammar.specs.declared.stop.Stop.{Stop};
+ghost use Rattle.query_lang.specs.Limits.{IsReadable};
 ghost use Rattle.query_grammar.specs.Parser.{Done, Stopped};
 ghost use Rattle.query_grammar.specs.Grammar.{Derives};
 ghost use Rattle.query_grammar.specs.Reading.{parsed};
@@ -42,4 +43,10 @@ pub fn query_of_text()
 /// A text gives a fault exactly where that is the first fault of the text.
 pub fn fault_of_text()
     ensures { (text : List ℕ) (fault : QueryFault) → (parsed_text text ≡ Err fault) ↔ IsFaultOf text fault }
+{}
+
+/// The query of a text keeps the limits of the grammar as they are counted on its trees, and each name that it gives has a
+/// number below the count of its names.
+pub fn query_is_readable()
+    ensures { (text : List ℕ) (q : Query) → IsQueryOf text q → IsReadable q }
 {}
