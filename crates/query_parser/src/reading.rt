@@ -3,6 +3,7 @@
 ghost use Rattle.std.specs.Prelude.{◌≡◌, IfOk};
 ghost use Rattle.query_grammar.specs.Reading.{parsed};
 ghost use Rattle.query_grammar.specs.Texts.{answered, first_fault_of, IsFaultOf, IsQueryOf, kind_of as kind_by, parsed_text};
+ghost use Rattle.query_lang.specs.Limits.{IsReadable};
 ghost use Rattle.query_parser.specs.Given.{Answers, IfRefused};
 
 use crate::answer::ParseAnswer;
@@ -72,6 +73,7 @@ fn read_text(alloc: Global, text: &[u8]) -> Result<Query, ParseAnswer>
 pub fn parse(alloc: Global, text: &[u8]) -> Result<Query, ParseAnswer>
     ensures given { Answers result (parsed_text text.now) }
     ensures query { IfOk result (λ q. IsQueryOf text.now q) }
+    ensures readable { IfOk result (λ q. IsReadable q) }
     ensures refused { IfRefused result (λ fault. IsFaultOf text.now fault) }
 {
     read_text(alloc, text)
