@@ -23,8 +23,8 @@ pub map_example : MapExample
 unfolding op_value
 map_example sum e =
     let P : Term → Type 0 = λ t.
-        map (λ one. tuple one.packet (one.row ++ term_value t one.row ∷ [])) (numbered 1 three_packets)
-        ≡ tuple 1 (5 ∷ 1 ∷ 6 ∷ []) ∷ tuple 2 (7 ∷ 0 ∷ 7 ∷ []) ∷ tuple 3 (5 ∷ 3 ∷ 8 ∷ []) ∷ [] in
+    map (λ one. tuple one.packet (one.row ++ term_value t one.row ∷ [])) (numbered 1 three_packets)
+    ≡ tuple 1 (5 ∷ 1 ∷ 6 ∷ []) ∷ tuple 2 (7 ∷ 0 ∷ 7 ∷ []) ∷ tuple 3 (5 ∷ 3 ∷ 8 ∷ []) ∷ [] in
     subst P (sym e) refl
 
 pub zip_example : ZipExample
@@ -35,13 +35,13 @@ unfolding op_value
 group_example q f first second emit below parts emits starts groups filters emit_is below_is =
     let packets = numbered 1 three_packets in
     let whole : List TypedFold → List TypedStream → List Tuple = λ folds streams.
-        list_at (fold (λ made one. made ++ made_of folds made one.op ∷ []) (packets ∷ []) streams) 2 in
+    list_at (fold (λ made one. made ++ made_of folds made one.op ∷ []) (packets ∷ []) streams) 2 in
     let two : TypedOp → TypedOp → List Tuple = λ a b.
-        made_of (f ∷ []) (packets ∷ made_of (f ∷ []) (packets ∷ []) a ∷ []) b in
+    made_of (f ∷ []) (packets ∷ made_of (f ∷ []) (packets ∷ []) a ∷ []) b in
     let keys : Option TypedExpr → List ℕ → List Tuple = λ o start.
-        map (λ one. tuple one.packet (values_at one.row (0 ∷ []))) (filter (λ one. holds_at o (start ++ values_at one.row (1 ∷ []))) packets) in
+    map (λ one. tuple one.packet (values_at one.row (0 ∷ []))) (filter (λ one. holds_at o (start ++ values_at one.row (1 ∷ []))) packets) in
     let emitted : Term → List Tuple = λ t.
-        map (λ one. tuple one.packet (values_at one.row (0 ∷ []))) (filter (λ one. holds (term_value t (9 ∷ values_at one.row (1 ∷ [])))) packets) in
+    map (λ one. tuple one.packet (values_at one.row (0 ∷ []))) (filter (λ one. holds (term_value t (9 ∷ values_at one.row (1 ∷ [])))) packets) in
     let kept : List Tuple → Term → List Tuple = λ input t. filter (λ one. holds (term_value t one.row)) input in
     ap (λ folds. whole folds q.streams) parts.0
     ∙ ap (λ streams. whole (f ∷ []) streams) parts.1
