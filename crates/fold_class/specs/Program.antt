@@ -80,3 +80,7 @@ pub record IsProgramOf (f : TypedFold) (program : FoldProgram) : Type 0 where
   pub code : IsCodeOf f program.code
   pub rows : IsRowsOf f program.rows
   pub layout : IsLayoutOf f program.layout
+
+-- it is the program of some valid fold
+abbrev pub IsProgram : FoldProgram → Type 0
+IsProgram program = ∥ ((f : TypedFold) × IsProgramOf f program) ∥₁
