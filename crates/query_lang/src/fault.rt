@@ -41,8 +41,6 @@ pub enum FaultKind {
     OverLimit(Limit),
     /// A query that prints no table.
     NothingPrinted,
-    /// A query of a form that can't be run yet.
-    NotBuilt,
 }
 
 #[derive(Clone, Copy, Debug, PartialEq, Eq)]
