@@ -1,0 +1,97 @@
+// Commands.
+
+ghost use Rattle.std.specs.Prelude.{◌≡◌, ◌≤◌, map, string_bytes, IfSome};
+ghost use Rattle.command_line.specs.Command.{IsCommand, IsGeneration, asked, asked_run, asked_plan, asked_gen, asked_trial, generation_of};
+
+use crate::number::number_within;
+use crate::options::setting_from;
+use crate::setting::{Setting, Ways, ways_of};
+
+/// The packets that the generator makes: how many, and the state of its draws at first.
+#[derive(Clone, Copy, Debug, PartialEq, Eq)]
+pub struct Generation {
+    pub packets: u32,
+    pub start: u32,
+}
+
+/// What a command line asks for. Its operands are words by their places.
+#[derive(Clone, Copy, Debug, PartialEq, Eq)]
+pub enum Command {
+    /// Writes the tables of a query over a trace.
+    Run(Setting),
+    /// Writes the stages of a query, and the bound on its steps for these ways.
+    Plan(Ways),
+    /// Writes the trace of the generator.
+    Gen(Generation),
+    /// Writes the tables of a fixed query over the generator's packets.
+    Trial(Generation, Setting),
+}
+
+fn generation_of(packets: &String, start: &String) -> Option<Generation>
+    ensures generation { result ≡ generation_of (string_bytes packets.now) (string_bytes start.now) }
+    ensures within { IfSome result IsGeneration }
+{
+    let packets = number_within(1, 1_000_000, packets.as_bytes())?;
+    let start = number_within(0, 2_147_483_647, start.as_bytes())?;
+    Some(Generation { packets, start })
+}
+
+fn run_of(words: &[String]) -> Option<Command>
+    ensures asked { result ≡ asked_run (map string_bytes words.now) }
+    ensures within { IfSome result IsCommand }
+{
+    let (_query, more) = words.split_first()?;
+    let (_trace, options) = more.split_first()?;
+    Some(Command::Run(setting_from(options)?))
+}
+
+fn plan_of(words: &[String]) -> Option<Command>
+    ensures asked { result ≡ asked_plan (map string_bytes words.now) }
+    ensures within { IfSome result IsCommand }
+{
+    match words {
+        [_query] => Some(Command::Plan(Ways::Eight)),
+        [_query, name, value] => {
+            if name.as_str() != "--ways" {
+                return None;
+            }
+            Some(Command::Plan(ways_of(value.as_bytes())?))
+        }
+        _ => None,
+    }
+}
+
+fn gen_of(words: &[String]) -> Option<Command>
+    ensures asked { result ≡ asked_gen (map string_bytes words.now) }
+    ensures within { IfSome result IsCommand }
+{
+    match words {
+        [packets, start] => Some(Command::Gen(generation_of(packets, start)?)),
+        _ => None,
+    }
+}
+
+fn trial_of(words: &[String]) -> Option<Command>
+    ensures asked { result ≡ asked_trial (map string_bytes words.now) }
+    ensures within { IfSome result IsCommand }
+{
+    let (packets, more) = words.split_first()?;
+    let (start, options) = more.split_first()?;
+    let generation = generation_of(packets, start)?;
+    Some(Command::Trial(generation, setting_from(options)?))
+}
+
+/// The command that the words ask for.
+pub fn command_of(words: &[String]) -> Option<Command>
+    ensures asked { result ≡ asked (map string_bytes words.now) }
+    ensures within { IfSome result IsCommand }
+{
+    let (name, operands) = words.split_first()?;
+    match name.as_str() {
+        "run" => run_of(operands),
+        "plan" => plan_of(operands),
+        "gen" => gen_of(operands),
+        "trial" => trial_of(operands),
+        _ => None,
+    }
+}

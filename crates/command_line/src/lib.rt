@@ -1,0 +1,10 @@
+//! The words of a command line, read without memory.
+#![tactic(auto)]
+
+mod command;
+mod number;
+mod options;
+mod setting;
+
+pub use command::{Command, Generation, command_of};
+pub use setting::{Setting, Ways};

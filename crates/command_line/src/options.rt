@@ -1,0 +1,92 @@
+// Options, as pairs of words.
+
+ghost use Rattle.std.specs.Prelude.{◌≡◌, ◌≤◌, ◌*◌, map, string_bytes, IfSome, ⊤};
+ghost use Rattle.command_line.specs.Command.{IsSetting, no_options, with_option, options_from, setting_of, setting_from, AreWithin};
+
+use crate::number::number_within;
+use crate::setting::{Setting, Ways, ways_of};
+
+/// The options that were named so far.
+#[derive(Clone, Copy, Debug, PartialEq, Eq)]
+pub(crate) struct Options {
+    pub(crate) buckets: Option<u32>,
+    pub(crate) ways: Option<Ways>,
+    pub(crate) pipe: Option<u32>,
+    pub(crate) lag: Option<u32>,
+    pub(crate) refresh: Option<u32>,
+}
+
+const NO_OPTIONS: Options = Options {
+    buckets: None,
+    ways: None,
+    pipe: None,
+    lag: None,
+    refresh: None,
+};
+
+impl Options {
+    // The options with one more, which must not be set yet.
+    fn with(self, name: &String, value: &String) -> Option<Options>
+        requires within { AreWithin self }
+        ensures with_option { result ≡ with_option self (string_bytes name.now) (string_bytes value.now) }
+        ensures within { IfSome result AreWithin }
+    {
+        let mut options = self;
+        if name.as_str() == "--buckets" && self.buckets.is_none() {
+            options.buckets = Some(number_within(1, 65_536, value.as_bytes())?);
+        } else if name.as_str() == "--ways" && self.ways.is_none() {
+            options.ways = Some(ways_of(value.as_bytes())?);
+        } else if name.as_str() == "--pipe" && self.pipe.is_none() {
+            options.pipe = Some(number_within(1, 65_536, value.as_bytes())?);
+        } else if name.as_str() == "--lag" && self.lag.is_none() {
+            options.lag = Some(number_within(1, 1_000_000, value.as_bytes())?);
+        } else if name.as_str() == "--refresh" && self.refresh.is_none() {
+            options.refresh = Some(number_within(0, 4_194_304, value.as_bytes())?);
+        } else {
+            return None;
+        }
+        Some(options)
+    }
+
+    // What they say, where the cache has few enough places.
+    fn setting(self) -> Option<Setting>
+        requires within { AreWithin self }
+        ensures setting { result ≡ setting_of self }
+        ensures within { IfSome result IsSetting }
+    {
+        let buckets = self.buckets.unwrap_or(1024);
+        let ways = self.ways.unwrap_or(Ways::Eight);
+        if u64::from(buckets) * u64::from(ways.number()) > 65_536 {
+            return None;
+        }
+        Some(Setting {
+            buckets,
+            ways,
+            pipe: self.pipe.unwrap_or(64),
+            lag: self.lag.unwrap_or(1),
+            refresh: self.refresh.unwrap_or(0),
+        })
+    }
+}
+
+fn options_of(words: &[String]) -> Option<Options>
+    ensures options { result ≡ options_from no_options (map string_bytes words.now) }
+    ensures within { IfSome result AreWithin }
+{
+    let mut options = NO_OPTIONS;
+    let mut left = words;
+    'pairs: while let Some((name, more)) = left.split_first() {
+        let (value, rest) = more.split_first()?;
+        options = options.with(name, value)?;
+        left = rest;
+    }
+    Some(options)
+}
+
+/// The setting that pairs of words say.
+pub(crate) fn setting_from(words: &[String]) -> Option<Setting>
+    ensures setting { result ≡ setting_from (map string_bytes words.now) }
+    ensures within { IfSome result IsSetting }
+{
+    options_of(words)?.setting()
+}

@@ -1,0 +1,73 @@
+// What the options of a run say.
+
+ghost use Rattle.std.specs.Prelude.{◌≡◌};
+ghost use Rattle.command_line.specs.Command.{ways_number, ways_of, ways_with};
+
+use crate::number::number_within;
+
+/// How many keys a bucket of the cache holds.
+#[derive(Clone, Copy, Debug, PartialEq, Eq)]
+pub enum Ways {
+    One,
+    Two,
+    Four,
+    Eight,
+    Sixteen,
+    ThirtyTwo,
+}
+
+impl Ways {
+    pub fn number(self) -> u32
+        ensures { result ≡ ways_number self }
+    {
+        match self {
+            Ways::One => 1,
+            Ways::Two => 2,
+            Ways::Four => 4,
+            Ways::Eight => 8,
+            Ways::Sixteen => 16,
+            Ways::ThirtyTwo => 32,
+        }
+    }
+}
+
+/// The caches and pipes of a run, and when entries are merged and caches emptied.
+#[derive(Clone, Copy, Debug, PartialEq, Eq)]
+pub struct Setting {
+    /// The buckets of each groupby's cache.
+    pub buckets: u32,
+    pub ways: Ways,
+    /// The most records that wait in the pipe of each groupby.
+    pub pipe: u32,
+    /// Every how many packets a record of each groupby is merged.
+    pub lag: u32,
+    /// Every how many packets the caches are emptied, or 0 where they are emptied at the end alone.
+    pub refresh: u32,
+}
+
+fn ways_with(n: u32) -> Option<Ways>
+    ensures { result ≡ ways_with n }
+{
+    if n == 1 {
+        Some(Ways::One)
+    } else if n == 2 {
+        Some(Ways::Two)
+    } else if n == 4 {
+        Some(Ways::Four)
+    } else if n == 8 {
+        Some(Ways::Eight)
+    } else if n == 16 {
+        Some(Ways::Sixteen)
+    } else if n == 32 {
+        Some(Ways::ThirtyTwo)
+    } else {
+        None
+    }
+}
+
+/// The ways that a word says.
+pub fn ways_of(word: &[u8]) -> Option<Ways>
+    ensures { result ≡ ways_of word.now }
+{
+    ways_with(number_within(1, 32, word)?)
+}
