@@ -171,3 +171,26 @@ depth_found f d now before = record {
         let all : is_covered f e ≡ true = all_true (fold_states f) (λ v. not (is_history f v) || is_within f e v) (λ v lv. within_or e v (is_history f v) refl (λ w. h v lv (fold_states f, w))) in
         let off = before e lt in
         cc
+
+-- where some variable is not within d, fewer are than all
+count_less : (f : TypedFold) (d n v : ℕ) → v < n → is_within f d v ≡ false → count f d n + 1 ≤ n
+count_less f d zero v h off = absurd (omega arith)
+count_less f d (suc n) v h off = place (λ lt. count_less f d n v lt off) (nat_lt v n) refl
+  where
+    place : (v < n → count f d n + 1 ≤ n) → (b : Bool) → nat_lt v n ≡ b → count f d n + (if is_within f d n then 1 else 0) + 1 ≤ suc n
+    place front true t = let lt : v < n = grind (arith, nat_tests) in omega (arith, front lt, at_most_one (is_within f d n))
+    place front false t =
+        let same : v ≡ n = grind (arith, nat_tests) in
+        let none : (if is_within f d n then 1 else 0) ≡ 0 = ap {B = ℕ} (λ z. if z then 1 else 0) (subst (λ m. is_within f d m ≡ false) same off) in
+        omega (arith, count_most f d n, none)
+
+-- where some variable has no depth, the fold is less deep than it has variables
+pub depth_below : (f : TypedFold) (d v : ℕ) → v < fold_states f → is_history f v ≡ false → IsDepth f d → d < fold_states f
+depth_below f d v lt off deep = pick (settles f (fold_states f))
+  where
+    pick : ((e : ℕ) × (e < fold_states f) × Stable f e) ⊎ (fold_states f ≤ count f (fold_states f) (fold_states f)) → d < fold_states f
+    pick (inr h) = absurd (omega (arith, h, count_less f (fold_states f) (fold_states f) v lt off))
+    pick (inl r) =
+        let z : r.0 + (fold_states f - r.0) ≡ fold_states f = omega (arith, r.1) in
+        let all : (u : ℕ) → u < fold_states f → IsHistory f u → is_within f r.0 u ≡ true = λ u lu h. (stays f r.0 (fold_states f - r.0) r.2).1 u lu (subst (λ m. is_within f m u ≡ true) (sym z) (history_rounds f u lu h)) in
+        omega (arith, deep.least r.0 all, r.1)

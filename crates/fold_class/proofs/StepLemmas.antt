@@ -74,7 +74,7 @@ module _ {C : Type 0} {is_element : C → Type 0} {k : Elements C} (laws : Eleme
           ap (λ z. k.add z (f n)) (sum_same laws n f (λ j. k.zero) (λ j less. rest j (omega arith)) ∙ sum_nothing laws n)
           ∙ ap (k.add k.zero) (ap f same ∙ own) ∙ laws.zero_add e h
 
-  unit_value : (n r : ℕ) (x : ℕ → ℕ) → r < n → IsWord (x r) → row_value k n x (λ c. if c == r then k.one else k.zero) ≡ x r
+  pub unit_value : (n r : ℕ) (x : ℕ → ℕ) → r < n → IsWord (x r) → row_value k n x (λ c. if c == r then k.one else k.zero) ≡ x r
   unit_value n r x lt h =
       let s = laws in
       let on : (r == r) ≡ true = grind (arith, nat_tests) in
@@ -89,7 +89,7 @@ module _ {C : Type 0} {is_element : C → Type 0} {k : Elements C} (laws : Eleme
       ∙ add_zero (k.embed (x r)) (laws.embed_is (x r) h))
       ∙ laws.to_word-embed (x r)
 
-  unit_has : (n r : ℕ) → r < n → HasWord k n (λ c. if c == r then k.one else k.zero)
+  pub unit_has : (n r : ℕ) → r < n → HasWord k n (λ c. if c == r then k.one else k.zero)
   unit_has n r lt =
       let on : (r == r) ≡ true = grind (arith, nat_tests) in
       let is_one : k.one ≡ (if r == r then k.one else k.zero) = sym (ap (λ b. if b then k.one else k.zero) on) in

@@ -4,7 +4,7 @@ ghost use Rattle.std.specs.Prelude.{◌≡◌, ◌≤◌, ◌<◌, ◌↔◌, �
 ghost use Rattle.query_lang.specs.declared.fold.TypedFold.{TypedFold};
 ghost use Rattle.query_lang.specs.Folds.{IsValidFold, fold_states, folded};
 ghost use Rattle.fold_code.specs.Additive.{is_additive};
-ghost use Rattle.fold_class.specs.Depth.{IsHistory, is_history, IsDepth};
+ghost use Rattle.fold_class.specs.Depth.{IsHistory, is_history, IsDepth, depth_of};
 ghost use Rattle.fold_class.specs.Kinds.{class_of, algebra_of};
 ghost use Rattle.fold_class.specs.Step.{history_places, words_at};
 
@@ -19,6 +19,16 @@ pub fn history_forgets()
 /// A variable has a depth exactly where it has one of at most the number of variables.
 pub fn rounds_find_each_depth()
     ensures { (f : TypedFold) (v : ℕ) → v < fold_states f → IsHistory f v ↔ (is_history f v ≡ true) }
+{}
+
+/// A valid fold has one depth.
+pub fn depth_is_found()
+    ensures { (f : TypedFold) (d : ℕ) → IsValidFold f → IsDepth f d → d ≡ depth_of f }
+{}
+
+/// A fold that is linear by maxima is less deep than it has variables: one whose variables all have a depth is linear by sums.
+pub fn maxima_are_shallower()
+    ensures { (f : TypedFold) (d : ℕ) → IsValidFold f → algebra_of f ≡ Algebra.Maxima → IsDepth f d → d < fold_states f }
 {}
 
 /// An additive fold is linear by sums, and none of its variables has a depth.
