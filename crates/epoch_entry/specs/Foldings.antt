@@ -1,0 +1,42 @@
+-- What a fold asks of a kind of entries: what its rows are folded to, and how many words and steps it may take.
+use Rattle.std.specs.Prelude.{◌≡◌, ℕ, ◌+◌, ◌*◌, ◌≤◌, Bool, true, false, List, fold}
+use Rattle.query_lang.specs.declared.fold.TypedFold.{TypedFold}
+use Rattle.query_lang.specs.declared.typed.Class.{Class}
+use Rattle.query_lang.specs.declared.typed.Class.TheVariants.{Linear}
+use Rattle.query_lang.specs.Folds.{body, folded, fold_states, fold_args, initial_state}
+use Rattle.epoch_model.specs.Keys.{ArgRow}
+use Rattle.epoch_model.specs.Tables.{Folding}
+use Rattle.fold_class.specs.Depth.{depth_of}
+use Rattle.fold_class.specs.Kinds.{class_of, algebra_of}
+use Rattle.fold_class.specs.Rows.{element_size}
+use Rattle.epoch_entry.specs.Kinds.{Sizes}
+
+-- whether each epoch of a fold of this class has a row of its own
+abbrev pub per_epoch : Class → Bool
+per_epoch Linear = false
+per_epoch Class.Other = true
+
+-- the folding of a fold: its body, its initial state, and whether each epoch has a row
+abbrev pub folding_of : TypedFold → Folding
+folding_of f = record { step = body f; initial = initial_state f; row_per_epoch = per_epoch (class_of f) }
+
+-- the most words of an entry of the fold: an affine map of all its variables, a history of all of them, the argument rows that it
+-- looks back, and two more
+abbrev pub entry_bound : TypedFold → ℕ
+entry_bound f = element_size (algebra_of f) * fold_states f * (fold_states f + 1) + fold_states f + depth_of f * fold_args f + 2
+
+-- the most steps of absorbing one row: the map of one step, its composition, and a few moves of the entry
+abbrev pub absorb_bound : TypedFold → ℕ
+absorb_bound f =
+    (fold_states f + 1) * (f.nodes + 4 * f.statements + 1) + fold_states f * fold_states f * (fold_states f + 1) + 4 * entry_bound f
+
+-- A kind of entries is a fold's: its sizes, what its entries are folded to, and its bounds on steps.
+pub record IsKindOf (f : TypedFold) (sizes : Sizes) (folding : Folding) (opening absorbing : ℕ) : Type 0 where
+  pub args : sizes.args ≡ fold_args f
+  pub state : sizes.state ≡ fold_states f
+  pub entry : sizes.entry ≤ entry_bound f
+  pub initial : folding.initial ≡ initial_state f
+  pub row_per_epoch : folding.row_per_epoch ≡ per_epoch (class_of f)
+  pub folded : (rows : List ArgRow) → fold folding.step folding.initial rows ≡ folded f (initial_state f) rows
+  pub «open» : opening ≤ entry_bound f
+  pub absorb : absorbing ≤ absorb_bound f
