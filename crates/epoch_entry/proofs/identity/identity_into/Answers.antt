@@ -1,0 +1,18 @@
+use Rattle.std.proofs.Common.{arith, ap, ◌∙◌}
+use Rattle.coeff_algebra.specs.Maps.{stored_at}
+use Rattle.coeff_algebra.proofs.PlaceLemmas.{rows_step}
+use Rattle.epoch_entry.specs.Identity.{unit_at}
+use Rattle.epoch_entry.proofs.identity.identity_into.Goals as goal
+
+pub loop-row-preserved : goal.loop-row-preserved
+loop-row-preserved g c =
+    let m = g.C.Coeff in record {
+      entries = rows_step (stored_at m.WORDS c.loop-row.map) (stored_at m.WORDS c.identity_row.new.map) (λ i j. m.words (unit_at m.elements i j))
+          c.args.n c.loop-row.row c.loop-row.invariant.entries c.identity_row.ensures.before c.identity_row.ensures.entries;
+      steps = omega (arith, c.loop-row.invariant.steps, c.identity_row.ensures.steps);
+    }
+
+pub returns-clause-entries : goal.returns-clause-entries
+returns-clause-entries g c i j hi hj =
+    let m = g.C.Coeff in
+    ap m.from_words (c.loop-row.invariant.entries i j (omega arith) hj) ∙ g.met.C.Coeff.storage.load_store (unit_at m.elements i j)
