@@ -1,14 +1,18 @@
 //! The entries that a cache keeps for the open epochs of keys, and how they are merged into stored states.
 #![tactic(auto)]
 
+mod any;
 mod identity;
 mod kind;
 mod known;
+mod laws;
 mod linear;
 mod log;
 mod other;
 mod words;
 
+pub use any::AnyEpochs;
 pub use kind::EpochKind;
+pub use laws::entries_are_small;
 pub use linear::LinearEpochs;
 pub use other::OtherEpochs;

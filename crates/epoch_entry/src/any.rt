@@ -1,0 +1,137 @@
+// The kind of a program's entries, by its class and algebra.
+
+ghost use Rattle.fold_class.specs.Program.{IsProgram, IsProgramOf};
+
+use crate::kind::EpochKind;
+use crate::linear::LinearEpochs;
+use crate::other::OtherEpochs;
+use coeff_algebra::{MaxPlus64, Wrapping64};
+use fold_class::{Algebra, FoldProgram};
+use marple_base::Steps;
+use query_lang::Class;
+use std::sync::ledger::Ledger;
+
+/// Entries of a fold of any class: linear by sums, linear by maxima, or any other.
+#[derive(Drop)]
+pub enum AnyEpochs {
+    Linear(LinearEpochs<Wrapping64>),
+    Maxima(LinearEpochs<MaxPlus64>),
+    Other(OtherEpochs),
+}
+
+impl AnyEpochs {
+    ghost use Rattle.query_lang.specs.declared.fold.TypedFold.{TypedFold};
+    ghost use Rattle.epoch_entry.specs.Foldings.{IsKindOf};
+
+    /// The entries of a program's fold: their sizes, what they are folded to and their bounds on steps are the fold's.
+    pub fn of(program: FoldProgram) -> AnyEpochs
+        requires { IsProgram program }
+        ensures kind { (f : TypedFold) → IsProgramOf f program → IsKindOf f (⟦<AnyEpochs as EpochKind>⟧.sizes result) (⟦<AnyEpochs as EpochKind>⟧.folding result) (⟦<AnyEpochs as EpochKind>⟧.open_bound result) (⟦<AnyEpochs as EpochKind>⟧.absorb_bound result) }
+    {
+        match program.class {
+            Class::Linear => match program.algebra {
+                Algebra::Sums => AnyEpochs::Linear(LinearEpochs::of(program)),
+                Algebra::Maxima => AnyEpochs::Maxima(LinearEpochs::of(program)),
+            },
+            Class::Other => AnyEpochs::Other(OtherEpochs::of(program)),
+        }
+    }
+}
+
+impl EpochKind for AnyEpochs {
+    ghost use Rattle.epoch_entry.specs.declared.any.AnyEpochs.TheVariants.{Linear, Maxima, Other};
+
+    ghost sizes = { elim [ Linear k ↦ ⟦<LinearEpochs<Wrapping64> as EpochKind>⟧.sizes k | Maxima k ↦ ⟦<LinearEpochs<MaxPlus64> as EpochKind>⟧.sizes k | Other k ↦ ⟦<OtherEpochs as EpochKind>⟧.sizes k ] };
+
+    ghost folding = { elim [ Linear k ↦ ⟦<LinearEpochs<Wrapping64> as EpochKind>⟧.folding k | Maxima k ↦ ⟦<LinearEpochs<MaxPlus64> as EpochKind>⟧.folding k | Other k ↦ ⟦<OtherEpochs as EpochKind>⟧.folding k ] };
+
+    ghost stands = { elim [ Linear k ↦ ⟦<LinearEpochs<Wrapping64> as EpochKind>⟧.stands k | Maxima k ↦ ⟦<LinearEpochs<MaxPlus64> as EpochKind>⟧.stands k | Other k ↦ ⟦<OtherEpochs as EpochKind>⟧.stands k ] };
+
+    ghost open_bound = { elim [ Linear k ↦ ⟦<LinearEpochs<Wrapping64> as EpochKind>⟧.open_bound k | Maxima k ↦ ⟦<LinearEpochs<MaxPlus64> as EpochKind>⟧.open_bound k | Other k ↦ ⟦<OtherEpochs as EpochKind>⟧.open_bound k ] };
+
+    ghost absorb_bound = { elim [ Linear k ↦ ⟦<LinearEpochs<Wrapping64> as EpochKind>⟧.absorb_bound k | Maxima k ↦ ⟦<LinearEpochs<MaxPlus64> as EpochKind>⟧.absorb_bound k | Other k ↦ ⟦<OtherEpochs as EpochKind>⟧.absorb_bound k ] };
+
+    fn args_words(&self) -> usize {
+        match self {
+            AnyEpochs::Linear(kind) => kind.args_words(),
+            AnyEpochs::Maxima(kind) => kind.args_words(),
+            AnyEpochs::Other(kind) => kind.args_words(),
+        }
+    }
+
+    fn entry_words(&self) -> usize {
+        match self {
+            AnyEpochs::Linear(kind) => kind.entry_words(),
+            AnyEpochs::Maxima(kind) => kind.entry_words(),
+            AnyEpochs::Other(kind) => kind.entry_words(),
+        }
+    }
+
+    fn state_words(&self) -> usize {
+        match self {
+            AnyEpochs::Linear(kind) => kind.state_words(),
+            AnyEpochs::Maxima(kind) => kind.state_words(),
+            AnyEpochs::Other(kind) => kind.state_words(),
+        }
+    }
+
+    fn scratch_words(&self) -> usize {
+        match self {
+            AnyEpochs::Linear(kind) => kind.scratch_words(),
+            AnyEpochs::Maxima(kind) => kind.scratch_words(),
+            AnyEpochs::Other(kind) => kind.scratch_words(),
+        }
+    }
+
+    fn row_per_epoch(&self) -> bool {
+        match self {
+            AnyEpochs::Linear(kind) => kind.row_per_epoch(),
+            AnyEpochs::Maxima(kind) => kind.row_per_epoch(),
+            AnyEpochs::Other(kind) => kind.row_per_epoch(),
+        }
+    }
+
+    fn initial(&self, state: &mut [u64]) {
+        match self {
+            AnyEpochs::Linear(kind) => kind.initial(state),
+            AnyEpochs::Maxima(kind) => kind.initial(state),
+            AnyEpochs::Other(kind) => kind.initial(state),
+        }
+    }
+
+    fn open<L: Ledger>(&self, entry: &mut [u64], steps: &mut Steps<L>) {
+        match self {
+            AnyEpochs::Linear(kind) => kind.open(entry, steps),
+            AnyEpochs::Maxima(kind) => kind.open(entry, steps),
+            AnyEpochs::Other(kind) => kind.open(entry, steps),
+        }
+    }
+
+    fn absorb<L: Ledger>(
+        &self,
+        entry: &mut [u64],
+        args: &[u64],
+        scratch: &mut [u64],
+        steps: &mut Steps<L>,
+    ) {
+        match self {
+            AnyEpochs::Linear(kind) => kind.absorb(entry, args, scratch, steps),
+            AnyEpochs::Maxima(kind) => kind.absorb(entry, args, scratch, steps),
+            AnyEpochs::Other(kind) => kind.absorb(entry, args, scratch, steps),
+        }
+    }
+
+    fn merge<L: Ledger>(
+        &self,
+        entry: &[u64],
+        state: &mut [u64],
+        scratch: &mut [u64],
+        steps: &mut Steps<L>,
+    ) {
+        match self {
+            AnyEpochs::Linear(kind) => kind.merge(entry, state, scratch, steps),
+            AnyEpochs::Maxima(kind) => kind.merge(entry, state, scratch, steps),
+            AnyEpochs::Other(kind) => kind.merge(entry, state, scratch, steps),
+        }
+    }
+}
