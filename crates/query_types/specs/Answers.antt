@@ -1,5 +1,6 @@
 -- What a check answers, from what its definition gives.
 use Rattle.std.specs.Prelude.{◌≡◌, Result, Ok, Err}
+use Rattle.std.specs.Borrow.{Bor}
 use Rattle.query_lang.specs.Checks.{Checked}
 use Rattle.query_types.specs.declared.answer.CheckAnswer.{CheckAnswer}
 use Rattle.query_types.specs.declared.answer.CheckAnswer.TheVariants.{Refused, Memory}
@@ -9,3 +10,15 @@ abbrev pub Answers : {A : Type 0} → Result A CheckAnswer → Checked A → Typ
 Answers (Ok x) expected = expected ≡ Ok x
 Answers (Err (Refused fault)) expected = expected ≡ Err fault
 Answers (Err Memory) expected = Unit {0}
+
+-- the same of a check that changes something in place: this is what it leaves
+abbrev pub Leaves : {A : Type 0} → Result (Unit {0}) CheckAnswer → A → Checked A → Type 0
+Leaves (Ok done) left expected = expected ≡ Ok left
+Leaves (Err (Refused fault)) left expected = expected ≡ Err fault
+Leaves (Err Memory) left expected = Unit {0}
+
+-- the same of a check that finds a part of something
+abbrev pub Finds : {A : Type 0} → Result (Bor A) CheckAnswer → Checked A → Type 0
+Finds (Ok x) expected = expected ≡ Ok x.now
+Finds (Err (Refused fault)) expected = expected ≡ Err fault
+Finds (Err Memory) expected = Unit {0}

@@ -1,2 +1,3 @@
 pub mod Answers
+pub mod Bodies
 pub mod Uses

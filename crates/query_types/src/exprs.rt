@@ -12,14 +12,14 @@ use query_lang::{Expr, FaultKind, Name, Op, Span, TypedExpr};
 use std::alloc::{AllocError, Global};
 
 // Is the name among these?
-fn has_name(names: &[u32], id: u32) -> bool
+pub fn has_name(names: &[u32], id: u32) -> bool
     ensures { result ≡ is_among id names.now }
 {
     names.contains(&id)
 }
 
 // The name's place among these.
-fn find_place(names: &[u32], id: u32) -> Option<usize>
+pub fn find_place(names: &[u32], id: u32) -> Option<usize>
     ensures { result ≡ place_of names.now id }
 {
     for (at, name) in names.iter().enumerate() {
@@ -31,7 +31,7 @@ fn find_place(names: &[u32], id: u32) -> Option<usize>
 }
 
 // A place as a slot.
-fn slot_number(at: usize) -> Result<u16, CheckAnswer>
+pub fn slot_number(at: usize) -> Result<u16, CheckAnswer>
     ensures { Answers result (Ok at) }
 {
     if at < 65536 {
@@ -42,7 +42,7 @@ fn slot_number(at: usize) -> Result<u16, CheckAnswer>
 }
 
 // The slot of a column.
-fn find_slot(columns: &[u32], hidden: &[u32], name: Name) -> Result<u16, CheckAnswer>
+pub fn find_slot(columns: &[u32], hidden: &[u32], name: Name) -> Result<u16, CheckAnswer>
     ensures { Answers result (slot_of columns.now hidden.now name) }
 {
     match find_place(columns, name.id) {

@@ -3,7 +3,11 @@
 #![tactic(auto)]
 
 mod answer;
+mod bodies;
+mod columns;
+mod copies;
 mod exprs;
+mod folds;
 
 pub use answer::CheckAnswer;
 pub use exprs::{check_condition, check_expr, check_word};

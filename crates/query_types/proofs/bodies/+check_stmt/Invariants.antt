@@ -1,0 +1,13 @@
+use Rattle.std.proofs.Common.{◌≡◌, map, drop}
+use Rattle.query_lang.specs.TypedFolds.{in_order, stmt_checked}
+use Rattle.query_types.proofs.bodies.+check_stmt.Given as goal
+
+abbrev pub invariant-then_block : goal.invariant-then_block
+invariant-then_block l =
+    in_order (map (stmt_checked l.states l.args) (drop l.inner-index l.inner-items)) l.choice-inside.inner.value.holding l.found
+    ≡ in_order (map (stmt_checked l.states l.args) l.inner-items) l.choice-inside.inner.value.holding l.initial.found
+
+abbrev pub invariant-else_block : goal.invariant-else_block
+invariant-else_block l =
+    in_order (map (stmt_checked l.states l.args) (drop l.inner-index l.inner-items)) l.choice-inside.inner.value.failing l.found
+    ≡ in_order (map (stmt_checked l.states l.args) l.inner-items) l.choice-inside.inner.value.failing l.initial.found

@@ -1,0 +1,8 @@
+use Rattle.std.proofs.Common.{◌≡◌, map, drop}
+use Rattle.query_lang.specs.TypedFolds.{in_order, stmt_checked}
+use Rattle.query_types.proofs.bodies.check_all.Given as goal
+
+abbrev pub invariant-loop-one : goal.invariant-loop-one
+invariant-loop-one l =
+    in_order (map (stmt_checked l.states l.args) (drop l.one-index l.body)) l.outer l.found
+    ≡ in_order (map (stmt_checked l.states l.args) l.body) l.outer l.initial.found

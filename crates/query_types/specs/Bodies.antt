@@ -1,0 +1,41 @@
+-- The parts of a fold's statements: an assignment, and what opens a choice.
+use Rattle.std.specs.Prelude.{ℕ, List, [], ◌∷◌, ◌++◌, map, Ok}
+use Rattle.query_lang.specs.declared.fold.TypedExpr.{TypedExpr}
+use Rattle.query_lang.specs.declared.fold.TypedExpr.TheVariants as typed
+use Rattle.query_lang.specs.declared.fold.TypedStmt.TheVariants as typed_stmt
+use Rattle.query_lang.specs.declared.fold.TypedFold.{TypedFold}
+use Rattle.query_lang.specs.declared.query.FoldDef.{FoldDef}
+use Rattle.query_lang.specs.declared.query.Expr.{Expr}
+use Rattle.query_lang.specs.declared.query.Name.{Name}
+use Rattle.query_lang.specs.declared.typing.Body.{Body}
+use Rattle.query_lang.specs.declared.typing.Enclosing.{Enclosing}
+use Rattle.query_lang.specs.Checks.{Checked, and_then}
+use Rattle.query_lang.specs.TypedExprs.{condition_of, word_of}
+use Rattle.query_lang.specs.TypedFolds.{target_of, inside, fold_nodes, fold_statements}
+use Rattle.query_types.specs.declared.bodies.Choice.{Choice}
+
+-- an assignment behind the statements before it
+abbrev pub assigned : List ℕ → List ℕ → Name → Expr → Body → Checked Body
+assigned states args name e found =
+    and_then (target_of states args name) (λ v.
+    and_then (word_of (states ++ args) [] e) (λ value.
+    Ok (record { statements = found.statements ++ typed_stmt.Assign v value ∷ []; emit = found.emit })))
+
+-- the condition of a choice, and what encloses the statements of both its blocks
+abbrev pub choice_of : List ℕ → List ℕ → Enclosing → Expr → Checked Choice
+choice_of states args outer c =
+    and_then (condition_of (states ++ args) [] c) (λ condition.
+    Ok (record { condition = condition; holding = inside states outer c condition; failing = inside states outer c (typed.Not condition) }))
+
+-- the fold with these variables, arguments and statements
+abbrev pub with_parts : FoldDef → List ℕ → List ℕ → Body → TypedFold
+with_parts d states args body = record {
+  name = d.name;
+  state_names = states;
+  initial = map (λ state. state.initial) d.states;
+  arg_names = args;
+  body = body.statements;
+  emit = body.emit;
+  nodes = fold_nodes d;
+  statements = fold_statements d;
+}

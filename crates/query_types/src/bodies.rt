@@ -1,0 +1,358 @@
+// The statements of a fold.
+
+ghost use Rattle.std.specs.Prelude.{◌≡◌, ◌∷◌, ◌++◌, [], Ok, Some, IfOk, map};
+ghost use Rattle.query_lang.specs.TypedExprs.{condition_of, word_of};
+ghost use Rattle.query_lang.specs.TypedFolds.{target_of, state_in, joined, inside, in_order, emit_condition, emitted, stmt_checked, body_checked};
+ghost use Rattle.query_types.specs.Answers.{Answers, Leaves};
+ghost use Rattle.query_types.specs.Bodies.{choice_of, assigned};
+
+use crate::answer::{CheckAnswer, fault};
+use crate::copies::{copy_expr, names_of_both};
+use crate::exprs::{check_condition, check_word, find_place, has_name, slot_number};
+use marple_base::{Boxed, Seq};
+use query_lang::typing::{Body, Enclosing};
+use query_lang::{Expr, FaultKind, Name, Op, Span, Stmt, TypedExpr, TypedStmt};
+use std::alloc::{AllocError, Global};
+use std::mem;
+
+// The state variable that an assignment gives a value.
+fn find_target(states: &[u32], args: &[u32], name: Name) -> Result<u16, CheckAnswer>
+    ensures { Answers result (target_of states.now args.now name) }
+{
+    match find_place(states, name.id) {
+        Some(at) => slot_number(at),
+        None => {
+            if has_name(args, name.id) {
+                Err(fault(FaultKind::WrongKind, name.span))
+            } else {
+                Err(fault(FaultKind::UnknownName, name.span))
+            }
+        }
+    }
+}
+
+// Where the first state variable of an expression stands.
+fn find_state(states: &[u32], e: &Expr) -> Option<Span>
+    ensures { result ≡ state_in states.now e.now }
+{
+    match e {
+        Expr::Number(_, _) => None,
+        Expr::Named(name) => {
+            if has_name(states, name.id) {
+                Some(name.span)
+            } else {
+                None
+            }
+        }
+        Expr::Not(_, inner) => find_state(states, inner.get()),
+        Expr::Binary(_, _, left, right) => {
+            let first = find_state(states, left.get());
+            let second = find_state(states, right.get());
+            match first {
+                Some(at) => Some(at),
+                None => second,
+            }
+        }
+        Expr::Call(_, _, arguments) => {
+            'arguments: for argument in arguments.as_slice() {
+                if let Some(at) = find_state(states, argument) {
+                    return Some(at);
+                }
+            }
+            None
+        }
+    }
+}
+
+// An expression over a fold's columns that has to be a word.
+fn fold_word(
+    alloc: Global,
+    columns: &[u32],
+    states: &[u32],
+    args: &[u32],
+    e: &Expr,
+) -> Result<TypedExpr, CheckAnswer>
+    requires { columns.now ≡ states.now ++ args.now }
+    ensures { Answers result (word_of (states.now ++ args.now) [] e.now) }
+{
+    check_word(alloc, columns, &[], e)
+}
+
+// An expression over a fold's columns that has to be a condition.
+fn fold_condition(
+    alloc: Global,
+    columns: &[u32],
+    states: &[u32],
+    args: &[u32],
+    e: &Expr,
+) -> Result<TypedExpr, CheckAnswer>
+    requires { columns.now ≡ states.now ++ args.now }
+    ensures { Answers result (condition_of (states.now ++ args.now) [] e.now) }
+{
+    check_condition(alloc, columns, &[], e)
+}
+
+// The conditions that enclose a statement, and one more.
+fn join_conditions(
+    alloc: Global,
+    outer: &Option<TypedExpr>,
+    condition: TypedExpr,
+) -> Result<TypedExpr, AllocError>
+    ensures { IfOk result (λ whole. whole ≡ joined outer.now condition) }
+{
+    match outer {
+        None => Ok(condition),
+        Some(around) => {
+            let first = copy_expr(alloc, around)?;
+            Ok(TypedExpr::Binary(
+                Op::Both,
+                Boxed::new(alloc, first)?,
+                Boxed::new(alloc, condition)?,
+            ))
+        }
+    }
+}
+
+// What encloses the statements under one more condition.
+fn enclose(
+    alloc: Global,
+    states: &[u32],
+    outer: &Enclosing,
+    written: &Expr,
+    condition: TypedExpr,
+) -> Result<Enclosing, AllocError>
+    ensures { IfOk result (λ inner. inner ≡ inside states.now outer.now written.now condition) }
+{
+    let whole = join_conditions(alloc, &outer.condition, condition)?;
+    let state = match outer.state {
+        Some(at) => Some(at),
+        None => find_state(states, written),
+    };
+    Ok(Enclosing {
+        condition: Some(whole),
+        state,
+    })
+}
+
+// A condition that doesn't hold.
+fn negation(alloc: Global, condition: &TypedExpr) -> Result<TypedExpr, AllocError>
+    ensures { IfOk result (λ e. e ≡ TypedExpr.Not condition.now) }
+{
+    let copy = copy_expr(alloc, condition)?;
+    Ok(TypedExpr::Not(Boxed::new(alloc, copy)?))
+}
+
+// The condition of an `emit` from those that enclose it.
+fn emit_under(alloc: Global, outer: &Option<TypedExpr>) -> Result<TypedExpr, AllocError>
+    ensures { IfOk result (λ e. e ≡ emit_condition outer.now) }
+{
+    match outer {
+        None => Ok(TypedExpr::Number(1)),
+        Some(condition) => copy_expr(alloc, condition),
+    }
+}
+
+// A choice between two blocks: its condition, and what encloses the statements of each block.
+#[derive(Drop)]
+pub struct Choice {
+    pub condition: TypedExpr,
+    pub holding: Enclosing,
+    pub failing: Enclosing,
+}
+
+// The choice with this condition.
+fn open_choice(
+    alloc: Global,
+    columns: &[u32],
+    states: &[u32],
+    args: &[u32],
+    outer: &Enclosing,
+    written: &Expr,
+) -> Result<Boxed<Choice>, CheckAnswer>
+    requires { columns.now ≡ states.now ++ args.now }
+    ensures { Answers result (choice_of states.now args.now outer.now written.now) }
+{
+    let condition = fold_condition(alloc, columns, states, args, written)?;
+    let copy = copy_expr(alloc, &condition)?;
+    let holding = enclose(alloc, states, outer, written, copy)?;
+    let opposite = negation(alloc, &condition)?;
+    let failing = enclose(alloc, states, outer, written, opposite)?;
+    let choice = Choice {
+        condition,
+        holding,
+        failing,
+    };
+    Ok(Boxed::new(alloc, choice)?)
+}
+
+// The statements so far, in place of which there are none: those of a block inside follow.
+fn take_statements(alloc: Global, found: &mut Body) -> Seq<TypedStmt>
+    ensures statements { result ≡ found.old.statements }
+    ensures block { found.new ≡ record { statements = []; emit = found.old.emit } }
+{
+    mem::replace(&mut found.statements, Seq::new(alloc))
+}
+
+// A choice behind the statements before it, where the second block is found.
+fn close_choice(
+    found: &mut Body,
+    choice: Boxed<Choice>,
+    before: Seq<TypedStmt>,
+    then_block: Seq<TypedStmt>,
+) -> Result<(), CheckAnswer>
+    ensures { Leaves result found.new (Ok (record { statements = before ++ TypedStmt.If choice.condition then_block found.old.statements ∷ []; emit = found.old.emit })) }
+{
+    let else_block = mem::replace(&mut found.statements, before);
+    let Choice {
+        condition,
+        holding: _,
+        failing: _,
+    } = choice.into_inner();
+    found
+        .statements
+        .push(TypedStmt::If(condition, then_block, else_block))?;
+    Ok(())
+}
+
+// The fold's one `emit`.
+fn add_emit(
+    alloc: Global,
+    span: Span,
+    outer: &Enclosing,
+    found: &mut Body,
+) -> Result<(), CheckAnswer>
+    ensures { Leaves result found.new (emitted span outer.now found.old) }
+{
+    if found.emit.is_some() {
+        return Err(fault(FaultKind::WrongArity, span));
+    }
+    if let Some(state) = outer.state {
+        return Err(fault(FaultKind::StateOnLine, state));
+    }
+    let condition = emit_under(alloc, &outer.condition)?;
+    found.emit = Some(condition);
+    Ok(())
+}
+
+// One more assignment.
+fn add_assignment(
+    alloc: Global,
+    columns: &[u32],
+    states: &[u32],
+    args: &[u32],
+    found: &mut Body,
+    name: Name,
+    e: &Expr,
+) -> Result<(), CheckAnswer>
+    requires { columns.now ≡ states.now ++ args.now }
+    ensures { Leaves result found.new (assigned states.now args.now name e.now found.old) }
+{
+    let v = find_target(states, args, name)?;
+    let value = fold_word(alloc, columns, states, args, e)?;
+    found.statements.push(TypedStmt::Assign(v, value))?;
+    Ok(())
+}
+
+/// One statement behind those before it in its block, under the conditions that enclose it. The columns are the fold's
+/// state variables and then its arguments.
+pub fn check_stmt(
+    alloc: Global,
+    columns: &[u32],
+    states: &[u32],
+    args: &[u32],
+    outer: &Enclosing,
+    found: &mut Body,
+    s: &Stmt,
+) -> Result<(), CheckAnswer>
+    requires { columns.now ≡ states.now ++ args.now }
+    ensures { Leaves result found.new (stmt_checked states.now args.now s.now outer.now found.old) }
+{
+    match s {
+        Stmt::Assign(name, e) => {
+            add_assignment(alloc, columns, states, args, found, *name, e)?;
+            Ok(())
+        }
+        Stmt::If(c, a, b) => {
+            let choice = open_choice(alloc, columns, states, args, outer, c)?;
+            let before = take_statements(alloc, found);
+            'then_block: for inner in a.as_slice() {
+                check_stmt(
+                    alloc,
+                    columns,
+                    states,
+                    args,
+                    &choice.get().holding,
+                    found,
+                    inner,
+                )?;
+            }
+            let then_block = take_statements(alloc, found);
+            'else_block: for inner in b.as_slice() {
+                check_stmt(
+                    alloc,
+                    columns,
+                    states,
+                    args,
+                    &choice.get().failing,
+                    found,
+                    inner,
+                )?;
+            }
+            close_choice(found, choice, before, then_block)?;
+            Ok(())
+        }
+        Stmt::Emit(span) => {
+            add_emit(alloc, *span, outer, found)?;
+            Ok(())
+        }
+    }
+}
+
+// The statements of a fold behind those before them.
+fn check_all(
+    alloc: Global,
+    columns: &[u32],
+    states: &[u32],
+    args: &[u32],
+    outer: &Enclosing,
+    found: &mut Body,
+    body: &[Stmt],
+) -> Result<(), CheckAnswer>
+    requires { columns.now ≡ states.now ++ args.now }
+    ensures { Leaves result found.new (in_order (map (stmt_checked states.now args.now) body.now) outer.now found.old) }
+{
+    for one in body {
+        check_stmt(alloc, columns, states, args, outer, found, one)?;
+    }
+    Ok(())
+}
+
+/// The statements of a fold, with no condition around them.
+pub fn check_body(
+    alloc: Global,
+    states: &[u32],
+    args: &[u32],
+    body: &[Stmt],
+) -> Result<Body, CheckAnswer>
+    ensures { Answers result (body_checked states.now args.now body.now) }
+{
+    let columns = names_of_both(alloc, states, args)?;
+    let outer = Enclosing {
+        condition: None,
+        state: None,
+    };
+    let mut found = Body {
+        statements: Seq::new(alloc),
+        emit: None,
+    };
+    check_all(
+        alloc,
+        columns.as_slice(),
+        states,
+        args,
+        &outer,
+        &mut found,
+        body,
+    )?;
+    Ok(found)
+}

@@ -1,0 +1,257 @@
+// Columns: those that a `map` adds, those of a `zip`, keys, and the arguments of a fold.
+
+ghost use Rattle.std.specs.Prelude.{◌≡◌, ◌++◌, [], Ok, IfOk, OnOk, map, flat_map, slice_get};
+ghost use Rattle.std.specs.List.{list_any};
+ghost use Rattle.query_lang.specs.Checks.{collected, is_among};
+ghost use Rattle.query_lang.specs.TypedExprs.{slot_of};
+ghost use Rattle.query_lang.specs.TypedStreams.{new_columns, no_new_columns, same_origin, clashes_with, clash, column_names, others_from, columns_at, key_names, keys_from, keys_checked, arguments_of};
+ghost use Rattle.query_types.specs.Answers.{Answers};
+
+use crate::answer::{CheckAnswer, fault};
+use crate::exprs::{check_word, find_slot, has_name, slot_number};
+use marple_base::Seq;
+use query_lang::typing::{FoldView, NewColumns, Origin, Picked, StreamColumn};
+use query_lang::{Column, FaultKind, Key, Limit, Name, Span};
+use std::alloc::{AllocError, Global};
+
+/// The columns that a `map` adds to these columns, beside these hidden states.
+pub fn check_columns(
+    alloc: Global,
+    columns: &[u32],
+    hidden: &[u32],
+    new: &[Column],
+) -> Result<NewColumns, CheckAnswer>
+    ensures { Answers result (new_columns columns.now hidden.now no_new_columns new.now) }
+{
+    let mut made = NewColumns {
+        names: Seq::new(alloc),
+        values: Seq::new(alloc),
+    };
+    for column in new {
+        let name = column.name;
+        let is_column = has_name(columns, name.id);
+        let is_hidden = has_name(hidden, name.id);
+        let is_new = has_name(made.names.as_slice(), name.id);
+        if is_column || is_hidden || is_new {
+            return Err(fault(FaultKind::NameTaken, name.span));
+        }
+        let value = check_word(alloc, columns, hidden, &column.value)?;
+        made.names.push(name.id)?;
+        made.values.push(value)?;
+    }
+    Ok(made)
+}
+
+/// The names of columns.
+pub fn names_of(alloc: Global, columns: &[StreamColumn]) -> Result<Seq<u32>, AllocError>
+    ensures { IfOk result (λ names. names ≡ column_names columns.now) }
+{
+    let mut names = Seq::new(alloc);
+    for column in columns {
+        names.push(column.name)?;
+    }
+    Ok(names)
+}
+
+// Have two columns of one name the same values?
+fn is_same_origin(left: Origin, right: Origin) -> bool
+    ensures { result ≡ same_origin left right }
+{
+    match left {
+        Origin::Field => match right {
+            Origin::Field => true,
+            Origin::Map(_) => false,
+        },
+        Origin::Map(a) => match right {
+            Origin::Field => false,
+            Origin::Map(b) => a == b,
+        },
+    }
+}
+
+// Has the left another column of this name?
+fn column_clashes(left: &[StreamColumn], column: StreamColumn) -> bool
+    ensures { result ≡ clashes_with left.now column }
+{
+    for other in left {
+        let is_same = is_same_origin(other.origin, column.origin);
+        if other.name == column.name && !is_same {
+            return true;
+        }
+    }
+    false
+}
+
+/// Have both sides of a `zip` a column of one name that isn't the same column?
+pub fn columns_clash(left: &[StreamColumn], right: &[StreamColumn]) -> bool
+    ensures { result ≡ clash left.now right.now }
+{
+    for column in right {
+        if column_clashes(left, *column) {
+            return true;
+        }
+    }
+    false
+}
+
+/// The slots of the columns that aren't among these names.
+pub fn other_slots(
+    alloc: Global,
+    names: &[u32],
+    columns: &[StreamColumn],
+) -> Result<Seq<u16>, CheckAnswer>
+    ensures { Answers result (Ok (others_from 0 names.now columns.now)) }
+{
+    let mut slots = Seq::new(alloc);
+    for (at, column) in columns.iter().enumerate() {
+        if !has_name(names, column.name) {
+            let slot = slot_number(at)?;
+            slots.push(slot)?;
+        }
+    }
+    Ok(slots)
+}
+
+// The column at a slot.
+fn column_at(columns: &[StreamColumn], slot: u16) -> Option<StreamColumn>
+    ensures { result ≡ slice_get columns.now slot }
+{
+    let at = usize::from(slot);
+    if at < columns.len() {
+        Some(columns[at])
+    } else {
+        None
+    }
+}
+
+/// The columns at these slots.
+pub fn pick_columns(
+    alloc: Global,
+    columns: &[StreamColumn],
+    slots: &[u16],
+) -> Result<Seq<StreamColumn>, AllocError>
+    ensures { IfOk result (λ picked. picked ≡ columns_at columns.now slots.now) }
+{
+    let mut picked = Seq::new(alloc);
+    for slot in slots {
+        if let Some(column) = column_at(columns, *slot) {
+            picked.push(column)?;
+        }
+    }
+    Ok(picked)
+}
+
+// The names that keys stand for: `5tuple` stands for five.
+fn list_keys(alloc: Global, five: &[u32], keys: &[Key]) -> Result<Seq<Name>, AllocError>
+    ensures { IfOk result (λ names. names ≡ flat_map (key_names five.now) keys.now) }
+{
+    let mut names = Seq::new(alloc);
+    for key in keys {
+        add_key(&mut names, five, *key)?;
+    }
+    Ok(names)
+}
+
+// The names that one key stands for, behind others.
+fn add_key(names: &mut Seq<Name>, five: &[u32], key: Key) -> Result<(), AllocError>
+    ensures { OnOk result (names.new ≡ names.old ++ key_names five.now key) }
+{
+    match key {
+        Key::Named(name) => names.push(name)?,
+        Key::FiveTuple(span) => {
+            for id in five {
+                names.push(Name { id: *id, span })?;
+            }
+        }
+    }
+    Ok(())
+}
+
+// Each key in turn.
+fn pick_keys(
+    alloc: Global,
+    columns: &[u32],
+    hidden: &[u32],
+    keys: &[Name],
+) -> Result<Picked, CheckAnswer>
+    ensures { Answers result (keys_from columns.now hidden.now (record { names = []; slots = [] }) keys.now) }
+{
+    let mut found = Picked {
+        names: Seq::new(alloc),
+        slots: Seq::new(alloc),
+    };
+    for key in keys {
+        let slot = find_slot(columns, hidden, *key)?;
+        if has_name(found.names.as_slice(), key.id) {
+            return Err(fault(FaultKind::NameTaken, key.span));
+        }
+        if found.names.len() >= 8 {
+            return Err(fault(FaultKind::OverLimit(Limit::Keys), key.span));
+        }
+        found.names.push(key.id)?;
+        found.slots.push(slot)?;
+    }
+    Ok(found)
+}
+
+/// The keys of a groupby over these columns, where `5tuple` stands for the names of these five fields.
+pub fn check_keys(
+    alloc: Global,
+    five: &[u32],
+    columns: &[u32],
+    hidden: &[u32],
+    keys: &[Key],
+) -> Result<Picked, CheckAnswer>
+    ensures { Answers result (keys_checked five.now columns.now hidden.now keys.now) }
+{
+    let names = list_keys(alloc, five, keys)?;
+    pick_keys(alloc, columns, hidden, names.as_slice())
+}
+
+// The slots of a fold's arguments.
+fn argument_slots(
+    alloc: Global,
+    columns: &[u32],
+    hidden: &[u32],
+    f: &FoldView,
+    span: Span,
+) -> Result<Seq<u16>, CheckAnswer>
+    ensures { Answers result (collected [] (map (λ id. slot_of columns.now hidden.now (record { id = id; span = span })) f.now.args)) }
+{
+    let mut slots = Seq::new(alloc);
+    for id in f.args.as_slice() {
+        let slot = find_slot(columns, hidden, Name { id: *id, span })?;
+        slots.push(slot)?;
+    }
+    Ok(slots)
+}
+
+// Has a state variable the name of a key?
+fn has_key_state(f: &FoldView, keys: &[u32]) -> bool
+    ensures { result ≡ list_any (λ state. is_among state keys.now) f.now.states }
+{
+    for state in f.states.as_slice() {
+        if has_name(keys, *state) {
+            return true;
+        }
+    }
+    false
+}
+
+/// The columns that are a fold's arguments, where no state variable has the name of a key. The faults stand at the fold's name.
+pub fn check_arguments(
+    alloc: Global,
+    columns: &[u32],
+    hidden: &[u32],
+    keys: &[u32],
+    f: &FoldView,
+    span: Span,
+) -> Result<Seq<u16>, CheckAnswer>
+    ensures { Answers result (arguments_of columns.now hidden.now keys.now f.now span) }
+{
+    let slots = argument_slots(alloc, columns, hidden, f, span)?;
+    if has_key_state(f, keys) {
+        return Err(fault(FaultKind::NameTaken, span));
+    }
+    Ok(slots)
+}

@@ -1,0 +1,212 @@
+// Folds.
+
+ghost use Rattle.std.specs.Prelude.{◌≡◌, ◌+◌, ◌<◌, ◌^◌, ◌≤◌, [], Ok, IfOk, length, map, sum_by};
+ghost use Rattle.query_lang.specs.TypedFolds.{states_from, args_from, expr_nodes, stmt_nodes, stmt_count, body_checked, fold_nodes, fold_statements, fold_checked};
+ghost use Rattle.query_types.specs.Answers.{Answers};
+ghost use Rattle.query_types.specs.Bodies.{with_parts};
+
+use crate::answer::{CheckAnswer, fault};
+use crate::bodies::check_body;
+use crate::exprs::has_name;
+use marple_base::Seq;
+use query_lang::typing::Body;
+use query_lang::{Expr, FaultKind, FoldDef, Limit, Name, StateVar, Stmt, TypedFold};
+use std::alloc::{AllocError, Global};
+
+// The state variables: each is new.
+fn check_states(alloc: Global, states: &[StateVar]) -> Result<Seq<u32>, CheckAnswer>
+    ensures { Answers result (states_from [] states.now) }
+{
+    let mut found = Seq::new(alloc);
+    for state in states {
+        let name = state.name;
+        if has_name(found.as_slice(), name.id) {
+            return Err(fault(FaultKind::NameTaken, name.span));
+        }
+        if found.len() >= 8 {
+            return Err(fault(FaultKind::OverLimit(Limit::States), name.span));
+        }
+        found.push(name.id)?;
+    }
+    Ok(found)
+}
+
+// The arguments: each is no state variable and new.
+fn check_args(alloc: Global, states: &[u32], args: &[Name]) -> Result<Seq<u32>, CheckAnswer>
+    ensures { Answers result (args_from states.now [] args.now) }
+{
+    let mut found = Seq::new(alloc);
+    for arg in args {
+        let is_state = has_name(states, arg.id);
+        let is_arg = has_name(found.as_slice(), arg.id);
+        if is_state || is_arg {
+            return Err(fault(FaultKind::NameTaken, arg.span));
+        }
+        if found.len() >= 16 {
+            return Err(fault(FaultKind::OverLimit(Limit::Args), arg.span));
+        }
+        found.push(arg.id)?;
+    }
+    Ok(found)
+}
+
+// The numbers that the state variables start with.
+fn initial_numbers(alloc: Global, states: &[StateVar]) -> Result<Seq<u64>, AllocError>
+    ensures { IfOk result (λ numbers. numbers ≡ map (λ state. state.initial) states.now) }
+{
+    let mut numbers = Seq::new(alloc);
+    for state in states {
+        numbers.push(state.initial)?;
+    }
+    Ok(numbers)
+}
+
+/// How many nodes an expression has.
+pub fn count_nodes(e: &Expr) -> u32
+    requires { expr_nodes e.now < 2 ^ 32 }
+    ensures { result ≡ expr_nodes e.now }
+{
+    match e {
+        Expr::Number(_, _) => 1,
+        Expr::Named(_) => 1,
+        Expr::Not(_, inner) => 1 + count_nodes(inner.get()),
+        Expr::Binary(_, _, left, right) => 1 + count_nodes(left.get()) + count_nodes(right.get()),
+        Expr::Call(_, _, arguments) => {
+            let mut all = 1;
+            'arguments: for argument in arguments.as_slice() {
+                all += count_nodes(argument);
+            }
+            all
+        }
+    }
+}
+
+// How many nodes the expressions of a statement have, with the statements inside.
+fn count_stmt_nodes(s: &Stmt) -> u32
+    requires { stmt_nodes s.now < 2 ^ 32 }
+    ensures { result ≡ stmt_nodes s.now }
+{
+    match s {
+        Stmt::Assign(_, e) => count_nodes(e),
+        Stmt::If(c, a, b) => {
+            let mut all = count_nodes(c);
+            'then_block: for inner in a.as_slice() {
+                all += count_stmt_nodes(inner);
+            }
+            'else_block: for inner in b.as_slice() {
+                all += count_stmt_nodes(inner);
+            }
+            all
+        }
+        Stmt::Emit(_) => 0,
+    }
+}
+
+// How many statements a statement has, itself and those inside.
+fn count_statements(s: &Stmt) -> u32
+    requires { stmt_count s.now < 2 ^ 32 }
+    ensures { result ≡ stmt_count s.now }
+{
+    match s {
+        Stmt::Assign(_, _) => 1,
+        Stmt::If(_, a, b) => {
+            let mut all = 1;
+            'then_block: for inner in a.as_slice() {
+                all += count_statements(inner);
+            }
+            'else_block: for inner in b.as_slice() {
+                all += count_statements(inner);
+            }
+            all
+        }
+        Stmt::Emit(_) => 1,
+    }
+}
+
+// How many nodes a fold has.
+fn count_fold_nodes(body: &[Stmt]) -> u32
+    requires { sum_by stmt_nodes body.now < 2 ^ 32 }
+    ensures { result ≡ sum_by stmt_nodes body.now }
+{
+    let mut all = 0;
+    for one in body {
+        all += count_stmt_nodes(one);
+    }
+    all
+}
+
+// How many statements a fold has.
+fn count_fold_statements(body: &[Stmt]) -> u32
+    requires { sum_by stmt_count body.now < 2 ^ 32 }
+    ensures { result ≡ sum_by stmt_count body.now }
+{
+    let mut all = 0;
+    for one in body {
+        all += count_statements(one);
+    }
+    all
+}
+
+// The fold's arguments, beside its state variables.
+fn fold_args(alloc: Global, states: &Seq<u32>, d: &FoldDef) -> Result<Seq<u32>, CheckAnswer>
+    ensures { Answers result (args_from states.now [] d.now.args) }
+{
+    check_args(alloc, states.as_slice(), d.args.as_slice())
+}
+
+// The fold's statements over its state variables and arguments.
+fn fold_body(
+    alloc: Global,
+    states: &Seq<u32>,
+    args: &Seq<u32>,
+    d: &FoldDef,
+) -> Result<Body, CheckAnswer>
+    ensures { Answers result (body_checked states.now args.now d.now.body) }
+{
+    check_body(alloc, states.as_slice(), args.as_slice(), d.body.as_slice())
+}
+
+// The fold of its parts.
+fn fold_of(
+    alloc: Global,
+    d: &FoldDef,
+    state_names: Seq<u32>,
+    arg_names: Seq<u32>,
+    found: Body,
+) -> Result<TypedFold, CheckAnswer>
+    requires nodes { fold_nodes d.now ≤ 512 }
+    requires statements { fold_statements d.now ≤ 64 }
+    ensures { Answers result (Ok (with_parts d.now state_names arg_names found)) }
+{
+    let initial = initial_numbers(alloc, d.states.as_slice())?;
+    let nodes = count_fold_nodes(d.body.as_slice());
+    let statements = count_fold_statements(d.body.as_slice());
+    let Body {
+        statements: body,
+        emit,
+    } = found;
+    Ok(TypedFold {
+        name: d.name,
+        state_names,
+        initial,
+        arg_names,
+        body,
+        emit,
+        nodes,
+        statements,
+    })
+}
+
+/// A fold: its state variables, its arguments, and then its body. A fold of a text that was read has at most 512 nodes and
+/// 64 statements.
+pub fn check_fold(alloc: Global, d: &FoldDef) -> Result<TypedFold, CheckAnswer>
+    requires nodes { fold_nodes d.now ≤ 512 }
+    requires statements { fold_statements d.now ≤ 64 }
+    ensures { Answers result (fold_checked d.now) }
+{
+    let states = check_states(alloc, d.states.as_slice())?;
+    let args = fold_args(alloc, &states, d)?;
+    let body = fold_body(alloc, &states, &args, d)?;
+    let whole = fold_of(alloc, d, states, args, body)?;
+    Ok(whole)
+}
