@@ -1,3 +1,5 @@
 pub mod Answers
 pub mod Bodies
+pub mod MadeFinals
+pub mod MadeStreams
 pub mod Uses

@@ -7,7 +7,10 @@ mod bodies;
 mod columns;
 mod copies;
 mod exprs;
+mod finals;
 mod folds;
+mod streams;
+mod views;
 
 pub use answer::CheckAnswer;
 pub use exprs::{check_condition, check_expr, check_word};

@@ -1,0 +1,399 @@
+// Streams.
+
+ghost use Rattle.std.specs.Prelude.{◌≡◌, ◌+◌, ◌++◌, Ok, None, IfOk, OnOk, length, map, is_some, if◌then◌else◌};
+ghost use Rattle.query_lang.specs.TypedExprs.{condition_of};
+ghost use Rattle.query_lang.specs.TypedStreams.{column_names, new_columns, no_new_columns, others_from, keys_checked, arguments_of, filtered, next_stream, mapped, zipped, grouped, made_stream, with_stream, stream_checked};
+ghost use Rattle.query_types.specs.Answers.{Answers, Leaves};
+ghost use Rattle.query_types.specs.MadeStreams.{with_columns, with_slots, with_keys};
+
+use crate::answer::{CheckAnswer, fault};
+use crate::columns::{
+    check_arguments, check_columns, check_keys, columns_clash, names_of, other_slots, pick_columns,
+};
+use crate::copies::{copy_words, names_of_both};
+use crate::exprs::check_condition;
+use crate::views::{check_binding, find_fold, find_stream};
+use marple_base::Seq;
+use query_lang::typing::{
+    Earlier, FoldView, Known, MadeStream, Meaning, NewColumns, Origin, Picked, StreamColumn,
+    StreamView, TableView,
+};
+use query_lang::{
+    Column, Expr, FaultKind, Key, Limit, Name, PrintOf, StreamDef, StreamOp, TypedExpr, TypedOp,
+    TypedStream,
+};
+use std::alloc::{AllocError, Global};
+
+fn copy_columns(alloc: Global, columns: &[StreamColumn]) -> Result<Seq<StreamColumn>, AllocError>
+    ensures { IfOk result (λ copy. copy ≡ columns.now) }
+{
+    Ok(Seq::from_vec(Vec::from_slice(alloc, columns)?))
+}
+
+// The columns of one side and then those of the other.
+fn columns_of_both(
+    alloc: Global,
+    first: &[StreamColumn],
+    second: &[StreamColumn],
+) -> Result<Seq<StreamColumn>, AllocError>
+    ensures { IfOk result (λ columns. columns ≡ first.now ++ second.now) }
+{
+    let mut columns = Vec::from_slice(alloc, first)?;
+    columns.extend_from_slice(second)?;
+    Ok(Seq::from_vec(columns))
+}
+
+// The condition of a filter over a stream.
+fn stream_condition(alloc: Global, source: &StreamView, e: &Expr) -> Result<TypedExpr, CheckAnswer>
+    ensures { Answers result (condition_of (column_names source.now.columns) source.now.hidden e.now) }
+{
+    let names = names_of(alloc, source.columns.as_slice())?;
+    check_condition(alloc, names.as_slice(), source.hidden.as_slice(), e)
+}
+
+// A filter: it keeps the columns and the hidden states of its input.
+fn made_filter(
+    alloc: Global,
+    source: &StreamView,
+    condition: TypedExpr,
+) -> Result<MadeStream, AllocError>
+    ensures { IfOk result (λ made. made ≡ record { op = TypedOp.Filter source.now.number condition; columns = source.now.columns; hidden = source.now.hidden; table = None }) }
+{
+    let columns = copy_columns(alloc, source.columns.as_slice())?;
+    let hidden = copy_words(alloc, source.hidden.as_slice())?;
+    Ok(MadeStream {
+        op: TypedOp::Filter(source.number, condition),
+        columns,
+        hidden,
+        table: None,
+    })
+}
+
+fn check_filter(
+    alloc: Global,
+    earlier: &Earlier,
+    input: Name,
+    e: &Expr,
+) -> Result<MadeStream, CheckAnswer>
+    ensures { Answers result (filtered earlier.now input e.now) }
+{
+    let source = find_stream(earlier, input)?;
+    let condition = stream_condition(alloc, source, e)?;
+    Ok(made_filter(alloc, source, condition)?)
+}
+
+// The new columns of a map over a stream.
+fn stream_columns(
+    alloc: Global,
+    source: &StreamView,
+    columns: &[Column],
+) -> Result<NewColumns, CheckAnswer>
+    ensures { Answers result (new_columns (column_names source.now.columns) source.now.hidden no_new_columns columns.now) }
+{
+    let names = names_of(alloc, source.columns.as_slice())?;
+    check_columns(alloc, names.as_slice(), source.hidden.as_slice(), columns)
+}
+
+// Columns that the map of the stream with this number makes, behind others.
+fn add_map_columns(
+    columns: &mut Seq<StreamColumn>,
+    number: u16,
+    names: &[u32],
+) -> Result<(), AllocError>
+    ensures { OnOk result (columns.new ≡ columns.old ++ map (λ name. record { name = name; origin = Origin.Map number }) names.now) }
+{
+    for name in names {
+        columns.push(StreamColumn {
+            name: *name,
+            origin: Origin::Map(number),
+        })?;
+    }
+    Ok(())
+}
+
+// A map: it adds its columns behind those of its input.
+fn made_map(
+    alloc: Global,
+    source: &StreamView,
+    number: u16,
+    new: NewColumns,
+) -> Result<MadeStream, AllocError>
+    ensures { IfOk result (λ made. made ≡ with_columns source.now number new) }
+{
+    let mut columns = copy_columns(alloc, source.columns.as_slice())?;
+    add_map_columns(&mut columns, number, new.names.as_slice())?;
+    let hidden = copy_words(alloc, source.hidden.as_slice())?;
+    Ok(MadeStream {
+        op: TypedOp::Map(source.number, new.values),
+        columns,
+        hidden,
+        table: None,
+    })
+}
+
+// The number of the stream behind those before it.
+fn next_number(earlier: &Earlier) -> Result<u16, CheckAnswer>
+    ensures { Answers result (Ok (next_stream earlier.now)) }
+{
+    let count = earlier.streams.len();
+    if count < 65535 {
+        Ok((count + 1) as u16)
+    } else {
+        Err(CheckAnswer::Memory)
+    }
+}
+
+fn check_map(
+    alloc: Global,
+    earlier: &Earlier,
+    input: Name,
+    columns: &[Column],
+) -> Result<MadeStream, CheckAnswer>
+    ensures { Answers result (mapped earlier.now input columns.now) }
+{
+    let source = find_stream(earlier, input)?;
+    let new = stream_columns(alloc, source, columns)?;
+    let number = next_number(earlier)?;
+    Ok(made_map(alloc, source, number, new)?)
+}
+
+// The slots of the right that a zip takes.
+fn slots_of_right(
+    alloc: Global,
+    left: &StreamView,
+    right: &StreamView,
+) -> Result<Seq<u16>, CheckAnswer>
+    ensures { Answers result (Ok (others_from 0 (column_names left.now.columns) right.now.columns)) }
+{
+    let names = names_of(alloc, left.columns.as_slice())?;
+    other_slots(alloc, names.as_slice(), right.columns.as_slice())
+}
+
+// A zip: the columns of the left, and then those of the right that the left hasn't got.
+fn made_zip(
+    alloc: Global,
+    left: &StreamView,
+    right: &StreamView,
+    slots: Seq<u16>,
+) -> Result<MadeStream, AllocError>
+    ensures { IfOk result (λ made. made ≡ with_slots left.now right.now slots) }
+{
+    let taken = pick_columns(alloc, right.columns.as_slice(), slots.as_slice())?;
+    let columns = columns_of_both(alloc, left.columns.as_slice(), taken.as_slice())?;
+    let hidden = names_of_both(alloc, left.hidden.as_slice(), right.hidden.as_slice())?;
+    Ok(MadeStream {
+        op: TypedOp::Zip(left.number, right.number, slots),
+        columns,
+        hidden,
+        table: None,
+    })
+}
+
+fn check_zip(
+    alloc: Global,
+    earlier: &Earlier,
+    first: Name,
+    second: Name,
+) -> Result<MadeStream, CheckAnswer>
+    ensures { Answers result (zipped earlier.now first second) }
+{
+    let left = find_stream(earlier, first)?;
+    let right = find_stream(earlier, second)?;
+    if columns_clash(left.columns.as_slice(), right.columns.as_slice()) {
+        return Err(fault(FaultKind::NameTaken, second.span));
+    }
+    let slots = slots_of_right(alloc, left, right)?;
+    Ok(made_zip(alloc, left, right, slots)?)
+}
+
+// The keys of a groupby over a stream.
+fn stream_keys(
+    alloc: Global,
+    five: &[u32],
+    source: &StreamView,
+    keys: &[Key],
+) -> Result<Picked, CheckAnswer>
+    ensures { Answers result (keys_checked five.now (column_names source.now.columns) source.now.hidden keys.now) }
+{
+    let names = names_of(alloc, source.columns.as_slice())?;
+    check_keys(
+        alloc,
+        five,
+        names.as_slice(),
+        source.hidden.as_slice(),
+        keys,
+    )
+}
+
+// The arguments of a groupby's fold over a stream.
+fn stream_arguments(
+    alloc: Global,
+    source: &StreamView,
+    picked: &Picked,
+    f: &FoldView,
+    name: Name,
+) -> Result<Seq<u16>, CheckAnswer>
+    ensures { Answers result (arguments_of (column_names source.now.columns) source.now.hidden picked.now.names f.now name.span) }
+{
+    let names = names_of(alloc, source.columns.as_slice())?;
+    check_arguments(
+        alloc,
+        names.as_slice(),
+        source.hidden.as_slice(),
+        picked.names.as_slice(),
+        f,
+        name.span,
+    )
+}
+
+/// How many keys there are.
+pub fn key_count(picked: &Picked) -> Result<u8, CheckAnswer>
+    ensures { Answers result (Ok (length picked.now.names)) }
+{
+    let count = picked.names.len();
+    if count < 256 {
+        Ok(count as u8)
+    } else {
+        Err(CheckAnswer::Memory)
+    }
+}
+
+// A groupby's table: the keys, and then the fold's variables.
+fn made_table(
+    alloc: Global,
+    number: u16,
+    picked: &Picked,
+    f: &FoldView,
+) -> Result<TableView, CheckAnswer>
+    ensures { Answers result (Ok (record { place = PrintOf.Group number; columns = picked.now.names ++ f.now.states; keys = length picked.now.names })) }
+{
+    let keys = key_count(picked)?;
+    let columns = names_of_both(alloc, picked.names.as_slice(), f.states.as_slice())?;
+    Ok(TableView {
+        place: PrintOf::Group(number),
+        columns,
+        keys,
+    })
+}
+
+// A groupby: its key columns, and the variables of its fold as hidden states.
+fn made_group(
+    alloc: Global,
+    number: u16,
+    source: &StreamView,
+    picked: Picked,
+    f: &FoldView,
+    arguments: Seq<u16>,
+) -> Result<MadeStream, CheckAnswer>
+    ensures { Answers result (Ok (with_keys number source.now picked f.now arguments)) }
+{
+    let table = made_table(alloc, number, &picked, f)?;
+    let columns = pick_columns(alloc, source.columns.as_slice(), picked.slots.as_slice())?;
+    let hidden = copy_words(alloc, f.states.as_slice())?;
+    Ok(MadeStream {
+        op: TypedOp::Group(source.number, picked.slots, f.number, arguments),
+        columns,
+        hidden,
+        table: Some(table),
+    })
+}
+
+fn check_group(
+    alloc: Global,
+    five: &[u32],
+    earlier: &Earlier,
+    input: Name,
+    keys: &[Key],
+    fold_name: Name,
+) -> Result<MadeStream, CheckAnswer>
+    ensures { Answers result (grouped five.now earlier.now input keys.now fold_name) }
+{
+    let source = find_stream(earlier, input)?;
+    let picked = stream_keys(alloc, five, source, keys)?;
+    let f = find_fold(earlier, fold_name)?;
+    let arguments = stream_arguments(alloc, source, &picked, f, fold_name)?;
+    let made = made_group(alloc, earlier.groups, source, picked, f, arguments)?;
+    Ok(made)
+}
+
+// What the operator of the stream with this name makes. There are at most 8 groupbys.
+fn check_operator(
+    alloc: Global,
+    five: &[u32],
+    earlier: &Earlier,
+    name: Name,
+    op: &StreamOp,
+) -> Result<MadeStream, CheckAnswer>
+    ensures { Answers result (made_stream five.now earlier.now name op.now) }
+{
+    match op {
+        StreamOp::Filter(input, e) => check_filter(alloc, earlier, *input, e),
+        StreamOp::Map(input, columns) => check_map(alloc, earlier, *input, columns.as_slice()),
+        StreamOp::Zip(first, second) => check_zip(alloc, earlier, *first, *second),
+        StreamOp::Group(input, keys, fold_name) => {
+            if earlier.groups >= 8 {
+                return Err(fault(FaultKind::OverLimit(Limit::Groupbys), name.span));
+            }
+            check_group(alloc, five, earlier, *input, keys.as_slice(), *fold_name)
+        }
+    }
+}
+
+// The number of groupbys behind a stream, where it has this table.
+fn groups_with(groups: u16, table: &Option<TableView>) -> Result<u16, CheckAnswer>
+    ensures { Answers result (Ok (groups + (if is_some table.now then 1 else 0))) }
+{
+    if table.is_none() {
+        return Ok(groups);
+    }
+    if groups < 65535 {
+        Ok(groups + 1)
+    } else {
+        Err(CheckAnswer::Memory)
+    }
+}
+
+// One more stream.
+fn add_stream(
+    alloc: Global,
+    earlier: &mut Earlier,
+    name: Name,
+    made: MadeStream,
+) -> Result<(), CheckAnswer>
+    ensures { Leaves result earlier.new (Ok (with_stream earlier.old name made)) }
+{
+    let number = next_number(earlier)?;
+    let groups = groups_with(earlier.groups, &made.table)?;
+    let names = names_of(alloc, made.columns.as_slice())?;
+    earlier.known.push(Known {
+        name: name.id,
+        meaning: Meaning::Stream(StreamView {
+            number,
+            columns: made.columns,
+            hidden: made.hidden,
+            table: made.table,
+        }),
+    })?;
+    earlier.streams.push(TypedStream {
+        name,
+        columns: names,
+        op: made.op,
+    })?;
+    earlier.groups = groups;
+    Ok(())
+}
+
+/// One more stream: its name is free, and then its operator is checked.
+pub fn check_stream(
+    alloc: Global,
+    five: &[u32],
+    earlier: &mut Earlier,
+    d: &StreamDef,
+) -> Result<(), CheckAnswer>
+    ensures { Leaves result earlier.new (stream_checked five.now earlier.old d.now) }
+{
+    check_binding(earlier, d.name)?;
+    let made = check_operator(alloc, five, earlier, d.name, &d.op)?;
+    add_stream(alloc, earlier, d.name, made)?;
+    Ok(())
+}
