@@ -1,5 +1,6 @@
 pub mod Answers
 pub mod Bodies
+pub mod CheckedItems
 pub mod MadeFinals
 pub mod MadeStreams
 pub mod Uses

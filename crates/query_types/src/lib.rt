@@ -9,8 +9,12 @@ mod copies;
 mod exprs;
 mod finals;
 mod folds;
+mod items;
+mod names;
 mod streams;
+mod typing;
 mod views;
 
 pub use answer::CheckAnswer;
 pub use exprs::{check_condition, check_expr, check_word};
+pub use typing::check;

@@ -1,0 +1,110 @@
+// The items of a query in order.
+
+ghost use Rattle.std.specs.Prelude.{◌≡◌, ◌≤◌, Ok, is_some, All};
+ghost use Rattle.query_lang.specs.Limits.{KeepsLimits};
+ghost use Rattle.query_lang.specs.TypedFolds.{fold_nodes, fold_statements};
+ghost use Rattle.query_lang.specs.Typing.{with_fold, fold_added, print_checked, item_checked, items_checked};
+ghost use Rattle.query_types.specs.Answers.{Answers, Leaves};
+
+use crate::answer::{CheckAnswer, fault};
+use crate::copies::copy_words;
+use crate::exprs::{has_name, slot_number};
+use crate::finals::{check_final, five_of};
+use crate::folds::check_fold;
+use crate::streams::check_stream;
+use crate::views::{find_table, is_taken};
+use query_lang::typing::{Earlier, FoldView, Given, Known, Meaning};
+use query_lang::{FaultKind, FoldDef, Item, Name, TypedFold};
+use std::alloc::Global;
+
+// What the name of a fold stands for, where the fold has this number.
+fn view_of(alloc: Global, number: u16, f: &TypedFold) -> Result<FoldView, CheckAnswer>
+    ensures { Answers result (Ok (record { number = number; states = f.now.state_names; args = f.now.arg_names; emits = is_some f.now.emit })) }
+{
+    let states = copy_words(alloc, f.state_names.as_slice())?;
+    let args = copy_words(alloc, f.arg_names.as_slice())?;
+    Ok(FoldView {
+        number,
+        states,
+        args,
+        emits: f.emit.is_some(),
+    })
+}
+
+// One more fold.
+fn add_fold(alloc: Global, earlier: &mut Earlier, f: TypedFold) -> Result<(), CheckAnswer>
+    ensures { Leaves result earlier.new (Ok (with_fold earlier.old f)) }
+{
+    let number = slot_number(earlier.folds.len())?;
+    let view = view_of(alloc, number, &f)?;
+    earlier.known.push(Known {
+        name: f.name.id,
+        meaning: Meaning::Fold(view),
+    })?;
+    earlier.folds.push(f)?;
+    Ok(())
+}
+
+// The fold's name is free, and then the fold is checked.
+fn check_fold_item(alloc: Global, earlier: &mut Earlier, d: &FoldDef) -> Result<(), CheckAnswer>
+    requires nodes { fold_nodes d.now ≤ 512 }
+    requires statements { fold_statements d.now ≤ 64 }
+    ensures { Leaves result earlier.new (fold_added earlier.old d.now) }
+{
+    if is_taken(earlier, d.name.id) {
+        return Err(fault(FaultKind::NameTaken, d.name.span));
+    }
+    let f = check_fold(alloc, d)?;
+    add_fold(alloc, earlier, f)?;
+    Ok(())
+}
+
+// A table is printed once.
+fn check_print(earlier: &mut Earlier, name: Name) -> Result<(), CheckAnswer>
+    ensures { Leaves result earlier.new (print_checked earlier.old name) }
+{
+    let place = find_table(earlier, name)?.place;
+    if has_name(earlier.printed.as_slice(), name.id) {
+        return Err(fault(FaultKind::NameTaken, name.span));
+    }
+    earlier.prints.push(place)?;
+    earlier.printed.push(name.id)?;
+    Ok(())
+}
+
+// One item behind those before it.
+fn check_item(
+    alloc: Global,
+    given: &Given,
+    earlier: &mut Earlier,
+    item: &Item,
+) -> Result<(), CheckAnswer>
+    requires { KeepsLimits item.now }
+    ensures { Leaves result earlier.new (item_checked given.now earlier.old item.now) }
+{
+    match item {
+        Item::Fold(d) => check_fold_item(alloc, earlier, d),
+        Item::Stream(d) => {
+            let five = five_of(&given.fields);
+            check_stream(alloc, five, earlier, d)
+        }
+        Item::Final(d) => check_final(alloc, given, earlier, d),
+        Item::Print(name) => check_print(earlier, *name),
+    }
+}
+
+/// The items in order, each behind those before it.
+pub fn check_items(
+    alloc: Global,
+    given: &Given,
+    earlier: &mut Earlier,
+    items: &[Item],
+) -> Result<(), CheckAnswer>
+    requires { All KeepsLimits items.now }
+    ensures { Leaves result earlier.new (items_checked given.now earlier.old items.now) }
+{
+    for item in items {
+        check_item(alloc, given, earlier, item)?;
+    }
+    Ok(())
+}

@@ -1,0 +1,179 @@
+// Whole queries.
+
+ghost use Rattle.std.specs.Prelude.{◌≡◌, Ok, None, [], IfOk, All, map, count_by, min};
+ghost use Rattle.query_lang.specs.Limits.{IsReadable, KeepsLimits};
+ghost use Rattle.query_lang.specs.Typing.{typed_names, field_numbers, is_groupby, given_of, start_of, items_checked, ended, checked};
+ghost use Rattle.query_types.specs.Answers.{Answers};
+ghost use Rattle.query_types.specs.CheckedItems.{checked_with};
+
+use crate::answer::{CheckAnswer, fault};
+use crate::items::check_items;
+use crate::names::{add_fields, find_number, number_fields};
+use marple_base::{Field, Seq};
+use query_lang::typing::{Earlier, Given, Known, Meaning, Origin, StreamColumn, StreamView};
+use query_lang::{FaultKind, Item, Names, Query, Span, StreamOp, TypedQuery};
+use std::alloc::{AllocError, Global};
+
+// Is it a stream that groups?
+fn is_group_item(item: &Item) -> bool
+    ensures { result ≡ is_groupby item.now }
+{
+    match item {
+        Item::Stream(d) => matches!(&d.op, StreamOp::Group(_, _, _)),
+        Item::Fold(_) | Item::Final(_) | Item::Print(_) => false,
+    }
+}
+
+// How many groupbys there are, or 8.
+fn count_groups(items: &[Item]) -> u16
+    ensures { result ≡ min (count_by is_groupby items.now) 8 }
+{
+    let mut count = 0;
+    for item in items {
+        if is_group_item(item) && count < 8 {
+            count += 1;
+        }
+    }
+    count
+}
+
+// The numbers of the fields' names.
+fn numbers_of_fields(alloc: Global, names: &Names) -> Result<Seq<u32>, CheckAnswer>
+    ensures { Answers result (Ok (field_numbers names.now)) }
+{
+    number_fields(alloc, names, &Field::ALL)
+}
+
+// What is known of the whole query from the start.
+fn given_from(alloc: Global, names: &Names, items: &Seq<Item>) -> Result<Given, CheckAnswer>
+    ensures { Answers result (Ok (given_of names.now items.now)) }
+{
+    let fields = numbers_of_fields(alloc, names)?;
+    let groups = count_groups(items.as_slice());
+    Ok(Given { fields, groups })
+}
+
+// The columns of the packets' stream.
+fn packet_columns(alloc: Global, fields: &[u32]) -> Result<Seq<StreamColumn>, AllocError>
+    ensures { IfOk result (λ columns. columns ≡ map (λ id. record { name = id; origin = Origin.Field }) fields.now) }
+{
+    let mut columns = Seq::new(alloc);
+    for id in fields {
+        columns.push(StreamColumn {
+            name: *id,
+            origin: Origin::Field,
+        })?;
+    }
+    Ok(columns)
+}
+
+// The stream of all packets.
+fn packet_stream(alloc: Global, given: &Given) -> Result<StreamView, AllocError>
+    ensures { IfOk result (λ stream. stream ≡ record { number = 0; columns = map (λ id. record { name = id; origin = Origin.Field }) given.now.fields; hidden = []; table = None }) }
+{
+    let columns = packet_columns(alloc, given.fields.as_slice())?;
+    Ok(StreamView {
+        number: 0,
+        columns,
+        hidden: Seq::new(alloc),
+        table: None,
+    })
+}
+
+// What stands from the start.
+fn start_from(alloc: Global, names: &Names, given: &Given) -> Result<Earlier, CheckAnswer>
+    requires { given.now.fields ≡ field_numbers names.now }
+    ensures { Answers result (Ok (start_of names.now)) }
+{
+    let stream = packet_stream(alloc, given)?;
+    let name = find_number(names, b"pktstream")?;
+    let mut known = Seq::new(alloc);
+    known.push(Known {
+        name,
+        meaning: Meaning::Stream(stream),
+    })?;
+    Ok(Earlier {
+        known,
+        groups: 0,
+        folds: Seq::new(alloc),
+        streams: Seq::new(alloc),
+        finals: Seq::new(alloc),
+        prints: Seq::new(alloc),
+        printed: Seq::new(alloc),
+    })
+}
+
+// The typed query, which prints some table.
+fn end_with(names: Names, end: Span, earlier: Earlier) -> Result<TypedQuery, CheckAnswer>
+    ensures { Answers result (ended names end earlier) }
+{
+    if earlier.prints.is_empty() {
+        return Err(fault(FaultKind::NothingPrinted, end));
+    }
+    Ok(TypedQuery {
+        names,
+        folds: earlier.folds,
+        streams: earlier.streams,
+        finals: earlier.finals,
+        prints: earlier.prints,
+    })
+}
+
+// The items behind what stands from the start.
+fn check_from(
+    alloc: Global,
+    given: &Given,
+    start: Earlier,
+    items: &Seq<Item>,
+) -> Result<Earlier, CheckAnswer>
+    requires { All KeepsLimits items.now }
+    ensures { Answers result (items_checked given.now start items.now) }
+{
+    let mut earlier = start;
+    check_items(alloc, given, &mut earlier, items.as_slice())?;
+    Ok(earlier)
+}
+
+// What all items of a query give, where its names are these and those of all fields.
+fn check_all(alloc: Global, names: &Names, items: &Seq<Item>) -> Result<Earlier, CheckAnswer>
+    requires { All KeepsLimits items.now }
+    ensures { Answers result (items_checked (given_of names.now items.now) (start_of names.now) items.now) }
+{
+    let given = given_from(alloc, names, items)?;
+    let start = start_from(alloc, names, &given)?;
+    check_from(alloc, &given, start, items)
+}
+
+// The names of a query and of all fields.
+fn names_with_fields(names: Names) -> Result<Names, CheckAnswer>
+    ensures { Answers result (Ok (typed_names names)) }
+{
+    let mut all = names;
+    add_fields(&mut all, &Field::ALL)?;
+    Ok(all)
+}
+
+// The typed query of these items, whose names are these and those of all fields.
+fn check_with(
+    alloc: Global,
+    names: Names,
+    items: &Seq<Item>,
+    end: Span,
+) -> Result<TypedQuery, CheckAnswer>
+    requires { All KeepsLimits items.now }
+    ensures { Answers result (checked_with names items.now end) }
+{
+    let earlier = check_all(alloc, &names, items)?;
+    end_with(names, end, earlier)
+}
+
+/// The typed query, or the first fault: items in the order of the text, and the checks of an item in their order.
+/// `Memory` comes for want of memory, and where a number of folds or columns has no slot number.
+pub fn check(alloc: Global, q: Query) -> Result<TypedQuery, CheckAnswer>
+    requires { IsReadable q }
+    ensures { Answers result (checked q) }
+{
+    let Query { names, items, end } = q;
+    let all = names_with_fields(names)?;
+    check_with(alloc, all, &items, end)
+}
