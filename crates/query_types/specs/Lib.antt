@@ -3,4 +3,5 @@ pub mod Bodies
 pub mod CheckedItems
 pub mod MadeFinals
 pub mod MadeStreams
+pub mod UseExamples
 pub mod Uses

@@ -10,6 +10,7 @@ mod exprs;
 mod finals;
 mod folds;
 mod items;
+pub mod laws;
 mod names;
 mod streams;
 mod typing;
