@@ -3,5 +3,6 @@ pub mod Bodies
 pub mod CheckedItems
 pub mod MadeFinals
 pub mod MadeStreams
+pub mod Numbers
 pub mod UseExamples
 pub mod Uses

@@ -2,12 +2,15 @@
 
 ghost use Rattle.std.specs.Prelude.{◌≡◌, ◌+◌, ◌<◌, ◌^◌, ◌≤◌, [], Ok, IfOk, length, map, sum_by};
 ghost use Rattle.query_lang.specs.TypedFolds.{states_from, args_from, expr_nodes, stmt_nodes, stmt_count, body_checked, fold_nodes, fold_statements, fold_checked};
+ghost use Rattle.query_lang.specs.Folds.{IsValidFold};
+ghost use Rattle.query_types.specs.Numbers.{greatest_of, greatest_in};
 ghost use Rattle.query_types.specs.Answers.{Answers};
 ghost use Rattle.query_types.specs.Bodies.{with_parts};
 
 use crate::answer::{CheckAnswer, fault};
 use crate::bodies::check_body;
 use crate::exprs::has_name;
+use crate::numbers::greatest_in_body;
 use marple_base::Seq;
 use query_lang::typing::Body;
 use query_lang::{Expr, FaultKind, FoldDef, Limit, Name, StateVar, Stmt, TypedFold};
@@ -197,9 +200,8 @@ fn fold_of(
     })
 }
 
-/// A fold: its state variables, its arguments, and then its body. A fold of a text that was read has at most 512 nodes and
-/// 64 statements.
-pub fn check_fold(alloc: Global, d: &FoldDef) -> Result<TypedFold, CheckAnswer>
+// A fold's parts in order.
+fn check_parts(alloc: Global, d: &FoldDef) -> Result<TypedFold, CheckAnswer>
     requires nodes { fold_nodes d.now ≤ 512 }
     requires statements { fold_statements d.now ≤ 64 }
     ensures { Answers result (fold_checked d.now) }
@@ -209,4 +211,26 @@ pub fn check_fold(alloc: Global, d: &FoldDef) -> Result<TypedFold, CheckAnswer>
     let body = fold_body(alloc, &states, &args, d)?;
     let whole = fold_of(alloc, d, states, args, body)?;
     Ok(whole)
+}
+
+// The numbers in a fold are words.
+fn know_numbers(d: &FoldDef)
+    ensures { greatest_of (map greatest_in d.now.body) < 2 ^ 64 }
+{
+    let _greatest = greatest_in_body(d.body.as_slice());
+}
+
+/// A fold: its state variables, its arguments, and then its body. A fold of a text that was read has at most 512 nodes and
+/// 64 statements.
+pub fn check_fold(alloc: Global, d: &FoldDef) -> Result<TypedFold, CheckAnswer>
+    requires nodes { fold_nodes d.now ≤ 512 }
+    requires statements { fold_statements d.now ≤ 64 }
+    ensures given { Answers result (fold_checked d.now) }
+    ensures valid { IfOk result IsValidFold }
+{
+    know_numbers(d);
+    match check_parts(alloc, d) {
+        Ok(f) => Ok(f),
+        Err(answer) => Err(answer),
+    }
 }

@@ -12,6 +12,7 @@ mod folds;
 mod items;
 pub mod laws;
 mod names;
+mod numbers;
 mod streams;
 mod typing;
 mod views;
