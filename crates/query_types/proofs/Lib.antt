@@ -1,7 +1,15 @@
 pub mod BodyLaws
 pub mod CheckLemmas
 pub mod ExprLaws
+pub mod FinalLaws
+pub mod ItemLaws
+pub mod MadeLaws
 pub mod NameLemmas
+pub mod QueryLaws
 pub mod ReadLaws
 pub mod StmtLaws
+pub mod StreamLaws
 pub mod UseFacts
+pub mod ValidLaws
+pub mod ViewLaws
+pub mod WholeLaws

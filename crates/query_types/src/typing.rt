@@ -1,14 +1,17 @@
 // Whole queries.
 
-ghost use Rattle.std.specs.Prelude.{◌≡◌, Ok, None, [], IfOk, All, map, count_by, min};
+ghost use Rattle.std.specs.Prelude.{◌≡◌, ◌<◌, ◌^◌, Ok, None, [], IfOk, All, map, count_by, min};
 ghost use Rattle.query_lang.specs.Limits.{IsReadable, KeepsLimits};
 ghost use Rattle.query_lang.specs.Typing.{typed_names, field_numbers, is_groupby, given_of, start_of, items_checked, ended, checked};
+ghost use Rattle.query_lang.specs.TypedQueries.{IsValidQuery};
+ghost use Rattle.query_types.specs.Numbers.{greatest_of, item_number};
 ghost use Rattle.query_types.specs.Answers.{Answers};
 ghost use Rattle.query_types.specs.CheckedItems.{checked_with};
 
 use crate::answer::{CheckAnswer, fault};
 use crate::items::check_items;
 use crate::names::{add_fields, find_number, number_fields};
+use crate::numbers::greatest_in_items;
 use marple_base::{Field, Seq};
 use query_lang::typing::{Earlier, Given, Known, Meaning, Origin, StreamColumn, StreamView};
 use query_lang::{FaultKind, Item, Names, Query, Span, StreamOp, TypedQuery};
@@ -167,13 +170,35 @@ fn check_with(
     end_with(names, end, earlier)
 }
 
-/// The typed query, or the first fault: items in the order of the text, and the checks of an item in their order.
-/// `Memory` comes for want of memory, and where a number of folds or columns has no slot number.
-pub fn check(alloc: Global, q: Query) -> Result<TypedQuery, CheckAnswer>
+// The numbers in a query are words.
+fn know_numbers(q: &Query)
+    ensures { greatest_of (map item_number q.now.items) < 2 ^ 64 }
+{
+    let _greatest = greatest_in_items(q.items.as_slice());
+}
+
+// The typed query, or the first fault.
+fn check_query(alloc: Global, q: Query) -> Result<TypedQuery, CheckAnswer>
     requires { IsReadable q }
     ensures { Answers result (checked q) }
 {
     let Query { names, items, end } = q;
     let all = names_with_fields(names)?;
     check_with(alloc, all, &items, end)
+}
+
+/// The typed query, or the first fault: items in the order of the text, and the checks of an item in their order. A query that
+/// was parsed is readable. What is given is valid: names, slots, streams and folds that it names are there, conditions,
+/// words and constants stand where they may, and the limits are kept. `Memory` comes for want of memory, and where a number
+/// of folds or columns has no slot number.
+pub fn check(alloc: Global, q: Query) -> Result<TypedQuery, CheckAnswer>
+    requires { IsReadable q }
+    ensures given { Answers result (checked q) }
+    ensures valid { IfOk result IsValidQuery }
+{
+    know_numbers(&q);
+    match check_query(alloc, q) {
+        Ok(typed) => Ok(typed),
+        Err(answer) => Err(answer),
+    }
 }

@@ -1,0 +1,164 @@
+-- What holds of the items before some place, in the whole query.
+use Rattle.std.proofs.Common.{◌≡◌, ℕ, zero, suc, ◌+◌, ◌<◌, ◌≤◌, ◌^◌, Bool, true, false, ◌||◌, cond, List, [], ◌∷◌, ◌++◌, length, map, min, max, count_by, Option, Some, None, Ok, nat_lt, refl, sym, ap, subst, ◌∙◌, append-nil, append_assoc, add-one, arith}
+use Rattle.std.specs.Prelude.{is_some, slice_get, unwrap_or, option_map, IfSome, filter_map}
+use Rattle.std.specs.List.{All}
+use Rattle.std.proofs.lemmas.Option.{slice_get_within}
+use Rattle.std.proofs.lemmas.List.{length-append, length-map}
+use Rattle.std.proofs.lemmas.List.Elements.{All-push, All-head, All-tail, filter_map-append}
+use Rattle.query_lang.specs.declared.fault.FaultKind.TheVariants.{NameTaken, OverLimit}
+use Rattle.query_lang.specs.declared.fault.Limit.TheVariants.{Groupbys}
+use Rattle.query_lang.specs.declared.fold.TypedFold.{TypedFold}
+use Rattle.query_lang.specs.declared.query.Item.{Item}
+use Rattle.query_lang.specs.declared.query.Item.TheVariants as item
+use Rattle.query_lang.specs.declared.query.Name.{Name}
+use Rattle.query_lang.specs.declared.query.StreamOp.{StreamOp}
+use Rattle.query_lang.specs.declared.query.StreamOp.TheVariants as ops
+use Rattle.query_lang.specs.declared.typed.PrintOf.{PrintOf}
+use Rattle.query_lang.specs.declared.typed.PrintOf.TheVariants as place
+use Rattle.query_lang.specs.declared.typed.TypedFinal.{TypedFinal}
+use Rattle.query_lang.specs.declared.typed.TypedOp.{TypedOp}
+use Rattle.query_lang.specs.declared.typed.TypedStream.{TypedStream}
+use Rattle.query_lang.specs.declared.typing.Earlier.{Earlier}
+use Rattle.query_lang.specs.declared.typing.Given.{Given}
+use Rattle.query_lang.specs.declared.typing.Known.{Known}
+use Rattle.query_lang.specs.declared.typing.MadeFinal.{MadeFinal}
+use Rattle.query_lang.specs.declared.typing.MadeStream.{MadeStream}
+use Rattle.query_lang.specs.declared.typing.TableView.{TableView}
+use Rattle.query_lang.specs.Folds.{IsValidFold}
+use Rattle.query_lang.specs.Limits.{KeepsLimits, IsNumbered}
+use Rattle.query_lang.specs.Streams.{Taking, takings, taking_of}
+use Rattle.query_lang.specs.Checks.{Checked, is_among}
+use Rattle.query_lang.specs.TypedFolds.{fold_checked}
+use Rattle.query_lang.specs.TypedStreams.{meaning_of, begun, column_names, made_stream, next_stream, with_stream}
+use Rattle.query_lang.specs.TypedFinals.{table_named, five_fields, made_final, with_final}
+use Rattle.query_lang.specs.TypedQueries.{AreNames, HasNames, Shape, shapes, group_shape, final_shape, stream_width, IsValidStream, AreValidStreams, IsValidFinal, AreValidFinals}
+use Rattle.query_lang.specs.Typing.{with_fold, item_checked, items_checked}
+use Rattle.query_types.specs.Numbers.{greatest_of, item_number}
+use Rattle.query_types.proofs.ExprLaws.{same_ok, found_first, must_ok}
+use Rattle.query_types.proofs.BodyLaws.{must_not_ok}
+use Rattle.query_types.proofs.ItemLaws.{Standing, item_stands, fold_named_well}
+use Rattle.query_types.proofs.ViewLaws.{Whole, IsTable, IsBelow, IsFold, IsStream, AreKnown, known_more, table_shape, table_known, get_next}
+use Rattle.query_types.proofs.MadeLaws.{IsPart, IsMade, IsMadeTable, made_valid}
+use Rattle.query_types.proofs.FinalLaws.{IsMadeFinal, tables_of, final_valid}
+
+abbrev pub IsPrinted : Whole → PrintOf → Type 0
+IsPrinted w (place.Group number) = number < length (takings w.streams)
+IsPrinted w (place.Final number) = number < length w.finals
+
+pub record Sound (w : Whole) (e : Earlier) : Type 0 where
+  pub base : Standing w.names e
+  pub known : AreKnown w (length e.streams) (length e.finals) e.known
+  pub streams : AreValidStreams w.names w.folds [] e.streams
+  pub finals : AreValidFinals w.names w.folds (shapes w.folds w.streams []) e.finals
+  pub prints : All (IsPrinted w) e.prints
+
+pub streams_push : (names : ℕ) (folds : List TypedFold) (before xs : List TypedStream) (x : TypedStream) → AreValidStreams names folds before xs → IsValidStream names folds (before ++ xs) x
+    → AreValidStreams names folds before (xs ++ x ∷ [])
+streams_push names folds before [] x v one = (let P : List TypedStream → Type 0 = λ l. IsValidStream names folds l x in subst P (append-nil before) one, tt)
+streams_push names folds before (y ∷ ys) x v one =
+    let P : List TypedStream → Type 0 = λ l. IsValidStream names folds l x in
+    (v.0, streams_push names folds (before ++ y ∷ []) ys x v.1 (subst P (sym (append_assoc before (y ∷ []) ys)) one))
+
+pub finals_push : (names : ℕ) (folds : List TypedFold) (tables : List Shape) (xs : List TypedFinal) (x : TypedFinal) → AreValidFinals names folds tables xs → IsValidFinal names folds (tables ++ map final_shape xs) x
+    → AreValidFinals names folds tables (xs ++ x ∷ [])
+finals_push names folds tables [] x v one = (let P : List Shape → Type 0 = λ l. IsValidFinal names folds l x in subst P (append-nil tables) one, tt)
+finals_push names folds tables (y ∷ ys) x v one =
+    let P : List Shape → Type 0 = λ l. IsValidFinal names folds l x in
+    (v.0, finals_push names folds (tables ++ final_shape y ∷ []) ys x v.1 (subst P (sym (append_assoc tables (final_shape y ∷ []) (map final_shape ys))) one))
+
+same_some : {A : Type 0} (x y : A) → (let o : Option A = Some x in o) ≡ Some y → x ≡ y
+same_some x y e = cc e
+
+pub get_map : {A B : Type 0} (f : A → B) (xs : List A) (i : ℕ) (x : A) → slice_get xs i ≡ Some x → slice_get (map f xs) i ≡ Some (f x)
+get_map f [] i x e = cc e
+get_map {A} {B} f (y ∷ xs) zero x e = let same : y ≡ x = same_some y x e in ap (λ (z : A). let o : Option B = Some (f z) in o) same
+get_map f (y ∷ xs) (suc i) x e = get_map f xs i x e
+
+takings_next : (xs rest : List TypedStream) (one : TypedStream) (t : Taking) → taking_of one.op ≡ Some t → slice_get (takings (xs ++ one ∷ rest)) (length (takings xs)) ≡ Some t
+takings_next xs rest one t is =
+    let split = filter_map-append (λ (stream : TypedStream). taking_of stream.op) xs (one ∷ rest) in
+    let head : takings (one ∷ rest) ≡ t ∷ takings rest = rw is refl in
+    ap (λ (l : List Taking). slice_get l (length (takings xs))) (split ∙ ap (λ l. takings xs ++ l) head) ∙ get_next (takings xs) (takings rest) t
+
+-- one list goes on as another
+pub behind : {A : Type 0} (whole xs later : List A) (x : A) → whole ≡ (xs ++ x ∷ []) ++ later → whole ≡ xs ++ x ∷ later
+behind whole xs later x e = e ∙ append_assoc xs (x ∷ []) later
+
+fold_part : (w : Whole) (e : Earlier) (f : TypedFold) → IsPart w (with_fold e f) → IsPart w e
+fold_part w e f p = record {
+  later_folds = f ∷ p.later_folds;
+  folds = behind w.folds e.folds p.later_folds f p.folds;
+  later_streams = p.later_streams;
+  streams = p.streams;
+  later_finals = p.later_finals;
+  finals = p.finals;
+}
+
+stream_part : (w : Whole) (e : Earlier) (name : Name) (made : MadeStream) → IsPart w (with_stream e name made) → IsPart w e
+stream_part w e name made p =
+    let one : TypedStream = record { name = name; columns = column_names made.columns; op = made.op } in
+    record {
+      later_folds = p.later_folds;
+      folds = p.folds;
+      later_streams = one ∷ p.later_streams;
+      streams = behind w.streams e.streams p.later_streams one p.streams;
+      later_finals = p.later_finals;
+      finals = p.finals;
+    }
+
+final_part : (w : Whole) (e : Earlier) (name : Name) (made : MadeFinal) → IsPart w (with_final e name made) → IsPart w e
+final_part w e name made p =
+    let one : TypedFinal = record { name = name; columns = made.columns; keys = made.keys; op = made.op } in
+    record {
+      later_folds = p.later_folds;
+      folds = p.folds;
+      later_streams = p.later_streams;
+      streams = p.streams;
+      later_finals = one ∷ p.later_finals;
+      finals = behind w.finals e.finals p.later_finals one p.finals;
+    }
+
+-- where the items up to some place are part of the query, those before them are
+pub item_part : (w : Whole) (given : Given) (e after : Earlier) (one : Item) → item_checked given e one ≡ Ok after → IsPart w after → IsPart w e
+item_part w given e after (item.Fold d) h p =
+    let free = must_not_ok (is_some (meaning_of e.known d.name.id)) NameTaken d.name.span _ after h in
+    let f = found_first (fold_checked d) _ after free.1 in
+    let P : Earlier → Type 0 = λ z. IsPart w z in
+    fold_part w e f.0 (subst P (sym (same_ok _ after f.2)) p)
+item_part w given e after (item.Stream d) h p =
+    let begins = found_first (begun e d.name) _ after h in
+    let made = found_first (made_stream (five_fields given.fields) e d.name d.op) _ after begins.2 in
+    let P : Earlier → Type 0 = λ z. IsPart w z in
+    stream_part w e d.name made.0 (subst P (sym (same_ok _ after made.2)) p)
+item_part w given e after (item.Final d) h p =
+    let begins = found_first (begun e d.name) _ after h in
+    let made = found_first (made_final given e d.op) _ after begins.2 in
+    let P : Earlier → Type 0 = λ z. IsPart w z in
+    final_part w e d.name made.0 (subst P (sym (same_ok _ after made.2)) p)
+item_part w given e after (item.Print name) h p =
+    let table = found_first (table_named e.known name) _ after h in
+    let new = must_not_ok (is_among name.id e.printed) NameTaken name.span _ after table.2 in
+    let P : Earlier → Type 0 = λ z. IsPart w z in
+    let q = subst P (sym (same_ok _ after new.1)) p in
+    record { later_folds = q.later_folds; folds = q.folds; later_streams = q.later_streams; streams = q.streams; later_finals = q.later_finals; finals = q.finals }
+
+pub items_part : (w : Whole) (given : Given) (items : List Item) (e after : Earlier) → items_checked given e items ≡ Ok after → IsPart w after → IsPart w e
+items_part w given [] e after h p = let P : Earlier → Type 0 = λ z. IsPart w z in subst P (sym (same_ok e after h)) p
+items_part w given (one ∷ rest) e after h p =
+    let first = found_first (item_checked given e one) _ after h in
+    item_part w given e first.0 one first.1 (items_part w given rest first.0 after first.2 p)
+
+pub made_table : (w : Whole) (e : Earlier) (later : List TypedStream) (one : TypedStream) (finals : ℕ) (o : Option TableView) → w.streams ≡ e.streams ++ one ∷ later → e.groups ≡ length (takings e.streams)
+    → IsMadeTable w e one.op o → IfSome o (IsTable w finals)
+made_table w e later one finals None is count v = tt
+made_table w e later one finals (Some t) is count v =
+    let next : slice_get (takings w.streams) e.groups ≡ Some v.0 =
+    ap (λ (l : List TypedStream). slice_get (takings l) e.groups) is ∙ ap (slice_get (takings (e.streams ++ one ∷ later))) count ∙ takings_next e.streams later one v.0 v.1 in
+    let shape = get_map (group_shape w.folds) (takings w.streams) e.groups v.0 next ∙ ap (λ (s : Shape). let o : Option Shape = Some s in o) v.2 in
+    let T : PrintOf → Type 0 = λ p. table_shape w p ≡ Some (record { width = length t.columns; keys = t.keys }) in
+    let B : PrintOf → Type 0 = λ p. IsBelow finals p in
+    record { shape = subst T (sym v.5) shape; names = v.3; keys = v.4; below = subst B (sym v.5) tt }
+
+pub next_width : (streams later : List TypedStream) (one : TypedStream) (whole : List TypedStream) → whole ≡ streams ++ one ∷ later → stream_width whole (length streams + 1) ≡ length one.columns
+next_width streams later one whole is =
+    ap (stream_width whole) (add-one (length streams)) ∙ ap (λ (o : Option TypedStream). unwrap_or (option_map (λ (x : TypedStream). length x.columns) o) 0) (ap (λ (l : List TypedStream). slice_get l (length streams)) is ∙ get_next streams later one)
