@@ -1,7 +1,6 @@
 -- What the check of a fold's statements gives is valid.
-use Rattle.std.proofs.Common.{◌≡◌, ℕ, zero, suc, ◌+◌, ◌*◌, ◌<◌, ◌≤◌, ◌^◌, Bool, true, false, cond, List, [], ◌∷◌, ◌++◌, length, map, sum, Option, Some, None, Ok, Err, max, refl, sym, ap, subst, ◌∙◌, inl, inr, arith}
-use Rattle.std.specs.Prelude.{IfSome, is_some}
-use Rattle.std.proofs.lemmas.List.{length-append}
+use Rattle.std.proofs.Common.{◌≡◌, ℕ, ◌+◌, ◌*◌, ◌<◌, ◌≤◌, Bool, true, false, List, [], ◌∷◌, ◌++◌, length, Option, Some, None, Ok, refl, sym, ap, subst, ◌∙◌, inl, inr, arith}
+use Rattle.std.specs.Prelude.{IfSome}
 use Rattle.query_lang.specs.declared.fault.Span.{Span}
 use Rattle.query_lang.specs.declared.fault.FaultKind.{FaultKind}
 use Rattle.query_lang.specs.declared.fold.Op.TheVariants.{Both}
@@ -11,21 +10,15 @@ use Rattle.query_lang.specs.declared.fold.TypedStmt.{TypedStmt}
 use Rattle.query_lang.specs.declared.fold.TypedStmt.TheVariants as typed_stmt
 use Rattle.query_lang.specs.declared.query.Name.{Name}
 use Rattle.query_lang.specs.declared.query.Expr.{Expr}
-use Rattle.query_lang.specs.declared.query.Stmt.{Stmt, fold-roll-Stmt, ind-Stmt, roll-Stmt, map-Stmt}
-use Rattle.query_lang.specs.declared.query.Stmt.TheOpen as stmt
 use Rattle.query_lang.specs.declared.typing.Body.{Body}
 use Rattle.query_lang.specs.declared.typing.Enclosing.{Enclosing}
-use Rattle.query_lang.specs.Words.{IsWord}
 use Rattle.query_lang.specs.Terms.{Term, Literal, term_of}
 use Rattle.query_lang.specs.Blocks.{Block, End, Set, Fork, followed, stmt_block, block_of}
 use Rattle.query_lang.specs.Folds.{IsValidTerm, IsValidBlock, IsValidEmit, ReadsArguments, is_condition, term_nodes, block_nodes, block_count}
-use Rattle.query_lang.specs.Checks.{Checked, and_then, must_not, is_among, place_of}
-use Rattle.query_lang.specs.TypedExprs.{condition_of, word_of}
-use Rattle.query_lang.specs.TypedFolds.{target_at, target_of, or_else, state_in, joined, inside, emit_condition, no_state, emitted, Adding, in_order, new_block, stmt_step, stmt_checked, expr_nodes, stmt_nodes_step, stmt_nodes, count_step, stmt_count}
+use Rattle.query_lang.specs.Checks.{Checked, must_not, is_among, place_of}
+use Rattle.query_lang.specs.TypedFolds.{target_at, target_of, or_else, state_in, joined, inside, emit_condition, no_state}
 use Rattle.query_lang.proofs.TreeLemmas.{term_number, term_not, term_binary, block_assign, block_if}
-use Rattle.query_types.specs.Numbers.{greatest_of, greatest_number, stmt_number_step, greatest_in}
-use Rattle.query_types.proofs.ExprLaws.{same_ok, found_first, place_bound, IsConditionIn, IsWordIn, condition_valid, word_valid}
-use Rattle.query_types.proofs.ReadLaws.{condition_past}
+use Rattle.query_types.proofs.ExprLaws.{place_bound, IsConditionIn, IsWordIn}
 
 pub must_not_ok : {A : Type 0} (test : Bool) (kind : FaultKind) (span : Span) (next : Checked A) (x : A) → must_not test kind span next ≡ Ok x → (test ≡ false) × (next ≡ Ok x)
 must_not_ok true kind span next x e = cc e

@@ -1,23 +1,21 @@
 -- What the check of an expression gives is valid.
-use Rattle.std.proofs.Common.{◌≡◌, ℕ, zero, suc, ◌+◌, ◌<◌, ◌≤◌, ◌^◌, Bool, true, false, not, cond, List, [], ◌∷◌, ◌++◌, length, map, sum, Option, Some, None, Ok, Err, max, nat_eq, nat_lt, refl, sym, ap, subst, ◌∙◌, append_assoc, append-nil, arith}
+use Rattle.std.proofs.Common.{◌≡◌, ℕ, ◌+◌, ◌<◌, ◌≤◌, ◌^◌, Bool, true, false, not, cond, List, [], ◌∷◌, ◌++◌, length, map, sum, Option, Some, None, Ok, Err, nat_eq, nat_lt, refl, sym, ap, subst, ◌∙◌, append_assoc, append-nil, arith}
 use Rattle.std.proofs.lemmas.Bool.{ltb-true}
 use Rattle.query_lang.specs.declared.fault.FaultKind.{FaultKind}
 use Rattle.query_lang.specs.declared.fault.Span.{Span}
 use Rattle.query_lang.specs.declared.fold.Op.{Op}
 use Rattle.query_lang.specs.declared.fold.Op.TheVariants.{Div, Rem, Shl, Shr, Decay, Both, Either}
 use Rattle.query_lang.specs.declared.fold.TypedExpr.{TypedExpr}
-use Rattle.query_lang.specs.declared.fold.TypedExpr.TheVariants as typed
 use Rattle.query_lang.specs.declared.query.Name.{Name}
 use Rattle.query_lang.specs.declared.query.Expr.{Expr, fold-roll-Expr, ind-Expr, roll-Expr, map-Expr}
 use Rattle.query_lang.specs.declared.query.Expr.TheOpen as expr
 use Rattle.query_lang.specs.declared.typing.Found.{Found}
 use Rattle.query_lang.specs.declared.typing.Sort.{Sort}
 use Rattle.query_lang.specs.declared.typing.Sort.TheVariants.{Number, Word, Condition}
-use Rattle.query_lang.specs.Words.{IsWord}
-use Rattle.query_lang.specs.Terms.{Term, Literal, Read, Negation, Operation, term_of}
+use Rattle.query_lang.specs.Terms.{Term, Literal, term_of}
 use Rattle.query_lang.specs.Folds.{IsValidTerm, IsConstant, TakesOperands, is_condition, gives_condition, term_nodes}
-use Rattle.query_lang.specs.Checks.{Checked, refused, and_then, must, collected, is_among, place_from, place_of}
-use Rattle.query_lang.specs.TypedExprs.{slot_at, slot_of, is_condition_sort, joins_conditions, is_operand, is_number_with, is_right_constant, sort_of, of_two, call_of, negated, expr_step, expr_checked, condition_of, word_of}
+use Rattle.query_lang.specs.Checks.{Checked, and_then, must, collected, is_among, place_from, place_of}
+use Rattle.query_lang.specs.TypedExprs.{slot_at, slot_of, is_condition_sort, is_operand, is_number_with, is_right_constant, of_two, call_of, negated, expr_step, expr_checked, condition_of, word_of}
 use Rattle.query_lang.specs.TypedFolds.{nodes_step, expr_nodes}
 use Rattle.query_lang.proofs.TreeLemmas.{term_number, term_slot, term_not, term_binary}
 use Rattle.query_types.specs.Numbers.{greatest_of, number_step, greatest_number}

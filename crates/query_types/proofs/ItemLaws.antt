@@ -1,24 +1,18 @@
 -- What the check of items keeps: valid folds with their names, and the limits on streams, finals and groupbys.
-use Rattle.std.proofs.Common.{◌≡◌, ℕ, zero, suc, ◌+◌, ◌<◌, ◌≤◌, ◌^◌, Bool, true, false, ◌||◌, cond, List, [], ◌∷◌, ◌++◌, length, map, Option, Some, None, Ok, Err, max, nat_lt, refl, sym, ap, subst, ◌∙◌, arith}
+use Rattle.std.proofs.Common.{◌≡◌, ℕ, ◌+◌, ◌<◌, ◌≤◌, ◌^◌, Bool, true, false, ◌||◌, cond, List, [], ◌∷◌, ◌++◌, length, map, Option, Some, None, Ok, nat_lt, refl, sym, ap, subst, ◌∙◌, arith}
 use Rattle.std.specs.Prelude.{is_some}
-use Rattle.std.specs.List.{All, list_any}
-use Rattle.std.specs.Str.{bytes_eq}
+use Rattle.std.specs.List.{All}
 use Rattle.std.proofs.lemmas.Bool.{ltb-true}
 use Rattle.std.proofs.lemmas.List.{length-append}
 use Rattle.std.proofs.lemmas.List.Elements.{All-nil, All-push, All-head, All-tail, filter_map-append}
-use Rattle.marple_base.specs.declared.field.Field.{Field}
-use Rattle.marple_base.specs.Field.{all_fields, field_name}
-use Rattle.query_lang.specs.declared.fault.Span.{Span}
-use Rattle.query_lang.specs.declared.fault.FaultKind.TheVariants.{NameTaken, WrongKind, BadConstant, NothingPrinted, OverLimit}
+use Rattle.query_lang.specs.declared.fault.FaultKind.TheVariants.{NameTaken, OverLimit}
 use Rattle.query_lang.specs.declared.fault.Limit.TheVariants.{Bindings, Groupbys, States, Args}
 use Rattle.query_lang.specs.declared.fold.TypedFold.{TypedFold}
-use Rattle.query_lang.specs.declared.query.FinalDef.{FinalDef}
 use Rattle.query_lang.specs.declared.query.FoldDef.{FoldDef}
 use Rattle.query_lang.specs.declared.query.Item.{Item}
 use Rattle.query_lang.specs.declared.query.Item.TheVariants as item
 use Rattle.query_lang.specs.declared.query.Name.{Name}
 use Rattle.query_lang.specs.declared.query.StateVar.{StateVar}
-use Rattle.query_lang.specs.declared.query.StreamDef.{StreamDef}
 use Rattle.query_lang.specs.declared.query.StreamOp.{StreamOp}
 use Rattle.query_lang.specs.declared.query.StreamOp.TheVariants as ops
 use Rattle.query_lang.specs.declared.typed.TypedOp.{TypedOp}
@@ -28,19 +22,17 @@ use Rattle.query_lang.specs.declared.typing.Earlier.{Earlier}
 use Rattle.query_lang.specs.declared.typing.Given.{Given}
 use Rattle.query_lang.specs.declared.typing.MadeFinal.{MadeFinal}
 use Rattle.query_lang.specs.declared.typing.MadeStream.{MadeStream}
-use Rattle.query_lang.specs.declared.typing.NewColumns.{NewColumns}
 use Rattle.query_lang.specs.Folds.{IsValidFold}
-use Rattle.query_lang.specs.Names.{with_name}
 use Rattle.query_lang.specs.Limits.{KeepsLimits, IsNumbered}
 use Rattle.query_lang.specs.Streams.{Taking, takings, taking_of}
-use Rattle.query_lang.specs.Checks.{Checked, and_then, must, must_not, is_among}
+use Rattle.query_lang.specs.Checks.{is_among}
 use Rattle.query_lang.specs.TypedExprs.{condition_of}
 use Rattle.query_lang.specs.TypedFolds.{states_from, args_from, body_checked, fold_checked}
-use Rattle.query_lang.specs.TypedStreams.{meaning_of, begun, stream_named, fold_named, column_names, new_columns, no_new_columns, clash, keys_checked, arguments_of, filtered, mapped, zipped, grouped, made_stream, with_stream, stream_checked}
-use Rattle.query_lang.specs.TypedFinals.{table_named, five_fields, made_final, with_final, final_checked}
+use Rattle.query_lang.specs.TypedStreams.{meaning_of, begun, stream_named, fold_named, column_names, new_columns, no_new_columns, clash, keys_checked, arguments_of, made_stream, with_stream}
+use Rattle.query_lang.specs.TypedFinals.{table_named, five_fields, made_final, with_final}
 use Rattle.query_lang.specs.TypedQueries.{AreNames, HasNames}
-use Rattle.query_lang.specs.Typing.{with_fold, fold_added, print_checked, item_checked, items_checked, with_fields, typed_names}
-use Rattle.query_types.specs.Numbers.{greatest_of, greatest_in, item_number}
+use Rattle.query_lang.specs.Typing.{with_fold, item_checked, items_checked}
+use Rattle.query_types.specs.Numbers.{greatest_of, item_number}
 use Rattle.query_types.proofs.ExprLaws.{same_ok, found_first, must_ok}
 use Rattle.query_types.proofs.BodyLaws.{must_not_ok}
 use Rattle.query_types.proofs.StmtLaws.{fold_valid}

@@ -1,6 +1,5 @@
 -- What a stream's operator makes is valid behind the streams before it, in the whole query.
-use Rattle.std.proofs.Common.{◌≡◌, ℕ, zero, suc, ◌+◌, ◌<◌, ◌≤◌, ◌^◌, List, [], ◌∷◌, ◌++◌, length, map, flat_map, Option, Some, None, Ok, nat_lt, sum_by, refl, sym, ap, subst, ◌∙◌, arith}
-use Rattle.std.specs.List.{All}
+use Rattle.std.proofs.Common.{◌≡◌, ℕ, ◌<◌, ◌≤◌, ◌^◌, List, [], ◌∷◌, ◌++◌, length, map, flat_map, Option, Some, None, Ok, nat_lt, refl, sym, ap, subst, ◌∙◌, arith}
 use Rattle.std.proofs.lemmas.List.{length-append, length-map, map-append}
 use Rattle.std.proofs.lemmas.List.Elements.{All-nil, All-append}
 use Rattle.query_lang.specs.declared.fault.FaultKind.TheVariants.{NameTaken, OverLimit}
@@ -8,7 +7,6 @@ use Rattle.query_lang.specs.declared.fault.Limit.TheVariants.{Groupbys}
 use Rattle.query_lang.specs.declared.query.Name.{Name}
 use Rattle.query_lang.specs.declared.query.StreamOp.{StreamOp}
 use Rattle.query_lang.specs.declared.query.StreamOp.TheVariants as ops
-use Rattle.query_lang.specs.declared.fold.TypedExpr.{TypedExpr}
 use Rattle.query_lang.specs.declared.fold.TypedFold.{TypedFold}
 use Rattle.query_lang.specs.declared.typed.PrintOf.TheVariants as place
 use Rattle.query_lang.specs.declared.typed.TypedFinal.{TypedFinal}
@@ -21,10 +19,8 @@ use Rattle.query_lang.specs.declared.typing.Origin.TheVariants as origins
 use Rattle.query_lang.specs.declared.typing.StreamColumn.{StreamColumn}
 use Rattle.query_lang.specs.declared.typing.StreamView.{StreamView}
 use Rattle.query_lang.specs.declared.typing.TableView.{TableView}
-use Rattle.query_lang.specs.Terms.{term_of}
-use Rattle.query_lang.specs.Folds.{term_nodes}
 use Rattle.query_lang.specs.Limits.{stream_nodes, IsNumberedStream}
-use Rattle.query_lang.specs.Streams.{Taking, taking_of, takings}
+use Rattle.query_lang.specs.Streams.{Taking, taking_of}
 use Rattle.query_lang.specs.TypedExprs.{condition_of}
 use Rattle.query_lang.specs.TypedFolds.{expr_nodes}
 use Rattle.query_lang.specs.TypedStreams.{stream_named, fold_named, column_names, new_columns, no_new_columns, clash, others_from, columns_at, key_names, keys_checked, arguments_of, next_stream, made_stream}

@@ -1,55 +1,47 @@
 -- What the check of a query gives is valid.
-use Rattle.std.proofs.Common.{◌≡◌, ℕ, zero, suc, ◌+◌, ◌<◌, ◌≤◌, ◌^◌, Bool, true, false, ◌||◌, cond, List, [], ◌∷◌, ◌++◌, length, map, min, max, count_by, sum_by, Option, Some, None, Ok, nat_lt, not, refl, sym, ap, subst, ◌∙◌, append-nil, append_assoc, add_comm, add-one, arith, codes}
-use Rattle.std.specs.Prelude.{is_some, slice_get, IfSome}
-use Rattle.std.specs.List.{All, list_any}
-use Rattle.std.specs.Str.{bytes_eq}
+use Rattle.std.proofs.Common.{◌≡◌, ℕ, ◌+◌, ◌<◌, ◌^◌, cond, List, [], ◌∷◌, ◌++◌, length, map, count_by, Some, Ok, nat_lt, refl, sym, ap, subst, ◌∙◌, arith}
+use Rattle.std.specs.Prelude.{is_some, slice_get}
+use Rattle.std.specs.List.{All}
 use Rattle.std.proofs.lemmas.Option.{slice_get_within}
 use Rattle.std.proofs.lemmas.List.{length-append, length-map}
 use Rattle.std.proofs.lemmas.List.Sums.{sum_by-cons}
-use Rattle.std.proofs.lemmas.List.Elements.{All-nil, All-cons, All-push, All-head, All-tail}
-use Rattle.std.proofs.lemmas.Slice.Eq.{bytes_eq-Decides}
-use Rattle.marple_base.specs.declared.field.Field.{Field}
-use Rattle.marple_base.specs.Field.{all_fields, field_name}
-use Rattle.query_lang.specs.declared.fault.FaultKind.TheVariants.{NameTaken, NothingPrinted, OverLimit}
+use Rattle.std.proofs.lemmas.List.Elements.{All-push, All-head, All-tail}
+use Rattle.query_lang.specs.declared.fault.FaultKind.TheVariants.{NameTaken, OverLimit}
 use Rattle.query_lang.specs.declared.fault.Limit.TheVariants.{Groupbys}
 use Rattle.query_lang.specs.declared.fold.TypedFold.{TypedFold}
 use Rattle.query_lang.specs.declared.query.Item.{Item}
 use Rattle.query_lang.specs.declared.query.Item.TheVariants as item
 use Rattle.query_lang.specs.declared.query.Name.{Name}
-use Rattle.query_lang.specs.declared.query.Query.{Query}
 use Rattle.query_lang.specs.declared.query.StreamOp.{StreamOp}
 use Rattle.query_lang.specs.declared.query.StreamOp.TheVariants as ops
 use Rattle.query_lang.specs.declared.typed.PrintOf.{PrintOf}
 use Rattle.query_lang.specs.declared.typed.PrintOf.TheVariants as place
 use Rattle.query_lang.specs.declared.typed.TypedFinal.{TypedFinal}
-use Rattle.query_lang.specs.declared.typed.TypedQuery.{TypedQuery}
 use Rattle.query_lang.specs.declared.typed.TypedStream.{TypedStream}
 use Rattle.query_lang.specs.declared.typing.Earlier.{Earlier}
 use Rattle.query_lang.specs.declared.typing.FoldView.{FoldView}
 use Rattle.query_lang.specs.declared.typing.Given.{Given}
-use Rattle.query_lang.specs.declared.typing.Known.{Known}
 use Rattle.query_lang.specs.declared.typing.MadeFinal.{MadeFinal}
 use Rattle.query_lang.specs.declared.typing.MadeStream.{MadeStream}
 use Rattle.query_lang.specs.declared.typing.Meaning.TheVariants as meaning
 use Rattle.query_lang.specs.declared.typing.StreamView.{StreamView}
 use Rattle.query_lang.specs.declared.typing.TableView.{TableView}
-use Rattle.query_lang.specs.Limits.{KeepsLimits, IsNumbered, IsReadable}
-use Rattle.query_lang.specs.Names.{number_in, with_name}
+use Rattle.query_lang.specs.Limits.{KeepsLimits, IsNumbered}
 use Rattle.query_lang.specs.Streams.{takings}
-use Rattle.query_lang.specs.Checks.{Checked, is_among}
+use Rattle.query_lang.specs.Checks.{is_among}
 use Rattle.query_lang.specs.TypedExprs.{condition_of}
 use Rattle.query_lang.specs.TypedFolds.{fold_checked}
 use Rattle.query_lang.specs.TypedStreams.{meaning_of, begun, stream_named, fold_named, column_names, new_columns, no_new_columns, clash, keys_checked, arguments_of, next_stream, made_stream, with_stream}
 use Rattle.query_lang.specs.TypedFinals.{table_named, five_fields, made_final, with_final}
-use Rattle.query_lang.specs.TypedQueries.{AreNames, HasNames, IsTable as IsTableOf, IsValidQuery, shapes, group_shape, final_shape, stream_width}
-use Rattle.query_lang.specs.Typing.{with_fold, item_checked, items_checked, with_fields, typed_names, field_numbers, is_group, is_groupby, given_of, start_of, ended, checked}
+use Rattle.query_lang.specs.TypedQueries.{HasNames, shapes, group_shape, final_shape}
+use Rattle.query_lang.specs.Typing.{with_fold, item_checked, items_checked, is_group, is_groupby}
 use Rattle.query_types.specs.Numbers.{greatest_of, item_number}
 use Rattle.query_types.proofs.ExprLaws.{same_ok, found_first, must_ok}
 use Rattle.query_types.proofs.BodyLaws.{must_not_ok}
 use Rattle.query_types.proofs.ItemLaws.{Standing, item_stands, fold_named_well}
-use Rattle.query_types.proofs.ViewLaws.{Whole, IsTable, IsFold, IsStream, AreKnown, known_more, table_shape, table_known, get_next}
-use Rattle.query_types.proofs.MadeLaws.{IsPart, IsMade, made_valid, IsName}
-use Rattle.query_types.proofs.FinalLaws.{IsMadeFinal, tables_of, final_valid}
+use Rattle.query_types.proofs.ViewLaws.{Whole, IsTable, IsFold, IsStream, known_more, table_shape, table_known, get_next}
+use Rattle.query_types.proofs.MadeLaws.{IsPart, IsMade, made_valid}
+use Rattle.query_types.proofs.FinalLaws.{IsMadeFinal, final_valid}
 use Rattle.query_types.proofs.WholeLaws.{IsPrinted, Sound, streams_push, finals_push, get_map, behind, item_part, items_part, made_table, next_width}
 
 -- a table that was looked up is printed

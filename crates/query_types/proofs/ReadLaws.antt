@@ -1,5 +1,5 @@
 -- An expression in which no state variable stands reads arguments alone.
-use Rattle.std.proofs.Common.{◌≡◌, ℕ, zero, suc, ◌+◌, ◌<◌, ◌≤◌, Bool, true, false, ◌||◌, cond, List, [], ◌∷◌, ◌++◌, length, map, Option, Some, None, Ok, Err, nat_eq, refl, sym, ap, subst, ◌∙◌, append_assoc, append-nil, arith}
+use Rattle.std.proofs.Common.{◌≡◌, ℕ, ◌+◌, ◌≤◌, Bool, true, false, ◌||◌, cond, List, [], ◌∷◌, ◌++◌, length, map, Option, Some, None, Ok, Err, nat_eq, refl, sym, ap, subst, ◌∙◌, append_assoc, append-nil, arith}
 use Rattle.query_lang.specs.declared.fault.FaultKind.TheVariants.{WrongKind, BadConstant}
 use Rattle.query_lang.specs.declared.fault.Span.{Span}
 use Rattle.query_lang.specs.declared.fold.Op.{Op}
@@ -9,8 +9,8 @@ use Rattle.query_lang.specs.declared.query.Expr.TheOpen as expr
 use Rattle.query_lang.specs.declared.typing.Found.{Found}
 use Rattle.query_lang.specs.Terms.{Term, term_of}
 use Rattle.query_lang.specs.Folds.{ReadsArguments}
-use Rattle.query_lang.specs.Checks.{Checked, and_then, collected, is_among, place_from, place_of}
-use Rattle.query_lang.specs.TypedExprs.{is_operand, is_right_constant, is_condition_sort, slot_at, slot_of, of_two, call_of, negated, expr_step, expr_checked, condition_of}
+use Rattle.query_lang.specs.Checks.{Checked, collected, is_among, place_from, place_of}
+use Rattle.query_lang.specs.TypedExprs.{is_operand, is_right_constant, is_condition_sort, slot_at, slot_of, of_two, call_of, expr_step, expr_checked, condition_of}
 use Rattle.query_lang.specs.declared.fold.TypedExpr.{TypedExpr}
 use Rattle.query_lang.specs.TypedFolds.{or_else, first_of, state_step, state_in}
 use Rattle.query_lang.proofs.TreeLemmas.{term_number, term_slot, term_not, term_binary}

@@ -1,18 +1,14 @@
 -- What the check of a fold gives is valid.
-use Rattle.std.proofs.Common.{◌≡◌, ℕ, zero, suc, ◌+◌, ◌<◌, ◌≤◌, ◌^◌, Bool, true, false, ◌||◌, List, [], ◌∷◌, ◌++◌, length, map, sum, sum_by, Option, Some, None, Ok, Err, max, nat_lt, refl, sym, ap, subst, ◌∙◌, arith}
+use Rattle.std.proofs.Common.{◌≡◌, ℕ, ◌+◌, ◌<◌, ◌≤◌, ◌^◌, ◌||◌, List, [], ◌∷◌, ◌++◌, length, map, sum, sum_by, None, Ok, nat_lt, refl, sym, ap, subst, ◌∙◌, arith}
 use Rattle.std.specs.Prelude.{is_some}
 use Rattle.std.proofs.lemmas.Bool.{ltb-true}
 use Rattle.std.proofs.lemmas.List.{length-append, length-map}
 use Rattle.std.proofs.lemmas.List.Sums.{sum-map, sum_by-cons}
-use Rattle.std.proofs.lemmas.List.Elements.{All-nil, All-cons, All-head, All-tail}
-use Rattle.std.specs.List.{All}
-use Rattle.query_lang.specs.declared.fault.Span.{Span}
 use Rattle.query_lang.specs.declared.fault.FaultKind.TheVariants.{NameTaken, WrongArity, OverLimit}
 use Rattle.query_lang.specs.declared.fault.Limit.TheVariants.{States, Args}
 use Rattle.query_lang.specs.declared.fold.TypedExpr.{TypedExpr}
 use Rattle.query_lang.specs.declared.fold.TypedExpr.TheVariants as typed
 use Rattle.query_lang.specs.declared.fold.TypedFold.{TypedFold}
-use Rattle.query_lang.specs.declared.query.Expr.{Expr}
 use Rattle.query_lang.specs.declared.query.FoldDef.{FoldDef}
 use Rattle.query_lang.specs.declared.query.Name.{Name}
 use Rattle.query_lang.specs.declared.query.StateVar.{StateVar}
@@ -23,11 +19,11 @@ use Rattle.query_lang.specs.declared.typing.Enclosing.{Enclosing}
 use Rattle.query_lang.specs.Terms.{Term, term_of}
 use Rattle.query_lang.specs.Blocks.{End}
 use Rattle.query_lang.specs.Folds.{IsValidFold, ReadsArguments}
-use Rattle.query_lang.specs.Checks.{Checked, and_then, must, must_not, is_among}
+use Rattle.query_lang.specs.Checks.{is_among}
 use Rattle.query_lang.specs.TypedExprs.{condition_of, word_of}
-use Rattle.query_lang.specs.TypedFolds.{states_from, args_from, target_of, state_in, inside, emit_condition, no_state, emitted, Adding, in_order, new_block, stmt_step, stmt_checked, expr_nodes, stmt_nodes_step, stmt_nodes, count_step, stmt_count, body_checked, fold_nodes, fold_statements, fold_checked}
+use Rattle.query_lang.specs.TypedFolds.{states_from, args_from, target_of, state_in, inside, Adding, in_order, stmt_step, stmt_checked, expr_nodes, stmt_nodes_step, stmt_nodes, count_step, stmt_count, body_checked, fold_nodes, fold_statements, fold_checked}
 use Rattle.query_lang.proofs.TreeLemmas.{term_not}
-use Rattle.query_types.specs.Numbers.{greatest_of, greatest_number, stmt_number_step, greatest_in}
+use Rattle.query_types.specs.Numbers.{greatest_of, stmt_number_step, greatest_in}
 use Rattle.query_types.proofs.ExprLaws.{same_ok, found_first, must_ok, IsConditionIn, IsWordIn, condition_valid, word_valid}
 use Rattle.query_types.proofs.ReadLaws.{condition_past}
 use Rattle.query_types.proofs.BodyLaws.{must_not_ok, IsBlockIn, IsBody, IsAround, target_bound, added, assign_block, if_block, inside_valid, not_in, emit_valid, no_state_ok}

@@ -1,17 +1,16 @@
 -- What the operators of streams make is valid.
-use Rattle.std.proofs.Common.{◌≡◌, ℕ, zero, suc, ◌+◌, ◌<◌, ◌≤◌, ◌^◌, Bool, true, false, ◌||◌, cond, List, [], ◌∷◌, ◌++◌, length, map, max, Option, Some, None, Ok, Err, nat_eq, nat_lt, sum_by, refl, sym, ap, subst, ◌∙◌, add-one, append_assoc, append-nil, arith}
-use Rattle.std.specs.Prelude.{is_some, slice_get, IfSome, option_map, unwrap_or, filter_map}
+use Rattle.std.proofs.Common.{◌≡◌, ℕ, zero, suc, ◌+◌, ◌<◌, ◌≤◌, ◌^◌, Bool, true, false, ◌||◌, cond, List, [], ◌∷◌, ◌++◌, length, map, Option, Some, None, Ok, Err, nat_eq, nat_lt, sum_by, refl, sym, ap, subst, ◌∙◌, arith}
+use Rattle.std.specs.Prelude.{slice_get, option_map, unwrap_or}
 use Rattle.std.specs.List.{All, list_any}
 use Rattle.std.proofs.lemmas.Bool.{ltb-true, eqb-true}
 use Rattle.std.proofs.lemmas.Option.{slice_get_within}
-use Rattle.std.proofs.lemmas.List.{length-append, length-map, map-append}
+use Rattle.std.proofs.lemmas.List.{length-append}
 use Rattle.std.proofs.lemmas.List.Sums.{sum_by-cons, sum_by_push}
-use Rattle.std.proofs.lemmas.List.Elements.{All-nil, All-cons, All-push, All-append, All-head, All-tail}
+use Rattle.std.proofs.lemmas.List.Elements.{All-nil, All-cons, All-push, All-head, All-tail}
 use Rattle.query_lang.specs.declared.fault.Span.{Span}
 use Rattle.query_lang.specs.declared.fault.FaultKind.TheVariants.{NameTaken, OverLimit}
-use Rattle.query_lang.specs.declared.fault.Limit.TheVariants.{Keys, Groupbys}
+use Rattle.query_lang.specs.declared.fault.Limit.TheVariants.{Keys}
 use Rattle.query_lang.specs.declared.fold.TypedExpr.{TypedExpr}
-use Rattle.query_lang.specs.declared.fold.TypedFold.{TypedFold}
 use Rattle.query_lang.specs.declared.query.Column.{Column}
 use Rattle.query_lang.specs.declared.query.Name.{Name}
 use Rattle.query_lang.specs.declared.typing.FoldView.{FoldView}
@@ -22,13 +21,12 @@ use Rattle.query_lang.specs.Terms.{term_of}
 use Rattle.query_lang.specs.Folds.{term_nodes, fold_args, fold_states}
 use Rattle.query_lang.specs.Limits.{columns_nodes, AreNumbered}
 use Rattle.query_lang.specs.Checks.{Checked, collected, is_among, place_from, place_of}
-use Rattle.query_lang.specs.Streams.{Taking}
 use Rattle.query_lang.specs.TypedExprs.{slot_at, slot_of, word_of}
 use Rattle.query_lang.specs.TypedFolds.{expr_nodes}
 use Rattle.query_lang.specs.TypedStreams.{column_names, new_columns, others_from, columns_at, keys_from, arguments_of}
-use Rattle.query_lang.specs.TypedQueries.{AreNames, AreSlots, IsValidWord, IsValidCondition, AreValidWords, IsValidGroup, Shape, group_shape}
-use Rattle.query_types.specs.Numbers.{greatest_number, columns_number}
-use Rattle.query_types.proofs.ExprLaws.{same_ok, found_first, must_ok, slot_bound, IsConditionIn, IsWordIn, word_valid}
+use Rattle.query_lang.specs.TypedQueries.{AreNames, AreSlots, IsValidWord, IsValidCondition, IsValidGroup, Shape, group_shape}
+use Rattle.query_types.specs.Numbers.{columns_number}
+use Rattle.query_types.proofs.ExprLaws.{same_ok, found_first, must_ok, slot_bound, IsConditionIn, word_valid}
 use Rattle.query_types.proofs.BodyLaws.{must_not_ok}
 use Rattle.query_types.proofs.ViewLaws.{Whole, IsFold}
 

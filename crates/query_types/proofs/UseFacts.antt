@@ -1,8 +1,7 @@
 -- The examples of uses.
-use Rattle.std.proofs.Common.{◌≡◌, ℕ, List, [], ◌∷◌, Option, Some, None, refl, subst, ap, sym, ◌∙◌}
+use Rattle.std.proofs.Common.{◌≡◌, ℕ, List, [], ◌∷◌, Option, Some, None, refl, ap, ◌∙◌}
 use Rattle.std.specs.Prelude.{filter, filter_map, map, fold, ◌++◌, slice_get}
 use Rattle.epoch_model.specs.Epochs.{Use}
-use Rattle.query_lang.specs.declared.fold.Op.TheVariants.{Lt, Add}
 use Rattle.query_lang.specs.declared.fold.TypedExpr.{TypedExpr}
 use Rattle.query_lang.specs.declared.fold.TypedFold.{TypedFold}
 use Rattle.query_lang.specs.declared.typed.TypedOp.{TypedOp}
@@ -10,7 +9,7 @@ use Rattle.query_lang.specs.declared.typed.TypedOp.TheVariants.{Filter, Map, Zip
 use Rattle.query_lang.specs.declared.typed.TypedQuery.{TypedQuery}
 use Rattle.query_lang.specs.declared.typed.TypedStream.{TypedStream}
 use Rattle.query_lang.specs.Words.{holds, op_value}
-use Rattle.query_lang.specs.Terms.{Term, Literal, Read, Operation}
+use Rattle.query_lang.specs.Terms.{Term}
 use Rattle.query_lang.specs.Folds.{term_value}
 use Rattle.query_lang.specs.Streams.{Tuple, Taking, numbered, values_at, holds_at, made_of, list_at, taking_of}
 use Rattle.query_lang.specs.StreamExamples.{three_packets, tuple, HasParts}

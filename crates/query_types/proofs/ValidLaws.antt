@@ -1,5 +1,5 @@
 -- The typed query of a readable query is valid.
-use Rattle.std.proofs.Common.{◌≡◌, ℕ, zero, suc, ◌+◌, ◌<◌, ◌≤◌, ◌^◌, Bool, true, false, ◌||◌, cond, List, [], ◌∷◌, ◌++◌, length, map, min, max, count_by, Option, Some, None, Ok, nat_lt, not, refl, sym, ap, subst, ◌∙◌, append-nil, arith}
+use Rattle.std.proofs.Common.{◌≡◌, ℕ, ◌+◌, ◌<◌, ◌≤◌, ◌^◌, Bool, true, false, ◌||◌, cond, List, [], ◌∷◌, ◌++◌, length, map, min, count_by, Ok, nat_lt, not, refl, sym, ap, subst, append-nil, arith}
 use Rattle.std.specs.List.{All, list_any}
 use Rattle.std.specs.Str.{bytes_eq}
 use Rattle.std.proofs.lemmas.List.{length-append}
@@ -8,7 +8,6 @@ use Rattle.std.proofs.lemmas.Slice.Eq.{bytes_eq-Decides}
 use Rattle.marple_base.specs.declared.field.Field.{Field}
 use Rattle.marple_base.specs.Field.{all_fields, field_name}
 use Rattle.query_lang.specs.declared.fault.FaultKind.TheVariants.{NothingPrinted}
-use Rattle.query_lang.specs.declared.query.Column.{Column}
 use Rattle.query_lang.specs.declared.query.FinalOp.{FinalOp}
 use Rattle.query_lang.specs.declared.query.FinalOp.TheVariants as final_ops
 use Rattle.query_lang.specs.declared.query.Item.{Item}
@@ -16,24 +15,22 @@ use Rattle.query_lang.specs.declared.query.Item.TheVariants as item
 use Rattle.query_lang.specs.declared.query.Query.{Query}
 use Rattle.query_lang.specs.declared.query.StreamOp.{StreamOp}
 use Rattle.query_lang.specs.declared.query.StreamOp.TheVariants as ops
-use Rattle.query_lang.specs.declared.fold.TypedFold.{TypedFold}
 use Rattle.query_lang.specs.declared.typed.PrintOf.{PrintOf}
 use Rattle.query_lang.specs.declared.typed.PrintOf.TheVariants as place
 use Rattle.query_lang.specs.declared.typed.TypedQuery.{TypedQuery}
-use Rattle.query_lang.specs.declared.typing.Earlier.{Earlier}
 use Rattle.query_lang.specs.declared.typing.Origin.TheVariants as origin
 use Rattle.query_lang.specs.declared.typing.StreamColumn.{StreamColumn}
 use Rattle.query_lang.specs.Folds.{IsValidFold}
-use Rattle.query_lang.specs.Limits.{KeepsLimits, IsNumbered, IsNumberedStream, IsNumberedFinal, IsReadable}
+use Rattle.query_lang.specs.Limits.{IsNumbered, IsNumberedStream, IsNumberedFinal, IsReadable}
 use Rattle.query_lang.specs.Names.{number_in, with_name}
 use Rattle.query_lang.specs.Streams.{takings}
 use Rattle.query_lang.specs.TypedStreams.{column_names}
 use Rattle.query_lang.specs.TypedQueries.{AreNames, HasNames, IsTable, IsValidQuery}
-use Rattle.query_lang.specs.Typing.{items_checked, with_fields, typed_names, field_numbers, is_groupby, given_of, start_of, ended, checked}
+use Rattle.query_lang.specs.Typing.{items_checked, with_fields, typed_names, field_numbers, is_groupby, given_of, start_of, checked}
 use Rattle.query_types.specs.Numbers.{greatest_of, item_number}
 use Rattle.query_types.proofs.ExprLaws.{same_ok, found_first, must_ok}
 use Rattle.query_types.proofs.ItemLaws.{Standing, items_stand}
-use Rattle.query_types.proofs.ViewLaws.{Whole, IsStream}
+use Rattle.query_types.proofs.ViewLaws.{Whole}
 use Rattle.query_types.proofs.MadeLaws.{IsPart, IsName, names_of_made}
 use Rattle.query_types.proofs.WholeLaws.{IsPrinted, Sound}
 use Rattle.query_types.proofs.QueryLaws.{items_sound, items_count}
@@ -177,3 +174,11 @@ query_valid q typed readable words e =
       most_bindings = s.base.bindings;
       most_groupbys = omega (arith, s.base.groups, s.base.most);
     })
+
+-- the names of a typed query
+pub query_names : (q : Query) (typed : TypedQuery) → checked q ≡ Ok typed → typed.names ≡ typed_names q.names
+query_names q typed e =
+    let names = typed_names q.names in
+    let first = found_first (items_checked (given_of names q.items) (start_of names) q.items) _ typed e in
+    let last = must_ok (nat_lt 0 (length first.0.prints)) NothingPrinted q.end _ typed first.2 in
+    ap (λ (z : TypedQuery). z.names) (sym (same_ok _ typed last.1))

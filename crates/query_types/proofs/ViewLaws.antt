@@ -1,7 +1,6 @@
 -- What the names of a query stand for, where the whole query has these folds, streams and finals.
-use Rattle.std.proofs.Common.{◌≡◌, ℕ, zero, suc, ◌+◌, ◌<◌, ◌≤◌, Bool, true, false, cond, List, [], ◌∷◌, ◌++◌, length, map, Option, Some, None, Ok, Err, nat_eq, refl, sym, ap, subst, ◌∙◌, arith}
+use Rattle.std.proofs.Common.{◌≡◌, ℕ, zero, suc, ◌<◌, ◌≤◌, Bool, true, false, cond, List, [], ◌∷◌, ◌++◌, length, map, Option, Some, None, Ok, nat_eq, refl, subst, arith}
 use Rattle.std.specs.Prelude.{is_some, slice_get, IfSome}
-use Rattle.std.proofs.lemmas.List.{length-append, length-map}
 use Rattle.query_lang.specs.declared.fault.Span.{Span}
 use Rattle.query_lang.specs.declared.fault.FaultKind.TheVariants.{WrongKind}
 use Rattle.query_lang.specs.declared.fold.TypedFold.{TypedFold}

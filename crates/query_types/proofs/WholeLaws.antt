@@ -1,45 +1,34 @@
 -- What holds of the items before some place, in the whole query.
-use Rattle.std.proofs.Common.{◌≡◌, ℕ, zero, suc, ◌+◌, ◌<◌, ◌≤◌, ◌^◌, Bool, true, false, ◌||◌, cond, List, [], ◌∷◌, ◌++◌, length, map, min, max, count_by, Option, Some, None, Ok, nat_lt, refl, sym, ap, subst, ◌∙◌, append-nil, append_assoc, add-one, arith}
-use Rattle.std.specs.Prelude.{is_some, slice_get, unwrap_or, option_map, IfSome, filter_map}
+use Rattle.std.proofs.Common.{◌≡◌, ℕ, zero, suc, ◌+◌, ◌<◌, List, [], ◌∷◌, ◌++◌, length, map, Option, Some, None, Ok, refl, sym, ap, subst, ◌∙◌, append-nil, append_assoc, add-one}
+use Rattle.std.specs.Prelude.{is_some, slice_get, unwrap_or, option_map, IfSome}
 use Rattle.std.specs.List.{All}
-use Rattle.std.proofs.lemmas.Option.{slice_get_within}
-use Rattle.std.proofs.lemmas.List.{length-append, length-map}
-use Rattle.std.proofs.lemmas.List.Elements.{All-push, All-head, All-tail, filter_map-append}
-use Rattle.query_lang.specs.declared.fault.FaultKind.TheVariants.{NameTaken, OverLimit}
-use Rattle.query_lang.specs.declared.fault.Limit.TheVariants.{Groupbys}
+use Rattle.std.proofs.lemmas.List.Elements.{filter_map-append}
+use Rattle.query_lang.specs.declared.fault.FaultKind.TheVariants.{NameTaken}
 use Rattle.query_lang.specs.declared.fold.TypedFold.{TypedFold}
 use Rattle.query_lang.specs.declared.query.Item.{Item}
 use Rattle.query_lang.specs.declared.query.Item.TheVariants as item
 use Rattle.query_lang.specs.declared.query.Name.{Name}
-use Rattle.query_lang.specs.declared.query.StreamOp.{StreamOp}
-use Rattle.query_lang.specs.declared.query.StreamOp.TheVariants as ops
 use Rattle.query_lang.specs.declared.typed.PrintOf.{PrintOf}
 use Rattle.query_lang.specs.declared.typed.PrintOf.TheVariants as place
 use Rattle.query_lang.specs.declared.typed.TypedFinal.{TypedFinal}
-use Rattle.query_lang.specs.declared.typed.TypedOp.{TypedOp}
 use Rattle.query_lang.specs.declared.typed.TypedStream.{TypedStream}
 use Rattle.query_lang.specs.declared.typing.Earlier.{Earlier}
 use Rattle.query_lang.specs.declared.typing.Given.{Given}
-use Rattle.query_lang.specs.declared.typing.Known.{Known}
 use Rattle.query_lang.specs.declared.typing.MadeFinal.{MadeFinal}
 use Rattle.query_lang.specs.declared.typing.MadeStream.{MadeStream}
 use Rattle.query_lang.specs.declared.typing.TableView.{TableView}
-use Rattle.query_lang.specs.Folds.{IsValidFold}
-use Rattle.query_lang.specs.Limits.{KeepsLimits, IsNumbered}
 use Rattle.query_lang.specs.Streams.{Taking, takings, taking_of}
-use Rattle.query_lang.specs.Checks.{Checked, is_among}
+use Rattle.query_lang.specs.Checks.{is_among}
 use Rattle.query_lang.specs.TypedFolds.{fold_checked}
-use Rattle.query_lang.specs.TypedStreams.{meaning_of, begun, column_names, made_stream, next_stream, with_stream}
+use Rattle.query_lang.specs.TypedStreams.{meaning_of, begun, column_names, made_stream, with_stream}
 use Rattle.query_lang.specs.TypedFinals.{table_named, five_fields, made_final, with_final}
-use Rattle.query_lang.specs.TypedQueries.{AreNames, HasNames, Shape, shapes, group_shape, final_shape, stream_width, IsValidStream, AreValidStreams, IsValidFinal, AreValidFinals}
+use Rattle.query_lang.specs.TypedQueries.{Shape, shapes, group_shape, final_shape, stream_width, IsValidStream, AreValidStreams, IsValidFinal, AreValidFinals}
 use Rattle.query_lang.specs.Typing.{with_fold, item_checked, items_checked}
-use Rattle.query_types.specs.Numbers.{greatest_of, item_number}
-use Rattle.query_types.proofs.ExprLaws.{same_ok, found_first, must_ok}
+use Rattle.query_types.proofs.ExprLaws.{same_ok, found_first}
 use Rattle.query_types.proofs.BodyLaws.{must_not_ok}
-use Rattle.query_types.proofs.ItemLaws.{Standing, item_stands, fold_named_well}
-use Rattle.query_types.proofs.ViewLaws.{Whole, IsTable, IsBelow, IsFold, IsStream, AreKnown, known_more, table_shape, table_known, get_next}
-use Rattle.query_types.proofs.MadeLaws.{IsPart, IsMade, IsMadeTable, made_valid}
-use Rattle.query_types.proofs.FinalLaws.{IsMadeFinal, tables_of, final_valid}
+use Rattle.query_types.proofs.ItemLaws.{Standing}
+use Rattle.query_types.proofs.ViewLaws.{Whole, IsTable, IsBelow, AreKnown, table_shape, get_next}
+use Rattle.query_types.proofs.MadeLaws.{IsPart, IsMadeTable}
 
 abbrev pub IsPrinted : Whole → PrintOf → Type 0
 IsPrinted w (place.Group number) = number < length (takings w.streams)

@@ -1,5 +1,5 @@
-//! The typing of queries: names get numbers and slots, and the first fault is told. So far of expressions; and what the
-//! groupbys of a typed query take from the packets.
+//! The typing of queries: names get numbers and slots, and the first fault is told. And what the groupbys of a typed query take
+//! from the packets.
 #![tactic(auto)]
 
 mod answer;

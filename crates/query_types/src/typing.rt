@@ -189,12 +189,14 @@ fn check_query(alloc: Global, q: Query) -> Result<TypedQuery, CheckAnswer>
 
 /// The typed query, or the first fault: items in the order of the text, and the checks of an item in their order. A query that
 /// was parsed is readable. What is given is valid: names, slots, streams and folds that it names are there, conditions,
-/// words and constants stand where they may, and the limits are kept. `Memory` comes for want of memory, and where a number
+/// words and constants stand where they may, and the limits are kept. Its names are those of the query and then those of the
+/// fields that the query hasn't got. `Memory` comes for want of memory, and where a number
 /// of folds or columns has no slot number.
 pub fn check(alloc: Global, q: Query) -> Result<TypedQuery, CheckAnswer>
     requires { IsReadable q }
     ensures given { Answers result (checked q) }
     ensures valid { IfOk result IsValidQuery }
+    ensures names { IfOk result (λ typed. typed.names ≡ typed_names q.names) }
 {
     know_numbers(&q);
     match check_query(alloc, q) {
