@@ -1,0 +1,59 @@
+-- Which plan is a query's.
+use Rattle.std.specs.Prelude.{◌≡◌, ℕ, ◌+◌, ◌<◌, List, [], length, map, All, slice_get, Option, Some, option_and_then, unwrap_or}
+use Rattle.epoch_model.specs.Driving.{Taken, uses_taken}
+use Rattle.fold_class.specs.Program.{IsProgramOf}
+use Rattle.query_lang.specs.declared.fold.TypedFold.{TypedFold}
+use Rattle.query_lang.specs.declared.typed.TypedQuery.{TypedQuery}
+use Rattle.query_lang.specs.Streams.{takings}
+use Rattle.query_types.specs.Uses.{uses}
+use Rattle.stage_plan.specs.declared.answer.PlanAnswer.{PlanAnswer}
+use Rattle.stage_plan.specs.declared.answer.PlanAnswer.TheVariants.{Refused, Memory}
+use Rattle.stage_plan.specs.declared.group.GroupPlan.{GroupPlan}
+use Rattle.stage_plan.specs.declared.group.GroupWiring.{GroupWiring}
+use Rattle.stage_plan.specs.declared.op.Operand.TheVariants.{Number}
+use Rattle.stage_plan.specs.Depths.{stage_fault}
+use Rattle.stage_plan.specs.Fields.{reads_of}
+use Rattle.stage_plan.specs.Registers.{after, stages_of, taken_at}
+use Rattle.stage_plan.specs.Shape.{PlanShape, parts_shape, query_shape, bound_of}
+use Rattle.stage_plan.specs.Sound.{PlanParts}
+
+-- how many registers a plan needs: one for each field, and one for each operation
+abbrev pub registers_of : PlanParts → ℕ
+registers_of plan = 14 + length plan.ops
+
+-- The registers of a packet with these 14 words after the last stage.
+abbrev pub row_of : PlanParts → List ℕ → List ℕ
+row_of plan words = after plan.ops words (stages_of plan.ops)
+
+-- what the groupby with this number takes, and nothing where there is none
+abbrev pub wiring_at : PlanParts → ℕ → GroupWiring
+wiring_at plan i = unwrap_or (slice_get plan.wiring i) (record { present = Number 0; keys = []; args = [] })
+
+-- What the groupby with this number takes of a packet with these words.
+abbrev pub taken : PlanParts → ℕ → List ℕ → Option Taken
+taken plan i words = taken_at (wiring_at plan i) (row_of plan words)
+
+abbrev pub shape_of : PlanParts → PlanShape
+shape_of plan = parts_shape plan.ops plan.groups
+
+-- the most steps that a packet takes, with caches of so many ways
+abbrev pub plan_bound : PlanParts → ℕ → ℕ
+plan_bound plan ways = bound_of ways (shape_of plan)
+
+-- the fold of the groupby with this number
+abbrev pub fold_at : TypedQuery → ℕ → Option TypedFold
+fold_at q i = option_and_then (λ t. slice_get q.folds t.fold_number) (slice_get (takings q.streams) i)
+
+-- The plan of a query: it takes of each packet what the query's groupbys take of the streams, with the programs of their folds.
+pub record IsPlanOf (q : TypedQuery) (plan : PlanParts) : Type 0 where
+  pub groups : length plan.groups ≡ length (takings q.streams)
+  pub takes : (i : ℕ) (packets : List (List ℕ)) → i < length plan.groups → All (λ words. length words ≡ 14) packets
+      → uses q i packets ≡ uses_taken 1 (map (taken plan i) packets)
+  pub programs : (i : ℕ) (f : TypedFold) (group : GroupPlan) → fold_at q i ≡ Some f → slice_get plan.groups i ≡ Some group → IsProgramOf f group.program
+  pub reads : plan.reads ≡ reads_of q
+  pub shape : shape_of plan ≡ query_shape q
+
+-- a query is refused exactly for its first stream that needs too many stages
+abbrev pub IsRefusal : TypedQuery → PlanAnswer → Type 0
+IsRefusal q (Refused fault) = stage_fault q ≡ Some fault
+IsRefusal q Memory = Unit {0}

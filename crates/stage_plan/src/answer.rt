@@ -1,0 +1,24 @@
+ghost use Rattle.std.specs.Prelude.{◌≡◌};
+
+use query_lang::QueryFault;
+use std::alloc::AllocError;
+
+/// Why there is no plan.
+#[derive(Clone, Copy, Debug, PartialEq, Eq)]
+pub enum PlanAnswer {
+    /// More than 64 stages would be needed.
+    Refused(QueryFault),
+    /// There was no memory.
+    Memory,
+}
+
+impl From<AllocError> for PlanAnswer {
+    ghost use Rattle.std.specs.Prelude.{◌≡◌};
+    ghost use Rattle.stage_plan.specs.declared.answer.PlanAnswer.{PlanAnswer};
+
+    ghost from_gives = { λ e answer. answer ≡ PlanAnswer.Memory };
+
+    fn from(_: AllocError) -> PlanAnswer {
+        PlanAnswer::Memory
+    }
+}

@@ -1,0 +1,16 @@
+//! The on-line part of a typed query as stages of operations on registers, and what its groupbys take of each packet.
+#![tactic(auto)]
+
+mod answer;
+mod group;
+mod op;
+mod planner;
+mod plans;
+mod text;
+
+pub use answer::PlanAnswer;
+pub use group::{GroupPlan, GroupWiring};
+pub use op::{Operand, Operation, PlanOp};
+pub use planner::plan;
+pub use plans::Plan;
+pub use text::plan_text;
