@@ -6,6 +6,7 @@ mod group;
 mod op;
 mod planner;
 mod plans;
+mod rows;
 mod text;
 
 pub use answer::PlanAnswer;

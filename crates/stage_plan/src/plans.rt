@@ -8,6 +8,7 @@ ghost use Rattle.stage_plan.specs.Sound.{PlanParts, IsSoundPlan, IsChain};
 
 use crate::group::{GroupPlan, GroupWiring};
 use crate::op::PlanOp;
+use crate::rows::{copy_into, fill, operand_in};
 use marple_base::{FieldSet, Packet, Seq, Steps};
 use std::marker::Model;
 use std::sync::ledger::Ledger;
@@ -84,4 +85,107 @@ impl Plan {
     {
         *self.ops.get(number as usize)
     }
+
+    /// How many stages there are: the greatest one of an operation.
+    pub fn stages(&self) -> u32
+        ensures { result ≡ stages_of self.now.ops }
+    {
+        greatest_stage(self.ops.as_slice())
+    }
+
+    /// How many operations stand in a stage.
+    pub fn stage_size(&self, stage: u32) -> u32
+        requires some { 1 ≤ stage }
+        requires most { stage ≤ stages_of self.now.ops }
+        ensures { result ≡ count_by (λ one. one.stage == stage) self.now.ops }
+    {
+        in_stage(self.ops.as_slice(), stage)
+    }
+
+    /// The registers of a packet: its words, and what each operation gives. All operations of a stage read the registers as they stood before it.
+    pub fn row<L: Ledger>(&self, p: &Packet, registers: &mut [u64], steps: &mut Steps<L>)
+        requires { length registers.old ≡ registers_of self.now }
+        ensures row { registers.new ≡ row_of self.now p.now.words }
+        ensures steps { steps.new ≡ steps.old + registers_of self.now }
+    {
+        fill(&p.words, self.ops.as_slice(), registers, steps);
+    }
+
+    /// Whether the groupby's input has a tuple for the packet with these registers.
+    pub fn present(&self, i: u32, registers: &[u64]) -> bool
+        requires group { i < length self.now.groups }
+        requires room { length registers.now ≡ registers_of self.now }
+        ensures { result ≡ holds (operand_value registers.now (wiring_at self.now i).present) }
+    {
+        operand_in(self.wiring.get(i as usize).present, registers) != 0
+    }
+
+    /// The words of the groupby's key.
+    pub fn key_into<L: Ledger>(
+        &self,
+        i: u32,
+        registers: &[u64],
+        key: &mut [u64],
+        steps: &mut Steps<L>,
+    )
+        requires group { i < length self.now.groups }
+        requires registers { length registers.now ≡ registers_of self.now }
+        requires key { length key.old ≡ length (wiring_at self.now i).keys }
+        ensures key { key.new ≡ map (operand_value registers.now) (wiring_at self.now i).keys }
+        ensures steps { steps.new ≡ steps.old + length (wiring_at self.now i).keys }
+    {
+        copy_into(
+            self.wiring.get(i as usize).keys.as_slice(),
+            registers,
+            key,
+            steps,
+        );
+    }
+
+    /// The words of the arguments of the groupby's fold.
+    pub fn args_into<L: Ledger>(
+        &self,
+        i: u32,
+        registers: &[u64],
+        args: &mut [u64],
+        steps: &mut Steps<L>,
+    )
+        requires group { i < length self.now.groups }
+        requires registers { length registers.now ≡ registers_of self.now }
+        requires args { length args.old ≡ length (wiring_at self.now i).args }
+        ensures args { args.new ≡ map (operand_value registers.now) (wiring_at self.now i).args }
+        ensures steps { steps.new ≡ steps.old + length (wiring_at self.now i).args }
+    {
+        copy_into(
+            self.wiring.get(i as usize).args.as_slice(),
+            registers,
+            args,
+            steps,
+        );
+    }
+}
+
+// The greatest stage of an operation, or 0.
+fn greatest_stage(ops: &[PlanOp]) -> u32
+    ensures { result ≡ stages_of ops.now }
+{
+    let mut stages = 0;
+    for at in (0..ops.len()).rev() {
+        stages = ops[at].stage.max(stages);
+    }
+    stages
+}
+
+// How many operations stand in a stage.
+fn in_stage(ops: &[PlanOp], stage: u32) -> u32
+    requires { length ops.now ≤ 32768 }
+    ensures { result ≡ count_by (λ one. one.stage == stage) ops.now }
+{
+    let mut size: u32 = 0;
+    for one in ops {
+        if one.stage == stage {
+            size += 1;
+        }
+    }
+    size
 }

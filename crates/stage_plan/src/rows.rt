@@ -1,0 +1,97 @@
+// The registers of a packet.
+
+ghost use Rattle.std.specs.Prelude.{◌≡◌, ℕ, ◌+◌, ◌<◌, ◌≤◌, length, take, slice_get, slice_index, Some, map, All};
+ghost use Rattle.stage_plan.specs.declared.op.PlanOp.{PlanOp};
+ghost use Rattle.stage_plan.specs.Registers.{operand_value, result_of, after, stages_of};
+ghost use Rattle.stage_plan.specs.Sound.{IsWithin, AreSoundOps};
+
+use crate::op::{Operand, Operation, PlanOp};
+use marple_base::Steps;
+use std::sync::ledger::Ledger;
+
+// The word of an operand.
+pub(crate) fn operand_in(operand: Operand, registers: &[u64]) -> u64
+    requires { IsWithin (length registers.now) operand }
+    ensures { result ≡ operand_value registers.now operand }
+{
+    match operand {
+        Operand::Register(r) => registers[r as usize],
+        Operand::Number(n) => n,
+    }
+}
+
+// What an operation gives.
+fn result_in(one: &PlanOp, registers: &[u64]) -> u64
+    requires left { IsWithin (length registers.now) one.now.left }
+    requires right { IsWithin (length registers.now) one.now.right }
+    ensures { result ≡ result_of registers.now one.now }
+{
+    let left = operand_in(one.left, registers);
+    let right = operand_in(one.right, registers);
+    match one.op {
+        Operation::Not => u64::from(left == 0),
+        Operation::Two(op) => op.value(left, right),
+    }
+}
+
+// The packet's words in the first registers.
+fn fill_fields<L: Ledger>(words: &[u64], registers: &mut [u64], steps: &mut Steps<L>)
+    requires words { length words.now ≡ 14 }
+    requires room { 14 ≤ length registers.old }
+    ensures fields { take 14 registers.new ≡ words.now }
+    ensures steps { steps.new ≡ steps.old + 14 }
+{
+    for at in 0..words.len() {
+        registers[at] = words[at];
+        steps.tick();
+    }
+}
+
+// Each operation's result in its register, one after another: each reads only earlier registers.
+fn fill_results<L: Ledger>(ops: &[PlanOp], registers: &mut [u64], steps: &mut Steps<L>)
+    requires sound { AreSoundOps ops.now }
+    requires room { length registers.old ≡ 14 + length ops.now }
+    ensures fields { take 14 registers.new ≡ take 14 registers.old }
+    ensures results { (i : ℕ) (one : PlanOp) → slice_get ops.now i ≡ Some one → slice_index registers.new (14 + i) ≡ result_of registers.new one }
+    ensures steps { steps.new ≡ steps.old + length ops.now }
+{
+    for at in 0..ops.len() {
+        registers[14 + at] = result_in(&ops[at], registers);
+        steps.tick();
+    }
+}
+
+// All registers of a packet.
+pub(crate) fn fill<L: Ledger>(
+    words: &[u64],
+    ops: &[PlanOp],
+    registers: &mut [u64],
+    steps: &mut Steps<L>,
+)
+    requires sound { AreSoundOps ops.now }
+    requires words { length words.now ≡ 14 }
+    requires room { length registers.old ≡ 14 + length ops.now }
+    ensures row { registers.new ≡ after ops.now words.now (stages_of ops.now) }
+    ensures steps { steps.new ≡ steps.old + (14 + length ops.now) }
+{
+    fill_fields(words, registers, steps);
+    fill_results(ops, registers, steps);
+}
+
+// The words of operands in order.
+pub(crate) fn copy_into<L: Ledger>(
+    operands: &[Operand],
+    registers: &[u64],
+    into: &mut [u64],
+    steps: &mut Steps<L>,
+)
+    requires within { All (IsWithin (length registers.now)) operands.now }
+    requires room { length into.old ≡ length operands.now }
+    ensures words { into.new ≡ map (operand_value registers.now) operands.now }
+    ensures steps { steps.new ≡ steps.old + length operands.now }
+{
+    for at in 0..operands.len() {
+        into[at] = operand_in(operands[at], registers);
+        steps.tick();
+    }
+}
