@@ -4,3 +4,4 @@ pub mod Fields
 pub mod Shape
 pub mod Sound
 pub mod Planned
+pub mod Making

@@ -3,11 +3,13 @@
 
 mod answer;
 mod group;
+mod making;
 mod op;
 mod planner;
 mod plans;
 mod rows;
 mod text;
+mod wires;
 
 pub use answer::PlanAnswer;
 pub use group::{GroupPlan, GroupWiring};

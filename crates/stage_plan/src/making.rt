@@ -1,0 +1,278 @@
+// The operations of a query, one after another.
+
+ghost use Rattle.std.specs.Prelude.{◌≡◌, ◌+◌, ◌≤◌, max, min, suc, length, map, ◌++◌, Some, IfOk, OnOk};
+ghost use Rattle.query_lang.specs.Terms.{term_of};
+ghost use Rattle.stage_plan.specs.declared.op.Operand.TheVariants.{Number};
+ghost use Rattle.stage_plan.specs.Registers.{operand_stage};
+ghost use Rattle.stage_plan.specs.Making.{stage_behind, with_op, operand_at, compiled, compiled_all, joined, conditioned, mapped, zipped, emit_columns, emitted, grouped};
+
+use crate::op::{Operand, Operation, PlanOp};
+use crate::wires::StreamWires;
+use marple_base::Seq;
+use query_lang::{Op, TypedExpr, TypedFold};
+use std::alloc::{AllocError, Global};
+
+// The stage of an operand.
+fn stage_of(ops: &[PlanOp], operand: Operand) -> u32
+    ensures { result ≡ operand_stage ops.now operand }
+{
+    match operand {
+        Operand::Number(_) => 0,
+        Operand::Register(r) => {
+            if r < 14 {
+                return 0;
+            }
+            match ops.get(r as usize - 14) {
+                Some(one) => one.stage,
+                None => 0,
+            }
+        }
+    }
+}
+
+// The stage behind two others, and 65 for all above 64.
+fn behind(left: u32, right: u32) -> u32
+    ensures { result ≡ stage_behind left right }
+{
+    if left < 64 && right < 64 {
+        left.max(right) + 1
+    } else {
+        65
+    }
+}
+
+// One more operation, and its register. A query within its limits has at most 32,768 of them.
+fn make_op(
+    ops: &mut Seq<PlanOp>,
+    op: Operation,
+    left: Operand,
+    right: Operand,
+) -> Result<Operand, AllocError>
+    ensures ops { OnOk result (ops.new ≡ (with_op op ops.old left right).ops) }
+    ensures value { IfOk result (λ value. value ≡ (with_op op ops.old left right).value) }
+    ensures few { OnOk result (length ops.new ≤ 32768) }
+{
+    let at = ops.len();
+    if at >= 32768 {
+        return Err(AllocError);
+    }
+    let stage = behind(
+        stage_of(ops.as_slice(), left),
+        stage_of(ops.as_slice(), right),
+    );
+    ops.push(PlanOp {
+        stage,
+        op,
+        left,
+        right,
+    })?;
+    Ok(Operand::Register(14 + at as u32))
+}
+
+// The column in a slot.
+pub(crate) fn column_at(columns: &[Operand], slot: u16) -> Operand
+    ensures { result ≡ operand_at columns.now slot }
+{
+    match columns.get(slot as usize) {
+        Some(column) => *column,
+        None => Operand::Number(0),
+    }
+}
+
+// The operations of an expression over columns, and its operand.
+fn compile(
+    ops: &mut Seq<PlanOp>,
+    columns: &[Operand],
+    e: &TypedExpr,
+) -> Result<Operand, AllocError>
+    requires { length ops.old ≤ 32768 }
+    ensures ops { OnOk result (ops.new ≡ (compiled columns.now (term_of e.now) ops.old).ops) }
+    ensures value { IfOk result (λ value. value ≡ (compiled columns.now (term_of e.now) ops.old).value) }
+    ensures few { OnOk result (length ops.new ≤ 32768) }
+{
+    match e {
+        TypedExpr::Number(n) => Ok(Operand::Number(*n)),
+        TypedExpr::Slot(s) => Ok(column_at(columns, *s)),
+        TypedExpr::Not(inner) => {
+            let value = compile(ops, columns, inner.get())?;
+            make_op(ops, Operation::Not, value, Operand::Number(0))
+        }
+        TypedExpr::Binary(op, a, b) => {
+            let left = compile(ops, columns, a.get())?;
+            let right = compile(ops, columns, b.get())?;
+            make_op(ops, Operation::Two(*op), left, right)
+        }
+    }
+}
+
+// The same operands.
+fn copy(alloc: Global, operands: &[Operand]) -> Result<Seq<Operand>, AllocError>
+    ensures { IfOk result (λ copy. copy ≡ operands.now) }
+{
+    Ok(Seq::from_vec(operands.to_vec(alloc)?))
+}
+
+// The columns in these slots, behind those that are there.
+fn push_columns(
+    into: &mut Seq<Operand>,
+    columns: &[Operand],
+    slots: &[u16],
+) -> Result<(), AllocError>
+    ensures { OnOk result (into.new ≡ into.old ++ map (operand_at columns.now) slots.now) }
+{
+    for slot in slots {
+        into.push(column_at(columns, *slot))?;
+    }
+    Ok(())
+}
+
+// The columns in these slots.
+pub(crate) fn pick(
+    alloc: Global,
+    columns: &[Operand],
+    slots: &[u16],
+) -> Result<Seq<Operand>, AllocError>
+    ensures { IfOk result (λ picked. picked ≡ map (operand_at columns.now) slots.now) }
+{
+    let mut picked = Seq::new(alloc);
+    push_columns(&mut picked, columns, slots)?;
+    Ok(picked)
+}
+
+// A presence, joined with another condition.
+fn join(
+    ops: &mut Seq<PlanOp>,
+    present: Operand,
+    condition: Operand,
+    columns: Seq<Operand>,
+) -> Result<StreamWires, AllocError>
+    ensures ops { OnOk result (ops.new ≡ (joined ops.old present condition columns).ops) }
+    ensures wires { IfOk result (λ wires. wires ≡ (joined ops.old present condition columns).wires) }
+    ensures few { OnOk result (length ops.new ≤ 32768) }
+{
+    let present = make_op(ops, Operation::Two(Op::Both), present, condition)?;
+    Ok(StreamWires { present, columns })
+}
+
+// A presence, joined with a condition over columns.
+pub(crate) fn make_condition(
+    ops: &mut Seq<PlanOp>,
+    over: &[Operand],
+    condition: &TypedExpr,
+    present: Operand,
+    columns: Seq<Operand>,
+) -> Result<StreamWires, AllocError>
+    requires { length ops.old ≤ 32768 }
+    ensures ops { OnOk result (ops.new ≡ (conditioned over.now (term_of condition.now) ops.old present columns).ops) }
+    ensures wires { IfOk result (λ wires. wires ≡ (conditioned over.now (term_of condition.now) ops.old present columns).wires) }
+    ensures few { OnOk result (length ops.new ≤ 32768) }
+{
+    let value = compile(ops, over, condition)?;
+    join(ops, present, value, columns)
+}
+
+// A stream with the tuples where a condition holds.
+pub(crate) fn make_filter(
+    alloc: Global,
+    ops: &mut Seq<PlanOp>,
+    input: &StreamWires,
+    condition: &TypedExpr,
+) -> Result<StreamWires, AllocError>
+    requires { length ops.old ≤ 32768 }
+    ensures ops { OnOk result (ops.new ≡ (conditioned input.now.columns (term_of condition.now) ops.old input.now.present input.now.columns).ops) }
+    ensures wires { IfOk result (λ wires. wires ≡ (conditioned input.now.columns (term_of condition.now) ops.old input.now.present input.now.columns).wires) }
+    ensures few { OnOk result (length ops.new ≤ 32768) }
+{
+    let columns = copy(alloc, input.columns.as_slice())?;
+    make_condition(
+        ops,
+        input.columns.as_slice(),
+        condition,
+        input.present,
+        columns,
+    )
+}
+
+// A stream with more columns.
+pub(crate) fn make_map(
+    alloc: Global,
+    ops: &mut Seq<PlanOp>,
+    input: &StreamWires,
+    values: &[TypedExpr],
+) -> Result<StreamWires, AllocError>
+    requires { length ops.old ≤ 32768 }
+    ensures ops { OnOk result (ops.new ≡ (mapped input.now values.now ops.old).ops) }
+    ensures wires { IfOk result (λ wires. wires ≡ (mapped input.now values.now ops.old).wires) }
+    ensures few { OnOk result (length ops.new ≤ 32768) }
+{
+    let mut columns = copy(alloc, input.columns.as_slice())?;
+    for e in values {
+        let value = compile(ops, input.columns.as_slice(), e)?;
+        columns.push(value)?;
+    }
+    Ok(StreamWires {
+        present: input.present,
+        columns,
+    })
+}
+
+// A stream with the tuples of packets that both have.
+pub(crate) fn make_zip(
+    alloc: Global,
+    ops: &mut Seq<PlanOp>,
+    left: &StreamWires,
+    right: &StreamWires,
+    slots: &[u16],
+) -> Result<StreamWires, AllocError>
+    ensures ops { OnOk result (ops.new ≡ (zipped left.now right.now slots.now ops.old).ops) }
+    ensures wires { IfOk result (λ wires. wires ≡ (zipped left.now right.now slots.now ops.old).wires) }
+    ensures few { OnOk result (length ops.new ≤ 32768) }
+{
+    let mut columns = copy(alloc, left.columns.as_slice())?;
+    push_columns(&mut columns, right.columns.as_slice(), slots)?;
+    join(ops, left.present, right.present, columns)
+}
+
+// What a fold's emit condition reads.
+fn columns_of_emit(
+    alloc: Global,
+    initial: &[u64],
+    columns: &[Operand],
+    args: &[u16],
+) -> Result<Seq<Operand>, AllocError>
+    ensures { IfOk result (λ all. all ≡ emit_columns initial.now columns.now args.now) }
+{
+    let mut all = Seq::new(alloc);
+    for n in initial {
+        all.push(Operand::Number(*n))?;
+    }
+    push_columns(&mut all, columns, args)?;
+    Ok(all)
+}
+
+// The stream of the keys for which a fold emits.
+pub(crate) fn make_group(
+    alloc: Global,
+    ops: &mut Seq<PlanOp>,
+    f: &TypedFold,
+    input: &StreamWires,
+    keys: &[u16],
+    args: &[u16],
+) -> Result<StreamWires, AllocError>
+    requires { length ops.old ≤ 32768 }
+    ensures ops { OnOk result (ops.new ≡ (grouped (Some f.now) input.now keys.now args.now ops.old).ops) }
+    ensures wires { IfOk result (λ wires. wires ≡ (grouped (Some f.now) input.now keys.now args.now ops.old).wires) }
+    ensures few { OnOk result (length ops.new ≤ 32768) }
+{
+    let columns = pick(alloc, input.columns.as_slice(), keys)?;
+    match &f.emit {
+        None => Ok(StreamWires {
+            present: Operand::Number(0),
+            columns,
+        }),
+        Some(condition) => {
+            let over = columns_of_emit(alloc, f.initial.as_slice(), input.columns.as_slice(), args)?;
+            make_condition(ops, over.as_slice(), condition, input.present, columns)
+        }
+    }
+}
