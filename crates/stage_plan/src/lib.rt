@@ -8,6 +8,7 @@ mod op;
 mod planner;
 mod plans;
 mod rows;
+mod streams;
 mod text;
 mod wires;
 

@@ -1,0 +1,138 @@
+// The operations of all streams of a query.
+
+ghost use Rattle.std.specs.Prelude.{◌≡◌, ◌≤◌, ◌∷◌, [], None, Some, length, slice_get, nat_lt, IfOk, OnOk, IfErr};
+ghost use Rattle.std.specs.List.{list_any};
+ghost use Rattle.stage_plan.specs.Making.{packet_wires, wires_at, made_by, are_deep, all_made, made_fault, IsTold};
+
+use crate::answer::PlanAnswer;
+use crate::making::{make_filter, make_group, make_map, make_zip};
+use crate::op::{Operand, PlanOp};
+use crate::wires::StreamWires;
+use marple_base::Seq;
+use query_lang::{FaultKind, Limit, QueryFault, TypedFold, TypedOp, TypedQuery};
+use std::alloc::{AllocError, Global};
+
+/// All operations of a query, and where the columns of all its streams stand, from the packets on.
+#[derive(Drop)]
+pub(crate) struct MadeStreams {
+    pub(crate) ops: Seq<PlanOp>,
+    pub(crate) streams: Seq<StreamWires>,
+}
+
+// The stream of all packets.
+fn packets(alloc: Global) -> Result<StreamWires, AllocError>
+    ensures { IfOk result (λ wires. wires ≡ packet_wires) }
+{
+    let columns = [
+        Operand::Register(0),
+        Operand::Register(1),
+        Operand::Register(2),
+        Operand::Register(3),
+        Operand::Register(4),
+        Operand::Register(5),
+        Operand::Register(6),
+        Operand::Register(7),
+        Operand::Register(8),
+        Operand::Register(9),
+        Operand::Register(10),
+        Operand::Register(11),
+        Operand::Register(12),
+        Operand::Register(13),
+    ];
+    Ok(StreamWires {
+        present: Operand::Number(1),
+        columns: Seq::from_vec(columns.to_vec(alloc)?),
+    })
+}
+
+// The stream with a number, which a valid query has.
+pub(crate) fn stream_at(streams: &[StreamWires], number: u16) -> Result<&StreamWires, AllocError>
+    ensures { IfOk result (λ wires. wires.now ≡ wires_at streams.now number) }
+{
+    match streams.get(number as usize) {
+        Some(wires) => Ok(wires),
+        None => Err(AllocError),
+    }
+}
+
+// The fold with a number, which a valid query has.
+pub(crate) fn fold_of(folds: &[TypedFold], number: u16) -> Result<&TypedFold, AllocError>
+    ensures { IfOk result (λ f. slice_get folds.now number ≡ Some f.now) }
+{
+    match folds.get(number as usize) {
+        Some(f) => Ok(f),
+        None => Err(AllocError),
+    }
+}
+
+// What an operator makes of the streams before it.
+fn make_stream(
+    alloc: Global,
+    ops: &mut Seq<PlanOp>,
+    folds: &[TypedFold],
+    streams: &[StreamWires],
+    op: &TypedOp,
+) -> Result<StreamWires, AllocError>
+    requires { length ops.old ≤ 32768 }
+    ensures ops { OnOk result (ops.new ≡ (made_by folds.now streams.now op.now ops.old).ops) }
+    ensures wires { IfOk result (λ wires. wires ≡ (made_by folds.now streams.now op.now ops.old).wires) }
+    ensures few { OnOk result (length ops.new ≤ 32768) }
+{
+    match op {
+        TypedOp::Filter(input, condition) => {
+            let source = stream_at(streams, *input)?;
+            make_filter(alloc, ops, source, condition)
+        }
+        TypedOp::Map(input, values) => {
+            let source = stream_at(streams, *input)?;
+            make_map(alloc, ops, source, values.as_slice())
+        }
+        TypedOp::Zip(first, second, slots) => {
+            let left = stream_at(streams, *first)?;
+            let right = stream_at(streams, *second)?;
+            make_zip(alloc, ops, left, right, slots.as_slice())
+        }
+        TypedOp::Group(input, keys, number, args) => {
+            let source = stream_at(streams, *input)?;
+            let f = fold_of(folds, *number)?;
+            make_group(alloc, ops, f, source, keys.as_slice(), args.as_slice())
+        }
+    }
+}
+
+// Whether some operation is too deep.
+fn has_deep(ops: &[PlanOp]) -> bool
+    ensures { result ≡ are_deep ops.now }
+{
+    ops.iter().any(|one| 64 < one.stage)
+}
+
+// The operations of all streams, or the first stream that is too deep.
+pub(crate) fn make_streams(alloc: Global, q: &TypedQuery) -> Result<MadeStreams, PlanAnswer>
+    ensures ops { IfOk result (λ made. made.ops ≡ (all_made q.now.folds [] (packet_wires ∷ []) q.now.streams).ops) }
+    ensures streams { IfOk result (λ made. made.streams ≡ (all_made q.now.folds [] (packet_wires ∷ []) q.now.streams).streams) }
+    ensures fits { OnOk result (made_fault q.now.folds [] (packet_wires ∷ []) q.now.streams ≡ None) }
+    ensures refused { IfErr result (λ answer. IsTold (made_fault q.now.folds [] (packet_wires ∷ []) q.now.streams) answer) }
+    ensures few { IfOk result (λ made. length made.ops ≤ 32768) }
+{
+    let mut ops = Seq::new(alloc);
+    let mut streams = Seq::new(alloc);
+    streams.push(packets(alloc)?)?;
+    for one in q.streams.as_slice() {
+        let wires = make_stream(
+            alloc,
+            &mut ops,
+            q.folds.as_slice(),
+            streams.as_slice(),
+            &one.op,
+        )?;
+        if has_deep(ops.as_slice()) {
+            return Err(PlanAnswer::Refused(QueryFault {
+                kind: FaultKind::OverLimit(Limit::Stages),
+                span: one.name.span,
+            }));
+        }
+        streams.push(wires)?;
+    }
+    Ok(MadeStreams { ops, streams })
+}
