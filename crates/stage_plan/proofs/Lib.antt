@@ -1,2 +1,4 @@
+pub mod Lists
 pub mod Runs
 pub mod Wirings
+pub mod Groupings

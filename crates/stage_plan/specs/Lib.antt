@@ -5,3 +5,5 @@ pub mod Shape
 pub mod Sound
 pub mod Planned
 pub mod Making
+pub mod Ordering
+pub mod Grouping

@@ -3,9 +3,11 @@
 
 mod answer;
 mod group;
+mod groups;
 mod making;
 mod op;
 mod planner;
+mod order;
 mod plans;
 mod rows;
 mod streams;

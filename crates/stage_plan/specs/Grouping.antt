@@ -1,0 +1,36 @@
+-- The groupbys of a plan against what the query says of them.
+use Rattle.std.specs.Prelude.{◌≡◌, ℕ, ◌<◌, ◌≤◌, List, length, option_map, slice_get, Option, Some, None}
+use Rattle.fold_class.specs.Program.{IsProgram, IsProgramOf}
+use Rattle.query_lang.specs.declared.fold.TypedFold.{TypedFold}
+use Rattle.query_lang.specs.declared.typed.TypedQuery.{TypedQuery}
+use Rattle.query_lang.specs.declared.typed.TypedStream.{TypedStream}
+use Rattle.query_lang.specs.Streams.{Taking}
+use Rattle.stage_plan.specs.declared.group.GroupPlan.{GroupPlan}
+use Rattle.stage_plan.specs.Shape.{group_shape, shape_with}
+
+-- the groupby's shape is that of the stream
+abbrev pub IsGroupShape : TypedQuery → TypedStream → ℕ → ℕ → GroupPlan → Type 0
+IsGroupShape q one number args group =
+    Some (group_shape group) ≡ option_map (shape_with q.names one.name.id one.columns args) (slice_get q.folds number)
+
+-- a groupby of a fold with so many keys and arguments
+pub record IsGroupFor (folds : List TypedFold) (number words row_words : ℕ) (group : GroupPlan) : Type 0 where
+  pub program : (f : TypedFold) → slice_get folds number ≡ Some f → IsProgramOf f group.program
+  pub is_program : IsProgram group.program
+  pub some_keys : 0 < length group.key_names
+  pub most_keys : length group.key_names ≤ 8
+  pub most_states : length group.state_names ≤ 8
+  pub keys : length group.key_names ≡ words
+  pub args : group.program.layout.args ≡ row_words
+  pub most_args : row_words ≤ 16
+
+-- the groupbys of these takings, in order
+abbrev pub AreGroupsOf : List TypedFold → List Taking → List GroupPlan → Type 0
+AreGroupsOf folds takings groups = (i : ℕ) (t : Taking) (group : GroupPlan) → slice_get takings i ≡ Some t → slice_get groups i ≡ Some group
+    → IsGroupFor folds t.fold_number (length t.keys) (length t.args) group
+
+-- the groupby of a stream, where it is one
+abbrev pub IsGroupOf : List TypedFold → Option Taking → Option GroupPlan → Type 0
+IsGroupOf folds None None = Unit {0}
+IsGroupOf folds (Some t) (Some group) = IsGroupFor folds t.fold_number (length t.keys) (length t.args) group
+IsGroupOf folds _ _ = ⊥

@@ -1,0 +1,212 @@
+// The groupbys of a plan.
+
+ghost use Rattle.std.specs.Prelude.{◌≡◌, ℕ, ◌<◌, ◌≤◌, ◌++◌, true, Some, map, length, slice_get, option_map, option_to_list, All, IfOk, OnOk};
+ghost use Rattle.query_lang.specs.Folds.{IsValidFold};
+ghost use Rattle.query_lang.specs.Streams.{Taking, taking_of, takings};
+ghost use Rattle.fold_class.specs.Program.{IsProgramOf};
+ghost use Rattle.stage_plan.specs.Making.{operand_at};
+ghost use Rattle.stage_plan.specs.Ordering.{moved, wired, wiring_of};
+ghost use Rattle.stage_plan.specs.Shape.{text_at, shape_made, group_shape, query_groups};
+ghost use Rattle.stage_plan.specs.Grouping.{IsGroupFor, IsGroupOf, AreGroupsOf, IsGroupShape};
+
+use crate::group::{GroupPlan, GroupWiring};
+use crate::making::column_at;
+use crate::op::Operand;
+use crate::order::move_operand;
+use crate::streams::{fold_of, stream_at};
+use crate::wires::StreamWires;
+use fold_class::classify;
+use fold_code::compile;
+use marple_base::{Seq, Text};
+use query_lang::{Names, TypedFold, TypedOp, TypedQuery, TypedStream};
+use std::alloc::{AllocError, Global};
+
+// The columns in these slots, where the operations have new registers.
+fn move_columns(
+    alloc: Global,
+    registers: &[u32],
+    columns: &[Operand],
+    slots: &[u16],
+) -> Result<Seq<Operand>, AllocError>
+    ensures { IfOk result (λ all. all ≡ map (λ slot. moved registers.now (operand_at columns.now slot)) slots.now) }
+{
+    let mut all = Seq::new(alloc);
+    for slot in slots {
+        all.push(move_operand(registers, column_at(columns, *slot)))?;
+    }
+    Ok(all)
+}
+
+// What a groupby takes of a stream.
+fn wire_group(
+    alloc: Global,
+    registers: &[u32],
+    input: &StreamWires,
+    keys: &[u16],
+    args: &[u16],
+) -> Result<GroupWiring, AllocError>
+    ensures { IfOk result (λ w. w ≡ wired registers.now input.now keys.now args.now) }
+{
+    let columns = input.columns.as_slice();
+    Ok(GroupWiring {
+        present: move_operand(registers, input.present),
+        keys: move_columns(alloc, registers, columns, keys)?,
+        args: move_columns(alloc, registers, columns, args)?,
+    })
+}
+
+// One more item, where there is one.
+fn push_some<T: Drop>(all: &mut Seq<T>, item: Option<T>) -> Result<(), AllocError>
+    ensures { OnOk result (all.new ≡ all.old ++ option_to_list item) }
+{
+    if let Some(item) = item {
+        all.push(item)?;
+    }
+    Ok(())
+}
+
+// What an operator takes of its input, where it is a groupby.
+fn wiring_for(
+    alloc: Global,
+    wires: &[StreamWires],
+    registers: &[u32],
+    op: &TypedOp,
+) -> Result<Option<GroupWiring>, AllocError>
+    ensures { IfOk result (λ wiring. wiring ≡ option_map (wiring_of registers.now wires.now) (taking_of op.now)) }
+{
+    match op {
+        TypedOp::Group(input, keys, _, args) => {
+            let source = stream_at(wires, *input)?;
+            let wiring = wire_group(alloc, registers, source, keys.as_slice(), args.as_slice())?;
+            Ok(Some(wiring))
+        }
+        _ => Ok(None),
+    }
+}
+
+/// What the groupbys take of the streams.
+pub(crate) fn wire_groups(
+    alloc: Global,
+    streams: &[TypedStream],
+    wires: &[StreamWires],
+    registers: &[u32],
+) -> Result<Seq<GroupWiring>, AllocError>
+    ensures { IfOk result (λ all. all ≡ map (wiring_of registers.now wires.now) (takings streams.now)) }
+{
+    let mut all = Seq::new(alloc);
+    for one in streams {
+        push_some(&mut all, wiring_for(alloc, wires, registers, &one.op)?)?;
+    }
+    Ok(all)
+}
+
+// The text of a name, which a valid query has.
+fn text_of(alloc: Global, names: &Names, id: u32) -> Result<Text, AllocError>
+    ensures { IfOk result (λ text. text ≡ text_at names.now id) }
+{
+    if id as usize >= names.len() {
+        return Err(AllocError);
+    }
+    Text::from_slice(alloc, names.text(id))
+}
+
+// The texts of names.
+fn texts_of(alloc: Global, names: &Names, ids: &[u32]) -> Result<Seq<Text>, AllocError>
+    ensures { IfOk result (λ texts. texts ≡ map (text_at names.now) ids.now) }
+{
+    let mut texts = Seq::new(alloc);
+    for id in ids {
+        texts.push(text_of(alloc, names, *id)?)?;
+    }
+    Ok(texts)
+}
+
+// Whether a groupby has 1 to 8 keys and as many names of them, and its fold as many arguments as it takes.
+fn fits(one: &TypedStream, f: &TypedFold, keys: usize, args: usize) -> bool
+    ensures some { result ≡ true → 0 < length one.now.columns }
+    ensures most { result ≡ true → length one.now.columns ≤ 8 }
+    ensures keys { result ≡ true → length one.now.columns ≡ keys }
+    ensures args { result ≡ true → length f.now.arg_names ≡ args }
+{
+    let names = one.columns.len();
+    0 < names && names <= 8 && names == keys && f.arg_names.len() == args
+}
+
+// A groupby with the program of its fold.
+fn plan_group(
+    alloc: Global,
+    names: &Names,
+    one: &TypedStream,
+    f: &TypedFold,
+) -> Result<GroupPlan, AllocError>
+    requires { IsValidFold f.now }
+    ensures program { IfOk result (λ group. IsProgramOf f.now group.program) }
+    ensures name { IfOk result (λ group. group.name ≡ text_at names.now one.now.name.id) }
+    ensures key_names { IfOk result (λ group. group.key_names ≡ map (text_at names.now) one.now.columns) }
+    ensures state_names { IfOk result (λ group. group.state_names ≡ map (text_at names.now) f.now.state_names) }
+{
+    let name = text_of(alloc, names, one.name.id)?;
+    let key_names = texts_of(alloc, names, one.columns.as_slice())?;
+    let state_names = texts_of(alloc, names, f.state_names.as_slice())?;
+    let program = classify(alloc, f, compile(alloc, f)?)?;
+    Ok(GroupPlan {
+        name,
+        key_names,
+        state_names,
+        program,
+    })
+}
+
+// A groupby that fits its fold.
+fn plan_fitting(
+    alloc: Global,
+    q: &TypedQuery,
+    one: &TypedStream,
+    number: u16,
+    keys: usize,
+    args: usize,
+) -> Result<GroupPlan, AllocError>
+    requires { All IsValidFold q.now.folds }
+    ensures shape { IfOk result (λ group. IsGroupShape q.now one.now number args group) }
+    ensures sound { IfOk result (λ group. IsGroupFor q.now.folds number keys args group) }
+{
+    let f = fold_of(q.folds.as_slice(), number)?;
+    if !fits(one, f, keys, args) {
+        return Err(AllocError);
+    }
+    let group = plan_group(alloc, &q.names, one, f)?;
+    Ok(group)
+}
+
+// The groupby of a stream, where it is one.
+fn group_of(
+    alloc: Global,
+    q: &TypedQuery,
+    one: &TypedStream,
+) -> Result<Option<GroupPlan>, AllocError>
+    requires { All IsValidFold q.now.folds }
+    ensures shape { IfOk result (λ group. option_map group_shape group ≡ shape_made q.now.names q.now.folds one.now one.now.op) }
+    ensures sound { IfOk result (λ group. IsGroupOf q.now.folds (taking_of one.now.op) group) }
+{
+    match &one.op {
+        TypedOp::Group(_, keys, number, args) => {
+            let group = plan_fitting(alloc, q, one, *number, keys.len(), args.len())?;
+            Ok(Some(group))
+        }
+        _ => Ok(None),
+    }
+}
+
+/// The groupbys, with the programs of their folds.
+pub(crate) fn plan_groups(alloc: Global, q: &TypedQuery) -> Result<Seq<GroupPlan>, AllocError>
+    requires { All IsValidFold q.now.folds }
+    ensures shapes { IfOk result (λ groups. map group_shape groups ≡ query_groups q.now) }
+    ensures sound { IfOk result (λ groups. AreGroupsOf q.now.folds (takings q.now.streams) groups) }
+    ensures all { IfOk result (λ groups. length groups ≡ length (takings q.now.streams)) }
+{
+    let mut groups = Seq::new(alloc);
+    for one in q.streams.as_slice() {
+        push_some(&mut groups, group_of(alloc, q, one)?)?;
+    }
+    Ok(groups)
+}
