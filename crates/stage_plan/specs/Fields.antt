@@ -1,5 +1,6 @@
 -- The fields of packets that a typed query reads while packets pass.
 use Rattle.std.specs.Prelude.{ℕ, ◌^◌, bit_or, List, [], ◌∷◌, ◌++◌, map, fold, flat_map, filter_map, slice_get, Option, Some, None, unwrap_or}
+use Rattle.marple_base.specs.declared.field.Field.{Field}
 use Rattle.marple_base.specs.declared.field.FieldSet.{FieldSet}
 use Rattle.marple_base.specs.Field.{number_of, all_fields}
 use Rattle.query_lang.specs.declared.typed.TypedOp.{TypedOp}
@@ -7,16 +8,16 @@ use Rattle.query_lang.specs.declared.typed.TypedOp.TheVariants.{Filter, Map, Zip
 use Rattle.query_lang.specs.declared.typed.TypedQuery.{TypedQuery}
 use Rattle.query_lang.specs.Terms.{Term, Literal, Read, Negation, Operation, term_of}
 
--- A column is a packet's field, by its number, or it was made by a `map`.
+-- A column is a packet's field, or it was made by a `map`.
 abbrev pub Source : Type 0
-Source = Option ℕ
+Source = Option Field
 
 abbrev pub source_at : List Source → ℕ → Source
 source_at columns slot = unwrap_or (slice_get columns slot) None
 
 -- where the columns of the packets come from: each is a field
 abbrev pub packet_sources : List Source
-packet_sources = map (λ f. Some (number_of f)) all_fields
+packet_sources = map Some all_fields
 
 abbrev pub sources_at : List (List Source) → ℕ → List Source
 sources_at streams number = unwrap_or (slice_get streams number) []
@@ -53,18 +54,18 @@ named_input (Map input values) = input
 named_input (Zip left right slots) = left
 named_input (Group input keys f args) = input
 
--- the numbers of the fields that an operator names
-abbrev pub named_fields : List (List Source) → TypedOp → List ℕ
+-- the fields that an operator names
+abbrev pub named_fields : List (List Source) → TypedOp → List Field
 named_fields streams op = filter_map (source_at (sources_at streams (named_input op))) (named_slots op)
 
--- the numbers of all fields that the streams name
-abbrev pub read_numbers : TypedQuery → List ℕ
-read_numbers q = flat_map (λ one. named_fields (all_sources q) one.op) q.streams
+-- the fields that the streams name
+abbrev pub read_fields : TypedQuery → List Field
+read_fields q = flat_map (λ one. named_fields (all_sources q) one.op) q.streams
 
--- the set of the fields with these numbers: the bits of all of them
-abbrev pub field_set : List ℕ → FieldSet
-field_set numbers = record { bits = fold (λ bits number. bit_or bits (2 ^ number)) 0 numbers }
+-- the set of these fields: the bits of all of them
+abbrev pub field_set : List Field → FieldSet
+field_set fields = record { bits = fold (λ bits f. bit_or bits (2 ^ number_of f)) 0 fields }
 
 -- The fields that a query reads.
 abbrev pub reads_of : TypedQuery → FieldSet
-reads_of q = field_set (read_numbers q)
+reads_of q = field_set (read_fields q)

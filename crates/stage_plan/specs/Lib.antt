@@ -7,3 +7,4 @@ pub mod Planned
 pub mod Making
 pub mod Ordering
 pub mod Grouping
+pub mod Marking

@@ -1,0 +1,8 @@
+use Rattle.std.proofs.Common.{◌≡◌, drop}
+use Rattle.std.specs.Prelude.{fold}
+use Rattle.query_lang.specs.Terms.{term_of}
+use Rattle.stage_plan.specs.Marking.{marked_term}
+use Rattle.stage_plan.proofs.fields.mark_exprs.Given as goal
+
+abbrev pub invariant-loop-e : goal.invariant-loop-e
+invariant-loop-e l = fold (λ b e. marked_term l.columns b (term_of e)) l.all (drop l.e-index l.values) ≡ fold (λ b e. marked_term l.columns b (term_of e)) l.bits l.values

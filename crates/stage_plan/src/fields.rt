@@ -1,0 +1,219 @@
+// The fields that a query reads.
+
+ghost use Rattle.std.specs.Prelude.{◌≡◌, ◌∷◌, ◌++◌, [], None, map, fold, IfOk, OnOk};
+ghost use Rattle.marple_base.specs.Field.{all_fields};
+ghost use Rattle.query_lang.specs.Terms.{term_of};
+ghost use Rattle.stage_plan.specs.Fields.{source_at, sources_at, packet_sources, sources_made, all_sources, reads_of};
+ghost use Rattle.stage_plan.specs.Marking.{marked, marked_slots, marked_term, marked_op};
+
+use marple_base::{Field, FieldSet, Seq};
+use query_lang::{TypedExpr, TypedOp, TypedQuery, TypedStream};
+use std::alloc::{AllocError, Global};
+
+// Where the columns of the packets come from.
+fn packet_fields(alloc: Global) -> Result<Seq<Option<Field>>, AllocError>
+    ensures { IfOk result (λ columns. columns ≡ packet_sources) }
+{
+    let mut columns = Seq::new(alloc);
+    for f in Field::ALL {
+        columns.push(Some(f))?;
+    }
+    Ok(columns)
+}
+
+// Where the column in a slot comes from.
+fn source_of(columns: &[Option<Field>], slot: u16) -> Option<Field>
+    ensures { result ≡ source_at columns.now slot }
+{
+    match columns.get(slot as usize) {
+        Some(source) => *source,
+        None => None,
+    }
+}
+
+// The columns of the stream with a number, which a valid query has.
+fn columns_of(
+    streams: &[Seq<Option<Field>>],
+    number: u16,
+) -> Result<&[Option<Field>], AllocError>
+    ensures { IfOk result (λ columns. columns.now ≡ sources_at streams.now number) }
+{
+    match streams.get(number as usize) {
+        Some(columns) => Ok(columns.as_slice()),
+        None => Err(AllocError),
+    }
+}
+
+// The columns in these slots, behind those that are there.
+fn push_sources(
+    into: &mut Seq<Option<Field>>,
+    columns: &[Option<Field>],
+    slots: &[u16],
+) -> Result<(), AllocError>
+    ensures { OnOk result (into.new ≡ into.old ++ map (source_at columns.now) slots.now) }
+{
+    for slot in slots {
+        into.push(source_of(columns, *slot))?;
+    }
+    Ok(())
+}
+
+// The same columns.
+fn copy(alloc: Global, columns: &[Option<Field>]) -> Result<Seq<Option<Field>>, AllocError>
+    ensures { IfOk result (λ copy. copy ≡ columns.now) }
+{
+    Ok(Seq::from_vec(columns.to_vec(alloc)?))
+}
+
+// As many columns more that are no fields.
+fn push_made(
+    into: &mut Seq<Option<Field>>,
+    values: &[TypedExpr],
+) -> Result<(), AllocError>
+    ensures { OnOk result (into.new ≡ into.old ++ map (λ _. None) values.now) }
+{
+    for _value in values {
+        into.push(None)?;
+    }
+    Ok(())
+}
+
+// Where the columns of a new stream come from.
+fn make_columns(
+    alloc: Global,
+    streams: &[Seq<Option<Field>>],
+    op: &TypedOp,
+) -> Result<Seq<Option<Field>>, AllocError>
+    ensures { IfOk result (λ columns. columns ≡ sources_made streams.now op.now) }
+{
+    match op {
+        TypedOp::Filter(input, _) => copy(alloc, columns_of(streams, *input)?),
+        TypedOp::Map(input, values) => {
+            let mut columns = copy(alloc, columns_of(streams, *input)?)?;
+            push_made(&mut columns, values.as_slice())?;
+            Ok(columns)
+        }
+        TypedOp::Zip(left, right, slots) => {
+            let mut columns = copy(alloc, columns_of(streams, *left)?)?;
+            push_sources(&mut columns, columns_of(streams, *right)?, slots.as_slice())?;
+            Ok(columns)
+        }
+        TypedOp::Group(input, keys, _, _) => {
+            let mut columns = Seq::new(alloc);
+            push_sources(&mut columns, columns_of(streams, *input)?, keys.as_slice())?;
+            Ok(columns)
+        }
+    }
+}
+
+// Where the columns of all streams come from.
+fn make_all_columns(
+    alloc: Global,
+    q: &TypedQuery,
+) -> Result<Seq<Seq<Option<Field>>>, AllocError>
+    ensures { IfOk result (λ streams. streams ≡ all_sources q.now) }
+{
+    let mut streams = Seq::new(alloc);
+    streams.push(packet_fields(alloc)?)?;
+    for one in q.streams.as_slice() {
+        let columns = make_columns(alloc, streams.as_slice(), &one.op)?;
+        streams.push(columns)?;
+    }
+    Ok(streams)
+}
+
+// A column is named.
+fn mark(bits: u16, source: Option<Field>) -> u16
+    ensures { result ≡ marked bits source }
+{
+    match source {
+        Some(f) => bits | 1 << f.number(),
+        None => bits,
+    }
+}
+
+// The columns in these slots are named.
+fn mark_slots(bits: u16, columns: &[Option<Field>], slots: &[u16]) -> u16
+    ensures { result ≡ marked_slots columns.now bits slots.now }
+{
+    let mut all = bits;
+    for slot in slots {
+        all = mark(all, source_of(columns, *slot));
+    }
+    all
+}
+
+// The columns of an expression are named.
+fn mark_expr(bits: u16, columns: &[Option<Field>], e: &TypedExpr) -> u16
+    ensures { result ≡ marked_term columns.now bits (term_of e.now) }
+{
+    match e {
+        TypedExpr::Number(_) => bits,
+        TypedExpr::Slot(s) => mark(bits, source_of(columns, *s)),
+        TypedExpr::Not(inner) => mark_expr(bits, columns, inner.get()),
+        TypedExpr::Binary(_, a, b) => {
+            let left = mark_expr(bits, columns, a.get());
+            mark_expr(left, columns, b.get())
+        }
+    }
+}
+
+// The columns of expressions are named.
+fn mark_exprs(bits: u16, columns: &[Option<Field>], values: &[TypedExpr]) -> u16
+    ensures { result ≡ fold (λ b e. marked_term columns.now b (term_of e)) bits values.now }
+{
+    let mut all = bits;
+    for e in values {
+        all = mark_expr(all, columns, e);
+    }
+    all
+}
+
+// What an operator names.
+fn mark_op(
+    bits: u16,
+    streams: &[Seq<Option<Field>>],
+    op: &TypedOp,
+) -> Result<u16, AllocError>
+    ensures { IfOk result (λ all. all ≡ marked_op streams.now bits op.now) }
+{
+    match op {
+        TypedOp::Filter(input, condition) => {
+            let columns = columns_of(streams, *input)?;
+            Ok(mark_expr(bits, columns, condition))
+        }
+        TypedOp::Map(input, values) => {
+            let columns = columns_of(streams, *input)?;
+            Ok(mark_exprs(bits, columns, values.as_slice()))
+        }
+        TypedOp::Zip(_, _, _) => Ok(bits),
+        TypedOp::Group(input, keys, _, args) => {
+            let columns = columns_of(streams, *input)?;
+            let marked = mark_slots(bits, columns, keys.as_slice());
+            Ok(mark_slots(marked, columns, args.as_slice()))
+        }
+    }
+}
+
+// What all streams name.
+fn mark_all(
+    columns: &[Seq<Option<Field>>],
+    streams: &[TypedStream],
+) -> Result<u16, AllocError>
+    ensures { IfOk result (λ bits. bits ≡ fold (λ b one. marked_op columns.now b one.op) 0 streams.now) }
+{
+    let mut bits = 0;
+    for one in streams {
+        bits = mark_op(bits, columns, &one.op)?;
+    }
+    Ok(bits)
+}
+
+/// The fields that a query names while packets pass.
+pub(crate) fn read_fields(alloc: Global, q: &TypedQuery) -> Result<FieldSet, AllocError>
+    ensures { IfOk result (λ fields. fields ≡ reads_of q.now) }
+{
+    let columns = make_all_columns(alloc, q)?;
+    let bits = mark_all(columns.as_slice(), q.streams.as_slice())?;
+    Ok(FieldSet { bits })
+}
