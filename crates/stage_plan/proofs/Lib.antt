@@ -3,3 +3,4 @@ pub mod Runs
 pub mod Wirings
 pub mod Groupings
 pub mod Markings
+pub mod StreamRows
