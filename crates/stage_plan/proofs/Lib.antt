@@ -4,3 +4,4 @@ pub mod Wirings
 pub mod Groupings
 pub mod Markings
 pub mod StreamRows
+pub mod Values
