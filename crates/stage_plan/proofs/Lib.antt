@@ -5,3 +5,4 @@ pub mod Groupings
 pub mod Markings
 pub mod StreamRows
 pub mod Values
+pub mod Deep

@@ -1,0 +1,484 @@
+-- The stages of operations that are made are the depths of the query, and each reads what stands before it.
+use Rattle.std.proofs.Common.{◌≡◌, ℕ, zero, suc, ◌+◌, ◌-◌, ◌<◌, ◌≤◌, max, min, Bool, true, false, cond, List, [], ◌∷◌, ◌++◌, length, get_or, take, drop, Some, None, Option, refl, sym, ap, subst, ◌∙◌, inl, inr, ◌⊎◌, arith, append_assoc, append-nil, length-append, lit<}
+use Rattle.std.specs.Prelude.{map, fold, flat_map, replicate, nat_lt, not, ◌||◌, slice_get, slice_index, option_map, unwrap_or, if◌then◌else◌}
+use Rattle.std.specs.List.{list_any}
+use Rattle.std.proofs.lemmas.Bool.{cases_eq, cases_lt}
+use Rattle.std.proofs.lemmas.Bool.Decides.{nat_tests}
+use Rattle.std.proofs.lemmas.List.{length_push, map-append}
+use Rattle.std.proofs.lemmas.List.Folds.{list_any-append}
+use Rattle.std.proofs.lemmas.Option.{slice_get_within, same_Some, slice_get_cases}
+use Rattle.query_lang.specs.declared.fault.FaultKind.TheVariants.{OverLimit}
+use Rattle.query_lang.specs.declared.fault.Limit.TheVariants.{Stages}
+use Rattle.query_lang.specs.declared.fault.QueryFault.{QueryFault}
+use Rattle.query_lang.specs.declared.fold.Op.TheVariants.{Both}
+use Rattle.query_lang.specs.declared.fold.TypedExpr.{TypedExpr}
+use Rattle.query_lang.specs.declared.fold.TypedFold.{TypedFold}
+use Rattle.query_lang.specs.declared.typed.TypedOp.{TypedOp}
+use Rattle.query_lang.specs.declared.typed.TypedOp.TheVariants.{Filter, Map, Zip, Group}
+use Rattle.query_lang.specs.declared.typed.TypedQuery.{TypedQuery}
+use Rattle.query_lang.specs.declared.typed.TypedStream.{TypedStream}
+use Rattle.query_lang.specs.Streams.{values_at}
+use Rattle.query_lang.specs.Terms.{Term, Literal, Read, Negation, Operation, term_of}
+use Rattle.stage_plan.specs.declared.op.Operand.{Operand}
+use Rattle.stage_plan.specs.declared.op.Operand.TheVariants.{Register, Number}
+use Rattle.stage_plan.specs.declared.op.Operation as operation
+use Rattle.stage_plan.specs.declared.op.Operation.TheVariants.{Not, Two}
+use Rattle.stage_plan.specs.declared.op.PlanOp.{PlanOp}
+use Rattle.stage_plan.specs.declared.wires.StreamWires.{StreamWires}
+use Rattle.stage_plan.specs.Registers.{operand_stage}
+use Rattle.stage_plan.specs.Depths.{term_depth, term_depths, StreamDepths, packet_depths, depths_at, joined_depths, emit_depths, group_depths, depths_made, all_depths, query_depths, is_too_deep, first_too_deep, stage_fault}
+use Rattle.stage_plan.specs.Making.{stage_behind, compiled, compiled_all, with_op, op_on, operand_at, wires_at, packet_wires, joined, conditioned, mapped, zipped, emit_columns, emitted, grouped, made_by, all_made, are_deep, made_fault}
+use Rattle.stage_plan.specs.Sound.{IsWithin}
+use Rattle.stage_plan.proofs.Lists.{push_cases, slice_get-left, slice_get-last}
+use Rattle.stage_plan.proofs.Runs.{within_more, stage_of_register}
+use Rattle.stage_plan.proofs.StreamRows.{at_earlier, at_last, at_past}
+use Rattle.stage_plan.proofs.Values.{Extends, same_ops, and_more, one_more, compiled_extends, all_extend, made_extends}
+
+-- an operand that is there keeps its stage while operations are added
+pub same_stage : (ops more : List PlanOp) (o : Operand) → Extends ops more → IsWithin (14 + length ops) o → operand_stage more o ≡ operand_stage ops o
+same_stage ops more (Number n) e w = refl
+same_stage ops more (Register r) e w =
+    elim (cases_lt r 14) [
+      inl field ↦
+        let early : nat_lt r 14 ≡ true = grind (arith, nat_tests) in
+        ap (λ b. if b then 0 else unwrap_or (option_map (λ (x : PlanOp). x.stage) (slice_get more (r - 14))) 0) early
+        ∙ ap (λ b. if b then 0 else unwrap_or (option_map (λ (x : PlanOp). x.stage) (slice_get ops (r - 14))) 0) (sym early)
+    | inr later ↦
+        let j : ℕ = r - 14 in
+        let at : r ≡ 14 + j = omega arith in
+        let lt : j < length ops = omega arith in
+        elim ((slice_get_cases ops j).1) [
+          inl found ↦
+            ap (λ n. operand_stage more (Register n)) at ∙ stage_of_register more j found.0 (e.keeps j found.0 found.2)
+            ∙ sym (stage_of_register ops j found.0 found.2) ∙ ap (λ n. operand_stage ops (Register n)) (sym at)
+        | inr past ↦ absurd (omega arith)
+        ]
+    ]
+
+-- an operand that is there, whose stage is this depth, and 65 for all above 64
+pub record IsAt (ops : List PlanOp) (o : Operand) (depth : ℕ) : Type 0 where
+  pub within : IsWithin (14 + length ops) o
+  pub stage : operand_stage ops o ≡ min 65 depth
+
+pub is_more : (ops more : List PlanOp) (o : Operand) (depth : ℕ) → Extends ops more → IsAt ops o depth → IsAt more o depth
+is_more ops more o depth e h = record {
+  within = (let g = e.grows in within_more (14 + length ops) (14 + length more) o (omega arith) h.within);
+  stage = same_stage ops more o e h.within ∙ h.stage;
+}
+
+number_at : (ops : List PlanOp) (n : ℕ) → IsAt ops (Number n) 0
+number_at ops n = record { within = tt; stage = refl }
+
+abbrev pub AreAt : List PlanOp → List Operand → List ℕ → Type 0
+AreAt ops [] [] = Unit {0}
+AreAt ops (o ∷ columns) (d ∷ depths) = IsAt ops o d × AreAt ops columns depths
+AreAt ops _ _ = ⊥
+
+pub are_more : (ops more : List PlanOp) (columns : List Operand) (depths : List ℕ) → Extends ops more → AreAt ops columns depths → AreAt more columns depths
+are_more ops more [] [] e h = tt
+are_more ops more (o ∷ columns) (d ∷ depths) e h = (is_more ops more o d e h.0, are_more ops more columns depths e h.1)
+are_more ops more [] (d ∷ depths) e h = absurd h
+are_more ops more (o ∷ columns) [] e h = absurd h
+
+column_is : (ops : List PlanOp) (columns : List Operand) (depths : List ℕ) (slot : ℕ) → AreAt ops columns depths → IsAt ops (operand_at columns slot) (slice_index depths slot)
+column_is ops [] [] slot h = number_at ops 0
+column_is ops (o ∷ columns) (d ∷ depths) zero h = h.0
+column_is ops (o ∷ columns) (d ∷ depths) (suc slot) h = column_is ops columns depths slot h.1
+column_is ops [] (d ∷ depths) slot h = absurd h
+column_is ops (o ∷ columns) [] slot h = absurd h
+
+are_picked : (ops : List PlanOp) (columns : List Operand) (depths : List ℕ) (slots : List ℕ) → AreAt ops columns depths → AreAt ops (map (operand_at columns) slots) (values_at depths slots)
+are_picked ops columns depths [] h = tt
+are_picked ops columns depths (slot ∷ slots) h = (column_is ops columns depths slot h, are_picked ops columns depths slots h)
+
+are_append : (ops : List PlanOp) (xs ys : List Operand) (ds es : List ℕ) → AreAt ops xs ds → AreAt ops ys es → AreAt ops (xs ++ ys) (ds ++ es)
+are_append ops [] ys [] es h k = k
+are_append ops (x ∷ xs) ys (d ∷ ds) es h k = (h.0, are_append ops xs ys ds es h.1 k)
+are_append ops [] ys (d ∷ ds) es h k = absurd h
+are_append ops (x ∷ xs) ys [] es h k = absurd h
+
+are_numbers : (ops : List PlanOp) (initial : List ℕ) → AreAt ops (map Number initial) (replicate (length initial) 0)
+are_numbers ops [] = tt
+are_numbers ops (n ∷ initial) = (number_at ops n, are_numbers ops initial)
+
+-- operation number i reads what stands before it
+pub record IsMade (ops : List PlanOp) (i : ℕ) (one : PlanOp) : Type 0 where
+  pub left : IsWithin (14 + i) one.left
+  pub right : IsWithin (14 + i) one.right
+  pub stage : one.stage ≡ stage_behind (operand_stage ops one.left) (operand_stage ops one.right)
+
+pub record AreMade (ops : List PlanOp) : Type 0 where
+  pub each : (i : ℕ) (one : PlanOp) → slice_get ops i ≡ Some one → IsMade ops i one
+
+made_more : (ops : List PlanOp) (op : operation.Operation) (left right : Operand) → AreMade ops → IsWithin (14 + length ops) left → IsWithin (14 + length ops) right →
+    AreMade (ops ++ op_on ops op left right ∷ [])
+made_more ops op left right made l r = record { each = λ i one found. elim (push_cases ops new i one found) [
+    inl old ↦
+      let h = made.each i one old in
+      let lt : i < length ops = slice_get_within ops i one old in
+      record {
+        left = h.left;
+        right = h.right;
+        stage = h.stage
+            ∙ ap (λ s. stage_behind s (operand_stage ops one.right)) (sym (same_stage ops (ops ++ new ∷ []) one.left (one_more ops new) (within_more (14 + i) (14 + length ops) one.left (omega arith) h.left)))
+            ∙ ap (λ s. stage_behind (operand_stage (ops ++ new ∷ []) one.left) s) (sym (same_stage ops (ops ++ new ∷ []) one.right (one_more ops new) (within_more (14 + i) (14 + length ops) one.right (omega arith) h.right)));
+      }
+  | inr last ↦ subst (IsMade (ops ++ new ∷ []) i) last.1 (subst (λ k. IsMade (ops ++ new ∷ []) k new) (sym last.0) (record {
+      left = l;
+      right = r;
+      stage =
+          ap (λ s. stage_behind s (operand_stage ops right)) (sym (same_stage ops (ops ++ new ∷ []) left (one_more ops new) l))
+          ∙ ap (λ s. stage_behind (operand_stage (ops ++ new ∷ []) left) s) (sym (same_stage ops (ops ++ new ∷ []) right (one_more ops new) r));
+    }))
+  ] }
+  where
+    new : PlanOp
+    new = op_on ops op left right
+
+abbrev pub capped : List ℕ → List ℕ
+capped depths = map (λ depth. min 65 depth) depths
+
+abbrev pub stages : List PlanOp → List ℕ
+stages ops = map (λ one. one.stage) ops
+
+-- what operations were added, where their depths are these and an operand has this depth
+pub record Added (ops more : List PlanOp) (depths : List ℕ) : Type 0 where
+  pub extends : Extends ops more
+  pub made : AreMade more
+  pub stages_are : stages more ≡ stages ops ++ capped depths
+
+added_none : (ops : List PlanOp) → AreMade ops → Added ops ops []
+added_none ops made = record { extends = same_ops ops; made = made; stages_are = sym (append-nil (stages ops)) }
+
+added_then : (a b c : List PlanOp) (ds es : List ℕ) → Added a b ds → Added b c es → Added a c (ds ++ es)
+added_then a b c ds es p q = record {
+  extends = and_more a b c p.extends q.extends;
+  made = q.made;
+  stages_are = q.stages_are ∙ ap (λ l. l ++ capped es) p.stages_are ∙ append_assoc (stages a) (capped ds) (capped es) ∙ ap (λ l. stages a ++ l) (sym (map-append (λ depth. min 65 depth) ds es));
+}
+
+added_one : (ops : List PlanOp) (op : operation.Operation) (left right : Operand) (d e : ℕ) → AreMade ops → IsAt ops left d → IsAt ops right e → Added ops (ops ++ op_on ops op left right ∷ []) ((1 + max d e) ∷ [])
+added_one ops op left right d e made l r =
+    let stage : stage_behind (operand_stage ops left) (operand_stage ops right) ≡ min 65 (1 + max d e) = (let a = l.stage in let b = r.stage in omega arith) in
+    record {
+      extends = one_more ops (op_on ops op left right);
+      made = made_more ops op left right made l.within r.within;
+      stages_are = map-append (λ (one : PlanOp). one.stage) ops (op_on ops op left right ∷ []) ∙ ap (λ s. stages ops ++ s ∷ []) stage;
+    }
+
+last_at : (ops : List PlanOp) (op : operation.Operation) (left right : Operand) (d e : ℕ) → IsAt ops left d → IsAt ops right e →
+    IsAt (ops ++ op_on ops op left right ∷ []) (Register (14 + length ops)) (1 + max d e)
+last_at ops op left right d e l r = record {
+  within = (let n = length_push ops (op_on ops op left right) in omega arith);
+  stage =
+      stage_of_register (ops ++ op_on ops op left right ∷ []) (length ops) (op_on ops op left right) (slice_get-last ops (op_on ops op left right))
+      ∙ (let a = l.stage in let b = r.stage in omega arith);
+}
+
+-- an expression
+pub record Compiles (ops : List PlanOp) (columns : List Operand) (depths : List ℕ) (e : Term) : Type 0 where
+  pub added : Added ops (compiled columns e ops).ops (term_depths depths e)
+  pub value : IsAt (compiled columns e ops).ops (compiled columns e ops).value (term_depth depths e)
+
+compiles : (ops : List PlanOp) (columns : List Operand) (depths : List ℕ) (e : Term) → AreMade ops → AreAt ops columns depths → Compiles ops columns depths e
+compiles ops columns depths (Literal n) made at = record { added = added_none ops made; value = number_at ops n }
+compiles ops columns depths (Read s) made at = record { added = added_none ops made; value = column_is ops columns depths s at }
+compiles ops columns depths (Negation e) made at =
+    let c : Compiles ops columns depths e = compiles ops columns depths e made at in
+    let more : List PlanOp = (compiled columns e ops).ops in
+    let same : 1 + max (term_depth depths e) 0 ≡ 1 + term_depth depths e = omega arith in
+    record {
+      added = added_then ops more (compiled columns (Negation e) ops).ops (term_depths depths e) ((1 + term_depth depths e) ∷ []) c.added
+          (subst (λ d. Added more (compiled columns (Negation e) ops).ops (d ∷ [])) same (added_one more Not (compiled columns e ops).value (Number 0) (term_depth depths e) 0 c.added.made c.value (number_at more 0)));
+      value = subst (λ d. IsAt (compiled columns (Negation e) ops).ops (compiled columns (Negation e) ops).value d) same (last_at more Not (compiled columns e ops).value (Number 0) (term_depth depths e) 0 c.value (number_at more 0));
+    }
+compiles ops columns depths (Operation op a b) made at =
+    let c : Compiles ops columns depths a = compiles ops columns depths a made at in
+    let more : List PlanOp = (compiled columns a ops).ops in
+    let d : Compiles more columns depths b = compiles more columns depths b c.added.made (are_more ops more columns depths c.added.extends at) in
+    let most : List PlanOp = (compiled columns b more).ops in
+    let left : IsAt most (compiled columns a ops).value (term_depth depths a) = is_more more most (compiled columns a ops).value (term_depth depths a) d.added.extends c.value in
+    record {
+      added = added_then ops more (compiled columns (Operation op a b) ops).ops (term_depths depths a) (term_depths depths b ++ (1 + max (term_depth depths a) (term_depth depths b)) ∷ []) c.added
+          (added_then more most (compiled columns (Operation op a b) ops).ops (term_depths depths b) ((1 + max (term_depth depths a) (term_depth depths b)) ∷ []) d.added
+          (added_one most (Two op) (compiled columns a ops).value (compiled columns b more).value (term_depth depths a) (term_depth depths b) d.added.made left d.value));
+      value = last_at most (Two op) (compiled columns a ops).value (compiled columns b more).value (term_depth depths a) (term_depth depths b) left d.value;
+    }
+
+-- a stream's operands
+pub record WiresAt (ops : List PlanOp) (wires : StreamWires) (depths : StreamDepths) : Type 0 where
+  pub present : IsAt ops wires.present depths.present
+  pub columns : AreAt ops wires.columns depths.columns
+
+wires_more : (ops more : List PlanOp) (wires : StreamWires) (depths : StreamDepths) → Extends ops more → WiresAt ops wires depths → WiresAt more wires depths
+wires_more ops more wires depths e h = record { present = is_more ops more wires.present depths.present e h.present; columns = are_more ops more wires.columns depths.columns e h.columns }
+
+-- what an operator adds
+pub record Makes (ops more : List PlanOp) (wires : StreamWires) (depths : StreamDepths) : Type 0 where
+  pub added : Added ops more depths.operations
+  pub wires_are : WiresAt more wires depths
+
+conditioned_makes : (ops : List PlanOp) (over : List Operand) (over_depths : List ℕ) (condition : Term) (present : Operand) (depth : ℕ) (columns : List Operand) (depths : List ℕ) →
+    AreMade ops → AreAt ops over over_depths → IsAt ops present depth → AreAt ops columns depths →
+    Makes ops (conditioned over condition ops present columns).ops (conditioned over condition ops present columns).wires (joined_depths over_depths condition depth depths)
+conditioned_makes ops over over_depths condition present depth columns depths made over_at present_at columns_at =
+    let c : Compiles ops over over_depths condition = compiles ops over over_depths condition made over_at in
+    let more : List PlanOp = (compiled over condition ops).ops in
+    let value : Operand = (compiled over condition ops).value in
+    let joined_at : IsAt more present depth = is_more ops more present depth c.added.extends present_at in
+    let last : Added more (more ++ op_on more (Two Both) present value ∷ []) ((1 + max depth (term_depth over_depths condition)) ∷ []) = added_one more (Two Both) present value depth (term_depth over_depths condition) c.added.made joined_at c.value in
+    let all : Added ops (more ++ op_on more (Two Both) present value ∷ []) (term_depths over_depths condition ++ (1 + max depth (term_depth over_depths condition)) ∷ []) =
+      added_then ops more (more ++ op_on more (Two Both) present value ∷ []) (term_depths over_depths condition) ((1 + max depth (term_depth over_depths condition)) ∷ []) c.added last
+    in
+    record {
+      added = all;
+      wires_are = record {
+        present = last_at more (Two Both) present value depth (term_depth over_depths condition) joined_at c.value;
+        columns = are_more ops (more ++ op_on more (Two Both) present value ∷ []) columns depths all.extends columns_at;
+      };
+    }
+
+-- new columns of a `map`
+record MakesColumns (ops more : List PlanOp) (values : List Operand) (operations depths : List ℕ) : Type 0 where
+  added : Added ops more operations
+  values_at' : AreAt more values depths
+
+columns_make : (ops : List PlanOp) (columns : List Operand) (depths : List ℕ) (found : List Operand) (found_depths : List ℕ) (values : List TypedExpr) → AreMade ops → AreAt ops columns depths → AreAt ops found found_depths →
+    MakesColumns ops (compiled_all columns found (map term_of values) ops).ops (compiled_all columns found (map term_of values) ops).values
+    (flat_map (λ e. term_depths depths (term_of e)) values) (found_depths ++ map (λ e. term_depth depths (term_of e)) values)
+columns_make ops columns depths found found_depths [] made at found_at = record { added = added_none ops made; values_at' = subst (AreAt ops found) (sym (append-nil found_depths)) found_at }
+columns_make ops columns depths found found_depths (e ∷ values) made at found_at =
+    let c : Compiles ops columns depths (term_of e) = compiles ops columns depths (term_of e) made at in
+    let more : List PlanOp = (compiled columns (term_of e) ops).ops in
+    let value : Operand = (compiled columns (term_of e) ops).value in
+    let rest : MakesColumns more (compiled_all columns (found ++ value ∷ []) (map term_of values) more).ops (compiled_all columns (found ++ value ∷ []) (map term_of values) more).values
+        (flat_map (λ e. term_depths depths (term_of e)) values) ((found_depths ++ term_depth depths (term_of e) ∷ []) ++ map (λ e. term_depth depths (term_of e)) values) =
+      columns_make more columns depths (found ++ value ∷ []) (found_depths ++ term_depth depths (term_of e) ∷ []) values c.added.made (are_more ops more columns depths c.added.extends at)
+      (are_append more found (value ∷ []) found_depths (term_depth depths (term_of e) ∷ []) (are_more ops more found found_depths c.added.extends found_at) (c.value, tt))
+    in
+    record {
+      added = added_then ops more (compiled_all columns found (map term_of (e ∷ values)) ops).ops (term_depths depths (term_of e)) (flat_map (λ e. term_depths depths (term_of e)) values) c.added rest.added;
+      values_at' = subst (AreAt (compiled_all columns found (map term_of (e ∷ values)) ops).ops (compiled_all columns found (map term_of (e ∷ values)) ops).values)
+          (append_assoc found_depths (term_depth depths (term_of e) ∷ []) (map (λ e. term_depth depths (term_of e)) values)) rest.values_at';
+    }
+
+emit_makes : (ops : List PlanOp) (o : Option TypedExpr) (initial : List ℕ) (source : StreamWires) (depths : StreamDepths) (keys args : List ℕ) → AreMade ops → WiresAt ops source depths →
+    Makes ops (emitted o (emit_columns initial source.columns args) source (map (operand_at source.columns) keys) ops).ops (emitted o (emit_columns initial source.columns args) source (map (operand_at source.columns) keys) ops).wires
+    (emit_depths o (length initial) (values_at depths.columns args) depths.present (values_at depths.columns keys))
+emit_makes ops None initial source depths keys args made at = record { added = added_none ops made; wires_are = record { present = number_at ops 0; columns = are_picked ops source.columns depths.columns keys at.columns } }
+emit_makes ops (Some condition) initial source depths keys args made at =
+    conditioned_makes ops (emit_columns initial source.columns args) (replicate (length initial) 0 ++ values_at depths.columns args) (term_of condition) source.present depths.present
+    (map (operand_at source.columns) keys) (values_at depths.columns keys) made
+    (are_append ops (map Number initial) (map (operand_at source.columns) args) (replicate (length initial) 0) (values_at depths.columns args) (are_numbers ops initial) (are_picked ops source.columns depths.columns args at.columns))
+    at.present (are_picked ops source.columns depths.columns keys at.columns)
+
+group_makes : (ops : List PlanOp) (o : Option TypedFold) (source : StreamWires) (depths : StreamDepths) (keys args : List ℕ) → AreMade ops → WiresAt ops source depths →
+    Makes ops (grouped o source keys args ops).ops (grouped o source keys args ops).wires (group_depths o depths keys args)
+group_makes ops None source depths keys args made at = record { added = added_none ops made; wires_are = record { present = number_at ops 0; columns = are_picked ops source.columns depths.columns keys at.columns } }
+group_makes ops (Some f) source depths keys args made at = emit_makes ops f.emit f.initial source depths keys args made at
+
+abbrev AllAt : List PlanOp → List StreamWires → List StreamDepths → Type 0
+AllAt ops streams depths = (j : ℕ) → WiresAt ops (wires_at streams j) (depths_at depths j)
+
+op_makes : (folds : List TypedFold) (ops : List PlanOp) (streams : List StreamWires) (depths : List StreamDepths) (op : TypedOp) → AreMade ops → AllAt ops streams depths →
+    Makes ops (made_by folds streams op ops).ops (made_by folds streams op ops).wires (depths_made folds depths op)
+op_makes folds ops streams depths (Filter input condition) made at =
+    conditioned_makes ops (wires_at streams input).columns (depths_at depths input).columns (term_of condition) (wires_at streams input).present (depths_at depths input).present
+    (wires_at streams input).columns (depths_at depths input).columns made (at input).columns (at input).present (at input).columns
+op_makes folds ops streams depths (Map input values) made at =
+    let c = columns_make ops (wires_at streams input).columns (depths_at depths input).columns (wires_at streams input).columns (depths_at depths input).columns values made (at input).columns (at input).columns in
+    record {
+      added = c.added;
+      wires_are = record {
+        present = is_more ops (made_by folds streams (Map input values) ops).ops (wires_at streams input).present (depths_at depths input).present c.added.extends (at input).present;
+        columns = c.values_at';
+      };
+    }
+op_makes folds ops streams depths (Zip left right slots) made at =
+    let l = (at left).present in
+    let r = (at right).present in
+    let last = added_one ops (Two Both) (wires_at streams left).present (wires_at streams right).present (depths_at depths left).present (depths_at depths right).present made l r in
+    record {
+      added = last;
+      wires_are = record {
+        present = last_at ops (Two Both) (wires_at streams left).present (wires_at streams right).present (depths_at depths left).present (depths_at depths right).present l r;
+        columns = are_more ops (made_by folds streams (Zip left right slots) ops).ops ((wires_at streams left).columns ++ map (operand_at (wires_at streams right).columns) slots)
+            ((depths_at depths left).columns ++ values_at (depths_at depths right).columns slots) last.extends
+            (are_append ops (wires_at streams left).columns (map (operand_at (wires_at streams right).columns) slots) (depths_at depths left).columns (values_at (depths_at depths right).columns slots)
+              (at left).columns (are_picked ops (wires_at streams right).columns (depths_at depths right).columns slots (at right).columns));
+      };
+    }
+op_makes folds ops streams depths (Group input keys f args) made at = group_makes ops (slice_get folds f) (wires_at streams input) (depths_at depths input) keys args made (at input)
+
+-- the depths of the streams that follow others
+abbrev pub depths_after : List TypedFold → List StreamDepths → List TypedStream → List StreamDepths
+depths_after folds depths [] = []
+depths_after folds depths (one ∷ list) = depths_made folds depths one.op ∷ depths_after folds (depths ++ depths_made folds depths one.op ∷ []) list
+
+folded_after : (folds : List TypedFold) (depths : List StreamDepths) (list : List TypedStream) →
+    fold (λ streams one. streams ++ depths_made folds streams one.op ∷ []) depths list ≡ depths ++ depths_after folds depths list
+folded_after folds depths [] = sym (append-nil depths)
+folded_after folds depths (one ∷ list) =
+    folded_after folds (depths ++ depths_made folds depths one.op ∷ []) list
+    ∙ append_assoc depths (depths_made folds depths one.op ∷ []) (depths_after folds (depths ++ depths_made folds depths one.op ∷ []) list)
+
+pub depths_are : (q : TypedQuery) → all_depths q ≡ packet_depths ∷ depths_after q.folds (packet_depths ∷ []) q.streams
+depths_are q = folded_after q.folds (packet_depths ∷ []) q.streams
+
+all_more : (ops more : List PlanOp) (streams : List StreamWires) (depths : List StreamDepths) (wires : StreamWires) (d : StreamDepths) → length streams ≡ length depths → Extends ops more → AllAt ops streams depths →
+    WiresAt more wires d → AllAt more (streams ++ wires ∷ []) (depths ++ d ∷ [])
+all_more ops more streams depths wires d long e at new = λ j. elim (cases_lt j (length streams)) [
+    inl lt ↦ place j (wires_at streams j) (depths_at depths j) (at_earlier streams wires none j lt) (at_earlier depths d no_depths j (omega arith)) (wires_more ops more (wires_at streams j) (depths_at depths j) e (at j))
+  | inr le ↦ elim (cases_eq j (length streams)) [
+      inl here ↦ place j wires d (at_last streams wires none j here) (at_last depths d no_depths j (here ∙ long)) new
+    | inr past ↦
+        place j none no_depths (at_past (streams ++ wires ∷ []) none j (let l = length_push streams wires in omega arith)) (at_past (depths ++ d ∷ []) no_depths j (let l = length_push depths d in omega arith))
+        (record { present = number_at more 0; columns = tt })
+    ]
+  ]
+  where
+    none : StreamWires
+    none = record { present = Number 0; columns = [] }
+
+    no_depths : StreamDepths
+    no_depths = record { operations = []; present = 0; columns = [] }
+
+    place : (j : ℕ) (w : StreamWires) (s : StreamDepths) → wires_at (streams ++ wires ∷ []) j ≡ w → depths_at (depths ++ d ∷ []) j ≡ s → WiresAt more w s → WiresAt more (wires_at (streams ++ wires ∷ []) j) (depths_at (depths ++ d ∷ []) j)
+    place j w s p q h = subst (λ x. WiresAt more x (depths_at (depths ++ d ∷ []) j)) (sym p) (subst (WiresAt more w) (sym q) h)
+
+-- all operations of streams, whose wires are somewhere
+pub record AllMakes (folds : List TypedFold) (ops : List PlanOp) (streams : List StreamWires) (depths : List StreamDepths) (list : List TypedStream) : Type 0 where
+  pub added : Added ops (all_made folds ops streams list).ops (flat_map (λ d. d.operations) (depths_after folds depths list))
+  pub within : (j : ℕ) → (d : StreamDepths) × WiresAt (all_made folds ops streams list).ops (wires_at (all_made folds ops streams list).streams j) d
+
+pub all_make : (folds : List TypedFold) (ops : List PlanOp) (streams : List StreamWires) (depths : List StreamDepths) (list : List TypedStream) → AreMade ops → length streams ≡ length depths → AllAt ops streams depths →
+    AllMakes folds ops streams depths list
+all_make folds ops streams depths [] made long at = record { added = added_none ops made; within = λ j. (depths_at depths j, at j) }
+all_make folds ops streams depths (one ∷ list) made long at =
+    let d : StreamDepths = depths_made folds depths one.op in
+    let more : List PlanOp = (made_by folds streams one.op ops).ops in
+    let wires : StreamWires = (made_by folds streams one.op ops).wires in
+    let m : Makes ops more wires d = op_makes folds ops streams depths one.op made at in
+    let rest : AllMakes folds more (streams ++ wires ∷ []) (depths ++ d ∷ []) list =
+      all_make folds more (streams ++ wires ∷ []) (depths ++ d ∷ []) list m.added.made (length_push streams wires ∙ ap (λ n. n + 1) long ∙ sym (length_push depths d)) (all_more ops more streams depths wires d long m.added.extends at m.wires_are)
+    in
+    record {
+      added = added_then ops more (all_made folds ops streams (one ∷ list)).ops d.operations (flat_map (λ d. d.operations) (depths_after folds (depths ++ d ∷ []) list)) m.added rest.added;
+      within = rest.within;
+    }
+
+-- where an operation is too deep, some depth is
+deep_stages : (ops : List PlanOp) → are_deep ops ≡ list_any (λ s. nat_lt 64 s) (stages ops)
+deep_stages [] = refl
+deep_stages (one ∷ ops) = ap (λ b. nat_lt 64 one.stage || b) (deep_stages ops)
+
+deep_one : (d : ℕ) → nat_lt 64 (min 65 d) ≡ nat_lt 64 d
+deep_one d = elim (cases_lt 64 d) [
+    inl lt ↦ (let a : nat_lt 64 (min 65 d) ≡ true = (let m : 64 < min 65 d = omega arith in grind (arith, nat_tests)) in let b : nat_lt 64 d ≡ true = grind (arith, nat_tests) in a ∙ sym b)
+  | inr le ↦ (let a : nat_lt 64 (min 65 d) ≡ false = (let m : min 65 d ≤ 64 = omega arith in grind (arith, nat_tests)) in let b : nat_lt 64 d ≡ false = grind (arith, nat_tests) in a ∙ sym b)
+  ]
+
+deep_capped : (depths : List ℕ) → list_any (λ s. nat_lt 64 s) (capped depths) ≡ is_too_deep depths
+deep_capped [] = refl
+deep_capped (d ∷ depths) = ap (λ b. b || list_any (λ s. nat_lt 64 s) (capped depths)) (deep_one d) ∙ ap (λ b. nat_lt 64 d || b) (deep_capped depths)
+
+added_deep : (ops more : List PlanOp) (depths : List ℕ) → Added ops more depths → are_deep ops ≡ false → are_deep more ≡ is_too_deep depths
+added_deep ops more depths a none =
+    deep_stages more ∙ ap (list_any (λ s. nat_lt 64 s)) a.stages_are ∙ list_any-append (λ s. nat_lt 64 s) (stages ops) (capped depths)
+    ∙ ap (λ b. b || list_any (λ s. nat_lt 64 s) (capped depths)) (sym (deep_stages ops) ∙ none) ∙ deep_capped depths
+
+pub faults_are : (folds : List TypedFold) (ops : List PlanOp) (streams : List StreamWires) (depths : List StreamDepths) (list : List TypedStream) → AreMade ops → length streams ≡ length depths → AllAt ops streams depths →
+    are_deep ops ≡ false → made_fault folds ops streams list ≡ first_too_deep list (depths_after folds depths list)
+faults_are folds ops streams depths [] made long at none = refl
+faults_are folds ops streams depths (one ∷ list) made long at none =
+    let d : StreamDepths = depths_made folds depths one.op in
+    let more : List PlanOp = (made_by folds streams one.op ops).ops in
+    let wires : StreamWires = (made_by folds streams one.op ops).wires in
+    let m : Makes ops more wires d = op_makes folds ops streams depths one.op made at in
+    go (are_deep more) refl (added_deep ops more d.operations m.added none)
+    (λ none. faults_are folds more (streams ++ wires ∷ []) (depths ++ d ∷ []) list m.added.made (length_push streams wires ∙ ap (λ n. n + 1) long ∙ sym (length_push depths d)) (all_more ops more streams depths wires d long m.added.extends at m.wires_are) none)
+  where
+    go : (b : Bool) → are_deep (made_by folds streams one.op ops).ops ≡ b → are_deep (made_by folds streams one.op ops).ops ≡ is_too_deep (depths_made folds depths one.op).operations →
+        (are_deep (made_by folds streams one.op ops).ops ≡ false → made_fault folds (made_by folds streams one.op ops).ops (streams ++ (made_by folds streams one.op ops).wires ∷ []) list ≡ first_too_deep list (depths_after folds (depths ++ depths_made folds depths one.op ∷ []) list)) →
+        made_fault folds ops streams (one ∷ list) ≡ first_too_deep (one ∷ list) (depths_after folds depths (one ∷ list))
+    go true is same rest =
+        ap (λ b. cond b (Some (record { kind = OverLimit Stages; span = one.name.span })) (made_fault folds (made_by folds streams one.op ops).ops (streams ++ (made_by folds streams one.op ops).wires ∷ []) list)) is
+        ∙ ap (λ b. cond b (Some (record { kind = OverLimit Stages; span = one.name.span })) (first_too_deep list (depths_after folds (depths ++ depths_made folds depths one.op ∷ []) list))) (sym is ∙ same)
+    go false is same rest =
+        ap (λ b. cond b (Some (record { kind = OverLimit Stages; span = one.name.span })) (made_fault folds (made_by folds streams one.op ops).ops (streams ++ (made_by folds streams one.op ops).wires ∷ []) list)) is
+        ∙ rest is
+        ∙ ap (λ b. cond b (Some (record { kind = OverLimit Stages; span = one.name.span })) (first_too_deep list (depths_after folds (depths ++ depths_made folds depths one.op ∷ []) list))) (sym is ∙ same)
+
+no_deep : (folds : List TypedFold) (ops : List PlanOp) (streams : List StreamWires) (list : List TypedStream) → are_deep ops ≡ false → made_fault folds ops streams list ≡ None → are_deep (all_made folds ops streams list).ops ≡ false
+no_deep folds ops streams [] none e = none
+no_deep folds ops streams (one ∷ list) none e = go (are_deep (made_by folds streams one.op ops).ops) refl (no_deep folds (made_by folds streams one.op ops).ops (streams ++ (made_by folds streams one.op ops).wires ∷ []) list)
+  where
+    go : (b : Bool) → are_deep (made_by folds streams one.op ops).ops ≡ b →
+        (are_deep (made_by folds streams one.op ops).ops ≡ false → made_fault folds (made_by folds streams one.op ops).ops (streams ++ (made_by folds streams one.op ops).wires ∷ []) list ≡ None → are_deep (all_made folds ops streams (one ∷ list)).ops ≡ false) →
+        are_deep (all_made folds ops streams (one ∷ list)).ops ≡ false
+    go true is rest =
+        let fault : QueryFault = record { kind = OverLimit Stages; span = one.name.span } in let f : Some fault ≡ None = sym (ap (λ b. cond b (Some (record { kind = OverLimit Stages; span = one.name.span })) (made_fault folds (made_by folds streams one.op ops).ops (streams ++ (made_by folds streams one.op ops).wires ∷ []) list)) is) ∙ e in cc
+    go false is rest =
+        rest is (sym (ap (λ b. cond b (Some (record { kind = OverLimit Stages; span = one.name.span })) (made_fault folds (made_by folds streams one.op ops).ops (streams ++ (made_by folds streams one.op ops).wires ∷ []) list)) is) ∙ e)
+
+field_at : (k : ℕ) → k < 14 → IsAt [] (Register k) 0
+field_at k lt =
+    let early : nat_lt k 14 ≡ true = grind (arith, nat_tests) in
+    record {
+      within = omega arith;
+      stage = ap (λ b. if b then 0 else unwrap_or (option_map (λ (x : PlanOp). x.stage) (slice_get [] (k - 14))) 0) early;
+    }
+
+-- the packets' operands
+packets_at : (j : ℕ) → WiresAt [] (wires_at (packet_wires ∷ []) j) (depths_at (packet_depths ∷ []) j)
+packets_at zero = record {
+  present = number_at [] 1;
+  columns = (field_at 0 (lit< tt), (field_at 1 (lit< tt), (field_at 2 (lit< tt), (field_at 3 (lit< tt), (field_at 4 (lit< tt), (field_at 5 (lit< tt), (field_at 6 (lit< tt), (field_at 7 (lit< tt), (field_at 8 (lit< tt), (field_at 9 (lit< tt), (field_at 10 (lit< tt), (field_at 11 (lit< tt), (field_at 12 (lit< tt), (field_at 13 (lit< tt), tt))))))))))))));
+}
+packets_at (suc j) = record { present = number_at [] 0; columns = tt }
+
+made_none : AreMade []
+made_none = record { each = λ i one found. cc }
+
+capped_none : (depths : List ℕ) → list_any (λ s. nat_lt 64 s) (capped depths) ≡ false → capped depths ≡ depths
+capped_none [] e = refl
+capped_none (d ∷ depths) e = go (nat_lt 64 (min 65 d)) refl (capped_none depths)
+  where
+    go : (b : Bool) → nat_lt 64 (min 65 d) ≡ b → (list_any (λ s. nat_lt 64 s) (capped depths) ≡ false → capped depths ≡ depths) → capped (d ∷ depths) ≡ d ∷ depths
+    go true is rest =
+        let f : true ≡ false = sym (ap (λ b. b || list_any (λ s. nat_lt 64 s) (capped depths)) is) ∙ e in cc
+    go false is rest =
+        let few : min 65 d ≤ 64 = grind (arith, nat_tests) in
+        let same : min 65 d ≡ d = omega arith in
+        ap (λ x. x ∷ capped depths) same ∙ ap (λ l. d ∷ l) (rest (sym (ap (λ b. b || list_any (λ s. nat_lt 64 s) (capped depths)) is) ∙ e))
+
+-- the operations that are made for a query
+pub record QueryMade (q : TypedQuery) (ops : List PlanOp) (streams : List StreamWires) : Type 0 where
+  pub made : AreMade ops
+  pub within : (j : ℕ) → (d : StreamDepths) × WiresAt ops (wires_at streams j) d
+  pub stages_are : stages ops ≡ query_depths q
+  pub none : are_deep ops ≡ false
+
+pub query_fault : (q : TypedQuery) → made_fault q.folds [] (packet_wires ∷ []) q.streams ≡ stage_fault q
+query_fault q =
+    faults_are q.folds [] (packet_wires ∷ []) (packet_depths ∷ []) q.streams made_none refl packets_at refl
+    ∙ sym (ap (λ l. first_too_deep q.streams (drop 1 l)) (depths_are q))
+
+pub query_made : (q : TypedQuery) (ops : List PlanOp) (streams : List StreamWires) → ops ≡ (all_made q.folds [] (packet_wires ∷ []) q.streams).ops → streams ≡ (all_made q.folds [] (packet_wires ∷ []) q.streams).streams →
+    made_fault q.folds [] (packet_wires ∷ []) q.streams ≡ None → QueryMade q ops streams
+query_made q ops streams e f fits =
+    subst (λ o. QueryMade q o streams) (sym e) (subst (QueryMade q (all_made q.folds [] (packet_wires ∷ []) q.streams).ops) (sym f) (record {
+      made = all.added.made;
+      within = all.within;
+      stages_are = capped_are ∙ capped_none (query_depths q) (ap (list_any (λ s. nat_lt 64 s)) (sym capped_are) ∙ sym (deep_stages (all_made q.folds [] (packet_wires ∷ []) q.streams).ops) ∙ shallow);
+      none = shallow;
+    }))
+  where
+    all : AllMakes q.folds [] (packet_wires ∷ []) (packet_depths ∷ []) q.streams
+    all = all_make q.folds [] (packet_wires ∷ []) (packet_depths ∷ []) q.streams made_none refl packets_at
+
+    capped_are : stages (all_made q.folds [] (packet_wires ∷ []) q.streams).ops ≡ capped (query_depths q)
+    capped_are = all.added.stages_are ∙ ap (λ l. capped (flat_map (λ (d : StreamDepths). d.operations) l)) (sym (depths_are q))
+
+    shallow : are_deep (all_made q.folds [] (packet_wires ∷ []) q.streams).ops ≡ false
+    shallow = no_deep q.folds [] (packet_wires ∷ []) q.streams refl fits
