@@ -6,3 +6,4 @@ pub mod Markings
 pub mod StreamRows
 pub mod Values
 pub mod Deep
+pub mod Sorted
