@@ -80,7 +80,7 @@ are_more ops more (o ∷ columns) (d ∷ depths) e h = (is_more ops more o d e h
 are_more ops more [] (d ∷ depths) e h = absurd h
 are_more ops more (o ∷ columns) [] e h = absurd h
 
-column_is : (ops : List PlanOp) (columns : List Operand) (depths : List ℕ) (slot : ℕ) → AreAt ops columns depths → IsAt ops (operand_at columns slot) (slice_index depths slot)
+pub column_is : (ops : List PlanOp) (columns : List Operand) (depths : List ℕ) (slot : ℕ) → AreAt ops columns depths → IsAt ops (operand_at columns slot) (slice_index depths slot)
 column_is ops [] [] slot h = number_at ops 0
 column_is ops (o ∷ columns) (d ∷ depths) zero h = h.0
 column_is ops (o ∷ columns) (d ∷ depths) (suc slot) h = column_is ops columns depths slot h.1

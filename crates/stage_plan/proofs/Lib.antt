@@ -7,3 +7,4 @@ pub mod StreamRows
 pub mod Values
 pub mod Deep
 pub mod Sorted
+pub mod PlanParts
