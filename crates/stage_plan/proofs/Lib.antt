@@ -8,3 +8,4 @@ pub mod Values
 pub mod Deep
 pub mod Sorted
 pub mod PlanParts
+pub mod Putting

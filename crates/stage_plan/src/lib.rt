@@ -2,6 +2,7 @@
 #![tactic(auto)]
 
 mod answer;
+mod bound;
 mod fields;
 mod group;
 mod groups;

@@ -1,14 +1,44 @@
 // The plan of a typed query.
 
-ghost use Rattle.std.specs.Prelude.{◌≡◌, None, IfOk, OnOk, IfErr};
+ghost use Rattle.std.specs.Prelude.{◌≡◌, ◌≤◌, ◌∷◌, [], None, length, IfOk, OnOk, IfErr};
 ghost use Rattle.query_lang.specs.TypedQueries.{IsValidQuery};
 ghost use Rattle.stage_plan.specs.Depths.{stage_fault};
+ghost use Rattle.stage_plan.specs.Making.{packet_wires, all_made, made_fault};
 ghost use Rattle.stage_plan.specs.Planned.{IsPlanOf, IsRefusal};
 
 use crate::answer::PlanAnswer;
-use crate::plans::Plan;
+use crate::fields::read_fields;
+use crate::groups::{plan_groups, wire_groups};
+use crate::order::{order_by_stage, registers_in, reorder};
+use crate::plans::{Plan, greatest_stage};
+use crate::streams::{MadeStreams, make_streams};
 use query_lang::TypedQuery;
-use std::alloc::Global;
+use std::alloc::{AllocError, Global};
+
+// The plan of the operations that were made for a query: they are put in the order of their stages, and the groupbys are wired to them.
+fn put_plan(alloc: Global, q: &TypedQuery, made: &MadeStreams) -> Result<Plan, AllocError>
+    requires valid { IsValidQuery q.now }
+    requires ops { made.now.ops ≡ (all_made q.now.folds [] (packet_wires ∷ []) q.now.streams).ops }
+    requires streams { made.now.streams ≡ (all_made q.now.folds [] (packet_wires ∷ []) q.now.streams).streams }
+    requires fits { made_fault q.now.folds [] (packet_wires ∷ []) q.now.streams ≡ None }
+    requires few { length made.now.ops ≤ 32768 }
+    ensures { IfOk result (λ plan. IsPlanOf q.now plan) }
+{
+    let ops = made.ops.as_slice();
+    let order = order_by_stage(alloc, ops, greatest_stage(ops))?;
+    let registers = registers_in(alloc, order.as_slice(), ops.len())?;
+    let sorted = reorder(alloc, ops, order.as_slice(), registers.as_slice())?;
+    let wiring = wire_groups(
+        alloc,
+        q.streams.as_slice(),
+        made.streams.as_slice(),
+        registers.as_slice(),
+    )?;
+    let groups = plan_groups(alloc, q)?;
+    let reads = read_fields(alloc, q)?;
+    let plan = Plan::of(reads, sorted, groups, wiring);
+    Ok(plan)
+}
 
 /// The plan of a query.
 pub fn plan(alloc: Global, q: &TypedQuery) -> Result<Plan, PlanAnswer>
@@ -17,7 +47,11 @@ pub fn plan(alloc: Global, q: &TypedQuery) -> Result<Plan, PlanAnswer>
     ensures fits { OnOk result (stage_fault q.now ≡ None) }
     ensures refused { IfErr result (λ answer. IsRefusal q.now answer) }
 {
-    let _ = alloc;
-    let _ = q;
-    Err(PlanAnswer::Memory)
+    match make_streams(alloc, q) {
+        Ok(made) => {
+            let plan = put_plan(alloc, q, &made)?;
+            Ok(plan)
+        }
+        Err(answer) => Err(answer),
+    }
 }

@@ -31,6 +31,24 @@ impl Model for Plan {
 }
 
 impl Plan {
+    // A plan of these parts.
+    pub(crate) fn of(
+        reads: FieldSet,
+        ops: Seq<PlanOp>,
+        groups: Seq<GroupPlan>,
+        wiring: Seq<GroupWiring>,
+    ) -> Plan
+        requires { IsSoundPlan (record { reads = reads; ops = ops; groups = groups; wiring = wiring }) }
+        ensures { result ≡ record { reads = reads; ops = ops; groups = groups; wiring = wiring } }
+    {
+        Plan {
+            reads,
+            ops,
+            groups,
+            wiring,
+        }
+    }
+
     /// What holds of each plan.
     pub fn known(&self)
         ensures { IsSoundPlan self.now }
@@ -166,7 +184,7 @@ impl Plan {
 }
 
 // The greatest stage of an operation, or 0.
-fn greatest_stage(ops: &[PlanOp]) -> u32
+pub(crate) fn greatest_stage(ops: &[PlanOp]) -> u32
     ensures { result ≡ stages_of ops.now }
 {
     let mut stages = 0;
