@@ -9,3 +9,4 @@ pub mod Deep
 pub mod Sorted
 pub mod PlanParts
 pub mod Putting
+pub mod Texts

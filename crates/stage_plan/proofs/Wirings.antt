@@ -1,7 +1,7 @@
 -- What holds of the wiring of a groupby in a plan.
-use Rattle.std.proofs.Common.{◌≡◌, ℕ, ◌+◌, ◌<◌, ◌≤◌, List, length, get_or, Some, arith, inl, inr, ap, subst, sym}
+use Rattle.std.proofs.Common.{◌≡◌, ℕ, ◌+◌, ◌<◌, ◌≤◌, List, length, get_or, Some, arith, inl, inr, ap, subst, sym, ◌∙◌}
 use Rattle.std.specs.Prelude.{slice_get, All}
-use Rattle.std.proofs.lemmas.Option.{slice_get_cases}
+use Rattle.std.proofs.lemmas.Option.{slice_get_cases, slice_get_within}
 use Rattle.stage_plan.specs.declared.group.GroupPlan.{GroupPlan}
 use Rattle.stage_plan.specs.declared.group.GroupWiring.{GroupWiring}
 use Rattle.stage_plan.specs.Sound.{PlanParts, IsSoundPlan, IsSoundGroup, IsWithin}
@@ -27,3 +27,13 @@ pub seen_wiring : (inside plan : PlanParts) (i : ℕ) (w : GroupWiring) → insi
 seen_wiring inside plan i w same sound lt found =
     let P : PlanParts → Type 0 = λ p. slice_get p.wiring i ≡ Some w in
     sound_wiring plan i w (subst IsSoundPlan same sound) lt (subst P same found)
+
+-- a groupby of a plan
+pub sound_group : (plan : PlanParts) (groups : List GroupPlan) (i : ℕ) (group : GroupPlan) → IsSoundPlan plan → groups ≡ plan.groups → slice_get groups i ≡ Some group →
+    (w : GroupWiring) × IsSoundGroup (14 + length plan.ops) group w
+sound_group plan groups i group sound same found =
+    let here : slice_get plan.groups i ≡ Some group = ap (λ l. slice_get l i) (sym same) ∙ found in
+    elim ((slice_get_cases plan.wiring i).1) [
+      inl there ↦ (there.0, sound.each i group there.0 here there.2)
+    | inr past ↦ absurd (let lt = slice_get_within plan.groups i group here in let w = sound.wired in omega arith)
+    ]

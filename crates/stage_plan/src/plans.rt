@@ -6,6 +6,7 @@ ghost use Rattle.stage_plan.specs.Registers.{operand_value, stages_of};
 ghost use Rattle.stage_plan.specs.Planned.{registers_of, row_of, wiring_at, plan_bound};
 ghost use Rattle.stage_plan.specs.Sound.{PlanParts, IsSoundPlan, IsChain};
 
+use crate::bound::most_of_groups;
 use crate::group::{GroupPlan, GroupWiring};
 use crate::op::PlanOp;
 use crate::rows::{copy_into, fill, operand_in};
@@ -104,6 +105,21 @@ impl Plan {
         *self.ops.get(number as usize)
     }
 
+    // All operations.
+    pub(crate) fn ops(&self) -> &[PlanOp]
+        ensures ops { result.now ≡ self.now.ops }
+        ensures few { length result.now ≤ 32768 }
+    {
+        self.ops.as_slice()
+    }
+
+    // All groupbys.
+    pub(crate) fn all_groups(&self) -> &[GroupPlan]
+        ensures { result.now ≡ self.now.groups }
+    {
+        self.groups.as_slice()
+    }
+
     /// How many stages there are: the greatest one of an operation.
     pub fn stages(&self) -> u32
         ensures { result ≡ stages_of self.now.ops }
@@ -118,6 +134,13 @@ impl Plan {
         ensures { result ≡ count_by (λ one. one.stage == stage) self.now.ops }
     {
         in_stage(self.ops.as_slice(), stage)
+    }
+
+    /// The most steps that one packet takes, with caches of so many ways.
+    pub fn bound(&self, ways: u32) -> u64
+        ensures { result ≡ plan_bound self.now ways }
+    {
+        14 + self.ops.len() as u64 + most_of_groups(self.groups.as_slice(), ways)
     }
 
     /// The registers of a packet: its words, and what each operation gives. All operations of a stage read the registers as they stood before it.
@@ -195,7 +218,7 @@ pub(crate) fn greatest_stage(ops: &[PlanOp]) -> u32
 }
 
 // How many operations stand in a stage.
-fn in_stage(ops: &[PlanOp], stage: u32) -> u32
+pub(crate) fn in_stage(ops: &[PlanOp], stage: u32) -> u32
     requires { length ops.now ≤ 32768 }
     ensures { result ≡ count_by (λ one. one.stage == stage) ops.now }
 {
