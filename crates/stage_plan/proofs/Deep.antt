@@ -39,20 +39,20 @@ pub same_stage : (ops more : List PlanOp) (o : Operand) → Extends ops more →
 same_stage ops more (Number n) e w = refl
 same_stage ops more (Register r) e w =
     elim (cases_lt r 14) [
-      inl field ↦
-        let early : nat_lt r 14 ≡ true = grind (arith, nat_tests) in
-        ap (λ b. if b then 0 else unwrap_or (option_map (λ (x : PlanOp). x.stage) (slice_get more (r - 14))) 0) early
-        ∙ ap (λ b. if b then 0 else unwrap_or (option_map (λ (x : PlanOp). x.stage) (slice_get ops (r - 14))) 0) (sym early)
-    | inr later ↦
-        let j : ℕ = r - 14 in
-        let at : r ≡ 14 + j = omega arith in
-        let lt : j < length ops = omega arith in
-        elim ((slice_get_cases ops j).1) [
-          inl found ↦
-            ap (λ n. operand_stage more (Register n)) at ∙ stage_of_register more j found.0 (e.keeps j found.0 found.2)
-            ∙ sym (stage_of_register ops j found.0 found.2) ∙ ap (λ n. operand_stage ops (Register n)) (sym at)
-        | inr past ↦ absurd (omega arith)
-        ]
+      | inl field ↦
+          let early : nat_lt r 14 ≡ true = grind (arith, nat_tests) in
+          ap (λ b. if b then 0 else unwrap_or (option_map (λ (x : PlanOp). x.stage) (slice_get more (r - 14))) 0) early
+          ∙ ap (λ b. if b then 0 else unwrap_or (option_map (λ (x : PlanOp). x.stage) (slice_get ops (r - 14))) 0) (sym early)
+      | inr later ↦
+          let j : ℕ = r - 14 in
+          let at : r ≡ 14 + j = omega arith in
+          let lt : j < length ops = omega arith in
+          elim ((slice_get_cases ops j).1) [
+            | inl found ↦
+                ap (λ n. operand_stage more (Register n)) at ∙ stage_of_register more j found.0 (e.keeps j found.0 found.2)
+                ∙ sym (stage_of_register ops j found.0 found.2) ∙ ap (λ n. operand_stage ops (Register n)) (sym at)
+            | inr past ↦ absurd (omega arith)
+          ]
     ]
 
 -- an operand that is there, whose stage is this depth, and 65 for all above 64
@@ -112,25 +112,27 @@ pub record AreMade (ops : List PlanOp) : Type 0 where
 
 made_more : (ops : List PlanOp) (op : operation.Operation) (left right : Operand) → AreMade ops → IsWithin (14 + length ops) left → IsWithin (14 + length ops) right →
     AreMade (ops ++ op_on ops op left right ∷ [])
-made_more ops op left right made l r = record { each = λ i one found. elim (push_cases ops new i one found) [
-    inl old ↦
-      let h = made.each i one old in
-      let lt : i < length ops = slice_get_within ops i one old in
-      record {
-        left = h.left;
-        right = h.right;
-        stage = h.stage
-            ∙ ap (λ s. stage_behind s (operand_stage ops one.right)) (sym (same_stage ops (ops ++ new ∷ []) one.left (one_more ops new) (within_more (14 + i) (14 + length ops) one.left (omega arith) h.left)))
-            ∙ ap (λ s. stage_behind (operand_stage (ops ++ new ∷ []) one.left) s) (sym (same_stage ops (ops ++ new ∷ []) one.right (one_more ops new) (within_more (14 + i) (14 + length ops) one.right (omega arith) h.right)));
-      }
-  | inr last ↦ subst (IsMade (ops ++ new ∷ []) i) last.1 (subst (λ k. IsMade (ops ++ new ∷ []) k new) (sym last.0) (record {
+made_more ops op left right made l r = record {
+  each = λ i one found. elim (push_cases ops new i one found) [
+    | inl old ↦
+        let h = made.each i one old in
+        let lt : i < length ops = slice_get_within ops i one old in
+        record {
+          left = h.left;
+          right = h.right;
+          stage = h.stage
+              ∙ ap (λ s. stage_behind s (operand_stage ops one.right)) (sym (same_stage ops (ops ++ new ∷ []) one.left (one_more ops new) (within_more (14 + i) (14 + length ops) one.left (omega arith) h.left)))
+              ∙ ap (λ s. stage_behind (operand_stage (ops ++ new ∷ []) one.left) s) (sym (same_stage ops (ops ++ new ∷ []) one.right (one_more ops new) (within_more (14 + i) (14 + length ops) one.right (omega arith) h.right)));
+        }
+    | inr last ↦ subst (IsMade (ops ++ new ∷ []) i) last.1 (subst (λ k. IsMade (ops ++ new ∷ []) k new) (sym last.0) (record {
       left = l;
       right = r;
       stage =
           ap (λ s. stage_behind s (operand_stage ops right)) (sym (same_stage ops (ops ++ new ∷ []) left (one_more ops new) l))
           ∙ ap (λ s. stage_behind (operand_stage (ops ++ new ∷ []) left) s) (sym (same_stage ops (ops ++ new ∷ []) right (one_more ops new) r));
     }))
-  ] }
+  ];
+}
   where
     new : PlanOp
     new = op_on ops op left right
@@ -228,7 +230,7 @@ conditioned_makes ops over over_depths condition present depth columns depths ma
     let joined_at : IsAt more present depth = is_more ops more present depth c.added.extends present_at in
     let last : Added more (more ++ op_on more (Two Both) present value ∷ []) ((1 + max depth (term_depth over_depths condition)) ∷ []) = added_one more (Two Both) present value depth (term_depth over_depths condition) c.added.made joined_at c.value in
     let all : Added ops (more ++ op_on more (Two Both) present value ∷ []) (term_depths over_depths condition ++ (1 + max depth (term_depth over_depths condition)) ∷ []) =
-      added_then ops more (more ++ op_on more (Two Both) present value ∷ []) (term_depths over_depths condition) ((1 + max depth (term_depth over_depths condition)) ∷ []) c.added last
+    added_then ops more (more ++ op_on more (Two Both) present value ∷ []) (term_depths over_depths condition) ((1 + max depth (term_depth over_depths condition)) ∷ []) c.added last
     in
     record {
       added = all;
@@ -252,9 +254,9 @@ columns_make ops columns depths found found_depths (e ∷ values) made at found_
     let more : List PlanOp = (compiled columns (term_of e) ops).ops in
     let value : Operand = (compiled columns (term_of e) ops).value in
     let rest : MakesColumns more (compiled_all columns (found ++ value ∷ []) (map term_of values) more).ops (compiled_all columns (found ++ value ∷ []) (map term_of values) more).values
-        (flat_map (λ e. term_depths depths (term_of e)) values) ((found_depths ++ term_depth depths (term_of e) ∷ []) ++ map (λ e. term_depth depths (term_of e)) values) =
-      columns_make more columns depths (found ++ value ∷ []) (found_depths ++ term_depth depths (term_of e) ∷ []) values c.added.made (are_more ops more columns depths c.added.extends at)
-      (are_append more found (value ∷ []) found_depths (term_depth depths (term_of e) ∷ []) (are_more ops more found found_depths c.added.extends found_at) (c.value, tt))
+    (flat_map (λ e. term_depths depths (term_of e)) values) ((found_depths ++ term_depth depths (term_of e) ∷ []) ++ map (λ e. term_depth depths (term_of e)) values) =
+    columns_make more columns depths (found ++ value ∷ []) (found_depths ++ term_depth depths (term_of e) ∷ []) values c.added.made (are_more ops more columns depths c.added.extends at)
+    (are_append more found (value ∷ []) found_depths (term_depth depths (term_of e) ∷ []) (are_more ops more found found_depths c.added.extends found_at) (c.value, tt))
     in
     record {
       added = added_then ops more (compiled_all columns found (map term_of (e ∷ values)) ops).ops (term_depths depths (term_of e)) (flat_map (λ e. term_depths depths (term_of e)) values) c.added rest.added;
@@ -305,7 +307,7 @@ op_makes folds ops streams depths (Zip left right slots) made at =
         columns = are_more ops (made_by folds streams (Zip left right slots) ops).ops ((wires_at streams left).columns ++ map (operand_at (wires_at streams right).columns) slots)
             ((depths_at depths left).columns ++ values_at (depths_at depths right).columns slots) last.extends
             (are_append ops (wires_at streams left).columns (map (operand_at (wires_at streams right).columns) slots) (depths_at depths left).columns (values_at (depths_at depths right).columns slots)
-              (at left).columns (are_picked ops (wires_at streams right).columns (depths_at depths right).columns slots (at right).columns));
+            (at left).columns (are_picked ops (wires_at streams right).columns (depths_at depths right).columns slots (at right).columns));
       };
     }
 op_makes folds ops streams depths (Group input keys f args) made at = group_makes ops (slice_get folds f) (wires_at streams input) (depths_at depths input) keys args made (at input)
@@ -328,14 +330,14 @@ depths_are q = folded_after q.folds (packet_depths ∷ []) q.streams
 all_more : (ops more : List PlanOp) (streams : List StreamWires) (depths : List StreamDepths) (wires : StreamWires) (d : StreamDepths) → length streams ≡ length depths → Extends ops more → AllAt ops streams depths →
     WiresAt more wires d → AllAt more (streams ++ wires ∷ []) (depths ++ d ∷ [])
 all_more ops more streams depths wires d long e at new = λ j. elim (cases_lt j (length streams)) [
-    inl lt ↦ place j (wires_at streams j) (depths_at depths j) (at_earlier streams wires none j lt) (at_earlier depths d no_depths j (omega arith)) (wires_more ops more (wires_at streams j) (depths_at depths j) e (at j))
+  | inl lt ↦ place j (wires_at streams j) (depths_at depths j) (at_earlier streams wires none j lt) (at_earlier depths d no_depths j (omega arith)) (wires_more ops more (wires_at streams j) (depths_at depths j) e (at j))
   | inr le ↦ elim (cases_eq j (length streams)) [
-      inl here ↦ place j wires d (at_last streams wires none j here) (at_last depths d no_depths j (here ∙ long)) new
+    | inl here ↦ place j wires d (at_last streams wires none j here) (at_last depths d no_depths j (here ∙ long)) new
     | inr past ↦
         place j none no_depths (at_past (streams ++ wires ∷ []) none j (let l = length_push streams wires in omega arith)) (at_past (depths ++ d ∷ []) no_depths j (let l = length_push depths d in omega arith))
         (record { present = number_at more 0; columns = tt })
-    ]
   ]
+]
   where
     none : StreamWires
     none = record { present = Number 0; columns = [] }
@@ -360,7 +362,7 @@ all_make folds ops streams depths (one ∷ list) made long at =
     let wires : StreamWires = (made_by folds streams one.op ops).wires in
     let m : Makes ops more wires d = op_makes folds ops streams depths one.op made at in
     let rest : AllMakes folds more (streams ++ wires ∷ []) (depths ++ d ∷ []) list =
-      all_make folds more (streams ++ wires ∷ []) (depths ++ d ∷ []) list m.added.made (length_push streams wires ∙ ap (λ n. n + 1) long ∙ sym (length_push depths d)) (all_more ops more streams depths wires d long m.added.extends at m.wires_are)
+    all_make folds more (streams ++ wires ∷ []) (depths ++ d ∷ []) list m.added.made (length_push streams wires ∙ ap (λ n. n + 1) long ∙ sym (length_push depths d)) (all_more ops more streams depths wires d long m.added.extends at m.wires_are)
     in
     record {
       added = added_then ops more (all_made folds ops streams (one ∷ list)).ops d.operations (flat_map (λ d. d.operations) (depths_after folds (depths ++ d ∷ []) list)) m.added rest.added;
@@ -374,9 +376,9 @@ deep_stages (one ∷ ops) = ap (λ b. nat_lt 64 one.stage || b) (deep_stages ops
 
 deep_one : (d : ℕ) → nat_lt 64 (min 65 d) ≡ nat_lt 64 d
 deep_one d = elim (cases_lt 64 d) [
-    inl lt ↦ (let a : nat_lt 64 (min 65 d) ≡ true = (let m : 64 < min 65 d = omega arith in grind (arith, nat_tests)) in let b : nat_lt 64 d ≡ true = grind (arith, nat_tests) in a ∙ sym b)
+  | inl lt ↦ (let a : nat_lt 64 (min 65 d) ≡ true = (let m : 64 < min 65 d = omega arith in grind (arith, nat_tests)) in let b : nat_lt 64 d ≡ true = grind (arith, nat_tests) in a ∙ sym b)
   | inr le ↦ (let a : nat_lt 64 (min 65 d) ≡ false = (let m : min 65 d ≤ 64 = omega arith in grind (arith, nat_tests)) in let b : nat_lt 64 d ≡ false = grind (arith, nat_tests) in a ∙ sym b)
-  ]
+]
 
 deep_capped : (depths : List ℕ) → list_any (λ s. nat_lt 64 s) (capped depths) ≡ is_too_deep depths
 deep_capped [] = refl

@@ -29,8 +29,8 @@ found_from f (suc tries) d before enough = pick (is_enough f d) refl (found_from
     pick false now later =
         let same : d + suc tries ≡ suc d + tries = omega arith in
         later (λ e lt. elim (cases_eq e d) [
-          inl here ↦ subst (λ n. is_enough f n ≡ false) (sym here) now
-        | inr other ↦ before e (omega arith)
+          | inl here ↦ subst (λ n. is_enough f n ≡ false) (sym here) now
+          | inr other ↦ before e (omega arith)
         ]) (subst (λ n. is_enough f n ≡ true) same enough)
 
 pub depth_is : (f : TypedFold) (d : ℕ) → IsDepth f d → d ≡ depth_of f
@@ -111,11 +111,11 @@ grouped_more folds all old xs i x o lt is one before = go (taking_of x.op) o ref
         record {
           rest = ap (λ n. drop n all) long ∙ at.next;
           sound = λ j s g there here. elim (push_cases old group j g here) [
-            inl earlier ↦ before.sound j s g there earlier
-          | inr last ↦
-              let same : t ≡ s = same_Some t s (sym at.found ∙ ap (slice_get all) (sym last.0) ∙ there) in
-              let P : Taking → Type 0 = λ y. IsGroupFor folds y.fold_number (length y.keys) (length y.args) g in
-              subst P same (subst (λ y. IsGroupFor folds t.fold_number (length t.keys) (length t.args) y) last.1 h)
+            | inl earlier ↦ before.sound j s g there earlier
+            | inr last ↦
+                let same : t ≡ s = same_Some t s (sym at.found ∙ ap (slice_get all) (sym last.0) ∙ there) in
+                let P : Taking → Type 0 = λ y. IsGroupFor folds y.fold_number (length y.keys) (length y.args) g in
+                subst P same (subst (λ y. IsGroupFor folds t.fold_number (length t.keys) (length t.args) y) last.1 h)
           ];
           few = omega (arith, at.within);
         }

@@ -88,7 +88,7 @@ pub reads_are : (q : TypedQuery) (columns : List (List Source)) (streams : List 
     bits ≡ fold (λ b one. marked_op columns b one.op) 0 streams → fields.bits ≡ bits → fields ≡ field_set (read_fields q)
 reads_are q columns streams bits fields same list is has =
     let all : fields.bits ≡ (field_set (read_fields q)).bits =
-      has ∙ is ∙ ap (λ c. fold (λ b one. marked_op c b one.op) 0 streams) same ∙ ap (λ l. fold (λ b one. marked_op (all_sources q) b one.op) 0 l) list ∙ query_marks q
+    has ∙ is ∙ ap (λ c. fold (λ b one. marked_op c b one.op) 0 streams) same ∙ ap (λ l. fold (λ b one. marked_op (all_sources q) b one.op) 0 l) list ∙ query_marks q
     in
     set_is fields all
   where

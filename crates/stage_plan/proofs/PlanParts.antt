@@ -109,7 +109,7 @@ module _ (q : TypedQuery) (valid : IsValidQuery q) (ops : List PlanOp) (streams 
       let r = kept c.one.right (within_more (14 + c.number) (14 + length ops) c.one.right (omega arith) m.right) in
       let low : c.one.stage ≤ 64 = each_shallow ops c.number c.one made.none c.found in
       let stage : c.one.stage ≡ suc (max (operand_stage sorted (moved registers c.one.left)) (operand_stage sorted (moved registers c.one.right))) =
-        (let a = m.stage in let b = l.stage in let d = r.stage in omega arith)
+      (let a = m.stage in let b = l.stage in let d = r.stage in omega arith)
       in
       let here : slice_get sorted k ≡ Some (moved_op registers c.one) = e ∙ ap Some c.is in
       subst (IsSoundOp sorted k) (sym c.is) (record {
@@ -154,8 +154,8 @@ module _ (q : TypedQuery) (valid : IsValidQuery q) (ops : List PlanOp) (streams 
           let a : map (operand_value row) (map (λ slot. moved registers (operand_at source.columns slot)) t.keys) ≡ values_at values t.keys = words t.keys ∙ ap (λ l. values_at l t.keys) m.1 in
           let b : map (operand_value row) (map (λ slot. moved registers (operand_at source.columns slot)) t.args) ≡ values_at values t.args = words t.args ∙ ap (λ l. values_at l t.args) m.1 in
           sym (
-            ap (λ b. if b then Some (record { key = map (operand_value row) (map (λ slot. moved registers (operand_at source.columns slot)) t.keys); row = map (operand_value row) (map (λ slot. moved registers (operand_at source.columns slot)) t.args) }) else None) (present true m.0)
-            ∙ made_taken _ _ _ _ a b
+          ap (λ b. if b then Some (record { key = map (operand_value row) (map (λ slot. moved registers (operand_at source.columns slot)) t.keys); row = map (operand_value row) (map (λ slot. moved registers (operand_at source.columns slot)) t.args) }) else None) (present true m.0)
+          ∙ made_taken _ _ _ _ a b
           )
 
   packet_taken : (t : Taking) (words : List ℕ) → length words ≡ 14 → option_map (row_taken t) (row_at (all_rows q words) t.input) ≡ taken_at (wiring_of registers streams t) (after sorted words (stages_of sorted))
@@ -165,14 +165,14 @@ module _ (q : TypedQuery) (valid : IsValidQuery q) (ops : List PlanOp) (streams 
       let fields : 14 ≤ length row = (let l = filled.long in omega arith) in
       let solved : Solved ops (unmoved ops (stages_of ops) staged registers placed long row) = unmoved_solved ops (stages_of ops) staged registers placed long row fields (record { each = filled.each }) in
       let start : Matched (unmoved ops (stages_of ops) staged registers placed long row) (packet_wires ∷ []) (Some words ∷ []) =
-        packets_matched (unmoved ops (stages_of ops) staged registers placed long row) words (unmoved_long ops (stages_of ops) staged registers placed long row fields) (unmoved_front ops (stages_of ops) staged registers placed long row fields ∙ filled.front)
+      packets_matched (unmoved ops (stages_of ops) staged registers placed long row) words (unmoved_long ops (stages_of ops) staged registers placed long row fields) (unmoved_front ops (stages_of ops) staged registers placed long row fields ∙ filled.front)
       in
       let matched : Matched (unmoved ops (stages_of ops) staged registers placed long row) (all_made q.folds [] (packet_wires ∷ []) q.streams).streams (all_rows q words) =
-        all_matched (unmoved ops (stages_of ops) staged registers placed long row) q.folds q.streams [] (packet_wires ∷ []) (Some words ∷ []) start
-        (let P : List PlanOp → Type 0 = λ l. Solved l (unmoved ops (stages_of ops) staged registers placed long row) in subst P ops_are solved)
+      all_matched (unmoved ops (stages_of ops) staged registers placed long row) q.folds q.streams [] (packet_wires ∷ []) (Some words ∷ []) start
+      (let P : List PlanOp → Type 0 = λ l. Solved l (unmoved ops (stages_of ops) staged registers placed long row) in subst P ops_are solved)
       in
       let here : Matches (unmoved ops (stages_of ops) staged registers placed long row) (wires_at streams t.input) (row_at (all_rows q words) t.input) =
-        (let P : List StreamWires → Type 0 = λ l. Matches (unmoved ops (stages_of ops) staged registers placed long row) (wires_at l t.input) (row_at (all_rows q words) t.input) in subst P (sym streams_are) (matched.each t.input))
+      (let P : List StreamWires → Type 0 = λ l. Matches (unmoved ops (stages_of ops) staged registers placed long row) (wires_at l t.input) (row_at (all_rows q words) t.input) in subst P (sym streams_are) (matched.each t.input))
       in
       taken_is row t (wires_at streams t.input) (row_at (all_rows q words) t.input) fields here
 
@@ -180,12 +180,12 @@ module _ (q : TypedQuery) (valid : IsValidQuery q) (ops : List PlanOp) (streams 
   same_stages : stages_of sorted ≡ stages_of ops
   same_stages =
       let a : stages_of sorted ≤ stages_of ops = stages_within sorted (stages_of ops) (λ k new e.
-        let c : Comes ops (stages_of ops) staged registers placed long k new = comes ops (stages_of ops) staged registers placed long k new e in
-        let s : new.stage ≡ c.one.stage = ap (λ (x : PlanOp). x.stage) c.is in
-        omega (arith, stage_below ops c.number c.one c.found)) in
+      let c : Comes ops (stages_of ops) staged registers placed long k new = comes ops (stages_of ops) staged registers placed long k new e in
+      let s : new.stage ≡ c.one.stage = ap (λ (x : PlanOp). x.stage) c.is in
+      omega (arith, stage_below ops c.number c.one c.found)) in
       let b : stages_of ops ≤ stages_of sorted = stages_within ops (stages_of sorted) (λ i one e.
-        let st : Stands ops (stages_of ops) staged registers placed long i one = stands ops (stages_of ops) staged registers placed long i one e in
-        stage_below sorted st.place (moved_op registers one) st.found) in
+      let st : Stands ops (stages_of ops) staged registers placed long i one = stands ops (stages_of ops) staged registers placed long i one e in
+      stage_below sorted st.place (moved_op registers one) st.found) in
       omega arith
 
   same_count : (stage : ℕ) → count_by (λ depth. depth == stage) (stages sorted) ≡ count_by (λ depth. depth == stage) (query_depths q)
@@ -224,12 +224,12 @@ module _ (q : TypedQuery) (valid : IsValidQuery q) (ops : List PlanOp) (streams 
 
     takes_are : (i : ℕ) (packets : List (List ℕ)) → i < length groups → All (λ words. length words ≡ 14) packets → uses q i packets ≡ uses_taken 1 (map (taken parts i) packets)
     takes_are i packets lt all14 = elim ((slice_get_cases (takings q.streams) i).1) [
-        inl found ↦
+      | inl found ↦
           let t : Taking = found.0 in
           let w : wiring_at parts i ≡ wiring_of registers streams t = ap (λ o. unwrap_or o (record { present = Number 0; keys = []; args = [] })) (wiring_is i t found.2) in
           uses_are q i t (taken parts i) found.2 (λ words words_long. packet_taken t words words_long ∙ ap (λ x. taken_at x (after sorted words (stages_of sorted))) (sym w)) packets all14
       | inr past ↦ absurd (omega arith)
-      ]
+    ]
 
     programs_are : (i : ℕ) (f : TypedFold) (group : GroupPlan) → fold_at q i ≡ Some f → slice_get groups i ≡ Some group → IsProgramOf f group.program
     programs_are i f group e g = go (slice_get (takings q.streams) i) refl
@@ -252,14 +252,14 @@ module _ (q : TypedQuery) (valid : IsValidQuery q) (ops : List PlanOp) (streams 
 
     sound_group : (i : ℕ) (group : GroupPlan) (wiring : GroupWiring) → slice_get groups i ≡ Some group → slice_get parts.wiring i ≡ Some wiring → IsSoundGroup (14 + length sorted) group wiring
     sound_group i group wiring g e = elim ((slice_get_cases (takings q.streams) i).1) [
-        inl found ↦
+      | inl found ↦
           let t : Taking = found.0 in
           let w : wiring ≡ wiring_of registers streams t = same_Some wiring (wiring_of registers streams t) (sym e ∙ wiring_is i t found.2) in
           let h : IsGroupFor q.folds t.fold_number (length t.keys) (length t.args) group = sound i t group found.2 g in
           let at = made.within t.input in
           let source : StreamWires = wires_at streams t.input in
           let column : (slot : ℕ) → IsWithin (14 + length sorted) (moved registers (operand_at source.columns slot)) =
-            λ slot. (kept (operand_at source.columns slot) (column_is ops source.columns at.0.columns slot at.1.columns).within).within
+          λ slot. (kept (operand_at source.columns slot) (column_is ops source.columns at.0.columns slot at.1.columns).within).within
           in
           let keys : length (wiring_of registers streams t).keys ≡ length t.keys = length-map t.keys (λ slot. moved registers (operand_at source.columns slot)) in
           let args : length (wiring_of registers streams t).args ≡ length t.args = length-map t.args (λ slot. moved registers (operand_at source.columns slot)) in
@@ -276,7 +276,7 @@ module _ (q : TypedQuery) (valid : IsValidQuery q) (ops : List PlanOp) (streams 
             arg_registers = all_map (IsWithin (14 + length sorted)) (λ slot. moved registers (operand_at source.columns slot)) t.args column;
           })
       | inr past ↦ absurd (let n = slice_get_within groups i group g in omega arith)
-      ]
+    ]
 
     pub sound_plan : IsSoundPlan parts
     sound_plan = record {

@@ -68,9 +68,9 @@ pub record IsPut (q : TypedQuery) (plan : PlanParts) : Type 0 where
 pub put : (q : TypedQuery) (ops : List PlanOp) (streams : List StreamWires) (order registers : List ℕ) (new : List PlanOp) (wiring : List GroupWiring) (groups : List GroupPlan) (reads : FieldSet) →
     PartsOf q ops streams order registers new wiring groups reads → IsPut q (record { reads = reads; ops = new; groups = groups; wiring = wiring })
 put q ops streams order registers new wiring groups reads p = subst (IsPut q) same (record {
-    is_plan = is_plan q p.made.valid ops streams made p.made.ops_are p.made.streams_are p.made.few registers placed p.long groups p.shapes p.sound p.count reads p.reads_are;
-    is_sound = sound_plan q p.made.valid ops streams made p.made.ops_are p.made.streams_are p.made.few registers placed p.long groups p.shapes p.sound p.count reads p.reads_are;
-  })
+  is_plan = is_plan q p.made.valid ops streams made p.made.ops_are p.made.streams_are p.made.few registers placed p.long groups p.shapes p.sound p.count reads p.reads_are;
+  is_sound = sound_plan q p.made.valid ops streams made p.made.ops_are p.made.streams_are p.made.few registers placed p.long groups p.shapes p.sound p.count reads p.reads_are;
+})
   where
     made : QueryMade q ops streams
     made = made_query q ops streams p.made

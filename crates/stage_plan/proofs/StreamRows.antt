@@ -82,7 +82,7 @@ filter_are : (condition : TypedExpr) (f : List ℕ → Row) (n : ℕ) (packets :
     filter_stream condition (tuples f n packets) ≡ tuples (λ words. filter_row condition (f words)) n packets
 filter_are condition f n [] = refl
 filter_are condition f n (words ∷ packets) = go (f words)
-  (filter_are condition f (suc n) packets)
+    (filter_are condition f (suc n) packets)
   where
     go : (o : Row) → filter_stream condition (tuples f (suc n) packets) ≡ tuples (λ words. filter_row condition (f words)) (suc n) packets →
         filter_stream condition (tuple_of n o ++ tuples f (suc n) packets) ≡ tuple_of n (filter_row condition o) ++ tuples (λ words. filter_row condition (f words)) (suc n) packets
@@ -231,17 +231,17 @@ rows_more : (packets : List (List ℕ)) (streams : List (List Tuple)) (rows : Li
 rows_more packets streams rows made row are is = record {
   long = λ words. length_push (rows words) (row words) ∙ ap (λ n. n + 1) (are.long words) ∙ sym (length_push streams made);
   each = λ j. elim (cases_lt j (length streams)) [
-    inl lt ↦
-      at_earlier streams made [] j lt ∙ are.each j
-      ∙ same_tuples (λ words. row_at (rows words) j) (λ words. row_at (rows words ++ row words ∷ []) j) (λ words. sym (at_earlier (rows words) (row words) None j (let l = are.long words in omega arith))) 1 packets
-  | inr le ↦ elim (cases_eq j (length streams)) [
-      inl here ↦
-        at_last streams made [] j here ∙ is
-        ∙ same_tuples row (λ words. row_at (rows words ++ row words ∷ []) j) (λ words. sym (at_last (rows words) (row words) None j (here ∙ sym (are.long words)))) 1 packets
-    | inr past ↦
-        at_past (streams ++ made ∷ []) [] j (let l = length_push streams made in omega arith)
-        ∙ none_are 1 packets
-        ∙ same_tuples (λ words. None) (λ words. row_at (rows words ++ row words ∷ []) j) (λ words. sym (at_past (rows words ++ row words ∷ []) None j (let l = length_push (rows words) (row words) in let k = are.long words in omega arith))) 1 packets
+    | inl lt ↦
+        at_earlier streams made [] j lt ∙ are.each j
+        ∙ same_tuples (λ words. row_at (rows words) j) (λ words. row_at (rows words ++ row words ∷ []) j) (λ words. sym (at_earlier (rows words) (row words) None j (let l = are.long words in omega arith))) 1 packets
+    | inr le ↦ elim (cases_eq j (length streams)) [
+      | inl here ↦
+          at_last streams made [] j here ∙ is
+          ∙ same_tuples row (λ words. row_at (rows words ++ row words ∷ []) j) (λ words. sym (at_last (rows words) (row words) None j (here ∙ sym (are.long words)))) 1 packets
+      | inr past ↦
+          at_past (streams ++ made ∷ []) [] j (let l = length_push streams made in omega arith)
+          ∙ none_are 1 packets
+          ∙ same_tuples (λ words. None) (λ words. row_at (rows words ++ row words ∷ []) j) (λ words. sym (at_past (rows words ++ row words ∷ []) None j (let l = length_push (rows words) (row words) in let k = are.long words in omega arith))) 1 packets
     ]
   ];
 }

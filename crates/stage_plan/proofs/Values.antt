@@ -111,7 +111,7 @@ compiled_value registers columns (Read slot) ops s = column_value registers colu
 compiled_value registers columns (Negation e) ops s =
     solved_last (compiled columns e ops).ops (op_on (compiled columns e ops).ops Not (compiled columns e ops).value (Number 0)) registers s
     ∙ ap (λ x. flag (not (holds x))) (compiled_value registers columns e ops
-      (solved_before (compiled columns e ops).ops (compiled columns (Negation e) ops).ops registers (one_more (compiled columns e ops).ops (op_on (compiled columns e ops).ops Not (compiled columns e ops).value (Number 0))) s))
+    (solved_before (compiled columns e ops).ops (compiled columns (Negation e) ops).ops registers (one_more (compiled columns e ops).ops (op_on (compiled columns e ops).ops Not (compiled columns e ops).value (Number 0))) s))
 compiled_value registers columns (Operation op a b) ops s =
     solved_last after_b last registers s
     ∙ ap (λ x. op_value op x (operand_value registers (compiled columns b (compiled columns a ops).ops).value)) (compiled_value registers columns a ops (solved_before (compiled columns a ops).ops after_b registers (compiled_extends columns b (compiled columns a ops).ops) at_b))
@@ -135,7 +135,7 @@ all_values registers columns found (e ∷ values) ops s =
     ∙ ap (λ l. l ++ map (λ e. expr_value e (map (operand_value registers) columns)) values) (map-append (operand_value registers) found ((compiled columns (term_of e) ops).value ∷ []))
     ∙ append_assoc (map (operand_value registers) found) (operand_value registers (compiled columns (term_of e) ops).value ∷ []) (map (λ e. expr_value e (map (operand_value registers) columns)) values)
     ∙ ap (λ x. map (operand_value registers) found ++ x ∷ map (λ e. expr_value e (map (operand_value registers) columns)) values) (compiled_value registers columns (term_of e) ops
-      (solved_before (compiled columns (term_of e) ops).ops (compiled_all columns found (map term_of (e ∷ values)) ops).ops registers (all_extend columns (found ++ (compiled columns (term_of e) ops).value ∷ []) (map term_of values) (compiled columns (term_of e) ops).ops) s))
+    (solved_before (compiled columns (term_of e) ops).ops (compiled_all columns found (map term_of (e ∷ values)) ops).ops registers (all_extend columns (found ++ (compiled columns (term_of e) ops).value ∷ []) (map term_of values) (compiled columns (term_of e) ops).ops) s))
 
 -- a stream's operands against its row for the packet
 abbrev pub Matches : List ℕ → StreamWires → Row → Type 0
@@ -160,7 +160,7 @@ conditioned_holds : (registers : List ℕ) (over : List Operand) (condition : Te
 conditioned_holds registers over condition ops present columns s =
     joined_holds registers (compiled over condition ops).ops present (compiled over condition ops).value columns s
     ∙ ap (λ x. holds (operand_value registers present) && holds x) (compiled_value registers over condition ops
-      (solved_before (compiled over condition ops).ops (conditioned over condition ops present columns).ops registers (one_more (compiled over condition ops).ops (op_on (compiled over condition ops).ops (Two Both) present (compiled over condition ops).value)) s))
+    (solved_before (compiled over condition ops).ops (conditioned over condition ops present columns).ops registers (one_more (compiled over condition ops).ops (op_on (compiled over condition ops).ops (Two Both) present (compiled over condition ops).value)) s))
 
 and_false : (a b : Bool) → a ≡ false → (a && b) ≡ false
 and_false true b e = cc
@@ -204,8 +204,8 @@ zip_matches registers left right slots ops (Some row) None m n s =
 zip_matches registers left right slots ops (Some row) (Some other) m n s = (
   joined_holds registers ops left.present right.present (left.columns ++ map (operand_at right.columns) slots) s ∙ and_true _ _ m.0 ∙ n.0,
   map-append (operand_value registers) left.columns (map (operand_at right.columns) slots)
-  ∙ ap (λ l. l ++ map (operand_value registers) (map (operand_at right.columns) slots)) m.1
-  ∙ ap (λ l. row ++ l) (columns_value registers right.columns slots ∙ ap (λ l. values_at l slots) n.1),
+      ∙ ap (λ l. l ++ map (operand_value registers) (map (operand_at right.columns) slots)) m.1
+      ∙ ap (λ l. row ++ l) (columns_value registers right.columns slots ∙ ap (λ l. values_at l slots) n.1),
 )
 
 numbers_value : (registers initial : List ℕ) → map (operand_value registers) (map Number initial) ≡ initial
@@ -284,12 +284,12 @@ matched_more : (registers : List ℕ) (streams : List StreamWires) (rows : List 
 matched_more registers streams rows wires row m new = record {
   long = length_push streams wires ∙ ap (λ n. n + 1) m.long ∙ sym (length_push rows row);
   each = λ j. elim (cases_lt j (length rows)) [
-    inl lt ↦ at j (wires_at streams j) (row_at rows j) (at_earlier streams wires none j (let l = m.long in omega arith)) (at_earlier rows row None j lt) (m.each j)
-  | inr le ↦ elim (cases_eq j (length rows)) [
-      inl here ↦ at j wires row (at_last streams wires none j (here ∙ sym m.long)) (at_last rows row None j here) new
-    | inr past ↦
-        at j none None (at_past (streams ++ wires ∷ []) none j (let l = length_push streams wires in let k = m.long in omega arith))
-        (at_past (rows ++ row ∷ []) None j (let l = length_push rows row in omega arith)) refl
+    | inl lt ↦ at j (wires_at streams j) (row_at rows j) (at_earlier streams wires none j (let l = m.long in omega arith)) (at_earlier rows row None j lt) (m.each j)
+    | inr le ↦ elim (cases_eq j (length rows)) [
+      | inl here ↦ at j wires row (at_last streams wires none j (here ∙ sym m.long)) (at_last rows row None j here) new
+      | inr past ↦
+          at j none None (at_past (streams ++ wires ∷ []) none j (let l = length_push streams wires in let k = m.long in omega arith))
+          (at_past (rows ++ row ∷ []) None j (let l = length_push rows row in omega arith)) refl
     ]
   ];
 }
@@ -307,8 +307,8 @@ all_matched registers folds [] ops streams rows m s = m
 all_matched registers folds (one ∷ list) ops streams rows m s =
     all_matched registers folds list (made_by folds streams one.op ops).ops (streams ++ (made_by folds streams one.op ops).wires ∷ []) (rows ++ row_made folds rows one.op ∷ [])
     (matched_more registers streams rows (made_by folds streams one.op ops).wires (row_made folds rows one.op) m (made_matches registers folds streams rows one.op ops m
-      (solved_before (made_by folds streams one.op ops).ops (all_made folds ops streams (one ∷ list)).ops registers
-        (all_made_extends folds (made_by folds streams one.op ops).ops (streams ++ (made_by folds streams one.op ops).wires ∷ []) list) s)))
+    (solved_before (made_by folds streams one.op ops).ops (all_made folds ops streams (one ∷ list)).ops registers
+    (all_made_extends folds (made_by folds streams one.op ops).ops (streams ++ (made_by folds streams one.op ops).wires ∷ []) list) s)))
     s
 
 -- the packet's columns are the first registers

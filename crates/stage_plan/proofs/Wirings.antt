@@ -34,6 +34,6 @@ pub sound_group : (plan : PlanParts) (groups : List GroupPlan) (i : ℕ) (group 
 sound_group plan groups i group sound same found =
     let here : slice_get plan.groups i ≡ Some group = ap (λ l. slice_get l i) (sym same) ∙ found in
     elim ((slice_get_cases plan.wiring i).1) [
-      inl there ↦ (there.0, sound.each i group there.0 here there.2)
-    | inr past ↦ absurd (let lt = slice_get_within plan.groups i group here in let w = sound.wired in omega arith)
+      | inl there ↦ (there.0, sound.each i group there.0 here there.2)
+      | inr past ↦ absurd (let lt = slice_get_within plan.groups i group here in let w = sound.wired in omega arith)
     ]

@@ -32,10 +32,7 @@ fn source_of(columns: &[Option<Field>], slot: u16) -> Option<Field>
 }
 
 // The columns of the stream with a number, which a valid query has.
-fn columns_of(
-    streams: &[Seq<Option<Field>>],
-    number: u16,
-) -> Result<&[Option<Field>], AllocError>
+fn columns_of(streams: &[Seq<Option<Field>>], number: u16) -> Result<&[Option<Field>], AllocError>
     ensures { IfOk result (λ columns. columns.now ≡ sources_at streams.now number) }
 {
     match streams.get(number as usize) {
@@ -66,10 +63,7 @@ fn copy(alloc: Global, columns: &[Option<Field>]) -> Result<Seq<Option<Field>>, 
 }
 
 // As many columns more that are no fields.
-fn push_made(
-    into: &mut Seq<Option<Field>>,
-    values: &[TypedExpr],
-) -> Result<(), AllocError>
+fn push_made(into: &mut Seq<Option<Field>>, values: &[TypedExpr]) -> Result<(), AllocError>
     ensures { OnOk result (into.new ≡ into.old ++ map (λ _. None) values.now) }
 {
     for _value in values {
@@ -107,10 +101,7 @@ fn make_columns(
 }
 
 // Where the columns of all streams come from.
-fn make_all_columns(
-    alloc: Global,
-    q: &TypedQuery,
-) -> Result<Seq<Seq<Option<Field>>>, AllocError>
+fn make_all_columns(alloc: Global, q: &TypedQuery) -> Result<Seq<Seq<Option<Field>>>, AllocError>
     ensures { IfOk result (λ streams. streams ≡ all_sources q.now) }
 {
     let mut streams = Seq::new(alloc);
@@ -170,11 +161,7 @@ fn mark_exprs(bits: u16, columns: &[Option<Field>], values: &[TypedExpr]) -> u16
 }
 
 // What an operator names.
-fn mark_op(
-    bits: u16,
-    streams: &[Seq<Option<Field>>],
-    op: &TypedOp,
-) -> Result<u16, AllocError>
+fn mark_op(bits: u16, streams: &[Seq<Option<Field>>], op: &TypedOp) -> Result<u16, AllocError>
     ensures { IfOk result (λ all. all ≡ marked_op streams.now bits op.now) }
 {
     match op {
@@ -196,10 +183,7 @@ fn mark_op(
 }
 
 // What all streams name.
-fn mark_all(
-    columns: &[Seq<Option<Field>>],
-    streams: &[TypedStream],
-) -> Result<u16, AllocError>
+fn mark_all(columns: &[Seq<Option<Field>>], streams: &[TypedStream]) -> Result<u16, AllocError>
     ensures { IfOk result (λ bits. bits ≡ fold (λ b one. marked_op columns.now b one.op) 0 streams.now) }
 {
     let mut bits = 0;

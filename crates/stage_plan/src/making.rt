@@ -80,11 +80,7 @@ pub(crate) fn column_at(columns: &[Operand], slot: u16) -> Operand
 }
 
 // The operations of an expression over columns, and its operand.
-fn compile(
-    ops: &mut Seq<PlanOp>,
-    columns: &[Operand],
-    e: &TypedExpr,
-) -> Result<Operand, AllocError>
+fn compile(ops: &mut Seq<PlanOp>, columns: &[Operand], e: &TypedExpr) -> Result<Operand, AllocError>
     requires { length ops.old ≤ 32768 }
     ensures ops { OnOk result (ops.new ≡ (compiled columns.now (term_of e.now) ops.old).ops) }
     ensures value { IfOk result (λ value. value ≡ (compiled columns.now (term_of e.now) ops.old).value) }
@@ -271,7 +267,12 @@ pub(crate) fn make_group(
             columns,
         }),
         Some(condition) => {
-            let over = columns_of_emit(alloc, f.initial.as_slice(), input.columns.as_slice(), args)?;
+            let over = columns_of_emit(
+                alloc,
+                f.initial.as_slice(),
+                input.columns.as_slice(),
+                args,
+            )?;
             make_condition(ops, over.as_slice(), condition, input.present, columns)
         }
     }

@@ -75,7 +75,12 @@ fn push_group(alloc: Global, text: &mut Text, group: &GroupPlan) -> Result<(), A
     text.push_slice(group.name.as_slice())?;
     text.push(b' ')?;
     let program = &group.program;
-    push_counted(alloc, text, word_of(program.class), u64::from(program.depth))?;
+    push_counted(
+        alloc,
+        text,
+        word_of(program.class),
+        u64::from(program.depth),
+    )?;
     push_counted(alloc, text, b" keys", group.key_names.len() as u64)?;
     push_counted(alloc, text, b" args", u64::from(program.layout.args))?;
     push_line(alloc, text, b" states", group.state_names.len() as u64)?;

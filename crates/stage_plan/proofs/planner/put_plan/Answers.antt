@@ -17,24 +17,24 @@ registers_in-requires-clause-few c =
 pub of-plan-requires : goal.of-plan-requires
 of-plan-requires c =
     (put_from c.args.q.now c.args.made.now.ops c.as_slice-ops.result.now c.args.made.now.streams c.as_slice-5.result.now c.as_slice-4.result.now c.greatest_stage.result
-      c.in_ok-order.order c.as_slice.result.now c.as_slice-2.result.now c.in_ok-registers.registers c.as_slice-3.result.now c.as_slice-6.result.now
-      c.in_ok-sorted.sorted c.in_ok-wiring.wiring c.in_ok-groups.groups c.in_ok-reads.reads
-      (record { valid = c.requires.valid; ops_are = c.requires.ops; streams_are = c.requires.streams; fits = c.requires.fits; few = c.requires.few })
-      c.as_slice-ops.ensures c.greatest_stage.ensures c.in_ok-order.ensures c.as_slice.ensures c.in_ok-registers.ensures.placed c.in_ok-registers.ensures.long
-      c.as_slice-2.ensures c.as_slice-3.ensures c.in_ok-sorted.ensures
-      c.as_slice-4.ensures c.as_slice-5.ensures c.as_slice-6.ensures c.in_ok-wiring.ensures
-      c.in_ok-groups.ensures.shapes c.in_ok-groups.ensures.sound c.in_ok-groups.ensures.all c.in_ok-reads.ensures).is_sound
+    c.in_ok-order.order c.as_slice.result.now c.as_slice-2.result.now c.in_ok-registers.registers c.as_slice-3.result.now c.as_slice-6.result.now
+    c.in_ok-sorted.sorted c.in_ok-wiring.wiring c.in_ok-groups.groups c.in_ok-reads.reads
+    (record { valid = c.requires.valid; ops_are = c.requires.ops; streams_are = c.requires.streams; fits = c.requires.fits; few = c.requires.few })
+    c.as_slice-ops.ensures c.greatest_stage.ensures c.in_ok-order.ensures c.as_slice.ensures c.in_ok-registers.ensures.placed c.in_ok-registers.ensures.long
+    c.as_slice-2.ensures c.as_slice-3.ensures c.in_ok-sorted.ensures
+    c.as_slice-4.ensures c.as_slice-5.ensures c.as_slice-6.ensures c.in_ok-wiring.ensures
+    c.in_ok-groups.ensures.shapes c.in_ok-groups.ensures.sound c.in_ok-groups.ensures.all c.in_ok-reads.ensures).is_sound
 
 pub returns : goal.returns
 returns c =
     let p : IsPut c.args.q.now _ =
-      put_from c.args.q.now c.args.made.now.ops c.as_slice-ops.result.now c.args.made.now.streams c.as_slice-5.result.now c.as_slice-4.result.now c.greatest_stage.result
-      c.in_ok-order.order c.as_slice.result.now c.as_slice-2.result.now c.in_ok-registers.registers c.as_slice-3.result.now c.as_slice-6.result.now
-      c.in_ok-sorted.sorted c.in_ok-wiring.wiring c.in_ok-groups.groups c.in_ok-reads.reads
-      (record { valid = c.requires.valid; ops_are = c.requires.ops; streams_are = c.requires.streams; fits = c.requires.fits; few = c.requires.few })
-      c.as_slice-ops.ensures c.greatest_stage.ensures c.in_ok-order.ensures c.as_slice.ensures c.in_ok-registers.ensures.placed c.in_ok-registers.ensures.long
-      c.as_slice-2.ensures c.as_slice-3.ensures c.in_ok-sorted.ensures
-      c.as_slice-4.ensures c.as_slice-5.ensures c.as_slice-6.ensures c.in_ok-wiring.ensures
-      c.in_ok-groups.ensures.shapes c.in_ok-groups.ensures.sound c.in_ok-groups.ensures.all c.in_ok-reads.ensures
+    put_from c.args.q.now c.args.made.now.ops c.as_slice-ops.result.now c.args.made.now.streams c.as_slice-5.result.now c.as_slice-4.result.now c.greatest_stage.result
+    c.in_ok-order.order c.as_slice.result.now c.as_slice-2.result.now c.in_ok-registers.registers c.as_slice-3.result.now c.as_slice-6.result.now
+    c.in_ok-sorted.sorted c.in_ok-wiring.wiring c.in_ok-groups.groups c.in_ok-reads.reads
+    (record { valid = c.requires.valid; ops_are = c.requires.ops; streams_are = c.requires.streams; fits = c.requires.fits; few = c.requires.few })
+    c.as_slice-ops.ensures c.greatest_stage.ensures c.in_ok-order.ensures c.as_slice.ensures c.in_ok-registers.ensures.placed c.in_ok-registers.ensures.long
+    c.as_slice-2.ensures c.as_slice-3.ensures c.in_ok-sorted.ensures
+    c.as_slice-4.ensures c.as_slice-5.ensures c.as_slice-6.ensures c.in_ok-wiring.ensures
+    c.in_ok-groups.ensures.shapes c.in_ok-groups.ensures.sound c.in_ok-groups.ensures.all c.in_ok-reads.ensures
     in
     rw c.of-plan.ensures p.is_plan
