@@ -10,3 +10,4 @@ pub mod Sorted
 pub mod PlanParts
 pub mod Putting
 pub mod Texts
+pub mod Chains

@@ -55,7 +55,7 @@ each_shallow (first ∷ ops) zero one none e =
     grind (arith, nat_tests)
 each_shallow (first ∷ ops) (suc i) one none e = each_shallow ops i one ((or_false (nat_lt 64 first.stage) (list_any (λ x. nat_lt 64 x.stage) ops) none).1) e
 
-stages_within : (xs : List PlanOp) (b : ℕ) → ((i : ℕ) (x : PlanOp) → slice_get xs i ≡ Some x → x.stage ≤ b) → stages_of xs ≤ b
+pub stages_within : (xs : List PlanOp) (b : ℕ) → ((i : ℕ) (x : PlanOp) → slice_get xs i ≡ Some x → x.stage ≤ b) → stages_of xs ≤ b
 stages_within [] b h = omega arith
 stages_within (x ∷ xs) b h = omega (arith, h 0 x refl, stages_within xs b (λ i y e. h (suc i) y e))
 

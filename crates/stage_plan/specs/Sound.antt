@@ -1,5 +1,5 @@
 -- What holds of the parts of each plan.
-use Rattle.std.specs.Prelude.{◌≡◌, ℕ, suc, ◌+◌, ◌<◌, ◌≤◌, max, List, length, All, slice_get, slice_index, Option, Some, None, ◌⊎◌}
+use Rattle.std.specs.Prelude.{◌≡◌, ℕ, suc, ◌+◌, ◌-◌, ◌<◌, ◌≤◌, max, List, length, All, slice_get, slice_index, Option, Some, None, ◌⊎◌}
 use Rattle.fold_class.specs.Program.{IsProgram}
 use Rattle.marple_base.specs.declared.field.FieldSet.{FieldSet}
 use Rattle.stage_plan.specs.declared.op.Operand.{Operand}
@@ -65,3 +65,22 @@ pub record IsChain (ops : List PlanOp) (numbers : List ℕ) : Type 0 where
   pub long : length numbers ≡ stages_of ops
   pub within : All (λ number. number < length ops) numbers
   pub linked : (i : ℕ) → i + 1 < length numbers → Follows (slice_get ops (slice_index numbers (i + 1))) (slice_index numbers i)
+
+-- the operand is the register of the operation with this number, which stands in this stage
+pub record IsNamed (ops : List PlanOp) (operand : Operand) (stage number : ℕ) : Type 0 where
+  pub register : operand ≡ Register (14 + number)
+  pub within : number < length ops
+  pub stage_is : operand_stage ops operand ≡ stage
+
+-- one operation reads the other, which stands in the stage before it
+pub record IsPrevious (ops : List PlanOp) (at number : ℕ) : Type 0 where
+  pub follows : Follows (slice_get ops at) number
+  pub within : number < length ops
+  pub stage_is : operand_stage ops (Register (14 + at)) ≡ suc (operand_stage ops (Register (14 + number)))
+
+-- a chain up to an operation
+pub record EndsAt (ops : List PlanOp) (numbers : List ℕ) (at : ℕ) : Type 0 where
+  pub long : length numbers ≡ operand_stage ops (Register (14 + at))
+  pub within : All (λ number. number < length ops) numbers
+  pub linked : (i : ℕ) → i + 1 < length numbers → Follows (slice_get ops (slice_index numbers (i + 1))) (slice_index numbers i)
+  pub last : slice_index numbers (length numbers - 1) ≡ at

@@ -3,6 +3,7 @@
 
 mod answer;
 mod bound;
+mod chain;
 mod fields;
 mod group;
 mod groups;

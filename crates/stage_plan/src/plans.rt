@@ -21,6 +21,7 @@ pub struct Plan {
     ops: Seq<PlanOp>,
     groups: Seq<GroupPlan>,
     wiring: Seq<GroupWiring>,
+    chain: Seq<u32>,
 }
 
 impl Model for Plan {
@@ -28,7 +29,7 @@ impl Model for Plan {
 
     ghost view = { λ p. record { reads = p.reads; ops = p.ops; groups = p.groups; wiring = p.wiring } };
 
-    ghost invariant = { λ p. IsSoundPlan (record { reads = p.reads; ops = p.ops; groups = p.groups; wiring = p.wiring }) };
+    ghost invariant = { λ p. IsSoundPlan (record { reads = p.reads; ops = p.ops; groups = p.groups; wiring = p.wiring }) × IsChain p.ops p.chain };
 }
 
 impl Plan {
@@ -38,8 +39,10 @@ impl Plan {
         ops: Seq<PlanOp>,
         groups: Seq<GroupPlan>,
         wiring: Seq<GroupWiring>,
+        chain: Seq<u32>,
     ) -> Plan
-        requires { IsSoundPlan (record { reads = reads; ops = ops; groups = groups; wiring = wiring }) }
+        requires sound { IsSoundPlan (record { reads = reads; ops = ops; groups = groups; wiring = wiring }) }
+        requires chain { IsChain ops chain }
         ensures { result ≡ record { reads = reads; ops = ops; groups = groups; wiring = wiring } }
     {
         Plan {
@@ -47,6 +50,7 @@ impl Plan {
             ops,
             groups,
             wiring,
+            chain,
         }
     }
 
@@ -125,6 +129,13 @@ impl Plan {
         ensures { result ≡ stages_of self.now.ops }
     {
         greatest_stage(self.ops.as_slice())
+    }
+
+    /// Numbers of operations, each an operand of the next: as many as there are stages.
+    pub fn chain(&self) -> &[u32]
+        ensures { IsChain self.now.ops result.now }
+    {
+        self.chain.as_slice()
     }
 
     /// How many operations stand in a stage.

@@ -1,0 +1,7 @@
+use Rattle.std.proofs.Common.{arith}
+use Rattle.std.proofs.lemmas.Bool.Decides.{nat_tests}
+use Rattle.stage_plan.proofs.Chains.{chain_is}
+use Rattle.stage_plan.proofs.chain.longest_chain.Goals as goal
+
+pub returns : goal.returns
+returns c = chain_is c.args.ops.now c.push_chain.new.chain _ c.requires (grind (arith, nat_tests)) c.in_ok-push_chain.ensures
