@@ -27,7 +27,7 @@ use Rattle.stage_plan.specs.Depths.{StreamDepths, query_depths}
 use Rattle.stage_plan.specs.Fields.{reads_of}
 use Rattle.stage_plan.specs.Grouping.{IsGroupFor, AreGroupsOf}
 use Rattle.stage_plan.specs.Making.{operand_at, wires_at, packet_wires, all_made, are_deep, made_fault}
-use Rattle.stage_plan.specs.Ordering.{order_of, ArePlaced, moved, moved_op, op_numbered, wired, wiring_of}
+use Rattle.stage_plan.specs.Ordering.{IsStaged, order_of, ArePlaced, moved, moved_op, op_numbered, wired, wiring_of}
 use Rattle.stage_plan.specs.Planned.{row_of, wiring_at, taken, shape_of, fold_at, IsPlanOf}
 use Rattle.stage_plan.specs.Shape.{PlanShape, GroupShape, greatest, up_to, sizes_of, group_shape, query_groups, parts_shape, query_shape}
 use Rattle.stage_plan.specs.Sound.{PlanParts, IsWithin, IsSoundOp, AreSoundOps, IsSoundGroup, IsSoundPlan}
@@ -241,12 +241,22 @@ module _ (q : TypedQuery) (valid : IsValidQuery q) (ops : List PlanOp) (streams 
             no z = cc
         go (Some t) h = (sound i t group h g).program f (sym (ap (option_and_then (λ (t : Taking). slice_get q.folds t.fold_number)) h) ∙ e)
 
+    staged_here : IsStaged ops streams (takings q.streams) sorted (map (wiring_of registers streams) (takings q.streams))
+    staged_here = record { registers = registers; placed = placed; all = long; ops_are = refl; wiring_is = refl }
+
+    staged_parts : IsStaged (all_made q.folds [] (packet_wires ∷ []) q.streams).ops (all_made q.folds [] (packet_wires ∷ []) q.streams).streams (takings q.streams) sorted (map (wiring_of registers streams) (takings q.streams))
+    staged_parts =
+        let P : List PlanOp → Type 0 = λ o. IsStaged o streams (takings q.streams) sorted (map (wiring_of registers streams) (takings q.streams)) in
+        let Q : List StreamWires → Type 0 = λ s. IsStaged (all_made q.folds [] (packet_wires ∷ []) q.streams).ops s (takings q.streams) sorted (map (wiring_of registers streams) (takings q.streams)) in
+        subst Q streams_are (subst P ops_are staged_here)
+
     pub is_plan : IsPlanOf q parts
     is_plan = record {
       groups = count;
       takes = takes_are;
       programs = programs_are;
       reads = reads_are;
+      staged = staged_parts;
       shape = same_shape;
     }
 

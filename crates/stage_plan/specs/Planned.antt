@@ -1,5 +1,5 @@
 -- Which plan is a query's.
-use Rattle.std.specs.Prelude.{◌≡◌, ℕ, ◌+◌, ◌<◌, List, [], length, map, All, slice_get, Option, Some, option_and_then, unwrap_or}
+use Rattle.std.specs.Prelude.{◌≡◌, ℕ, ◌+◌, ◌<◌, List, [], ◌∷◌, length, map, All, slice_get, Option, Some, option_and_then, unwrap_or}
 use Rattle.epoch_model.specs.Driving.{Taken, uses_taken}
 use Rattle.fold_class.specs.Program.{IsProgramOf}
 use Rattle.query_lang.specs.declared.fold.TypedFold.{TypedFold}
@@ -13,6 +13,8 @@ use Rattle.stage_plan.specs.declared.group.GroupWiring.{GroupWiring}
 use Rattle.stage_plan.specs.declared.op.Operand.TheVariants.{Number}
 use Rattle.stage_plan.specs.Depths.{stage_fault}
 use Rattle.stage_plan.specs.Fields.{reads_of}
+use Rattle.stage_plan.specs.Making.{AllMade, packet_wires, all_made}
+use Rattle.stage_plan.specs.Ordering.{IsStaged}
 use Rattle.stage_plan.specs.Registers.{after, stages_of, taken_at}
 use Rattle.stage_plan.specs.Shape.{PlanShape, parts_shape, query_shape, bound_of}
 use Rattle.stage_plan.specs.Sound.{PlanParts}
@@ -44,6 +46,10 @@ plan_bound plan ways = bound_of ways (shape_of plan)
 abbrev pub fold_at : TypedQuery → ℕ → Option TypedFold
 fold_at q i = option_and_then (λ t. slice_get q.folds t.fold_number) (slice_get (takings q.streams) i)
 
+-- the operations and streams of a query in the order in which they are made
+abbrev pub query_made : TypedQuery → AllMade
+query_made q = all_made q.folds [] (packet_wires ∷ []) q.streams
+
 -- The plan of a query: it takes of each packet what the query's groupbys take of the streams, with the programs of their folds.
 pub record IsPlanOf (q : TypedQuery) (plan : PlanParts) : Type 0 where
   pub groups : length plan.groups ≡ length (takings q.streams)
@@ -51,6 +57,7 @@ pub record IsPlanOf (q : TypedQuery) (plan : PlanParts) : Type 0 where
       → uses q i packets ≡ uses_taken 1 (map (taken plan i) packets)
   pub programs : (i : ℕ) (f : TypedFold) (group : GroupPlan) → fold_at q i ≡ Some f → slice_get plan.groups i ≡ Some group → IsProgramOf f group.program
   pub reads : plan.reads ≡ reads_of q
+  pub staged : IsStaged (query_made q).ops (query_made q).streams (takings q.streams) plan.ops plan.wiring
   pub shape : shape_of plan ≡ query_shape q
 
 -- a query is refused exactly for its first stream that needs too many stages
