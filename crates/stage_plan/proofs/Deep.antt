@@ -1,12 +1,12 @@
 -- The stages of operations that are made are the depths of the query, and each reads what stands before it.
-use Rattle.std.proofs.Common.{◌≡◌, ℕ, zero, suc, ◌+◌, ◌-◌, ◌<◌, ◌≤◌, max, min, Bool, true, false, cond, List, [], ◌∷◌, ◌++◌, length, get_or, take, drop, Some, None, Option, refl, sym, ap, subst, ◌∙◌, inl, inr, ◌⊎◌, arith, append_assoc, append-nil, length-append, lit<}
-use Rattle.std.specs.Prelude.{map, fold, flat_map, replicate, nat_lt, not, ◌||◌, slice_get, slice_index, option_map, unwrap_or, if◌then◌else◌}
+use Rattle.std.proofs.Common.{◌≡◌, ℕ, zero, suc, ◌+◌, ◌-◌, ◌<◌, ◌≤◌, max, min, Bool, true, false, cond, List, [], ◌∷◌, ◌++◌, length, drop, Some, None, Option, refl, sym, ap, subst, ◌∙◌, inl, inr, arith, append_assoc, append-nil, lit<}
+use Rattle.std.specs.Prelude.{map, fold, flat_map, replicate, nat_lt, ◌||◌, slice_get, slice_index, option_map, unwrap_or, if◌then◌else◌}
 use Rattle.std.specs.List.{list_any}
 use Rattle.std.proofs.lemmas.Bool.{cases_eq, cases_lt}
 use Rattle.std.proofs.lemmas.Bool.Decides.{nat_tests}
 use Rattle.std.proofs.lemmas.List.{length_push, map-append}
 use Rattle.std.proofs.lemmas.List.Folds.{list_any-append}
-use Rattle.std.proofs.lemmas.Option.{slice_get_within, same_Some, slice_get_cases}
+use Rattle.std.proofs.lemmas.Option.{slice_get_within, slice_get_cases}
 use Rattle.query_lang.specs.declared.fault.FaultKind.TheVariants.{OverLimit}
 use Rattle.query_lang.specs.declared.fault.Limit.TheVariants.{Stages}
 use Rattle.query_lang.specs.declared.fault.QueryFault.{QueryFault}
@@ -27,12 +27,12 @@ use Rattle.stage_plan.specs.declared.op.PlanOp.{PlanOp}
 use Rattle.stage_plan.specs.declared.wires.StreamWires.{StreamWires}
 use Rattle.stage_plan.specs.Registers.{operand_stage}
 use Rattle.stage_plan.specs.Depths.{term_depth, term_depths, StreamDepths, packet_depths, depths_at, joined_depths, emit_depths, group_depths, depths_made, all_depths, query_depths, is_too_deep, first_too_deep, stage_fault}
-use Rattle.stage_plan.specs.Making.{stage_behind, compiled, compiled_all, with_op, op_on, operand_at, wires_at, packet_wires, joined, conditioned, mapped, zipped, emit_columns, emitted, grouped, made_by, all_made, are_deep, made_fault}
+use Rattle.stage_plan.specs.Making.{stage_behind, compiled, compiled_all, op_on, operand_at, wires_at, packet_wires, conditioned, emit_columns, emitted, grouped, made_by, all_made, are_deep, made_fault}
 use Rattle.stage_plan.specs.Sound.{IsWithin}
-use Rattle.stage_plan.proofs.Lists.{push_cases, slice_get-left, slice_get-last}
+use Rattle.stage_plan.proofs.Lists.{push_cases, slice_get-last}
 use Rattle.stage_plan.proofs.Runs.{within_more, stage_of_register}
 use Rattle.stage_plan.proofs.StreamRows.{at_earlier, at_last, at_past}
-use Rattle.stage_plan.proofs.Values.{Extends, same_ops, and_more, one_more, compiled_extends, all_extend, made_extends}
+use Rattle.stage_plan.proofs.Values.{Extends, same_ops, and_more, one_more}
 
 -- an operand that is there keeps its stage while operations are added
 pub same_stage : (ops more : List PlanOp) (o : Operand) → Extends ops more → IsWithin (14 + length ops) o → operand_stage more o ≡ operand_stage ops o

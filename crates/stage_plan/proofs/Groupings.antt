@@ -1,22 +1,21 @@
 -- The groupby of a stream has the shape that the query gives it.
-use Rattle.std.proofs.Common.{◌≡◌, ℕ, zero, suc, ◌+◌, ◌<◌, ◌≤◌, Bool, true, false, List, [], ◌∷◌, ◌++◌, length, get_or, drop, Some, None, Option, refl, sym, ap, subst, ◌∙◌, inl, inr, ◌⊎◌, arith, append_assoc, append-nil, length-drop}
-use Rattle.std.specs.Prelude.{map, filter_map, slice_get, option_map, option_to_list, if◌then◌else◌, nat_lt, nat_eq}
+use Rattle.std.proofs.Common.{◌≡◌, ℕ, zero, suc, ◌+◌, ◌<◌, ◌≤◌, Bool, true, false, List, [], ◌∷◌, ◌++◌, length, get_or, drop, Some, None, Option, refl, sym, ap, subst, ◌∙◌, inl, inr, arith, append_assoc, append-nil, length-drop}
+use Rattle.std.specs.Prelude.{map, filter_map, slice_get, option_map, option_to_list, if◌then◌else◌}
 use Rattle.std.specs.List.{cons_option}
-use Rattle.std.proofs.lemmas.List.{map-append, length-map, drop_more, drop_all, length_push, get_or_push}
-use Rattle.std.proofs.lemmas.Bool.{cases_eq, cases_lt}
-use Rattle.std.proofs.lemmas.Bool.Decides.{nat_tests}
-use Rattle.std.proofs.lemmas.Option.{slice_get_within, same_Some, slice_get_cases, slice_get-get_or}
+use Rattle.std.proofs.lemmas.List.{map-append, length-map, drop_more, drop_all, length_push}
+use Rattle.std.proofs.lemmas.Bool.{cases_eq}
+use Rattle.std.proofs.lemmas.Option.{same_Some}
 use Rattle.query_lang.specs.declared.fold.TypedFold.{TypedFold}
 use Rattle.query_lang.specs.declared.typed.TypedQuery.{TypedQuery}
 use Rattle.query_lang.specs.declared.typed.TypedStream.{TypedStream}
-use Rattle.query_lang.specs.Folds.{IsValidFold, fold_states, fold_args}
+use Rattle.query_lang.specs.Folds.{fold_states}
 use Rattle.query_lang.specs.Streams.{Taking, taking_of, takings}
 use Rattle.fold_class.specs.Depth.{IsDepth, is_enough, least_from, depth_of}
-use Rattle.fold_class.specs.Program.{IsProgram, IsProgramOf}
+use Rattle.fold_class.specs.Program.{IsProgramOf}
 use Rattle.fold_class.proofs.DepthLemmas.{depth_found, covered_last}
 use Rattle.stage_plan.proofs.Lists.{push_cases, stands_at}
 use Rattle.stage_plan.specs.declared.group.GroupPlan.{GroupPlan}
-use Rattle.stage_plan.specs.Shape.{GroupShape, text_at, shape_with, shape_made, group_shape}
+use Rattle.stage_plan.specs.Shape.{GroupShape, text_at, shape_with, group_shape}
 use Rattle.stage_plan.specs.Grouping.{IsGroupShape, IsGroupFor, IsGroupOf, AreGroupsOf}
 
 found_from : (f : TypedFold) (tries d : ℕ) → ((e : ℕ) → e < d → is_enough f e ≡ false) → is_enough f (d + tries) ≡ true → IsDepth f (least_from f tries d)

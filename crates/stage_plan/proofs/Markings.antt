@@ -1,5 +1,5 @@
 -- Marking the fields that are named gives the set of them.
-use Rattle.std.proofs.Common.{◌≡◌, ℕ, ◌*◌, ◌^◌, ◌%◌, List, [], ◌∷◌, ◌++◌, Some, None, Option, refl, sym, ap, ◌∙◌, bit_or}
+use Rattle.std.proofs.Common.{◌≡◌, ℕ, ◌*◌, ◌^◌, ◌%◌, List, [], ◌∷◌, ◌++◌, Some, None, refl, sym, ap, ◌∙◌, bit_or}
 use Rattle.std.specs.Prelude.{fold, flat_map, filter_map}
 use Rattle.std.proofs.lemmas.List.Sums.{fold-append}
 use Rattle.std.specs.List.{cons_option}

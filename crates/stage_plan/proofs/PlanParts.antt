@@ -1,12 +1,11 @@
 -- The parts that are made for a query are its plan.
-use Rattle.std.proofs.Common.{◌≡◌, ℕ, zero, suc, ◌+◌, ◌-◌, ◌<◌, ◌≤◌, max, min, Bool, true, false, cond, eqb, List, [], ◌∷◌, ◌++◌, length, get_or, take, drop, Some, None, Option, refl, sym, ap, subst, ◌∙◌, inl, inr, ◌⊎◌, arith}
+use Rattle.std.proofs.Common.{◌≡◌, ℕ, zero, suc, ◌+◌, ◌<◌, ◌≤◌, max, Bool, true, false, cond, List, [], ◌∷◌, length, get_or, Some, None, Option, refl, sym, ap, subst, ◌∙◌, inl, inr, arith}
 use Rattle.std.specs.Prelude.{All, map, sum_by, count_by, nat_lt, ◌||◌, ◌==◌, slice_get, slice_index, option_map, option_and_then, unwrap_or, if◌then◌else◌}
 use Rattle.std.specs.List.{list_any}
-use Rattle.std.proofs.lemmas.Bool.{cases_eq, cases_lt}
 use Rattle.std.proofs.lemmas.Bool.Decides.{nat_tests}
 use Rattle.std.proofs.lemmas.List.{length-map, get_or-map}
 use Rattle.std.proofs.lemmas.List.Sums.{sum_by-cons}
-use Rattle.std.proofs.lemmas.Option.{slice_get_within, same_Some, slice_get_cases, slice_get-map, slice_get-get_or}
+use Rattle.std.proofs.lemmas.Option.{slice_get_within, same_Some, slice_get_cases, slice_get-map}
 use Rattle.epoch_model.specs.Driving.{Taken, uses_taken}
 use Rattle.fold_class.specs.Program.{IsProgramOf}
 use Rattle.marple_base.specs.declared.field.FieldSet.{FieldSet}
@@ -19,19 +18,19 @@ use Rattle.query_types.specs.Uses.{uses}
 use Rattle.stage_plan.specs.declared.group.GroupPlan.{GroupPlan}
 use Rattle.stage_plan.specs.declared.group.GroupWiring.{GroupWiring}
 use Rattle.stage_plan.specs.declared.op.Operand.{Operand}
-use Rattle.stage_plan.specs.declared.op.Operand.TheVariants.{Register, Number}
+use Rattle.stage_plan.specs.declared.op.Operand.TheVariants.{Number}
 use Rattle.stage_plan.specs.declared.op.PlanOp.{PlanOp}
 use Rattle.stage_plan.specs.declared.wires.StreamWires.{StreamWires}
 use Rattle.stage_plan.specs.Registers.{operand_value, operand_stage, after, stages_of, taken_at}
-use Rattle.stage_plan.specs.Depths.{StreamDepths, query_depths}
+use Rattle.stage_plan.specs.Depths.{query_depths}
 use Rattle.stage_plan.specs.Fields.{reads_of}
 use Rattle.stage_plan.specs.Grouping.{IsGroupFor, AreGroupsOf}
-use Rattle.stage_plan.specs.Making.{operand_at, wires_at, packet_wires, all_made, are_deep, made_fault}
+use Rattle.stage_plan.specs.Making.{operand_at, wires_at, packet_wires, all_made, are_deep}
 use Rattle.stage_plan.specs.Ordering.{IsStaged, order_of, ArePlaced, moved, moved_op, op_numbered, wired, wiring_of}
-use Rattle.stage_plan.specs.Planned.{row_of, wiring_at, taken, shape_of, fold_at, IsPlanOf}
-use Rattle.stage_plan.specs.Shape.{PlanShape, GroupShape, greatest, up_to, sizes_of, group_shape, query_groups, parts_shape, query_shape}
+use Rattle.stage_plan.specs.Planned.{wiring_at, taken, shape_of, fold_at, IsPlanOf}
+use Rattle.stage_plan.specs.Shape.{PlanShape, GroupShape, greatest, up_to, sizes_of, group_shape, query_groups, query_shape}
 use Rattle.stage_plan.specs.Sound.{PlanParts, IsWithin, IsSoundOp, AreSoundOps, IsSoundGroup, IsSoundPlan}
-use Rattle.stage_plan.proofs.Deep.{AreMade, IsMade, WiresAt, QueryMade, query_made, column_is, stages}
+use Rattle.stage_plan.proofs.Deep.{IsMade, QueryMade, column_is, stages}
 use Rattle.stage_plan.proofs.Runs.{within_more, stage_below, Filled, after_filled}
 use Rattle.stage_plan.proofs.Sorted.{Staged, all, all_long, Stands, stands, Comes, comes, Keeps, keeps, all_ascends, stands_before, unmoved, moved_value, unmoved_front, unmoved_long, unmoved_solved, whole_sum}
 use Rattle.stage_plan.proofs.StreamRows.{Row, row_at, all_rows, row_taken, uses_are}

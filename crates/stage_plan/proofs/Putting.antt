@@ -1,5 +1,5 @@
 -- A plan is put together from parts that were made one after another.
-use Rattle.std.proofs.Common.{◌≡◌, ℕ, ◌+◌, ◌<◌, ◌≤◌, List, [], ◌∷◌, length, None, refl, sym, ap, subst, ◌∙◌, arith}
+use Rattle.std.proofs.Common.{◌≡◌, ℕ, ◌<◌, ◌≤◌, List, [], ◌∷◌, length, None, sym, ap, subst, ◌∙◌, arith}
 use Rattle.std.specs.Prelude.{All, map}
 use Rattle.marple_base.specs.declared.field.FieldSet.{FieldSet}
 use Rattle.query_lang.specs.declared.typed.TypedQuery.{TypedQuery}

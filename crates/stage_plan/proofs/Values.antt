@@ -1,28 +1,25 @@
 -- Registers that hold each operation's result have the values of expressions and streams.
-use Rattle.std.proofs.Common.{◌≡◌, ℕ, zero, suc, ◌+◌, ◌<◌, ◌≤◌, Bool, true, false, cond, List, [], ◌∷◌, ◌++◌, length, get_or, take, drop, Some, None, Option, refl, sym, ap, subst, ◌∙◌, inl, inr, ◌⊎◌, arith, append_assoc, append-nil, length-append, drop-cons}
-use Rattle.std.specs.Prelude.{map, fold, not, ◌&&◌, slice_get, slice_index, option_map, unwrap_or, is_some, if◌then◌else◌}
+use Rattle.std.proofs.Common.{◌≡◌, ℕ, zero, suc, ◌+◌, ◌<◌, ◌≤◌, Bool, true, false, List, [], ◌∷◌, ◌++◌, length, get_or, take, drop, Some, None, Option, refl, sym, ap, subst, ◌∙◌, inl, inr, arith, append_assoc, append-nil, drop-cons}
+use Rattle.std.specs.Prelude.{map, not, ◌&&◌, slice_get, slice_index, if◌then◌else◌}
 use Rattle.std.proofs.lemmas.Bool.{cases_eq, cases_lt}
-use Rattle.std.proofs.lemmas.List.{length_push, map-append, take_all}
+use Rattle.std.proofs.lemmas.List.{length_push, map-append}
 use Rattle.query_lang.specs.Words.{flag, holds, op_value}
-use Rattle.query_lang.specs.declared.fold.Op.{Op}
 use Rattle.query_lang.specs.declared.fold.Op.TheVariants.{Both}
 use Rattle.query_lang.specs.declared.fold.TypedExpr.{TypedExpr}
 use Rattle.query_lang.specs.declared.fold.TypedFold.{TypedFold}
 use Rattle.query_lang.specs.declared.typed.TypedOp.{TypedOp}
 use Rattle.query_lang.specs.declared.typed.TypedOp.TheVariants.{Filter, Map, Zip, Group}
-use Rattle.query_lang.specs.declared.typed.TypedQuery.{TypedQuery}
 use Rattle.query_lang.specs.declared.typed.TypedStream.{TypedStream}
 use Rattle.query_lang.specs.Folds.{term_value}
-use Rattle.query_lang.specs.Streams.{values_at, expr_value, emits_at, holds_at}
+use Rattle.query_lang.specs.Streams.{values_at, expr_value, holds_at}
 use Rattle.query_lang.specs.Terms.{Term, Literal, Read, Negation, Operation, term_of}
 use Rattle.stage_plan.specs.declared.op.Operand.{Operand}
 use Rattle.stage_plan.specs.declared.op.Operand.TheVariants.{Register, Number}
-use Rattle.stage_plan.specs.declared.op.Operation as operation
 use Rattle.stage_plan.specs.declared.op.Operation.TheVariants.{Not, Two}
 use Rattle.stage_plan.specs.declared.op.PlanOp.{PlanOp}
 use Rattle.stage_plan.specs.declared.wires.StreamWires.{StreamWires}
-use Rattle.stage_plan.specs.Registers.{operand_value, operation_value, result_of}
-use Rattle.stage_plan.specs.Making.{compiled, compiled_all, with_op, op_on, operand_at, wires_at, packet_wires, joined, conditioned, mapped, zipped, emit_columns, emitted, grouped, made_by, all_made}
+use Rattle.stage_plan.specs.Registers.{operand_value, result_of}
+use Rattle.stage_plan.specs.Making.{compiled, compiled_all, op_on, operand_at, wires_at, packet_wires, joined, conditioned, mapped, zipped, emit_columns, emitted, grouped, made_by, all_made}
 use Rattle.stage_plan.proofs.Lists.{slice_get-left, slice_get-last}
 use Rattle.stage_plan.proofs.StreamRows.{Row, row_at, filter_row, map_row, zip_row, emit_row, group_row, row_made, rows_from, at_earlier, at_last, at_past}
 

@@ -1,5 +1,5 @@
 -- The bits of the fields that are named, one after another.
-use Rattle.std.specs.Prelude.{ℕ, ◌^◌, bit_or, List, fold, Option, Some, None}
+use Rattle.std.specs.Prelude.{ℕ, ◌^◌, bit_or, List, fold, Some, None}
 use Rattle.marple_base.specs.Field.{number_of}
 use Rattle.query_lang.specs.declared.typed.TypedOp.{TypedOp}
 use Rattle.query_lang.specs.declared.typed.TypedOp.TheVariants.{Filter, Map, Zip, Group}

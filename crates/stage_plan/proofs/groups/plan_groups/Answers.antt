@@ -1,4 +1,4 @@
-use Rattle.std.proofs.Common.{arith, ◌∙◌, ◌++◌, ◌+◌, ap, subst, sym, drop, length}
+use Rattle.std.proofs.Common.{◌∙◌, ◌++◌, ◌+◌, ap, subst, sym, drop}
 use Rattle.std.specs.Prelude.{map, filter_map}
 use Rattle.query_lang.specs.Streams.{takings}
 use Rattle.stage_plan.specs.Shape.{shape_made, group_shape}

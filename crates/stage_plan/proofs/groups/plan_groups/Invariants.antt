@@ -1,4 +1,4 @@
-use Rattle.std.proofs.Common.{◌≡◌, ◌++◌, ◌≤◌, drop, length}
+use Rattle.std.proofs.Common.{◌≡◌, ◌++◌, drop}
 use Rattle.std.specs.Prelude.{map, filter_map}
 use Rattle.query_lang.specs.Streams.{takings}
 use Rattle.stage_plan.specs.Shape.{group_shape, shape_made, query_groups}

@@ -1,5 +1,5 @@
 use Rattle.std.proofs.Common.{ap, length}
-use Rattle.stage_plan.proofs.Putting.{MadeOf, IsPut, numbers_within, few_numbers, order_from, put_from}
+use Rattle.stage_plan.proofs.Putting.{IsPut, numbers_within, few_numbers, order_from, put_from}
 use Rattle.stage_plan.proofs.planner.put_plan.Goals as goal
 
 pub registers_in-requires-clause-numbers : goal.registers_in-requires-clause-numbers
