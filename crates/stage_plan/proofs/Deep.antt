@@ -1,15 +1,10 @@
 -- The stages of operations that are made are the depths of the query, and each reads what stands before it.
-use Rattle.std.proofs.Common.{◌≡◌, ℕ, zero, suc, ◌+◌, ◌-◌, ◌<◌, ◌≤◌, max, min, Bool, true, false, cond, List, [], ◌∷◌, ◌++◌, length, drop, Some, None, Option, refl, sym, ap, subst, ◌∙◌, inl, inr, arith, append_assoc, append-nil, lit<}
-use Rattle.std.specs.Prelude.{map, fold, flat_map, replicate, nat_lt, ◌||◌, slice_get, slice_index, option_map, unwrap_or, if◌then◌else◌}
-use Rattle.std.specs.List.{list_any}
+use Rattle.std.proofs.Common.{◌≡◌, ℕ, zero, suc, ◌+◌, ◌-◌, ◌<◌, max, min, true, List, [], ◌∷◌, ◌++◌, length, Some, None, Option, refl, sym, ap, subst, ◌∙◌, inl, inr, arith, append_assoc, append-nil}
+use Rattle.std.specs.Prelude.{map, fold, flat_map, replicate, nat_lt, slice_get, slice_index, option_map, unwrap_or, if◌then◌else◌}
 use Rattle.std.proofs.lemmas.Bool.{cases_eq, cases_lt}
 use Rattle.std.proofs.lemmas.Bool.Decides.{nat_tests}
 use Rattle.std.proofs.lemmas.List.{length_push, map-append}
-use Rattle.std.proofs.lemmas.List.Folds.{list_any-append}
 use Rattle.std.proofs.lemmas.Option.{slice_get_within, slice_get_cases}
-use Rattle.query_lang.specs.declared.fault.FaultKind.TheVariants.{OverLimit}
-use Rattle.query_lang.specs.declared.fault.Limit.TheVariants.{Stages}
-use Rattle.query_lang.specs.declared.fault.QueryFault.{QueryFault}
 use Rattle.query_lang.specs.declared.fold.Op.TheVariants.{Both}
 use Rattle.query_lang.specs.declared.fold.TypedExpr.{TypedExpr}
 use Rattle.query_lang.specs.declared.fold.TypedFold.{TypedFold}
@@ -26,8 +21,8 @@ use Rattle.stage_plan.specs.declared.op.Operation.TheVariants.{Not, Two}
 use Rattle.stage_plan.specs.declared.op.PlanOp.{PlanOp}
 use Rattle.stage_plan.specs.declared.wires.StreamWires.{StreamWires}
 use Rattle.stage_plan.specs.Registers.{operand_stage}
-use Rattle.stage_plan.specs.Depths.{term_depth, term_depths, StreamDepths, packet_depths, depths_at, joined_depths, emit_depths, group_depths, depths_made, all_depths, query_depths, is_too_deep, first_too_deep, stage_fault}
-use Rattle.stage_plan.specs.Making.{stage_behind, compiled, compiled_all, op_on, operand_at, wires_at, packet_wires, conditioned, emit_columns, emitted, grouped, made_by, all_made, are_deep, made_fault}
+use Rattle.stage_plan.specs.Depths.{term_depth, term_depths, StreamDepths, packet_depths, depths_at, joined_depths, emit_depths, group_depths, depths_made, all_depths}
+use Rattle.stage_plan.specs.Making.{stage_behind, compiled, compiled_all, op_on, operand_at, wires_at, conditioned, emit_columns, emitted, grouped, made_by, all_made}
 use Rattle.stage_plan.specs.Sound.{IsWithin}
 use Rattle.stage_plan.proofs.Lists.{push_cases, slice_get-last}
 use Rattle.stage_plan.proofs.Runs.{within_more, stage_of_register}
@@ -66,7 +61,7 @@ is_more ops more o depth e h = record {
   stage = same_stage ops more o e h.within ∙ h.stage;
 }
 
-number_at : (ops : List PlanOp) (n : ℕ) → IsAt ops (Number n) 0
+pub number_at : (ops : List PlanOp) (n : ℕ) → IsAt ops (Number n) 0
 number_at ops n = record { within = tt; stage = refl }
 
 abbrev pub AreAt : List PlanOp → List Operand → List ℕ → Type 0
@@ -279,10 +274,10 @@ group_makes : (ops : List PlanOp) (o : Option TypedFold) (source : StreamWires) 
 group_makes ops None source depths keys args made at = record { added = added_none ops made; wires_are = record { present = number_at ops 0; columns = are_picked ops source.columns depths.columns keys at.columns } }
 group_makes ops (Some f) source depths keys args made at = emit_makes ops f.emit f.initial source depths keys args made at
 
-abbrev AllAt : List PlanOp → List StreamWires → List StreamDepths → Type 0
+abbrev pub AllAt : List PlanOp → List StreamWires → List StreamDepths → Type 0
 AllAt ops streams depths = (j : ℕ) → WiresAt ops (wires_at streams j) (depths_at depths j)
 
-op_makes : (folds : List TypedFold) (ops : List PlanOp) (streams : List StreamWires) (depths : List StreamDepths) (op : TypedOp) → AreMade ops → AllAt ops streams depths →
+pub op_makes : (folds : List TypedFold) (ops : List PlanOp) (streams : List StreamWires) (depths : List StreamDepths) (op : TypedOp) → AreMade ops → AllAt ops streams depths →
     Makes ops (made_by folds streams op ops).ops (made_by folds streams op ops).wires (depths_made folds depths op)
 op_makes folds ops streams depths (Filter input condition) made at =
     conditioned_makes ops (wires_at streams input).columns (depths_at depths input).columns (term_of condition) (wires_at streams input).present (depths_at depths input).present
@@ -327,7 +322,7 @@ folded_after folds depths (one ∷ list) =
 pub depths_are : (q : TypedQuery) → all_depths q ≡ packet_depths ∷ depths_after q.folds (packet_depths ∷ []) q.streams
 depths_are q = folded_after q.folds (packet_depths ∷ []) q.streams
 
-all_more : (ops more : List PlanOp) (streams : List StreamWires) (depths : List StreamDepths) (wires : StreamWires) (d : StreamDepths) → length streams ≡ length depths → Extends ops more → AllAt ops streams depths →
+pub all_more : (ops more : List PlanOp) (streams : List StreamWires) (depths : List StreamDepths) (wires : StreamWires) (d : StreamDepths) → length streams ≡ length depths → Extends ops more → AllAt ops streams depths →
     WiresAt more wires d → AllAt more (streams ++ wires ∷ []) (depths ++ d ∷ [])
 all_more ops more streams depths wires d long e at new = λ j. elim (cases_lt j (length streams)) [
   | inl lt ↦ place j (wires_at streams j) (depths_at depths j) (at_earlier streams wires none j lt) (at_earlier depths d no_depths j (omega arith)) (wires_more ops more (wires_at streams j) (depths_at depths j) e (at j))
@@ -368,119 +363,3 @@ all_make folds ops streams depths (one ∷ list) made long at =
       added = added_then ops more (all_made folds ops streams (one ∷ list)).ops d.operations (flat_map (λ d. d.operations) (depths_after folds (depths ++ d ∷ []) list)) m.added rest.added;
       within = rest.within;
     }
-
--- where an operation is too deep, some depth is
-deep_stages : (ops : List PlanOp) → are_deep ops ≡ list_any (λ s. nat_lt 64 s) (stages ops)
-deep_stages [] = refl
-deep_stages (one ∷ ops) = ap (λ b. nat_lt 64 one.stage || b) (deep_stages ops)
-
-deep_one : (d : ℕ) → nat_lt 64 (min 65 d) ≡ nat_lt 64 d
-deep_one d = elim (cases_lt 64 d) [
-  | inl lt ↦ (let a : nat_lt 64 (min 65 d) ≡ true = (let m : 64 < min 65 d = omega arith in grind (arith, nat_tests)) in let b : nat_lt 64 d ≡ true = grind (arith, nat_tests) in a ∙ sym b)
-  | inr le ↦ (let a : nat_lt 64 (min 65 d) ≡ false = (let m : min 65 d ≤ 64 = omega arith in grind (arith, nat_tests)) in let b : nat_lt 64 d ≡ false = grind (arith, nat_tests) in a ∙ sym b)
-]
-
-deep_capped : (depths : List ℕ) → list_any (λ s. nat_lt 64 s) (capped depths) ≡ is_too_deep depths
-deep_capped [] = refl
-deep_capped (d ∷ depths) = ap (λ b. b || list_any (λ s. nat_lt 64 s) (capped depths)) (deep_one d) ∙ ap (λ b. nat_lt 64 d || b) (deep_capped depths)
-
-added_deep : (ops more : List PlanOp) (depths : List ℕ) → Added ops more depths → are_deep ops ≡ false → are_deep more ≡ is_too_deep depths
-added_deep ops more depths a none =
-    deep_stages more ∙ ap (list_any (λ s. nat_lt 64 s)) a.stages_are ∙ list_any-append (λ s. nat_lt 64 s) (stages ops) (capped depths)
-    ∙ ap (λ b. b || list_any (λ s. nat_lt 64 s) (capped depths)) (sym (deep_stages ops) ∙ none) ∙ deep_capped depths
-
-pub faults_are : (folds : List TypedFold) (ops : List PlanOp) (streams : List StreamWires) (depths : List StreamDepths) (list : List TypedStream) → AreMade ops → length streams ≡ length depths → AllAt ops streams depths →
-    are_deep ops ≡ false → made_fault folds ops streams list ≡ first_too_deep list (depths_after folds depths list)
-faults_are folds ops streams depths [] made long at none = refl
-faults_are folds ops streams depths (one ∷ list) made long at none =
-    let d : StreamDepths = depths_made folds depths one.op in
-    let more : List PlanOp = (made_by folds streams one.op ops).ops in
-    let wires : StreamWires = (made_by folds streams one.op ops).wires in
-    let m : Makes ops more wires d = op_makes folds ops streams depths one.op made at in
-    go (are_deep more) refl (added_deep ops more d.operations m.added none)
-    (λ none. faults_are folds more (streams ++ wires ∷ []) (depths ++ d ∷ []) list m.added.made (length_push streams wires ∙ ap (λ n. n + 1) long ∙ sym (length_push depths d)) (all_more ops more streams depths wires d long m.added.extends at m.wires_are) none)
-  where
-    go : (b : Bool) → are_deep (made_by folds streams one.op ops).ops ≡ b → are_deep (made_by folds streams one.op ops).ops ≡ is_too_deep (depths_made folds depths one.op).operations →
-        (are_deep (made_by folds streams one.op ops).ops ≡ false → made_fault folds (made_by folds streams one.op ops).ops (streams ++ (made_by folds streams one.op ops).wires ∷ []) list ≡ first_too_deep list (depths_after folds (depths ++ depths_made folds depths one.op ∷ []) list)) →
-        made_fault folds ops streams (one ∷ list) ≡ first_too_deep (one ∷ list) (depths_after folds depths (one ∷ list))
-    go true is same rest =
-        ap (λ b. cond b (Some (record { kind = OverLimit Stages; span = one.name.span })) (made_fault folds (made_by folds streams one.op ops).ops (streams ++ (made_by folds streams one.op ops).wires ∷ []) list)) is
-        ∙ ap (λ b. cond b (Some (record { kind = OverLimit Stages; span = one.name.span })) (first_too_deep list (depths_after folds (depths ++ depths_made folds depths one.op ∷ []) list))) (sym is ∙ same)
-    go false is same rest =
-        ap (λ b. cond b (Some (record { kind = OverLimit Stages; span = one.name.span })) (made_fault folds (made_by folds streams one.op ops).ops (streams ++ (made_by folds streams one.op ops).wires ∷ []) list)) is
-        ∙ rest is
-        ∙ ap (λ b. cond b (Some (record { kind = OverLimit Stages; span = one.name.span })) (first_too_deep list (depths_after folds (depths ++ depths_made folds depths one.op ∷ []) list))) (sym is ∙ same)
-
-no_deep : (folds : List TypedFold) (ops : List PlanOp) (streams : List StreamWires) (list : List TypedStream) → are_deep ops ≡ false → made_fault folds ops streams list ≡ None → are_deep (all_made folds ops streams list).ops ≡ false
-no_deep folds ops streams [] none e = none
-no_deep folds ops streams (one ∷ list) none e = go (are_deep (made_by folds streams one.op ops).ops) refl (no_deep folds (made_by folds streams one.op ops).ops (streams ++ (made_by folds streams one.op ops).wires ∷ []) list)
-  where
-    go : (b : Bool) → are_deep (made_by folds streams one.op ops).ops ≡ b →
-        (are_deep (made_by folds streams one.op ops).ops ≡ false → made_fault folds (made_by folds streams one.op ops).ops (streams ++ (made_by folds streams one.op ops).wires ∷ []) list ≡ None → are_deep (all_made folds ops streams (one ∷ list)).ops ≡ false) →
-        are_deep (all_made folds ops streams (one ∷ list)).ops ≡ false
-    go true is rest =
-        let fault : QueryFault = record { kind = OverLimit Stages; span = one.name.span } in let f : Some fault ≡ None = sym (ap (λ b. cond b (Some (record { kind = OverLimit Stages; span = one.name.span })) (made_fault folds (made_by folds streams one.op ops).ops (streams ++ (made_by folds streams one.op ops).wires ∷ []) list)) is) ∙ e in cc
-    go false is rest =
-        rest is (sym (ap (λ b. cond b (Some (record { kind = OverLimit Stages; span = one.name.span })) (made_fault folds (made_by folds streams one.op ops).ops (streams ++ (made_by folds streams one.op ops).wires ∷ []) list)) is) ∙ e)
-
-field_at : (k : ℕ) → k < 14 → IsAt [] (Register k) 0
-field_at k lt =
-    let early : nat_lt k 14 ≡ true = grind (arith, nat_tests) in
-    record {
-      within = omega arith;
-      stage = ap (λ b. if b then 0 else unwrap_or (option_map (λ (x : PlanOp). x.stage) (slice_get [] (k - 14))) 0) early;
-    }
-
--- the packets' operands
-packets_at : (j : ℕ) → WiresAt [] (wires_at (packet_wires ∷ []) j) (depths_at (packet_depths ∷ []) j)
-packets_at zero = record {
-  present = number_at [] 1;
-  columns = (field_at 0 (lit< tt), (field_at 1 (lit< tt), (field_at 2 (lit< tt), (field_at 3 (lit< tt), (field_at 4 (lit< tt), (field_at 5 (lit< tt), (field_at 6 (lit< tt), (field_at 7 (lit< tt), (field_at 8 (lit< tt), (field_at 9 (lit< tt), (field_at 10 (lit< tt), (field_at 11 (lit< tt), (field_at 12 (lit< tt), (field_at 13 (lit< tt), tt))))))))))))));
-}
-packets_at (suc j) = record { present = number_at [] 0; columns = tt }
-
-made_none : AreMade []
-made_none = record { each = λ i one found. cc }
-
-capped_none : (depths : List ℕ) → list_any (λ s. nat_lt 64 s) (capped depths) ≡ false → capped depths ≡ depths
-capped_none [] e = refl
-capped_none (d ∷ depths) e = go (nat_lt 64 (min 65 d)) refl (capped_none depths)
-  where
-    go : (b : Bool) → nat_lt 64 (min 65 d) ≡ b → (list_any (λ s. nat_lt 64 s) (capped depths) ≡ false → capped depths ≡ depths) → capped (d ∷ depths) ≡ d ∷ depths
-    go true is rest =
-        let f : true ≡ false = sym (ap (λ b. b || list_any (λ s. nat_lt 64 s) (capped depths)) is) ∙ e in cc
-    go false is rest =
-        let few : min 65 d ≤ 64 = grind (arith, nat_tests) in
-        let same : min 65 d ≡ d = omega arith in
-        ap (λ x. x ∷ capped depths) same ∙ ap (λ l. d ∷ l) (rest (sym (ap (λ b. b || list_any (λ s. nat_lt 64 s) (capped depths)) is) ∙ e))
-
--- the operations that are made for a query
-pub record QueryMade (q : TypedQuery) (ops : List PlanOp) (streams : List StreamWires) : Type 0 where
-  pub made : AreMade ops
-  pub within : (j : ℕ) → (d : StreamDepths) × WiresAt ops (wires_at streams j) d
-  pub stages_are : stages ops ≡ query_depths q
-  pub none : are_deep ops ≡ false
-
-pub query_fault : (q : TypedQuery) → made_fault q.folds [] (packet_wires ∷ []) q.streams ≡ stage_fault q
-query_fault q =
-    faults_are q.folds [] (packet_wires ∷ []) (packet_depths ∷ []) q.streams made_none refl packets_at refl
-    ∙ sym (ap (λ l. first_too_deep q.streams (drop 1 l)) (depths_are q))
-
-pub query_made : (q : TypedQuery) (ops : List PlanOp) (streams : List StreamWires) → ops ≡ (all_made q.folds [] (packet_wires ∷ []) q.streams).ops → streams ≡ (all_made q.folds [] (packet_wires ∷ []) q.streams).streams →
-    made_fault q.folds [] (packet_wires ∷ []) q.streams ≡ None → QueryMade q ops streams
-query_made q ops streams e f fits =
-    subst (λ o. QueryMade q o streams) (sym e) (subst (QueryMade q (all_made q.folds [] (packet_wires ∷ []) q.streams).ops) (sym f) (record {
-      made = all.added.made;
-      within = all.within;
-      stages_are = capped_are ∙ capped_none (query_depths q) (ap (list_any (λ s. nat_lt 64 s)) (sym capped_are) ∙ sym (deep_stages (all_made q.folds [] (packet_wires ∷ []) q.streams).ops) ∙ shallow);
-      none = shallow;
-    }))
-  where
-    all : AllMakes q.folds [] (packet_wires ∷ []) (packet_depths ∷ []) q.streams
-    all = all_make q.folds [] (packet_wires ∷ []) (packet_depths ∷ []) q.streams made_none refl packets_at
-
-    capped_are : stages (all_made q.folds [] (packet_wires ∷ []) q.streams).ops ≡ capped (query_depths q)
-    capped_are = all.added.stages_are ∙ ap (λ l. capped (flat_map (λ (d : StreamDepths). d.operations) l)) (sym (depths_are q))
-
-    shallow : are_deep (all_made q.folds [] (packet_wires ∷ []) q.streams).ops ≡ false
-    shallow = no_deep q.folds [] (packet_wires ∷ []) q.streams refl fits

@@ -6,7 +6,9 @@ pub mod Markings
 pub mod StreamRows
 pub mod Values
 pub mod Deep
+pub mod Faults
 pub mod Sorted
+pub mod Reordered
 pub mod PlanParts
 pub mod Putting
 pub mod Texts

@@ -21,7 +21,7 @@ use Rattle.stage_plan.specs.Ordering.{order_of, ArePlaced, moved_op, op_numbered
 use Rattle.stage_plan.specs.Planned.{IsPlanOf, IsRefusal}
 use Rattle.stage_plan.specs.Shape.{group_shape, query_groups}
 use Rattle.stage_plan.specs.Sound.{PlanParts, IsSoundPlan}
-use Rattle.stage_plan.proofs.Deep.{QueryMade, query_made, query_fault}
+use Rattle.stage_plan.proofs.Faults.{QueryMade, query_made, query_fault}
 use Rattle.stage_plan.proofs.Runs.{stage_below}
 use Rattle.stage_plan.proofs.Sorted.{order_within, order_long}
 use Rattle.stage_plan.proofs.PlanParts.{is_plan, sound_plan}

@@ -1,5 +1,5 @@
 use Rattle.std.proofs.Common.{◌∙◌, sym}
-use Rattle.stage_plan.proofs.Deep.{query_fault}
+use Rattle.stage_plan.proofs.Faults.{query_fault}
 use Rattle.stage_plan.proofs.Putting.{refusal}
 use Rattle.stage_plan.proofs.planner.plan.Goals as goal
 
