@@ -1,0 +1,2 @@
+mod StoredStates
+mod ClosedRows
