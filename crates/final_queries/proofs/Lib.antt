@@ -1,0 +1,9 @@
+mod KeyFacts
+mod KeyLists
+mod JoinSteps
+mod TopSteps
+mod GroupSteps
+mod GroupRead
+mod AlikeTables
+pub mod StateLengths
+mod MadeRows

@@ -1,16 +1,20 @@
 //! Tables: what a query shows of a groupby, and what is made of such tables.
 #![tactic(auto)]
 
-ghost use Rattle.final_queries.specs.GroupTable.{ClosedGiveTheGroupTable};
-
+mod grouped;
+mod joined;
+mod keys;
+mod laws;
+mod rows;
+mod run;
 mod table;
+mod top;
+mod value;
 
 pub use epoch_model::{Mark, Row};
+pub use laws::{
+    alike_foldings_make_one_table, closed_give_the_group_table, final_tables_are_read,
+    group_tables_are_read,
+};
+pub use run::run_final;
 pub use table::{Table, TableKind};
-
-/// The epochs that are closed at the end of a trace give the groupby's table.
-pub fn closed_give_the_group_table()
-    ensures { ClosedGiveTheGroupTable }
-{
-    epoch_model::closed_give_the_table();
-}

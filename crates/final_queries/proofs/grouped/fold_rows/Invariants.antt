@@ -1,0 +1,18 @@
+use Rattle.std.proofs.Common.{◌≡◌, ◌≤◌, length, take}
+use Rattle.fold_code.specs.Meaning.{IsCodeOf, code_scratch}
+use Rattle.merged_epochs.specs.Merged.{StoreHolds}
+use Rattle.query_lang.specs.declared.fold.TypedFold.{TypedFold}
+use Rattle.query_lang.specs.Folds.{initial_state}
+use Rattle.final_queries.specs.Grouped.{whole_folding, row_epochs}
+use Rattle.final_queries.specs.Joining.{reads}
+use Rattle.final_queries.proofs.grouped.fold_rows.Given as goal
+
+-- the store holds the rows so far
+abbrev pub invariant-loop-row : goal.invariant-loop-row
+invariant-loop-row g l = record {
+  holds : (f : TypedFold) → IsCodeOf f l.code → initial_state f ≡ l.start → StoreHolds (whole_folding f) l.store (row_epochs l.keys l.args (reads (take l.row-index l.rows)));
+  key_words : length l.keys ≡ l.store.key_words;
+  state_words : length l.start ≡ l.store.state_words;
+  scratch : length l.scratch.items ≡ code_scratch l.code;
+  steps : l.fn.steps ≤ l.steps;
+}

@@ -1,0 +1,70 @@
+// Tables joined by their keys.
+
+ghost use Rattle.std.specs.Prelude.{◌≡◌, ◌≤◌, ◌++◌, length, map, take, drop, IfOk, OnOk};
+ghost use Rattle.epoch_model.specs.Keys.{IsAscending};
+ghost use Rattle.final_queries.specs.Finals.{plain_row, joined_rows};
+ghost use Rattle.final_queries.specs.Joining.{reads, joined_first, AreSmaller, StartsAtLeast};
+
+use crate::keys::{is_same_key, is_smaller_key};
+use crate::rows::{is_read, plain_row};
+use epoch_model::Row;
+use marple_base::Seq;
+use std::alloc::{AllocError, Global};
+
+// How many rows stand before the first one that is read and whose key isn't smaller.
+fn rows_before(rows: &[Row], key: &[u64]) -> usize
+    ensures within { result ≤ length rows.now }
+    ensures smaller { AreSmaller key.now (take result rows.now) }
+    ensures least { StartsAtLeast key.now (drop result rows.now) }
+{
+    for (count, row) in rows.iter().enumerate() {
+        if is_read(row.mark) && !is_smaller_key(row.key.as_slice(), key) {
+            return count;
+        }
+    }
+    rows.len()
+}
+
+// The left row with the values of the right one behind its own.
+fn joined_row(alloc: Global, left: &Row, right: &Row) -> Result<Row, AllocError>
+    ensures { IfOk result (λ row. row ≡ plain_row left.now.key (left.now.values ++ right.now.values)) }
+{
+    let mut values = Vec::from_slice(alloc, left.values.as_slice())?;
+    values.extend_from_slice(right.values.as_slice())?;
+    plain_row(alloc, left.key.as_slice(), values)
+}
+
+// The left row joined with the first of these rows, where that has its key.
+fn push_joined(
+    alloc: Global,
+    made: &mut Seq<Row>,
+    left: &Row,
+    right: &[Row],
+) -> Result<(), AllocError>
+    ensures { OnOk result (made.new ≡ made.old ++ joined_first left.now right.now) }
+{
+    if let Some(other) = right.first() {
+        if is_same_key(other.key.as_slice(), left.key.as_slice()) {
+            made.push(joined_row(alloc, left, other)?)?;
+        }
+    }
+    Ok(())
+}
+
+/// A row for each key that is read in both, in ascending order. Both are gone through once.
+pub fn joined(alloc: Global, left: &[Row], right: &[Row]) -> Result<Seq<Row>, AllocError>
+    requires left { IsAscending (map (λ row. row.key) (reads left.now)) }
+    requires right { IsAscending (map (λ row. row.key) (reads right.now)) }
+    ensures { IfOk result (λ made. made ≡ joined_rows (reads left.now) (reads right.now)) }
+{
+    let mut made = Seq::new(alloc);
+    let mut rest = right;
+    for row in left {
+        if is_read(row.mark) {
+            let before = rows_before(rest, row.key.as_slice());
+            (_, rest) = rest.split_at(before);
+            push_joined(alloc, &mut made, row, rest)?;
+        }
+    }
+    Ok(made)
+}
