@@ -1,0 +1,2 @@
+mod GroupTables
+mod FinalSteps

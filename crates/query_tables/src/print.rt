@@ -1,0 +1,103 @@
+// The printed tables.
+
+ghost use Rattle.std.specs.Prelude.{◌≡◌, ◌+◌, ◌++◌, ◌≤◌, ◌<◌, All, List, [], length, map, flat_map, IfOk, OnOk};
+ghost use Rattle.query_lang.specs.TypedQueries.{IsValidQuery, AreValidFinals, final_shape, group_shape};
+ghost use Rattle.query_lang.specs.Folds.{IsValidFold};
+ghost use Rattle.query_lang.specs.Streams.{takings};
+ghost use Rattle.query_lang.specs.TypedFinals.{table_number};
+ghost use Rattle.final_queries.specs.Finals.{IsTable, table_shape, with_finals};
+ghost use Rattle.query_tables.specs.Tables.{printed, text_at};
+
+use final_queries::{Table, run_final};
+use marple_base::{Seq, Steps, Text};
+use query_lang::{PrintOf, TypedQuery};
+use std::alloc::{AllocError, Global};
+use std::sync::ledger::Ledger;
+use table_printer::table_text;
+
+// The tables of the groupbys, and behind them those of the finals.
+fn add_finals<L: Ledger>(
+    alloc: Global,
+    q: &TypedQuery,
+    groups: Seq<Table>,
+    steps: &mut Steps<L>,
+) -> Result<Seq<Table>, AllocError>
+    requires valid { IsValidQuery q.now }
+    requires shapes { map table_shape groups ≡ map (group_shape q.now.folds) (takings q.now.streams) }
+    requires tables { All IsTable groups }
+    ensures tables { IfOk result (λ tables. tables ≡ with_finals q.now.names q.now.folds groups q.now.finals) }
+    ensures read { IfOk result (All IsTable) }
+    ensures count { IfOk result (λ tables. length tables ≡ length groups + length q.now.finals) }
+    ensures steps { steps.old ≤ steps.new }
+{
+    let mut tables = groups;
+    for one in q.finals.as_slice() {
+        let made = run_final(alloc, one, &q.names, &q.folds, &tables, steps)?;
+        tables.push(made)?;
+    }
+    Ok(tables)
+}
+
+// The number of a printed table, where there are so many groupbys.
+fn table_number(groups: usize, one: PrintOf) -> usize
+    requires { groups ≤ 8 }
+    ensures { result ≡ table_number groups one }
+{
+    match one {
+        PrintOf::Group(number) => usize::from(number),
+        PrintOf::Final(number) => groups + usize::from(number),
+    }
+}
+
+// Writes the text of the table with this number behind the others.
+fn push_table(
+    alloc: Global,
+    text: &mut Text,
+    tables: &Seq<Table>,
+    number: usize,
+) -> Result<(), AllocError>
+    requires number { number < length tables.now }
+    requires tables { All IsTable tables.now }
+    ensures { OnOk result (text.new ≡ text.old ++ text_at tables.now number) }
+{
+    let table = table_text(alloc, tables.get(number))?;
+    text.push_slice(table.as_slice())
+}
+
+// The texts of the printed tables, in the order of the prints.
+fn printed_texts(
+    alloc: Global,
+    prints: &[PrintOf],
+    groups: usize,
+    tables: &Seq<Table>,
+) -> Result<Text, AllocError>
+    requires groups { groups ≤ 8 }
+    requires prints { All (λ one. table_number groups one < length tables.now) prints.now }
+    requires tables { All IsTable tables.now }
+    ensures { IfOk result (λ text. text ≡ flat_map (λ one. text_at tables.now (table_number groups one)) prints.now) }
+{
+    let mut text = Text::new(alloc);
+    for one in prints {
+        push_table(alloc, &mut text, tables, table_number(groups, *one))?;
+    }
+    Ok(text)
+}
+
+/// What a query prints: the tables that it names, of its groupbys and finals, in the order of its prints. These are the
+/// tables of its groupbys.
+pub fn print_tables<L: Ledger>(
+    alloc: Global,
+    q: &TypedQuery,
+    groups: Seq<Table>,
+    steps: &mut Steps<L>,
+) -> Result<Text, AllocError>
+    requires valid { IsValidQuery q.now }
+    requires shapes { map table_shape groups ≡ map (group_shape q.now.folds) (takings q.now.streams) }
+    requires tables { All IsTable groups }
+    ensures text { IfOk result (λ text. text ≡ printed q.now (with_finals q.now.names q.now.folds groups q.now.finals)) }
+    ensures steps { steps.old ≤ steps.new }
+{
+    let count = groups.len();
+    let tables = add_finals(alloc, q, groups, steps)?;
+    printed_texts(alloc, q.prints.as_slice(), count, &tables)
+}
