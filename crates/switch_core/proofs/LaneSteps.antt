@@ -52,7 +52,7 @@ empty_stands stands f ways buckets kw ew cache pipe store c p k r = record {
         subst (λ ps. PairsStand (PairStands stands cache) ps (get_or (replicate (length cache.lists) []) b [])) (sym (ap (λ x. get_or x.lists b []) c ∙ none_at buckets b []))
         (subst (λ es. PairsStand (PairStands stands cache) [] es) (sym (none_at (length cache.lists) b [])) tt);
   };
-  piped = subst (λ rs. RecordsStand stands rs []) (sym p) tt;
+  piped = subst (λ rs. RecordsStand stands cache.key_words rs []) (sym p) tt;
   kept = record {
     count = λ key. ap (λ ks. epochs_of ks key) k;
     rows = λ key. ap (λ rs. states_at rs (number_of store.keys key)) r ∙ by_test f.row_per_epoch (λ t. rw t refl) (λ t. rw t refl);

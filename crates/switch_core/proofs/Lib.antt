@@ -2,3 +2,15 @@ pub mod Standing
 pub mod CacheSteps
 pub mod PipeSteps
 pub mod LaneSteps
+pub mod StoredStates
+pub mod MergeSteps
+pub mod ClosedRows
+pub mod Drained
+pub mod Histories
+pub mod SweepSteps
+pub mod SideBySide
+pub mod LaneFacts
+pub mod PipelineSteps
+pub mod LanesMade
+pub mod LaneTables
+pub mod KindTableFacts

@@ -1,5 +1,5 @@
 -- When cache, pipe and store stand for a machine.
-use Rattle.std.specs.Prelude.{◌≡◌, ◌≤◌, ℕ, List, [], ◌∷◌, ◌++◌, length, map, take, drop, flat_map, if◌then◌else◌}
+use Rattle.std.specs.Prelude.{◌≡◌, ◌≤◌, ℕ, List, [], ◌∷◌, length, map, take, drop, flat_map, if◌then◌else◌}
 use Rattle.epoch_model.specs.Keys.{Key, ArgRow}
 use Rattle.epoch_model.specs.Epochs.{Geometry}
 use Rattle.epoch_model.specs.Machine.{Epoch, Machine, open_in, lists_of}
@@ -28,19 +28,20 @@ pub record CacheStands (stands : Standing) (cache : Cache) (m : Machine) : Type 
   pub buckets : length cache.lists ≡ length m.recent
   pub each : (bucket : ℕ) → PairsStand (PairStands stands cache) (list_at cache bucket) (open_in m bucket)
 
--- the record has the epoch's key words, and then words that stand for its rows
-abbrev pub RecordStands : Standing → List ℕ → Epoch → Type 0
-RecordStands stands words epoch = (entry : List ℕ) × (words ≡ epoch.key ++ entry) × stands entry epoch.rows
+-- so many first words of the record are the epoch's key, and the others stand for its rows
+abbrev pub RecordStands : Standing → ℕ → List ℕ → Epoch → Type 0
+RecordStands stands key_words words epoch = (take key_words words ≡ epoch.key) × stands (drop key_words words) epoch.rows
 
-abbrev pub RecordsStand : Standing → List (List ℕ) → List Epoch → Type 0
-RecordsStand stands [] [] = Unit {0}
-RecordsStand stands [] (epoch ∷ epochs) = ⊥
-RecordsStand stands (words ∷ records) [] = ⊥
-RecordsStand stands (words ∷ records) (epoch ∷ epochs) = RecordStands stands words epoch × RecordsStand stands records epochs
+-- one record for each epoch, in one order
+abbrev pub RecordsStand : Standing → ℕ → List (List ℕ) → List Epoch → Type 0
+RecordsStand stands key_words [] [] = Unit {0}
+RecordsStand stands key_words [] (epoch ∷ epochs) = ⊥
+RecordsStand stands key_words (words ∷ records) [] = ⊥
+RecordsStand stands key_words (words ∷ records) (epoch ∷ epochs) = RecordStands stands key_words words epoch × RecordsStand stands key_words records epochs
 
 -- the pipe's records, from the oldest, stand for the closed epochs that aren't merged
-abbrev pub PipeStands : Standing → List (List ℕ) → Machine → Type 0
-PipeStands stands records m = RecordsStand stands records (drop m.merged m.closed)
+abbrev pub PipeStands : Standing → ℕ → List (List ℕ) → Machine → Type 0
+PipeStands stands key_words records m = RecordsStand stands key_words records (drop m.merged m.closed)
 
 -- the states that the store holds of a key with these merged row lists: one for each list, or one for all their rows
 abbrev pub stored : Folding → List (List ArgRow) → List (List ℕ)
@@ -50,10 +51,14 @@ stored f lists = if f.row_per_epoch then map (folded f) lists else merged_state 
     merged_state [] = []
     merged_state (rows ∷ more) = folded f (flat_map (λ rs. rs) (rows ∷ more)) ∷ []
 
+-- the store counts these epochs of each key, and has their states
+pub record StoreHolds (f : Folding) (store : Store) (epochs : List Epoch) : Type 0 where
+  pub count : (key : Key) → epochs_of store.keys key ≡ epochs_shown (length (lists_of key epochs))
+  pub rows : (key : Key) → states_of store key ≡ stored f (lists_of key epochs)
+
 -- the store stands for the merged epochs
-pub record StoreStands (f : Folding) (store : Store) (m : Machine) : Type 0 where
-  pub count : (key : Key) → epochs_of store.keys key ≡ epochs_shown (length (lists_of key (take m.merged m.closed)))
-  pub rows : (key : Key) → states_of store key ≡ stored f (lists_of key (take m.merged m.closed))
+abbrev pub StoreStands : Folding → Store → Machine → Type 0
+StoreStands f store m = StoreHolds f store (take m.merged m.closed)
 
 -- the buckets and ways of a cache
 abbrev pub geometry : ℕ → Cache → Geometry
@@ -62,6 +67,6 @@ geometry ways cache = record { buckets = length cache.lists; ways = ways; refres
 -- A lane stands for a machine: the cache for its open epochs, the pipe for its closed ones that aren't merged, and the store for its merged ones.
 pub record LaneStands (stands : Standing) (f : Folding) (cache : Cache) (pipe : Pipe) (store : Store) (m : Machine) : Type 0 where
   pub cached : CacheStands stands cache m
-  pub piped : PipeStands stands pipe.records m
+  pub piped : PipeStands stands cache.key_words pipe.records m
   pub kept : StoreStands f store m
   pub few : m.merged ≤ length m.closed

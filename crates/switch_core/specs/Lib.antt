@@ -2,3 +2,10 @@ pub mod Places
 pub mod Lanes
 pub mod Shapes
 pub mod LaneParts
+pub mod LaneEvents
+pub mod Closing
+pub mod Sweeps
+pub mod Rows
+pub mod Pipelines
+pub mod PlanLanes
+pub mod KindTables

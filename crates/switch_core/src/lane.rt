@@ -1,24 +1,42 @@
 //! A lane: what is kept for one groupby.
 
-ghost use Rattle.std.specs.Prelude.{◌≡◌, ◌+◌, ◌*◌, ◌<◌, ◌≤◌, ◌==◌, ◌&&◌, List, [], not, false, length, map, nat_lt, IfOk, sum_by};
-ghost use Rattle.epoch_model.specs.Machine.{Machine, packet, evict, empty_machine};
-ghost use Rattle.bucket_cache.specs.Caches.{Cache, list_at};
+ghost use Rattle.std.specs.Prelude.{◌≡◌, ◌+◌, ◌-◌, ◌*◌, ◌<◌, ◌≤◌, ◌==◌, ◌&&◌, ◌↔◌, List, [], take, drop, OnOk, OnErr, not, true, false, length, map, nat_lt, IfOk, sum_by};
+ghost use Rattle.epoch_model.specs.Machine.{Machine, Packet, Evict, Merge, empty_machine};
+ghost use Rattle.epoch_model.specs.Timeline.{IsSwept};
+ghost use Rattle.bucket_cache.specs.Caches.{Cache, list_at, with_list};
 ghost use Rattle.switch_core.specs.Lanes.{LaneStands, geometry};
 ghost use Rattle.switch_core.specs.LaneParts.{AreParts};
+ghost use Rattle.switch_core.specs.LaneEvents.{EventsAreFollowed, Makes, parts};
+ghost use Rattle.switch_core.specs.Closing.{held_in, is_drained};
+ghost use Rattle.final_queries.specs.GroupTable.{closed_table};
 
+use crate::closing::{columns, shown_rows};
+use crate::merging::merge_record;
 use crate::packet::{packet_at, push_pair};
 use backing_store::BackingStore;
 use bucket_cache::BucketCache;
 use epoch_entry::EpochKind;
 use evict_pipe::EvictPipe;
-use marple_base::Steps;
+use final_queries::{Table, TableKind};
+use marple_base::{Seq, Steps, Text};
+use query_lang::Class;
 use std::alloc::{AllocError, Global};
 use std::sync::ledger::Ledger;
+
+/// What a merge found.
+#[derive(Clone, Copy, Debug, PartialEq, Eq)]
+pub enum Merged {
+    /// The oldest record, which is in the store now.
+    Done,
+    /// An empty pipe.
+    Empty,
+}
 
 /// The cache, the pipe and the store of one groupby, for entries of one kind. Only `merge` and `close` take memory once
 /// it is made.
 #[derive(Drop)]
 pub struct Lane<K: EpochKind, const WAYS: usize> {
+    alloc: Global,
     kind: K,
     cache: BucketCache<WAYS>,
     pipe: EvictPipe,
@@ -60,6 +78,7 @@ impl<K: EpochKind, const WAYS: usize> Lane<K, WAYS> {
         let mut initial = vec![in alloc; 0; state_words]?;
         kind.initial(&mut initial);
         Ok(Lane {
+            alloc,
             kind,
             cache,
             pipe,
@@ -82,13 +101,11 @@ impl<K: EpochKind, const WAYS: usize> Lane<K, WAYS> {
         requires ready { length self.old.pipe.records < self.old.pipe.places }
         requires key { length key.now ≡ self.old.cache.key_words }
         requires args { length args.now ≡ (K.sizes self.old.kind).args }
-        ensures stands { (m : Machine) → LaneStands (K.stands self.old.kind) (K.folding self.old.kind) self.old.cache self.old.pipe self.old.store m
-            → LaneStands (K.stands self.new.kind) (K.folding self.new.kind) self.new.cache self.new.pipe self.new.store (packet (geometry WAYS self.old.cache) m key.now args.now) }
+        ensures stands { Makes (K.stands self.old.kind) (K.folding self.old.kind) WAYS (Packet key.now args.now) (parts self.old.cache self.old.pipe self.old.store) (parts self.new.cache self.new.pipe self.new.store) }
         ensures kind { self.new.kind ≡ self.old.kind }
-        ensures buckets { length self.new.cache.lists ≡ length self.old.cache.lists }
-        ensures places { self.new.pipe.places ≡ self.old.pipe.places }
-        ensures key { self.new.cache.key_words ≡ self.old.cache.key_words }
         ensures at_least { steps.old ≤ steps.new }
+        ensures cost { let key_words = self.old.cache.key_words in
+            steps.new ≤ steps.old + (key_words + 2 * WAYS * (key_words + 1) + (key_words + (K.sizes self.old.kind).entry) + K.open_bound self.old.kind + K.absorb_bound self.old.kind) }
     {
         packet_at(
             &self.kind,
@@ -106,15 +123,12 @@ impl<K: EpochKind, const WAYS: usize> Lane<K, WAYS> {
     pub fn evict<L: Ledger>(&mut self, bucket: u32, steps: &mut Steps<L>) -> bool
         requires ready { length self.old.pipe.records < self.old.pipe.places }
         requires range { bucket < length self.old.cache.lists }
-        ensures stands { (m : Machine) → LaneStands (K.stands self.old.kind) (K.folding self.old.kind) self.old.cache self.old.pipe self.old.store m
-            → LaneStands (K.stands self.new.kind) (K.folding self.new.kind) self.new.cache self.new.pipe self.new.store (evict m bucket) }
+        ensures stands { Makes (K.stands self.old.kind) (K.folding self.old.kind) WAYS (Evict bucket) (parts self.old.cache self.old.pipe self.old.store) (parts self.new.cache self.new.pipe self.new.store) }
         ensures some { result ≡ not (length (list_at self.old.cache bucket) == 0) }
+        ensures cache { let list = list_at self.old.cache bucket in self.new.cache ≡ with_list self.old.cache bucket (take (length list - 1) list) }
         ensures same { result ≡ false → (self.new.cache ≡ self.old.cache) × (self.new.pipe ≡ self.old.pipe) }
         ensures kind { self.new.kind ≡ self.old.kind }
         ensures store { self.new.store ≡ self.old.store }
-        ensures buckets { length self.new.cache.lists ≡ length self.old.cache.lists }
-        ensures places { self.new.pipe.places ≡ self.old.pipe.places }
-        ensures key { self.new.cache.key_words ≡ self.old.cache.key_words }
         ensures at_least { steps.old ≤ steps.new }
     {
         match self.cache.least(bucket) {
@@ -127,9 +141,38 @@ impl<K: EpochKind, const WAYS: usize> Lane<K, WAYS> {
         }
     }
 
+    /// Merges the oldest record of the pipe into the store. Empty exactly where the pipe is empty, and then nothing
+    /// changes; after a refusal of memory the lane is as it was.
+    pub fn merge<L: Ledger>(&mut self, steps: &mut Steps<L>) -> Result<Merged, AllocError>
+        ensures stands { OnOk result (Makes (K.stands self.old.kind) (K.folding self.old.kind) WAYS Merge (parts self.old.cache self.old.pipe self.old.store) (parts self.new.cache self.new.pipe self.new.store)) }
+        ensures empty { (result ≡ Ok Merged.Empty) ↔ (length self.old.pipe.records ≡ 0) }
+        ensures same { result ≡ Ok Merged.Empty → (self.new.pipe ≡ self.old.pipe) × (self.new.store ≡ self.old.store) }
+        ensures err { OnErr result ((self.new.pipe ≡ self.old.pipe) × (self.new.store ≡ self.old.store)) }
+        ensures records { OnOk result (self.new.pipe.records ≡ drop 1 self.old.pipe.records) }
+        ensures ready { OnOk result (length self.new.pipe.records < self.new.pipe.places) }
+        ensures kind { self.new.kind ≡ self.old.kind }
+        ensures cache { self.new.cache ≡ self.old.cache }
+        ensures at_least { steps.old ≤ steps.new }
+    {
+        if self.piped() == 0 {
+            return Ok(Merged::Empty);
+        }
+        let _copied = self.pipe.front_into(&mut self.room, steps);
+        merge_record(
+            &self.kind,
+            &mut self.store,
+            &self.room,
+            &self.initial,
+            &mut self.scratch,
+            steps,
+        )?;
+        self.pipe.drop_front();
+        Ok(Merged::Done)
+    }
+
     /// The number of open epochs in the cache.
     pub fn held(&self) -> usize
-        ensures number { result ≡ sum_by (λ pairs. length pairs) self.now.cache.lists }
+        ensures number { result ≡ held_in self.now.cache }
         ensures bound { result ≤ length self.now.cache.lists * WAYS }
     {
         self.cache.held()
@@ -143,10 +186,75 @@ impl<K: EpochKind, const WAYS: usize> Lane<K, WAYS> {
         self.pipe.len()
     }
 
-    /// Whether cache and pipe are empty.
+    /// Whether cache and pipe are empty. Then no epoch is open, and all closed ones are merged.
     pub fn drained(&self) -> bool
-        ensures { result ≡ ((sum_by (λ pairs. length pairs) self.now.cache.lists == 0) && (length self.now.pipe.records == 0)) }
+        ensures value { result ≡ is_drained self.now.cache self.now.pipe }
+        ensures done { result ≡ true → (m : Machine) → LaneStands (K.stands self.now.kind) (K.folding self.now.kind) self.now.cache self.now.pipe self.now.store m → IsSwept m × (m.merged ≡ length m.closed) }
     {
         self.held() == 0 && self.piped() == 0
+    }
+
+    /// The table of the closed epochs, under these names. The lane stays as it is.
+    pub fn close(
+        &self,
+        name: Text,
+        key_names: Seq<Text>,
+        state_names: Seq<Text>,
+        class: Class,
+        depth: u8,
+    ) -> Result<Table, AllocError>
+        requires drained { is_drained self.now.cache self.now.pipe ≡ true }
+        requires keys { length key_names ≡ self.now.cache.key_words }
+        requires class { (class ≡ Class.Linear) ↔ ((K.folding self.now.kind).row_per_epoch ≡ false) }
+        ensures { IfOk result (λ table. (m : Machine) → LaneStands (K.stands self.now.kind) (K.folding self.now.kind) self.now.cache self.now.pipe self.now.store m
+            → table ≡ closed_table (record { name = name; key_names = key_names; state_names = state_names; class = class; depth = depth }) (K.folding self.now.kind) m.closed) }
+    {
+        self.store.known();
+        let keys = key_names.len() as u8;
+        let stored = self.store.sorted()?;
+        let shown = shown_rows(self.alloc, stored, self.kind.row_per_epoch())?;
+        Ok(Table {
+            name,
+            columns: columns(key_names, state_names)?,
+            keys,
+            kind: TableKind::Group(class, depth, shown.epochs),
+            rows: shown.rows,
+        })
+    }
+
+    /// What holds of every lane: after any events, in whatever order packets, evictions and merges come, it stands for the
+    /// machine after them.
+    pub fn follows_events(&self)
+        ensures { EventsAreFollowed (K.stands self.now.kind) (K.folding self.now.kind) WAYS }
+    {
+        let _kind = &self.kind;
+    }
+
+    /// The kind of its entries.
+    pub fn kind(&self) -> &K
+        ensures { result.now ≡ self.now.kind }
+    {
+        &self.kind
+    }
+
+    /// The cache of open epochs.
+    pub fn cache(&self) -> &BucketCache<WAYS>
+        ensures { result.now ≡ self.now.cache }
+    {
+        &self.cache
+    }
+
+    /// The pipe of closed epochs that aren't merged.
+    pub fn pipe(&self) -> &EvictPipe
+        ensures { result.now ≡ self.now.pipe }
+    {
+        &self.pipe
+    }
+
+    /// The store of merged epochs.
+    pub fn store(&self) -> &BackingStore
+        ensures { result.now ≡ self.now.store }
+    {
+        &self.store
     }
 }

@@ -2,8 +2,18 @@
 //! they are merged into.
 #![tactic(auto)]
 
+mod closing;
 mod lane;
+mod lanes;
+mod laws;
+mod making;
+mod merging;
 mod packet;
+mod pipeline;
 mod places;
+mod sweeping;
+mod tables;
 
-pub use lane::Lane;
+pub use lane::{Lane, Merged};
+pub use laws::tables_are_of_folds;
+pub use pipeline::Pipeline;

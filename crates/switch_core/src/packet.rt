@@ -9,7 +9,7 @@ ghost use Rattle.switch_core.specs.Lanes.{CacheStands, PipeStands, geometry};
 ghost use Rattle.switch_core.specs.Shapes.{HasShapeOf};
 
 use crate::places::{absorb_at, begin_at};
-use bucket_cache::{BucketCache, Touch, bucket_of};
+use bucket_cache::{BucketCache, Touch, bucket_of, uses_are_bounded};
 use epoch_entry::EpochKind;
 use evict_pipe::EvictPipe;
 use marple_base::Steps;
@@ -51,12 +51,14 @@ pub fn packet_at<K: EpochKind, const WAYS: usize, L: Ledger>(
     requires room { length pipe.old.records < pipe.old.places }
     requires record { pipe.old.record_words ≡ cache.old.key_words + cache.old.entry_words }
     ensures cache { (m : Machine) → CacheStands (K.stands kind.now) cache.old m → CacheStands (K.stands kind.now) cache.new (packet (geometry WAYS cache.old) m key.now args.now) }
-    ensures pipe { (m : Machine) → CacheStands (K.stands kind.now) cache.old m → m.merged ≤ length m.closed → PipeStands (K.stands kind.now) pipe.old.records m
-        → PipeStands (K.stands kind.now) pipe.new.records (packet (geometry WAYS cache.old) m key.now args.now) }
+    ensures pipe { (m : Machine) → CacheStands (K.stands kind.now) cache.old m → m.merged ≤ length m.closed → PipeStands (K.stands kind.now) cache.old.key_words pipe.old.records m
+        → PipeStands (K.stands kind.now) cache.old.key_words pipe.new.records (packet (geometry WAYS cache.old) m key.now args.now) }
     ensures shape { HasShapeOf cache.old cache.new }
     ensures rest { pipe.new ≡ with_records pipe.old pipe.new.records }
     ensures at_least { steps.old ≤ steps.new }
+    ensures cost { let key_words = cache.old.key_words in steps.new ≤ steps.old + (key_words + 2 * WAYS * (key_words + 1) + (key_words + cache.old.entry_words) + K.open_bound kind.now + K.absorb_bound kind.now) }
 {
+    uses_are_bounded();
     let bucket = bucket_of(key, cache.buckets(), steps);
     match cache.touch(bucket, key, steps) {
         Touch::Hit(place) => absorb_at(kind, cache, place, args, scratch, steps),

@@ -1,8 +1,9 @@
 use Rattle.std.proofs.Common.{◌≡◌, ◌<◌, length, ◌+◌, refl, ap, sym, ◌∙◌, subst, lit<}
 use Rattle.epoch_model.specs.Keys.{bucket_of}
+use Rattle.epoch_model.specs.Machine.{packet}
 use Rattle.bucket_cache.specs.Caches.{list_at}
 use Rattle.bucket_cache.specs.Touches.{IsLeast}
-use Rattle.switch_core.specs.Lanes.{CacheStands, PipeStands}
+use Rattle.switch_core.specs.Lanes.{CacheStands, PipeStands, geometry}
 use Rattle.switch_core.proofs.CacheSteps.{hit_machine, free_machine, full_machine, hit_stands, free_stands, full_stands, front_within, least_within, list_set, as_it_was}
 use Rattle.switch_core.proofs.PipeSteps.{pipe_evicted}
 use Rattle.switch_core.proofs.packet.packet_at.Goals as goal
@@ -68,7 +69,7 @@ pub returns-in-Hit-clause-pipe : goal.returns-in-Hit-clause-pipe
 returns-in-Hit-clause-pipe g c m s few p =
     let t = c.in-Hit.ensures in
     let own = c.bucket_of-bucket.ensures.bucket ∙ ap (λ n. bucket_of n c.args.key.now) c.buckets.ensures.number in
-    subst (PipeStands (g.K.EpochKind.stands c.args.kind.now) c.args.pipe.now.records)
+    subst (PipeStands (g.K.EpochKind.stands c.args.kind.now) c.args.cache.now.key_words c.args.pipe.now.records)
     (sym (hit_machine (g.K.EpochKind.stands c.args.kind.now) g.row.WAYS c.args.cache.now (list_at c.touch.new.self c.bucket_of-bucket.result) c.bucket_of-bucket.result c.in-Hit.place c.args.key.now c.args.args.now own t.touched m s)) p
 
 pub returns-in-Free-clause-cache : goal.returns-in-Free-clause-cache
@@ -85,7 +86,7 @@ pub returns-in-Free-clause-pipe : goal.returns-in-Free-clause-pipe
 returns-in-Free-clause-pipe g c m s few p =
     let t = c.in-Free.ensures in
     let own = c.bucket_of-bucket.ensures.bucket ∙ ap (λ n. bucket_of n c.args.key.now) c.buckets.ensures.number in
-    subst (PipeStands (g.K.EpochKind.stands c.args.kind.now) c.args.pipe.now.records)
+    subst (PipeStands (g.K.EpochKind.stands c.args.kind.now) c.args.cache.now.key_words c.args.pipe.now.records)
     (sym (free_machine (g.K.EpochKind.stands c.args.kind.now) g.row.WAYS c.args.cache.now (list_at c.touch.new.self c.bucket_of-bucket.result) c.bucket_of-bucket.result c.in-Free.place c.args.key.now c.args.args.now own t.touched m s)) p
 
 pub returns-in-Full-clause-cache : goal.returns-in-Full-clause-cache
@@ -110,7 +111,9 @@ returns-in-Full-clause-pipe g c m s few p =
     let untouched = as_it_was g.row.WAYS c.args.cache.now c.touch.new.self c.args.key.now bucket c.in-Full.place t.touched t.rest in
     let least : IsLeast (list_at c.touch.new.self bucket) c.in-Full.place = subst (λ ps. IsLeast ps c.in-Full.place) (sym t.touched.3) t.touched.2 in
     let some : 0 < length (list_at c.touch.new.self bucket) = subst (λ n. 0 < n) (sym (ap length t.touched.3 ∙ t.touched.1)) c.requires.ways in
-    let evicted = pipe_evicted stands c.touch.new.self bucket c.in-Full.place c.args.pipe.now.records c.push_pair.new.pipe.records some least c.push_pair.ensures.pushed m
-    (subst (λ x. CacheStands stands x m) (sym untouched) s) few p in
-    subst (PipeStands stands c.push_pair.new.pipe.records)
-    (sym (full_machine stands g.row.WAYS c.args.cache.now (list_at c.touch.new.self bucket) bucket c.in-Full.place c.args.key.now c.args.args.now own t.touched m s)) evicted
+    let same : c.touch.new.self.key_words ≡ c.args.cache.now.key_words = ap (λ x. x.key_words) t.rest in
+    let evicted = pipe_evicted stands g.row.WAYS c.touch.new.self bucket c.in-Full.place c.args.pipe.now.records c.push_pair.new.pipe.records t.sound some least c.push_pair.ensures.pushed m
+    (subst (λ x. CacheStands stands x m) (sym untouched) s) few (subst (λ n. PipeStands stands n c.args.pipe.now.records m) (sym same) p) in
+    subst (λ n. PipeStands stands n c.push_pair.new.pipe.records (packet (geometry g.row.WAYS c.args.cache.now) m c.args.key.now c.args.args.now)) same
+    (subst (PipeStands stands c.touch.new.self.key_words c.push_pair.new.pipe.records)
+    (sym (full_machine stands g.row.WAYS c.args.cache.now (list_at c.touch.new.self bucket) bucket c.in-Full.place c.args.key.now c.args.args.now own t.touched m s)) evicted)

@@ -1,0 +1,149 @@
+-- What holds of each lane of a plan.
+use Rattle.std.proofs.Common.{◌≡◌, ℕ, zero, suc, ◌+◌, ◌<◌, ◌≤◌, ◌&&◌, ◌==◌, Bool, true, false, List, [], ◌∷◌, Some, Result, Ok, Err, OnOk, OnErr, length, map, take, set, get_or, ◌++◌, refl, sym, ap, ◌∙◌, subst, arith}
+use Rattle.std.specs.List.{list_all}
+use Rattle.std.proofs.Math.Seq.{take-append_seam}
+use Rattle.std.specs.Prelude.{slice_get}
+use Rattle.std.proofs.lemmas.Bool.Decides.{nat_tests}
+use Rattle.epoch_model.specs.Machine.{Event}
+use Rattle.epoch_entry.specs.declared.any.AnyEpochs.{AnyEpochs}
+use Rattle.epoch_entry.specs.contracts.any.AnyEpochsEpochKind.TheImpl.{ghosts}
+use Rattle.stage_plan.specs.Planned.{wiring_at}
+use Rattle.stage_plan.specs.Sound.{PlanParts, IsSoundPlan}
+use Rattle.switch_core.specs.declared.lane.Lane.{Lane}
+use Rattle.switch_core.specs.Pipelines.{IsLaneOf, event_at}
+use Rattle.switch_core.specs.PlanLanes.{LaneView, lane_view, parts_of, AreLanesOf, LaneMakes, LanesMake, LaneSweeps}
+use Rattle.switch_core.specs.Rows.{EachFrom}
+use Rattle.switch_core.proofs.SweepSteps.{sweep_none}
+use Rattle.switch_core.proofs.SideBySide.{each_at, each_set, untouched_start}
+
+pub got_view : {ways : ℕ} (lanes : List (Lane AnyEpochs ways ghosts)) (i : ℕ) (d : Lane AnyEpochs ways ghosts) → i < length lanes → slice_get (map lane_view lanes) i ≡ Some (lane_view (get_or lanes i d))
+got_view [] i d h = absurd (omega arith)
+got_view (x ∷ lanes) zero d h = refl
+got_view (x ∷ lanes) (suc i) d h = got_view lanes i d (omega arith)
+
+pub set_view : {ways : ℕ} (lanes : List (Lane AnyEpochs ways ghosts)) (i : ℕ) (x : Lane AnyEpochs ways ghosts) → map lane_view (set lanes i x) ≡ set (map lane_view lanes) i (lane_view x)
+set_view [] i x = refl
+set_view (y ∷ lanes) zero x = refl
+set_view (y ∷ lanes) (suc i) x = ap (λ vs. lane_view y ∷ vs) (set_view lanes i x)
+
+pub all_at : {X : Type 0} (p : X → Bool) (xs : List X) (i : ℕ) (x : X) → list_all p xs ≡ true → slice_get xs i ≡ Some x → p x ≡ true
+all_at p [] i x a e = cc
+all_at p (y ∷ xs) zero x a e = let same : y ≡ x = cc in ap p (sym same) ∙ first (p y) (list_all p xs) a
+  where
+    first : (b c : Bool) → (b && c) ≡ true → b ≡ true
+    first true c h = refl
+    first false c h = h
+all_at p (y ∷ xs) (suc i) x a e = all_at p xs i x (rest (p y) (list_all p xs) a) e
+  where
+    rest : (b c : Bool) → (b && c) ≡ true → c ≡ true
+    rest true c h = h
+    rest false c h = cc
+
+pub same_some : {X : Type 0} (x y : X) → Some x ≡ Some y → x ≡ y
+same_some x y e = cc
+
+pub got_some : {X : Type 0} (xs : List X) (i : ℕ) → i < length xs → (x : X) × (slice_get xs i ≡ Some x)
+got_some [] i h = absurd (omega arith)
+got_some (x ∷ xs) zero h = (x, refl)
+got_some (x ∷ xs) (suc i) h = got_some xs i (omega arith)
+
+pub got_below : {X : Type 0} (xs : List X) (i : ℕ) (x : X) → slice_get xs i ≡ Some x → i < length xs
+got_below [] i x h = cc
+got_below (y ∷ xs) zero x h = omega arith
+got_below (y ∷ xs) (suc i) x h = let r = got_below xs i x h in omega arith
+
+-- a lane's place is that of a groupby, and it has the words of what the groupby takes
+pub record FitsWiring (plan : PlanParts) (i : ℕ) (lane : LaneView) : Type 0 where
+  pub group : i < length plan.groups
+  pub keys : lane.cache.key_words ≡ length (wiring_at plan i).keys
+  pub args : (ghosts.sizes lane.kind).args ≡ length (wiring_at plan i).args
+  pub few_keys : length (wiring_at plan i).keys ≤ 8
+  pub few_args : length (wiring_at plan i).args ≤ 16
+
+pub lane_fits : (plan : PlanParts) (buckets i : ℕ) (lanes : List LaneView) (lane : LaneView) → IsSoundPlan plan → AreLanesOf plan buckets lanes → slice_get lanes i ≡ Some lane → FitsWiring plan i lane
+lane_fits plan buckets i lanes lane sound are at =
+    let R = λ (n : ℕ) (l : LaneView) (group : _). IsLaneOf buckets l.cache (ghosts.sizes l.kind) (ghosts.folding l.kind) (ghosts.open_bound l.kind) (ghosts.absorb_bound l.kind) group (wiring_at plan n) in
+    let found = each_at R 0 i lanes plan.groups lane are at in
+    let below = got_below plan.groups i found.0 found.1 in
+    let wired = got_some plan.wiring i (let w = sound.wired in omega arith) in
+    let is : wiring_at plan i ≡ wired.0 = rw wired.1 refl in
+    let own = found.2 i (omega arith) in
+    let each = sound.each i found.0 wired.0 found.1 wired.1 in
+    record {
+      group = below;
+      keys = own.keys ∙ (sym each.keys ∙ ap (λ w. length w.keys) (sym is));
+      args = own.args;
+      few_keys = subst (λ w. length w.keys ≤ 8) (sym is) (let a = each.keys in let b = each.most_keys in omega arith);
+      few_args = subst (λ w. length w.args ≤ 16) (sym is) each.most_args;
+    }
+
+-- lanes that made nothing
+pub sweeps_start : (ways k : ℕ) (lanes : List LaneView) → EachFrom (λ n. LaneSweeps ways) k lanes lanes
+sweeps_start ways k [] = tt
+sweeps_start ways k (lane ∷ lanes) =
+    (record { kind = refl; made = sweep_none (ghosts.stands lane.kind) (ghosts.folding lane.kind) ways (parts_of lane) }, sweeps_start ways (suc k) lanes)
+
+pub on_ok : {X E : Type 0} (P Q : Type 0) (r : Result X E) → (P → Q) → OnOk r P → OnOk r Q
+on_ok P Q (Ok x) h o = h o
+on_ok P Q (Err e) h o = o
+
+pub on_err : {X E : Type 0} (P Q : Type 0) (r : Result X E) → (P → Q) → OnErr r P → OnErr r Q
+on_err P Q (Ok x) h o = o
+on_err P Q (Err e) h o = h o
+
+pub got_set : {X : Type 0} (xs : List X) (i : ℕ) (x : X) → i < length xs → slice_get (set xs i x) i ≡ Some x
+got_set [] i x h = absurd (omega arith)
+got_set (y ∷ xs) zero x h = refl
+got_set (y ∷ xs) (suc i) x h = got_set xs i x (omega arith)
+
+pub set_same : {X : Type 0} (xs : List X) (i : ℕ) (x : X) → slice_get xs i ≡ Some x → set xs i x ≡ xs
+set_same [] i x h = refl
+set_same (y ∷ xs) zero x h = let same : y ≡ x = cc in ap (λ z. z ∷ xs) (sym same)
+set_same (y ∷ xs) (suc i) x h = ap (λ zs. y ∷ zs) (set_same xs i x h)
+
+-- one lane alone has an event
+pub make_one : (ways at : ℕ) (event : Event) (lanes : List LaneView) (lane new : LaneView) → slice_get lanes at ≡ Some lane → LaneMakes ways (event ∷ []) lane new → LanesMake ways (event_at at event) lanes (set lanes at new)
+make_one ways at event lanes lane new here made =
+    each_set (λ n a b. 0 ≤ n → b ≡ a) (λ n. LaneMakes ways (event_at at event n)) 0 at lanes lanes new
+    (λ j n a b q apart r.
+    let other : (n == at) ≡ false = let d : n ≡ at → ⊥ = λ z. apart (omega arith) in grind (arith, nat_tests) in
+    subst (λ x. LaneMakes ways (event_at at event n) a x) (sym (r (omega arith))) (rw other (record { kind = refl; made = refl })))
+    (λ n x q e.
+    let same : (n == at) ≡ true = grind (arith, nat_tests) in
+    rw same (subst (λ l. LaneMakes ways (event ∷ []) l new) (same_some lane x (sym here ∙ e)) made))
+    (untouched_start 0 0 lanes)
+
+-- what is written over the whole of a list
+pub whole_written : {X : Type 0} (xs rest : List X) (n : ℕ) → length xs ≡ n → take n (xs ++ rest) ≡ xs
+whole_written xs rest n e = subst (λ k. take k (xs ++ rest) ≡ xs) e (take-append_seam xs rest)
+
+-- a test of all items, one item more
+
+pub all_next : {X : Type 0} (p : X → Bool) (xs : List X) (i : ℕ) (x : X) → list_all p (take i xs) ≡ true → slice_get xs i ≡ Some x → p x ≡ true → list_all p (take (i + 1) xs) ≡ true
+all_next {X = X} p xs i x a e t = ap (λ n. list_all p (take n xs)) (let q : i + 1 ≡ suc i = omega arith in q) ∙ next p xs i x a e t
+  where
+    first : (b c : Bool) → (b && c) ≡ true → b ≡ true
+    first true c h = refl
+    first false c h = h
+
+    rest : (b c : Bool) → (b && c) ≡ true → c ≡ true
+    rest true c h = h
+    rest false c h = cc
+
+    next : (p : X → Bool) (xs : List X) (i : ℕ) (x : X) → list_all p (take i xs) ≡ true → slice_get xs i ≡ Some x → p x ≡ true → list_all p (take (suc i) xs) ≡ true
+    next p [] i x a e t = refl
+    next p (y ∷ xs) zero x a e t = let same : y ≡ x = cc in let u : p y ≡ true = ap p same ∙ t in rw u refl
+    next p (y ∷ xs) (suc i) x a e t = let u = first (p y) (list_all p (take i xs)) a in rw u (next p xs i x (rest (p y) (list_all p (take i xs)) a) e t)
+
+pub all_fails : {X : Type 0} (p : X → Bool) (xs : List X) (i : ℕ) (x : X) → slice_get xs i ≡ Some x → p x ≡ false → list_all p xs ≡ false
+all_fails p [] i x e f = cc
+all_fails p (y ∷ xs) zero x e f = let same : y ≡ x = cc in let u : p y ≡ false = ap p same ∙ f in rw u refl
+all_fails {X = X} p (y ∷ xs) (suc i) x e f = ap (λ t. p y && t) (all_fails p xs i x e f) ∙ and_false (p y)
+  where
+    and_false : (b : Bool) → (b && false) ≡ false
+    and_false true = refl
+    and_false false = refl
+
+pub either_way : {X E : Type 0} (P Q G : Type 0) (r : Result X E) → OnOk r P → OnErr r Q → (P → G) → (Q → G) → G
+either_way P Q G (Ok x) a b f h = f a
+either_way P Q G (Err e) a b f h = h b

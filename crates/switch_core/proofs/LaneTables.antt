@@ -1,0 +1,70 @@
+-- The tables of lanes, one after another.
+use Rattle.std.proofs.Common.{◌≡◌, ◌↔◌, ℕ, zero, suc, ◌+◌, ◌≤◌, ◌&&◌, Bool, true, false, List, [], ◌∷◌, ◌++◌, Some, length, map, take, refl, sym, ap, ◌∙◌, arith}
+use Rattle.std.specs.List.{list_all}
+use Rattle.std.specs.Prelude.{slice_get}
+use Rattle.std.proofs.lemmas.Bool.{true≢false}
+use Rattle.query_lang.specs.declared.typed.Class.{Class}
+use Rattle.query_lang.specs.declared.typed.Class.TheVariants.{Linear}
+use Rattle.epoch_model.specs.Machine.{Machine}
+use Rattle.epoch_model.specs.Timeline.{IsSwept}
+use Rattle.epoch_entry.specs.Foldings.{per_epoch}
+use Rattle.epoch_entry.specs.contracts.any.AnyEpochsEpochKind.TheImpl.{ghosts}
+use Rattle.final_queries.specs.GroupTable.{closed_table}
+use Rattle.stage_plan.specs.declared.group.GroupPlan.{GroupPlan}
+use Rattle.switch_core.specs.Rows.{EachFrom}
+use Rattle.switch_core.specs.Pipelines.{heading_of, tables_of}
+use Rattle.switch_core.specs.PlanLanes.{LaneView, StandsFor, folding_at, lane_is_drained}
+use Rattle.switch_core.proofs.Drained.{drained_is_done}
+
+-- a fold of this class has a row for all epochs exactly where it is linear
+pub class_fits : (class : Class) (each : Bool) → each ≡ per_epoch class → (class ≡ Linear) ↔ (each ≡ false)
+class_fits Linear each e = (λ h. e, λ h. refl)
+class_fits Class.Other each e = (λ h. absurd (other h), λ h. absurd (true≢false (sym e ∙ h)))
+  where
+    other : Class.Other ≡ Linear → ⊥
+    other h = cc
+
+tables_next_at : (groups : List GroupPlan) (lanes : List LaneView) (ms : List Machine) (i : ℕ) (group : GroupPlan) (lane : LaneView) (m : Machine)
+    → slice_get groups i ≡ Some group → slice_get lanes i ≡ Some lane → slice_get ms i ≡ Some m
+    → take (suc i) (tables_of groups (map folding_at lanes) ms) ≡ take i (tables_of groups (map folding_at lanes) ms) ++ closed_table (heading_of group) (folding_at lane) m.closed ∷ []
+tables_next_at [] lanes ms i group lane m a b e = cc
+tables_next_at (g ∷ groups) [] ms i group lane m a b e = cc
+tables_next_at (g ∷ groups) (l ∷ lanes) [] i group lane m a b e = cc
+tables_next_at (g ∷ groups) (l ∷ lanes) (n ∷ ms) zero group lane m a b e =
+    let x : g ≡ group = cc in let y : l ≡ lane = cc in let z : n ≡ m = cc in rw (x, y, z) refl
+tables_next_at (g ∷ groups) (l ∷ lanes) (n ∷ ms) (suc i) group lane m a b e =
+    ap (λ ts. closed_table (heading_of g) (folding_at l) n.closed ∷ ts) (tables_next_at groups lanes ms i group lane m a b e)
+
+pub tables_next : (groups : List GroupPlan) (lanes : List LaneView) (ms : List Machine) (i : ℕ) (group : GroupPlan) (lane : LaneView) (m : Machine)
+    → slice_get groups i ≡ Some group → slice_get lanes i ≡ Some lane → slice_get ms i ≡ Some m
+    → take (i + 1) (tables_of groups (map folding_at lanes) ms) ≡ take i (tables_of groups (map folding_at lanes) ms) ++ closed_table (heading_of group) (folding_at lane) m.closed ∷ []
+tables_next groups lanes ms i group lane m a b e =
+    ap (λ n. take n (tables_of groups (map folding_at lanes) ms)) (let q : i + 1 ≡ suc i = omega arith in q) ∙ tables_next_at groups lanes ms i group lane m a b e
+
+pub tables_whole : (groups : List GroupPlan) (lanes : List LaneView) (ms : List Machine) (i : ℕ) → length lanes ≤ i → take i (tables_of groups (map folding_at lanes) ms) ≡ tables_of groups (map folding_at lanes) ms
+tables_whole [] lanes ms zero h = refl
+tables_whole [] lanes ms (suc i) h = refl
+tables_whole (g ∷ groups) [] ms zero h = refl
+tables_whole (g ∷ groups) [] ms (suc i) h = refl
+tables_whole (g ∷ groups) (l ∷ lanes) [] zero h = refl
+tables_whole (g ∷ groups) (l ∷ lanes) [] (suc i) h = refl
+tables_whole (g ∷ groups) (l ∷ lanes) (m ∷ ms) zero h = absurd (omega arith)
+tables_whole (g ∷ groups) (l ∷ lanes) (m ∷ ms) (suc i) h = ap (λ ts. closed_table (heading_of g) (folding_at l) m.closed ∷ ts) (tables_whole groups lanes ms i (omega arith))
+
+-- drained lanes have no open epoch, and all closed ones are merged
+pub all_done : (k : ℕ) (lanes : List LaneView) (ms : List Machine) → list_all lane_is_drained lanes ≡ true → EachFrom (λ n. StandsFor) k lanes ms → EachFrom (λ n lane m. IsSwept m × (m.merged ≡ length m.closed)) k lanes ms
+all_done k [] [] d s = tt
+all_done k [] (m ∷ ms) d s = absurd s
+all_done k (l ∷ lanes) [] d s = absurd s
+all_done k (l ∷ lanes) (m ∷ ms) d s = (
+  drained_is_done (ghosts.stands l.kind) (ghosts.folding l.kind) l.cache l.pipe l.store (first (lane_is_drained l) (list_all lane_is_drained lanes) d) m s.0,
+  all_done (suc k) lanes ms (rest (lane_is_drained l) (list_all lane_is_drained lanes) d) s.1,
+)
+  where
+    first : (b c : Bool) → (b && c) ≡ true → b ≡ true
+    first true c h = refl
+    first false c h = h
+
+    rest : (b c : Bool) → (b && c) ≡ true → c ≡ true
+    rest true c h = h
+    rest false c h = cc

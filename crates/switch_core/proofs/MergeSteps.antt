@@ -1,0 +1,66 @@
+-- A lane whose oldest record was merged stands for the machine after the merge.
+use Rattle.std.proofs.Common.{◌≡◌, ℕ, zero, suc, ◌+◌, ◌<◌, ◌≤◌, true, false, List, [], ◌∷◌, ◌++◌, length, take, drop, get_or, refl, sym, ap, ◌∙◌, subst, arith, length-drop}
+use Rattle.std.specs.Prelude.{nat_lt}
+use Rattle.std.proofs.lemmas.Bool.{lt-ltb, le-ltb}
+use Rattle.epoch_model.specs.Machine.{Epoch, Machine, merge}
+use Rattle.epoch_model.specs.Tables.{Folding}
+use Rattle.bucket_cache.specs.Caches.{Cache}
+use Rattle.evict_pipe.specs.Pipes.{Pipe}
+use Rattle.backing_store.specs.Store.{Store}
+use Rattle.switch_core.specs.Lanes.{Standing, RecordStands, RecordsStand, StoreHolds, LaneStands}
+
+pub records_none : (stands : Standing) (kw : ℕ) (records : List (List ℕ)) (epochs : List Epoch) → RecordsStand stands kw records epochs → length records ≡ 0 → epochs ≡ []
+records_none stands kw [] [] s e = refl
+records_none stands kw [] (x ∷ epochs) s e = absurd s
+records_none stands kw (r ∷ records) epochs s e = absurd (omega arith)
+
+all_merged : (m : Machine) → m.merged ≤ length m.closed → drop m.merged m.closed ≡ [] → m.merged ≡ length m.closed
+all_merged m few e = let l = length-drop m.merged m.closed in let z = ap length e in omega arith
+
+-- With no record in the pipe every closed epoch is merged.
+pub none_piped : (stands : Standing) (f : Folding) (cache : Cache) (pipe : Pipe) (store : Store) (m : Machine) → LaneStands stands f cache pipe store m → length pipe.records ≡ 0 → m.merged ≡ length m.closed
+none_piped stands f cache pipe store m s e = all_merged m s.few (records_none stands cache.key_words pipe.records (drop m.merged m.closed) s.piped e)
+
+pub merge_none : (m : Machine) → m.merged ≡ length m.closed → merge m ≡ m
+merge_none m e = let shut : nat_lt m.merged (length m.closed) ≡ false = le-ltb m.merged (length m.closed) (omega arith) in rw shut refl
+
+-- the first record stands for the first epoch
+records_first : (stands : Standing) (kw : ℕ) (records : List (List ℕ)) (epochs : List Epoch) → RecordsStand stands kw records epochs → 0 < length records
+    → (e : Epoch) × (es : List Epoch) × (epochs ≡ e ∷ es) × RecordStands stands kw (get_or records 0 []) e × RecordsStand stands kw (drop 1 records) es
+records_first stands kw [] epochs s h = absurd (omega arith)
+records_first stands kw (r ∷ records) [] s h = absurd s
+records_first stands kw (r ∷ records) (e ∷ es) s h = (e, es, refl, s.0, s.1)
+
+-- one epoch more on the way through a list
+one_on : (n : ℕ) (xs : List Epoch) (e : Epoch) (es : List Epoch) → drop n xs ≡ e ∷ es → (take (suc n) xs ≡ take n xs ++ e ∷ []) × (drop (suc n) xs ≡ es) × (n < length xs)
+one_on zero [] e es h = absurd (nothing h)
+  where
+    nothing : [] ≡ e ∷ es → ⊥
+    nothing h = cc
+one_on zero (x ∷ xs) e es h = let a : x ≡ e = cc in let b : xs ≡ es = cc in (ap (λ y. y ∷ []) a, b, omega arith)
+one_on (suc n) [] e es h = absurd (nothing h)
+  where
+    nothing : [] ≡ e ∷ es → ⊥
+    nothing h = cc
+one_on (suc n) (x ∷ xs) e es h = let rest = one_on n xs e es h in (ap (λ ys. x ∷ ys) rest.0, rest.1, let l = rest.2 in omega arith)
+
+pub merge_one : (stands : Standing) (f : Folding) (cache : Cache) (old new : Pipe) (before after : Store) (m : Machine) → 0 < length old.records → new.records ≡ drop 1 old.records
+    → ((epoch : Epoch) (epochs : List Epoch) → RecordStands stands cache.key_words (get_or old.records 0 []) epoch → StoreHolds f before epochs → StoreHolds f after (epochs ++ epoch ∷ []))
+    → LaneStands stands f cache old before m → LaneStands stands f cache new after (merge m)
+merge_one stands f cache old new before after m some dropped held s =
+    let first = records_first stands cache.key_words old.records (drop m.merged m.closed) s.piped some in
+    let e = first.0 in
+    let on = one_on m.merged m.closed e first.1 first.2 in
+    let next : m.merged + 1 ≡ suc m.merged = omega arith in
+    let is : nat_lt m.merged (length m.closed) ≡ true = lt-ltb m.merged (length m.closed) on.2 in
+    let n : Machine = record { recent = m.recent; closed = m.closed; merged = m.merged + 1 } in
+    let merged : merge m ≡ n = rw is refl in
+    let kept = held e (take m.merged m.closed) first.3 s.kept in
+    let taken : take (m.merged + 1) m.closed ≡ take m.merged m.closed ++ e ∷ [] = ap (λ k. take k m.closed) next ∙ on.0 in
+    subst (LaneStands stands f cache new after) (sym merged) record {
+      cached = record { buckets = s.cached.buckets; each = s.cached.each };
+      piped = subst (λ rs. RecordsStand stands cache.key_words rs (drop (m.merged + 1) m.closed)) (sym dropped)
+          (subst (RecordsStand stands cache.key_words (drop 1 old.records)) (sym (ap (λ k. drop k m.closed) next ∙ on.1)) first.4);
+      kept = subst (StoreHolds f after) (sym taken) kept;
+      few = let l = on.2 in omega arith;
+    }

@@ -1,0 +1,179 @@
+-- Pipelines whose lanes made events.
+use Rattle.std.proofs.Common.{◌≡◌, ℕ, zero, suc, ◌+◌, ◌==◌, true, List, [], ◌∷◌, Some, length, map, refl, sym, ap, ◌∙◌, subst, arith}
+use Rattle.std.specs.List.{list_all}
+use Rattle.std.specs.Prelude.{slice_get}
+use Rattle.epoch_model.specs.Machine.{Machine, Event, run, empty_buckets}
+use Rattle.epoch_model.specs.Tables.{Folding}
+use Rattle.epoch_model.specs.Timeline.{NoPacket}
+use Rattle.epoch_model.specs.Laws.{SameEpochs}
+use Rattle.epoch_entry.specs.contracts.any.AnyEpochsEpochKind.TheImpl.{ghosts}
+use Rattle.stage_plan.specs.declared.group.GroupPlan.{GroupPlan}
+use Rattle.stage_plan.specs.Planned.{wiring_at}
+use Rattle.stage_plan.specs.Sound.{PlanParts}
+use Rattle.switch_core.specs.Lanes.{Standing}
+use Rattle.switch_core.specs.LaneEvents.{Parts, PartsStand, MakesAll}
+use Rattle.switch_core.specs.Closing.{held_in}
+use Rattle.switch_core.specs.Rows.{Each, EachFrom}
+use Rattle.switch_core.specs.Pipelines.{IsLaneOf, after_events, geometry_of}
+use Rattle.switch_core.specs.PlanLanes.{LaneView, PipelineMakes, AreLanesOf, StandsFor, LaneMakes, LanesMake, LaneSweeps, LaneIsSwept, PipelineIsSwept, PipelineSweeps, parts_of}
+use Rattle.switch_core.proofs.Histories.{followed}
+
+-- what events leave of a lane's sizes
+pub record SameSizes (old new : LaneView) : Type 0 where
+  pub kind : new.kind ≡ old.kind
+  pub buckets : length new.cache.lists ≡ length old.cache.lists
+  pub key_words : new.cache.key_words ≡ old.cache.key_words
+
+sizes_kept : (means : Standing) (f : Folding) (ways : ℕ) (events : List Event) (a b : Parts) → MakesAll means f ways events a b → (length b.cache.lists ≡ length a.cache.lists) × (b.cache.key_words ≡ a.cache.key_words)
+sizes_kept means f ways [] a b e = (ap (λ p. length p.cache.lists) e, ap (λ p. p.cache.key_words) e)
+sizes_kept means f ways (event ∷ events) a b made =
+    let rest = sizes_kept means f ways events made.0 b made.2 in (rest.0 ∙ made.1.buckets, rest.1 ∙ made.1.key_words)
+
+pub makes_sizes : (ways : ℕ) (events : List Event) (old new : LaneView) → LaneMakes ways events old new → SameSizes old new
+makes_sizes ways events old new m =
+    let s = sizes_kept (ghosts.stands old.kind) (ghosts.folding old.kind) ways events (parts_of old) (parts_of new) m.made in
+    record { kind = m.kind; buckets = s.0; key_words = s.1 }
+
+pub sweeps_sizes : (ways : ℕ) (old new : LaneView) → LaneSweeps ways old new → SameSizes old new
+sweeps_sizes ways old new m =
+    let s = sizes_kept (ghosts.stands old.kind) (ghosts.folding old.kind) ways m.made.0 (parts_of old) (parts_of new) m.made.2 in
+    record { kind = m.kind; buckets = s.0; key_words = s.1 }
+
+-- they are the lanes of the plan's groupbys still
+pub lanes_kept : (R : ℕ → LaneView → LaneView → Type 0) → ((n : ℕ) (a b : LaneView) → R n a b → SameSizes a b)
+    → (plan : PlanParts) (buckets k : ℕ) (old new : List LaneView) (groups : List GroupPlan) → EachFrom R k old new
+    → EachFrom (λ n lane group. IsLaneOf buckets lane.cache (ghosts.sizes lane.kind) (ghosts.folding lane.kind) (ghosts.open_bound lane.kind) (ghosts.absorb_bound lane.kind) group (wiring_at plan n)) k old groups
+    → EachFrom (λ n lane group. IsLaneOf buckets lane.cache (ghosts.sizes lane.kind) (ghosts.folding lane.kind) (ghosts.open_bound lane.kind) (ghosts.absorb_bound lane.kind) group (wiring_at plan n)) k new groups
+lanes_kept R sizes plan buckets k [] [] [] e f = tt
+lanes_kept R sizes plan buckets k [] [] (g ∷ groups) e f = absurd f
+lanes_kept R sizes plan buckets k [] (b ∷ new) groups e f = absurd e
+lanes_kept R sizes plan buckets k (a ∷ old) [] groups e f = absurd e
+lanes_kept R sizes plan buckets k (a ∷ old) (b ∷ new) [] e f = absurd f
+lanes_kept R sizes plan buckets k (a ∷ old) (b ∷ new) (g ∷ groups) e f =
+    let s = sizes k a b e.0 in
+    let own = f.0 in (
+      subst (λ kind. IsLaneOf buckets b.cache (ghosts.sizes kind) (ghosts.folding kind) (ghosts.open_bound kind) (ghosts.absorb_bound kind) g (wiring_at plan k)) (sym s.kind)
+          (record { many = s.buckets ∙ own.many; keys = s.key_words ∙ own.keys; args = own.args; class = own.class; kind = own.kind }),
+      lanes_kept R sizes plan buckets (suc k) old new groups e.1 f.1,
+    )
+
+-- all lanes have so many buckets
+pub lanes_many : (plan : PlanParts) (buckets k : ℕ) (lanes : List LaneView) (groups : List GroupPlan)
+    → EachFrom (λ n lane group. IsLaneOf buckets lane.cache (ghosts.sizes lane.kind) (ghosts.folding lane.kind) (ghosts.open_bound lane.kind) (ghosts.absorb_bound lane.kind) group (wiring_at plan n)) k lanes groups
+    → (n : ℕ) (lane : LaneView) → slice_get lanes n ≡ Some lane → length lane.cache.lists ≡ buckets
+lanes_many plan buckets k [] groups f n lane h = cc
+lanes_many plan buckets k (a ∷ lanes) [] f n lane h = absurd f
+lanes_many plan buckets k (a ∷ lanes) (g ∷ groups) f zero lane h = let same : a ≡ lane = cc in subst (λ l. length l.cache.lists ≡ buckets) same f.0.many
+lanes_many plan buckets k (a ∷ lanes) (g ∷ groups) f (suc n) lane h = lanes_many plan buckets (suc k) lanes groups f.1 n lane h
+
+-- the machines after the events
+
+stand_after : (ways buckets : ℕ) (events : ℕ → List Event) (k : ℕ) (old new : List LaneView) (ms : List Machine) → ((n : ℕ) (lane : LaneView) → slice_get old n ≡ Some lane → length lane.cache.lists ≡ buckets)
+    → EachFrom (λ n. LaneMakes ways (events n)) k old new → EachFrom (λ n. StandsFor) k old ms → EachFrom (λ n. StandsFor) k new (after_events (geometry_of ways buckets) events k ms)
+stand_after ways buckets events k [] [] [] many e s = tt
+stand_after ways buckets events k [] [] (m ∷ ms) many e s = absurd s
+stand_after ways buckets events k [] (b ∷ new) ms many e s = absurd e
+stand_after ways buckets events k (a ∷ old) [] ms many e s = absurd e
+stand_after ways buckets events k (a ∷ old) (b ∷ new) [] many e s = absurd s
+stand_after ways buckets events k (a ∷ old) (b ∷ new) (m ∷ ms) many e s =
+    let after = followed (ghosts.stands a.kind) (ghosts.folding a.kind) ways (events k) (parts_of a) (parts_of b) m s.0 e.0.made in
+    let same = subst (λ n. PartsStand (ghosts.stands a.kind) (ghosts.folding a.kind) (parts_of b) (run (geometry_of ways n) (events k) m)) (many 0 a refl) after in (
+      subst (λ kind. PartsStand (ghosts.stands kind) (ghosts.folding kind) (parts_of b) (run (geometry_of ways buckets) (events k) m)) (sym e.0.kind) same,
+      stand_after ways buckets events (suc k) old new ms (λ n lane h. many (suc n) lane h) e.1 s.1,
+    )
+
+same_others : (ways : ℕ) (events : ℕ → List Event) (k : ℕ) (old new : List LaneView) → EachFrom (λ n. LaneMakes ways (events n)) k old new → (i n : ℕ) → n ≡ k + i → events n ≡ [] → slice_get new i ≡ slice_get old i
+same_others ways events k [] [] e i n q none = refl
+same_others ways events k [] (b ∷ new) e i n q none = absurd e
+same_others ways events k (a ∷ old) [] e i n q none = absurd e
+same_others ways events k (a ∷ old) (b ∷ new) e zero n q none =
+    let is : k ≡ n = omega arith in
+    let made : MakesAll (ghosts.stands a.kind) (ghosts.folding a.kind) ways [] (parts_of a) (parts_of b) =
+    subst (λ es. MakesAll (ghosts.stands a.kind) (ghosts.folding a.kind) ways es (parts_of a) (parts_of b)) (ap events is ∙ none) e.0.made in
+    ap Some (view_is a b e.0.kind made)
+  where
+    view_is : (a b : LaneView) → b.kind ≡ a.kind → parts_of b ≡ parts_of a → b ≡ a
+    view_is a b k p = let c = ap (λ x. x.cache) p in let d = ap (λ x. x.pipe) p in let f = ap (λ x. x.store) p in rw (k, c, d, f) refl
+same_others ways events k (a ∷ old) (b ∷ new) e (suc i) n q none = same_others ways events (suc k) old new e.1 i n (omega arith) none
+
+pub same_kinds : (R : ℕ → LaneView → LaneView → Type 0) → ((n : ℕ) (a b : LaneView) → R n a b → SameSizes a b) → (k : ℕ) (old new : List LaneView) → EachFrom R k old new → map (λ lane. lane.kind) new ≡ map (λ lane. lane.kind) old
+same_kinds R sizes k [] [] e = refl
+same_kinds R sizes k [] (b ∷ new) e = absurd e
+same_kinds R sizes k (a ∷ old) [] e = absurd e
+same_kinds R sizes k (a ∷ old) (b ∷ new) e = let s = sizes k a b e.0 in let rest = same_kinds R sizes (suc k) old new e.1 in rw (s.kind, rest) refl
+
+pub pipeline_makes : (ways : ℕ) (events : ℕ → List Event) (plan : PlanParts) (buckets : ℕ) (old new : List LaneView) → AreLanesOf plan buckets old → LanesMake ways events old new
+    → PipelineMakes ways events (record { plan = plan; buckets = buckets; lanes = old }) (record { plan = plan; buckets = buckets; lanes = new })
+pipeline_makes ways events plan buckets old new are e = record {
+  stands = λ ms s. stand_after ways buckets events 0 old new ms (lanes_many plan buckets 0 old plan.groups are) e s;
+  others = λ n none. same_others ways events 0 old new e n n (omega arith) none;
+  kinds = same_kinds (λ n. LaneMakes ways (events n)) (λ n a b m. makes_sizes ways (events n) a b m) 0 old new e;
+  plan = refl;
+  buckets = refl;
+}
+
+-- sweeps
+
+swept_stand : (buckets k : ℕ) (old new : List LaneView) (ms : List Machine) → ((n : ℕ) (lane : LaneView) → slice_get old n ≡ Some lane → length lane.cache.lists ≡ buckets)
+    → EachFrom (λ n a b. b.kind ≡ a.kind) k old new → EachFrom (λ n. LaneIsSwept) k old new → EachFrom (λ n. StandsFor) k old ms
+    → (ns : List Machine) × EachFrom (λ n. StandsFor) k new ns × EachFrom (λ i m n. SameEpochs n (empty_buckets buckets m)) k ms ns
+swept_stand buckets k [] [] [] many d e s = ([], tt, tt)
+swept_stand buckets k [] [] (m ∷ ms) many d e s = absurd s
+swept_stand buckets k [] (b ∷ new) ms many d e s = absurd e
+swept_stand buckets k (a ∷ old) [] ms many d e s = absurd e
+swept_stand buckets k (a ∷ old) (b ∷ new) [] many d e s = absurd s
+swept_stand buckets k (a ∷ old) (b ∷ new) (m ∷ ms) many d e s =
+    let led = e.0.leads m s.0 in
+    let rest = swept_stand buckets (suc k) old new ms (λ n lane h. many (suc n) lane h) d.1 e.1 s.1 in (
+      led.0 ∷ rest.0,
+      (subst (λ kind. PartsStand (ghosts.stands kind) (ghosts.folding kind) (parts_of b) led.0) (sym d.0) led.1, rest.1),
+      (subst (λ n. SameEpochs led.0 (empty_buckets n m)) (many 0 a refl) led.2, rest.2),
+    )
+
+swept_empty : (k : ℕ) (old new : List LaneView) → EachFrom (λ n. LaneIsSwept) k old new → list_all (λ lane. held_in lane.cache == 0) new ≡ true
+swept_empty k [] [] e = refl
+swept_empty k [] (b ∷ new) e = absurd e
+swept_empty k (a ∷ old) [] e = absurd e
+swept_empty k (a ∷ old) (b ∷ new) e =
+    let none : (held_in b.cache == 0) ≡ true = let h = e.0.held in rw h refl in
+    let rest = swept_empty (suc k) old new e.1 in rw (none, rest) refl
+
+kinds_each : (ways k : ℕ) (old new : List LaneView) → EachFrom (λ n. LaneSweeps ways) k old new → EachFrom (λ n a b. b.kind ≡ a.kind) k old new
+kinds_each ways k [] [] e = tt
+kinds_each ways k [] (b ∷ new) e = absurd e
+kinds_each ways k (a ∷ old) [] e = absurd e
+kinds_each ways k (a ∷ old) (b ∷ new) e = (e.0.kind, kinds_each ways (suc k) old new e.1)
+
+pub pipeline_is_swept : (ways : ℕ) (plan : PlanParts) (buckets : ℕ) (old new : List LaneView) → AreLanesOf plan buckets old → Each (LaneSweeps ways) old new → Each LaneIsSwept old new
+    → PipelineIsSwept (record { plan = plan; buckets = buckets; lanes = old }) (record { plan = plan; buckets = buckets; lanes = new })
+pipeline_is_swept ways plan buckets old new are made e = record {
+  stands = λ ms s. swept_stand buckets 0 old new ms (lanes_many plan buckets 0 old plan.groups are) (kinds_each ways 0 old new made) e s;
+  held = swept_empty 0 old new e;
+}
+
+sweeps_stand : (ways buckets k : ℕ) (old new : List LaneView) (ms : List Machine) → ((n : ℕ) (lane : LaneView) → slice_get old n ≡ Some lane → length lane.cache.lists ≡ buckets)
+    → EachFrom (λ n. LaneSweeps ways) k old new → EachFrom (λ n. StandsFor) k old ms
+    → (ns : List Machine) × EachFrom (λ n. StandsFor) k new ns × EachFrom (λ i m n. (events : List Event) × NoPacket events × (n ≡ run (geometry_of ways buckets) events m)) k ms ns
+sweeps_stand ways buckets k [] [] [] many e s = ([], tt, tt)
+sweeps_stand ways buckets k [] [] (m ∷ ms) many e s = absurd s
+sweeps_stand ways buckets k [] (b ∷ new) ms many e s = absurd e
+sweeps_stand ways buckets k (a ∷ old) [] ms many e s = absurd e
+sweeps_stand ways buckets k (a ∷ old) (b ∷ new) [] many e s = absurd s
+sweeps_stand ways buckets k (a ∷ old) (b ∷ new) (m ∷ ms) many e s =
+    let made = e.0.made in
+    let after = followed (ghosts.stands a.kind) (ghosts.folding a.kind) ways made.0 (parts_of a) (parts_of b) m s.0 made.2 in
+    let same = subst (λ n. PartsStand (ghosts.stands a.kind) (ghosts.folding a.kind) (parts_of b) (run (geometry_of ways n) made.0 m)) (many 0 a refl) after in
+    let rest = sweeps_stand ways buckets (suc k) old new ms (λ n lane h. many (suc n) lane h) e.1 s.1 in (
+      run (geometry_of ways buckets) made.0 m ∷ rest.0,
+      (subst (λ kind. PartsStand (ghosts.stands kind) (ghosts.folding kind) (parts_of b) (run (geometry_of ways buckets) made.0 m)) (sym e.0.kind) same, rest.1),
+      ((made.0, made.1, refl), rest.2),
+    )
+
+pub pipeline_sweeps : (ways : ℕ) (plan : PlanParts) (buckets : ℕ) (old new : List LaneView) → AreLanesOf plan buckets old → Each (LaneSweeps ways) old new
+    → PipelineSweeps ways (record { plan = plan; buckets = buckets; lanes = old }) (record { plan = plan; buckets = buckets; lanes = new })
+pipeline_sweeps ways plan buckets old new are e = record {
+  stands = λ ms s. sweeps_stand ways buckets 0 old new ms (lanes_many plan buckets 0 old plan.groups are) e s;
+  kinds = same_kinds (λ n. LaneSweeps ways) (λ n a b m. sweeps_sizes ways a b m) 0 old new e;
+  plan = refl;
+  buckets = refl;
+}

@@ -1,0 +1,14 @@
+use Rattle.std.proofs.Common.{◌≤◌, map}
+use Rattle.switch_core.specs.PlanLanes.{LaneIsSwept, LaneSweeps, lane_view}
+use Rattle.switch_core.specs.Rows.{Each}
+use Rattle.switch_core.proofs.SideBySide.{Done, Untouched}
+use Rattle.switch_core.proofs.lanes.sweep_lanes.Given as goal
+
+-- the lanes so far are swept, and the others are as they were
+abbrev pub invariant-loop-i : goal.invariant-loop-i
+invariant-loop-i g l = record {
+  leads : Done (λ n. LaneIsSwept) l.i (map lane_view l.initial.lanes) (map lane_view l.lanes);
+  same : Untouched l.i (map lane_view l.initial.lanes) (map lane_view l.lanes);
+  makes : Each (LaneSweeps g.row.WAYS) (map lane_view l.initial.lanes) (map lane_view l.lanes);
+  at_least : l.initial.steps ≤ l.steps;
+}

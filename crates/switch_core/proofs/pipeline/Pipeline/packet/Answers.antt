@@ -1,0 +1,52 @@
+use Rattle.std.proofs.Common.{◌≡◌, ◌++◌, length, map, take, drop, sym, ap, ◌∙◌, subst}
+use Rattle.epoch_model.specs.Driving.{event_of}
+use Rattle.stage_plan.specs.Planned.{row_of, wiring_at}
+use Rattle.stage_plan.specs.Registers.{taken_at}
+use Rattle.switch_core.specs.Pipelines.{packet_events}
+use Rattle.switch_core.specs.PlanLanes.{AreLanesOf, LaneMakes, LanesMake, PipelineMakes, PipelineView, lane_view}
+use Rattle.switch_core.proofs.LaneFacts.{whole_written}
+use Rattle.switch_core.proofs.PipelineSteps.{makes_sizes, lanes_kept, pipeline_makes}
+use Rattle.switch_core.proofs.pipeline.Pipeline.packet.Goals as goal
+
+pub returns-clause-makes : goal.returns-clause-makes
+returns-clause-makes g c =
+    let p = c.self.inside in
+    let new = c.packet_lanes.new.lanes in
+    let whole : take p.lanes.len (new ++ drop (length new) p.lanes.items) ≡ new = whole_written new (drop (length new) p.lanes.items) p.lanes.len (c.packet_lanes.auto.lanes ∙ c.deref_mut-2.ensures.len) in
+    let filled = c.row.new.registers in
+    let registers : c.deref.result.now ≡ row_of p.plan c.args.p.now.words =
+    c.deref.ensures.value ∙ (whole_written filled (drop (length filled) p.registers.items) p.registers.len (c.row.auto.registers ∙ c.deref_mut.ensures.len) ∙ c.row.ensures.row) in
+    let made : LanesMake g.row.WAYS (λ n. event_of (taken_at (wiring_at p.plan n) c.deref.result.now)) (map lane_view c.deref_mut-2.result.now) (map lane_view new) = c.packet_lanes.ensures.makes in
+    let taken : LanesMake g.row.WAYS (packet_events p.plan c.args.p.now.words) (map lane_view c.deref_mut-2.result.now) (map lane_view new) =
+    subst (λ rs. LanesMake g.row.WAYS (λ n. event_of (taken_at (wiring_at p.plan n) rs)) (map lane_view c.deref_mut-2.result.now) (map lane_view new)) registers made in
+    let lanes : LanesMake g.row.WAYS (packet_events p.plan c.args.p.now.words) (map lane_view p.lanes.items) (map lane_view (take p.lanes.len (new ++ drop (length new) p.lanes.items))) =
+    subst (λ x. LanesMake g.row.WAYS (packet_events p.plan c.args.p.now.words) (map lane_view p.lanes.items) (map lane_view x)) (sym whole)
+    (subst (λ x. LanesMake g.row.WAYS (packet_events p.plan c.args.p.now.words) (map lane_view x) (map lane_view new)) c.deref_mut-2.ensures.value taken) in
+    let after : PipelineView = record { plan = p.plan; buckets = p.buckets; lanes = map lane_view (take p.lanes.len (new ++ drop (length new) p.lanes.items)) } in
+    subst (λ v. PipelineMakes g.row.WAYS (packet_events v.plan c.args.p.now.words) v after) c.self.view_is
+    (pipeline_makes g.row.WAYS (packet_events p.plan c.args.p.now.words) p.plan p.buckets (map lane_view p.lanes.items) after.lanes c.self.invariant.lanes lanes)
+
+pub invariant_of-self : goal.invariant_of-self
+invariant_of-self g c =
+    let p = c.self.inside in
+    let new = c.packet_lanes.new.lanes in
+    let whole : take p.lanes.len (new ++ drop (length new) p.lanes.items) ≡ new = whole_written new (drop (length new) p.lanes.items) p.lanes.len (c.packet_lanes.auto.lanes ∙ c.deref_mut-2.ensures.len) in
+    let made : LanesMake g.row.WAYS (λ n. event_of (taken_at (wiring_at p.plan n) c.deref.result.now)) (map lane_view c.deref_mut-2.result.now) (map lane_view new) = c.packet_lanes.ensures.makes in
+    let kept : AreLanesOf p.plan p.buckets (map lane_view new) =
+    lanes_kept (λ n. LaneMakes g.row.WAYS (event_of (taken_at (wiring_at p.plan n) c.deref.result.now))) (λ n a b m. makes_sizes g.row.WAYS (event_of (taken_at (wiring_at p.plan n) c.deref.result.now)) a b m)
+    p.plan p.buckets 0 (map lane_view c.deref_mut-2.result.now) (map lane_view new) p.plan.groups made (subst (λ x. AreLanesOf p.plan p.buckets (map lane_view x)) (sym c.deref_mut-2.ensures.value) c.self.invariant.lanes) in
+    let filled = c.row.new.registers in
+    let key = c.packet_lanes.new.key in
+    let args = c.packet_lanes.new.args in
+    record {
+      few_ways = c.self.invariant.few_ways;
+      lanes = subst (λ x. AreLanesOf p.plan p.buckets (map lane_view x)) (sym whole) kept;
+      rooms = record {
+        for_row = ap length (whole_written filled (drop (length filled) p.registers.items) p.registers.len (c.row.auto.registers ∙ c.deref_mut.ensures.len))
+            ∙ (c.row.auto.registers ∙ (ap length c.deref_mut.ensures.value ∙ c.self.invariant.rooms.for_row));
+        for_key = ap length (whole_written key (drop (length key) p.key.items) p.key.len (c.packet_lanes.auto.key ∙ c.deref_mut-3.ensures.len))
+            ∙ (c.packet_lanes.auto.key ∙ (ap length c.deref_mut-3.ensures.value ∙ c.self.invariant.rooms.for_key));
+        for_args = ap length (whole_written args (drop (length args) p.args.items) p.args.len (c.packet_lanes.auto.args ∙ c.deref_mut-4.ensures.len))
+            ∙ (c.packet_lanes.auto.args ∙ (ap length c.deref_mut-4.ensures.value ∙ c.self.invariant.rooms.for_args));
+      };
+    }

@@ -1,0 +1,44 @@
+use Rattle.std.proofs.Common.{◌≡◌, ◌++◌, length, map, take, drop, sym, ◌∙◌, subst}
+use Rattle.switch_core.specs.Rows.{Each}
+use Rattle.switch_core.specs.PlanLanes.{AreLanesOf, LaneSweeps, LaneIsSwept, PipelineSweeps, PipelineIsSwept, PipelineView, lane_view}
+use Rattle.switch_core.proofs.LaneFacts.{whole_written, on_ok}
+use Rattle.switch_core.proofs.PipelineSteps.{sweeps_sizes, lanes_kept, pipeline_sweeps, pipeline_is_swept}
+use Rattle.switch_core.proofs.pipeline.Pipeline.sweep.Goals as goal
+
+pub invariant_of-self : goal.invariant_of-self
+invariant_of-self g c =
+    let p = c.self.inside in
+    let new = c.sweep_lanes.new.lanes in
+    let whole : take p.lanes.len (new ++ drop (length new) p.lanes.items) ≡ new = whole_written new (drop (length new) p.lanes.items) p.lanes.len (c.sweep_lanes.auto.lanes ∙ c.deref_mut.ensures.len) in
+    let kept : AreLanesOf p.plan p.buckets (map lane_view new) =
+    lanes_kept (λ n. LaneSweeps g.row.WAYS) (λ n a b m. sweeps_sizes g.row.WAYS a b m)
+    p.plan p.buckets 0 (map lane_view c.deref_mut.result.now) (map lane_view new) p.plan.groups c.sweep_lanes.ensures.makes (subst (λ x. AreLanesOf p.plan p.buckets (map lane_view x)) (sym c.deref_mut.ensures.value) c.self.invariant.lanes) in
+    record { lanes = subst (λ x. AreLanesOf p.plan p.buckets (map lane_view x)) (sym whole) kept; rooms = c.self.invariant.rooms; few_ways = c.self.invariant.few_ways }
+
+pub returns-clause-makes : goal.returns-clause-makes
+returns-clause-makes g c =
+    let p = c.self.inside in
+    let new = c.sweep_lanes.new.lanes in
+    let whole : take p.lanes.len (new ++ drop (length new) p.lanes.items) ≡ new = whole_written new (drop (length new) p.lanes.items) p.lanes.len (c.sweep_lanes.auto.lanes ∙ c.deref_mut.ensures.len) in
+    let after : PipelineView = record { plan = p.plan; buckets = p.buckets; lanes = map lane_view (take p.lanes.len (new ++ drop (length new) p.lanes.items)) } in
+    let made : Each (LaneSweeps g.row.WAYS) (map lane_view p.lanes.items) after.lanes =
+    subst (λ x. Each (LaneSweeps g.row.WAYS) (map lane_view p.lanes.items) (map lane_view x)) (sym whole)
+    (subst (λ x. Each (LaneSweeps g.row.WAYS) (map lane_view x) (map lane_view new)) c.deref_mut.ensures.value c.sweep_lanes.ensures.makes) in
+    subst (λ v. PipelineSweeps g.row.WAYS v after) c.self.view_is (pipeline_sweeps g.row.WAYS p.plan p.buckets (map lane_view p.lanes.items) after.lanes c.self.invariant.lanes made)
+
+pub returns-clause-swept : goal.returns-clause-swept
+returns-clause-swept g c =
+    let p = c.self.inside in
+    let new = c.sweep_lanes.new.lanes in
+    let whole : take p.lanes.len (new ++ drop (length new) p.lanes.items) ≡ new = whole_written new (drop (length new) p.lanes.items) p.lanes.len (c.sweep_lanes.auto.lanes ∙ c.deref_mut.ensures.len) in
+    let after : PipelineView = record { plan = p.plan; buckets = p.buckets; lanes = map lane_view (take p.lanes.len (new ++ drop (length new) p.lanes.items)) } in
+    let made : Each (LaneSweeps g.row.WAYS) (map lane_view p.lanes.items) after.lanes =
+    subst (λ x. Each (LaneSweeps g.row.WAYS) (map lane_view p.lanes.items) (map lane_view x)) (sym whole)
+    (subst (λ x. Each (LaneSweeps g.row.WAYS) (map lane_view x) (map lane_view new)) c.deref_mut.ensures.value c.sweep_lanes.ensures.makes) in
+    on_ok (Each LaneIsSwept (map lane_view c.deref_mut.result.now) (map lane_view new)) (PipelineIsSwept c.args.self.now after) c.sweep_lanes.result
+    (λ swept.
+    let lanes : Each LaneIsSwept (map lane_view p.lanes.items) after.lanes =
+    subst (λ x. Each LaneIsSwept (map lane_view p.lanes.items) (map lane_view x)) (sym whole)
+    (subst (λ x. Each LaneIsSwept (map lane_view x) (map lane_view new)) c.deref_mut.ensures.value swept) in
+    subst (λ v. PipelineIsSwept v after) c.self.view_is (pipeline_is_swept g.row.WAYS p.plan p.buckets (map lane_view p.lanes.items) after.lanes c.self.invariant.lanes made lanes))
+    c.sweep_lanes.ensures.leads

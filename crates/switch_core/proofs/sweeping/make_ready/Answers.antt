@@ -1,0 +1,9 @@
+use Rattle.switch_core.specs.LaneEvents.{parts}
+use Rattle.switch_core.proofs.SweepSteps.{sweep_merge}
+use Rattle.switch_core.proofs.sweeping.make_ready.Goals as goal
+
+pub returns-clause-makes : goal.returns-clause-makes
+returns-clause-makes g c =
+    let old = c.args.lane.now in
+    let new = c.merge.new.self in
+    sweep_merge (g.K.EpochKind.stands old.kind) (g.K.EpochKind.folding old.kind) g.row.WAYS (parts old.cache old.pipe old.store) (parts new.cache new.pipe new.store) c.in_ok-merge.ensures.stands

@@ -1,0 +1,87 @@
+use Rattle.std.proofs.Common.{◌≡◌, ◌-◌, false, [], length, take, ap, ◌∙◌, subst, arith, get_or-set_other}
+use Rattle.std.proofs.lemmas.Bool.Decides.{nat_tests}
+use Rattle.epoch_model.specs.Machine.{Evict}
+use Rattle.bucket_cache.specs.Caches.{list_at}
+use Rattle.switch_core.specs.LaneEvents.{Makes, parts}
+use Rattle.switch_core.specs.Sweeps.{Leads, MakesSweep}
+use Rattle.switch_core.proofs.SweepSteps.{sweep_on, sweep_evict, on_alike, on_evict, on_end}
+use Rattle.switch_core.proofs.sweeping.sweep_bucket.Goals as goal
+
+pub returns-in_err-make_ready-clause-makes : goal.returns-in_err-make_ready-clause-makes
+returns-in_err-make_ready-clause-makes g c =
+    let first = c.args.lane.now in
+    let was = c.loop-lane.lane in
+    let ready = c.make_ready.new.lane in
+    sweep_on (g.K.EpochKind.stands first.kind) (g.K.EpochKind.folding first.kind) g.row.WAYS (parts first.cache first.pipe first.store) (parts was.cache was.pipe was.store) (parts ready.cache ready.pipe ready.store)
+    c.loop-lane.invariant.makes
+    (subst (λ k. MakesSweep (g.K.EpochKind.stands k) (g.K.EpochKind.folding k) g.row.WAYS (parts was.cache was.pipe was.store) (parts ready.cache ready.pipe ready.store)) c.loop-lane.invariant.kind c.make_ready.ensures.makes)
+
+pub returns-then-not-evict-clause-leads : goal.returns-then-not-evict-clause-leads
+returns-then-not-evict-clause-leads g c =
+    let first = c.args.lane.now in
+    let was = c.loop-lane.lane in
+    let ready = c.make_ready.new.lane in
+    let new = c.evict.new.self in
+    let bucket = c.args.bucket in
+    let stands = g.K.EpochKind.stands in
+    let folding = g.K.EpochKind.folding in
+    let kind : ready.kind ≡ first.kind = c.make_ready.ensures.kind ∙ c.loop-lane.invariant.kind in
+    let merged : Leads (stands first.kind) (folding first.kind) (λ m. m) (parts was.cache was.pipe was.store) (parts ready.cache ready.pipe ready.store) =
+    subst (λ k. Leads (stands k) (folding k) (λ m. m) (parts was.cache was.pipe was.store) (parts ready.cache ready.pipe ready.store)) c.loop-lane.invariant.kind c.make_ready.ensures.leads in
+    let evicted : Makes (stands first.kind) (folding first.kind) g.row.WAYS (Evict bucket) (parts ready.cache ready.pipe ready.store) (parts new.cache new.pipe new.store) =
+    subst (λ k. Makes (stands k) (folding k) g.row.WAYS (Evict bucket) (parts ready.cache ready.pipe ready.store) (parts new.cache new.pipe new.store)) kind c.evict.ensures.stands in
+    let none : length (list_at ready.cache bucket) ≡ 0 = grind (arith, nat_tests, c.evict.ensures.some, c.if-not-evict.true) in
+    let failed : c.evict.result ≡ false = c.if-not-evict.true in
+    let empty : length (list_at new.cache bucket) ≡ 0 = ap (λ x. length (list_at x bucket)) (c.evict.ensures.same failed).0 ∙ none in
+    on_end c.buckets_empty_by_evictions.ensures (stands first.kind) (folding first.kind) bucket (parts first.cache first.pipe first.store) (parts new.cache new.pipe new.store)
+    (on_evict c.buckets_empty_by_evictions.ensures (stands first.kind) (folding first.kind) g.row.WAYS bucket (parts first.cache first.pipe first.store) (parts ready.cache ready.pipe ready.store) (parts new.cache new.pipe new.store)
+    (on_alike c.events_keep_alike.ensures (stands first.kind) (folding first.kind) bucket (parts first.cache first.pipe first.store) (parts was.cache was.pipe was.store) (parts ready.cache ready.pipe ready.store) c.loop-lane.invariant.leads merged)
+    evicted) empty
+
+pub returns-then-not-evict-clause-makes : goal.returns-then-not-evict-clause-makes
+returns-then-not-evict-clause-makes g c =
+    let first = c.args.lane.now in
+    let was = c.loop-lane.lane in
+    let ready = c.make_ready.new.lane in
+    let new = c.evict.new.self in
+    let stands = g.K.EpochKind.stands in
+    let folding = g.K.EpochKind.folding in
+    let kind : ready.kind ≡ first.kind = c.make_ready.ensures.kind ∙ c.loop-lane.invariant.kind in
+    let swept : MakesSweep (stands first.kind) (folding first.kind) g.row.WAYS (parts first.cache first.pipe first.store) (parts ready.cache ready.pipe ready.store) =
+    sweep_on (stands first.kind) (folding first.kind) g.row.WAYS (parts first.cache first.pipe first.store) (parts was.cache was.pipe was.store) (parts ready.cache ready.pipe ready.store) c.loop-lane.invariant.makes
+    (subst (λ k. MakesSweep (stands k) (folding k) g.row.WAYS (parts was.cache was.pipe was.store) (parts ready.cache ready.pipe ready.store)) c.loop-lane.invariant.kind c.make_ready.ensures.makes) in
+    sweep_on (stands first.kind) (folding first.kind) g.row.WAYS (parts first.cache first.pipe first.store) (parts ready.cache ready.pipe ready.store) (parts new.cache new.pipe new.store) swept
+    (subst (λ k. MakesSweep (stands k) (folding k) g.row.WAYS (parts ready.cache ready.pipe ready.store) (parts new.cache new.pipe new.store)) kind
+    (sweep_evict (stands ready.kind) (folding ready.kind) g.row.WAYS c.args.bucket (parts ready.cache ready.pipe ready.store) (parts new.cache new.pipe new.store) c.evict.ensures.stands))
+
+pub loop-lane-preserved : goal.loop-lane-preserved
+loop-lane-preserved g c =
+    let first = c.args.lane.now in
+    let was = c.loop-lane.lane in
+    let ready = c.make_ready.new.lane in
+    let new = c.evict.new.self in
+    let bucket = c.args.bucket in
+    let stands = g.K.EpochKind.stands in
+    let folding = g.K.EpochKind.folding in
+    let kind : ready.kind ≡ first.kind = c.make_ready.ensures.kind ∙ c.loop-lane.invariant.kind in
+    let merged : Leads (stands first.kind) (folding first.kind) (λ m. m) (parts was.cache was.pipe was.store) (parts ready.cache ready.pipe ready.store) =
+    subst (λ k. Leads (stands k) (folding k) (λ m. m) (parts was.cache was.pipe was.store) (parts ready.cache ready.pipe ready.store)) c.loop-lane.invariant.kind c.make_ready.ensures.leads in
+    let evicted : Makes (stands first.kind) (folding first.kind) g.row.WAYS (Evict bucket) (parts ready.cache ready.pipe ready.store) (parts new.cache new.pipe new.store) =
+    subst (λ k. Makes (stands k) (folding k) g.row.WAYS (Evict bucket) (parts ready.cache ready.pipe ready.store) (parts new.cache new.pipe new.store)) kind c.evict.ensures.stands in
+    let swept : MakesSweep (stands first.kind) (folding first.kind) g.row.WAYS (parts first.cache first.pipe first.store) (parts ready.cache ready.pipe ready.store) =
+    sweep_on (stands first.kind) (folding first.kind) g.row.WAYS (parts first.cache first.pipe first.store) (parts was.cache was.pipe was.store) (parts ready.cache ready.pipe ready.store) c.loop-lane.invariant.makes
+    (subst (λ k. MakesSweep (stands k) (folding k) g.row.WAYS (parts was.cache was.pipe was.store) (parts ready.cache ready.pipe ready.store)) c.loop-lane.invariant.kind c.make_ready.ensures.makes) in
+    record {
+      leads = on_evict c.buckets_empty_by_evictions.ensures (stands first.kind) (folding first.kind) g.row.WAYS bucket (parts first.cache first.pipe first.store) (parts ready.cache ready.pipe ready.store) (parts new.cache new.pipe new.store)
+          (on_alike c.events_keep_alike.ensures (stands first.kind) (folding first.kind) bucket (parts first.cache first.pipe first.store) (parts was.cache was.pipe was.store) (parts ready.cache ready.pipe ready.store) c.loop-lane.invariant.leads merged)
+          evicted;
+      makes = sweep_on (stands first.kind) (folding first.kind) g.row.WAYS (parts first.cache first.pipe first.store) (parts ready.cache ready.pipe ready.store) (parts new.cache new.pipe new.store) swept
+          (sweep_evict (stands first.kind) (folding first.kind) g.row.WAYS bucket (parts ready.cache ready.pipe ready.store) (parts new.cache new.pipe new.store) evicted);
+      others = λ other apart.
+          ap (λ x. list_at x other) c.evict.ensures.cache
+          ∙ (get_or-set_other ready.cache.lists bucket other (take (length (list_at ready.cache bucket) - 1) (list_at ready.cache bucket)) [] apart
+          ∙ (ap (λ x. list_at x other) c.make_ready.ensures.cache ∙ c.loop-lane.invariant.others other apart));
+      buckets = c.evict.ensures.stands.buckets ∙ (ap (λ x. length x.lists) c.make_ready.ensures.cache ∙ c.loop-lane.invariant.buckets);
+      kind = c.evict.ensures.kind ∙ kind;
+      at_least = let a = c.make_ready.ensures.at_least in let b = c.evict.ensures.at_least in let i = c.loop-lane.invariant.at_least in omega arith;
+    }

@@ -1,0 +1,61 @@
+use Rattle.std.proofs.Common.{◌≡◌, ◌+◌, suc, length, ap, ◌∙◌, subst, arith, ⊎_elim}
+use Rattle.std.proofs.lemmas.Bool.{cases_eq}
+use Rattle.epoch_model.specs.Machine.{empty_bucket, empty_buckets}
+use Rattle.bucket_cache.specs.Caches.{list_at}
+use Rattle.switch_core.specs.LaneEvents.{parts}
+use Rattle.switch_core.specs.Sweeps.{Leads, MakesSweep}
+use Rattle.switch_core.proofs.Drained.{empty_held}
+use Rattle.switch_core.proofs.SweepSteps.{sweep_on, all_next}
+use Rattle.switch_core.proofs.sweeping.sweep_lane.Goals as goal
+
+pub returns-in_err-sweep_bucket-clause-makes : goal.returns-in_err-sweep_bucket-clause-makes
+returns-in_err-sweep_bucket-clause-makes g c =
+    let first = c.args.lane.now in
+    let was = c.loop-bucket.lane in
+    let new = c.sweep_bucket.new.lane in
+    sweep_on (g.K.EpochKind.stands first.kind) (g.K.EpochKind.folding first.kind) g.row.WAYS (parts first.cache first.pipe first.store) (parts was.cache was.pipe was.store) (parts new.cache new.pipe new.store)
+    c.loop-bucket.invariant.makes
+    (subst (λ k. MakesSweep (g.K.EpochKind.stands k) (g.K.EpochKind.folding k) g.row.WAYS (parts was.cache was.pipe was.store) (parts new.cache new.pipe new.store)) c.loop-bucket.invariant.kind c.sweep_bucket.ensures.makes)
+
+pub loop-bucket-preserved : goal.loop-bucket-preserved
+loop-bucket-preserved g c =
+    let first = c.args.lane.now in
+    let was = c.loop-bucket.lane in
+    let new = c.sweep_bucket.new.lane in
+    let bucket = c.loop-bucket.bucket in
+    let stands = g.K.EpochKind.stands in
+    let folding = g.K.EpochKind.folding in
+    let next : suc bucket ≡ bucket + 1 = omega arith in
+    let led : Leads (stands first.kind) (folding first.kind) (λ m. empty_bucket m bucket) (parts was.cache was.pipe was.store) (parts new.cache new.pipe new.store) =
+    subst (λ k. Leads (stands k) (folding k) (λ m. empty_bucket m bucket) (parts was.cache was.pipe was.store) (parts new.cache new.pipe new.store)) c.loop-bucket.invariant.kind c.in_ok-sweep_bucket.ensures.leads in
+    record {
+      leads = subst (λ n. Leads (stands first.kind) (folding first.kind) (λ m. empty_buckets n m) (parts first.cache first.pipe first.store) (parts new.cache new.pipe new.store)) next
+          (all_next c.events_keep_alike.ensures c.buckets_empty_by_evictions.ensures (stands first.kind) (folding first.kind) bucket (parts first.cache first.pipe first.store) (parts was.cache was.pipe was.store) (parts new.cache new.pipe new.store)
+          c.loop-bucket.invariant.leads led);
+      makes = sweep_on (stands first.kind) (folding first.kind) g.row.WAYS (parts first.cache first.pipe first.store) (parts was.cache was.pipe was.store) (parts new.cache new.pipe new.store)
+          c.loop-bucket.invariant.makes
+          (subst (λ k. MakesSweep (stands k) (folding k) g.row.WAYS (parts was.cache was.pipe was.store) (parts new.cache new.pipe new.store)) c.loop-bucket.invariant.kind c.sweep_bucket.ensures.makes);
+      empty = λ other below. ⊎_elim
+          (λ (e : other ≡ bucket). ap (λ b. length (list_at new.cache b)) e ∙ c.in_ok-sweep_bucket.ensures.empty)
+          (λ (apart : other ≡ bucket → ⊥). ap length (c.sweep_bucket.ensures.others other apart) ∙ c.loop-bucket.invariant.empty other (omega arith))
+          (cases_eq other bucket);
+      buckets = c.sweep_bucket.ensures.buckets ∙ c.loop-bucket.invariant.buckets;
+      kind = c.sweep_bucket.ensures.kind ∙ c.loop-bucket.invariant.kind;
+      at_least = let a = c.sweep_bucket.ensures.at_least in let i = c.loop-bucket.invariant.at_least in omega arith;
+    }
+
+pub returns-clause-leads : goal.returns-clause-leads
+returns-clause-leads g c =
+    let first = c.args.lane.now in
+    let new = c.loop-bucket.lane in
+    let end : c.loop-bucket.bucket ≡ length first.cache.lists =
+    let a = c.loop-bucket-test.false in let b = c.loop-bucket.auto.bucket-end in let n = c.buckets-bucket-end.ensures.number ∙ ap (λ x. length x.lists) c.cache.ensures in omega arith in
+    subst (λ n. Leads (g.K.EpochKind.stands first.kind) (g.K.EpochKind.folding first.kind) (λ m. empty_buckets n m) (parts first.cache first.pipe first.store) (parts new.cache new.pipe new.store)) end c.loop-bucket.invariant.leads
+
+pub returns-clause-held : goal.returns-clause-held
+returns-clause-held g c =
+    let first = c.args.lane.now in
+    let end : c.loop-bucket.bucket ≡ length first.cache.lists =
+    let a = c.loop-bucket-test.false in let b = c.loop-bucket.auto.bucket-end in let n = c.buckets-bucket-end.ensures.number ∙ ap (λ x. length x.lists) c.cache.ensures in omega arith in
+    let same = c.loop-bucket.invariant.buckets in
+    empty_held c.loop-bucket.lane.cache.lists (λ b l. c.loop-bucket.invariant.empty b (omega arith))

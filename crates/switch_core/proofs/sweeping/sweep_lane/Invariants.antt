@@ -1,0 +1,19 @@
+use Rattle.std.proofs.Common.{◌≡◌, ◌≤◌, ◌<◌, ℕ, length}
+use Rattle.epoch_model.specs.Machine.{empty_buckets}
+use Rattle.bucket_cache.specs.Caches.{list_at}
+use Rattle.switch_core.specs.LaneEvents.{parts}
+use Rattle.switch_core.specs.Sweeps.{Leads, MakesSweep}
+use Rattle.switch_core.proofs.sweeping.sweep_lane.Given as goal
+
+-- the buckets below this one are empty
+abbrev pub invariant-loop-bucket : goal.invariant-loop-bucket
+invariant-loop-bucket g l =
+    let first = l.initial.lane in
+    record {
+      leads : Leads (g.K.EpochKind.stands first.kind) (g.K.EpochKind.folding first.kind) (λ m. empty_buckets l.bucket m) (parts first.cache first.pipe first.store) (parts l.lane.cache l.lane.pipe l.lane.store);
+      makes : MakesSweep (g.K.EpochKind.stands first.kind) (g.K.EpochKind.folding first.kind) g.row.WAYS (parts first.cache first.pipe first.store) (parts l.lane.cache l.lane.pipe l.lane.store);
+      empty : (other : ℕ) → other < l.bucket → length (list_at l.lane.cache other) ≡ 0;
+      buckets : length l.lane.cache.lists ≡ length first.cache.lists;
+      kind : l.lane.kind ≡ first.kind;
+      at_least : l.initial.steps ≤ l.steps;
+    }

@@ -1,0 +1,53 @@
+use Rattle.std.proofs.Common.{◌≡◌, ◌++◌, [], ◌∷◌, Some, length, map, take, sym, ap, ◌∙◌, arith, lit<}
+use Rattle.std.proofs.lemmas.List.{length-map}
+use Rattle.std.proofs.Math.Facts.{Fits-below}
+use Rattle.std.specs.Prelude.{slice_get}
+use Rattle.epoch_entry.specs.Foldings.{per_epoch}
+use Rattle.switch_core.specs.Pipelines.{tables_of}
+use Rattle.switch_core.specs.PlanLanes.{StandsFor, folding_at, lane_is_drained, lane_view}
+use Rattle.switch_core.proofs.SideBySide.{each_long, each_at}
+use Rattle.switch_core.proofs.LaneFacts.{same_some, got_view, all_at}
+use Rattle.switch_core.proofs.LaneTables.{tables_next, tables_whole}
+use Rattle.switch_core.proofs.tables.lane_tables.Goals as goal
+
+pub overflow_cast-i : goal.overflow_cast-i
+overflow_cast-i g c =
+    let many = c.known.ensures.most_groups in
+    let long : length c.args.lanes.now ≡ length c.args.plan.now.groups = sym (length-map c.args.lanes.now lane_view) ∙ each_long _ 0 (map lane_view c.args.lanes.now) c.args.plan.now.groups c.requires.lanes.1 in
+    let below = c.loop-i-test.true in
+    Fits-below {n = 8} tt (omega arith)
+
+pub group-requires : goal.group-requires
+group-requires g c =
+    let long : length c.args.lanes.now ≡ length c.args.plan.now.groups = sym (length-map c.args.lanes.now lane_view) ∙ each_long _ 0 (map lane_view c.args.lanes.now) c.args.plan.now.groups c.requires.lanes.1 in
+    let below = c.loop-i-test.true in
+    omega arith
+
+pub lane_table-requires : goal.lane_table-requires
+lane_table-requires g c =
+    let i = c.loop-i.i in
+    let lanes = map lane_view c.args.lanes.now in
+    let lane = lane_view c.index-lanes-i.result in
+    let here : slice_get lanes i ≡ Some lane = got_view c.args.lanes.now i c.index-lanes-i.result c.loop-i-test.true ∙ ap (λ l. Some (lane_view l)) (sym c.index-lanes-i.is) in
+    let found = each_at _ 0 i lanes c.args.plan.now.groups lane c.requires.lanes.1 here in
+    let own = found.2 i (omega arith) in
+    let same = same_some found.0 c.group.result.now (sym found.1 ∙ c.group.ensures) in
+    (lit< tt, (all_at lane_is_drained lanes i lane c.requires.drained here, (own.keys ∙ ap (λ x. length x.key_names) same, own.class ∙ ap (λ x. per_epoch x.program.class) same)))
+
+pub loop-i-preserved : goal.loop-i-preserved
+loop-i-preserved g c machines stand =
+    let i = c.loop-i.i in
+    let lanes = map lane_view c.args.lanes.now in
+    let lane = lane_view c.index-lanes-i.result in
+    let here : slice_get lanes i ≡ Some lane = got_view c.args.lanes.now i c.index-lanes-i.result c.loop-i-test.true ∙ ap (λ l. Some (lane_view l)) (sym c.index-lanes-i.is) in
+    let found = each_at (λ n. StandsFor) 0 i lanes machines lane stand here in
+    let table = c.in_ok-lane_table.ensures found.0 (found.2 i (omega arith)) in
+    let next = tables_next c.args.plan.now.groups lanes machines i c.group.result.now lane found.0 c.group.ensures here found.1 in
+    c.in_ok-push.ensures.ok ∙ (ap (λ ts. ts ++ c.in_ok-lane_table.field-0 ∷ []) (c.loop-i.invariant machines stand) ∙ (ap (λ t. take i (tables_of c.args.plan.now.groups (map folding_at lanes) machines) ++ t ∷ []) table ∙ sym next))
+
+pub returns : goal.returns
+returns g c machines stand =
+    let lanes = map lane_view c.args.lanes.now in
+    let long = length-map c.args.lanes.now lane_view in
+    let end = c.loop-i-test.false in
+    c.loop-i.invariant machines stand ∙ tables_whole c.args.plan.now.groups lanes machines c.loop-i.i (omega arith)

@@ -1,0 +1,73 @@
+-- Lanes side by side, one for each groupby of a plan.
+use Rattle.std.specs.Prelude.{◌≡◌, ℕ, suc, ◌==◌, nat_lt, Bool, List, [], ◌∷◌, length, if◌then◌else◌}
+use Rattle.fold_class.specs.Program.{IsProgramOf}
+use Rattle.query_lang.specs.declared.fold.TypedFold.{TypedFold}
+use Rattle.epoch_model.specs.Epochs.{Geometry}
+use Rattle.epoch_model.specs.Machine.{Machine, Event, run, empty_machine}
+use Rattle.epoch_model.specs.Tables.{Folding}
+use Rattle.epoch_model.specs.Driving.{event_of}
+use Rattle.epoch_entry.specs.Foldings.{IsKindOf, per_epoch}
+use Rattle.epoch_entry.specs.Kinds.{Sizes}
+use Rattle.bucket_cache.specs.Caches.{Cache}
+use Rattle.evict_pipe.specs.Pipes.{Pipe}
+use Rattle.final_queries.specs.declared.table.Table.{Table}
+use Rattle.final_queries.specs.GroupTable.{Heading, closed_table}
+use Rattle.stage_plan.specs.declared.group.GroupPlan.{GroupPlan}
+use Rattle.stage_plan.specs.declared.group.GroupWiring.{GroupWiring}
+use Rattle.stage_plan.specs.Planned.{registers_of, taken}
+use Rattle.stage_plan.specs.Sound.{PlanParts}
+
+-- what a lane has of its groupby: as many buckets as all lanes, the words of the groupby's keys and arguments, and the kind of its program
+pub record IsLaneOf (buckets : ℕ) (cache : Cache) (sizes : Sizes) (folding : Folding) (opening absorbing : ℕ) (group : GroupPlan) (wiring : GroupWiring) : Type 0 where
+  pub many : length cache.lists ≡ buckets
+  pub keys : cache.key_words ≡ length group.key_names
+  pub args : sizes.args ≡ length wiring.args
+  pub class : folding.row_per_epoch ≡ per_epoch group.program.class
+  pub kind : (f : TypedFold) → IsProgramOf f group.program → IsKindOf f sizes folding opening absorbing
+
+-- room for the registers of the plan, for a key and for a row of arguments
+pub record HasRooms (plan : PlanParts) (registers key args : List ℕ) : Type 0 where
+  pub for_row : length registers ≡ registers_of plan
+  pub for_key : length key ≡ 8
+  pub for_args : length args ≡ 16
+
+-- the geometry of caches with so many ways and buckets
+abbrev pub geometry_of : ℕ → ℕ → Geometry
+geometry_of ways buckets = record { buckets = buckets; ways = ways; refresh = 0 }
+
+-- one machine for each of the groupbys, without an epoch
+abbrev pub empty_machines : Geometry → List GroupPlan → List Machine
+empty_machines g [] = []
+empty_machines g (group ∷ groups) = empty_machine g ∷ empty_machines g groups
+
+-- the machines after events, where each machine has those of its number
+abbrev pub after_events : Geometry → (ℕ → List Event) → ℕ → List Machine → List Machine
+after_events g events n [] = []
+after_events g events n (m ∷ ms) = run g (events n) m ∷ after_events g events (suc n) ms
+
+-- the events of a packet with these words: each groupby has that of what it takes
+abbrev pub packet_events : PlanParts → List ℕ → ℕ → List Event
+packet_events plan words n = event_of (taken plan n words)
+
+-- one lane alone has an event
+abbrev pub event_at : ℕ → Event → ℕ → List Event
+event_at lane event n = if n == lane then event ∷ [] else []
+
+-- whether a pipe has room
+abbrev pub has_room : Pipe → Bool
+has_room pipe = nat_lt (length pipe.records) pipe.places
+
+-- what the table of a groupby says beside its rows
+abbrev pub heading_of : GroupPlan → Heading
+heading_of group = record {
+  name = group.name;
+  key_names = group.key_names;
+  state_names = group.state_names;
+  class = group.program.class;
+  depth = group.program.depth;
+}
+
+-- the tables of the machines' closed epochs, folded by the foldings of their lanes
+abbrev pub tables_of : List GroupPlan → List Folding → List Machine → List Table
+tables_of (group ∷ groups) (f ∷ foldings) (m ∷ machines) = closed_table (heading_of group) f m.closed ∷ tables_of groups foldings machines
+tables_of _ _ _ = []

@@ -1,0 +1,152 @@
+//! Lanes side by side.
+
+ghost use Rattle.std.specs.Prelude.{◌≡◌, ◌+◌, ◌<◌, ◌≤◌, ◌==◌, ◌↔◌, ℕ, true, not, length, map, slice_get, sum_by, OnOk, OnErr};
+ghost use Rattle.std.specs.List.{list_all};
+ghost use Rattle.epoch_model.specs.Machine.{Evict, Merge};
+ghost use Rattle.epoch_model.specs.Driving.{event_of};
+ghost use Rattle.stage_plan.specs.Planned.{registers_of, wiring_at};
+ghost use Rattle.stage_plan.specs.Registers.{taken_at};
+ghost use Rattle.bucket_cache.specs.Caches.{list_at};
+ghost use Rattle.switch_core.specs.Closing.{is_drained};
+ghost use Rattle.switch_core.specs.Rows.{Each};
+ghost use Rattle.switch_core.specs.Pipelines.{event_at};
+ghost use Rattle.switch_core.specs.PlanLanes.{AreLanesOf, AtLane, LaneMakes, LanesMake, LaneView, LaneIsSwept, LaneSweeps, lane_cost, lane_is_ready, lane_view};
+
+use crate::lane::{Lane, Merged};
+use crate::sweeping::sweep_lane;
+use epoch_entry::{AnyEpochs, EpochKind};
+use marple_base::Steps;
+use stage_plan::Plan;
+use std::alloc::AllocError;
+use std::sync::ledger::Ledger;
+
+/// Whether every pipe has room for a record.
+pub fn all_ready<const WAYS: usize>(lanes: &[Lane<AnyEpochs, WAYS>]) -> bool
+    ensures { result ≡ list_all lane_is_ready (map lane_view lanes.now) }
+{
+    for lane in lanes {
+        if !lane.ready() {
+            return false;
+        }
+    }
+    true
+}
+
+/// The packet event of what a groupby takes of these registers, if it takes anything.
+fn take_packet<const WAYS: usize, L: Ledger>(
+    plan: &Plan,
+    group: u32,
+    registers: &[u64],
+    lane: &mut Lane<AnyEpochs, WAYS>,
+    key: &mut [u64],
+    args: &mut [u64],
+    steps: &mut Steps<L>,
+)
+    requires group { group < length plan.now.groups }
+    requires registers { length registers.now ≡ registers_of plan.now }
+    requires ready { lane_is_ready (lane_view lane.old) ≡ true }
+    requires key { lane.old.cache.key_words ≡ length (wiring_at plan.now group).keys }
+    requires args { (⟦<AnyEpochs as EpochKind>⟧.sizes lane.old.kind).args ≡ length (wiring_at plan.now group).args }
+    requires key_room { length (wiring_at plan.now group).keys ≤ length key.old }
+    requires args_room { length (wiring_at plan.now group).args ≤ length args.old }
+    ensures makes { LaneMakes WAYS (event_of (taken_at (wiring_at plan.now group) registers.now)) (lane_view lane.old) (lane_view lane.new) }
+    ensures at_least { steps.old ≤ steps.new }
+    ensures cost { steps.new ≤ steps.old + lane_cost WAYS (lane_view lane.old) }
+{
+    if plan.present(group, registers) {
+        let wiring = plan.wiring(group);
+        let key = &mut key[..wiring.keys.len()];
+        let args = &mut args[..wiring.args.len()];
+        plan.key_into(group, registers, key, steps);
+        plan.args_into(group, registers, args, steps);
+        lane.packet(key, args, steps);
+    }
+}
+
+/// The packet event of each lane whose groupby takes something of these registers.
+pub fn packet_lanes<const WAYS: usize, L: Ledger>(
+    plan: &Plan,
+    registers: &[u64],
+    lanes: &mut [Lane<AnyEpochs, WAYS>],
+    key: &mut [u64],
+    args: &mut [u64],
+    steps: &mut Steps<L>,
+)
+    requires lanes { (buckets : ℕ) × AreLanesOf plan.now buckets (map lane_view lanes.old) }
+    requires registers { length registers.now ≡ registers_of plan.now }
+    requires ready { list_all lane_is_ready (map lane_view lanes.old) ≡ true }
+    requires key { length key.old ≡ 8 }
+    requires args { length args.old ≡ 16 }
+    ensures makes { LanesMake WAYS (λ n. event_of (taken_at (wiring_at plan.now n) registers.now)) (map lane_view lanes.old) (map lane_view lanes.new) }
+    ensures at_least { steps.old ≤ steps.new }
+    ensures cost { steps.new ≤ steps.old + sum_by (lane_cost WAYS) (map lane_view lanes.old) }
+{
+    plan.known();
+    for i in 0..lanes.len() {
+        let lane = &mut lanes[i];
+        take_packet(plan, i as u32, registers, lane, key, args, steps);
+    }
+}
+
+/// Closes the least recently used epoch of a bucket of one lane.
+pub fn evict_at<const WAYS: usize, L: Ledger>(
+    lanes: &mut [Lane<AnyEpochs, WAYS>],
+    at: usize,
+    bucket: u32,
+    steps: &mut Steps<L>,
+) -> bool
+    requires lane { at < length lanes.old }
+    requires ready { AtLane (λ lane. lane_is_ready lane ≡ true) (map lane_view lanes.old) at }
+    requires range { AtLane (λ lane. bucket < length lane.cache.lists) (map lane_view lanes.old) at }
+    ensures makes { LanesMake WAYS (event_at at (Evict bucket)) (map lane_view lanes.old) (map lane_view lanes.new) }
+    ensures some { AtLane (λ lane. result ≡ not (length (list_at lane.cache bucket) == 0)) (map lane_view lanes.old) at }
+    ensures at_least { steps.old ≤ steps.new }
+{
+    let lane = &mut lanes[at];
+    lane.evict(bucket, steps)
+}
+
+/// Merges the oldest record of one lane's pipe.
+pub fn merge_at<const WAYS: usize, L: Ledger>(
+    lanes: &mut [Lane<AnyEpochs, WAYS>],
+    at: usize,
+    steps: &mut Steps<L>,
+) -> Result<Merged, AllocError>
+    requires { at < length lanes.old }
+    ensures makes { OnOk result (LanesMake WAYS (event_at at Merge) (map lane_view lanes.old) (map lane_view lanes.new)) }
+    ensures ready { OnOk result (AtLane (λ lane. lane_is_ready lane ≡ true) (map lane_view lanes.new) at) }
+    ensures empty { AtLane (λ lane. (result ≡ Ok Merged.Empty) ↔ (length lane.pipe.records ≡ 0)) (map lane_view lanes.old) at }
+    ensures err { OnErr result (map lane_view lanes.new ≡ map lane_view lanes.old) }
+    ensures at_least { steps.old ≤ steps.new }
+{
+    let lane = &mut lanes[at];
+    lane.merge(steps)
+}
+
+/// Closes all open epochs of all lanes, lane by lane.
+pub fn sweep_lanes<const WAYS: usize, L: Ledger>(
+    lanes: &mut [Lane<AnyEpochs, WAYS>],
+    steps: &mut Steps<L>,
+) -> Result<(), AllocError>
+    ensures leads { OnOk result (Each LaneIsSwept (map lane_view lanes.old) (map lane_view lanes.new)) }
+    ensures makes { Each (LaneSweeps WAYS) (map lane_view lanes.old) (map lane_view lanes.new) }
+    ensures at_least { steps.old ≤ steps.new }
+{
+    for i in 0..lanes.len() {
+        let lane = &mut lanes[i];
+        sweep_lane(lane, steps)?;
+    }
+    Ok(())
+}
+
+/// Whether all caches and pipes are empty.
+pub fn all_drained<const WAYS: usize>(lanes: &[Lane<AnyEpochs, WAYS>]) -> bool
+    ensures { result ≡ list_all (λ lane. is_drained lane.cache lane.pipe) (map lane_view lanes.now) }
+{
+    for lane in lanes {
+        if !lane.drained() {
+            return false;
+        }
+    }
+    true
+}

@@ -1,0 +1,62 @@
+//! The lanes of a plan's groupbys.
+
+ghost use Rattle.std.specs.Prelude.{◌≡◌, ◌*◌, ◌<◌, ◌≤◌, length, map, IfOk};
+ghost use Rattle.fold_class.specs.Program.{IsProgram, IsProgramOf};
+ghost use Rattle.query_lang.specs.declared.fold.TypedFold.{TypedFold};
+ghost use Rattle.epoch_model.specs.Machine.{empty_machine};
+ghost use Rattle.epoch_entry.specs.Foldings.{IsKindOf};
+ghost use Rattle.switch_core.specs.Rows.{Each};
+ghost use Rattle.switch_core.specs.Pipelines.{empty_machines, geometry_of};
+ghost use Rattle.switch_core.specs.PlanLanes.{AreLanesOf, StandsFor, lane_view};
+
+use crate::lane::Lane;
+use epoch_entry::{AnyEpochs, EpochKind, entries_are_small};
+use stage_plan::{GroupPlan, Plan};
+use std::alloc::{AllocError, Global};
+
+// A lane for a groupby.
+fn made_lane<const WAYS: usize>(
+    alloc: Global,
+    group: &GroupPlan,
+    buckets: u32,
+    pipe_records: u32,
+) -> Result<Lane<AnyEpochs, WAYS>, AllocError>
+    requires ways { 0 < WAYS }
+    requires buckets { 0 < buckets }
+    requires places { buckets * WAYS ≤ 65536 }
+    requires pipe { (0 < pipe_records) × (pipe_records ≤ 65536) }
+    requires program { IsProgram group.now.program }
+    requires keys { (0 < length group.now.key_names) × (length group.now.key_names ≤ 8) }
+    ensures stands { IfOk result (λ lane. StandsFor (lane_view lane) (empty_machine (geometry_of WAYS buckets))) }
+    ensures buckets { IfOk result (λ lane. length lane.cache.lists ≡ buckets) }
+    ensures keys { IfOk result (λ lane. lane.cache.key_words ≡ length group.now.key_names) }
+    ensures kind { IfOk result (λ lane. (f : TypedFold) → IsProgramOf f group.now.program
+        → IsKindOf f (⟦<AnyEpochs as EpochKind>⟧.sizes lane.kind) (⟦<AnyEpochs as EpochKind>⟧.folding lane.kind) (⟦<AnyEpochs as EpochKind>⟧.open_bound lane.kind) (⟦<AnyEpochs as EpochKind>⟧.absorb_bound lane.kind)) }
+{
+    entries_are_small();
+    let kind = AnyEpochs::of(group.program.copy(alloc)?);
+    Lane::new(alloc, kind, buckets, group.key_names.len(), pipe_records)
+}
+
+/// A lane for each groupby of a plan.
+pub fn made_lanes<const WAYS: usize>(
+    alloc: Global,
+    plan: &Plan,
+    buckets: u32,
+    pipe_records: u32,
+) -> Result<Vec<Lane<AnyEpochs, WAYS>>, AllocError>
+    requires ways { 0 < WAYS }
+    requires buckets { 0 < buckets }
+    requires places { buckets * WAYS ≤ 65536 }
+    requires pipe { (0 < pipe_records) × (pipe_records ≤ 65536) }
+    ensures lanes { IfOk result (λ lanes. AreLanesOf plan.now buckets (map lane_view lanes.items)) }
+    ensures stands { IfOk result (λ lanes. Each StandsFor (map lane_view lanes.items) (empty_machines (geometry_of WAYS buckets) plan.now.groups)) }
+{
+    plan.known();
+    let mut lanes = Vec::new(alloc);
+    for i in 0..plan.groups() {
+        let lane = made_lane(alloc, plan.group(i), buckets, pipe_records)?;
+        lanes.push(lane)?;
+    }
+    Ok(lanes)
+}

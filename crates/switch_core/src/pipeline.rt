@@ -1,0 +1,214 @@
+//! The lanes of a plan.
+
+ghost use Rattle.std.specs.Prelude.{◌≡◌, ◌+◌, ◌*◌, ◌<◌, ◌≤◌, ◌==◌, ◌↔◌, not, true, List, length, map, slice_get, IfOk, OnOk, OnErr, Some};
+ghost use Rattle.std.specs.List.{list_all};
+ghost use Rattle.epoch_model.specs.Machine.{Machine, Evict, Merge};
+ghost use Rattle.epoch_model.specs.Timeline.{IsSwept};
+ghost use Rattle.switch_core.specs.Rows.{Each};
+ghost use Rattle.bucket_cache.specs.Caches.{list_at};
+ghost use Rattle.stage_plan.specs.Planned.{plan_bound};
+ghost use Rattle.switch_core.specs.Closing.{held_in};
+ghost use Rattle.switch_core.specs.Pipelines.{empty_machines, event_at, geometry_of, packet_events, tables_of};
+ghost use Rattle.switch_core.specs.PlanLanes.{AreLanesOf, AtLane, PipelineIsSwept, PipelineMakes, PipelineStands, PipelineSweeps, folding_at, lane_is_drained, lane_is_ready, lane_view, pipeline_cost};
+
+use crate::lane::{Lane, Merged};
+use crate::lanes::{all_drained, all_ready, evict_at, merge_at, packet_lanes, sweep_lanes};
+use crate::making::made_lanes;
+use crate::tables::lane_tables;
+use epoch_entry::AnyEpochs;
+use final_queries::Table;
+use marple_base::{Packet, Seq, Steps};
+use stage_plan::Plan;
+use std::alloc::{AllocError, Global};
+use std::marker::Model;
+use std::sync::ledger::Ledger;
+
+/// A plan with a lane for each groupby. Only `merge`, `sweep` and `close` take memory once it is made.
+#[derive(Drop)]
+pub struct Pipeline<const WAYS: usize> {
+    alloc: Global,
+    plan: Plan,
+    buckets: u32,
+    lanes: Vec<Lane<AnyEpochs, WAYS>>,
+    registers: Vec<u64>,
+    key: Vec<u64>,
+    args: Vec<u64>,
+}
+
+impl<const WAYS: usize> Model for Pipeline<WAYS> {
+    ghost use Rattle.std.specs.Prelude.{map};
+    ghost use Rattle.switch_core.specs.PlanLanes.{PipelineView, IsPipeline, lane_view};
+
+    ghost Value = { PipelineView };
+
+    ghost view = { λ p. record { plan = p.plan; buckets = p.buckets; lanes = map lane_view p.lanes.items } };
+
+    ghost invariant = { λ p. IsPipeline WAYS (record { plan = p.plan; buckets = p.buckets; lanes = map lane_view p.lanes.items }) p.registers.items p.key.items p.args.items };
+}
+
+impl<const WAYS: usize> Pipeline<WAYS> {
+    /// A lane for each groupby of the plan, with so many buckets and with a pipe for so many records. No epoch is open.
+    pub fn new(
+        alloc: Global,
+        plan: Plan,
+        buckets: u32,
+        pipe_records: u32,
+    ) -> Result<Pipeline<WAYS>, AllocError>
+        requires ways { 0 < WAYS }
+        requires buckets { 0 < buckets }
+        requires places { buckets * WAYS ≤ 65536 }
+        requires pipe { (0 < pipe_records) × (pipe_records ≤ 65536) }
+        ensures stands { IfOk result (λ p. PipelineStands p (empty_machines (geometry_of WAYS buckets) plan.groups)) }
+        ensures plan { IfOk result (λ p. p.plan ≡ plan) }
+        ensures buckets { IfOk result (λ p. p.buckets ≡ buckets) }
+    {
+        let lanes = made_lanes(alloc, &plan, buckets, pipe_records)?;
+        let registers = vec![in alloc; 0; plan.registers()]?;
+        let key = vec![in alloc; 0; 8]?;
+        let args = vec![in alloc; 0; 16]?;
+        Ok(Pipeline {
+            alloc,
+            plan,
+            buckets,
+            lanes,
+            registers,
+            key,
+            args,
+        })
+    }
+
+    /// What holds of every pipeline: its lanes are those of the plan's groupbys, each with entries of its fold's kind.
+    pub fn known(&self)
+        ensures { AreLanesOf self.now.plan self.now.buckets self.now.lanes }
+    {
+        let _buckets = self.buckets;
+    }
+
+    /// How many lanes there are.
+    pub fn lanes(&self) -> u32
+        ensures { result ≡ length self.now.lanes }
+    {
+        self.plan.groups()
+    }
+
+    /// Whether every pipe has room for a record.
+    pub fn ready(&self) -> bool
+        ensures { result ≡ list_all lane_is_ready self.now.lanes }
+    {
+        all_ready(&self.lanes)
+    }
+
+    /// Whether the pipe of a lane has room for a record.
+    pub fn lane_ready(&self, lane: u32) -> bool
+        requires { lane < length self.now.lanes }
+        ensures { AtLane (λ at. result ≡ lane_is_ready at) self.now.lanes lane }
+    {
+        let lane = self.lane(lane);
+        lane.ready()
+    }
+
+    /// Takes a packet: each groupby whose input has a tuple for it has the packet event of its key and its arguments.
+    pub fn packet<L: Ledger>(&mut self, p: &Packet, steps: &mut Steps<L>)
+        requires { list_all lane_is_ready self.old.lanes ≡ true }
+        ensures makes { PipelineMakes WAYS (packet_events self.old.plan p.now.words) self.old self.new }
+        ensures at_least { steps.old ≤ steps.new }
+        ensures cost { steps.new ≤ steps.old + pipeline_cost WAYS self.old }
+    {
+        self.plan.row(p, &mut self.registers, steps);
+        packet_lanes(
+            &self.plan,
+            &self.registers,
+            &mut self.lanes,
+            &mut self.key,
+            &mut self.args,
+            steps,
+        );
+    }
+
+    /// Closes the least recently used epoch of a bucket of a lane. False exactly where the bucket is empty.
+    pub fn evict<L: Ledger>(&mut self, lane: u32, bucket: u32, steps: &mut Steps<L>) -> bool
+        requires lane { lane < length self.old.lanes }
+        requires ready { AtLane (λ at. lane_is_ready at ≡ true) self.old.lanes lane }
+        requires range { bucket < self.old.buckets }
+        ensures makes { PipelineMakes WAYS (event_at lane (Evict bucket)) self.old self.new }
+        ensures some { AtLane (λ at. result ≡ not (length (list_at at.cache bucket) == 0)) self.old.lanes lane }
+        ensures at_least { steps.old ≤ steps.new }
+    {
+        evict_at(&mut self.lanes, lane as usize, bucket, steps)
+    }
+
+    /// Merges the oldest record of a lane's pipe into its store. Empty exactly where the pipe is empty.
+    pub fn merge<L: Ledger>(
+        &mut self,
+        lane: u32,
+        steps: &mut Steps<L>,
+    ) -> Result<Merged, AllocError>
+        requires { lane < length self.old.lanes }
+        ensures makes { OnOk result (PipelineMakes WAYS (event_at lane Merge) self.old self.new) }
+        ensures ready { OnOk result (AtLane (λ at. lane_is_ready at ≡ true) self.new.lanes lane) }
+        ensures empty { AtLane (λ at. (result ≡ Ok Merged.Empty) ↔ (length at.pipe.records ≡ 0)) self.old.lanes lane }
+        ensures err { OnErr result (self.new ≡ self.old) }
+        ensures at_least { steps.old ≤ steps.new }
+    {
+        merge_at(&mut self.lanes, lane as usize, steps)
+    }
+
+    /// Closes all open epochs: for each lane and each bucket in ascending order it evicts until the bucket is empty, with
+    /// one merge before an eviction where the lane isn't ready.
+    pub fn sweep<L: Ledger>(&mut self, steps: &mut Steps<L>) -> Result<(), AllocError>
+        ensures swept { OnOk result (PipelineIsSwept self.old self.new) }
+        ensures makes { PipelineSweeps WAYS self.old self.new }
+        ensures at_least { steps.old ≤ steps.new }
+    {
+        sweep_lanes(&mut self.lanes, steps)
+    }
+
+    /// The number of open epochs in a lane's cache.
+    pub fn held(&self, lane: u32) -> usize
+        requires { lane < length self.now.lanes }
+        ensures number { AtLane (λ at. result ≡ held_in at.cache) self.now.lanes lane }
+        ensures bound { result ≤ self.now.buckets * WAYS }
+    {
+        self.known();
+        let lane = self.lane(lane);
+        lane.held()
+    }
+
+    /// Whether all caches and pipes are empty. Then no epoch is open, and all closed ones are merged.
+    pub fn drained(&self) -> bool
+        ensures value { result ≡ list_all lane_is_drained self.now.lanes }
+        ensures done { result ≡ true → (machines : List Machine) → PipelineStands self.now machines → Each (λ lane m. IsSwept m × (m.merged ≡ length m.closed)) self.now.lanes machines }
+    {
+        all_drained(&self.lanes)
+    }
+
+    /// The most steps that a packet takes, by the sizes of the plan.
+    pub fn bound(&self) -> u64
+        ensures { result ≡ plan_bound self.now.plan WAYS }
+    {
+        self.plan.bound(WAYS as u32)
+    }
+
+    /// The tables of the closed epochs, one for each groupby in order. The pipeline stays as it is.
+    pub fn close(&self) -> Result<Seq<Table>, AllocError>
+        requires { list_all lane_is_drained self.now.lanes ≡ true }
+        ensures { IfOk result (λ tables. (machines : List Machine) → PipelineStands self.now machines → tables ≡ tables_of self.now.plan.groups (map folding_at self.now.lanes) machines) }
+    {
+        lane_tables(self.alloc, &self.plan, &self.lanes)
+    }
+
+    /// The lane of a groupby.
+    pub fn lane(&self, lane: u32) -> &Lane<AnyEpochs, WAYS>
+        requires { lane < length self.now.lanes }
+        ensures { slice_get self.now.lanes lane ≡ Some (lane_view result.now) }
+    {
+        &self.lanes[lane as usize]
+    }
+
+    /// The plan.
+    pub fn plan(&self) -> &Plan
+        ensures { result.now ≡ self.now.plan }
+    {
+        &self.plan
+    }
+}
