@@ -1,0 +1,10 @@
+use query_lang::QueryFault;
+
+/// Why a query's text isn't accepted.
+#[derive(Clone, Copy, Debug, PartialEq, Eq)]
+pub enum QueryAnswer {
+    /// The text's first fault.
+    Refused(QueryFault),
+    /// There was no memory.
+    Memory,
+}

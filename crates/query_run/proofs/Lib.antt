@@ -1,0 +1,2 @@
+mod QueryEnds
+mod WholePackets

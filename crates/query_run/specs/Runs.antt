@@ -1,0 +1,40 @@
+-- What a query makes of a trace.
+use Rattle.std.specs.Prelude.{◌≡◌, ℕ, suc, List, [], ◌∷◌, length, map, All}
+use Rattle.query_lang.specs.declared.typed.TypedQuery.{TypedQuery}
+use Rattle.query_lang.specs.Streams.{Taking, takings}
+use Rattle.query_lang.specs.TypedQueries.{IsValidQuery}
+use Rattle.query_types.specs.Uses.{uses}
+use Rattle.epoch_model.specs.Epochs.{Geometry}
+use Rattle.epoch_model.specs.Machine.{Machine, end_of}
+use Rattle.epoch_model.specs.Laws.{HasRoom}
+use Rattle.stage_plan.specs.Planned.{IsPlanOf}
+use Rattle.stage_plan.specs.Sound.{PlanParts}
+use Rattle.switch_core.specs.Pipelines.{tables_of}
+use Rattle.switch_core.specs.PlanLanes.{LaneView, AreLanesOf, folding_at}
+use Rattle.query_tables.specs.Tables.{group_tables}
+use Rattle.marple_base.specs.declared.field.FieldSet.{FieldSet}
+use Rattle.trace_reader.specs.Traces.{packets}
+use Rattle.trace_drive.specs.Drives.{end_machines, words_of}
+
+-- the packets have the words of 14 fields
+abbrev pub AreWhole : List (List ℕ) → Type 0
+AreWhole packets = All (λ words. length words ≡ 14) packets
+
+-- the machines of groupbys, which have the numbers from this one on
+abbrev pub ends_of : TypedQuery → Geometry → List (List ℕ) → ℕ → List Taking → List Machine
+ends_of q g packets i [] = []
+ends_of q g packets i (t ∷ rest) = end_of g (uses q i packets) (length packets) ∷ ends_of q g packets (suc i) rest
+
+-- The machine of each groupby of a query at the end of these packets.
+unfoldable pub query_ends : TypedQuery → Geometry → List (List ℕ) → List Machine
+query_ends q g packets = ends_of q g packets 0 (takings q.streams)
+
+-- The plan's machines at the end of a trace are the query's, and their closed epochs give the tables of the query's groupbys.
+pub record EndsAreTheQuerys : Type 0 where
+  pub machines : (q : TypedQuery) (plan : PlanParts) (g : Geometry) (packets : List (List ℕ)) → IsPlanOf q plan → AreWhole packets → end_machines plan g packets ≡ query_ends q g packets
+  pub tables : (q : TypedQuery) (plan : PlanParts) (buckets : ℕ) (lanes : List LaneView) (g : Geometry) (packets : List (List ℕ)) → IsValidQuery q → IsPlanOf q plan
+      → AreLanesOf plan buckets lanes → HasRoom g → AreWhole packets → tables_of plan.groups (map folding_at lanes) (end_machines plan g packets) ≡ group_tables q g packets
+
+-- The packets of a trace have the words of all fields.
+abbrev pub ReadPacketsAreWhole : Type 0
+ReadPacketsAreWhole = (text : List ℕ) (reads : FieldSet) → AreWhole (words_of (packets text reads))

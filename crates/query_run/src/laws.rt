@@ -1,0 +1,20 @@
+// What the machines at the end of a trace are, and the tables that they give.
+
+ghost use Rattle.query_run.specs.Runs.{EndsAreTheQuerys, ReadPacketsAreWhole};
+
+use epoch_model::taken_uses_are_in_trace;
+use final_queries::{alike_foldings_make_one_table, closed_give_the_group_table};
+
+/// The machines of a query's plan at the end of a trace are those of its groupbys, and give their tables.
+pub fn ends_are_the_querys()
+    ensures { EndsAreTheQuerys }
+{
+    taken_uses_are_in_trace();
+    closed_give_the_group_table();
+    alike_foldings_make_one_table();
+}
+
+/// The packets that are read from a trace have the words of all fields.
+pub fn read_packets_are_whole()
+    ensures { ReadPacketsAreWhole }
+{}

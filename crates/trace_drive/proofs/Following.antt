@@ -1,0 +1,103 @@
+-- Pipelines, and the machines that their lanes are as far as.
+use Rattle.std.proofs.Common.{◌≡◌, ℕ, suc, ◌==◌, Bool, true, false, List, [], ◌∷◌, Option, Some, None, Result, Ok, Err, OnOk, refl, sym, ap, ◌∙◌, subst, if◌then◌else◌}
+use Rattle.epoch_model.specs.Driving.{EventsKeepAlike, Taken, after_packet, event_of}
+use Rattle.epoch_model.specs.Epochs.{Geometry, is_refresh}
+use Rattle.epoch_model.specs.Laws.{SameEpochs}
+use Rattle.epoch_model.specs.Machine.{Machine, Event, Packet, Merge, run, empty_buckets, empty_machine}
+use Rattle.stage_plan.specs.Planned.{taken}
+use Rattle.stage_plan.specs.declared.group.GroupPlan.{GroupPlan}
+use Rattle.switch_core.specs.Pipelines.{after_events, empty_machines, event_at, geometry_of, packet_events}
+use Rattle.switch_core.specs.PlanLanes.{PipelineView, PipelineMakes, PipelineIsSwept, PipelineStands}
+use Rattle.switch_core.specs.Rows.{EachFrom}
+use Rattle.trace_drive.specs.Follows.{AlikeFrom, FollowsBy, Keeps}
+
+pub on_ok : {X E : Type 0} (P Q : Type 0) (r : Result X E) → (P → Q) → OnOk r P → OnOk r Q
+on_ok P Q (Ok x) f p = f p
+on_ok P Q (Err e) f p = p
+
+alike_along : (m n o : Machine) → SameEpochs m n → SameEpochs n o → SameEpochs m o
+alike_along m n o a b = record { recent = a.recent ∙ b.recent; closed = a.closed ∙ b.closed }
+
+pub keeps_along : (a b c : PipelineView) → Keeps a b → Keeps b c → Keeps a c
+keeps_along a b c k l = record { plan = l.plan ∙ k.plan; buckets = l.buckets ∙ k.buckets; lanes = l.lanes ∙ k.lanes }
+
+-- the same machines, said in another way
+alike_as : (after later : ℕ → Machine) → ((i : ℕ) → after i ≡ later i) → (i : ℕ) (machines : List Machine) → AlikeFrom after i machines → AlikeFrom later i machines
+alike_as after later same i [] a = tt
+alike_as after later same i (m ∷ machines) a = (subst (SameEpochs m) (same i) a.0, alike_as after later same (suc i) machines a.1)
+
+pub follows_as : (after later : ℕ → Machine) (p : PipelineView) → ((i : ℕ) → after i ≡ later i) → FollowsBy after p → FollowsBy later p
+follows_as after later p same f = record { machines = f.machines; stands = f.stands; alike = alike_as after later same 0 f.machines f.alike }
+
+-- events
+
+events_alike : (g : Geometry) (events : ℕ → List Event) (after later : ℕ → Machine) → ((i : ℕ) (m : Machine) → SameEpochs m (after i) → SameEpochs (run g (events i) m) (later i))
+    → (i : ℕ) (machines : List Machine) → AlikeFrom after i machines → AlikeFrom later i (after_events g events i machines)
+events_alike g events after later h i [] a = tt
+events_alike g events after later h i (m ∷ machines) a = (h i m a.0, events_alike g events after later h (suc i) machines a.1)
+
+makes_follow : (ways : ℕ) (events : ℕ → List Event) (old new : PipelineView) (after later : ℕ → Machine) → PipelineMakes ways events old new
+    → ((i : ℕ) (m : Machine) → SameEpochs m (after i) → SameEpochs (run (geometry_of ways old.buckets) (events i) m) (later i)) → FollowsBy after old → FollowsBy later new
+makes_follow ways events old new after later made h f = record {
+  machines = after_events (geometry_of ways old.buckets) events 0 f.machines;
+  stands = made.stands f.machines f.stands;
+  alike = events_alike (geometry_of ways old.buckets) events after later h 0 f.machines f.alike;
+}
+
+merge_alike : EventsKeepAlike → (g : Geometry) (here : Bool) (m n : Machine) → SameEpochs m n → SameEpochs (run g (if here then Merge ∷ [] else []) m) n
+merge_alike alike g true m n s = alike.on_merge m n s
+merge_alike alike g false m n s = s
+
+-- a merge changes no epoch
+pub merge_follows : EventsKeepAlike → (ways lane : ℕ) (old new : PipelineView) (after : ℕ → Machine) → PipelineMakes ways (event_at lane Merge) old new → FollowsBy after old → FollowsBy after new
+merge_follows alike ways lane old new after made f =
+    makes_follow ways (event_at lane Merge) old new after after made (λ i m s. merge_alike alike (geometry_of ways old.buckets) (i == lane) m (after i) s) f
+
+packet_alike : EventsKeepAlike → (g : Geometry) (taking : Option Taken) (m n : Machine) → SameEpochs m n → SameEpochs (run g (event_of taking) m) (run g (event_of taking) n)
+packet_alike alike g None m n s = s
+packet_alike alike g (Some t) m n s = alike.on_packet g m n t.key t.row s
+
+pub packet_follows : EventsKeepAlike → (ways : ℕ) (words : List ℕ) (old new : PipelineView) (after : ℕ → Machine) → PipelineMakes ways (packet_events old.plan words) old new → FollowsBy after old
+    → FollowsBy (λ i. run (geometry_of ways old.buckets) (event_of (taken old.plan i words)) (after i)) new
+packet_follows alike ways words old new after made f =
+    let g = geometry_of ways old.buckets in
+    makes_follow ways (packet_events old.plan words) old new after (λ i. run g (event_of (taken old.plan i words)) (after i)) made
+    (λ i m s. packet_alike alike g (taken old.plan i words) m (after i) s) f
+
+swept_alike : EventsKeepAlike → (buckets : ℕ) (after : ℕ → Machine) (i k : ℕ) (machines swept : List Machine)
+    → EachFrom (λ n m s. SameEpochs s (empty_buckets buckets m)) k machines swept → AlikeFrom after i machines → AlikeFrom (λ j. empty_buckets buckets (after j)) i swept
+swept_alike alike buckets after i k [] [] e a = tt
+swept_alike alike buckets after i k [] (s ∷ swept) e a = absurd e
+swept_alike alike buckets after i k (m ∷ machines) [] e a = absurd e
+swept_alike alike buckets after i k (m ∷ machines) (s ∷ swept) e a = (
+  alike_along s (empty_buckets buckets m) (empty_buckets buckets (after i)) e.0 (alike.on_sweep m (after i) buckets a.0),
+  swept_alike alike buckets after (suc i) (suc k) machines swept e.1 a.1,
+)
+
+pub sweep_follows : EventsKeepAlike → (old new : PipelineView) (after : ℕ → Machine) → PipelineIsSwept old new → FollowsBy after old → FollowsBy (λ i. empty_buckets old.buckets (after i)) new
+sweep_follows alike old new after swept f =
+    let s = swept.stands f.machines f.stands in
+    record { machines = s.0; stands = s.1; alike = swept_alike alike old.buckets after 0 0 f.machines s.0 s.2 f.alike }
+
+-- the refresh of a geometry is no matter to a packet
+run_as : (g h : Geometry) (taking : Option Taken) (m : Machine) → g.buckets ≡ h.buckets → g.ways ≡ h.ways → run g (event_of taking) m ≡ run h (event_of taking) m
+run_as g h None m b w = refl
+run_as g h (Some t) m b w =
+    ap (λ n. run (record { buckets = n; ways = g.ways; refresh = 0 }) (Packet t.key t.row ∷ []) m) b
+    ∙ ap (λ n. run (record { buckets = h.buckets; ways = n; refresh = 0 }) (Packet t.key t.row ∷ []) m) w
+
+-- a packet, and a sweep where the clock strikes
+pub turn_as : (ways number : ℕ) (g : Geometry) (strikes : Bool) (buckets next : ℕ) (taking : Option Taken) (m : Machine) → g.ways ≡ ways → g.buckets ≡ buckets → next ≡ buckets → strikes ≡ is_refresh g.refresh number
+    → (if strikes then empty_buckets next (run (geometry_of ways buckets) (event_of taking) m) else run (geometry_of ways buckets) (event_of taking) m) ≡ after_packet g number (event_of taking) m
+turn_as ways number g strikes buckets next taking m w b k s =
+    let same = run_as (geometry_of ways buckets) g taking m (sym b) (sym w) in
+    ap (λ x. if strikes then empty_buckets next x else x) same
+    ∙ (ap (λ n. if strikes then empty_buckets n (run g (event_of taking) m) else run g (event_of taking) m) (k ∙ sym b)
+    ∙ ap (λ (t : Bool). if t then empty_buckets g.buckets (run g (event_of taking) m) else run g (event_of taking) m) s)
+
+start_alike : EventsKeepAlike → (g : Geometry) (i : ℕ) (groups : List GroupPlan) → AlikeFrom (λ j. empty_machine g) i (empty_machines g groups)
+start_alike alike g i [] = tt
+start_alike alike g i (group ∷ groups) = (alike.start (empty_machine g), start_alike alike g (suc i) groups)
+
+pub start_follows : EventsKeepAlike → (g : Geometry) (p : PipelineView) (groups : List GroupPlan) → PipelineStands p (empty_machines g groups) → FollowsBy (λ i. empty_machine g) p
+start_follows alike g p groups s = record { machines = empty_machines g groups; stands = s; alike = start_alike alike g 0 groups }

@@ -1,0 +1,5 @@
+pub mod Counting
+pub mod Following
+pub mod Waiting
+pub mod Taking
+pub mod Ending

@@ -1,0 +1,7 @@
+-- A clock that counts packets.
+use Rattle.std.specs.Prelude.{◌≡◌, ◌<◌, ◌%◌, ℕ}
+use Rattle.trace_drive.specs.declared.clock.Clock.{Clock}
+
+-- the clock has counted so many packets: it knows how many came since it last struck
+abbrev pub HasCounted : ℕ → Clock → Type 0
+HasCounted number clock = 0 < clock.every → clock.since ≡ number % clock.every

@@ -1,0 +1,28 @@
+-- When the lanes of a pipeline are as far as the machines of a trace, and what is left in a lane's pipe.
+use Rattle.std.specs.Prelude.{◌≡◌, ℕ, zero, suc, List, [], ◌∷◌, length}
+use Rattle.epoch_model.specs.Laws.{SameEpochs}
+use Rattle.epoch_model.specs.Machine.{Machine}
+use Rattle.switch_core.specs.PlanLanes.{LaneView, PipelineStands, PipelineView}
+
+-- the machines have the epochs of those with the numbers from this one on
+abbrev pub AlikeFrom : (ℕ → Machine) → ℕ → List Machine → Type 0
+AlikeFrom after i [] = Unit {0}
+AlikeFrom after i (m ∷ machines) = SameEpochs m (after i) × AlikeFrom after (suc i) machines
+
+-- Each lane stands for a machine with the epochs of that of its number; how many of them are merged is left open.
+pub record FollowsBy (after : ℕ → Machine) (pipeline : PipelineView) : Type 0 where
+  pub machines : List Machine
+  pub stands : PipelineStands pipeline machines
+  pub alike : AlikeFrom after 0 machines
+
+-- The plan, the number of buckets and the number of lanes are as they were.
+pub record Keeps (old new : PipelineView) : Type 0 where
+  pub plan : new.plan ≡ old.plan
+  pub buckets : new.buckets ≡ old.buckets
+  pub lanes : length new.lanes ≡ length old.lanes
+
+-- how many records wait in the pipe of a lane
+abbrev pub waiting : List LaneView → ℕ → ℕ
+waiting [] lane = 0
+waiting (first ∷ lanes) zero = length first.pipe.records
+waiting (first ∷ lanes) (suc lane) = waiting lanes lane

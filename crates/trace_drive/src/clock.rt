@@ -1,0 +1,39 @@
+//! Counting to a number, again and again.
+
+ghost use Rattle.std.specs.Prelude.{◌≡◌, ◌+◌, ℕ, suc};
+ghost use Rattle.epoch_model.specs.Epochs.{is_refresh};
+ghost use Rattle.trace_drive.specs.Clocks.{HasCounted};
+
+/// Strikes at each multiple of a number of packets, and never where that is 0.
+#[derive(Clone, Copy, Debug, PartialEq, Eq)]
+pub struct Clock {
+    every: u32,
+    since: u32,
+}
+
+impl Clock {
+    pub fn new(every: u32) -> Clock
+        ensures every { result.every ≡ every }
+        ensures counted { HasCounted 0 result }
+    {
+        Clock { every, since: 0 }
+    }
+
+    /// Counts a packet. Whether its number is a multiple.
+    pub fn strikes(&mut self) -> bool
+        requires { (number : ℕ) × HasCounted number self.old }
+        ensures strikes { (number : ℕ) → HasCounted number self.old → result ≡ is_refresh self.old.every (suc number) }
+        ensures counted { (number : ℕ) → HasCounted number self.old → HasCounted (suc number) self.new }
+        ensures every { self.new.every ≡ self.old.every }
+    {
+        if self.every == 0 {
+            return false;
+        }
+        self.since += 1;
+        if self.since < self.every {
+            return false;
+        }
+        self.since = 0;
+        true
+    }
+}

@@ -1,0 +1,14 @@
+//! The events of a whole trace on the pipeline of a plan: its packets one after another, merges and sweeps between them
+//! as a schedule says, and at the end a sweep and the merges of all that is left.
+#![tactic(auto)]
+
+mod clock;
+mod driving;
+mod merging;
+mod packets;
+mod schedule;
+mod turn;
+
+pub use driving::drive;
+pub use packets::Packets;
+pub use schedule::Schedule;
