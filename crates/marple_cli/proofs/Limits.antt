@@ -11,9 +11,10 @@ use Rattle.epoch_model.specs.Machine.{Machine}
 use Rattle.marple_base.specs.Inputs.{Input}
 use Rattle.marple_base.specs.declared.inputs.Which.TheVariants.{Query, Trace}
 use Rattle.trace_reader.specs.declared.fault.TraceFault.TheVariants as faults
-use Rattle.query_lang.specs.declared.fault.QueryFault.{QueryFault}
-use Rattle.query_parser.specs.declared.answer.ParseAnswer.{ParseAnswer}
-use Rattle.query_parser.specs.declared.answer.ParseAnswer.TheVariants.{Refused}
+use Rattle.marple_cli.specs.declared.refusal.Refusal.{Refusal}
+use Rattle.marple_cli.specs.declared.refusal.Refusal.TheVariants as refusals
+use Rattle.marple_cli.specs.declared.refusal.QueryAnswer.{QueryAnswer}
+use Rattle.marple_cli.specs.declared.refusal.QueryAnswer.TheVariants.{Refused}
 use Rattle.marple_cli.specs.CountingQuery.{query_of}
 use Rattle.marple_cli.specs.Ends.{PacketsEnd, TraceEnds}
 use Rattle.marple_cli.specs.Output.{machine_for, reads_of}
@@ -49,12 +50,12 @@ told_same : {A : Type 0} (limit : ℕ) (beyond : A) (f : List ℕ → A) (left :
 told_same limit beyond f None text limited read = tt
 told_same limit beyond f (Some bytes) text limited read = cut_same limit beyond f bytes limited ∙ ap f (sym read)
 
-long_query : IsLimited 65536 (Err (fault_at kinds.QueryTooLong 65536)) query_of
+long_query : IsLimited 65536 (Err (refusals.Fault (fault_at kinds.QueryTooLong 65536))) query_of
 unfolding query_of
 long_query bytes long = rw (test_true 65536 (length bytes) long) refl
 
 pub told_query : (left : Option (List ℕ)) (text : List ℕ) → IfSome left (λ bytes. text ≡ take 65537 bytes) → IfSome left (λ bytes. query_of bytes ≡ query_of text)
-told_query left text read = told_same 65536 (Err (fault_at kinds.QueryTooLong 65536)) query_of left text long_query read
+told_query left text read = told_same 65536 (Err (refusals.Fault (fault_at kinds.QueryTooLong 65536))) query_of left text long_query read
 
 long_trace : (reads : FieldSet) → IsLimited 268435456 (record { packets = []; fault = Some faults.TraceTooLong }) (λ bytes. contents bytes reads)
 unfolding contents opening
@@ -84,7 +85,7 @@ pub told_ok : (left : Option (List ℕ)) (text slice : List ℕ) (query : Counti
 told_ok left text slice query read same known =
     IfSome-map (λ bytes. query_of bytes ≡ query_of text) (λ bytes. query_of bytes ≡ Ok query) left (λ bytes is. is ∙ (sym (ap query_of same) ∙ known)) (told_query left text read)
 
-pub told_refused : (left : Option (List ℕ)) (text slice : List ℕ) (answer : ParseAnswer) (fault : QueryFault) → IfSome left (λ bytes. text ≡ take 65537 bytes) → slice ≡ text
+pub told_refused : (left : Option (List ℕ)) (text slice : List ℕ) (answer : QueryAnswer) (fault : Refusal) → IfSome left (λ bytes. text ≡ take 65537 bytes) → slice ≡ text
     → answer ≡ Refused fault → IfRefused (λ found. query_of slice ≡ Err found) answer → IfSome left (λ bytes. query_of bytes ≡ Err fault)
 told_refused left text slice answer fault read same is refused =
     let known : query_of slice ≡ Err fault = subst (IfRefused (λ found. query_of slice ≡ Err found)) is refused in

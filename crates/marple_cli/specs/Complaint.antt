@@ -7,6 +7,7 @@ use Rattle.query_lang.specs.declared.fault.FaultKind.TheVariants as kinds
 use Rattle.query_lang.specs.declared.fault.Limit.TheVariants as limits
 use Rattle.trace_reader.specs.declared.fault.TraceFault.{TraceFault}
 use Rattle.trace_reader.specs.declared.fault.TraceFault.TheVariants as faults
+use Rattle.marple_cli.specs.declared.refusal.Refusal.TheVariants as refusals
 use Rattle.marple_cli.specs.declared.status.Status.{Status}
 use Rattle.marple_cli.specs.declared.status.Status.TheVariants as statuses
 
@@ -32,7 +33,6 @@ kind_text (kinds.OverLimit limits.Bindings) = codes "OverLimit(bindings)"
 kind_text (kinds.OverLimit limits.Nesting) = codes "OverLimit(nesting)"
 kind_text (kinds.OverLimit limits.Stages) = codes "OverLimit(stages)"
 kind_text kinds.NothingPrinted = codes "NothingPrinted"
-kind_text kinds.NotBuilt = codes "NotBuilt"
 
 -- a fault of a trace, with the record and the field where it stands
 abbrev pub trace_fault_text : TraceFault → List ℕ
@@ -51,7 +51,8 @@ complaint statuses.Memory = codes "marple: out of memory\n"
 complaint statuses.Usage = codes "marple: bad command line\n"
 complaint (statuses.InputFault Query) = codes "marple: cannot read the query\n"
 complaint (statuses.InputFault Trace) = codes "marple: cannot read the trace\n"
-complaint (statuses.QueryRefused fault) = codes "marple: query: " ++ kind_text fault.kind ++ codes " at " ++ decimal fault.span.start ++ codes "\n"
+complaint (statuses.QueryRefused (refusals.Fault fault)) = codes "marple: query: " ++ kind_text fault.kind ++ codes " at " ++ decimal fault.span.start ++ codes "\n"
+complaint (statuses.QueryRefused refusals.NotBuilt) = codes "marple: query: NotBuilt at 0\n"
 complaint (statuses.TraceRefused fault) = codes "marple: trace: " ++ trace_fault_text fault ++ codes "\n"
 complaint statuses.OutputFault = codes "marple: cannot write\n"
 

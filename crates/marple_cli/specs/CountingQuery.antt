@@ -6,7 +6,8 @@ use Rattle.marple_base.specs.Field.{all_fields, field_name}
 use Rattle.marple_base.specs.declared.field.Field.{Field}
 use Rattle.query_lang.specs.Lexis.{Cut, fault_at, tokens_of}
 use Rattle.query_lang.specs.declared.fault.FaultKind.TheVariants as kinds
-use Rattle.query_lang.specs.declared.fault.QueryFault.{QueryFault}
+use Rattle.marple_cli.specs.declared.refusal.Refusal.{Refusal}
+use Rattle.marple_cli.specs.declared.refusal.Refusal.TheVariants as refusals
 use Rattle.query_lang.specs.declared.token.Token.{Token}
 use Rattle.query_lang.specs.declared.token.TokenKind.{TokenKind}
 use Rattle.query_lang.specs.declared.token.TokenKind.TheVariants as tokens
@@ -84,14 +85,14 @@ counting_query_in text list =
 abbrev pub most_query_bytes : ℕ
 most_query_bytes = 65536
 
-abbrev pub built : Option CountingQuery → Result CountingQuery QueryFault
+abbrev pub built : Option CountingQuery → Result CountingQuery Refusal
 built (Some query) = Ok query
-built None = Err (fault_at kinds.NotBuilt 0)
+built None = Err refusals.NotBuilt
 
-abbrev pub query_in : List ℕ → Cut → Result CountingQuery QueryFault
-query_in text (Err fault) = Err fault
+abbrev pub query_in : List ℕ → Cut → Result CountingQuery Refusal
+query_in text (Err fault) = Err (refusals.Fault fault)
 query_in text (Ok found) = built (counting_query_in text found.0)
 
 -- The query of a text, or its first fault: it is too long, it isn't made of tokens, or it is of another form.
-unfoldable pub query_of : List ℕ → Result CountingQuery QueryFault
-query_of text = if nat_lt most_query_bytes (length text) then Err (fault_at kinds.QueryTooLong most_query_bytes) else query_in text (tokens_of text)
+unfoldable pub query_of : List ℕ → Result CountingQuery Refusal
+query_of text = if nat_lt most_query_bytes (length text) then Err (refusals.Fault (fault_at kinds.QueryTooLong most_query_bytes)) else query_in text (tokens_of text)

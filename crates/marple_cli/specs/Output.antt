@@ -5,7 +5,7 @@ use Rattle.marple_base.specs.declared.field.FieldSet.{FieldSet}
 use Rattle.marple_base.specs.declared.field.Packet.{Packet}
 use Rattle.marple_base.specs.declared.inputs.Which.{Which}
 use Rattle.marple_base.specs.declared.inputs.Which.TheVariants.{Query, Trace}
-use Rattle.query_lang.specs.declared.fault.QueryFault.{QueryFault}
+use Rattle.marple_cli.specs.declared.refusal.Refusal.{Refusal}
 use Rattle.query_lang.specs.declared.typed.Class.TheVariants.{Linear}
 use Rattle.epoch_model.specs.Driving.{Taken, uses_taken}
 use Rattle.epoch_model.specs.Epochs as epochs
@@ -31,19 +31,19 @@ abbrev pub takes : Command → Which → Bool
 takes (Run geometry) which = true
 takes (Gen generation) which = false
 
-abbrev pub fault_in : Result CountingQuery QueryFault → Option QueryFault
+abbrev pub fault_in : Result CountingQuery Refusal → Option Refusal
 fault_in (Ok query) = None
 fault_in (Err fault) = Some fault
 
 -- the first fault of a query's bytes
-abbrev pub query_fault : List ℕ → Option QueryFault
+abbrev pub query_fault : List ℕ → Option Refusal
 query_fault query = fault_in (query_of query)
 
 -- the fields that a query reads
 abbrev pub reads_of : CountingQuery → FieldSet
 reads_of query = record { bits = 2 ^ number_of query.field }
 
-abbrev pub fault_for : Result CountingQuery QueryFault → List ℕ → Option TraceFault
+abbrev pub fault_for : Result CountingQuery Refusal → List ℕ → Option TraceFault
 fault_for (Ok query) trace = traces.trace_fault trace (reads_of query)
 fault_for (Err fault) trace = None
 
@@ -74,7 +74,7 @@ table_of geometry query packets = group_table (heading_of query) (counting query
 abbrev pub machine_for : Geometry → CountingQuery → List Packet → Machine
 machine_for geometry query packets = end_of (one_way geometry.buckets) (uses_of query packets) (length packets)
 
-abbrev pub output_for : Geometry → Result CountingQuery QueryFault → List ℕ → List ℕ
+abbrev pub output_for : Geometry → Result CountingQuery Refusal → List ℕ → List ℕ
 output_for geometry (Ok query) trace = table_text (table_of geometry query (traces.packets trace (reads_of query)))
 output_for geometry (Err fault) trace = []
 
@@ -97,6 +97,6 @@ pub record IsDrained (m : Machine) : Type 0 where
   pub merged : m.merged ≡ length m.closed
 
 -- the machine at the end of the trace, for the query of these bytes
-abbrev pub StandsForEnd : Geometry → Result CountingQuery QueryFault → List ℕ → Machine → Type 0
+abbrev pub StandsForEnd : Geometry → Result CountingQuery Refusal → List ℕ → Machine → Type 0
 StandsForEnd geometry (Ok query) trace m = m ≡ machine_for geometry query (traces.packets trace (reads_of query))
 StandsForEnd geometry (Err fault) trace m = ⊥

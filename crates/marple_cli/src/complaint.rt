@@ -7,6 +7,7 @@ ghost use Rattle.marple_base.specs.Sink.{TakesFront};
 ghost use Rattle.marple_cli.specs.Complaint.{complaint, kind_text};
 ghost use Rattle.marple_cli.specs.Piece.{piece_text};
 
+use crate::refusal::Refusal;
 use crate::status::Status;
 use itoa::Buffer;
 use marple_base::{Failed, Sink, Which, write_all};
@@ -63,7 +64,6 @@ fn kind_text(kind: FaultKind) -> &'static [u8]
         FaultKind::OverLimit(Limit::Nesting) => b"OverLimit(nesting)",
         FaultKind::OverLimit(Limit::Stages) => b"OverLimit(stages)",
         FaultKind::NothingPrinted => b"NothingPrinted",
-        FaultKind::NotBuilt => b"NotBuilt",
     }
 }
 
@@ -134,7 +134,8 @@ fn pieces_of(status: Status) -> [Piece; 5]
         Status::Usage => alone(b"marple: bad command line\n"),
         Status::InputFault(Which::Query) => alone(b"marple: cannot read the query\n"),
         Status::InputFault(Which::Trace) => alone(b"marple: cannot read the trace\n"),
-        Status::QueryRefused(fault) => [
+        Status::QueryRefused(Refusal::NotBuilt) => alone(b"marple: query: NotBuilt at 0\n"),
+        Status::QueryRefused(Refusal::Fault(fault)) => [
             Piece::Text(b"marple: query: "),
             Piece::Text(kind_text(fault.kind)),
             Piece::Text(b" at "),

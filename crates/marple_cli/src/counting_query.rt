@@ -4,6 +4,7 @@ ghost use Rattle.marple_cli.specs.CountingQuery.{spelling, spellings, texts_eq, 
 ghost use Rattle.query_lang.specs.Lexis.{fault_at};
 ghost use Rattle.marple_cli.specs.QueryAnswers.{IfRefused};
 
+use crate::refusal::{QueryAnswer, Refusal};
 use marple_base::{Field, Text};
 use query_lang::{FaultKind, QueryFault, Span, Token, TokenKind};
 use query_parser::{ParseAnswer, cut_text};
@@ -220,29 +221,30 @@ fn fault_at(kind: FaultKind, at: u32) -> QueryFault
     QueryFault { kind, span }
 }
 
-fn built(alloc: Global, text: &[u8], tokens: &[Token]) -> Result<CountingQuery, ParseAnswer>
+fn built(alloc: Global, text: &[u8], tokens: &[Token]) -> Result<CountingQuery, QueryAnswer>
     ensures ok { IfOk result (λ query. built (counting_query_in text.now tokens.now) ≡ Ok query) }
     ensures refused { IfErr result (IfRefused (λ fault. built (counting_query_in text.now tokens.now) ≡ Err fault)) }
 {
     match counting_query_in(alloc, text, tokens) {
         Ok(Some(query)) => Ok(query),
-        Ok(None) => Err(ParseAnswer::Refused(fault_at(FaultKind::NotBuilt, 0))),
-        Err(_) => Err(ParseAnswer::Memory),
+        Ok(None) => Err(QueryAnswer::Refused(Refusal::NotBuilt)),
+        Err(_) => Err(QueryAnswer::Memory),
     }
 }
 
 /// The query of a text, or its first fault.
 #[tactic(auto, unfolding(crate::specs::CountingQuery::query_of))]
-pub fn query_of(alloc: Global, text: &[u8]) -> Result<CountingQuery, ParseAnswer>
+pub fn query_of(alloc: Global, text: &[u8]) -> Result<CountingQuery, QueryAnswer>
     ensures ok { IfOk result (λ query. query_of text.now ≡ Ok query) }
     ensures refused { IfErr result (IfRefused (λ fault. query_of text.now ≡ Err fault)) }
 {
     if text.len() > MAX_QUERY {
         let fault = fault_at(FaultKind::QueryTooLong, 65_536);
-        return Err(ParseAnswer::Refused(fault));
+        return Err(QueryAnswer::Refused(Refusal::Fault(fault)));
     }
     match cut_text(alloc, text) {
         Ok(lexed) => built(alloc, text, lexed.tokens.as_slice()),
-        Err(answer) => Err(answer),
+        Err(ParseAnswer::Refused(fault)) => Err(QueryAnswer::Refused(Refusal::Fault(fault))),
+        Err(ParseAnswer::Memory) => Err(QueryAnswer::Memory),
     }
 }

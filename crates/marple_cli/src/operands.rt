@@ -5,9 +5,9 @@ ghost use Rattle.marple_cli.specs.CountingQuery.{query_of};
 ghost use Rattle.marple_cli.specs.Ends.{QueryEnds, ReadEnds};
 
 use crate::counting_query::{CountingQuery, MAX_QUERY, query_of};
+use crate::refusal::QueryAnswer;
 use crate::status::Status;
 use marple_base::{Inputs, ReadAnswer, Text, Which, read_input};
-use query_parser::ParseAnswer;
 use std::alloc::Global;
 
 /// The most bytes of a trace.
@@ -28,8 +28,8 @@ pub fn read_query<I: Inputs>(alloc: Global, inputs: &mut I) -> Result<CountingQu
     };
     match query_of(alloc, text.as_slice()) {
         Ok(query) => Ok(query),
-        Err(ParseAnswer::Refused(fault)) => Err(Status::QueryRefused(fault)),
-        Err(ParseAnswer::Memory) => Err(Status::Memory),
+        Err(QueryAnswer::Refused(fault)) => Err(Status::QueryRefused(fault)),
+        Err(QueryAnswer::Memory) => Err(Status::Memory),
     }
 }
 
