@@ -67,6 +67,7 @@ fitting_sound folds names number keys args ids f group found is key_names state_
       some_keys = omega arith;
       most_keys = omega arith;
       most_states = omega (arith, states, is.valid.states);
+      states = states ∙ (sym is.valid.starts ∙ ap length (sym is.layout.initial));
       keys = words ∙ count;
       args = is.layout.args ∙ row;
       most_args = omega (arith, row, is.valid.args);

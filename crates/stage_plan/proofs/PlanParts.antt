@@ -279,6 +279,7 @@ module _ (q : TypedQuery) (valid : IsValidQuery q) (ops : List PlanOp) (streams 
             some_keys = h.some_keys;
             most_keys = h.most_keys;
             most_states = h.most_states;
+            states = h.states;
             keys = keys ∙ sym h.keys;
             args = args ∙ sym h.args;
             most_args = (let m = h.most_args in omega arith);

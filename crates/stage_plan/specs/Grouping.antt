@@ -20,6 +20,7 @@ pub record IsGroupFor (folds : List TypedFold) (number words row_words : ℕ) (g
   pub some_keys : 0 < length group.key_names
   pub most_keys : length group.key_names ≤ 8
   pub most_states : length group.state_names ≤ 8
+  pub states : length group.state_names ≡ length group.program.layout.initial
   pub keys : length group.key_names ≡ words
   pub args : group.program.layout.args ≡ row_words
   pub most_args : row_words ≤ 16

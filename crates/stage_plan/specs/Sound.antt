@@ -35,12 +35,14 @@ pub record AreSoundOps (ops : List PlanOp) : Type 0 where
   pub ordered : (i j : ℕ) (one other : PlanOp) → i < j → slice_get ops i ≡ Some one → slice_get ops j ≡ Some other → one.stage ≤ other.stage
   pub most : length ops ≤ 32768
 
--- a groupby and what it takes, of so many registers: it has a fold's program, and as many words as names of keys and as arguments
+-- a groupby and what it takes, of so many registers: it has a fold's program, a name for each of the fold's state variables, and as many words as
+-- names of keys and as arguments
 pub record IsSoundGroup (registers : ℕ) (group : GroupPlan) (wiring : GroupWiring) : Type 0 where
   pub program : IsProgram group.program
   pub some_keys : 0 < length group.key_names
   pub most_keys : length group.key_names ≤ 8
   pub most_states : length group.state_names ≤ 8
+  pub states : length group.state_names ≡ length group.program.layout.initial
   pub keys : length wiring.keys ≡ length group.key_names
   pub args : length wiring.args ≡ group.program.layout.args
   pub most_args : length wiring.args ≤ 16
