@@ -12,5 +12,6 @@ pub mod SideBySide
 pub mod LaneFacts
 pub mod PipelineSteps
 pub mod LanesMade
+pub mod PacketBound
 pub mod LaneTables
 pub mod KindTableFacts

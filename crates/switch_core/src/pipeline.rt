@@ -17,6 +17,7 @@ use crate::making::made_lanes;
 use crate::tables::lane_tables;
 use epoch_entry::AnyEpochs;
 use final_queries::Table;
+use fold_class::depth_is_found;
 use marple_base::{Packet, Seq, Steps};
 use stage_plan::Plan;
 use std::alloc::{AllocError, Global};
@@ -113,7 +114,10 @@ impl<const WAYS: usize> Pipeline<WAYS> {
         ensures makes { PipelineMakes WAYS (packet_events self.old.plan p.now.words) self.old self.new }
         ensures at_least { steps.old ≤ steps.new }
         ensures cost { steps.new ≤ steps.old + pipeline_cost WAYS self.old }
+        ensures bound { steps.new ≤ steps.old + plan_bound self.old.plan WAYS }
     {
+        depth_is_found();
+        self.plan.known();
         self.plan.row(p, &mut self.registers, steps);
         packet_lanes(
             &self.plan,

@@ -1,10 +1,12 @@
-use Rattle.std.proofs.Common.{◌≡◌, ◌++◌, length, map, take, drop, sym, ap, ◌∙◌, subst}
+use Rattle.std.proofs.Common.{◌≡◌, ◌+◌, ◌≤◌, ◌++◌, length, map, take, drop, sym, ap, ◌∙◌, subst, arith}
+use Rattle.std.specs.Prelude.{sum_by}
 use Rattle.epoch_model.specs.Driving.{event_of}
-use Rattle.stage_plan.specs.Planned.{row_of, wiring_at}
+use Rattle.stage_plan.specs.Planned.{plan_bound, row_of, wiring_at}
 use Rattle.stage_plan.specs.Registers.{taken_at}
 use Rattle.switch_core.specs.Pipelines.{packet_events}
-use Rattle.switch_core.specs.PlanLanes.{AreLanesOf, LaneMakes, LanesMake, PipelineMakes, PipelineView, lane_view}
+use Rattle.switch_core.specs.PlanLanes.{AreLanesOf, LaneMakes, LanesMake, PipelineMakes, PipelineView, lane_cost, lane_view, pipeline_cost}
 use Rattle.switch_core.proofs.LaneFacts.{whole_written}
+use Rattle.switch_core.proofs.PacketBound.{packet_within}
 use Rattle.switch_core.proofs.PipelineSteps.{makes_sizes, lanes_kept, pipeline_makes}
 use Rattle.switch_core.proofs.pipeline.Pipeline.packet.Goals as goal
 
@@ -25,6 +27,17 @@ returns-clause-makes g c =
     let after : PipelineView = record { plan = p.plan; buckets = p.buckets; lanes = map lane_view (take p.lanes.len (new ++ drop (length new) p.lanes.items)) } in
     subst (λ v. PipelineMakes g.row.WAYS (packet_events v.plan c.args.p.now.words) v after) c.self.view_is
     (pipeline_makes g.row.WAYS (packet_events p.plan c.args.p.now.words) p.plan p.buckets (map lane_view p.lanes.items) after.lanes c.self.invariant.lanes lanes)
+
+pub returns-clause-bound : goal.returns-clause-bound
+returns-clause-bound g c =
+    let p = c.self.inside in
+    let before : PipelineView = record { plan = p.plan; buckets = p.buckets; lanes = map lane_view p.lanes.items } in
+    let within : pipeline_cost g.row.WAYS before ≤ plan_bound p.plan g.row.WAYS = packet_within c.depth_is_found.ensures g.row.WAYS before c.known.ensures c.self.invariant.lanes in
+    let row = c.row.ensures.steps in
+    let lanes : c.packet_lanes.new.steps ≤ c.row.new.steps + sum_by (lane_cost g.row.WAYS) before.lanes =
+    subst (λ xs. c.packet_lanes.new.steps ≤ c.row.new.steps + sum_by (lane_cost g.row.WAYS) (map lane_view xs)) c.deref_mut-2.ensures.value c.packet_lanes.ensures.cost in
+    let all : c.packet_lanes.new.steps ≤ c.args.steps.now + plan_bound p.plan g.row.WAYS = omega arith in
+    subst (λ (v : PipelineView). c.packet_lanes.new.steps ≤ c.args.steps.now + plan_bound v.plan g.row.WAYS) c.self.view_is all
 
 pub invariant_of-self : goal.invariant_of-self
 invariant_of-self g c =
