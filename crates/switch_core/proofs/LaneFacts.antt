@@ -91,6 +91,10 @@ pub on_err : {X E : Type 0} (P Q : Type 0) (r : Result X E) → (P → Q) → On
 on_err P Q (Ok x) h o = o
 on_err P Q (Err e) h o = h o
 
+pub err_holds : {X E : Type 0} (r : Result X E) (P : Type 0) → P → OnErr r P
+err_holds (Ok x) P h = tt
+err_holds (Err e) P h = h
+
 pub got_set : {X : Type 0} (xs : List X) (i : ℕ) (x : X) → i < length xs → slice_get (set xs i x) i ≡ Some x
 got_set [] i x h = absurd (omega arith)
 got_set (y ∷ xs) zero x h = refl

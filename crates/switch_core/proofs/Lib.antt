@@ -8,6 +8,7 @@ pub mod ClosedRows
 pub mod Drained
 pub mod Histories
 pub mod SweepSteps
+pub mod SweepEvents
 pub mod SideBySide
 pub mod LaneFacts
 pub mod PipelineSteps

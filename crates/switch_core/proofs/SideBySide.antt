@@ -95,6 +95,20 @@ done_end {X = X} R i old new d l = each_map (λ n a b. n < i → R n a b) R 0 ol
     got_below (a ∷ xs) zero x h = omega arith
     got_below (a ∷ xs) (suc j) x h = let r = got_below xs j x h in omega arith
 
+each_both : {X Y : Type 0} (R S : ℕ → X → Y → Type 0) (k : ℕ) (xs : List X) (ys : List Y) → EachFrom R k xs ys → EachFrom S k xs ys → EachFrom (λ n x y. R n x y × S n x y) k xs ys
+each_both R S k [] [] r s = tt
+each_both R S k [] (y ∷ ys) r s = absurd r
+each_both R S k (x ∷ xs) [] r s = absurd r
+each_both R S k (x ∷ xs) (y ∷ ys) r s = ((r.0, s.0), each_both R S (suc k) xs ys r.1 s.1)
+
+-- the loop breaks off at an item
+pub breaks_at : {X : Type 0} (R S : X → X → Type 0) (i : ℕ) (old new : List X) (item : X) → Done (λ n. R) i old new → Untouched i old new → ((x : X) → slice_get old i ≡ Some x → S x item)
+    → EachFrom (λ n a b. (n < i → R a b) × (n ≡ i → S a b) × (i < n → b ≡ a)) 0 old (set new i item)
+breaks_at R S i old new item d u h = each_set (λ n a b. (n < i → R a b) × (i ≤ n → b ≡ a)) (λ n a b. (n < i → R a b) × (n ≡ i → S a b) × (i < n → b ≡ a)) 0 i old new item
+    (λ j n a b q apart r. (r.0, λ e. absurd (apart (omega arith)), λ less. r.1 (omega arith)))
+    (λ n x q f. (λ less. absurd (omega arith), λ e. h x f, λ less. absurd (omega arith)))
+    (each_both (λ n a b. n < i → R a b) (λ n a b. i ≤ n → b ≡ a) 0 old new d u)
+
 -- the sum over one item more
 pub sum_next : {X : Type 0} (f : X → ℕ) (xs : List X) (i : ℕ) (x : X) → slice_get xs i ≡ Some x → sum_by f (take (i + 1) xs) ≡ sum_by f (take i xs) + f x
 sum_next {X = X} f xs i x h = ap (λ n. sum_by f (take n xs)) (let e : i + 1 ≡ suc i = omega arith in e) ∙ one_more f xs i x h

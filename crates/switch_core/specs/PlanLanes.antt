@@ -1,5 +1,5 @@
 -- What contracts see of a pipeline.
-use Rattle.std.specs.Prelude.{◌≡◌, ℕ, ◌+◌, ◌*◌, ◌≤◌, Bool, List, [], length, map, nat_lt, slice_get, sum_by, Some, true, ◌==◌}
+use Rattle.std.specs.Prelude.{◌≡◌, ℕ, ◌+◌, ◌*◌, ◌<◌, ◌≤◌, Bool, List, [], length, map, nat_lt, slice_get, sum_by, Some, true, ◌==◌}
 use Rattle.std.specs.List.{list_all}
 use Rattle.epoch_model.specs.Machine.{Machine, Event, empty_buckets, run}
 use Rattle.epoch_model.specs.Timeline.{NoPacket}
@@ -17,7 +17,7 @@ use Rattle.switch_core.specs.Lanes.{LaneStands}
 use Rattle.switch_core.specs.LaneEvents.{Parts, parts, MakesAll}
 use Rattle.switch_core.specs.Pipelines.{IsLaneOf, HasRooms, after_events, geometry_of}
 use Rattle.switch_core.specs.Closing.{held_in, is_drained}
-use Rattle.switch_core.specs.Sweeps.{Leads, MakesSweep}
+use Rattle.switch_core.specs.Sweeps.{Leads, MakesSweep, RunsAll, RunsFirst, lane_sweep}
 use Rattle.switch_core.specs.Rows.{Each, EachFrom}
 
 -- a lane: the kind of its entries, and the parts that stand for a machine
@@ -103,6 +103,19 @@ pub record LaneSweeps (ways : ℕ) (old new : LaneView) : Type 0 where
 pub record LaneIsSwept (old new : LaneView) : Type 0 where
   pub leads : Leads (ghosts.stands old.kind) (ghosts.folding old.kind) (λ m. empty_buckets (length old.cache.lists) m) (parts_of old) (parts_of new)
   pub held : held_in new.cache ≡ 0
+
+-- the lane made the events of its sweep
+abbrev pub LaneRunsSweep : ℕ → LaneView → LaneView → Type 0
+LaneRunsSweep ways old new = RunsAll (ghosts.stands old.kind) (ghosts.folding old.kind) ways (lane_sweep ways (parts_of old)) (parts_of old) (parts_of new)
+
+-- the lane made the first events of its sweep
+abbrev pub LaneBeginsSweep : ℕ → LaneView → LaneView → Type 0
+LaneBeginsSweep ways old new = RunsFirst (ghosts.stands old.kind) (ghosts.folding old.kind) ways (lane_sweep ways (parts_of old)) (parts_of old) (parts_of new)
+
+-- Sweeps of lanes one after another, up to one that broke off: the lanes below its number made the events of their sweep, it made the first events of its own,
+-- and those above it are as they were.
+abbrev pub SweepBreaksOff : ℕ → List LaneView → List LaneView → Type 0
+SweepBreaksOff ways old new = (at : ℕ) × (at < length old) × EachFrom (λ n a b. (n < at → LaneRunsSweep ways a b) × (n ≡ at → LaneBeginsSweep ways a b) × (at < n → b ≡ a)) 0 old new
 
 -- the most steps that a packet takes: its registers, and what each lane takes
 abbrev pub pipeline_cost : ℕ → PipelineView → ℕ

@@ -10,7 +10,7 @@ ghost use Rattle.bucket_cache.specs.Caches.{list_at};
 ghost use Rattle.switch_core.specs.Closing.{is_drained};
 ghost use Rattle.switch_core.specs.Rows.{Each};
 ghost use Rattle.switch_core.specs.Pipelines.{event_at};
-ghost use Rattle.switch_core.specs.PlanLanes.{AreLanesOf, AtLane, LaneMakes, LanesMake, LaneView, LaneIsSwept, LaneSweeps, lane_cost, lane_is_ready, lane_view};
+ghost use Rattle.switch_core.specs.PlanLanes.{AreLanesOf, AtLane, LaneMakes, LanesMake, LaneView, LaneIsSwept, LaneRunsSweep, LaneSweeps, SweepBreaksOff, lane_cost, lane_is_ready, lane_view};
 
 use crate::lane::{Lane, Merged};
 use crate::sweeping::sweep_lane;
@@ -129,6 +129,8 @@ pub fn sweep_lanes<const WAYS: usize, L: Ledger>(
     steps: &mut Steps<L>,
 ) -> Result<(), AllocError>
     ensures leads { OnOk result (Each LaneIsSwept (map lane_view lanes.old) (map lane_view lanes.new)) }
+    ensures runs { OnOk result (Each (LaneRunsSweep WAYS) (map lane_view lanes.old) (map lane_view lanes.new)) }
+    ensures breaks_off { OnErr result (SweepBreaksOff WAYS (map lane_view lanes.old) (map lane_view lanes.new)) }
     ensures makes { Each (LaneSweeps WAYS) (map lane_view lanes.old) (map lane_view lanes.new) }
     ensures at_least { steps.old ≤ steps.new }
 {

@@ -9,7 +9,7 @@ ghost use Rattle.bucket_cache.specs.Caches.{list_at};
 ghost use Rattle.stage_plan.specs.Planned.{plan_bound};
 ghost use Rattle.switch_core.specs.Closing.{held_in};
 ghost use Rattle.switch_core.specs.Pipelines.{empty_machines, event_at, geometry_of, packet_events, tables_of};
-ghost use Rattle.switch_core.specs.PlanLanes.{AreLanesOf, AtLane, PipelineIsSwept, PipelineMakes, PipelineStands, PipelineSweeps, folding_at, lane_is_drained, lane_is_ready, lane_view, pipeline_cost};
+ghost use Rattle.switch_core.specs.PlanLanes.{AreLanesOf, AtLane, LaneRunsSweep, PipelineIsSwept, PipelineMakes, PipelineStands, PipelineSweeps, SweepBreaksOff, folding_at, lane_is_drained, lane_is_ready, lane_view, pipeline_cost};
 
 use crate::lane::{Lane, Merged};
 use crate::lanes::{all_drained, all_ready, evict_at, merge_at, packet_lanes, sweep_lanes};
@@ -162,6 +162,8 @@ impl<const WAYS: usize> Pipeline<WAYS> {
     pub fn sweep<L: Ledger>(&mut self, steps: &mut Steps<L>) -> Result<(), AllocError>
         ensures swept { OnOk result (PipelineIsSwept self.old self.new) }
         ensures makes { PipelineSweeps WAYS self.old self.new }
+        ensures runs { OnOk result (Each (LaneRunsSweep WAYS) self.old.lanes self.new.lanes) }
+        ensures breaks_off { OnErr result (SweepBreaksOff WAYS self.old.lanes self.new.lanes) }
         ensures at_least { steps.old ≤ steps.new }
     {
         sweep_lanes(&mut self.lanes, steps)

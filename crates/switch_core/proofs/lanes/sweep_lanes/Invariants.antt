@@ -1,5 +1,5 @@
 use Rattle.std.proofs.Common.{◌≤◌, map}
-use Rattle.switch_core.specs.PlanLanes.{LaneIsSwept, LaneSweeps, lane_view}
+use Rattle.switch_core.specs.PlanLanes.{LaneIsSwept, LaneRunsSweep, LaneSweeps, lane_view}
 use Rattle.switch_core.specs.Rows.{Each}
 use Rattle.switch_core.proofs.SideBySide.{Done, Untouched}
 use Rattle.switch_core.proofs.lanes.sweep_lanes.Given as goal
@@ -8,6 +8,7 @@ use Rattle.switch_core.proofs.lanes.sweep_lanes.Given as goal
 abbrev pub invariant-loop-i : goal.invariant-loop-i
 invariant-loop-i g l = record {
   leads : Done (λ n. LaneIsSwept) l.i (map lane_view l.initial.lanes) (map lane_view l.lanes);
+  runs : Done (λ n. LaneRunsSweep g.row.WAYS) l.i (map lane_view l.initial.lanes) (map lane_view l.lanes);
   same : Untouched l.i (map lane_view l.initial.lanes) (map lane_view l.lanes);
   makes : Each (LaneSweeps g.row.WAYS) (map lane_view l.initial.lanes) (map lane_view l.lanes);
   at_least : l.initial.steps ≤ l.steps;

@@ -1,11 +1,62 @@
-use Rattle.std.proofs.Common.{◌≡◌, ◌-◌, false, [], length, take, ap, ◌∙◌, subst, arith, get_or-set_other}
+use Rattle.std.proofs.Common.{◌≡◌, ◌-◌, ◌<◌, false, [], length, take, refl, sym, ap, ◌∙◌, subst, arith, get_or-set_other}
 use Rattle.std.proofs.lemmas.Bool.Decides.{nat_tests}
 use Rattle.epoch_model.specs.Machine.{Evict}
 use Rattle.bucket_cache.specs.Caches.{list_at}
 use Rattle.switch_core.specs.LaneEvents.{Makes, parts}
-use Rattle.switch_core.specs.Sweeps.{Leads, MakesSweep}
-use Rattle.switch_core.proofs.SweepSteps.{sweep_on, sweep_evict, on_alike, on_evict, on_end}
+use Rattle.switch_core.specs.Lanes.{geometry}
+use Rattle.switch_core.specs.Sweeps.{Leads, MakesSweep, RunsAll, RunsFirst, bucket_events, room_events}
+use Rattle.switch_core.proofs.LaneFacts.{err_holds}
+use Rattle.switch_core.proofs.SweepSteps.{sweep_none, sweep_on, sweep_evict, on_start, on_alike, on_evict, on_end}
+use Rattle.switch_core.proofs.SweepEvents.{Evicted, sweep_room, evicted_none, evicted_more, evicted_shorter, bucket_runs, bucket_begun, same_parts}
 use Rattle.switch_core.proofs.sweeping.sweep_bucket.Goals as goal
+
+pub loop-lane-init : goal.loop-lane-init
+loop-lane-init g c =
+    let first = c.args.lane.now in
+    let lane = parts first.cache first.pipe first.store in
+    let stands = g.K.EpochKind.stands first.kind in
+    let folding = g.K.EpochKind.folding first.kind in
+    record {
+      leads = on_start c.events_keep_alike.ensures stands folding c.args.bucket lane;
+      makes = sweep_none stands folding g.row.WAYS lane;
+      evicted = evicted_none stands folding g.row.WAYS c.args.bucket lane;
+      others = λ other apart. refl;
+      buckets = refl;
+      kind = refl;
+      at_least = omega arith;
+    }
+
+pub returns-in_err-make_ready-clause-begun : goal.returns-in_err-make_ready-clause-begun
+returns-in_err-make_ready-clause-begun g c =
+    let first = c.args.lane.now in
+    let was = c.loop-lane.lane in
+    let ready = c.make_ready.new.lane in
+    let stands = g.K.EpochKind.stands first.kind in
+    let folding = g.K.EpochKind.folding first.kind in
+    let same = same_parts was.cache ready.cache was.pipe ready.pipe was.store ready.store (sym c.make_ready.ensures.cache) (sym c.in_err-make_ready.ensures.err.0) (sym c.in_err-make_ready.ensures.err.1) in
+    err_holds c.from_residual.result (RunsFirst stands folding g.row.WAYS (bucket_events (geometry g.row.WAYS first.cache) first.pipe.places c.args.bucket) (parts first.cache first.pipe first.store) (parts ready.cache ready.pipe ready.store))
+    (bucket_begun stands folding g.row.WAYS c.args.bucket (parts first.cache first.pipe first.store) (parts ready.cache ready.pipe ready.store)
+    (subst (Evicted stands folding g.row.WAYS c.args.bucket (parts first.cache first.pipe first.store)) same c.loop-lane.invariant.evicted))
+
+pub returns-then-not-evict-clause-runs : goal.returns-then-not-evict-clause-runs
+returns-then-not-evict-clause-runs g c =
+    let first = c.args.lane.now in
+    let was = c.loop-lane.lane in
+    let ready = c.make_ready.new.lane in
+    let new = c.evict.new.self in
+    let bucket = c.args.bucket in
+    let stands = g.K.EpochKind.stands in
+    let folding = g.K.EpochKind.folding in
+    let kind : ready.kind ≡ first.kind = c.make_ready.ensures.kind ∙ c.loop-lane.invariant.kind in
+    let room : RunsAll (stands first.kind) (folding first.kind) g.row.WAYS (room_events was.pipe.places) (parts was.cache was.pipe was.store) (parts ready.cache ready.pipe ready.store) =
+    subst (λ k. RunsAll (stands k) (folding k) g.row.WAYS (room_events was.pipe.places) (parts was.cache was.pipe was.store) (parts ready.cache ready.pipe ready.store)) c.loop-lane.invariant.kind c.in_ok-make_ready.ensures.runs in
+    let evicted : Makes (stands first.kind) (folding first.kind) g.row.WAYS (Evict bucket) (parts ready.cache ready.pipe ready.store) (parts new.cache new.pipe new.store) =
+    subst (λ k. Makes (stands k) (folding k) g.row.WAYS (Evict bucket) (parts ready.cache ready.pipe ready.store) (parts new.cache new.pipe new.store)) kind c.evict.ensures.stands in
+    let none : length (list_at ready.cache bucket) ≡ 0 = grind (arith, nat_tests, c.evict.ensures.some, c.if-not-evict.true) in
+    let none_was : length (list_at was.cache bucket) ≡ 0 = ap (λ x. length (list_at x bucket)) (sym c.make_ready.ensures.cache) ∙ none in
+    bucket_runs (stands first.kind) (folding first.kind) g.row.WAYS bucket (parts first.cache first.pipe first.store) (parts was.cache was.pipe was.store) (parts ready.cache ready.pipe ready.store) (parts new.cache new.pipe new.store)
+    (sweep_room (stands first.kind) (folding first.kind) g.row.WAYS (parts first.cache first.pipe first.store) (parts was.cache was.pipe was.store) c.loop-lane.invariant.makes)
+    c.loop-lane.invariant.evicted room evicted none_was
 
 pub returns-in_err-make_ready-clause-makes : goal.returns-in_err-make_ready-clause-makes
 returns-in_err-make_ready-clause-makes g c =
@@ -71,12 +122,20 @@ loop-lane-preserved g c =
     let swept : MakesSweep (stands first.kind) (folding first.kind) g.row.WAYS (parts first.cache first.pipe first.store) (parts ready.cache ready.pipe ready.store) =
     sweep_on (stands first.kind) (folding first.kind) g.row.WAYS (parts first.cache first.pipe first.store) (parts was.cache was.pipe was.store) (parts ready.cache ready.pipe ready.store) c.loop-lane.invariant.makes
     (subst (λ k. MakesSweep (stands k) (folding k) g.row.WAYS (parts was.cache was.pipe was.store) (parts ready.cache ready.pipe ready.store)) c.loop-lane.invariant.kind c.make_ready.ensures.makes) in
+    let room : RunsAll (stands first.kind) (folding first.kind) g.row.WAYS (room_events was.pipe.places) (parts was.cache was.pipe was.store) (parts ready.cache ready.pipe ready.store) =
+    subst (λ k. RunsAll (stands k) (folding k) g.row.WAYS (room_events was.pipe.places) (parts was.cache was.pipe was.store) (parts ready.cache ready.pipe ready.store)) c.loop-lane.invariant.kind c.in_ok-make_ready.ensures.runs in
+    let within : bucket < length ready.cache.lists = let a = c.requires in let b = ap (λ x. length x.lists) c.make_ready.ensures.cache in let d = c.loop-lane.invariant.buckets in omega arith in
+    let some : 0 < length (list_at ready.cache bucket) = grind (arith, nat_tests, c.evict.ensures.some, c.if-not-evict.false) in
+    let shorter = evicted_shorter ready.cache new.cache bucket within some c.evict.ensures.cache in
     record {
       leads = on_evict c.buckets_empty_by_evictions.ensures (stands first.kind) (folding first.kind) g.row.WAYS bucket (parts first.cache first.pipe first.store) (parts ready.cache ready.pipe ready.store) (parts new.cache new.pipe new.store)
           (on_alike c.events_keep_alike.ensures (stands first.kind) (folding first.kind) bucket (parts first.cache first.pipe first.store) (parts was.cache was.pipe was.store) (parts ready.cache ready.pipe ready.store) c.loop-lane.invariant.leads merged)
           evicted;
       makes = sweep_on (stands first.kind) (folding first.kind) g.row.WAYS (parts first.cache first.pipe first.store) (parts ready.cache ready.pipe ready.store) (parts new.cache new.pipe new.store) swept
           (sweep_evict (stands first.kind) (folding first.kind) g.row.WAYS bucket (parts ready.cache ready.pipe ready.store) (parts new.cache new.pipe new.store) evicted);
+      evicted = evicted_more (stands first.kind) (folding first.kind) g.row.WAYS bucket (parts first.cache first.pipe first.store) (parts was.cache was.pipe was.store) (parts ready.cache ready.pipe ready.store) (parts new.cache new.pipe new.store)
+          (sweep_room (stands first.kind) (folding first.kind) g.row.WAYS (parts first.cache first.pipe first.store) (parts was.cache was.pipe was.store) c.loop-lane.invariant.makes)
+          c.loop-lane.invariant.evicted room evicted (shorter ∙ ap (λ x. length (list_at x bucket)) c.make_ready.ensures.cache);
       others = λ other apart.
           ap (λ x. list_at x other) c.evict.ensures.cache
           ∙ (get_or-set_other ready.cache.lists bucket other (take (length (list_at ready.cache bucket) - 1) (list_at ready.cache bucket)) [] apart

@@ -3,6 +3,7 @@ use Rattle.bucket_cache.specs.Caches.{list_at}
 use Rattle.switch_core.specs.LaneEvents.{parts}
 use Rattle.switch_core.specs.Sweeps.{MakesSweep}
 use Rattle.switch_core.proofs.SweepSteps.{LeadsOn}
+use Rattle.switch_core.proofs.SweepEvents.{Evicted}
 use Rattle.switch_core.proofs.sweeping.sweep_bucket.Given as goal
 
 -- evictions of this bucket and merges led here
@@ -12,6 +13,7 @@ invariant-loop-lane g l =
     record {
       leads : LeadsOn (g.K.EpochKind.stands first.kind) (g.K.EpochKind.folding first.kind) l.bucket (parts first.cache first.pipe first.store) (parts l.lane.cache l.lane.pipe l.lane.store);
       makes : MakesSweep (g.K.EpochKind.stands first.kind) (g.K.EpochKind.folding first.kind) g.row.WAYS (parts first.cache first.pipe first.store) (parts l.lane.cache l.lane.pipe l.lane.store);
+      evicted : Evicted (g.K.EpochKind.stands first.kind) (g.K.EpochKind.folding first.kind) g.row.WAYS l.bucket (parts first.cache first.pipe first.store) (parts l.lane.cache l.lane.pipe l.lane.store);
       others : (other : ℕ) → other ≢ l.bucket → list_at l.lane.cache other ≡ list_at first.cache other;
       buckets : length l.lane.cache.lists ≡ length first.cache.lists;
       kind : l.lane.kind ≡ first.kind;

@@ -1,12 +1,47 @@
-use Rattle.std.proofs.Common.{◌≡◌, ◌+◌, suc, length, ap, ◌∙◌, subst, arith, ⊎_elim}
+use Rattle.std.proofs.Common.{◌≡◌, ◌+◌, ◌<◌, suc, length, refl, ap, ◌∙◌, subst, arith, ⊎_elim}
 use Rattle.std.proofs.lemmas.Bool.{cases_eq}
 use Rattle.epoch_model.specs.Machine.{empty_bucket, empty_buckets}
 use Rattle.bucket_cache.specs.Caches.{list_at}
 use Rattle.switch_core.specs.LaneEvents.{parts}
-use Rattle.switch_core.specs.Sweeps.{Leads, MakesSweep}
+use Rattle.switch_core.specs.Lanes.{geometry}
+use Rattle.switch_core.specs.Sweeps.{Leads, MakesSweep, RunsAll, RunsFirst, bucket_events, lane_sweep, sweep_events}
+use Rattle.switch_core.proofs.LaneFacts.{err_holds}
 use Rattle.switch_core.proofs.Drained.{empty_held}
-use Rattle.switch_core.proofs.SweepSteps.{sweep_on, all_next}
+use Rattle.switch_core.proofs.SweepSteps.{sweep_none, sweep_on, all_start, all_next}
+use Rattle.switch_core.proofs.SweepEvents.{sweep_room, buckets_none, buckets_more, sweep_begun}
 use Rattle.switch_core.proofs.sweeping.sweep_lane.Goals as goal
+
+pub loop-bucket-init : goal.loop-bucket-init
+loop-bucket-init g c =
+    let first = c.args.lane.now in
+    let lane = parts first.cache first.pipe first.store in
+    let stands = g.K.EpochKind.stands first.kind in
+    let folding = g.K.EpochKind.folding first.kind in
+    record {
+      leads = all_start c.events_keep_alike.ensures c.buckets_empty_by_evictions.ensures stands folding lane;
+      makes = sweep_none stands folding g.row.WAYS lane;
+      runs = buckets_none stands folding g.row.WAYS lane;
+      empty = λ other below. absurd (omega arith);
+      buckets = refl;
+      kind = refl;
+      at_least = omega arith;
+    }
+
+pub returns-in_err-sweep_bucket-clause-begun : goal.returns-in_err-sweep_bucket-clause-begun
+returns-in_err-sweep_bucket-clause-begun g c =
+    let first = c.args.lane.now in
+    let was = c.loop-bucket.lane in
+    let new = c.sweep_bucket.new.lane in
+    let bucket = c.loop-bucket.bucket in
+    let stands = g.K.EpochKind.stands in
+    let folding = g.K.EpochKind.folding in
+    let below : bucket < length first.cache.lists =
+    let a = c.loop-bucket-test.true in let b = c.loop-bucket.auto.bucket-end in let n = c.buckets-bucket-end.ensures.number ∙ ap (λ x. length x.lists) c.cache.ensures in omega arith in
+    err_holds c.from_residual.result (RunsFirst (stands first.kind) (folding first.kind) g.row.WAYS (lane_sweep g.row.WAYS (parts first.cache first.pipe first.store)) (parts first.cache first.pipe first.store) (parts new.cache new.pipe new.store))
+    (sweep_begun (stands first.kind) (folding first.kind) g.row.WAYS bucket (parts first.cache first.pipe first.store) (parts was.cache was.pipe was.store) (parts new.cache new.pipe new.store)
+    (sweep_room (stands first.kind) (folding first.kind) g.row.WAYS (parts first.cache first.pipe first.store) (parts was.cache was.pipe was.store) c.loop-bucket.invariant.makes)
+    below c.loop-bucket.invariant.runs
+    (subst (λ k. RunsFirst (stands k) (folding k) g.row.WAYS (bucket_events (geometry g.row.WAYS was.cache) was.pipe.places bucket) (parts was.cache was.pipe was.store) (parts new.cache new.pipe new.store)) c.loop-bucket.invariant.kind c.in_err-sweep_bucket.ensures.begun))
 
 pub returns-in_err-sweep_bucket-clause-makes : goal.returns-in_err-sweep_bucket-clause-makes
 returns-in_err-sweep_bucket-clause-makes g c =
@@ -35,6 +70,11 @@ loop-bucket-preserved g c =
       makes = sweep_on (stands first.kind) (folding first.kind) g.row.WAYS (parts first.cache first.pipe first.store) (parts was.cache was.pipe was.store) (parts new.cache new.pipe new.store)
           c.loop-bucket.invariant.makes
           (subst (λ k. MakesSweep (stands k) (folding k) g.row.WAYS (parts was.cache was.pipe was.store) (parts new.cache new.pipe new.store)) c.loop-bucket.invariant.kind c.sweep_bucket.ensures.makes);
+      runs = subst (λ n. RunsAll (stands first.kind) (folding first.kind) g.row.WAYS (sweep_events (geometry g.row.WAYS first.cache) first.pipe.places n) (parts first.cache first.pipe first.store) (parts new.cache new.pipe new.store)) next
+          (buckets_more (stands first.kind) (folding first.kind) g.row.WAYS bucket (parts first.cache first.pipe first.store) (parts was.cache was.pipe was.store) (parts new.cache new.pipe new.store)
+          (sweep_room (stands first.kind) (folding first.kind) g.row.WAYS (parts first.cache first.pipe first.store) (parts was.cache was.pipe was.store) c.loop-bucket.invariant.makes)
+          c.loop-bucket.invariant.runs
+          (subst (λ k. RunsAll (stands k) (folding k) g.row.WAYS (bucket_events (geometry g.row.WAYS was.cache) was.pipe.places bucket) (parts was.cache was.pipe was.store) (parts new.cache new.pipe new.store)) c.loop-bucket.invariant.kind c.in_ok-sweep_bucket.ensures.runs));
       empty = λ other below. ⊎_elim
           (λ (e : other ≡ bucket). ap (λ b. length (list_at new.cache b)) e ∙ c.in_ok-sweep_bucket.ensures.empty)
           (λ (apart : other ≡ bucket → ⊥). ap length (c.sweep_bucket.ensures.others other apart) ∙ c.loop-bucket.invariant.empty other (omega arith))
@@ -51,6 +91,15 @@ returns-clause-leads g c =
     let end : c.loop-bucket.bucket ≡ length first.cache.lists =
     let a = c.loop-bucket-test.false in let b = c.loop-bucket.auto.bucket-end in let n = c.buckets-bucket-end.ensures.number ∙ ap (λ x. length x.lists) c.cache.ensures in omega arith in
     subst (λ n. Leads (g.K.EpochKind.stands first.kind) (g.K.EpochKind.folding first.kind) (λ m. empty_buckets n m) (parts first.cache first.pipe first.store) (parts new.cache new.pipe new.store)) end c.loop-bucket.invariant.leads
+
+pub returns-clause-runs : goal.returns-clause-runs
+returns-clause-runs g c =
+    let first = c.args.lane.now in
+    let new = c.loop-bucket.lane in
+    let end : c.loop-bucket.bucket ≡ length first.cache.lists =
+    let a = c.loop-bucket-test.false in let b = c.loop-bucket.auto.bucket-end in let n = c.buckets-bucket-end.ensures.number ∙ ap (λ x. length x.lists) c.cache.ensures in omega arith in
+    subst (λ n. RunsAll (g.K.EpochKind.stands first.kind) (g.K.EpochKind.folding first.kind) g.row.WAYS (sweep_events (geometry g.row.WAYS first.cache) first.pipe.places n) (parts first.cache first.pipe first.store) (parts new.cache new.pipe new.store)) end
+    c.loop-bucket.invariant.runs
 
 pub returns-clause-held : goal.returns-clause-held
 returns-clause-held g c =

@@ -2,7 +2,8 @@ use Rattle.std.proofs.Common.{◌≡◌, ◌≤◌, ◌<◌, ℕ, length}
 use Rattle.epoch_model.specs.Machine.{empty_buckets}
 use Rattle.bucket_cache.specs.Caches.{list_at}
 use Rattle.switch_core.specs.LaneEvents.{parts}
-use Rattle.switch_core.specs.Sweeps.{Leads, MakesSweep}
+use Rattle.switch_core.specs.Lanes.{geometry}
+use Rattle.switch_core.specs.Sweeps.{Leads, MakesSweep, RunsAll, sweep_events}
 use Rattle.switch_core.proofs.sweeping.sweep_lane.Given as goal
 
 -- the buckets below this one are empty
@@ -12,6 +13,7 @@ invariant-loop-bucket g l =
     record {
       leads : Leads (g.K.EpochKind.stands first.kind) (g.K.EpochKind.folding first.kind) (λ m. empty_buckets l.bucket m) (parts first.cache first.pipe first.store) (parts l.lane.cache l.lane.pipe l.lane.store);
       makes : MakesSweep (g.K.EpochKind.stands first.kind) (g.K.EpochKind.folding first.kind) g.row.WAYS (parts first.cache first.pipe first.store) (parts l.lane.cache l.lane.pipe l.lane.store);
+      runs : RunsAll (g.K.EpochKind.stands first.kind) (g.K.EpochKind.folding first.kind) g.row.WAYS (sweep_events (geometry g.row.WAYS first.cache) first.pipe.places l.bucket) (parts first.cache first.pipe first.store) (parts l.lane.cache l.lane.pipe l.lane.store);
       empty : (other : ℕ) → other < l.bucket → length (list_at l.lane.cache other) ≡ 0;
       buckets : length l.lane.cache.lists ≡ length first.cache.lists;
       kind : l.lane.kind ≡ first.kind;

@@ -1,7 +1,7 @@
 use Rattle.std.proofs.Common.{◌≡◌, ◌++◌, length, map, take, drop, sym, ◌∙◌, subst}
 use Rattle.switch_core.specs.Rows.{Each}
-use Rattle.switch_core.specs.PlanLanes.{AreLanesOf, LaneSweeps, LaneIsSwept, PipelineSweeps, PipelineIsSwept, PipelineView, lane_view}
-use Rattle.switch_core.proofs.LaneFacts.{whole_written, on_ok}
+use Rattle.switch_core.specs.PlanLanes.{AreLanesOf, LaneRunsSweep, LaneSweeps, LaneIsSwept, PipelineSweeps, PipelineIsSwept, PipelineView, SweepBreaksOff, lane_view}
+use Rattle.switch_core.proofs.LaneFacts.{whole_written, on_err, on_ok}
 use Rattle.switch_core.proofs.PipelineSteps.{sweeps_sizes, lanes_kept, pipeline_sweeps, pipeline_is_swept}
 use Rattle.switch_core.proofs.pipeline.Pipeline.sweep.Goals as goal
 
@@ -42,3 +42,31 @@ returns-clause-swept g c =
     (subst (λ x. Each LaneIsSwept (map lane_view x) (map lane_view new)) c.deref_mut.ensures.value swept) in
     subst (λ v. PipelineIsSwept v after) c.self.view_is (pipeline_is_swept g.row.WAYS p.plan p.buckets (map lane_view p.lanes.items) after.lanes c.self.invariant.lanes made lanes))
     c.sweep_lanes.ensures.leads
+
+pub returns-clause-runs : goal.returns-clause-runs
+returns-clause-runs g c =
+    let p = c.self.inside in
+    let first = c.deref_mut.result.now in
+    let new = c.sweep_lanes.new.lanes in
+    let whole : take p.lanes.len (new ++ drop (length new) p.lanes.items) ≡ new = whole_written new (drop (length new) p.lanes.items) p.lanes.len (c.sweep_lanes.auto.lanes ∙ c.deref_mut.ensures.len) in
+    let after : PipelineView = record { plan = p.plan; buckets = p.buckets; lanes = map lane_view (take p.lanes.len (new ++ drop (length new) p.lanes.items)) } in
+    on_ok (Each (LaneRunsSweep g.row.WAYS) (map lane_view first) (map lane_view new)) (Each (LaneRunsSweep g.row.WAYS) c.args.self.now.lanes after.lanes) c.sweep_lanes.result
+    (λ made.
+    let lanes : Each (LaneRunsSweep g.row.WAYS) (map lane_view p.lanes.items) after.lanes =
+    subst (λ x. Each (LaneRunsSweep g.row.WAYS) (map lane_view p.lanes.items) (map lane_view x)) (sym whole) (subst (λ x. Each (LaneRunsSweep g.row.WAYS) (map lane_view x) (map lane_view new)) c.deref_mut.ensures.value made) in
+    subst (λ (v : PipelineView). Each (LaneRunsSweep g.row.WAYS) v.lanes after.lanes) c.self.view_is lanes)
+    c.sweep_lanes.ensures.runs
+
+pub returns-clause-breaks_off : goal.returns-clause-breaks_off
+returns-clause-breaks_off g c =
+    let p = c.self.inside in
+    let first = c.deref_mut.result.now in
+    let new = c.sweep_lanes.new.lanes in
+    let whole : take p.lanes.len (new ++ drop (length new) p.lanes.items) ≡ new = whole_written new (drop (length new) p.lanes.items) p.lanes.len (c.sweep_lanes.auto.lanes ∙ c.deref_mut.ensures.len) in
+    let after : PipelineView = record { plan = p.plan; buckets = p.buckets; lanes = map lane_view (take p.lanes.len (new ++ drop (length new) p.lanes.items)) } in
+    on_err (SweepBreaksOff g.row.WAYS (map lane_view first) (map lane_view new)) (SweepBreaksOff g.row.WAYS c.args.self.now.lanes after.lanes) c.sweep_lanes.result
+    (λ made.
+    let lanes : SweepBreaksOff g.row.WAYS (map lane_view p.lanes.items) after.lanes =
+    subst (λ x. SweepBreaksOff g.row.WAYS (map lane_view p.lanes.items) (map lane_view x)) (sym whole) (subst (λ x. SweepBreaksOff g.row.WAYS (map lane_view x) (map lane_view new)) c.deref_mut.ensures.value made) in
+    subst (λ (v : PipelineView). SweepBreaksOff g.row.WAYS v.lanes after.lanes) c.self.view_is lanes)
+    c.sweep_lanes.ensures.breaks_off
