@@ -68,6 +68,18 @@ pub(crate) fn store_part<C: Coeff>(words: &mut [u64], place: usize, part: Part<C
     put_part(part, &mut words[place * 3..place * 3 + 3]);
 }
 
+// The part at one place, at another one too. The others stay.
+fn copy_part<C: Coeff>(words: &mut [u64], from: usize, to: usize)
+    requires from { from * 3 + 3 ≤ length words.old }
+    requires to { to * 3 + 3 ≤ length words.old }
+    ensures here { part_at C.from_words C.WORDS words.new to ≡ part_at C.from_words C.WORDS words.old from }
+    ensures others { (other : ℕ) → other ≢ to → part_at C.from_words C.WORDS words.new other ≡ part_at C.from_words C.WORDS words.old other }
+{
+    let start = from * 3;
+    let stored = [words[start], words[start + 1], words[start + 2]];
+    words[to * 3..to * 3 + 3].copy_from_slice(&stored);
+}
+
 // A word's share in one column.
 pub(crate) fn lift<C: Coeff>(word: u64, column: usize, dimension: usize) -> C
     ensures { result ≡ (column_shares C.elements dimension column).lift word }
@@ -162,101 +174,127 @@ fn block_mask<C: Coeff>(wanted: bool, mask: Part<C>, condition: Part<C>) -> Part
     }
 }
 
-// The new part where the mask holds, else the old one.
-fn choose<C: Coeff>(mask: Part<C>, new: Part<C>, old: Part<C>) -> Part<C>
-    ensures { result ≡ part_choice mask new old }
+// The chosen part at a place: the new one where the mask holds, else the old one. The others stay.
+fn copy_choice<C: Coeff>(words: &mut [u64], mask: usize, new: usize, old: usize, place: usize)
+    requires mask { mask < place }
+    requires new { new < place }
+    requires old { old < place }
+    requires room { place * 3 + 3 ≤ length words.old }
+    ensures here { part_at C.from_words C.WORDS words.new place ≡ part_choice (part_at C.from_words C.WORDS words.old mask) (part_at C.from_words C.WORDS words.old new) (part_at C.from_words C.WORDS words.old old) }
+    ensures others { (other : ℕ) → other ≢ place → part_at C.from_words C.WORDS words.new other ≡ part_at C.from_words C.WORDS words.old other }
 {
+    let mask: Part<C> = load_part(words, mask);
     match mask {
-        Part::Fixed(m) => { if m == 0 { old } else { new } }
-        Part::Share(_e) => Part::Lost,
-        Part::Lost => Part::Lost,
+        Part::Fixed(m) => {
+            if m == 0 {
+                copy_part::<C>(words, old, place);
+            } else {
+                copy_part::<C>(words, new, place);
+            }
+        }
+        Part::Share(_e) => store_part::<C>(words, place, Part::Lost),
+        Part::Lost => store_part::<C>(words, place, Part::Lost),
     }
 }
 
-// What an instruction gives, where the variables' parts stand in `scratch` and after them one for each earlier instruction.
+// What an instruction gives, at its own place. The variables' parts stand first in `scratch`, and after them one for each
+// earlier instruction.
 #[tactic(auto, using(crate::proofs::StepLemmas::list_of_at, crate::proofs::StoredLemmas::fixed_at))]
-fn part_value<C: Coeff>(
+fn write_value<C: Coeff>(
     instr: Instr,
     number: usize,
     states: usize,
     algebra: Algebra,
     args: &[u64],
-    scratch: &[u64],
+    scratch: &mut [u64],
     column: usize,
     dimension: usize,
-) -> Part<C>
+)
     requires fits { Fits states (length args.now) number instr }
-    requires room { (states + number) * 3 ≤ length scratch.now }
-    ensures { result ≡ instr_value (parts (column_shares C.elements dimension column) algebra) instr (list_of states (part_at C.from_words C.WORDS scratch.now)) (map (λ w. Part.Fixed w) args.now) (list_of number (λ i. part_at C.from_words C.WORDS scratch.now (states + i))) }
+    requires room { (states + number) * 3 + 3 ≤ length scratch.old }
+    ensures here { part_at C.from_words C.WORDS scratch.new (states + number) ≡ instr_value (parts (column_shares C.elements dimension column) algebra) instr (list_of states (part_at C.from_words C.WORDS scratch.old)) (map (λ w. Part.Fixed w) args.now) (list_of number (λ i. part_at C.from_words C.WORDS scratch.old (states + i))) }
+    ensures others { (other : ℕ) → other ≢ states + number → part_at C.from_words C.WORDS scratch.new other ≡ part_at C.from_words C.WORDS scratch.old other }
 {
+    let place = states + number;
     match instr {
-        Instr::Constant(n) => Part::Fixed(n),
-        Instr::State(v) => load_part(scratch, v as usize),
-        Instr::Argument(a) => Part::Fixed(args[a as usize]),
-        Instr::Negate(x) => negate::<C>(load_part(scratch, states + x as usize)),
+        Instr::Constant(n) => store_part::<C>(scratch, place, Part::Fixed(n)),
+        Instr::State(v) => copy_part::<C>(scratch, v as usize, place),
+        Instr::Argument(a) => store_part::<C>(scratch, place, Part::Fixed(args[a as usize])),
+        Instr::Negate(x) => {
+            let part: Part<C> = load_part(scratch, states + x as usize);
+            store_part(scratch, place, negate(part));
+        }
         Instr::Operate(op, x, y) => {
             let left: Part<C> = load_part(scratch, states + x as usize);
             let right: Part<C> = load_part(scratch, states + y as usize);
-            combine(algebra, op, left, right, column, dimension)
+            let part = combine(algebra, op, left, right, column, dimension);
+            store_part(scratch, place, part);
         }
         Instr::Then(mask, x) => {
             let outer: Part<C> = load_part(scratch, states + mask as usize);
             let condition: Part<C> = load_part(scratch, states + x as usize);
-            block_mask(true, outer, condition)
+            store_part(scratch, place, block_mask(true, outer, condition));
         }
         Instr::Else(mask, x) => {
             let outer: Part<C> = load_part(scratch, states + mask as usize);
             let condition: Part<C> = load_part(scratch, states + x as usize);
-            block_mask(false, outer, condition)
+            store_part(scratch, place, block_mask(false, outer, condition));
         }
-        Instr::Keep(v, mask, x) => {
-            let outer: Part<C> = load_part(scratch, states + mask as usize);
-            let new: Part<C> = load_part(scratch, states + x as usize);
-            let old: Part<C> = load_part(scratch, v as usize);
-            choose(outer, new, old)
-        }
+        Instr::Keep(v, mask, x) => copy_choice::<C>(
+            scratch,
+            states + mask as usize,
+            states + x as usize,
+            v as usize,
+            place,
+        ),
     }
 }
 
-// The variable that an instruction writes.
+// The variable that an instruction writes takes the part at the instruction's place.
 #[tactic(auto, using(crate::proofs::StoredLemmas::list_changed))]
 fn store_variable<C: Coeff, L: Ledger>(
     instr: Instr,
-    states: usize,
-    value: Part<C>,
-    scratch: &mut [u64],
-    steps: &mut Steps<L>,
-)
-    requires variable { IfKeeps instr states }
-    requires room { states * 3 ≤ length scratch.old }
-    ensures vars { list_of states (part_at C.from_words C.WORDS scratch.new) ≡ vars_after instr value (list_of states (part_at C.from_words C.WORDS scratch.old)) }
-    ensures others { (other : ℕ) → states ≤ other → part_at C.from_words C.WORDS scratch.new other ≡ part_at C.from_words C.WORDS scratch.old other }
-    ensures steps { steps.new + 1 ≡ steps.old + instr_steps instr }
-{
-    if let Instr::Keep(v, _, _) = instr {
-        store_part(scratch, v as usize, value);
-        steps.tick();
-    }
-}
-
-// The variable that an instruction writes, and then the value itself at its own place.
-fn store_value<C: Coeff, L: Ledger>(
-    instr: Instr,
     number: usize,
     states: usize,
-    value: Part<C>,
     scratch: &mut [u64],
     steps: &mut Steps<L>,
 )
     requires variable { IfKeeps instr states }
     requires room { (states + number) * 3 + 3 ≤ length scratch.old }
-    ensures vars { list_of states (part_at C.from_words C.WORDS scratch.new) ≡ vars_after instr value (list_of states (part_at C.from_words C.WORDS scratch.old)) }
-    ensures values { list_of (number + 1) (λ i. part_at C.from_words C.WORDS scratch.new (states + i)) ≡ list_of number (λ i. part_at C.from_words C.WORDS scratch.old (states + i)) ++ value ∷ [] }
+    ensures vars { list_of states (part_at C.from_words C.WORDS scratch.new) ≡ vars_after instr (part_at C.from_words C.WORDS scratch.old (states + number)) (list_of states (part_at C.from_words C.WORDS scratch.old)) }
+    ensures others { (other : ℕ) → states ≤ other → part_at C.from_words C.WORDS scratch.new other ≡ part_at C.from_words C.WORDS scratch.old other }
     ensures steps { steps.new ≡ steps.old + instr_steps instr }
 {
-    store_variable(instr, states, value, scratch, steps);
-    store_part(scratch, states + number, value);
+    if let Instr::Keep(v, _, _) = instr {
+        copy_part::<C>(scratch, states + number, v as usize);
+        steps.tick();
+    }
     steps.tick();
+}
+
+// One instruction: its value at its own place, and the variable that it writes.
+fn run_instr<C: Coeff, L: Ledger>(
+    instr: Instr,
+    number: usize,
+    states: usize,
+    algebra: Algebra,
+    args: &[u64],
+    scratch: &mut [u64],
+    column: usize,
+    dimension: usize,
+    steps: &mut Steps<L>,
+)
+    requires fits { Fits states (length args.now) number instr }
+    requires variable { IfKeeps instr states }
+    requires room { (states + number) * 3 + 3 ≤ length scratch.old }
+    ensures vars { list_of states (part_at C.from_words C.WORDS scratch.new) ≡ vars_after instr (instr_value (parts (column_shares C.elements dimension column) algebra) instr (list_of states (part_at C.from_words C.WORDS scratch.old)) (map (λ w. Part.Fixed w) args.now) (list_of number (λ i. part_at C.from_words C.WORDS scratch.old (states + i)))) (list_of states (part_at C.from_words C.WORDS scratch.old)) }
+    ensures values { list_of (number + 1) (λ i. part_at C.from_words C.WORDS scratch.new (states + i)) ≡ list_of number (λ i. part_at C.from_words C.WORDS scratch.old (states + i)) ++ instr_value (parts (column_shares C.elements dimension column) algebra) instr (list_of states (part_at C.from_words C.WORDS scratch.old)) (map (λ w. Part.Fixed w) args.now) (list_of number (λ i. part_at C.from_words C.WORDS scratch.old (states + i))) ∷ [] }
+    ensures steps { steps.new ≡ steps.old + instr_steps instr }
+{
+    write_value::<C>(
+        instr, number, states, algebra, args, scratch, column, dimension,
+    );
+    store_variable::<C, L>(instr, number, states, scratch, steps);
 }
 
 // One run of instructions over the parts of a column. The variables' parts stand first in `scratch`.
@@ -276,9 +314,8 @@ pub(crate) fn run_column<C: Coeff, L: Ledger>(
     ensures steps { steps.new ≡ steps.old + steps_of instrs.now }
 {
     for (number, instr) in instrs.iter().enumerate() {
-        let value: Part<C> = part_value(
-            *instr, number, states, algebra, args, scratch, column, dimension,
+        run_instr::<C, L>(
+            *instr, number, states, algebra, args, scratch, column, dimension, steps,
         );
-        store_value(*instr, number, states, value, scratch, steps);
     }
 }
