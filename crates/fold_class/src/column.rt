@@ -68,6 +68,16 @@ pub(crate) fn store_part<C: Coeff>(words: &mut [u64], place: usize, part: Part<C
     put_part(part, &mut words[place * 3..place * 3 + 3]);
 }
 
+// Three words at once.
+fn put_words(to: &mut [u64], mark: u64, first: u64, second: u64)
+    requires { length to.old ≡ 3 }
+    ensures { to.new ≡ mark ∷ first ∷ second ∷ [] }
+{
+    to[0] = mark;
+    to[1] = first;
+    to[2] = second;
+}
+
 // The part at one place, at another one too. The others stay.
 fn copy_part<C: Coeff>(words: &mut [u64], from: usize, to: usize)
     requires from { from * 3 + 3 ≤ length words.old }
@@ -76,8 +86,10 @@ fn copy_part<C: Coeff>(words: &mut [u64], from: usize, to: usize)
     ensures others { (other : ℕ) → other ≢ to → part_at C.from_words C.WORDS words.new other ≡ part_at C.from_words C.WORDS words.old other }
 {
     let start = from * 3;
-    let stored = [words[start], words[start + 1], words[start + 2]];
-    words[to * 3..to * 3 + 3].copy_from_slice(&stored);
+    let mark = words[start];
+    let first = words[start + 1];
+    let second = words[start + 2];
+    put_words(&mut words[to * 3..to * 3 + 3], mark, first, second);
 }
 
 // A word's share in one column.
