@@ -6,13 +6,8 @@ use Rattle.marple_base.specs.Inputs.{Input}
 use Rattle.marple_base.specs.Sink.{TakesFront}
 use Rattle.marple_base.specs.declared.inputs.Which.{Which}
 use Rattle.marple_base.specs.declared.inputs.Which.TheVariants.{Query, Trace}
-use Rattle.marple_cli.specs.CountingQuery.{query_of}
-use Rattle.marple_cli.specs.Output.{takes, IsAccepted, IsDrained, StandsForEnd, output}
-use Rattle.marple_cli.specs.declared.command.Command.{Command}
-use Rattle.marple_cli.specs.declared.command.Command.TheVariants.{Run}
-use Rattle.marple_cli.specs.declared.command.Geometry.{Geometry}
-use Rattle.marple_cli.specs.declared.driven.Driven.{Driven}
-use Rattle.marple_cli.specs.declared.driven.Driven.TheVariants.{Ways1}
+use Rattle.command_line.specs.declared.command.Command.{Command}
+use Rattle.marple_cli.specs.Output.{takes, IsAccepted, output}
 use Rattle.marple_cli.specs.declared.status.Status.{Status}
 use Rattle.marple_cli.specs.declared.status.Status.TheVariants as statuses
 
@@ -68,13 +63,3 @@ IsBeforeTrace status = ⊥
 -- P holds of the bytes of the command's operands, where the inputs tell them.
 abbrev pub ToldOf : Command → (Which → Input) → (List ℕ → List ℕ → Type 0) → Type 0
 ToldOf command inputs P = (query trace : List ℕ) → Holds command inputs query trace → P query trace
-
--- The working parts of a run are there, in the variant of its ways. They are drained, and where the inputs tell their bytes they are the machine at the trace's end.
-abbrev pub IsDriven : Geometry → (Which → Input) → Option Driven → Type 0
-IsDriven geometry before None = ⊥
-IsDriven geometry before (Some (Ways1 lane)) = IsDrained lane × ToldOf (Run geometry) before (λ query trace. StandsForEnd geometry (query_of query) trace lane)
-
--- What a run that answers Ok leaves of its working parts. Every other command and status leaves them as they were.
-abbrev pub DrivenAfter : Option Command → (Which → Input) → Option Driven → Option Driven → Status → Type 0
-DrivenAfter (Some (Run geometry)) before old new statuses.Ok = IsDriven geometry before new
-DrivenAfter asked before old new status = new ≡ old

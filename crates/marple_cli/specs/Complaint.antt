@@ -7,7 +7,6 @@ use Rattle.query_lang.specs.declared.fault.FaultKind.TheVariants as kinds
 use Rattle.query_lang.specs.declared.fault.Limit.TheVariants as limits
 use Rattle.trace_reader.specs.declared.fault.TraceFault.{TraceFault}
 use Rattle.trace_reader.specs.declared.fault.TraceFault.TheVariants as faults
-use Rattle.marple_cli.specs.declared.refusal.Refusal.TheVariants as refusals
 use Rattle.marple_cli.specs.declared.status.Status.{Status}
 use Rattle.marple_cli.specs.declared.status.Status.TheVariants as statuses
 
@@ -51,8 +50,7 @@ complaint statuses.Memory = codes "marple: out of memory\n"
 complaint statuses.Usage = codes "marple: bad command line\n"
 complaint (statuses.InputFault Query) = codes "marple: cannot read the query\n"
 complaint (statuses.InputFault Trace) = codes "marple: cannot read the trace\n"
-complaint (statuses.QueryRefused (refusals.Fault fault)) = codes "marple: query: " ++ kind_text fault.kind ++ codes " at " ++ decimal fault.span.start ++ codes "\n"
-complaint (statuses.QueryRefused refusals.NotBuilt) = codes "marple: query: NotBuilt at 0\n"
+complaint (statuses.QueryRefused fault) = codes "marple: query: " ++ kind_text fault.kind ++ codes " at " ++ decimal fault.span.start ++ codes "\n"
 complaint (statuses.TraceRefused fault) = codes "marple: trace: " ++ trace_fault_text fault ++ codes "\n"
 complaint statuses.OutputFault = codes "marple: cannot write\n"
 

@@ -9,10 +9,10 @@ use Rattle.marple_base.specs.declared.inputs.Which.TheVariants.{Query, Trace}
 use Rattle.trace_reader.specs.Traces as traces
 use Rattle.trace_reader.specs.declared.fault.TraceAnswer.{TraceAnswer}
 use Rattle.trace_reader.specs.declared.fault.TraceAnswer.TheVariants as answers
+use Rattle.accepted_query.specs.Accepted.{accepted, query_fault}
+use Rattle.command_line.specs.declared.command.Command.{Command}
 use Rattle.marple_cli.specs.Call.{ToldOf, WritesOutput, WritesFront}
-use Rattle.marple_cli.specs.CountingQuery.{query_of}
-use Rattle.marple_cli.specs.Output.{takes, query_fault, trace_fault, defined_text}
-use Rattle.marple_cli.specs.declared.command.Command.{Command}
+use Rattle.marple_cli.specs.Output.{takes, trace_fault, defined_text}
 use Rattle.marple_cli.specs.declared.status.Status.{Status}
 use Rattle.marple_cli.specs.declared.status.Status.TheVariants as statuses
 
@@ -34,7 +34,7 @@ status_of (Err status) = status
 abbrev pub QueryEnds : Input → Input → Status → Type 0
 QueryEnds before after statuses.Memory = ⊤
 QueryEnds before after (statuses.InputFault Query) = Rose before.faults after.faults
-QueryEnds before after (statuses.QueryRefused fault) = IfSome before.left (λ query. query_of query ≡ Err fault)
+QueryEnds before after (statuses.QueryRefused fault) = IfSome before.left (λ query. accepted query ≡ Err fault)
 QueryEnds before after status = ⊥
 
 -- A phase that reads the bytes of the trace ended in this status.

@@ -1,9 +1,7 @@
 pub mod Call
-pub mod Command
 pub mod Complaint
-pub mod CountingQuery
+pub mod Driven
 pub mod Ends
-pub mod Number
 pub mod Output
 pub mod Piece
-pub mod QueryAnswers
+pub mod TrialQuery

@@ -7,7 +7,6 @@ ghost use Rattle.marple_base.specs.Sink.{TakesFront};
 ghost use Rattle.marple_cli.specs.Complaint.{complaint, kind_text};
 ghost use Rattle.marple_cli.specs.Piece.{piece_text};
 
-use crate::refusal::Refusal;
 use crate::status::Status;
 use itoa::Buffer;
 use marple_base::{Failed, Sink, Which, write_all};
@@ -134,8 +133,7 @@ fn pieces_of(status: Status) -> [Piece; 5]
         Status::Usage => alone(b"marple: bad command line\n"),
         Status::InputFault(Which::Query) => alone(b"marple: cannot read the query\n"),
         Status::InputFault(Which::Trace) => alone(b"marple: cannot read the trace\n"),
-        Status::QueryRefused(Refusal::NotBuilt) => alone(b"marple: query: NotBuilt at 0\n"),
-        Status::QueryRefused(Refusal::Fault(fault)) => [
+        Status::QueryRefused(fault) => [
             Piece::Text(b"marple: query: "),
             Piece::Text(kind_text(fault.kind)),
             Piece::Text(b" at "),

@@ -2,21 +2,21 @@
 ghost use Rattle.std.specs.Prelude.{◌≤◌};
 ghost use Rattle.marple_base.specs.Inputs.{Input};
 ghost use Rattle.marple_base.specs.declared.inputs.Which.{Which as AnyWhich};
-ghost use Rattle.marple_cli.specs.Command.{IsCommand};
+ghost use Rattle.command_line.specs.Command.{IsGeneration};
 ghost use Rattle.marple_cli.specs.Ends.{Ends, status_of};
 
-use crate::command::{Command, Generation};
 use crate::status::Status;
+use command_line::{Command, Generation};
 use marple_base::{Sink, write_all};
 use queue_sim::{simulate, trace_text};
 use std::alloc::Global;
 
 /// How many packets wait in a queue at most.
-const CAPACITY: u32 = 16;
+pub const CAPACITY: u32 = 16;
 
 /// Writes the text of the packets that the generator makes. No input is opened.
 pub fn generate<O: Sink>(alloc: Global, generation: Generation, out: &mut O) -> Result<(), Status>
-    requires command { IsCommand (Command.Gen generation) }
+    requires generation { IsGeneration generation }
     ensures ends { (inputs : AnyWhich → Input) → Ends O.taken O.faults (Command.Gen generation) inputs inputs out.old out.new (status_of result) }
     ensures out_later { O.faults out.old ≤ O.faults out.new }
 {

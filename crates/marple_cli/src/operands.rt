@@ -1,22 +1,28 @@
 //! The operands of a command: read, and accepted or refused.
 ghost use Rattle.std.specs.Prelude.{◌≡◌, ◌+◌, ◌≤◌, Ok, IfOk, IfErr, IfSome, take};
 ghost use Rattle.marple_base.specs.Inputs.{IsClosed};
-ghost use Rattle.marple_cli.specs.CountingQuery.{query_of};
+ghost use Rattle.query_lang.specs.TypedQueries.{IsValidQuery};
+ghost use Rattle.stage_plan.specs.Planned.{IsPlanOf};
+ghost use Rattle.accepted_query.specs.Accepted.{accepted};
 ghost use Rattle.marple_cli.specs.Ends.{QueryEnds, ReadEnds};
 
-use crate::counting_query::{CountingQuery, MAX_QUERY, query_of};
-use crate::refusal::QueryAnswer;
 use crate::status::Status;
+use accepted_query::{AcceptedQuery, QueryAnswer, accept};
 use marple_base::{Inputs, ReadAnswer, Text, Which, read_input};
 use std::alloc::Global;
+
+/// The most bytes of a query.
+pub const MAX_QUERY: usize = 65_536;
 
 /// The most bytes of a trace.
 pub const MAX_TRACE: usize = 268_435_456;
 
-/// Reads the query, to its end or to one byte more than the limit.
-pub fn read_query<I: Inputs>(alloc: Global, inputs: &mut I) -> Result<CountingQuery, Status>
+/// Reads the query, to its end or to one byte more than the limit, and accepts or refuses it.
+pub fn read_query<I: Inputs>(alloc: Global, inputs: &mut I) -> Result<AcceptedQuery, Status>
     requires { IsClosed (I.input inputs.old Which.Query) }
-    ensures ok { IfOk result (λ found. IfSome (I.input inputs.old Which.Query).left (λ query. query_of query ≡ Ok found)) }
+    ensures ok { IfOk result (λ found. IfSome (I.input inputs.old Which.Query).left (λ query. accepted query ≡ Ok found.typed)) }
+    ensures valid { IfOk result (λ found. IsValidQuery found.typed) }
+    ensures plan { IfOk result (λ found. IsPlanOf found.typed found.plan) }
     ensures err { IfErr result (QueryEnds (I.input inputs.old Which.Query) (I.input inputs.new Which.Query)) }
     ensures later { (I.input inputs.old Which.Query).faults ≤ (I.input inputs.new Which.Query).faults }
     ensures trace_kept { I.input inputs.new Which.Trace ≡ I.input inputs.old Which.Trace }
@@ -26,7 +32,7 @@ pub fn read_query<I: Inputs>(alloc: Global, inputs: &mut I) -> Result<CountingQu
         Err(ReadAnswer::Failed) => return Err(Status::InputFault(Which::Query)),
         Err(ReadAnswer::Memory) => return Err(Status::Memory),
     };
-    match query_of(alloc, text.as_slice()) {
+    match accept(alloc, text.as_slice()) {
         Ok(query) => Ok(query),
         Err(QueryAnswer::Refused(fault)) => Err(Status::QueryRefused(fault)),
         Err(QueryAnswer::Memory) => Err(Status::Memory),

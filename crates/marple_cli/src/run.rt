@@ -1,45 +1,66 @@
 //! The commands.
 ghost use Rattle.std.specs.Prelude.{◌≡◌, ◌≤◌, Some, false};
-ghost use Rattle.marple_base.specs.Inputs.{IsClosed};
-ghost use Rattle.marple_cli.specs.Call.{DrivenAfter};
-ghost use Rattle.marple_cli.specs.Command.{IsCommand};
+ghost use Rattle.marple_base.specs.Inputs.{IsClosed, Input};
+ghost use Rattle.marple_base.specs.declared.inputs.Which.{Which as AnyWhich};
+ghost use Rattle.command_line.specs.Command.{IsCommand, IsSetting, IsGeneration};
+ghost use Rattle.marple_cli.specs.Driven.{DrivenAfter};
 ghost use Rattle.marple_cli.specs.Ends.{Ends, status_of};
 ghost use Rattle.marple_cli.specs.Output.{takes};
 
-use crate::command::{Command, Geometry};
-use crate::driven::Driven;
 use crate::generate::generate;
 use crate::operands::read_query;
-use crate::packets::drained_lane;
+use crate::staging::write_stages;
 use crate::status::Status;
-use crate::table::text_of;
+use crate::tables::{tables_of_made, tables_of_trace};
+use command_line::{Command, Generation, Setting};
+use driven_query::Driven;
 use marple_base::{Inputs, Sink, Steps, Which, write_all};
 use std::alloc::Global;
 use std::sync::ledger::Ledger;
 
 fn run<I: Inputs, O: Sink, L: Ledger>(
     alloc: Global,
-    geometry: Geometry,
+    setting: Setting,
     inputs: &mut I,
     out: &mut O,
     driven: &mut Option<Driven>,
     steps: &mut Steps<L>,
 ) -> Result<(), Status>
-    requires command { IsCommand (Command.Run geometry) }
+    requires setting { IsSetting setting }
     requires query_closed { IsClosed (I.input inputs.old Which.Query) }
     requires trace_closed { IsClosed (I.input inputs.old Which.Trace) }
-    ensures ends { Ends O.taken O.faults (Command.Run geometry) (I.input inputs.old) (I.input inputs.new) out.old out.new (status_of result) }
-    ensures driven { DrivenAfter (Some (Command.Run geometry)) (I.input inputs.old) driven.old driven.new (status_of result) }
+    ensures ends { Ends O.taken O.faults (Command.Run setting) (I.input inputs.old) (I.input inputs.new) out.old out.new (status_of result) }
+    ensures driven { DrivenAfter (Some (Command.Run setting)) (I.input inputs.old) driven.old driven.new (status_of result) }
     ensures query_later { (I.input inputs.old Which.Query).faults ≤ (I.input inputs.new Which.Query).faults }
     ensures trace_later { (I.input inputs.old Which.Trace).faults ≤ (I.input inputs.new Which.Trace).faults }
     ensures out_later { O.faults out.old ≤ O.faults out.new }
     ensures steps { steps.old ≤ steps.new }
 {
     let query = read_query(alloc, inputs)?;
-    let lane = drained_lane(alloc, geometry, &query, inputs, steps)?;
-    let text = text_of(alloc, geometry, &query, &lane)?;
-    write_all(out, text.as_slice())?;
-    *driven = Some(Driven::Ways1(lane));
+    let found = tables_of_trace(alloc, setting, query, inputs, steps)?;
+    write_all(out, found.text.as_slice())?;
+    *driven = Some(found.driven);
+    Ok(())
+}
+
+fn trial<O: Sink, L: Ledger>(
+    alloc: Global,
+    generation: Generation,
+    setting: Setting,
+    out: &mut O,
+    driven: &mut Option<Driven>,
+    steps: &mut Steps<L>,
+) -> Result<(), Status>
+    requires generation { IsGeneration generation }
+    requires setting { IsSetting setting }
+    ensures ends { (inputs : AnyWhich → Input) → Ends O.taken O.faults (Command.Trial generation setting) inputs inputs out.old out.new (status_of result) }
+    ensures driven { (inputs : AnyWhich → Input) → DrivenAfter (Some (Command.Trial generation setting)) inputs driven.old driven.new (status_of result) }
+    ensures out_later { O.faults out.old ≤ O.faults out.new }
+    ensures steps { steps.old ≤ steps.new }
+{
+    let found = tables_of_made(alloc, generation, setting, steps)?;
+    write_all(out, found.text.as_slice())?;
+    *driven = Some(found.driven);
     Ok(())
 }
 
@@ -64,7 +85,11 @@ pub fn perform<I: Inputs, O: Sink, L: Ledger>(
     ensures steps { steps.old ≤ steps.new }
 {
     match command {
-        Command::Run(geometry) => run(alloc, geometry, inputs, out, driven, steps),
+        Command::Run(setting) => run(alloc, setting, inputs, out, driven, steps),
+        Command::Plan(ways) => write_stages(alloc, ways, inputs, out),
         Command::Gen(generation) => generate(alloc, generation, out),
+        Command::Trial(generation, setting) => {
+            trial(alloc, generation, setting, out, driven, steps)
+        }
     }
 }

@@ -4,8 +4,8 @@ ghost use Rattle.marple_cli.specs.Complaint.{number_of};
 ghost use Rattle.marple_cli.specs.Ends.{status_for};
 ghost use Rattle.marple_cli.specs.declared.status.Status.TheVariants.{Memory, OutputFault};
 
-use crate::refusal::Refusal;
 use marple_base::{Failed, Which};
+use query_lang::QueryFault;
 use std::alloc::AllocError;
 use trace_reader::{TraceAnswer, TraceFault};
 
@@ -16,7 +16,7 @@ pub enum Status {
     Memory,
     Usage,
     InputFault(Which),
-    QueryRefused(Refusal),
+    QueryRefused(QueryFault),
     TraceRefused(TraceFault),
     OutputFault,
 }

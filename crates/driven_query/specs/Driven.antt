@@ -1,0 +1,44 @@
+-- What a run with the setting of a command line leaves.
+use Rattle.std.specs.Prelude.{◌≡◌, ℕ, true}
+use Rattle.std.specs.List.{list_all}
+use Rattle.command_line.specs.Command.{ways_number}
+use Rattle.command_line.specs.declared.setting.Setting.{Setting}
+use Rattle.command_line.specs.declared.setting.Ways.{Ways}
+use Rattle.command_line.specs.declared.setting.Ways.TheVariants.{One, Two, Four, Eight, Sixteen, ThirtyTwo}
+use Rattle.driven_query.specs.declared.driven.Driven.{Driven}
+use Rattle.driven_query.specs.declared.driven.Driven.TheVariants.{Ways1, Ways2, Ways4, Ways8, Ways16, Ways32}
+use Rattle.epoch_model.specs.Epochs.{Geometry}
+use Rattle.query_run.specs.Runs.{AreWhole}
+use Rattle.queue_sim.specs.Generator.{simulated}
+use Rattle.switch_core.specs.PlanLanes.{PipelineView, lane_is_drained}
+use Rattle.trace_drive.specs.Drives.{words_of}
+
+-- the buckets and ways of each cache, and every how many packets it is emptied. Neither the pipe's size nor the lag is among them
+abbrev pub geometry_of : Setting → Geometry
+geometry_of setting = record { buckets = setting.buckets; ways = ways_number setting.ways; refresh = setting.refresh }
+
+abbrev pub ways_in : Driven → Ways
+ways_in (Ways1 p) = One
+ways_in (Ways2 p) = Two
+ways_in (Ways4 p) = Four
+ways_in (Ways8 p) = Eight
+ways_in (Ways16 p) = Sixteen
+ways_in (Ways32 p) = ThirtyTwo
+
+abbrev pub pipeline_in : Driven → PipelineView
+pipeline_in (Ways1 p) = p
+pipeline_in (Ways2 p) = p
+pipeline_in (Ways4 p) = p
+pipeline_in (Ways8 p) = p
+pipeline_in (Ways16 p) = p
+pipeline_in (Ways32 p) = p
+
+-- the caches have the setting's ways and buckets, and caches and pipes are empty
+pub record IsLeftBy (setting : Setting) (driven : Driven) : Type 0 where
+  pub ways : ways_in driven ≡ setting.ways
+  pub buckets : (pipeline_in driven).buckets ≡ setting.buckets
+  pub drained : list_all lane_is_drained (pipeline_in driven).lanes ≡ true
+
+-- The packets that the generator makes have the words of all fields.
+abbrev pub MadePacketsAreWhole : Type 0
+MadePacketsAreWhole = (packets start capacity : ℕ) → AreWhole (words_of (simulated packets start capacity))

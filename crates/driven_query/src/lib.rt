@@ -1,0 +1,12 @@
+//! A query driven over packets with the setting of a command line: the text of its tables, and the drained pipeline in
+//! the variant of its ways.
+#![tactic(auto)]
+
+mod driven;
+mod laws;
+mod runs;
+mod ways;
+
+pub use driven::{Driven, Finished};
+pub use laws::made_packets_are_whole;
+pub use runs::{run_over_made, run_over_trace};

@@ -1,0 +1,40 @@
+-- The working parts that a run leaves.
+use Rattle.std.specs.Prelude.{◌≡◌, List, Option, Some, None, Ok, Err}
+use Rattle.query_lang.specs.declared.typed.TypedQuery.{TypedQuery}
+use Rattle.query_lang.specs.Checks.{Checked}
+use Rattle.marple_base.specs.Inputs.{Input}
+use Rattle.marple_base.specs.declared.field.Packet.{Packet}
+use Rattle.marple_base.specs.declared.inputs.Which.{Which}
+use Rattle.switch_core.specs.PlanLanes.{PipelineView, PipelineStands}
+use Rattle.query_run.specs.Runs.{query_ends}
+use Rattle.trace_drive.specs.Drives.{words_of}
+use Rattle.accepted_query.specs.Accepted.{accepted}
+use Rattle.command_line.specs.declared.command.Command.{Command}
+use Rattle.command_line.specs.declared.command.Command.TheVariants.{Run, Trial}
+use Rattle.command_line.specs.declared.setting.Setting.{Setting}
+use Rattle.driven_query.specs.Driven.{IsLeftBy, geometry_of, pipeline_in}
+use Rattle.driven_query.specs.declared.driven.Driven.{Driven}
+use Rattle.marple_cli.specs.declared.status.Status.{Status}
+use Rattle.marple_cli.specs.declared.status.Status.TheVariants as statuses
+use Rattle.marple_cli.specs.Call.{ToldOf}
+use Rattle.marple_cli.specs.Output.{read_packets, made_packets}
+use Rattle.marple_cli.specs.TrialQuery.{trial_query}
+
+-- the pipeline stands for the machines of the query's groupbys at the end of these packets
+abbrev pub StandsForEnd : Setting → Checked TypedQuery → (TypedQuery → List Packet) → PipelineView → Type 0
+StandsForEnd setting (Ok q) packets p = PipelineStands p (query_ends q (geometry_of setting) (words_of (packets q)))
+StandsForEnd setting (Err fault) packets p = ⊥
+
+-- The working parts of a run are there, in the variant of its ways: they are empty, and this holds of their pipeline.
+abbrev pub IsDriven : Setting → Option Driven → (PipelineView → Type 0) → Type 0
+IsDriven setting None P = ⊥
+IsDriven setting (Some driven) P = IsLeftBy setting driven × P (pipeline_in driven)
+
+-- What a run or a trial that answers Ok leaves of its working parts; where the inputs tell their bytes they are the machines at the trace's end. Every other
+-- command and status leaves them as they were.
+abbrev pub DrivenAfter : Option Command → (Which → Input) → Option Driven → Option Driven → Status → Type 0
+DrivenAfter (Some (Run setting)) before old new statuses.Ok =
+    IsDriven setting new (λ p. ToldOf (Run setting) before (λ query trace. StandsForEnd setting (accepted query) (read_packets trace) p))
+DrivenAfter (Some (Trial generation setting)) before old new statuses.Ok =
+    IsDriven setting new (λ p. StandsForEnd setting (accepted trial_query) (λ q. made_packets generation) p)
+DrivenAfter asked before old new status = new ≡ old

@@ -1,0 +1,203 @@
+//! Calls of the program whose inputs or outputs fail, and traces that are cut short or full of unlikely bytes.
+
+use crate::call::{Outside, called};
+use crate::realistic::{PREFIXES, QUERY, TABLES, TRACE};
+use marple_base::{FailAt, Which};
+use marple_cli::Status;
+use std::test::Fail;
+
+const RUN: &str = "run query trace";
+
+const COUNT: &[u8] = b"def count([c],[]) { c = c + 1; }\n\
+r = groupby(pktstream, [srcip], count);\n\
+print r;\n";
+
+/// The realistic run, where nothing fails.
+const SOUND: Outside<'static> = Outside {
+    query: QUERY,
+    trace: TRACE,
+    most: 4096,
+    failing: &[],
+    failing_writes: &[],
+    failing_complaints: &[],
+};
+
+#[test]
+fn each_call_of_an_input_fails(rt: HostRuntime) -> Result<(), Fail> {
+    let alloc = rt.alloc();
+    for (which, complaint) in [
+        (Which::Query, b"marple: cannot read the query\n".as_slice()),
+        (Which::Trace, b"marple: cannot read the trace\n".as_slice()),
+    ] {
+        let mut failed = 0;
+        for call in 1..100u64 {
+            let failing = [FailAt { which, call }];
+            let told = called(
+                alloc,
+                RUN,
+                &Outside {
+                    failing: &failing,
+                    ..SOUND
+                },
+            )?;
+            if told.status == Status::Ok {
+                assert_eq!(rt; told.text.as_slice(), TABLES);
+                break;
+            }
+            failed += 1;
+            assert_eq!(rt; told.status, Status::InputFault(which));
+            assert_eq!(rt; told.complaint.as_slice(), complaint);
+            assert!(rt; told.text.is_empty(), "at {call}");
+        }
+        // opening, a read of all bytes, and a read of none
+        assert_eq!(rt; failed, 3);
+    }
+    Ok(())
+}
+
+#[test]
+fn each_write_fails(rt: HostRuntime) -> Result<(), Fail> {
+    let alloc = rt.alloc();
+    for most in [1, 10, 4096] {
+        let writes = TABLES.len().div_ceil(most);
+        for write in 1..writes as u64 + 1 {
+            let failing_writes = [write];
+            let told = called(
+                alloc,
+                RUN,
+                &Outside {
+                    most,
+                    failing_writes: &failing_writes,
+                    ..SOUND
+                },
+            )?;
+            assert_eq!(rt; told.status, Status::OutputFault);
+            assert_eq!(rt;
+                told.complaint.as_slice(),
+                b"marple: cannot write\n".as_slice()
+            );
+            assert_eq!(rt;
+                told.text.as_slice(),
+                &TABLES[..(write as usize - 1) * most]
+            );
+        }
+        let failing_writes = [writes as u64 + 1];
+        let told = called(
+            alloc,
+            RUN,
+            &Outside {
+                most,
+                failing_writes: &failing_writes,
+                ..SOUND
+            },
+        )?;
+        assert_eq!(rt; told.status, Status::Ok);
+        assert_eq!(rt; told.text.as_slice(), TABLES);
+    }
+    Ok(())
+}
+
+#[test]
+fn a_complaint_that_fails_changes_no_status(rt: HostRuntime) -> Result<(), Fail> {
+    let alloc = rt.alloc();
+    let failing = [FailAt {
+        which: Which::Trace,
+        call: 2,
+    }];
+    let outside = Outside {
+        failing: &failing,
+        failing_complaints: &[1],
+        ..SOUND
+    };
+    let told = called(alloc, RUN, &outside)?;
+    assert_eq!(rt; told.status, Status::InputFault(Which::Trace));
+    assert!(rt; told.complaint.is_empty());
+    assert!(rt; told.text.is_empty());
+    Ok(())
+}
+
+#[test]
+fn each_prefix_of_a_trace(rt: HostRuntime) -> Result<(), Fail> {
+    let alloc = rt.alloc();
+    let mut line = 0;
+    for length in 0..TRACE.len() + 1 {
+        while line + 1 < PREFIXES.len() && PREFIXES[line + 1].0 <= length {
+            line += 1;
+        }
+        let (_, text, complaint) = PREFIXES[line];
+        let told = called(
+            alloc,
+            RUN,
+            &Outside {
+                trace: &TRACE[..length],
+                ..SOUND
+            },
+        )?;
+        assert_eq!(rt; told.text.as_slice(), text);
+        assert_eq!(rt; told.complaint.as_slice(), complaint);
+        assert_eq!(rt;
+            told.status.number(),
+            if complaint.is_empty() { 0 } else { 5 }
+        );
+    }
+    Ok(())
+}
+
+#[test]
+fn unlikely_bytes(rt: HostRuntime) -> Result<(), Fail> {
+    let alloc = rt.alloc();
+    for (trace, text, complaint) in [
+        (
+            b"srcip\r\n1\r\n2\r\n".as_slice(),
+            b"table r linear 0 2\nsrcip,mark,epoch,epochs,c\n1,exact,*,1,1\n2,exact,*,1,1\n".as_slice(),
+            b"".as_slice(),
+        ),
+        (
+            b"srcip\n\xff\n",
+            b"",
+            b"marple: trace: BadNumber(1,srcip)\n",
+        ),
+        (b"\xff", b"", b"marple: trace: FieldMissing(srcip)\n"),
+        (b"\n\n", b"", b"marple: trace: NoHeader\n"),
+        (b"srcip\n\"1\n", b"", b"marple: trace: BadNumber(1,srcip)\n"),
+    ] {
+        let told = called(
+            alloc,
+            RUN,
+            &Outside {
+                query: COUNT,
+                trace,
+                ..SOUND
+            },
+        )?;
+        assert_eq!(rt; told.text.as_slice(), text);
+        assert_eq!(rt; told.complaint.as_slice(), complaint);
+    }
+    Ok(())
+}
+
+#[test]
+fn full_pipes_and_late_merges_change_nothing(rt: HostRuntime) -> Result<(), Fail> {
+    let alloc = rt.alloc();
+    let made = called(alloc, "gen 5000 3", &SOUND)?;
+    assert_eq!(rt; made.status, Status::Ok);
+    let outside = Outside {
+        query: COUNT,
+        trace: made.text.as_slice(),
+        ..SOUND
+    };
+    let full = called(
+        alloc,
+        "run query trace --buckets 1 --ways 1 --pipe 1 --lag 1000000",
+        &outside,
+    )?;
+    let roomy = called(
+        alloc,
+        "run query trace --buckets 1 --ways 1 --pipe 65536 --lag 1",
+        &outside,
+    )?;
+    assert_eq!(rt; full.status, Status::Ok);
+    assert!(rt; full.text.len() > 1000);
+    assert_eq!(rt; full.text.as_slice(), roomy.text.as_slice());
+    Ok(())
+}
