@@ -58,9 +58,9 @@ fn trial<O: Sink, L: Ledger>(
     ensures out_later { O.faults out.old ≤ O.faults out.new }
     ensures steps { steps.old ≤ steps.new }
 {
-    let found = tables_of_made(alloc, generation, setting, steps)?;
-    write_all(out, found.text.as_slice())?;
-    *driven = Some(found.driven);
+    let made = tables_of_made(alloc, generation, setting, steps)?;
+    write_all(out, made.text.as_slice())?;
+    *driven = Some(made.driven);
     Ok(())
 }
 

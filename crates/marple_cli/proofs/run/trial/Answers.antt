@@ -6,7 +6,7 @@ use Rattle.marple_cli.proofs.run.trial.Goals as goal
 
 pub returns-in_err-write_all-clause-ends : goal.returns-in_err-write_all-clause-ends
 returns-in_err-write_all-clause-ends g c inputs =
-    let text = c.as_slice.ensures ∙ c.in_ok-found.ensures.text in
+    let text = c.as_slice.ensures ∙ c.in_ok-made.ensures.text in
     cut_off g.O.Sink.taken g.O.Sink.faults (Trial c.args.generation c.args.setting) inputs inputs c.args.out.now c.write_all.new.out c.as_slice.result.now
     (trial_told c.args.generation c.args.setting inputs) (trial_is_text c.args.generation c.args.setting inputs c.as_slice.result.now text)
     c.from_residual-in_err-write_all.result c.from_residual-in_err-write_all.ensures.1 c.in_err-write_all.ensures.cause.failed c.in_err-write_all.ensures.front
@@ -17,9 +17,9 @@ returns-in_err-write_all-clause-driven g c inputs =
 
 pub returns-clause-ends : goal.returns-clause-ends
 returns-clause-ends g c inputs =
-    let text = c.as_slice.ensures ∙ c.in_ok-found.ensures.text in
+    let text = c.as_slice.ensures ∙ c.in_ok-made.ensures.text in
     all_written g.O.Sink.taken g.O.Sink.faults (Trial c.args.generation c.args.setting) inputs inputs c.args.out.now c.write_all.new.out c.as_slice.result.now
     (trial_told c.args.generation c.args.setting inputs) (trial_is_text c.args.generation c.args.setting inputs c.as_slice.result.now text) c.in_ok-write_all.ensures.ok
 
 pub returns-clause-driven : goal.returns-clause-driven
-returns-clause-driven g c inputs = (c.in_ok-found.ensures.left, c.in_ok-found.ensures.stands)
+returns-clause-driven g c inputs = (c.in_ok-made.ensures.left, c.in_ok-made.ensures.stands)
