@@ -6,4 +6,18 @@ mod call;
 #[cfg(test)]
 mod calls;
 #[cfg(test)]
+mod direct;
+#[cfg(test)]
+mod entries;
+#[cfg(test)]
+mod fold_programs;
+#[cfg(test)]
+mod folds;
+#[cfg(test)]
+mod lanes;
+#[cfg(test)]
 mod realistic;
+#[cfg(test)]
+mod stages;
+#[cfg(test)]
+mod tables;

@@ -1,0 +1,76 @@
+//! How many words the entries of folds have, and the most that an entry with its key can have.
+
+use crate::fold_programs::{
+    ACCUMULATE, AVERAGE, DEEPEST, HASH, OUT_OF_SEQUENCE, TWO_STEPS, first_program, program_of,
+};
+use accepted_query::accept;
+use epoch_entry::{AnyEpochs, EpochKind};
+use fold_class::{Algebra, FoldProgram};
+use marple_base::Text;
+use stage_plan::Plan;
+use std::test::Fail;
+
+#[test]
+fn words_of_entries(rt: HostRuntime) -> Result<(), Fail> {
+    // a linear fold's entry has a count of logged rows, the log, the history and a map, and another's has its state
+    for (fold, words, has_row_per_epoch) in [
+        (OUT_OF_SEQUENCE, 6, false),
+        (TWO_STEPS, 7, false),
+        (ACCUMULATE, 7, false),
+        (HASH, 3, false),
+        (DEEPEST, 5, false),
+        (AVERAGE, 1, true),
+    ] {
+        let kind = AnyEpochs::of(program_of(rt.alloc(), fold)?);
+        assert_eq!(rt; kind.entry_words(), words);
+        assert_eq!(rt; kind.row_per_epoch(), has_row_per_epoch);
+    }
+    Ok(())
+}
+
+/// A fold of eight variables and sixteen arguments that looks eight rows back.
+const DEEP: &[u8] =
+    b"def deep([a, b, c, d, e, f, g, h], [switch, qid, uid, srcip, dstip, srcport, dstport, proto, pkt_len, payload_len, tcpseq, tin, tout, qsize, x, y]) { h = g; g = f; f = e; e = d; d = c; c = b; b = a; a = tin; }";
+/// The same, but for the greatest of what is eight rows back or more.
+const DEEP_MAXIMUM: &[u8] =
+    b"def deep([a, b, c, d, e, f, g, h], [switch, qid, uid, srcip, dstip, srcport, dstport, proto, pkt_len, payload_len, tcpseq, tin, tout, qsize, x, y]) { h = max(h, g); g = f; f = e; e = d; d = c; c = b; b = a; a = tin; }";
+/// Eight keys for the first fold.
+const DEEP_GROUP: &[u8] =
+    b" m = map(pktstream, [x = tin + 1, y = tin + 2]); r = groupby(m, [switch, qid, uid, srcip, dstip, srcport, dstport, proto], deep); print r;";
+
+/// What a packet's bound on steps has beside six times the most words of an entry with its key: of one groupby with eight
+/// keys over a fold like those, with one way.
+fn other_steps(plan: &Plan, program: &FoldProgram) -> u64 {
+    let keys = 8;
+    let args = 16;
+    let states = 8;
+    let nodes = u64::from(program.layout.nodes);
+    let statements = u64::from(program.layout.statements);
+    let body = nodes + 4 * statements + 1;
+    14 + u64::from(plan.operations())
+        + 2 * (keys + 1)
+        + (states + 1) * body
+        + states * states * (states + 1)
+        + 2 * (keys + args)
+}
+
+#[test]
+fn greatest_entries(rt: HostRuntime) -> Result<(), Fail> {
+    let alloc = rt.alloc();
+    for (fold, algebra, depth, words, most) in [
+        (DEEP, Algebra::Sums, 8, 8 + 1 + 128 + 8, 218),
+        (DEEP_MAXIMUM, Algebra::Maxima, 7, 8 + 1 + 112 + 7 + 4, 274),
+    ] {
+        let mut text = Text::from_slice(alloc, fold)?;
+        text.push_slice(DEEP_GROUP)?;
+        let accepted = accept(alloc, text.as_slice())?;
+        let program = first_program(alloc, &accepted.typed)?;
+        assert_eq!(rt; program.algebra, algebra);
+        assert_eq!(rt; program.depth, depth);
+        let others = other_steps(&accepted.plan, &program);
+        assert_eq!(rt; accepted.plan.bound(1).saturating_sub(others), 6 * most);
+        let kind = AnyEpochs::of(program);
+        assert_eq!(rt; kind.entry_words().saturating_add(8), words);
+    }
+    Ok(())
+}

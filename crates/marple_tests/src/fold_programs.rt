@@ -1,0 +1,67 @@
+//! The texts of some folds, and the programs of such texts.
+ghost use Rattle.std.specs.Prelude.{IfOk};
+ghost use Rattle.fold_class.specs.Program.{IsProgram};
+ghost use Rattle.query_lang.specs.TypedQueries.{IsValidQuery};
+
+use accepted_query::accept;
+use fold_class::{FoldProgram, classify};
+use fold_code::compile;
+use marple_base::Text;
+use query_lang::TypedQuery;
+use std::alloc::{AllocError, Global};
+use std::test::Fail;
+
+pub(crate) const OUT_OF_SEQUENCE: &[u8] =
+    b"def oos([last, n],[tcpseq, payload_len]) { if (last != tcpseq) { n = n + 1; } last = tcpseq + payload_len; }";
+
+pub(crate) const TWO_STEPS: &[u8] =
+    b"def step2([s, a, b],[tin]) { s = s + tin - a; a = b; b = tin; }";
+
+pub(crate) const ACCUMULATE: &[u8] = b"def acc([s, t],[pkt_len]) { t = t + s; s = s + pkt_len; }";
+
+pub(crate) const MIX: &[u8] =
+    b"def mix([s = 1, t = 1],[proto]) { if (proto == 1) { t = t + s; } else { s = s + t; } }";
+
+pub(crate) const IN_OR_OUT: &[u8] =
+    b"def io([a, b],[qsize, pkt_len]) { if (qsize > 2) { a = a + pkt_len; } else { b = b - 1; } }";
+
+pub(crate) const HASH: &[u8] = b"def h31([h],[pkt_len]) { h = h * 31 + pkt_len; }";
+
+pub(crate) const AVERAGE: &[u8] = b"def avg([e],[qsize]) { e = decay(e, 3) + qsize; }";
+
+pub(crate) const DEEPEST: &[u8] = b"def deepest([m],[qsize]) { m = max(m, qsize); }";
+
+pub(crate) const PEAK: &[u8] = b"def peak([p],[qsize]) { p = max(sadd(p, 3), qsize); }";
+
+pub(crate) const FULL: &[u8] = b"def full([x = 5],[]) { x = sadd(x, infinity); }";
+
+pub(crate) const DOUBLE: &[u8] = b"def top1([x],[]) { x = x * 9223372036854775808 + 1; }";
+
+/// A query whose first fold has this text.
+fn query_of(alloc: Global, fold: &[u8]) -> Result<Text, AllocError> {
+    let mut text = Text::from_slice(alloc, fold)?;
+    text.push_slice(b" def idle([],[]) { } r = groupby(pktstream, [srcip], idle); print r;")?;
+    Ok(text)
+}
+
+/// The program of a query's first fold.
+pub(crate) fn first_program(alloc: Global, typed: &TypedQuery) -> Result<FoldProgram, Fail>
+    requires { IsValidQuery typed.now }
+    ensures { IfOk result IsProgram }
+{
+    if typed.folds.len() == 0 {
+        return Err(Fail::new("there is no fold"));
+    }
+    let fold = typed.folds.get(0);
+    let code = compile(alloc, fold)?;
+    Ok(classify(alloc, fold, code)?)
+}
+
+/// The program of the fold with this text.
+pub(crate) fn program_of(alloc: Global, fold: &[u8]) -> Result<FoldProgram, Fail>
+    ensures { IfOk result IsProgram }
+{
+    let text = query_of(alloc, fold)?;
+    let accepted = accept(alloc, text.as_slice())?;
+    first_program(alloc, &accepted.typed)
+}
