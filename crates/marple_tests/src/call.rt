@@ -1,6 +1,9 @@
 //! One call of the program over inputs and sinks in memory.
 
-ghost use Rattle.std.specs.Prelude.{◌≡◌, ◌<◌};
+ghost use Rattle.std.specs.Prelude.{◌≡◌, ◌<◌, IfOk};
+ghost use Rattle.marple_base.specs.Inputs.{IsClosed};
+ghost use Rattle.marple_base.specs.MemoryInputs.{memory_input};
+ghost use Rattle.marple_base.specs.declared.inputs.Which.TheVariants.{Query, Trace};
 
 use marple_base::{FailAt, MemoryInputs, MemorySink, Seq, Steps, Text};
 use marple_cli::{Status, marple};
@@ -47,46 +50,73 @@ fn copied<T: Copy>(alloc: Global, items: &[T]) -> Result<Seq<T>, AllocError> {
     Ok(copy)
 }
 
-fn called_with<L: Ledger>(
-    alloc: Global,
-    line: &str,
-    outside: &Outside<'_>,
-    blank: Blank,
-) -> Result<Told, AllocError>
-    requires most { 0 < outside.now.most }
-    requires name { blank.name ≡ L.name }
-    requires parts { blank.parts ≡ L.parts }
-    requires whole { 0 < blank.parts }
+/// The words and the outside of a call.
+#[derive(Drop)]
+struct Parts {
+    words: Vec<String>,
+    inputs: MemoryInputs,
+    out: MemorySink,
+    err: MemorySink,
+}
+
+fn inputs_of(alloc: Global, outside: &Outside<'_>) -> Result<MemoryInputs, AllocError>
+    ensures query { IfOk result (λ inputs. IsClosed (memory_input inputs Query)) }
+    ensures trace { IfOk result (λ inputs. IsClosed (memory_input inputs Trace)) }
 {
-    let words = words_of(alloc, line)?;
     let query = Text::from_slice(alloc, outside.query)?;
     let trace = Text::from_slice(alloc, outside.trace)?;
-    let mut inputs = MemoryInputs::new(query, trace, copied(alloc, outside.failing)?);
+    let failing = copied(alloc, outside.failing)?;
+    Ok(MemoryInputs::new(query, trace, failing))
+}
+
+fn parts_of(alloc: Global, line: &str, outside: &Outside<'_>) -> Result<Parts, AllocError>
+    requires most { 0 < outside.now.most }
+    ensures query { IfOk result (λ parts. IsClosed (memory_input parts.inputs Query)) }
+    ensures trace { IfOk result (λ parts. IsClosed (memory_input parts.inputs Trace)) }
+{
+    let words = words_of(alloc, line)?;
+    let inputs = inputs_of(alloc, outside)?;
     let writes = copied(alloc, outside.failing_writes)?;
-    let mut out = MemorySink::new(alloc, outside.most, PLACES, writes)?;
+    let out = MemorySink::new(alloc, outside.most, PLACES, writes)?;
     let complaints = copied(alloc, outside.failing_complaints)?;
-    let mut err = MemorySink::new(alloc, outside.most, PLACES, complaints)?;
+    let err = MemorySink::new(alloc, outside.most, PLACES, complaints)?;
+    Ok(Parts {
+        words,
+        inputs,
+        out,
+        err,
+    })
+}
+
+fn run<L: Ledger>(alloc: Global, parts: &mut Parts, blank: Blank) -> Status
+    requires query { IsClosed (memory_input parts.old.inputs Query) }
+    requires trace { IsClosed (memory_input parts.old.inputs Trace) }
+    requires name { blank.name ≡ L.name }
+    requires share { blank.parts ≡ L.parts }
+    requires whole { 0 < blank.parts }
+{
     let mut driven = None;
     let mut steps = Steps::<L>::new(blank);
-    let status = marple(
+    marple(
         alloc,
-        words.as_slice(),
-        &mut inputs,
-        &mut out,
-        &mut err,
+        parts.words.as_slice(),
+        &mut parts.inputs,
+        &mut parts.out,
+        &mut parts.err,
         &mut driven,
         &mut steps,
-    );
-    Ok(Told {
-        status,
-        text: Text::from_slice(alloc, out.taken())?,
-        complaint: Text::from_slice(alloc, err.taken())?,
-    })
+    )
 }
 
 /// Calls the program with the words of a line.
 pub fn called(alloc: Global, line: &str, outside: &Outside<'_>) -> Result<Told, AllocError>
     requires { 0 < outside.now.most }
 {
-    called_with::<Brand>(alloc, line, outside, Blank::new(1))
+    let mut parts = parts_of(alloc, line, outside)?;
+    let status = run::<Brand>(alloc, &mut parts, Blank::new(1));
+    Ok(Told {
+        status,
+        text: Text::from_slice(alloc, parts.out.taken())?,
+        complaint: Text::from_slice(alloc, parts.err.taken())?,
+    })
 }
