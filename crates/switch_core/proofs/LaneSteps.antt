@@ -4,12 +4,13 @@ use Rattle.std.specs.Prelude.{nat_lt}
 use Rattle.std.proofs.lemmas.List.{take-append-le, length-replicate}
 use Rattle.epoch_model.specs.Keys.{Key, ArgRow, bucket_of}
 use Rattle.epoch_model.specs.Epochs.{Geometry}
-use Rattle.epoch_model.specs.Machine.{Machine, lists_of, open_in, evict, packet, is_open, empty_machine, last_alone}
-use Rattle.epoch_model.specs.Tables.{Folding, epochs_shown}
+use Rattle.epoch_model.specs.Machine.{Machine, open_in, evict, packet, is_open, empty_machine, last_alone}
+use Rattle.epoch_model.specs.Tables.{Folding}
 use Rattle.bucket_cache.specs.Caches.{Cache, empty_cache}
 use Rattle.evict_pipe.specs.Pipes.{Pipe}
 use Rattle.backing_store.specs.Store.{Store, epochs_of, states_at, number_of}
-use Rattle.switch_core.specs.Lanes.{Standing, PairStands, PairsStand, RecordsStand, StoreStands, stored, LaneStands, geometry}
+use Rattle.merged_epochs.specs.Merged.{StoreHolds}
+use Rattle.switch_core.specs.Lanes.{Standing, PairStands, PairsStand, RecordsStand, StoreStands, LaneStands, geometry}
 use Rattle.switch_core.proofs.Standing.{by_test}
 
 -- the merged epochs are as they were
@@ -31,10 +32,7 @@ packet_merged_same g m key row few =
     (λ l. rw (t, l) (evict_merged_same m bucket few)))
 
 pub store_same : (f : Folding) (store : Store) (m n : Machine) → SameMerged m n → StoreStands f store m → StoreStands f store n
-store_same f store m n e s = record {
-  count = λ key. s.count key ∙ ap (λ es. epochs_shown (length (lists_of key es))) (sym e.0);
-  rows = λ key. s.rows key ∙ ap (λ es. stored f (lists_of key es)) (sym e.0);
-}
+store_same f store m n e s = subst (StoreHolds f store) (sym e.0) s
 
 -- nothing stands for nothing
 

@@ -2,9 +2,8 @@ pub mod Standing
 pub mod CacheSteps
 pub mod PipeSteps
 pub mod LaneSteps
-pub mod StoredStates
 pub mod MergeSteps
-pub mod ClosedRows
+pub mod ClosedTable
 pub mod Drained
 pub mod Histories
 pub mod SweepSteps

@@ -7,7 +7,8 @@ use Rattle.epoch_model.specs.Tables.{Folding}
 use Rattle.bucket_cache.specs.Caches.{Cache}
 use Rattle.evict_pipe.specs.Pipes.{Pipe}
 use Rattle.backing_store.specs.Store.{Store}
-use Rattle.switch_core.specs.Lanes.{Standing, RecordStands, RecordsStand, StoreHolds, LaneStands}
+use Rattle.merged_epochs.specs.Merged.{StoreHolds}
+use Rattle.switch_core.specs.Lanes.{Standing, RecordStands, RecordsStand, LaneStands}
 
 pub records_none : (stands : Standing) (kw : ℕ) (records : List (List ℕ)) (epochs : List Epoch) → RecordsStand stands kw records epochs → length records ≡ 0 → epochs ≡ []
 records_none stands kw [] [] s e = refl

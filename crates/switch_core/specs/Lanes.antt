@@ -1,13 +1,14 @@
 -- When cache, pipe and store stand for a machine.
-use Rattle.std.specs.Prelude.{◌≡◌, ◌≤◌, ℕ, List, [], ◌∷◌, length, map, take, drop, flat_map, if◌then◌else◌}
-use Rattle.epoch_model.specs.Keys.{Key, ArgRow}
+use Rattle.std.specs.Prelude.{◌≡◌, ◌≤◌, ℕ, List, [], ◌∷◌, length, take, drop}
+use Rattle.epoch_model.specs.Keys.{ArgRow}
 use Rattle.epoch_model.specs.Epochs.{Geometry}
-use Rattle.epoch_model.specs.Machine.{Epoch, Machine, open_in, lists_of}
-use Rattle.epoch_model.specs.Tables.{Folding, folded, epochs_shown}
+use Rattle.epoch_model.specs.Machine.{Epoch, Machine, open_in}
+use Rattle.epoch_model.specs.Tables.{Folding}
 use Rattle.bucket_cache.specs.Buckets.{Pair}
 use Rattle.bucket_cache.specs.Caches.{Cache, list_at, entry_at}
 use Rattle.evict_pipe.specs.Pipes.{Pipe}
-use Rattle.backing_store.specs.Store.{Store, epochs_of, states_of}
+use Rattle.backing_store.specs.Store.{Store}
+use Rattle.merged_epochs.specs.Merged.{StoreHolds}
 
 -- what an entry's words stand for is the kind's to say
 abbrev pub Standing : Type 1
@@ -42,19 +43,6 @@ RecordsStand stands key_words (words ∷ records) (epoch ∷ epochs) = RecordSta
 -- the pipe's records, from the oldest, stand for the closed epochs that aren't merged
 abbrev pub PipeStands : Standing → ℕ → List (List ℕ) → Machine → Type 0
 PipeStands stands key_words records m = RecordsStand stands key_words records (drop m.merged m.closed)
-
--- the states that the store holds of a key with these merged row lists: one for each list, or one for all their rows
-abbrev pub stored : Folding → List (List ArgRow) → List (List ℕ)
-stored f lists = if f.row_per_epoch then map (folded f) lists else merged_state lists
-  where
-    merged_state : List (List ArgRow) → List (List ℕ)
-    merged_state [] = []
-    merged_state (rows ∷ more) = folded f (flat_map (λ rs. rs) (rows ∷ more)) ∷ []
-
--- the store counts these epochs of each key, and has their states
-pub record StoreHolds (f : Folding) (store : Store) (epochs : List Epoch) : Type 0 where
-  pub count : (key : Key) → epochs_of store.keys key ≡ epochs_shown (length (lists_of key epochs))
-  pub rows : (key : Key) → states_of store key ≡ stored f (lists_of key epochs)
 
 -- the store stands for the merged epochs
 abbrev pub StoreStands : Folding → Store → Machine → Type 0

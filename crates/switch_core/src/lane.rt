@@ -10,7 +10,7 @@ ghost use Rattle.switch_core.specs.LaneEvents.{EventsAreFollowed, Makes, parts};
 ghost use Rattle.switch_core.specs.Closing.{held_in, is_drained};
 ghost use Rattle.final_queries.specs.GroupTable.{closed_table};
 
-use crate::closing::{columns, shown_rows};
+use crate::closing::columns;
 use crate::merging::merge_record;
 use crate::packet::{packet_at, push_pair};
 use backing_store::BackingStore;
@@ -19,6 +19,7 @@ use epoch_entry::EpochKind;
 use evict_pipe::EvictPipe;
 use final_queries::{Table, TableKind};
 use marple_base::{Seq, Steps, Text};
+use merged_epochs::{held_rows_are_the_tables, shown_rows};
 use query_lang::Class;
 use std::alloc::{AllocError, Global};
 use std::sync::ledger::Ledger;
@@ -209,6 +210,7 @@ impl<K: EpochKind, const WAYS: usize> Lane<K, WAYS> {
         ensures { IfOk result (λ table. (m : Machine) → LaneStands (K.stands self.now.kind) (K.folding self.now.kind) self.now.cache self.now.pipe self.now.store m
             → table ≡ closed_table (record { name = name; key_names = key_names; state_names = state_names; class = class; depth = depth }) (K.folding self.now.kind) m.closed) }
     {
+        held_rows_are_the_tables();
         self.store.known();
         let keys = key_names.len() as u8;
         let stored = self.store.sorted()?;

@@ -4,11 +4,13 @@ ghost use Rattle.std.specs.Prelude.{◌≡◌, ◌+◌, ◌≤◌, List, [], ◌
 ghost use Rattle.epoch_model.specs.Keys.{ArgRow};
 ghost use Rattle.epoch_model.specs.Machine.{Epoch};
 ghost use Rattle.backing_store.specs.Store.{Store};
-ghost use Rattle.switch_core.specs.Lanes.{RecordStands, StoreHolds};
+ghost use Rattle.merged_epochs.specs.Merged.{StoreHolds};
+ghost use Rattle.switch_core.specs.Lanes.{RecordStands};
 
-use backing_store::{BackingStore, epochs_are_counted, last_rows_are_written, rows_are_added};
+use backing_store::BackingStore;
 use epoch_entry::EpochKind;
 use marple_base::Steps;
+use merged_epochs::merged_epochs_are_held;
 use std::alloc::AllocError;
 use std::sync::ledger::Ledger;
 
@@ -35,9 +37,7 @@ fn merge_entry<K: EpochKind, L: Ledger>(
     ensures state_words { store.new.state_words ≡ store.old.state_words }
     ensures at_least { steps.old ≤ steps.new }
 {
-    epochs_are_counted();
-    rows_are_added();
-    last_rows_are_written();
+    merged_epochs_are_held();
     store.known();
     let place = store.row_for(key, initial, kind.row_per_epoch())?;
     store.known();
