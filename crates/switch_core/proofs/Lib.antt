@@ -14,4 +14,3 @@ pub mod PipelineSteps
 pub mod LanesMade
 pub mod PacketBound
 pub mod LaneTables
-pub mod KindTableFacts
