@@ -24,21 +24,17 @@ use Rattle.final_queries.proofs.StateLengths.{states_length}
 use Rattle.query_tables.specs.Tables.{query_table, table_if, tables_from, group_tables}
 use Rattle.query_tables.specs.TableLaws.{QueryTablesAreRead}
 
+empty_drop : {A : Type 0} (i : ℕ) (x : A) (rest : List A) → drop i [] ≡ x ∷ rest → ⊥
+empty_drop zero x rest e = cc
+empty_drop (suc i) x rest e = cc
+
 first_left : {A : Type 0} (xs rest : List A) (i : ℕ) (x : A) → drop i xs ≡ x ∷ rest → slice_get xs i ≡ Some x
 first_left [] rest i x e = absurd (empty_drop i x rest e)
-  where
-    empty_drop : {A : Type 0} (i : ℕ) (x : A) (rest : List A) → drop i [] ≡ x ∷ rest → ⊥
-    empty_drop zero x rest e = cc
-    empty_drop (suc i) x rest e = cc
 first_left (y ∷ xs) rest zero x e = cc
 first_left (y ∷ xs) rest (suc i) x e = first_left xs rest i x e
 
 others_left : {A : Type 0} (xs rest : List A) (i : ℕ) (x : A) → drop i xs ≡ x ∷ rest → drop (suc i) xs ≡ rest
 others_left [] rest i x e = absurd (empty_drop i x rest e)
-  where
-    empty_drop : {A : Type 0} (i : ℕ) (x : A) (rest : List A) → drop i [] ≡ x ∷ rest → ⊥
-    empty_drop zero x rest e = cc
-    empty_drop (suc i) x rest e = cc
 others_left (y ∷ xs) rest zero x e = cc
 others_left (y ∷ xs) rest (suc i) x e = others_left xs rest i x e
 

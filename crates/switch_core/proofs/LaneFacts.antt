@@ -14,7 +14,7 @@ use Rattle.switch_core.specs.Pipelines.{IsLaneOf, event_at}
 use Rattle.switch_core.specs.PlanLanes.{LaneView, lane_view, parts_of, AreLanesOf, LaneMakes, LanesMake, LaneSweeps}
 use Rattle.switch_core.specs.Rows.{EachFrom}
 use Rattle.switch_core.proofs.SweepSteps.{sweep_none}
-use Rattle.switch_core.proofs.SideBySide.{each_at, each_set, untouched_start}
+use Rattle.switch_core.proofs.SideBySide.{same_some, got_some, got_below, each_at, each_set, untouched_start}
 
 pub got_view : {ways : ℕ} (lanes : List (Lane AnyEpochs ways ghosts)) (i : ℕ) (d : Lane AnyEpochs ways ghosts) → i < length lanes → slice_get (map lane_view lanes) i ≡ Some (lane_view (get_or lanes i d))
 got_view [] i d h = absurd (omega arith)
@@ -26,31 +26,15 @@ set_view [] i x = refl
 set_view (y ∷ lanes) zero x = refl
 set_view (y ∷ lanes) (suc i) x = ap (λ vs. lane_view y ∷ vs) (set_view lanes i x)
 
+-- two tests that both pass
+pub both_pass : (b c : Bool) → (b && c) ≡ true → (b ≡ true) × (c ≡ true)
+both_pass true c h = (refl, h)
+both_pass false c h = absurd (cc)
+
 pub all_at : {X : Type 0} (p : X → Bool) (xs : List X) (i : ℕ) (x : X) → list_all p xs ≡ true → slice_get xs i ≡ Some x → p x ≡ true
 all_at p [] i x a e = cc
-all_at p (y ∷ xs) zero x a e = let same : y ≡ x = cc in ap p (sym same) ∙ first (p y) (list_all p xs) a
-  where
-    first : (b c : Bool) → (b && c) ≡ true → b ≡ true
-    first true c h = refl
-    first false c h = h
-all_at p (y ∷ xs) (suc i) x a e = all_at p xs i x (rest (p y) (list_all p xs) a) e
-  where
-    rest : (b c : Bool) → (b && c) ≡ true → c ≡ true
-    rest true c h = h
-    rest false c h = cc
-
-pub same_some : {X : Type 0} (x y : X) → Some x ≡ Some y → x ≡ y
-same_some x y e = cc
-
-pub got_some : {X : Type 0} (xs : List X) (i : ℕ) → i < length xs → (x : X) × (slice_get xs i ≡ Some x)
-got_some [] i h = absurd (omega arith)
-got_some (x ∷ xs) zero h = (x, refl)
-got_some (x ∷ xs) (suc i) h = got_some xs i (omega arith)
-
-pub got_below : {X : Type 0} (xs : List X) (i : ℕ) (x : X) → slice_get xs i ≡ Some x → i < length xs
-got_below [] i x h = cc
-got_below (y ∷ xs) zero x h = omega arith
-got_below (y ∷ xs) (suc i) x h = let r = got_below xs i x h in omega arith
+all_at p (y ∷ xs) zero x a e = let same : y ≡ x = cc in ap p (sym same) ∙ (both_pass (p y) (list_all p xs) a).0
+all_at p (y ∷ xs) (suc i) x a e = all_at p xs i x (both_pass (p y) (list_all p xs) a).1 e
 
 -- a lane's place is that of a groupby, and it has the words of what the groupby takes
 pub record FitsWiring (plan : PlanParts) (i : ℕ) (lane : LaneView) : Type 0 where
@@ -126,18 +110,10 @@ whole_written xs rest n e = subst (λ k. take k (xs ++ rest) ≡ xs) e (take-app
 pub all_next : {X : Type 0} (p : X → Bool) (xs : List X) (i : ℕ) (x : X) → list_all p (take i xs) ≡ true → slice_get xs i ≡ Some x → p x ≡ true → list_all p (take (i + 1) xs) ≡ true
 all_next {X = X} p xs i x a e t = ap (λ n. list_all p (take n xs)) (let q : i + 1 ≡ suc i = omega arith in q) ∙ next p xs i x a e t
   where
-    first : (b c : Bool) → (b && c) ≡ true → b ≡ true
-    first true c h = refl
-    first false c h = h
-
-    rest : (b c : Bool) → (b && c) ≡ true → c ≡ true
-    rest true c h = h
-    rest false c h = cc
-
     next : (p : X → Bool) (xs : List X) (i : ℕ) (x : X) → list_all p (take i xs) ≡ true → slice_get xs i ≡ Some x → p x ≡ true → list_all p (take (suc i) xs) ≡ true
     next p [] i x a e t = refl
     next p (y ∷ xs) zero x a e t = let same : y ≡ x = cc in let u : p y ≡ true = ap p same ∙ t in rw u refl
-    next p (y ∷ xs) (suc i) x a e t = let u = first (p y) (list_all p (take i xs)) a in rw u (next p xs i x (rest (p y) (list_all p (take i xs)) a) e t)
+    next p (y ∷ xs) (suc i) x a e t = let both = both_pass (p y) (list_all p (take i xs)) a in let u = both.0 in rw u (next p xs i x both.1 e t)
 
 pub all_fails : {X : Type 0} (p : X → Bool) (xs : List X) (i : ℕ) (x : X) → slice_get xs i ≡ Some x → p x ≡ false → list_all p xs ≡ false
 all_fails p [] i x e f = cc

@@ -1,5 +1,5 @@
 -- The tables of lanes, one after another.
-use Rattle.std.proofs.Common.{◌≡◌, ◌↔◌, ℕ, zero, suc, ◌+◌, ◌≤◌, ◌&&◌, Bool, true, false, List, [], ◌∷◌, ◌++◌, Some, length, map, take, refl, sym, ap, ◌∙◌, arith}
+use Rattle.std.proofs.Common.{◌≡◌, ◌↔◌, ℕ, zero, suc, ◌+◌, ◌≤◌, Bool, true, false, List, [], ◌∷◌, ◌++◌, Some, length, map, take, refl, sym, ap, ◌∙◌, arith}
 use Rattle.std.specs.List.{list_all}
 use Rattle.std.specs.Prelude.{slice_get}
 use Rattle.std.proofs.lemmas.Bool.{true≢false}
@@ -15,6 +15,7 @@ use Rattle.switch_core.specs.Rows.{EachFrom}
 use Rattle.switch_core.specs.Pipelines.{heading_of, tables_of}
 use Rattle.switch_core.specs.PlanLanes.{LaneView, StandsFor, folding_at, lane_is_drained}
 use Rattle.switch_core.proofs.Drained.{drained_is_done}
+use Rattle.switch_core.proofs.LaneFacts.{both_pass}
 
 -- a fold of this class has a row for all epochs exactly where it is linear
 pub class_fits : (class : Class) (each : Bool) → each ≡ per_epoch class → (class ≡ Linear) ↔ (each ≡ false)
@@ -57,14 +58,6 @@ all_done k [] [] d s = tt
 all_done k [] (m ∷ ms) d s = absurd s
 all_done k (l ∷ lanes) [] d s = absurd s
 all_done k (l ∷ lanes) (m ∷ ms) d s = (
-  drained_is_done (ghosts.stands l.kind) (ghosts.folding l.kind) l.cache l.pipe l.store (first (lane_is_drained l) (list_all lane_is_drained lanes) d) m s.0,
-  all_done (suc k) lanes ms (rest (lane_is_drained l) (list_all lane_is_drained lanes) d) s.1,
+  drained_is_done (ghosts.stands l.kind) (ghosts.folding l.kind) l.cache l.pipe l.store (both_pass (lane_is_drained l) (list_all lane_is_drained lanes) d).0 m s.0,
+  all_done (suc k) lanes ms (both_pass (lane_is_drained l) (list_all lane_is_drained lanes) d).1 s.1,
 )
-  where
-    first : (b c : Bool) → (b && c) ≡ true → b ≡ true
-    first true c h = refl
-    first false c h = h
-
-    rest : (b c : Bool) → (b && c) ≡ true → c ≡ true
-    rest true c h = h
-    rest false c h = cc

@@ -16,7 +16,7 @@ use Rattle.stage_plan.specs.Sound.{PlanParts, IsSoundPlan, IsSoundGroup}
 use Rattle.switch_core.specs.Rows.{EachFrom}
 use Rattle.switch_core.specs.Pipelines.{IsLaneOf, empty_machines}
 use Rattle.switch_core.specs.PlanLanes.{LaneView}
-use Rattle.switch_core.proofs.LaneFacts.{got_some, got_below}
+use Rattle.switch_core.proofs.SideBySide.{got_some, got_below}
 
 pub each_push : {X Y : Type 0} (R : ℕ → X → Y → Type 0) (k : ℕ) (xs : List X) (ys : List Y) (x : X) (y : Y) → EachFrom R k xs ys → ((n : ℕ) → n ≡ k + length xs → R n x y) → EachFrom R k (xs ++ x ∷ []) (ys ++ y ∷ [])
 each_push R k [] [] x y e r = (r k (omega arith), tt)

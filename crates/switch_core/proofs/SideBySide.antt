@@ -5,6 +5,19 @@ use Rattle.std.specs.Prelude.{slice_get}
 use Rattle.std.proofs.lemmas.List.Sums.{sum_by-cons}
 use Rattle.switch_core.specs.Rows.{Each, EachFrom}
 
+pub same_some : {X : Type 0} (x y : X) → Some x ≡ Some y → x ≡ y
+same_some x y e = cc
+
+pub got_some : {X : Type 0} (xs : List X) (i : ℕ) → i < length xs → (x : X) × (slice_get xs i ≡ Some x)
+got_some [] i h = absurd (omega arith)
+got_some (x ∷ xs) zero h = (x, refl)
+got_some (x ∷ xs) (suc i) h = got_some xs i (omega arith)
+
+pub got_below : {X : Type 0} (xs : List X) (i : ℕ) (x : X) → slice_get xs i ≡ Some x → i < length xs
+got_below [] i x h = cc
+got_below (y ∷ xs) zero x h = omega arith
+got_below (y ∷ xs) (suc i) x h = let r = got_below xs i x h in omega arith
+
 pub each_long : {X Y : Type 0} (R : ℕ → X → Y → Type 0) (k : ℕ) (xs : List X) (ys : List Y) → EachFrom R k xs ys → length xs ≡ length ys
 each_long R k [] [] e = refl
 each_long R k [] (y ∷ ys) e = absurd e
@@ -75,25 +88,12 @@ untouched_at i old new x u e = let y = each_at (λ n a b. i ≤ n → b ≡ a) 0
 
 -- what stands at a place that is untouched stood there
 pub untouched_was : {X : Type 0} (i : ℕ) (old new : List X) (x : X) → Untouched i old new → i < length old → slice_get new i ≡ Some x → slice_get old i ≡ Some x
-untouched_was {X = X} i old new x u l e =
+untouched_was i old new x u l e =
     let was = got_some old i l in
-    was.1 ∙ ap Some (same was.0 x (sym (untouched_at i old new was.0 u was.1) ∙ e))
-  where
-    got_some : (xs : List X) (i : ℕ) → i < length xs → (x : X) × (slice_get xs i ≡ Some x)
-    got_some [] i h = absurd (omega arith)
-    got_some (x ∷ xs) zero h = (x, refl)
-    got_some (x ∷ xs) (suc i) h = got_some xs i (omega arith)
-
-    same : (x y : X) → Some x ≡ Some y → x ≡ y
-    same x y e = cc
+    was.1 ∙ ap Some (same_some was.0 x (sym (untouched_at i old new was.0 u was.1) ∙ e))
 
 pub done_end : {X : Type 0} (R : ℕ → X → X → Type 0) (i : ℕ) (old new : List X) → Done R i old new → length old ≤ i → EachFrom R 0 old new
-done_end {X = X} R i old new d l = each_map (λ n a b. n < i → R n a b) R 0 old new (λ j n a b q f g r. r (let w = got_below old j a f in omega arith)) d
-  where
-    got_below : (xs : List X) (j : ℕ) (x : X) → slice_get xs j ≡ Some x → j < length xs
-    got_below [] j x h = cc
-    got_below (a ∷ xs) zero x h = omega arith
-    got_below (a ∷ xs) (suc j) x h = let r = got_below xs j x h in omega arith
+done_end R i old new d l = each_map (λ n a b. n < i → R n a b) R 0 old new (λ j n a b q f g r. r (let w = got_below old j a f in omega arith)) d
 
 each_both : {X Y : Type 0} (R S : ℕ → X → Y → Type 0) (k : ℕ) (xs : List X) (ys : List Y) → EachFrom R k xs ys → EachFrom S k xs ys → EachFrom (λ n x y. R n x y × S n x y) k xs ys
 each_both R S k [] [] r s = tt

@@ -4,7 +4,8 @@ use Rattle.epoch_model.specs.Machine.{Evict}
 use Rattle.bucket_cache.specs.Caches.{list_at}
 use Rattle.switch_core.specs.Pipelines.{event_at}
 use Rattle.switch_core.specs.PlanLanes.{LanesMake, lane_view, parts_of}
-use Rattle.switch_core.proofs.LaneFacts.{same_some, got_view, set_view, make_one}
+use Rattle.switch_core.proofs.SideBySide.{same_some}
+use Rattle.switch_core.proofs.LaneFacts.{got_view, set_view, make_one}
 use Rattle.switch_core.proofs.lanes.evict_at.Goals as goal
 
 pub evict-requires : goal.evict-requires

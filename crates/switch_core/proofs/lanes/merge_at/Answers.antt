@@ -7,7 +7,8 @@ use Rattle.epoch_entry.specs.contracts.any.AnyEpochsEpochKind.TheImpl.{ghosts}
 use Rattle.switch_core.specs.LaneEvents.{Makes}
 use Rattle.switch_core.specs.Pipelines.{event_at}
 use Rattle.switch_core.specs.PlanLanes.{LanesMake, AtLane, lane_view, lane_is_ready, parts_of}
-use Rattle.switch_core.proofs.LaneFacts.{same_some, got_view, set_view, got_set, set_same, on_ok, on_err, make_one}
+use Rattle.switch_core.proofs.SideBySide.{same_some}
+use Rattle.switch_core.proofs.LaneFacts.{got_view, set_view, got_set, set_same, on_ok, on_err, make_one}
 use Rattle.switch_core.proofs.lanes.merge_at.Goals as goal
 
 pub returns-clause-makes : goal.returns-clause-makes

@@ -5,8 +5,8 @@ use Rattle.epoch_model.specs.Driving.{event_of}
 use Rattle.stage_plan.specs.Planned.{wiring_at}
 use Rattle.stage_plan.specs.Registers.{taken_at}
 use Rattle.switch_core.specs.PlanLanes.{LaneView, LaneMakes, lane_cost, lane_is_ready, lane_view}
-use Rattle.switch_core.proofs.SideBySide.{Done, Untouched, each_long, done_start, untouched_start, done_next, untouched_next, untouched_was, done_end, sum_next}
-use Rattle.switch_core.proofs.LaneFacts.{same_some, got_view, set_view, all_at, lane_fits}
+use Rattle.switch_core.proofs.SideBySide.{same_some, Done, Untouched, each_long, done_start, untouched_start, done_next, untouched_next, untouched_was, done_end, sum_next}
+use Rattle.switch_core.proofs.LaneFacts.{got_view, set_view, all_at, lane_fits}
 use Rattle.switch_core.proofs.lanes.packet_lanes.Goals as goal
 
 pub loop-i-init : goal.loop-i-init

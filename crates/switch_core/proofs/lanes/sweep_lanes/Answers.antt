@@ -2,8 +2,8 @@ use Rattle.std.proofs.Common.{◌≡◌, ◌<◌, ◌+◌, length, map, set, get
 use Rattle.std.proofs.lemmas.List.{length-map}
 use Rattle.switch_core.specs.Rows.{Each, EachFrom}
 use Rattle.switch_core.specs.PlanLanes.{LaneBeginsSweep, LaneIsSwept, LaneRunsSweep, LaneSweeps, SweepBreaksOff, lane_view}
-use Rattle.switch_core.proofs.SideBySide.{Done, Untouched, done_start, untouched_start, done_next, untouched_next, untouched_was, done_end, breaks_at, each_replaced}
-use Rattle.switch_core.proofs.LaneFacts.{same_some, got_view, set_view, sweeps_start, err_holds}
+use Rattle.switch_core.proofs.SideBySide.{same_some, Done, Untouched, done_start, untouched_start, done_next, untouched_next, untouched_was, done_end, breaks_at, each_replaced}
+use Rattle.switch_core.proofs.LaneFacts.{got_view, set_view, sweeps_start, err_holds}
 use Rattle.switch_core.proofs.lanes.sweep_lanes.Goals as goal
 
 pub loop-i-init : goal.loop-i-init

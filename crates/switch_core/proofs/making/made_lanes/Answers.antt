@@ -8,8 +8,7 @@ use Rattle.stage_plan.specs.Planned.{wiring_at}
 use Rattle.switch_core.specs.Rows.{Each, EachFrom}
 use Rattle.switch_core.specs.Pipelines.{IsLaneOf, empty_machines, geometry_of}
 use Rattle.switch_core.specs.PlanLanes.{LaneView, StandsFor, lane_view}
-use Rattle.switch_core.proofs.SideBySide.{each_long}
-use Rattle.switch_core.proofs.LaneFacts.{got_below}
+use Rattle.switch_core.proofs.SideBySide.{got_below, each_long}
 use Rattle.switch_core.proofs.LanesMade.{each_push, take_next, empties_push, group_sound, lane_made}
 use Rattle.switch_core.proofs.making.made_lanes.Goals as goal
 

@@ -5,8 +5,8 @@ use Rattle.std.specs.Prelude.{slice_get}
 use Rattle.epoch_entry.specs.Foldings.{per_epoch}
 use Rattle.switch_core.specs.Pipelines.{tables_of}
 use Rattle.switch_core.specs.PlanLanes.{StandsFor, folding_at, lane_is_drained, lane_view}
-use Rattle.switch_core.proofs.SideBySide.{each_long, each_at}
-use Rattle.switch_core.proofs.LaneFacts.{same_some, got_view, all_at}
+use Rattle.switch_core.proofs.SideBySide.{same_some, each_long, each_at}
+use Rattle.switch_core.proofs.LaneFacts.{got_view, all_at}
 use Rattle.switch_core.proofs.LaneTables.{tables_next, tables_whole}
 use Rattle.switch_core.proofs.tables.lane_tables.Goals as goal
 
