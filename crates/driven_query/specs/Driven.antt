@@ -10,7 +10,7 @@ use Rattle.driven_query.specs.declared.driven.Driven.TheVariants.{Ways1, Ways2, 
 use Rattle.epoch_model.specs.Epochs.{Geometry}
 use Rattle.query_run.specs.Runs.{AreWhole}
 use Rattle.queue_sim.specs.Generator.{simulated}
-use Rattle.switch_core.specs.PlanLanes.{PipelineView, lane_is_drained}
+use Rattle.switch_core.specs.PlanLanes.{HavePlaces, PipelineView, lane_is_drained}
 use Rattle.trace_drive.specs.Drives.{words_of}
 
 -- the buckets and ways of each cache, and every how many packets it is emptied. Neither the pipe's size nor the lag is among them
@@ -33,10 +33,11 @@ pipeline_in (Ways8 p) = p
 pipeline_in (Ways16 p) = p
 pipeline_in (Ways32 p) = p
 
--- the caches have the setting's ways and buckets, and caches and pipes are empty
+-- the caches have the setting's ways and buckets, the pipes the setting's places, and caches and pipes are empty
 pub record IsLeftBy (setting : Setting) (driven : Driven) : Type 0 where
   pub ways : ways_in driven ≡ setting.ways
   pub buckets : (pipeline_in driven).buckets ≡ setting.buckets
+  pub places : HavePlaces setting.pipe (pipeline_in driven).lanes
   pub drained : list_all lane_is_drained (pipeline_in driven).lanes ≡ true
 
 -- The packets that the generator makes have the words of all fields.

@@ -25,7 +25,7 @@ abbrev pub StandsForEnd : Setting → Checked TypedQuery → (TypedQuery → Lis
 StandsForEnd setting (Ok q) packets p = PipelineStands p (query_ends q (geometry_of setting) (words_of (packets q)))
 StandsForEnd setting (Err fault) packets p = ⊥
 
--- The working parts of a run are there, in the variant of its ways: they are empty, and this holds of their pipeline.
+-- The working parts of a run are there, in the variant of its ways and with the setting's sizes: they are empty, and this holds of their pipeline.
 abbrev pub IsDriven : Setting → Option Driven → (PipelineView → Type 0) → Type 0
 IsDriven setting None P = ⊥
 IsDriven setting (Some driven) P = IsLeftBy setting driven × P (pipeline_in driven)

@@ -6,7 +6,7 @@ ghost use Rattle.query_lang.specs.TypedQueries.{IsValidQuery};
 ghost use Rattle.epoch_model.specs.Epochs.{Geometry};
 ghost use Rattle.epoch_model.specs.Laws.{HasRoom};
 ghost use Rattle.stage_plan.specs.Planned.{IsPlanOf};
-ghost use Rattle.switch_core.specs.PlanLanes.{PipelineStands, lane_is_drained};
+ghost use Rattle.switch_core.specs.PlanLanes.{HavePlaces, PipelineStands, lane_is_drained};
 ghost use Rattle.query_tables.specs.Tables.{query_text};
 ghost use Rattle.trace_drive.specs.Drives.{coming, end_machines, fault_of, geometry_for, words_of};
 ghost use Rattle.trace_reader.specs.Faults.{IfRefused};
@@ -75,6 +75,7 @@ pub fn run_query<const WAYS: usize, L: Ledger>(
     ensures machines { IfOk result (λ found. PipelineStands found.pipeline (query_ends typed.now (geometry_for WAYS schedule) (words_of (coming packets.entry)))) }
     ensures drained { IfOk result (λ found. list_all lane_is_drained found.pipeline.lanes ≡ true) }
     ensures buckets { IfOk result (λ found. found.pipeline.buckets ≡ schedule.buckets) }
+    ensures pipe_places { IfOk result (λ found. HavePlaces schedule.pipe found.pipeline.lanes) }
     ensures refused { IfErr result (λ answer. IfRefused answer (λ fault. fault_of packets.entry ≡ Some fault)) }
     ensures steps { steps.old ≤ steps.new }
 {

@@ -15,7 +15,7 @@ use Rattle.switch_core.specs.LaneEvents.{Parts, PartsStand, MakesAll}
 use Rattle.switch_core.specs.Closing.{held_in}
 use Rattle.switch_core.specs.Rows.{Each, EachFrom}
 use Rattle.switch_core.specs.Pipelines.{IsLaneOf, after_events, geometry_of}
-use Rattle.switch_core.specs.PlanLanes.{LaneView, PipelineMakes, AreLanesOf, StandsFor, LaneMakes, LanesMake, LaneSweeps, LaneIsSwept, PipelineIsSwept, PipelineSweeps, parts_of}
+use Rattle.switch_core.specs.PlanLanes.{LaneView, PipelineMakes, AreLanesOf, StandsFor, LaneMakes, LanesMake, LaneSweeps, LaneIsSwept, PipelineIsSwept, PipelineSweeps, parts_of, places_of}
 use Rattle.switch_core.proofs.Histories.{followed}
 
 -- what events leave of a lane's sizes
@@ -23,21 +23,23 @@ pub record SameSizes (old new : LaneView) : Type 0 where
   pub kind : new.kind ≡ old.kind
   pub buckets : length new.cache.lists ≡ length old.cache.lists
   pub key_words : new.cache.key_words ≡ old.cache.key_words
+  pub places : new.pipe.places ≡ old.pipe.places
 
-sizes_kept : (means : Standing) (f : Folding) (ways : ℕ) (events : List Event) (a b : Parts) → MakesAll means f ways events a b → (length b.cache.lists ≡ length a.cache.lists) × (b.cache.key_words ≡ a.cache.key_words)
-sizes_kept means f ways [] a b e = (ap (λ p. length p.cache.lists) e, ap (λ p. p.cache.key_words) e)
+sizes_kept : (means : Standing) (f : Folding) (ways : ℕ) (events : List Event) (a b : Parts) → MakesAll means f ways events a b
+    → (length b.cache.lists ≡ length a.cache.lists) × (b.cache.key_words ≡ a.cache.key_words) × (b.pipe.places ≡ a.pipe.places)
+sizes_kept means f ways [] a b e = (ap (λ p. length p.cache.lists) e, ap (λ p. p.cache.key_words) e, ap (λ p. p.pipe.places) e)
 sizes_kept means f ways (event ∷ events) a b made =
-    let rest = sizes_kept means f ways events made.0 b made.2 in (rest.0 ∙ made.1.buckets, rest.1 ∙ made.1.key_words)
+    let rest = sizes_kept means f ways events made.0 b made.2 in (rest.0 ∙ made.1.buckets, rest.1 ∙ made.1.key_words, rest.2 ∙ made.1.places)
 
 pub makes_sizes : (ways : ℕ) (events : List Event) (old new : LaneView) → LaneMakes ways events old new → SameSizes old new
 makes_sizes ways events old new m =
     let s = sizes_kept (ghosts.stands old.kind) (ghosts.folding old.kind) ways events (parts_of old) (parts_of new) m.made in
-    record { kind = m.kind; buckets = s.0; key_words = s.1 }
+    record { kind = m.kind; buckets = s.0; key_words = s.1; places = s.2 }
 
 pub sweeps_sizes : (ways : ℕ) (old new : LaneView) → LaneSweeps ways old new → SameSizes old new
 sweeps_sizes ways old new m =
     let s = sizes_kept (ghosts.stands old.kind) (ghosts.folding old.kind) ways m.made.0 (parts_of old) (parts_of new) m.made.2 in
-    record { kind = m.kind; buckets = s.0; key_words = s.1 }
+    record { kind = m.kind; buckets = s.0; key_words = s.1; places = s.2 }
 
 -- they are the lanes of the plan's groupbys still
 pub lanes_kept : (R : ℕ → LaneView → LaneView → Type 0) → ((n : ℕ) (a b : LaneView) → R n a b → SameSizes a b)
@@ -102,6 +104,12 @@ same_kinds R sizes k [] (b ∷ new) e = absurd e
 same_kinds R sizes k (a ∷ old) [] e = absurd e
 same_kinds R sizes k (a ∷ old) (b ∷ new) e = let s = sizes k a b e.0 in let rest = same_kinds R sizes (suc k) old new e.1 in rw (s.kind, rest) refl
 
+pub same_places : (R : ℕ → LaneView → LaneView → Type 0) → ((n : ℕ) (a b : LaneView) → R n a b → SameSizes a b) → (k : ℕ) (old new : List LaneView) → EachFrom R k old new → places_of new ≡ places_of old
+same_places R sizes k [] [] e = refl
+same_places R sizes k [] (b ∷ new) e = absurd e
+same_places R sizes k (a ∷ old) [] e = absurd e
+same_places R sizes k (a ∷ old) (b ∷ new) e = let s = sizes k a b e.0 in let rest = same_places R sizes (suc k) old new e.1 in rw (s.places, rest) refl
+
 pub pipeline_makes : (ways : ℕ) (events : ℕ → List Event) (plan : PlanParts) (buckets : ℕ) (old new : List LaneView) → AreLanesOf plan buckets old → LanesMake ways events old new
     → PipelineMakes ways events (record { plan = plan; buckets = buckets; lanes = old }) (record { plan = plan; buckets = buckets; lanes = new })
 pipeline_makes ways events plan buckets old new are e = record {
@@ -110,6 +118,7 @@ pipeline_makes ways events plan buckets old new are e = record {
   kinds = same_kinds (λ n. LaneMakes ways (events n)) (λ n a b m. makes_sizes ways (events n) a b m) 0 old new e;
   plan = refl;
   buckets = refl;
+  places = same_places (λ n. LaneMakes ways (events n)) (λ n a b m. makes_sizes ways (events n) a b m) 0 old new e;
 }
 
 -- sweeps
@@ -176,4 +185,5 @@ pipeline_sweeps ways plan buckets old new are e = record {
   kinds = same_kinds (λ n. LaneSweeps ways) (λ n a b m. sweeps_sizes ways a b m) 0 old new e;
   plan = refl;
   buckets = refl;
+  places = same_places (λ n. LaneSweeps ways) (λ n a b m. sweeps_sizes ways a b m) 0 old new e;
 }

@@ -1,6 +1,6 @@
 -- What contracts see of a pipeline.
 use Rattle.std.specs.Prelude.{◌≡◌, ℕ, ◌+◌, ◌*◌, ◌<◌, ◌≤◌, Bool, List, [], length, map, nat_lt, slice_get, sum_by, Some, true, ◌==◌}
-use Rattle.std.specs.List.{list_all}
+use Rattle.std.specs.List.{All, list_all}
 use Rattle.epoch_model.specs.Machine.{Machine, Event, empty_buckets, run}
 use Rattle.epoch_model.specs.Timeline.{NoPacket}
 use Rattle.epoch_model.specs.Laws.{SameEpochs}
@@ -47,6 +47,14 @@ folding_at lane = ghosts.folding lane.kind
 abbrev pub StandsFor : LaneView → Machine → Type 0
 StandsFor lane m = LaneStands (ghosts.stands lane.kind) (ghosts.folding lane.kind) lane.cache lane.pipe lane.store m
 
+-- the places of each lane's pipe
+abbrev pub places_of : List LaneView → List ℕ
+places_of lanes = map (λ lane. lane.pipe.places) lanes
+
+-- every pipe has so many places
+abbrev pub HavePlaces : ℕ → List LaneView → Type 0
+HavePlaces places lanes = All (λ lane. lane.pipe.places ≡ places) lanes
+
 -- A pipeline stands for a list of machines, one for each lane.
 abbrev pub PipelineStands : PipelineView → List Machine → Type 0
 PipelineStands p machines = Each StandsFor p.lanes machines
@@ -86,6 +94,7 @@ pub record PipelineMakes (ways : ℕ) (events : ℕ → List Event) (old new : P
   pub kinds : map (λ lane. lane.kind) new.lanes ≡ map (λ lane. lane.kind) old.lanes
   pub plan : new.plan ≡ old.plan
   pub buckets : new.buckets ≡ old.buckets
+  pub places : places_of new.lanes ≡ places_of old.lanes
 
 -- the most steps that a packet takes at a lane, with the words of the key and of the arguments copied before
 abbrev pub lane_cost : ℕ → LaneView → ℕ
@@ -137,3 +146,4 @@ pub record PipelineSweeps (ways : ℕ) (old new : PipelineView) : Type 0 where
   pub kinds : map (λ lane. lane.kind) new.lanes ≡ map (λ lane. lane.kind) old.lanes
   pub plan : new.plan ≡ old.plan
   pub buckets : new.buckets ≡ old.buckets
+  pub places : places_of new.lanes ≡ places_of old.lanes

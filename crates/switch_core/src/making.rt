@@ -7,7 +7,7 @@ ghost use Rattle.epoch_model.specs.Machine.{empty_machine};
 ghost use Rattle.epoch_entry.specs.Foldings.{IsKindOf};
 ghost use Rattle.switch_core.specs.Rows.{Each};
 ghost use Rattle.switch_core.specs.Pipelines.{empty_machines, geometry_of};
-ghost use Rattle.switch_core.specs.PlanLanes.{AreLanesOf, StandsFor, lane_view};
+ghost use Rattle.switch_core.specs.PlanLanes.{AreLanesOf, HavePlaces, StandsFor, lane_view};
 
 use crate::lane::Lane;
 use epoch_entry::{AnyEpochs, EpochKind, entries_are_small};
@@ -29,6 +29,7 @@ fn made_lane<const WAYS: usize>(
     requires keys { (0 < length group.now.key_names) × (length group.now.key_names ≤ 8) }
     ensures stands { IfOk result (λ lane. StandsFor (lane_view lane) (empty_machine (geometry_of WAYS buckets))) }
     ensures buckets { IfOk result (λ lane. length lane.cache.lists ≡ buckets) }
+    ensures pipe_places { IfOk result (λ lane. lane.pipe.places ≡ pipe_records) }
     ensures keys { IfOk result (λ lane. lane.cache.key_words ≡ length group.now.key_names) }
     ensures kind { IfOk result (λ lane. (f : TypedFold) → IsProgramOf f group.now.program
         → IsKindOf f (⟦<AnyEpochs as EpochKind>⟧.sizes lane.kind) (⟦<AnyEpochs as EpochKind>⟧.folding lane.kind) (⟦<AnyEpochs as EpochKind>⟧.open_bound lane.kind) (⟦<AnyEpochs as EpochKind>⟧.absorb_bound lane.kind)) }
@@ -50,6 +51,7 @@ pub fn made_lanes<const WAYS: usize>(
     requires places { buckets * WAYS ≤ 65536 }
     requires pipe { (0 < pipe_records) × (pipe_records ≤ 65536) }
     ensures lanes { IfOk result (λ lanes. AreLanesOf plan.now buckets (map lane_view lanes.items)) }
+    ensures pipe_places { IfOk result (λ lanes. HavePlaces pipe_records (map lane_view lanes.items)) }
     ensures stands { IfOk result (λ lanes. Each StandsFor (map lane_view lanes.items) (empty_machines (geometry_of WAYS buckets) plan.now.groups)) }
 {
     plan.known();

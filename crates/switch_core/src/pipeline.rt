@@ -9,7 +9,7 @@ ghost use Rattle.bucket_cache.specs.Caches.{list_at};
 ghost use Rattle.stage_plan.specs.Planned.{plan_bound};
 ghost use Rattle.switch_core.specs.Closing.{held_in};
 ghost use Rattle.switch_core.specs.Pipelines.{empty_machines, event_at, geometry_of, packet_events, tables_of};
-ghost use Rattle.switch_core.specs.PlanLanes.{AreLanesOf, AtLane, LaneRunsSweep, PipelineIsSwept, PipelineMakes, PipelineStands, PipelineSweeps, SweepBreaksOff, folding_at, lane_is_drained, lane_is_ready, lane_view, pipeline_cost};
+ghost use Rattle.switch_core.specs.PlanLanes.{AreLanesOf, AtLane, HavePlaces, LaneRunsSweep, PipelineIsSwept, PipelineMakes, PipelineStands, PipelineSweeps, SweepBreaksOff, folding_at, lane_is_drained, lane_is_ready, lane_view, pipeline_cost};
 
 use crate::lane::{Lane, Merged};
 use crate::lanes::{all_drained, all_ready, evict_at, merge_at, packet_lanes, sweep_lanes};
@@ -62,6 +62,7 @@ impl<const WAYS: usize> Pipeline<WAYS> {
         ensures stands { IfOk result (λ p. PipelineStands p (empty_machines (geometry_of WAYS buckets) plan.groups)) }
         ensures plan { IfOk result (λ p. p.plan ≡ plan) }
         ensures buckets { IfOk result (λ p. p.buckets ≡ buckets) }
+        ensures pipe_places { IfOk result (λ p. HavePlaces pipe_records p.lanes) }
     {
         let lanes = made_lanes(alloc, &plan, buckets, pipe_records)?;
         let registers = vec![in alloc; 0; plan.registers()]?;

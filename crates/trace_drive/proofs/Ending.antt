@@ -1,6 +1,7 @@
 -- Pipelines whose lanes are swept and whose pipes are empty.
 use Rattle.std.proofs.Common.{◌≡◌, ℕ, suc, ◌==◌, ◌&&◌, true, List, [], ◌∷◌, length, get_or, refl, ap, ◌∙◌, subst, arith}
 use Rattle.std.specs.List.{list_all, sum_by}
+use Rattle.std.proofs.lemmas.List.Elements.{All-cons, All-head, All-nil, All-tail}
 use Rattle.std.proofs.lemmas.List.Sums.{sum_by-cons}
 use Rattle.bucket_cache.specs.Buckets.{Pair}
 use Rattle.bucket_cache.specs.Caches.{list_at}
@@ -15,7 +16,7 @@ use Rattle.stage_plan.specs.declared.group.GroupPlan.{GroupPlan}
 use Rattle.switch_core.specs.Closing.{held_in, is_drained}
 use Rattle.switch_core.specs.Lanes.{PairStands, PairsStand}
 use Rattle.switch_core.specs.Pipelines.{IsLaneOf}
-use Rattle.switch_core.specs.PlanLanes.{AreLanesOf, LaneView, PipelineView, PipelineStands, StandsFor}
+use Rattle.switch_core.specs.PlanLanes.{AreLanesOf, HavePlaces, LaneView, PipelineView, PipelineStands, StandsFor, places_of}
 use Rattle.switch_core.specs.Rows.{EachFrom}
 use Rattle.trace_drive.specs.Drives.{end_machines, ends_from, uses_by}
 use Rattle.trace_drive.specs.Follows.{AlikeFrom, FollowsBy, Keeps, waiting}
@@ -97,6 +98,16 @@ each_long R k (x ∷ xs) (y ∷ ys) e = ap (λ n. suc n) (each_long R (suc k) xs
 lanes_long : (plan : PlanParts) (buckets : ℕ) (lanes : List LaneView) → AreLanesOf plan buckets lanes → length lanes ≡ length plan.groups
 lanes_long plan buckets lanes are =
     each_long (λ n (lane : LaneView) (group : GroupPlan). IsLaneOf buckets lane.cache (ghosts.sizes lane.kind) (ghosts.folding lane.kind) (ghosts.open_bound lane.kind) (ghosts.absorb_bound lane.kind) group (wiring_at plan n)) 0 lanes plan.groups are
+
+-- pipes whose places are kept have as many as before
+pub places_kept : (places : ℕ) (old new : List LaneView) → places_of new ≡ places_of old → HavePlaces places old → HavePlaces places new
+places_kept places old [] kept have = All-nil (λ (lane : LaneView). lane.pipe.places ≡ places)
+places_kept places [] (b ∷ new) kept have = absurd (cc)
+places_kept places (a ∷ old) (b ∷ new) kept have =
+    let has_places : LaneView → Type 0 = λ lane. lane.pipe.places ≡ places in
+    let same : b.pipe.places ≡ a.pipe.places = cc in
+    let rest : places_of new ≡ places_of old = cc in
+    All-cons has_places b new (same ∙ All-head has_places a old have) (places_kept places old new rest (All-tail has_places a old have))
 
 -- the pipeline of a plan, once all packets are taken, all lanes swept and all pipes empty
 pub whole_trace : SweepsReachTheEnd → (g : Geometry) (plan : PlanParts) (words : List (List ℕ)) (count : ℕ) (start took done : PipelineView) → start.plan ≡ plan → start.buckets ≡ g.buckets → count ≡ length words

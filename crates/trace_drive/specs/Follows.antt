@@ -2,7 +2,7 @@
 use Rattle.std.specs.Prelude.{◌≡◌, ℕ, zero, suc, List, [], ◌∷◌, length}
 use Rattle.epoch_model.specs.Laws.{SameEpochs}
 use Rattle.epoch_model.specs.Machine.{Machine}
-use Rattle.switch_core.specs.PlanLanes.{LaneView, PipelineStands, PipelineView}
+use Rattle.switch_core.specs.PlanLanes.{LaneView, PipelineStands, PipelineView, places_of}
 
 -- the machines have the epochs of those with the numbers from this one on
 abbrev pub AlikeFrom : (ℕ → Machine) → ℕ → List Machine → Type 0
@@ -15,11 +15,12 @@ pub record FollowsBy (after : ℕ → Machine) (pipeline : PipelineView) : Type 
   pub stands : PipelineStands pipeline machines
   pub alike : AlikeFrom after 0 machines
 
--- The plan, the number of buckets and the number of lanes are as they were.
+-- The plan, the number of buckets, the number of lanes and the places of each lane's pipe are as they were.
 pub record Keeps (old new : PipelineView) : Type 0 where
   pub plan : new.plan ≡ old.plan
   pub buckets : new.buckets ≡ old.buckets
   pub lanes : length new.lanes ≡ length old.lanes
+  pub places : places_of new.lanes ≡ places_of old.lanes
 
 -- how many records wait in the pipe of a lane
 abbrev pub waiting : List LaneView → ℕ → ℕ

@@ -4,7 +4,7 @@ ghost use Rattle.std.specs.Prelude.{◌≡◌, ◌*◌, ◌<◌, ◌≤◌, ◌=
 ghost use Rattle.std.specs.List.{list_all};
 ghost use Rattle.epoch_model.specs.Machine.{Machine, after_packets, empty_buckets, empty_machine};
 ghost use Rattle.switch_core.specs.Closing.{is_drained};
-ghost use Rattle.switch_core.specs.PlanLanes.{PipelineStands};
+ghost use Rattle.switch_core.specs.PlanLanes.{HavePlaces, PipelineStands};
 ghost use Rattle.trace_drive.specs.Drives.{coming, end_machines, fault_of, geometry_for, uses_by, words_of};
 ghost use Rattle.trace_drive.specs.Follows.{FollowsBy, Keeps, waiting};
 ghost use Rattle.trace_reader.specs.Faults.{IfRefused};
@@ -89,6 +89,7 @@ pub fn drive<const WAYS: usize, L: Ledger>(
     ensures drained { IfOk result (λ pipeline. list_all (λ lane. is_drained lane.cache lane.pipe) pipeline.lanes ≡ true) }
     ensures plan { IfOk result (λ pipeline. pipeline.plan ≡ plan) }
     ensures buckets { IfOk result (λ pipeline. pipeline.buckets ≡ schedule.buckets) }
+    ensures pipe_places { IfOk result (λ pipeline. HavePlaces schedule.pipe pipeline.lanes) }
     ensures refused { IfErr result (λ answer. IfRefused answer (λ fault. fault_of packets.entry ≡ Some fault)) }
     ensures steps { steps.old ≤ steps.new }
 {

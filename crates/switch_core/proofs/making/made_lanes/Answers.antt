@@ -1,13 +1,14 @@
 use Rattle.std.proofs.Common.{◌≡◌, ◌+◌, ◌++◌, [], ◌∷◌, length, map, take, sym, ap, ◌∙◌, subst, arith, lit<, ℕ}
 use Rattle.std.proofs.lemmas.List.{length-take-le}
 use Rattle.std.proofs.lemmas.List.{map-append}
+use Rattle.std.proofs.lemmas.List.Elements.{All-append, All-cons, All-nil}
 use Rattle.epoch_model.specs.Machine.{empty_machine}
 use Rattle.epoch_entry.specs.contracts.any.AnyEpochsEpochKind.TheImpl.{ghosts}
 use Rattle.stage_plan.specs.declared.group.GroupPlan.{GroupPlan}
 use Rattle.stage_plan.specs.Planned.{wiring_at}
 use Rattle.switch_core.specs.Rows.{Each, EachFrom}
 use Rattle.switch_core.specs.Pipelines.{IsLaneOf, empty_machines, geometry_of}
-use Rattle.switch_core.specs.PlanLanes.{LaneView, StandsFor, lane_view}
+use Rattle.switch_core.specs.PlanLanes.{HavePlaces, LaneView, StandsFor, lane_view}
 use Rattle.switch_core.proofs.SideBySide.{got_below, each_long}
 use Rattle.switch_core.proofs.LanesMade.{each_push, take_next, empties_push, group_sound, lane_made}
 use Rattle.switch_core.proofs.making.made_lanes.Goals as goal
@@ -32,9 +33,12 @@ loop-i-preserved g c =
     let R : ℕ → LaneView → GroupPlan → Type 0 = λ n l x. IsLaneOf c.args.buckets l.cache (ghosts.sizes l.kind) (ghosts.folding l.kind) (ghosts.open_bound l.kind) (ghosts.absorb_bound l.kind) x (wiring_at plan n) in
     let empties : empty_machines (geometry_of g.row.WAYS c.args.buckets) (take (i + 1) plan.groups) ≡ empty_machines (geometry_of g.row.WAYS c.args.buckets) (take i plan.groups) ++ empty_machine (geometry_of g.row.WAYS c.args.buckets) ∷ [] =
     ap (empty_machines (geometry_of g.row.WAYS c.args.buckets)) more ∙ empties_push (geometry_of g.row.WAYS c.args.buckets) (take i plan.groups) group in
+    let has_places : LaneView → Type 0 = λ l. l.pipe.places ≡ c.args.pipe_records in
     record {
       lanes = subst (λ ls. EachFrom R 0 ls (take (i + 1) plan.groups)) (sym pushed) (subst (λ gs. EachFrom R 0 (lanes ++ lane ∷ []) gs) (sym more)
           (each_push R 0 lanes (take i plan.groups) lane group c.loop-i.invariant.lanes (λ n q. let is : i ≡ n = omega arith in subst (λ k. R k lane group) is own)));
+      pipe_places = subst (HavePlaces c.args.pipe_records) (sym pushed)
+          (All-append has_places lanes (lane ∷ []) c.loop-i.invariant.pipe_places (All-cons has_places lane [] made.pipe_places (All-nil has_places)));
       stands = subst (λ ls. Each StandsFor ls (empty_machines (geometry_of g.row.WAYS c.args.buckets) (take (i + 1) plan.groups))) (sym pushed)
           (subst (λ ms. Each StandsFor (lanes ++ lane ∷ []) ms) (sym empties)
           (each_push (λ n. StandsFor) 0 lanes (empty_machines (geometry_of g.row.WAYS c.args.buckets) (take i plan.groups)) lane (empty_machine (geometry_of g.row.WAYS c.args.buckets)) c.loop-i.invariant.stands (λ n q. made.stands)));

@@ -1,10 +1,10 @@
-use Rattle.std.proofs.Common.{ℕ, length, sym, lit<}
+use Rattle.std.proofs.Common.{ℕ, length, sym, ◌∙◌, lit<}
 use Rattle.std.proofs.lemmas.List.{length-map}
 use Rattle.epoch_model.specs.Machine.{after_packets}
 use Rattle.marple_base.specs.declared.field.Packet.{Packet}
 use Rattle.switch_core.specs.Pipelines.{geometry_of}
 use Rattle.trace_drive.specs.Drives.{coming, geometry_for, uses_by, words_of}
-use Rattle.trace_drive.proofs.Ending.{whole_trace}
+use Rattle.trace_drive.proofs.Ending.{places_kept, whole_trace}
 use Rattle.trace_drive.proofs.Following.{start_follows}
 use Rattle.trace_drive.proofs.driving.drive.Goals as goal
 
@@ -33,3 +33,7 @@ returns-in-Ok-finish-clause-drained g c =
     (whole_trace c.sweeps_reach_the_end.ensures geometry c.args.plan words (length all) start took c.finish.new.pipeline c.in-Ok.ensures.plan c.in-Ok.ensures.buckets (sym (length-map all (λ (p : Packet). p.words)))
     c.in_ok-take_packets.ensures.keeps c.in-Ok-finish.ensures.keeps c.known.ensures
     (c.in-Ok-finish.ensures.follows (λ (i : ℕ). after_packets geometry (uses_by start.plan i words) (length all)) c.in_ok-take_packets.ensures.follows) c.in-Ok-finish.ensures.empty).1
+
+pub returns-in-Ok-finish-clause-pipe_places : goal.returns-in-Ok-finish-clause-pipe_places
+returns-in-Ok-finish-clause-pipe_places g c =
+    places_kept c.args.schedule.pipe c.in-Ok.pipeline.lanes c.finish.new.pipeline.lanes (c.in-Ok-finish.ensures.keeps.places ∙ c.in_ok-take_packets.ensures.keeps.places) c.in-Ok.ensures.pipe_places
