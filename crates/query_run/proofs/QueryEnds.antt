@@ -1,5 +1,5 @@
 -- The machines of a plan at the end of a trace, groupby by groupby, and the tables that they give.
-use Rattle.std.proofs.Common.{◌≡◌, ℕ, zero, suc, ◌+◌, ◌<◌, ◌≤◌, List, [], ◌∷◌, ◌++◌, Option, Some, None, length, map, drop, get_or, refl, sym, ap, ◌∙◌, subst, arith}
+use Rattle.std.proofs.Common.{◌≡◌, ℕ, zero, suc, ◌<◌, List, [], ◌∷◌, ◌++◌, Some, None, length, map, drop, get_or, refl, sym, ap, ◌∙◌, subst, arith}
 use Rattle.std.specs.List.{All, slice_get}
 use Rattle.std.proofs.lemmas.List.{length-map}
 use Rattle.std.proofs.lemmas.List.Elements.{All-nil, All-cons}
@@ -8,21 +8,20 @@ use Rattle.query_lang.specs.declared.typed.TypedOp.{TypedOp}
 use Rattle.query_lang.specs.declared.typed.TypedOp.TheVariants as op
 use Rattle.query_lang.specs.declared.typed.TypedQuery.{TypedQuery}
 use Rattle.query_lang.specs.declared.typed.TypedStream.{TypedStream}
-use Rattle.query_lang.specs.Streams.{Taking, takings, taking_of}
+use Rattle.query_lang.specs.Streams.{Taking, takings}
 use Rattle.query_lang.specs.TypedQueries.{IsValidQuery, AreValidStreams, IsValidOp}
 use Rattle.query_types.specs.Uses.{uses}
 use Rattle.epoch_model.specs.Driving.{TakenUsesAreInTrace}
 use Rattle.epoch_model.specs.Epochs.{Geometry}
 use Rattle.epoch_model.specs.Laws.{HasRoom, IsInTrace}
-use Rattle.epoch_model.specs.Machine.{Machine, end_of}
-use Rattle.epoch_model.specs.Tables.{Folding, folded}
-use Rattle.epoch_entry.specs.Foldings.{IsKindOf, folding_of}
+use Rattle.epoch_model.specs.Machine.{end_of}
+use Rattle.epoch_entry.specs.Foldings.{folding_of}
 use Rattle.final_queries.specs.declared.table.Table.{Table}
 use Rattle.final_queries.specs.FinalLaws.{AreAlike, AlikeFoldingsMakeOneTable}
 use Rattle.final_queries.specs.GroupTable.{ClosedGiveTheGroupTable, closed_table, group_table}
 use Rattle.stage_plan.specs.declared.group.GroupPlan.{GroupPlan}
 use Rattle.stage_plan.specs.Planned.{IsPlanOf, fold_at, taken, wiring_at}
-use Rattle.stage_plan.specs.Shape.{GroupShape, group_shape, query_groups}
+use Rattle.stage_plan.specs.Shape.{group_shape}
 use Rattle.stage_plan.specs.Sound.{PlanParts}
 use Rattle.switch_core.specs.Pipelines.{IsLaneOf, heading_of, tables_of}
 use Rattle.switch_core.specs.PlanLanes.{LaneView, AreLanesOf, folding_at}

@@ -1,6 +1,5 @@
-use Rattle.std.proofs.Common.{◌≡◌, ℕ, List, sym, ap, ◌∙◌, subst, map}
+use Rattle.std.proofs.Common.{sym, ap, ◌∙◌, subst, map}
 use Rattle.std.specs.List.{All}
-use Rattle.epoch_model.specs.Epochs.{Geometry}
 use Rattle.final_queries.specs.Finals.{IsTable, table_shape}
 use Rattle.trace_drive.specs.Drives.{end_machines}
 use Rattle.query_run.proofs.QueryEnds.{text_is}
