@@ -38,6 +38,7 @@ pub fn run_over_trace<L: Ledger>(
     requires plan { IsPlanOf query.typed query.plan }
     ensures accepted { IfOk result (λ found. trace_fault bytes.now (reads_of query.typed) ≡ None) }
     ensures text { IfOk result (λ found. found.text ≡ query_text query.typed (geometry_of setting) (words_of (packets bytes.now (reads_of query.typed)))) }
+    ensures plan { IfOk result (λ found. IsPlanOf query.typed (pipeline_in found.driven).plan) }
     ensures left { IfOk result (λ found. IsLeftBy setting found.driven) }
     ensures stands { IfOk result (λ found. PipelineStands (pipeline_in found.driven) (query_ends query.typed (geometry_of setting) (words_of (packets bytes.now (reads_of query.typed))))) }
     ensures refused { IfErr result (λ answer. IfRefused answer (λ fault. trace_fault bytes.now (reads_of query.typed) ≡ Some fault)) }
@@ -61,6 +62,7 @@ pub fn run_over_made<L: Ledger>(
     requires plan { IsPlanOf query.typed query.plan }
     requires whole { AreWhole (words_of made) }
     ensures text { IfOk result (λ found. found.text ≡ query_text query.typed (geometry_of setting) (words_of made)) }
+    ensures plan { IfOk result (λ found. IsPlanOf query.typed (pipeline_in found.driven).plan) }
     ensures left { IfOk result (λ found. IsLeftBy setting found.driven) }
     ensures stands { IfOk result (λ found. PipelineStands (pipeline_in found.driven) (query_ends query.typed (geometry_of setting) (words_of made))) }
     ensures steps { steps.old ≤ steps.new }

@@ -52,6 +52,7 @@ pub(crate) fn run_with_its_ways<L: Ledger>(
     requires whole { AreWhole (words_of (coming packets)) }
     ensures accepted { IfOk result (λ found. fault_of packets.entry ≡ None) }
     ensures text { IfOk result (λ found. found.text ≡ query_text query.typed (geometry_of setting) (words_of (coming packets.entry))) }
+    ensures plan { IfOk result (λ found. IsPlanOf query.typed (pipeline_in found.driven).plan) }
     ensures left { IfOk result (λ found. IsLeftBy setting found.driven) }
     ensures stands { IfOk result (λ found. PipelineStands (pipeline_in found.driven) (query_ends query.typed (geometry_of setting) (words_of (coming packets.entry)))) }
     ensures refused { IfErr result (λ answer. IfRefused answer (λ fault. fault_of packets.entry ≡ Some fault)) }

@@ -72,6 +72,7 @@ pub fn run_query<const WAYS: usize, L: Ledger>(
     requires whole { AreWhole (words_of (coming packets)) }
     ensures accepted { IfOk result (λ found. fault_of packets.entry ≡ None) }
     ensures text { IfOk result (λ found. found.text ≡ query_text typed.now (geometry_for WAYS schedule) (words_of (coming packets.entry))) }
+    ensures plan { IfOk result (λ found. IsPlanOf typed.now found.pipeline.plan) }
     ensures machines { IfOk result (λ found. PipelineStands found.pipeline (query_ends typed.now (geometry_for WAYS schedule) (words_of (coming packets.entry)))) }
     ensures drained { IfOk result (λ found. list_all lane_is_drained found.pipeline.lanes ≡ true) }
     ensures buckets { IfOk result (λ found. found.pipeline.buckets ≡ schedule.buckets) }
