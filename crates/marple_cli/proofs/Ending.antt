@@ -11,6 +11,7 @@ use Rattle.std.proofs.lemmas.Bool.{true≢false}
 use Rattle.std.proofs.lemmas.Grind.{common_steps}
 use Rattle.query_lang.specs.declared.typed.TypedQuery.{TypedQuery}
 use Rattle.stage_plan.specs.Fields.{reads_of}
+use Rattle.stage_plan.specs.Planned.{IsPlanOf}
 use Rattle.stage_plan.specs.Shape.{query_shape, plan_text_of}
 use Rattle.trace_reader.specs.Traces as traces
 use Rattle.trace_drive.specs.Drives.{words_of}
@@ -131,14 +132,14 @@ module _ {O : Type 0} (taken : O → Option (List ℕ)) (faults : O → ℕ) (se
             ∙ sym (ap (λ read. tables_text setting read (read_packets trace)) read),
       )
 
-  pub run_is_driven : (driven : Driven) → IsLeftBy setting driven
+  pub run_is_driven : (driven : Driven) → IsLeftBy setting driven → IsPlanOf found (pipeline_in driven).plan
       → IfSome (before Trace).left (λ trace. PipelineStands (pipeline_in driven) (query_ends found (geometry_of setting) (words_of (traces.packets trace (reads_of found)))))
       → IsDriven setting (Some driven) (λ p. ToldOf (Run setting) before (λ query trace. StandsForEnd setting (accepted query) (read_packets trace) p))
-  run_is_driven driven left stands = (
+  run_is_driven driven left plan stands = (
     left,
     λ query trace holds.
         subst (λ read. StandsForEnd setting read (read_packets trace) (pipeline_in driven)) (sym (told (λ query. accepted query ≡ Ok found) (before Query).left query known (holds.of_query refl)))
-        (told (λ trace. PipelineStands (pipeline_in driven) (query_ends found (geometry_of setting) (words_of (traces.packets trace (reads_of found))))) (before Trace).left trace stands (holds.of_trace refl)),
+        (plan, told (λ trace. PipelineStands (pipeline_in driven) (query_ends found (geometry_of setting) (words_of (traces.packets trace (reads_of found))))) (before Trace).left trace stands (holds.of_trace refl)),
   )
 
 -- a plan whose query was accepted

@@ -5,6 +5,7 @@ use Rattle.query_lang.specs.Checks.{Checked}
 use Rattle.marple_base.specs.Inputs.{Input}
 use Rattle.marple_base.specs.declared.field.Packet.{Packet}
 use Rattle.marple_base.specs.declared.inputs.Which.{Which}
+use Rattle.stage_plan.specs.Planned.{IsPlanOf}
 use Rattle.switch_core.specs.PlanLanes.{PipelineView, PipelineStands}
 use Rattle.query_run.specs.Runs.{query_ends}
 use Rattle.trace_drive.specs.Drives.{words_of}
@@ -20,9 +21,9 @@ use Rattle.marple_cli.specs.Call.{ToldOf}
 use Rattle.marple_cli.specs.Output.{read_packets, made_packets}
 use Rattle.marple_cli.specs.TrialQuery.{trial_query}
 
--- the pipeline stands for the machines of the query's groupbys at the end of these packets
+-- the pipeline is of a plan of the query, and stands for the machines of the query's groupbys at the end of these packets
 abbrev pub StandsForEnd : Setting → Checked TypedQuery → (TypedQuery → List Packet) → PipelineView → Type 0
-StandsForEnd setting (Ok q) packets p = PipelineStands p (query_ends q (geometry_of setting) (words_of (packets q)))
+StandsForEnd setting (Ok q) packets p = IsPlanOf q p.plan × PipelineStands p (query_ends q (geometry_of setting) (words_of (packets q)))
 StandsForEnd setting (Err fault) packets p = ⊥
 
 -- The working parts of a run are there, in the variant of its ways and with the setting's sizes: they are empty, and this holds of their pipeline.

@@ -43,6 +43,7 @@ pub fn tables_of_trace<I: Inputs, L: Ledger>(
     requires closed { IsClosed (I.input inputs.old Which.Trace) }
     ensures accepted { IfOk result (λ found. IfSome (I.input inputs.old Which.Trace).left (λ trace. trace_fault trace (reads_of query.typed) ≡ None)) }
     ensures text { IfOk result (λ found. IfSome (I.input inputs.old Which.Trace).left (λ trace. found.text ≡ query_text query.typed (geometry_of setting) (words_of (packets trace (reads_of query.typed))))) }
+    ensures plan { IfOk result (λ found. IsPlanOf query.typed (pipeline_in found.driven).plan) }
     ensures left { IfOk result (λ found. IsLeftBy setting found.driven) }
     ensures stands { IfOk result (λ found. IfSome (I.input inputs.old Which.Trace).left (λ trace.
         PipelineStands (pipeline_in found.driven) (query_ends query.typed (geometry_of setting) (words_of (packets trace (reads_of query.typed)))))) }

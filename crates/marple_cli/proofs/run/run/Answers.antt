@@ -70,5 +70,5 @@ pub returns-clause-driven : goal.returns-clause-driven
 returns-clause-driven g c =
     let query = c.in_ok-query.query.typed in
     run_is_driven g.O.Sink.taken g.O.Sink.faults c.args.setting (g.I.Inputs.input c.args.inputs.now) (g.I.Inputs.input c.tables_of_trace.new.inputs) c.args.out.now query c.in_ok-query.ensures.ok
-    c.in_ok-found.found.driven c.in_ok-found.ensures.left
+    c.in_ok-found.found.driven c.in_ok-found.ensures.left c.in_ok-found.ensures.plan
     (subst (λ trace. IfSome trace.left (λ bytes. PipelineStands (pipeline_in c.in_ok-found.found.driven) (query_ends query (geometry_of c.args.setting) (words_of (packets bytes (reads_of query)))))) c.in_ok-query.ensures.trace_kept c.in_ok-found.ensures.stands)
