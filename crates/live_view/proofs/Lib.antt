@@ -1,0 +1,4 @@
+mod Lists
+mod Emptied
+mod Prefixes
+mod Seen
