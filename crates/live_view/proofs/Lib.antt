@@ -2,3 +2,5 @@ mod Lists
 mod Emptied
 mod Prefixes
 mod Seen
+mod Standing
+mod Lanes

@@ -2,6 +2,10 @@
 //! they are.
 #![tactic(auto)]
 
+mod lane;
 mod laws;
+mod merging;
+mod tables;
 
 pub use laws::{row_lists_are_seen, views_end_the_trace};
+pub use tables::{view, view_lane};

@@ -1,0 +1,48 @@
+use Rattle.std.proofs.Common.{◌≡◌, [], ◌∷◌, ◌++◌, Some, length, map, take, sym, ap, ◌∙◌, subst, arith, lit<}
+use Rattle.std.specs.Prelude.{slice_get}
+use Rattle.stage_plan.specs.Sound.{IsSoundPlan}
+use Rattle.switch_core.specs.PlanLanes.{StandsFor, folding_at, lane_view}
+use Rattle.live_view.specs.Views.{tables_seen}
+use Rattle.live_view.proofs.Lanes.{each_long, each_at, lane_fits, seen_next, seen_whole}
+use Rattle.live_view.proofs.tables.view.Goals as goal
+
+pub group-requires : goal.group-requires
+group-requires g c =
+    let p = c.args.p.now in
+    let long = each_long _ 0 p.lanes p.plan.groups c.known.ensures in
+    let same = ap (λ x. length x.groups) c.plan-plan.ensures in
+    let below = c.loop-i-test.true in
+    let lanes = c.lanes-i-end.ensures in
+    omega arith
+
+pub view_lane-requires : goal.view_lane-requires
+view_lane-requires g c =
+    let p = c.args.p.now in
+    let i = c.loop-i.i in
+    let lane = lane_view c.lane.result.now in
+    let at : slice_get p.plan.groups i ≡ Some c.group.result.now = ap (λ x. slice_get x.groups i) (sym c.plan-plan.ensures) ∙ c.group.ensures in
+    let fits = lane_fits p.plan p.buckets i p.lanes c.group.result.now lane c.entries_are_small.ensures (subst IsSoundPlan c.plan-plan.ensures c.known-2.ensures) c.known.ensures at c.lane.ensures in
+    (lit< tt, (sym fits.keys, fits.small))
+
+pub loop-i-preserved : goal.loop-i-preserved
+loop-i-preserved g c =
+    let p = c.args.p.now in
+    let i = c.loop-i.i in
+    let lane = lane_view c.lane.result.now in
+    let at : slice_get p.plan.groups i ≡ Some c.group.result.now = ap (λ x. slice_get x.groups i) (sym c.plan-plan.ensures) ∙ c.group.ensures in
+    record {
+      tables = λ machines stand.
+          let found = each_at (λ n. StandsFor) 0 i p.lanes machines lane stand c.lane.ensures in
+          let table = c.in_ok-view_lane.ensures.table found.0 (found.2 i (omega arith)) in
+          let next = seen_next p.plan.groups p.lanes machines i c.group.result.now lane found.0 at c.lane.ensures found.1 in
+          c.in_ok-push.ensures.ok ∙ (ap (λ ts. ts ++ c.in_ok-view_lane.field-0 ∷ []) (c.loop-i.invariant.tables machines stand)
+          ∙ (ap (λ t. take i (tables_seen p.plan.groups (map folding_at p.lanes) machines) ++ t ∷ []) table ∙ sym next));
+      at_least = let a = c.view_lane.ensures.at_least in let b = c.loop-i.invariant.at_least in omega arith;
+    }
+
+pub returns-clause-tables : goal.returns-clause-tables
+returns-clause-tables g c machines stand =
+    let p = c.args.p.now in
+    let end = c.loop-i-test.false in
+    let lanes = c.lanes-i-end.ensures in
+    c.loop-i.invariant.tables machines stand ∙ seen_whole p.plan.groups p.lanes machines c.loop-i.i (omega arith)
