@@ -1,5 +1,5 @@
 -- What a fold asks of a kind of entries: what its rows are folded to, and how many words and steps it may take.
-use Rattle.std.specs.Prelude.{◌≡◌, ℕ, ◌+◌, ◌*◌, ◌≤◌, Bool, true, false, List, fold}
+use Rattle.std.specs.Prelude.{◌≡◌, ℕ, ◌+◌, ◌*◌, ◌≤◌, Bool, true, false, List, fold, length}
 use Rattle.query_lang.specs.declared.fold.TypedFold.{TypedFold}
 use Rattle.query_lang.specs.declared.typed.Class.{Class}
 use Rattle.query_lang.specs.declared.typed.Class.TheVariants.{Linear}
@@ -30,13 +30,14 @@ abbrev pub absorb_bound : TypedFold → ℕ
 absorb_bound f =
     (fold_states f + 1) * (f.nodes + 4 * f.statements + 1) + fold_states f * fold_states f * (fold_states f + 1) + 4 * entry_bound f
 
--- A kind of entries is a fold's: its sizes, what its entries are folded to, and its bounds on steps.
+-- A kind of entries is a fold's: its sizes, its step, which is the fold's body, what its entries are folded to, and its bounds on steps.
 pub record IsKindOf (f : TypedFold) (sizes : Sizes) (folding : Folding) (opening absorbing : ℕ) : Type 0 where
   pub args : sizes.args ≡ fold_args f
   pub state : sizes.state ≡ fold_states f
   pub entry : sizes.entry ≤ entry_bound f
   pub initial : folding.initial ≡ initial_state f
   pub row_per_epoch : folding.row_per_epoch ≡ per_epoch (class_of f)
+  pub step : (state row : List ℕ) → length state ≡ fold_states f → folding.step state row ≡ body f state row
   pub folded : (rows : List ArgRow) → fold folding.step folding.initial rows ≡ folded f (initial_state f) rows
   pub «open» : opening ≤ entry_bound f
   pub absorb : absorbing ≤ absorb_bound f
