@@ -1,7 +1,6 @@
 //! The epochs of a pipe and of a cache, merged into a store behind those that it holds.
 
 ghost use Rattle.std.specs.Prelude.{◌≡◌, ◌+◌, ◌<◌, ◌≤◌, List, [], ◌∷◌, ◌++◌, length, reverse, OnOk};
-ghost use Rattle.epoch_model.specs.Keys.{ArgRow};
 ghost use Rattle.epoch_model.specs.Machine.{Epoch, Machine};
 ghost use Rattle.bucket_cache.specs.Caches.{IsSoundCache, list_at};
 ghost use Rattle.merged_epochs.specs.Merged.{StoreHolds};
@@ -14,37 +13,9 @@ use bucket_cache::BucketCache;
 use epoch_entry::EpochKind;
 use evict_pipe::EvictPipe;
 use marple_base::Steps;
-use merged_epochs::merged_epochs_are_held;
 use std::alloc::AllocError;
 use std::sync::ledger::Ledger;
-
-// An epoch's entry goes into its key's state, or into a new one where each epoch has a row.
-fn merge_entry<K: EpochKind, L: Ledger>(
-    kind: &K,
-    store: &mut BackingStore,
-    key: &[u64],
-    entry: &[u64],
-    initial: &[u64],
-    scratch: &mut [u64],
-    steps: &mut Steps<L>,
-) -> Result<(), AllocError>
-    requires fits { FitsKind (K.sizes kind.now) (K.folding kind.now) store.old initial.now scratch.old }
-    requires key { length key.now ≡ store.old.key_words }
-    requires entry { length entry.now ≡ (K.sizes kind.now).entry }
-    ensures held { OnOk result ((rows : List ArgRow) (epochs : List Epoch) → K.stands kind.now entry.now rows
-        → StoreHolds (K.folding kind.now) store.old epochs → StoreHolds (K.folding kind.now) store.new (epochs ++ record { key = key.now; rows = rows } ∷ [])) }
-    ensures key_words { store.new.key_words ≡ store.old.key_words }
-    ensures state_words { store.new.state_words ≡ store.old.state_words }
-    ensures at_least { steps.old ≤ steps.new }
-{
-    merged_epochs_are_held();
-    store.known();
-    let place = store.row_for(key, initial, kind.row_per_epoch())?;
-    store.known();
-    let state = store.row_mut(place);
-    kind.merge(entry, state, scratch, steps);
-    Ok(())
-}
+use switch_core::merge_entry;
 
 /// Merges the records of a pipe, the oldest first. The pipe stays as it is.
 pub fn merge_pipe<K: EpochKind, L: Ledger>(

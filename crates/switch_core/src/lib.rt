@@ -16,4 +16,5 @@ mod tables;
 
 pub use lane::{Lane, Merged};
 pub use laws::tables_are_of_folds;
+pub use merging::merge_entry;
 pub use pipeline::Pipeline;

@@ -44,7 +44,7 @@ loop-i-preserved g c =
           let e = found.1 in
           let key = c.key-key.ensures.key c.args.bucket (i - 1) found.0 found.2 found.3 ∙ found.4.0 in
           let stood : stands c.entry-entry.result.now e.rows = subst (λ ws. stands ws e.rows) (sym (c.entry-entry.ensures.words ∙ ap (entry_at cache) (sym found.3))) found.4.1 in
-          let merged = c.in_ok-merge_entry.ensures.held e.rows (epochs ++ reverse (drop i opened)) stood (c.loop-i.invariant.held opened epochs stand holds) in
+          let merged = c.in_ok-merge_entry.ensures.ok e.rows (epochs ++ reverse (drop i opened)) stood (c.loop-i.invariant.held opened epochs stand holds) in
           subst (StoreHolds f c.merge_entry.new.store) (one_before epochs opened i (i - 1) e c.key-key.result.now key (found.5 ∙ ap (λ n. e ∷ drop n opened) back)) merged;
       key_words = c.merge_entry.ensures.key_words ∙ c.loop-i.invariant.key_words;
       state_words = c.merge_entry.ensures.state_words ∙ c.loop-i.invariant.state_words;

@@ -25,7 +25,7 @@ loop-i-preserved g c =
           let key : c.split_at.result.0.now ≡ e.key = c.split_at.ensures.front ∙ (front ∙ found.2.0) in
           let entry : c.split_at.result.1.now ≡ drop first.key_words (get_or records i []) = c.split_at.ensures.back ∙ back in
           let stood : stands c.split_at.result.1.now e.rows = subst (λ ws. stands ws e.rows) (sym entry) found.2.1 in
-          let merged = c.in_ok-merge_entry.ensures.held e.rows (epochs ++ take i waiting) stood (c.loop-i.invariant.held waiting epochs stand holds) in
+          let merged = c.in_ok-merge_entry.ensures.ok e.rows (epochs ++ take i waiting) stood (c.loop-i.invariant.held waiting epochs stand holds) in
           subst (StoreHolds f c.merge_entry.new.store) (one_behind epochs waiting i e c.split_at.result.0.now key found.1) merged;
       key_words = c.merge_entry.ensures.key_words ∙ c.loop-i.invariant.key_words;
       state_words = c.merge_entry.ensures.state_words ∙ c.loop-i.invariant.state_words;
