@@ -3,7 +3,7 @@
 ghost use Rattle.std.specs.Prelude.{◌≡◌, ◌+◌, ◌*◌, ◌^◌, ◌==◌, ◌<◌, ◌≤◌, ◌∷◌, [], drop, length, take, IfNone, IfSome, MatchOption};
 ghost use Rattle.std.specs.List.{slice_split};
 ghost use Rattle.trace_reader.specs.Numbers as Numbers;
-ghost use Rattle.trace_reader.specs.Numbers.{decimal_word, is_dot, octet_word, quad_word, without_blanks, without_first_blanks, without_last_blanks, word_of};
+ghost use Rattle.trace_reader.specs.Numbers.{decimal_word, is_dot, number_in, octet_word, quad_word, without_blanks, without_first_blanks, without_last_blanks, word_of};
 
 use marple_base::Field;
 
@@ -57,24 +57,40 @@ fn with_digit(number: u64, digit: u64) -> Option<u64>
     number.checked_mul(10)?.checked_add(digit)
 }
 
-// A number of 1 to 20 digits.
+// A number of 1 to 19 digits, which always fits.
+fn digits(text: &[u8]) -> Option<u64>
+    requires some { 0 < length text.now }
+    requires few { length text.now ≤ 19 }
+    ensures { result ≡ number_in 19 (10 ^ 19) text.now }
+{
+    let mut number = 0u64;
+    for byte in text {
+        if !byte.is_ascii_digit() {
+            return None;
+        }
+        number = number * 10 + u64::from(*byte - b'0');
+    }
+    Some(number)
+}
+
+// A number of 1 to 20 digits. Only the last of 20 can pass the most that fits.
 fn decimal(text: &[u8]) -> Option<u64>
     ensures { result ≡ decimal_word text.now }
 {
     if text.is_empty() || text.len() > 20 {
         return None;
     }
-    let mut number = 0u64;
-    for byte in text {
-        if !byte.is_ascii_digit() {
-            return None;
-        }
-        let Some(next) = with_digit(number, u64::from(*byte - b'0')) else {
-            return None;
-        };
-        number = next;
+    if text.len() < 20 {
+        return digits(text);
     }
-    Some(number)
+    let Some(front) = digits(&text[..19]) else {
+        return None;
+    };
+    let last = text[19];
+    if !last.is_ascii_digit() {
+        return None;
+    }
+    with_digit(front, u64::from(last - b'0'))
 }
 
 // A number of 1 to 3 digits that is at most 255.

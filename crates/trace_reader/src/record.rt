@@ -100,8 +100,9 @@ fn words_into(
     ensures ok { OnOk result (words_of columns.now (fields_of row.now) ≡ Ok words.new) }
     ensures err { IfErr result (λ field. words_of columns.now (fields_of row.now) ≡ Err field) }
 {
+    let fields = Field::ALL;
     for i in 0..14 {
-        match word_of_field(row, Field::ALL[i], columns[i]) {
+        match word_of_field(row, fields[i], columns[i]) {
             Ok(word) => words[i] = word,
             Err(field) => return Err(field),
         }
