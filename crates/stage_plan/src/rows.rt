@@ -34,6 +34,15 @@ fn result_in(one: &PlanOp, registers: &[u64]) -> u64
     }
 }
 
+// A step for each field.
+fn tick_fields<L: Ledger>(steps: &mut Steps<L>)
+    ensures { steps.new ≡ steps.old + 14 }
+{
+    for _field in 0..14usize {
+        steps.tick();
+    }
+}
+
 // The packet's words in the first registers.
 fn fill_fields<L: Ledger>(words: &[u64], registers: &mut [u64], steps: &mut Steps<L>)
     requires words { length words.now ≡ 14 }
@@ -41,10 +50,8 @@ fn fill_fields<L: Ledger>(words: &[u64], registers: &mut [u64], steps: &mut Step
     ensures fields { take 14 registers.new ≡ words.now }
     ensures steps { steps.new ≡ steps.old + 14 }
 {
-    for at in 0..words.len() {
-        registers[at] = words[at];
-        steps.tick();
-    }
+    registers[..14].copy_from_slice(words);
+    tick_fields(steps);
 }
 
 // Each operation's result in its register, one after another: each reads only earlier registers.
