@@ -1,19 +1,18 @@
 // Finals.
 
-ghost use Rattle.std.specs.Prelude.{◌≡◌, ◌+◌, ◌++◌, [], Ok, IfOk, length, take, drop};
-ghost use Rattle.std.specs.List.{list_any};
-ghost use Rattle.query_lang.specs.Checks.{is_among};
+ghost use Rattle.std.specs.Prelude.{◌≡◌, ◌+◌, ◌++◌, [], Ok, IfOk, length};
 ghost use Rattle.query_lang.specs.TypedExprs.{condition_of, slot_of};
 ghost use Rattle.query_lang.specs.TypedStreams.{new_columns, no_new_columns, keys_checked, arguments_of};
-ghost use Rattle.query_lang.specs.TypedFinals.{table_number, five_fields, final_filter, final_map, final_group, same_names, key_columns, other_columns, final_join, final_top, made_final, with_final, final_checked};
+ghost use Rattle.query_lang.specs.TypedFinals.{table_number, five_fields, final_filter, final_map, final_group, final_join, final_top, made_final, with_final, final_checked};
 ghost use Rattle.query_types.specs.Answers.{Answers, Leaves};
 ghost use Rattle.query_types.specs.MadeFinals.{with_values, with_table_keys, with_others, with_kept};
 
 use crate::answer::{CheckAnswer, fault};
 use crate::columns::{check_arguments, check_columns, check_keys};
 use crate::copies::{copy_words, names_of_both};
-use crate::exprs::{check_condition, find_slot, has_name, slot_number};
+use crate::exprs::{check_condition, find_slot, slot_number};
 use crate::streams::key_count;
+use crate::tables::{number_of_table, others_clash, others_of, same_keys};
 use crate::views::{check_binding, find_quiet_fold, find_table};
 use marple_base::Seq;
 use query_lang::typing::{
@@ -24,16 +23,6 @@ use query_lang::{
     TypedFinalOp,
 };
 use std::alloc::{AllocError, Global};
-
-// The number of a table, where the query has so many groupbys.
-fn number_of_table(groups: u16, place: PrintOf) -> Result<u16, CheckAnswer>
-    ensures { Answers result (Ok (table_number groups place)) }
-{
-    match place {
-        PrintOf::Group(number) => Ok(number),
-        PrintOf::Final(number) => slot_number(usize::from(groups) + usize::from(number)),
-    }
-}
 
 // A filter: it keeps the columns of its input.
 fn made_filter(
@@ -202,53 +191,6 @@ fn check_group(
     let arguments = table_arguments(alloc, source, &picked, f, fold_name)?;
     let made = made_group(alloc, given.groups, source, picked, f, arguments)?;
     Ok(made)
-}
-
-// The columns of a table that are its keys.
-fn keys_of(table: &TableView) -> &[u32]
-    ensures { result.now ≡ key_columns table.now }
-{
-    let all = table.columns.as_slice();
-    let keys = usize::from(table.keys);
-    if keys <= all.len() { &all[..keys] } else { all }
-}
-
-// The columns of a table behind its keys.
-fn others_of(table: &TableView) -> &[u32]
-    ensures { result.now ≡ other_columns table.now }
-{
-    let all = table.columns.as_slice();
-    let keys = usize::from(table.keys);
-    if keys <= all.len() { &all[keys..] } else { &[] }
-}
-
-// Have two tables keys of the same names in the same order?
-fn same_keys(left: &TableView, right: &TableView) -> bool
-    ensures { result ≡ same_names (key_columns left.now) (key_columns right.now) }
-{
-    let first = keys_of(left);
-    let second = keys_of(right);
-    first == second
-}
-
-// Is some name among these?
-fn has_common(others: &[u32], columns: &[u32]) -> bool
-    ensures { result ≡ list_any (λ name. is_among name columns.now) others.now }
-{
-    for name in others {
-        if has_name(columns, *name) {
-            return true;
-        }
-    }
-    false
-}
-
-// Has the left a column of the right that isn't a key there?
-fn others_clash(left: &TableView, right: &TableView) -> bool
-    ensures { result ≡ list_any (λ name. is_among name left.now.columns) (other_columns right.now) }
-{
-    let others = others_of(right);
-    has_common(others, left.columns.as_slice())
 }
 
 // A join: the columns of the left, and then those of the right that aren't keys.

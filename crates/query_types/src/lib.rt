@@ -14,6 +14,7 @@ pub mod laws;
 mod names;
 mod numbers;
 mod streams;
+mod tables;
 mod typing;
 mod views;
 

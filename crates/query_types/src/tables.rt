@@ -1,0 +1,69 @@
+// The numbers, keys and columns of tables.
+
+ghost use Rattle.std.specs.Prelude.{◌≡◌, Ok, drop, take, length};
+ghost use Rattle.std.specs.List.{list_any};
+ghost use Rattle.query_lang.specs.Checks.{is_among};
+ghost use Rattle.query_lang.specs.TypedFinals.{table_number, same_names, key_columns, other_columns};
+ghost use Rattle.query_types.specs.Answers.{Answers};
+
+use crate::answer::CheckAnswer;
+use crate::exprs::{has_name, slot_number};
+use query_lang::PrintOf;
+use query_lang::typing::TableView;
+
+/// The number of a table, where the query has so many groupbys.
+pub fn number_of_table(groups: u16, place: PrintOf) -> Result<u16, CheckAnswer>
+    ensures { Answers result (Ok (table_number groups place)) }
+{
+    match place {
+        PrintOf::Group(number) => Ok(number),
+        PrintOf::Final(number) => slot_number(usize::from(groups) + usize::from(number)),
+    }
+}
+
+// The columns of a table that are its keys.
+fn keys_of(table: &TableView) -> &[u32]
+    ensures { result.now ≡ key_columns table.now }
+{
+    let all = table.columns.as_slice();
+    let keys = usize::from(table.keys);
+    if keys <= all.len() { &all[..keys] } else { all }
+}
+
+/// The columns of a table behind its keys.
+pub fn others_of(table: &TableView) -> &[u32]
+    ensures { result.now ≡ other_columns table.now }
+{
+    let all = table.columns.as_slice();
+    let keys = usize::from(table.keys);
+    if keys <= all.len() { &all[keys..] } else { &[] }
+}
+
+/// Have two tables keys of the same names in the same order?
+pub fn same_keys(left: &TableView, right: &TableView) -> bool
+    ensures { result ≡ same_names (key_columns left.now) (key_columns right.now) }
+{
+    let first = keys_of(left);
+    let second = keys_of(right);
+    first == second
+}
+
+// Is some name among these?
+fn has_common(others: &[u32], columns: &[u32]) -> bool
+    ensures { result ≡ list_any (λ name. is_among name columns.now) others.now }
+{
+    for name in others {
+        if has_name(columns, *name) {
+            return true;
+        }
+    }
+    false
+}
+
+/// Has the left a column of the right that isn't a key there?
+pub fn others_clash(left: &TableView, right: &TableView) -> bool
+    ensures { result ≡ list_any (λ name. is_among name left.now.columns) (other_columns right.now) }
+{
+    let others = others_of(right);
+    has_common(others, left.columns.as_slice())
+}
