@@ -23,3 +23,5 @@ mod realistic;
 mod stages;
 #[cfg(test)]
 mod tables;
+#[cfg(test)]
+mod views;

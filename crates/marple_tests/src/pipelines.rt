@@ -15,7 +15,7 @@ use switch_core::{Merged, Pipeline};
 use table_printer::table_text;
 
 /// A count of the packets from each source.
-const COUNT: &[u8] = b"def count([c],[]) { c = c + 1; }\n\
+pub const COUNT: &[u8] = b"def count([c],[]) { c = c + 1; }\n\
     r = groupby(pktstream, [srcip], count);\n\
     print r;\n";
 
