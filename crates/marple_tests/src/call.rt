@@ -4,21 +4,15 @@ ghost use Rattle.std.specs.Prelude.{◌≡◌, ◌<◌, IfOk};
 ghost use Rattle.marple_base.specs.Inputs.{IsClosed};
 ghost use Rattle.marple_base.specs.MemoryInputs.{memory_input};
 ghost use Rattle.marple_base.specs.declared.inputs.Which.TheVariants.{Query, Trace};
-ghost use Rattle.marple_cli.specs.Call.{IsBeforeTrace};
 
-use marple_base::{
-    FailAt, MemoryInputs, MemorySink, ReadAnswer, Seq, Steps, Text, Which, read_input,
-};
-use marple_cli::{Driven, Status, marple};
+use marple_base::{FailAt, MemoryInputs, MemorySink, Seq, Steps, Text};
+use marple_cli::{Status, marple};
 use std::alloc::{AllocError, Global};
 use std::marker::Brand;
 use std::sync::ledger::{Blank, Ledger};
 
 /// The bytes that a sink has place for.
 const PLACES: usize = 1_000_000;
-
-/// The most bytes of a trace that are read behind a call.
-const UNREAD: usize = 1_000_000;
 
 /// What a call is made over: the bytes of its inputs, the most bytes of a write, and which calls fail.
 #[derive(Clone, Copy)]
@@ -37,11 +31,6 @@ pub struct Told {
     pub status: Status,
     pub text: Text,
     pub complaint: Text,
-    /// The bytes that the trace still has, where the call ended before it was opened.
-    pub unread: Text,
-    pub driven: Option<Driven>,
-    /// How many steps were counted.
-    pub steps: u64,
 }
 
 /// The words of a command line, parted by blanks.
@@ -99,47 +88,24 @@ fn parts_of(alloc: Global, line: &str, outside: &Outside<'_>) -> Result<Parts, A
     })
 }
 
-/// How the call ended, and how many steps were counted.
-fn run<L: Ledger>(
-    alloc: Global,
-    parts: &mut Parts,
-    driven: &mut Option<Driven>,
-    blank: Blank,
-) -> (Status, u64)
+fn run<L: Ledger>(alloc: Global, parts: &mut Parts, blank: Blank) -> Status
     requires query { IsClosed (memory_input parts.old.inputs Query) }
     requires trace { IsClosed (memory_input parts.old.inputs Trace) }
     requires name { blank.name ≡ L.name }
     requires share { blank.parts ≡ L.parts }
     requires whole { 0 < blank.parts }
-    ensures unread { IsBeforeTrace result.0 → memory_input parts.new.inputs Trace ≡ memory_input parts.old.inputs Trace }
 {
+    let mut driven = None;
     let mut steps = Steps::<L>::new(blank);
-    let status = marple(
+    marple(
         alloc,
         parts.words.as_slice(),
         &mut parts.inputs,
         &mut parts.out,
         &mut parts.err,
-        driven,
+        &mut driven,
         &mut steps,
-    );
-    (status, steps.shown())
-}
-
-/// The bytes that the trace still has, where the call ended before it was opened.
-fn unread_of(alloc: Global, status: Status, inputs: &mut MemoryInputs) -> Result<Text, AllocError>
-    requires { IsBeforeTrace status → IsClosed (memory_input inputs.old Trace) }
-{
-    match status {
-        Status::Usage | Status::QueryRefused(_) | Status::InputFault(Which::Query) => {
-            match read_input(alloc, inputs, Which::Trace, UNREAD) {
-                Ok(text) => Ok(text),
-                Err(ReadAnswer::Failed) => Ok(Text::new(alloc)),
-                Err(ReadAnswer::Memory) => Err(AllocError),
-            }
-        }
-        _ => Ok(Text::new(alloc)),
-    }
+    )
 }
 
 /// Calls the program with the words of a line.
@@ -147,14 +113,10 @@ pub fn called(alloc: Global, line: &str, outside: &Outside<'_>) -> Result<Told, 
     requires { 0 < outside.now.most }
 {
     let mut parts = parts_of(alloc, line, outside)?;
-    let mut driven = None;
-    let (status, steps) = run::<Brand>(alloc, &mut parts, &mut driven, Blank::new(1));
+    let status = run::<Brand>(alloc, &mut parts, Blank::new(1));
     Ok(Told {
         status,
         text: Text::from_slice(alloc, parts.out.taken())?,
         complaint: Text::from_slice(alloc, parts.err.taken())?,
-        unread: unread_of(alloc, status, &mut parts.inputs)?,
-        driven,
-        steps,
     })
 }

@@ -6,7 +6,7 @@ use accepted_query::accept;
 use epoch_entry::{AnyEpochs, EpochKind};
 use epoch_model::Mark;
 use final_queries::Table;
-use marple_base::{Seq, Steps, Text};
+use marple_base::{Field, Packet, Seq, Steps, Text};
 use query_lang::Class;
 use stage_plan::Plan;
 use std::alloc::{AllocError, Global};
@@ -14,12 +14,25 @@ use std::marker::Brand;
 use std::process::Abort;
 use std::sync::ledger::{Blank, Ledger};
 use std::test::Fail;
-use switch_core::{Lane, Merged};
+use switch_core::{Lane, Merged, Pipeline};
+use table_printer::table_text;
 
 /// A hash of the lengths from each source.
 const HASH: &[u8] = b"def h31([h],[pkt_len]) { h = h * 31 + pkt_len; }\n\
     r = groupby(pktstream, [srcip], h31);\n\
     print r;\n";
+
+/// A count of the packets from each source.
+pub const COUNT: &[u8] = b"def count([c],[]) { c = c + 1; }\n\
+    r = groupby(pktstream, [srcip], count);\n\
+    print r;\n";
+
+/// What the count prints of the sources 1, 2, 3, 1, 2 with two buckets of one way: 2 and 3 end each other's epochs.
+const COUNTS: &[u8] = b"table r linear 0 4\n\
+    srcip,mark,epoch,epochs,c\n\
+    1,exact,*,1,2\n\
+    2,exact,*,2,2\n\
+    3,exact,*,1,1\n";
 
 /// A lane of one bucket, for keys of one word.
 #[derive(Drop)]
@@ -296,5 +309,70 @@ fn every_interleaving_gives_the_folds_of_all_packets(rt: HostRuntime) -> Result<
     let lists = compare_all::<Brand>(&rt, alloc, &all.plan, Blank::new(1))?;
     // the places of the packets among seven, their keys, and what each other event is
     assert_eq!(rt; lists, 21 * 32 * 4);
+    Ok(())
+}
+
+// The words of a packet that has only a source.
+fn packet_from(source: u64) -> Packet {
+    let mut packet = Packet { words: [0; 14] };
+    packet.words[Field::SrcIp.number()] = source;
+    packet
+}
+
+// Five packets of three sources, each within the bound.
+fn take_packets<L: Ledger>(rt: &impl Abort, pipeline: &mut Pipeline<1>, steps: &mut Steps<L>) {
+    for source in [1, 2, 3, 1, 2] {
+        assert!(rt; pipeline.ready());
+        let before = steps.shown();
+        pipeline.packet(&packet_from(source), steps);
+        let taken = steps.shown() - before;
+        assert!(rt; taken > 0 && taken <= pipeline.bound(), "{taken} steps");
+    }
+}
+
+// The text of the only table, behind a sweep and the merges of four records.
+fn closed_text<L: Ledger>(
+    rt: &impl Abort,
+    alloc: Global,
+    pipeline: &mut Pipeline<1>,
+    steps: &mut Steps<L>,
+) -> Result<Text, AllocError> {
+    pipeline.sweep(steps)?;
+    for _ in 0..4 {
+        assert_eq!(rt; pipeline.lanes(), 1);
+        assert_eq!(rt; pipeline.merge(0, steps)?, Merged::Done);
+    }
+    assert!(rt; pipeline.drained());
+    let tables = pipeline.close()?;
+    assert_eq!(rt; tables.len(), 1);
+    let table = tables.get(0);
+    assert!(rt; usize::from(table.keys) <= table.columns.len());
+    table_text(alloc, table)
+}
+
+// The same packets on a new pipeline with a new counter, and the text of its table.
+fn bounded_text<L: Ledger>(
+    rt: &impl Abort,
+    alloc: Global,
+    plan: Plan,
+    blank: Blank,
+) -> Result<Text, AllocError>
+    requires name { blank.name ≡ L.name }
+    requires parts { blank.parts ≡ L.parts }
+    requires whole { 0 < blank.parts }
+{
+    let mut steps = Steps::<L>::new(blank);
+    let mut pipeline = Pipeline::<1>::new(alloc, plan, 2, 8)?;
+    assert_eq!(rt; pipeline.bound(), 74);
+    take_packets(rt, &mut pipeline, &mut steps);
+    closed_text(rt, alloc, &mut pipeline, &mut steps)
+}
+
+#[test]
+fn packets_keep_to_the_bound(rt: HostRuntime) -> Result<(), Fail> {
+    let alloc = rt.alloc();
+    let count = accept(alloc, COUNT)?;
+    let text = bounded_text::<Brand>(&rt, alloc, count.plan, Blank::new(1))?;
+    assert_eq!(rt; text.as_slice(), COUNTS);
     Ok(())
 }

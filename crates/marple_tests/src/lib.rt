@@ -16,8 +16,6 @@ mod folds;
 #[cfg(test)]
 mod lanes;
 #[cfg(test)]
-mod pipelines;
-#[cfg(test)]
 mod realistic;
 #[cfg(test)]
 mod stages;

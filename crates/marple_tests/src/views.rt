@@ -1,7 +1,7 @@
 //! Views of a pipeline in the middle of a trace.
 ghost use Rattle.std.specs.Prelude.{◌≡◌, ◌<◌, ◌≤◌};
 
-use crate::pipelines::COUNT;
+use crate::lanes::COUNT;
 use accepted_query::accept;
 use live_view::view;
 use marple_base::{Field, Packet, Steps, Text};
