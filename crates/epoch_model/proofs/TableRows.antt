@@ -24,7 +24,7 @@ abbrev pub some : {A : Type 0} → List A → Bool
 some [] = false
 some (x ∷ xs) = true
 
-has-some : (k : Key) (epochs : List Epoch) → has k (keys_of epochs) ≡ some (lists_of k epochs)
+pub has-some : (k : Key) (epochs : List Epoch) → has k (keys_of epochs) ≡ some (lists_of k epochs)
 has-some k [] = refl
 has-some k (e ∷ es) = by_test (key_eq e.key k) (λ h. rw h refl) (λ h. rw h (has-some k es))
 
@@ -32,19 +32,19 @@ used-some : (k : Key) (uses : List Use) → has k (map (λ u. u.key) uses) ≡ s
 used-some k [] = refl
 used-some k (u ∷ uses) = by_test (key_eq u.key k) (λ h. rw h refl) (λ h. rw h (used-some k uses))
 
-given-some : (k : Key) (events : List Event) → has k (keys_given events) ≡ some (rows_given k events)
+pub given-some : (k : Key) (events : List Event) → has k (keys_given events) ≡ some (rows_given k events)
 given-some k [] = refl
 given-some k (Packet key row ∷ events) = by_test (key_eq key k) (λ h. rw h refl) (λ h. rw h (given-some k events))
 given-some k (Evict bucket ∷ events) = given-some k events
 given-some k (Merge ∷ events) = given-some k events
 
-joined-some : (pieces : List (List ArgRow)) → AllByRecursion IsPiece pieces → some (joined pieces) ≡ some pieces
+pub joined-some : (pieces : List (List ArgRow)) → AllByRecursion IsPiece pieces → some (joined pieces) ≡ some pieces
 joined-some [] a = refl
 joined-some ([] ∷ pieces) a = absurd (omega (arith, a.0))
 joined-some ((row ∷ rows) ∷ pieces) a = refl
 
 -- of closed epochs and of a list of keys the ascending keys are the same, where a key is in the list exactly where it has a row list
-same_keys : (closed : List Epoch) (keys : List Key) → ((k : Key) → has k keys ≡ some (lists_of k closed)) → closed_keys closed ≡ ascending keys
+pub same_keys : (closed : List Epoch) (keys : List Key) → ((k : Key) → has k keys ≡ some (lists_of k closed)) → closed_keys closed ≡ ascending keys
 same_keys closed keys h = same_ascending (closed_keys closed) (ascending keys) (ascending-ascends (keys_of closed)) (ascending-ascends keys)
     (λ k. has-ascending k (keys_of closed) ∙ (has-some k closed ∙ (sym (h k) ∙ sym (has-ascending k keys))))
 
@@ -52,7 +52,7 @@ flat_map-same : {A B : Type 0} (f h : A → List B) (xs : List A) → ((x : A) �
 flat_map-same f h [] e = refl
 flat_map-same f h (x ∷ xs) e = ap (λ ys. ys ++ flat_map f xs) (e x) ∙ ap (λ ys. h x ++ ys) (flat_map-same f h xs e)
 
-flat_map-single : {A B : Type 0} (f : A → List B) (h : A → B) (xs : List A) → ((x : A) → f x ≡ h x ∷ []) → flat_map f xs ≡ map h xs
+pub flat_map-single : {A B : Type 0} (f : A → List B) (h : A → B) (xs : List A) → ((x : A) → f x ≡ h x ∷ []) → flat_map f xs ≡ map h xs
 flat_map-single f h [] e = refl
 flat_map-single f h (x ∷ xs) e = ap (λ ys. ys ++ flat_map f xs) (e x) ∙ ap (λ ys. h x ∷ ys) (flat_map-single f h xs e)
 
@@ -79,7 +79,7 @@ closed_give_the_table_lem f g uses packets room t =
     )
 
 -- no row list is empty after any events
-pieces_kept : (g : Geometry) (events : List Event) (m : Machine) (k : Key) → HasRoom g → IsTidy g m → AllByRecursion IsPiece (row_lists g m k)
+pub pieces_kept : (g : Geometry) (events : List Event) (m : Machine) (k : Key) → HasRoom g → IsTidy g m → AllByRecursion IsPiece (row_lists g m k)
     → AllByRecursion IsPiece (row_lists g (run g events m) k)
 pieces_kept g [] m k room t a = a
 pieces_kept g (Packet j row ∷ events) m k room t a =
@@ -95,7 +95,7 @@ pieces_kept g (Evict bucket ∷ events) m k room t a =
 pieces_kept g (Merge ∷ events) m k room t a =
     pieces_kept g events (merge m) k room (merge-tidy g m t) (subst (AllByRecursion IsPiece) (sym (merge-lists g m k)) a)
 
-closed-lists : (g : Geometry) (m : Machine) (k : Key) → IsSwept m → lists_of k m.closed ≡ row_lists g m k
+pub closed-lists : (g : Geometry) (m : Machine) (k : Key) → IsSwept m → lists_of k m.closed ≡ row_lists g m k
 unfolding row_lists
 closed-lists g m k swept = sym (append-nil (lists_of k m.closed)) ∙ ap (λ es. lists_of k m.closed ++ lists_of k es) (sym (swept (bucket_of g.buckets k)))
 

@@ -32,6 +32,10 @@ kind_text (kinds.OverLimit limits.Bindings) = codes "OverLimit(bindings)"
 kind_text (kinds.OverLimit limits.Nesting) = codes "OverLimit(nesting)"
 kind_text (kinds.OverLimit limits.Stages) = codes "OverLimit(stages)"
 kind_text kinds.NothingPrinted = codes "NothingPrinted"
+kind_text kinds.NotAdditive = codes "NotAdditive"
+kind_text kinds.NotMonotone = codes "NotMonotone"
+kind_text kinds.FinalInPlan = codes "FinalInPlan"
+kind_text kinds.BadPlan = codes "BadPlan"
 
 -- a fault of a trace, with the record and the field where it stands
 abbrev pub trace_fault_text : TraceFault → List ℕ
@@ -42,6 +46,7 @@ trace_fault_text (faults.FieldMissing field) = codes "FieldMissing(" ++ field_na
 trace_fault_text (faults.FieldCount n) = codes "FieldCount(" ++ decimal n ++ codes ")"
 trace_fault_text (faults.BadNumber n field) = codes "BadNumber(" ++ decimal n ++ codes "," ++ field_name field ++ codes ")"
 trace_fault_text faults.TooManyPackets = codes "TooManyPackets"
+trace_fault_text (faults.TooManySwitches n) = codes "TooManySwitches(" ++ decimal n ++ codes ")"
 
 -- the one line that a status says
 abbrev pub complaint : Status → List ℕ

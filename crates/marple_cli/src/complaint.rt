@@ -63,6 +63,10 @@ fn kind_text(kind: FaultKind) -> &'static [u8]
         FaultKind::OverLimit(Limit::Nesting) => b"OverLimit(nesting)",
         FaultKind::OverLimit(Limit::Stages) => b"OverLimit(stages)",
         FaultKind::NothingPrinted => b"NothingPrinted",
+        FaultKind::NotAdditive => b"NotAdditive",
+        FaultKind::NotMonotone => b"NotMonotone",
+        FaultKind::FinalInPlan => b"FinalInPlan",
+        FaultKind::BadPlan => b"BadPlan",
     }
 }
 
@@ -115,6 +119,16 @@ fn trace_pieces(fault: TraceFault) -> [Piece; 5]
             ]
         }
         TraceFault::TooManyPackets => alone(b"marple: trace: TooManyPackets\n"),
+        TraceFault::TooManySwitches(record) => {
+            let number = Piece::Number(record);
+            [
+                Piece::Text(b"marple: trace: TooManySwitches("),
+                number,
+                close,
+                NONE,
+                NONE,
+            ]
+        }
     }
 }
 

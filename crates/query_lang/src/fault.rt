@@ -41,6 +41,15 @@ pub enum FaultKind {
     OverLimit(Limit),
     /// A query that prints no table.
     NothingPrinted,
+    /// A groupby whose epochs of several switches can't be merged: its fold doesn't only add, and the switch is none of
+    /// its keys.
+    NotAdditive,
+    /// A groupby whose fold is neither linear nor monotone in its state.
+    NotMonotone,
+    /// A final in a query whose plan is written as a text.
+    FinalInPlan,
+    /// A line of a plan's text that isn't valid behind the lines before it.
+    BadPlan,
 }
 
 #[derive(Clone, Copy, Debug, PartialEq, Eq)]

@@ -19,6 +19,7 @@ IsEarly (fault.FieldMissing field) = ⊤
 IsEarly (fault.FieldCount n) = ⊥
 IsEarly (fault.BadNumber n field) = ⊥
 IsEarly fault.TooManyPackets = ⊥
+IsEarly (fault.TooManySwitches n) = ⊥
 
 -- a fault of a data record
 abbrev pub IsLate : TraceFault → Type 0
@@ -29,3 +30,4 @@ IsLate (fault.FieldMissing field) = ⊥
 IsLate (fault.FieldCount n) = ⊤
 IsLate (fault.BadNumber n field) = ⊤
 IsLate fault.TooManyPackets = ⊤
+IsLate (fault.TooManySwitches n) = ⊥
