@@ -31,6 +31,7 @@ function read_packet(    cut) {
     # Nanoseconds since the second origin: seconds and their parts apart, since their sum has more digits than awk keeps.
     cut = index($2, ".")
     part = substr($2 "000000000", cut + 1, 9)
+    sub(/^0+/, "", part) # some awks take a leading zero for an octal number
     second = substr($2, 1, cut - 1)
     if (origin == "") origin = second
     time = (second - origin) * 1000000000 + part
