@@ -40,6 +40,12 @@ function read_packet(    cut) {
     if (protocol == 6) { source_port = $5 + 0; target_port = $6 + 0; sequence = $14 + 0; payload = $12 + 0 }
     if (protocol == 17) { source_port = $7 + 0; target_port = $8 + 0; payload = $13 - 8 }
 }
+function check_time() {
+    if (time >= 0) return
+    printf "packet %d came before the origin\n", number >"/dev/stderr"
+    failed = 1
+    exit 1
+}
 function packet_words() {
     return sprintf("%s,%s,%d,%d,%d,%d,%d,%.0f", source, target, source_port, target_port, protocol, length_of, payload, sequence)
 }
