@@ -3,7 +3,7 @@ ghost use Rattle.std.specs.Prelude.{◌≡◌, ◌<◌, ◌≤◌};
 
 use crate::direct::{Event, Key, QUERY, TwoKeys};
 use accepted_query::accept;
-use epoch_entry::{AnyEpochs, EpochKind};
+use epoch_entry::{AnyEpochs, Entries, EpochKind};
 use epoch_model::Mark;
 use final_queries::Table;
 use marple_base::{Field, Packet, Seq, Steps, Text};
@@ -362,7 +362,7 @@ fn bounded_text<L: Ledger>(
     requires whole { 0 < blank.parts }
 {
     let mut steps = Steps::<L>::new(blank);
-    let mut pipeline = Pipeline::<1>::new(alloc, plan, 2, 8)?;
+    let mut pipeline = Pipeline::<1>::new(alloc, plan, Entries::Folds, 2, 8)?;
     assert_eq!(rt; pipeline.bound(), 74);
     take_packets(rt, &mut pipeline, &mut steps);
     closed_text(rt, alloc, &mut pipeline, &mut steps)

@@ -3,6 +3,7 @@ ghost use Rattle.std.specs.Prelude.{◌≡◌, ◌<◌, ◌≤◌};
 
 use crate::lanes::COUNT;
 use accepted_query::accept;
+use epoch_entry::Entries;
 use live_view::view;
 use marple_base::{Field, Packet, Steps, Text};
 use stage_plan::Plan;
@@ -62,7 +63,7 @@ fn view_each<L: Ledger>(
     requires whole { 0 < blank.parts }
 {
     let mut steps = Steps::<L>::new(blank);
-    let mut pipeline = Pipeline::<1>::new(alloc, plan, 1, 8)?;
+    let mut pipeline = Pipeline::<1>::new(alloc, plan, Entries::Folds, 1, 8)?;
     for i in 0..packets.len() {
         let Viewed {
             source,

@@ -5,6 +5,7 @@ use Rattle.std.proofs.lemmas.List.Elements.{All-cons, All-head, All-nil, All-tai
 use Rattle.std.proofs.lemmas.List.Sums.{sum_by-cons}
 use Rattle.bucket_cache.specs.Buckets.{Pair}
 use Rattle.bucket_cache.specs.Caches.{list_at}
+use Rattle.epoch_entry.specs.declared.purpose.Entries.{Entries}
 use Rattle.epoch_entry.specs.contracts.any.AnyEpochsEpochKind.TheImpl.{ghosts}
 use Rattle.epoch_model.specs.Driving.{SweepsReachTheEnd}
 use Rattle.epoch_model.specs.Epochs.{Geometry}
@@ -95,9 +96,9 @@ each_long R k [] (y ∷ ys) e = absurd e
 each_long R k (x ∷ xs) [] e = absurd e
 each_long R k (x ∷ xs) (y ∷ ys) e = ap (λ n. suc n) (each_long R (suc k) xs ys e.1)
 
-lanes_long : (plan : PlanParts) (buckets : ℕ) (lanes : List LaneView) → AreLanesOf plan buckets lanes → length lanes ≡ length plan.groups
-lanes_long plan buckets lanes are =
-    each_long (λ n (lane : LaneView) (group : GroupPlan). IsLaneOf buckets lane.cache (ghosts.sizes lane.kind) (ghosts.folding lane.kind) (ghosts.open_bound lane.kind) (ghosts.absorb_bound lane.kind) group (wiring_at plan n)) 0 lanes plan.groups are
+lanes_long : (entries : Entries) (plan : PlanParts) (buckets : ℕ) (lanes : List LaneView) → AreLanesOf entries plan buckets lanes → length lanes ≡ length plan.groups
+lanes_long entries plan buckets lanes are =
+    each_long (λ n (lane : LaneView) (group : GroupPlan). IsLaneOf entries buckets lane.cache (ghosts.sizes lane.kind) (ghosts.folding lane.kind) (ghosts.open_bound lane.kind) (ghosts.absorb_bound lane.kind) group (wiring_at plan n)) 0 lanes plan.groups are
 
 -- pipes whose places are kept have as many as before
 pub places_kept : (places : ℕ) (old new : List LaneView) → places_of new ≡ places_of old → HavePlaces places old → HavePlaces places new
@@ -111,10 +112,10 @@ places_kept places (a ∷ old) (b ∷ new) kept have =
 
 -- the pipeline of a plan, once all packets are taken, all lanes swept and all pipes empty
 pub whole_trace : SweepsReachTheEnd → (g : Geometry) (plan : PlanParts) (words : List (List ℕ)) (count : ℕ) (start took done : PipelineView) → start.plan ≡ plan → start.buckets ≡ g.buckets → count ≡ length words
-    → Keeps start took → Keeps took done → AreLanesOf done.plan done.buckets done.lanes → FollowsBy (λ i. empty_buckets took.buckets (after_packets g (uses_by start.plan i words) count)) done
+    → Keeps start took → Keeps took done → AreLanesOf done.entries done.plan done.buckets done.lanes → FollowsBy (λ i. empty_buckets took.buckets (after_packets g (uses_by start.plan i words) count)) done
     → ((lane : ℕ) → waiting done.lanes lane ≡ 0) → PipelineStands done (end_machines plan g words) × (list_all (λ lane. is_drained lane.cache lane.pipe) done.lanes ≡ true)
 whole_trace law g plan words count start took done p b n k l are f none =
-    let long = lanes_long done.plan done.buckets done.lanes are ∙ ap (λ x. length x.groups) (l.plan ∙ (k.plan ∙ p)) in
+    let long = lanes_long done.entries done.plan done.buckets done.lanes are ∙ ap (λ x. length x.groups) (l.plan ∙ (k.plan ∙ p)) in
     let behind = follows_as (λ (i : ℕ). empty_buckets took.buckets (after_packets g (uses_by start.plan i words) count)) (last plan g words) done
     (last_as g plan start.plan words took.buckets count p (k.buckets ∙ b) n) f in
     let stands = end_reached law g words plan done long behind none in
