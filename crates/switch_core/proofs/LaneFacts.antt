@@ -10,19 +10,19 @@ use Rattle.epoch_entry.specs.declared.purpose.Entries.{Entries}
 use Rattle.epoch_entry.specs.contracts.any.AnyEpochsEpochKind.TheImpl.{ghosts}
 use Rattle.stage_plan.specs.Planned.{wiring_at}
 use Rattle.stage_plan.specs.Sound.{PlanParts, IsSoundPlan}
-use Rattle.switch_core.specs.declared.lane.Lane.{Lane}
+use Rattle.switch_core.specs.FrontParts.{LaneOf}
 use Rattle.switch_core.specs.Pipelines.{IsLaneOf, event_at}
 use Rattle.switch_core.specs.PlanLanes.{LaneView, lane_view, parts_of, AreLanesOf, LaneMakes, LanesMake, LaneSweeps}
 use Rattle.switch_core.specs.Rows.{EachFrom}
 use Rattle.switch_core.proofs.SweepSteps.{sweep_none}
 use Rattle.switch_core.proofs.SideBySide.{same_some, got_some, got_below, each_at, each_set, untouched_start}
 
-pub got_view : {ways : ℕ} (lanes : List (Lane AnyEpochs ways ghosts)) (i : ℕ) (d : Lane AnyEpochs ways ghosts) → i < length lanes → slice_get (map lane_view lanes) i ≡ Some (lane_view (get_or lanes i d))
+pub got_view : (lanes : List (LaneOf AnyEpochs)) (i : ℕ) (d : LaneOf AnyEpochs) → i < length lanes → slice_get (map lane_view lanes) i ≡ Some (lane_view (get_or lanes i d))
 got_view [] i d h = absurd (omega arith)
 got_view (x ∷ lanes) zero d h = refl
 got_view (x ∷ lanes) (suc i) d h = got_view lanes i d (omega arith)
 
-pub set_view : {ways : ℕ} (lanes : List (Lane AnyEpochs ways ghosts)) (i : ℕ) (x : Lane AnyEpochs ways ghosts) → map lane_view (set lanes i x) ≡ set (map lane_view lanes) i (lane_view x)
+pub set_view : (lanes : List (LaneOf AnyEpochs)) (i : ℕ) (x : LaneOf AnyEpochs) → map lane_view (set lanes i x) ≡ set (map lane_view lanes) i (lane_view x)
 set_view [] i x = refl
 set_view (y ∷ lanes) zero x = refl
 set_view (y ∷ lanes) (suc i) x = ap (λ vs. lane_view y ∷ vs) (set_view lanes i x)

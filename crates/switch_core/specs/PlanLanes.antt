@@ -13,7 +13,7 @@ use Rattle.evict_pipe.specs.Pipes.{Pipe}
 use Rattle.backing_store.specs.Store.{Store}
 use Rattle.stage_plan.specs.Planned.{registers_of, wiring_at}
 use Rattle.stage_plan.specs.Sound.{PlanParts}
-use Rattle.switch_core.specs.declared.lane.Lane.{Lane}
+use Rattle.switch_core.specs.FrontParts.{LaneOf}
 use Rattle.switch_core.specs.Lanes.{LaneStands}
 use Rattle.switch_core.specs.LaneEvents.{Parts, parts, MakesAll}
 use Rattle.switch_core.specs.Pipelines.{IsLaneOf, HasRooms, after_events, geometry_of}
@@ -28,7 +28,7 @@ pub record LaneView : Type 0 where
   pub pipe : Pipe
   pub store : Store
 
-abbrev pub lane_view : {ways : ℕ} → Lane AnyEpochs ways ghosts → LaneView
+abbrev pub lane_view : LaneOf AnyEpochs → LaneView
 lane_view lane = record { kind = lane.kind; cache = lane.cache; pipe = lane.pipe; store = lane.store }
 
 -- the plan, what the entries are for, the number of buckets of each lane, and the lanes in the order of the groupbys

@@ -13,7 +13,8 @@ ghost use Rattle.switch_core.specs.Rows.{Each};
 ghost use Rattle.switch_core.specs.Pipelines.{event_at};
 ghost use Rattle.switch_core.specs.PlanLanes.{AreLanesOf, AtLane, LaneMakes, LanesMake, LaneView, LaneIsSwept, LaneRunsSweep, LaneSweeps, SweepBreaksOff, lane_cost, lane_is_ready, lane_view};
 
-use crate::lane::{Lane, Merged};
+use crate::front::Merged;
+use crate::lane::Lane;
 use crate::sweeping::sweep_lane;
 use epoch_entry::{AnyEpochs, EpochKind};
 use marple_base::Steps;

@@ -12,7 +12,8 @@ ghost use Rattle.switch_core.specs.Closing.{held_in};
 ghost use Rattle.switch_core.specs.Pipelines.{empty_machines, event_at, geometry_of, packet_events, tables_of};
 ghost use Rattle.switch_core.specs.PlanLanes.{AreLanesOf, AtLane, HavePlaces, LaneRunsSweep, PipelineIsSwept, PipelineMakes, PipelineStands, PipelineSweeps, SweepBreaksOff, folding_at, lane_is_drained, lane_is_ready, lane_view, pipeline_cost};
 
-use crate::lane::{Lane, Merged};
+use crate::front::Merged;
+use crate::lane::Lane;
 use crate::lanes::{all_drained, all_ready, evict_at, merge_at, packet_lanes, sweep_lanes};
 use crate::making::made_lanes;
 use crate::tables::lane_tables;

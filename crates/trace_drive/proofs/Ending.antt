@@ -38,7 +38,7 @@ ends_reached law plan g words i k (lane ∷ lanes) [] (group ∷ groups) long s 
 ends_reached law plan g words i k (lane ∷ lanes) (m ∷ machines) (group ∷ groups) long s a none =
     let left = piped lane m s.0 in
     let here = none 0 in
-    let few = s.0.few in
+    let few = s.0.front.few in
     let merged : m.merged ≡ length m.closed = omega arith in (
       subst (StandsFor lane) (law.whole g (uses_by plan i words) (length words) m a.0 merged) s.0,
       ends_reached law plan g words (suc i) (suc k) lanes machines groups (omega arith) s.1 a.1 (λ lane. none (suc lane)),
@@ -64,7 +64,7 @@ none_held (pairs ∷ lists) h =
 
 lane_empty : (lane : LaneView) (m : Machine) → StandsFor lane m → IsSwept m → held_in lane.cache ≡ 0
 lane_empty lane m s swept =
-    none_held lane.cache.lists (λ bucket. pairs_long (PairStands (ghosts.stands lane.kind) lane.cache) (list_at lane.cache bucket) (open_in m bucket) (s.cached.each bucket) ∙ ap length (swept bucket))
+    none_held lane.cache.lists (λ bucket. pairs_long (PairStands (ghosts.stands lane.kind) lane.cache) (list_at lane.cache bucket) (open_in m bucket) (s.front.cached.each bucket) ∙ ap length (swept bucket))
 
 both_zero : (a b : ℕ) → a ≡ 0 → b ≡ 0 → ((a == 0) && (b == 0)) ≡ true
 both_zero a b e f = rw (e, f) refl
