@@ -5,3 +5,5 @@ pub mod EntryLemmas
 pub mod PartWords
 pub mod MergeLemmas
 pub mod KindFacts
+pub mod TripleLemmas
+pub mod PurposeFacts

@@ -4,3 +4,6 @@ pub mod Entries
 pub mod Absorbing
 pub mod Shape
 pub mod Identity
+pub mod Triples
+pub mod Bounds
+pub mod Purposes

@@ -1,11 +1,14 @@
 // Laws of entries.
 
-ghost use Rattle.std.specs.Prelude.{ℕ, ◌+◌, ◌≤◌};
-ghost use Rattle.query_lang.specs.declared.fold.TypedFold.{TypedFold};
-ghost use Rattle.query_lang.specs.Folds.{IsValidFold};
-ghost use Rattle.epoch_entry.specs.Foldings.{entry_bound};
+ghost use Rattle.epoch_entry.specs.Purposes.{EntriesAreSmall, EntriesSuitFolds};
 
 /// An entry with its key of at most 8 words has at most 274 words.
 pub fn entries_are_small()
-    ensures { (f : TypedFold) (key : ℕ) → IsValidFold f → key ≤ 8 → key + entry_bound f ≤ 274 }
+    ensures { EntriesAreSmall }
+{}
+
+/// The entries of a fold, whatever they are for, take its argument rows, and are as large and cost as much as so many runs
+/// of it.
+pub fn entries_suit_folds()
+    ensures { EntriesSuitFolds }
 {}

@@ -2,6 +2,7 @@
 #![tactic(auto)]
 
 mod any;
+mod bounds;
 mod identity;
 mod kind;
 mod known;
@@ -9,10 +10,14 @@ mod laws;
 mod linear;
 mod log;
 mod other;
+mod purpose;
+mod triple;
 mod words;
 
 pub use any::AnyEpochs;
+pub use bounds::BoundsEpochs;
 pub use kind::EpochKind;
-pub use laws::entries_are_small;
+pub use laws::{entries_are_small, entries_suit_folds};
 pub use linear::LinearEpochs;
 pub use other::OtherEpochs;
+pub use purpose::Entries;

@@ -3,10 +3,9 @@ use Rattle.std.proofs.Common.{◌≡◌, ◌+◌, ◌<◌, ◌≤◌, ℕ, zero,
 use Rattle.std.specs.Prelude.{slice_get}
 use Rattle.std.proofs.Math.Logic.{∥∥₁_elim}
 use Rattle.std.proofs.Props.{props}
-use Rattle.query_lang.specs.declared.fold.TypedFold.{TypedFold}
-use Rattle.query_lang.specs.Folds.{IsValidFold}
 use Rattle.epoch_model.specs.Machine.{Machine}
-use Rattle.epoch_entry.specs.Foldings.{entry_bound}
+use Rattle.epoch_entry.specs.declared.purpose.Entries.{Entries}
+use Rattle.epoch_entry.specs.Purposes.{EntriesAreSmall}
 use Rattle.epoch_entry.specs.contracts.any.AnyEpochsEpochKind.TheImpl.{ghosts}
 use Rattle.final_queries.specs.GroupTable.{closed_table}
 use Rattle.stage_plan.specs.declared.group.GroupPlan.{GroupPlan}
@@ -50,11 +49,10 @@ pub record FitsGroup (group : GroupPlan) (lane : LaneView) : Type 0 where
   pub few_keys : length group.key_names ≤ 8
   pub small : lane.cache.key_words + (ghosts.sizes lane.kind).entry ≤ 512
 
-pub lane_fits : (plan : PlanParts) (buckets i : ℕ) (lanes : List LaneView) (group : GroupPlan) (lane : LaneView)
-    → ((f : TypedFold) (key : ℕ) → IsValidFold f → key ≤ 8 → key + entry_bound f ≤ 274)
-    → IsSoundPlan plan → AreLanesOf plan buckets lanes → slice_get plan.groups i ≡ Some group → slice_get lanes i ≡ Some lane → FitsGroup group lane
-lane_fits plan buckets i lanes group lane small sound are at here =
-    let R = λ (n : ℕ) (l : LaneView) (g : GroupPlan). IsLaneOf buckets l.cache (ghosts.sizes l.kind) (ghosts.folding l.kind) (ghosts.open_bound l.kind) (ghosts.absorb_bound l.kind) g (wiring_at plan n) in
+pub lane_fits : (entries : Entries) (plan : PlanParts) (buckets i : ℕ) (lanes : List LaneView) (group : GroupPlan) (lane : LaneView)
+    → EntriesAreSmall → IsSoundPlan plan → AreLanesOf entries plan buckets lanes → slice_get plan.groups i ≡ Some group → slice_get lanes i ≡ Some lane → FitsGroup group lane
+lane_fits entries plan buckets i lanes group lane small sound are at here =
+    let R = λ (n : ℕ) (l : LaneView) (g : GroupPlan). IsLaneOf entries buckets l.cache (ghosts.sizes l.kind) (ghosts.folding l.kind) (ghosts.open_bound l.kind) (ghosts.absorb_bound l.kind) g (wiring_at plan n) in
     let found = each_at R 0 i lanes plan.groups lane are here in
     let same : found.0 ≡ group = let q : Some found.0 ≡ Some group = sym found.1 ∙ at in cc in
     let own = subst (R i lane) same (found.2 i (omega arith)) in
@@ -65,9 +63,7 @@ lane_fits plan buckets i lanes group lane small sound are at here =
       keys = own.keys;
       few_keys = each.most_keys;
       small = ∥∥₁_elim each.program (hlevel props) (λ h.
-          let kind = own.kind h.0 h.1 in
-          let few = small h.0 lane.cache.key_words h.1.valid (let k = own.keys in let m = each.most_keys in omega arith) in
-          let entry = kind.entry in
+          let few = small entries h.0 (ghosts.sizes lane.kind) (ghosts.folding lane.kind) (ghosts.open_bound lane.kind) (ghosts.absorb_bound lane.kind) lane.cache.key_words h.1.valid (own.kind h.0 h.1) (let k = own.keys in let m = each.most_keys in omega arith) in
           omega arith);
     }
 

@@ -28,6 +28,7 @@ pub fn full_store<K: EpochKind, const WAYS: usize, L: Ledger>(
         → StoreHolds (K.folding lane.now.kind) store (all_epochs m)) }
     ensures at_least { steps.old ≤ steps.new }
 {
+    lane.known();
     let (kind, pipe, cache) = (lane.kind(), lane.pipe(), lane.cache());
     let mut initial = vec![in alloc; 0; kind.state_words()]?;
     kind.initial(&mut initial);

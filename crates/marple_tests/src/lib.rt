@@ -1,4 +1,4 @@
-//! Tests over the public contracts of the other crates, apart from them so that no crate is proved twice for its tests.
+//! Tests over the public contract of the top call, apart from it so that it isn't proved twice for its tests.
 #![tactic(auto)]
 
 #[cfg(test)]
@@ -6,20 +6,4 @@ mod call;
 #[cfg(test)]
 mod calls;
 #[cfg(test)]
-mod direct;
-#[cfg(test)]
-mod entries;
-#[cfg(test)]
-mod fold_programs;
-#[cfg(test)]
-mod folds;
-#[cfg(test)]
-mod lanes;
-#[cfg(test)]
 mod realistic;
-#[cfg(test)]
-mod stages;
-#[cfg(test)]
-mod tables;
-#[cfg(test)]
-mod views;

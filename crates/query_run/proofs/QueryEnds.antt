@@ -15,6 +15,7 @@ use Rattle.epoch_model.specs.Driving.{TakenUsesAreInTrace}
 use Rattle.epoch_model.specs.Epochs.{Geometry}
 use Rattle.epoch_model.specs.Laws.{HasRoom, IsInTrace}
 use Rattle.epoch_model.specs.Machine.{end_of}
+use Rattle.epoch_entry.specs.declared.purpose.Entries.TheVariants.{Folds}
 use Rattle.epoch_entry.specs.Foldings.{folding_of}
 use Rattle.final_queries.specs.declared.table.Table.{Table}
 use Rattle.final_queries.specs.FinalLaws.{AreAlike, AlikeFoldingsMakeOneTable}
@@ -110,7 +111,7 @@ module _ (law : AlikeFoldingsMakeOneTable) (closed : ClosedGiveTheGroupTable) (o
   in_trace i = subst (λ n. IsInTrace n (uses_by plan i packets)) (length-map packets (taken plan i)) (order.order (map (taken plan i) packets))
 
   one_table : (i : ℕ) (group : GroupPlan) (lane : LaneView) (f : TypedFold)
-      → IsLaneOf buckets lane.cache (ghosts.sizes lane.kind) (ghosts.folding lane.kind) (ghosts.open_bound lane.kind) (ghosts.absorb_bound lane.kind) group (wiring_at plan i)
+      → IsLaneOf Folds buckets lane.cache (ghosts.sizes lane.kind) (ghosts.folding lane.kind) (ghosts.open_bound lane.kind) (ghosts.absorb_bound lane.kind) group (wiring_at plan i)
       → slice_get plan.groups i ≡ Some group → i < length plan.groups → fold_at q i ≡ Some f
       → closed_table (heading_of group) (folding_at lane) (end_of g (uses_by plan i packets) (length packets)).closed ≡ query_table q g packets i (group_shape group) f
   one_table i group lane f of_lane at within has =
@@ -121,7 +122,7 @@ module _ (law : AlikeFoldingsMakeOneTable) (closed : ClosedGiveTheGroupTable) (o
       ∙ ap (group_table (heading_of group) (folding_of f) g) (uses_are q plan packets i p whole within))
 
   tables_at : (i : ℕ) (groups : List GroupPlan) (lanes : List LaneView) → drop i plan.groups ≡ groups
-      → EachFrom (λ n lane group. IsLaneOf buckets lane.cache (ghosts.sizes lane.kind) (ghosts.folding lane.kind) (ghosts.open_bound lane.kind) (ghosts.absorb_bound lane.kind) group (wiring_at plan n)) i lanes groups
+      → EachFrom (λ n lane group. IsLaneOf Folds buckets lane.cache (ghosts.sizes lane.kind) (ghosts.folding lane.kind) (ghosts.open_bound lane.kind) (ghosts.absorb_bound lane.kind) group (wiring_at plan n)) i lanes groups
       → tables_of groups (map folding_at lanes) (ends_from plan g packets i groups) ≡ tables_from q g packets i (map group_shape groups)
   tables_at i [] [] e each = refl
   tables_at i [] (lane ∷ lanes) e each = absurd each
@@ -136,7 +137,7 @@ module _ (law : AlikeFoldingsMakeOneTable) (closed : ClosedGiveTheGroupTable) (o
       ∙ (ap (λ ts. query_table q g packets i (group_shape group) f.0 ∷ ts) more
       ∙ ap (λ ts. ts ++ tables_from q g packets (suc i) (map group_shape groups)) (sym parts))
 
-  pub tables_are : (lanes : List LaneView) → AreLanesOf plan buckets lanes → tables_of plan.groups (map folding_at lanes) (end_machines plan g packets) ≡ group_tables q g packets
+  pub tables_are : (lanes : List LaneView) → AreLanesOf Folds plan buckets lanes → tables_of plan.groups (map folding_at lanes) (end_machines plan g packets) ≡ group_tables q g packets
   unfolding group_tables
   tables_are lanes each = tables_at 0 plan.groups lanes refl each ∙ ap (tables_from q g packets 0) (ap (λ shape. shape.groups) p.shape)
 

@@ -4,6 +4,7 @@ use Rattle.query_lang.specs.declared.typed.TypedQuery.{TypedQuery}
 use Rattle.query_lang.specs.Streams.{Taking, takings}
 use Rattle.query_lang.specs.TypedQueries.{IsValidQuery}
 use Rattle.query_types.specs.Uses.{uses}
+use Rattle.epoch_entry.specs.declared.purpose.Entries.TheVariants.{Folds}
 use Rattle.epoch_model.specs.Epochs.{Geometry}
 use Rattle.epoch_model.specs.Machine.{Machine, end_of}
 use Rattle.epoch_model.specs.Laws.{HasRoom}
@@ -33,7 +34,7 @@ query_ends q g packets = ends_of q g packets 0 (takings q.streams)
 pub record EndsAreTheQuerys : Type 0 where
   pub machines : (q : TypedQuery) (plan : PlanParts) (g : Geometry) (packets : List (List ℕ)) → IsPlanOf q plan → AreWhole packets → end_machines plan g packets ≡ query_ends q g packets
   pub tables : (q : TypedQuery) (plan : PlanParts) (buckets : ℕ) (lanes : List LaneView) (g : Geometry) (packets : List (List ℕ)) → IsValidQuery q → IsPlanOf q plan
-      → AreLanesOf plan buckets lanes → HasRoom g → AreWhole packets → tables_of plan.groups (map folding_at lanes) (end_machines plan g packets) ≡ group_tables q g packets
+      → AreLanesOf Folds plan buckets lanes → HasRoom g → AreWhole packets → tables_of plan.groups (map folding_at lanes) (end_machines plan g packets) ≡ group_tables q g packets
 
 -- The packets of a trace have the words of all fields.
 abbrev pub ReadPacketsAreWhole : Type 0

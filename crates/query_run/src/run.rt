@@ -3,6 +3,7 @@
 ghost use Rattle.std.specs.Prelude.{◌≡◌, ℕ, ◌*◌, ◌<◌, ◌≤◌, List, None, Some, IfErr, IfOk, true};
 ghost use Rattle.std.specs.List.{list_all};
 ghost use Rattle.query_lang.specs.TypedQueries.{IsValidQuery};
+ghost use Rattle.epoch_entry.specs.declared.purpose.Entries.TheVariants.{Folds};
 ghost use Rattle.epoch_model.specs.Epochs.{Geometry};
 ghost use Rattle.epoch_model.specs.Laws.{HasRoom};
 ghost use Rattle.stage_plan.specs.Planned.{IsPlanOf};
@@ -39,6 +40,7 @@ fn printed<const WAYS: usize, L: Ledger>(
 ) -> Result<Text, AllocError>
     requires valid { IsValidQuery typed.now }
     requires plan { IsPlanOf typed.now pipeline.now.plan }
+    requires entries { pipeline.now.entries ≡ Folds }
     requires drained { list_all lane_is_drained pipeline.now.lanes ≡ true }
     requires ends { (g : Geometry) × (packets : List (List ℕ)) × HasRoom g × AreWhole packets × PipelineStands pipeline.now (end_machines pipeline.now.plan g packets) }
     ensures text { IfOk result (λ text. (g : Geometry) (packets : List (List ℕ)) → HasRoom g → AreWhole packets → PipelineStands pipeline.now (end_machines pipeline.now.plan g packets) → text ≡ query_text typed.now g packets) }
@@ -73,6 +75,7 @@ pub fn run_query<const WAYS: usize, L: Ledger>(
     ensures accepted { IfOk result (λ found. fault_of packets.entry ≡ None) }
     ensures text { IfOk result (λ found. found.text ≡ query_text typed.now (geometry_for WAYS schedule) (words_of (coming packets.entry))) }
     ensures plan { IfOk result (λ found. IsPlanOf typed.now found.pipeline.plan) }
+    ensures entries { IfOk result (λ found. found.pipeline.entries ≡ Folds) }
     ensures machines { IfOk result (λ found. PipelineStands found.pipeline (query_ends typed.now (geometry_for WAYS schedule) (words_of (coming packets.entry)))) }
     ensures drained { IfOk result (λ found. list_all lane_is_drained found.pipeline.lanes ≡ true) }
     ensures buckets { IfOk result (λ found. found.pipeline.buckets ≡ schedule.buckets) }

@@ -1,17 +1,15 @@
--- A lane with empty cache and pipe has no open epoch, and all closed ones are merged.
+-- A front with empty cache and pipe has no open epoch, and all closed ones are merged.
 use Rattle.std.proofs.Common.{◌≡◌, ℕ, zero, suc, ◌-◌, ◌<◌, true, List, [], ◌∷◌, length, take, get_or, refl, sym, ap, ◌∙◌, arith}
 use Rattle.std.specs.List.{sum_by}
 use Rattle.std.proofs.lemmas.List.{set-get_or}
 use Rattle.std.proofs.lemmas.List.Sums.{sum_by-cons}
 use Rattle.std.proofs.lemmas.Bool.Decides.{nat_tests}
 use Rattle.epoch_model.specs.Machine.{Epoch, Machine, open_in}
-use Rattle.epoch_model.specs.Tables.{Folding}
 use Rattle.epoch_model.specs.Timeline.{IsSwept}
 use Rattle.bucket_cache.specs.Buckets.{Pair}
 use Rattle.bucket_cache.specs.Caches.{Cache, list_at, with_list}
 use Rattle.evict_pipe.specs.Pipes.{Pipe}
-use Rattle.backing_store.specs.Store.{Store}
-use Rattle.switch_core.specs.Lanes.{Standing, PairStands, LaneStands}
+use Rattle.switch_core.specs.Lanes.{Standing, PairStands, FrontStands}
 use Rattle.switch_core.specs.Closing.{held_in, is_drained}
 use Rattle.switch_core.proofs.Standing.{pairs_long}
 use Rattle.switch_core.proofs.MergeSteps.{none_piped}
@@ -32,12 +30,11 @@ no_pairs (x ∷ pairs) e = absurd (omega arith)
 pub drained_parts : (cache : Cache) (pipe : Pipe) → is_drained cache pipe ≡ true → (held_in cache ≡ 0) × (length pipe.records ≡ 0)
 drained_parts cache pipe d = (grind (arith, nat_tests), grind (arith, nat_tests))
 
-pub drained_is_done : (stands : Standing) (f : Folding) (cache : Cache) (pipe : Pipe) (store : Store) → is_drained cache pipe ≡ true → (m : Machine) → LaneStands stands f cache pipe store m
-    → IsSwept m × (m.merged ≡ length m.closed)
-drained_is_done stands f cache pipe store d m s =
+pub drained_is_done : (stands : Standing) (cache : Cache) (pipe : Pipe) → is_drained cache pipe ≡ true → (m : Machine) → FrontStands stands cache pipe m → IsSwept m × (m.merged ≡ length m.closed)
+drained_is_done stands cache pipe d m s =
     let parts = drained_parts cache pipe d in (
       λ bucket. no_epochs (open_in m bucket) (sym (pairs_long (PairStands stands cache) (list_at cache bucket) (open_in m bucket) (s.cached.each bucket)) ∙ none_held cache.lists bucket parts.0),
-      none_piped stands f cache pipe store m s parts.1,
+      none_piped stands cache pipe m s parts.1,
     )
 
 -- where a bucket is empty nothing is taken of it

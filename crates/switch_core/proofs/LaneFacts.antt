@@ -6,22 +6,23 @@ use Rattle.std.specs.Prelude.{slice_get}
 use Rattle.std.proofs.lemmas.Bool.Decides.{nat_tests}
 use Rattle.epoch_model.specs.Machine.{Event}
 use Rattle.epoch_entry.specs.declared.any.AnyEpochs.{AnyEpochs}
+use Rattle.epoch_entry.specs.declared.purpose.Entries.{Entries}
 use Rattle.epoch_entry.specs.contracts.any.AnyEpochsEpochKind.TheImpl.{ghosts}
 use Rattle.stage_plan.specs.Planned.{wiring_at}
 use Rattle.stage_plan.specs.Sound.{PlanParts, IsSoundPlan}
-use Rattle.switch_core.specs.declared.lane.Lane.{Lane}
+use Rattle.switch_core.specs.FrontParts.{LaneOf}
 use Rattle.switch_core.specs.Pipelines.{IsLaneOf, event_at}
 use Rattle.switch_core.specs.PlanLanes.{LaneView, lane_view, parts_of, AreLanesOf, LaneMakes, LanesMake, LaneSweeps}
 use Rattle.switch_core.specs.Rows.{EachFrom}
 use Rattle.switch_core.proofs.SweepSteps.{sweep_none}
 use Rattle.switch_core.proofs.SideBySide.{same_some, got_some, got_below, each_at, each_set, untouched_start}
 
-pub got_view : {ways : ℕ} (lanes : List (Lane AnyEpochs ways ghosts)) (i : ℕ) (d : Lane AnyEpochs ways ghosts) → i < length lanes → slice_get (map lane_view lanes) i ≡ Some (lane_view (get_or lanes i d))
+pub got_view : (lanes : List (LaneOf AnyEpochs)) (i : ℕ) (d : LaneOf AnyEpochs) → i < length lanes → slice_get (map lane_view lanes) i ≡ Some (lane_view (get_or lanes i d))
 got_view [] i d h = absurd (omega arith)
 got_view (x ∷ lanes) zero d h = refl
 got_view (x ∷ lanes) (suc i) d h = got_view lanes i d (omega arith)
 
-pub set_view : {ways : ℕ} (lanes : List (Lane AnyEpochs ways ghosts)) (i : ℕ) (x : Lane AnyEpochs ways ghosts) → map lane_view (set lanes i x) ≡ set (map lane_view lanes) i (lane_view x)
+pub set_view : (lanes : List (LaneOf AnyEpochs)) (i : ℕ) (x : LaneOf AnyEpochs) → map lane_view (set lanes i x) ≡ set (map lane_view lanes) i (lane_view x)
 set_view [] i x = refl
 set_view (y ∷ lanes) zero x = refl
 set_view (y ∷ lanes) (suc i) x = ap (λ vs. lane_view y ∷ vs) (set_view lanes i x)
@@ -44,9 +45,9 @@ pub record FitsWiring (plan : PlanParts) (i : ℕ) (lane : LaneView) : Type 0 wh
   pub few_keys : length (wiring_at plan i).keys ≤ 8
   pub few_args : length (wiring_at plan i).args ≤ 16
 
-pub lane_fits : (plan : PlanParts) (buckets i : ℕ) (lanes : List LaneView) (lane : LaneView) → IsSoundPlan plan → AreLanesOf plan buckets lanes → slice_get lanes i ≡ Some lane → FitsWiring plan i lane
-lane_fits plan buckets i lanes lane sound are at =
-    let R = λ (n : ℕ) (l : LaneView) (group : _). IsLaneOf buckets l.cache (ghosts.sizes l.kind) (ghosts.folding l.kind) (ghosts.open_bound l.kind) (ghosts.absorb_bound l.kind) group (wiring_at plan n) in
+pub lane_fits : (entries : Entries) (plan : PlanParts) (buckets i : ℕ) (lanes : List LaneView) (lane : LaneView) → IsSoundPlan plan → AreLanesOf entries plan buckets lanes → slice_get lanes i ≡ Some lane → FitsWiring plan i lane
+lane_fits entries plan buckets i lanes lane sound are at =
+    let R = λ (n : ℕ) (l : LaneView) (group : _). IsLaneOf entries buckets l.cache (ghosts.sizes l.kind) (ghosts.folding l.kind) (ghosts.open_bound l.kind) (ghosts.absorb_bound l.kind) group (wiring_at plan n) in
     let found = each_at R 0 i lanes plan.groups lane are at in
     let below = got_below plan.groups i found.0 found.1 in
     let wired = got_some plan.wiring i (let w = sound.wired in omega arith) in

@@ -10,7 +10,7 @@ use Rattle.bucket_cache.specs.Caches.{Cache, empty_cache}
 use Rattle.evict_pipe.specs.Pipes.{Pipe}
 use Rattle.backing_store.specs.Store.{Store, epochs_of, states_at, number_of}
 use Rattle.merged_epochs.specs.Merged.{StoreHolds}
-use Rattle.switch_core.specs.Lanes.{Standing, PairStands, PairsStand, RecordsStand, StoreStands, LaneStands, geometry}
+use Rattle.switch_core.specs.Lanes.{Standing, PairStands, PairsStand, RecordsStand, StoreStands, FrontStands, geometry}
 use Rattle.switch_core.proofs.Standing.{by_test}
 
 -- the merged epochs are as they were
@@ -41,9 +41,8 @@ none_at zero i d = refl
 none_at (suc n) zero d = refl
 none_at (suc n) (suc i) d = none_at n i d
 
-pub empty_stands : (stands : Standing) (f : Folding) (ways buckets kw ew : ℕ) (cache : Cache) (pipe : Pipe) (store : Store) → cache ≡ empty_cache buckets ways kw ew → pipe.records ≡ [] → store.keys ≡ [] → store.rows ≡ []
-    → LaneStands stands f cache pipe store (empty_machine (geometry ways cache))
-empty_stands stands f ways buckets kw ew cache pipe store c p k r = record {
+pub front_empty : (stands : Standing) (ways buckets kw ew : ℕ) (cache : Cache) (pipe : Pipe) → cache ≡ empty_cache buckets ways kw ew → pipe.records ≡ [] → FrontStands stands cache pipe (empty_machine (geometry ways cache))
+front_empty stands ways buckets kw ew cache pipe c p = record {
   cached = record {
     buckets = sym (length-replicate (length cache.lists) []);
     each = λ b.
@@ -51,9 +50,11 @@ empty_stands stands f ways buckets kw ew cache pipe store c p k r = record {
         (subst (λ es. PairsStand (PairStands stands cache) [] es) (sym (none_at (length cache.lists) b [])) tt);
   };
   piped = subst (λ rs. RecordsStand stands cache.key_words rs []) (sym p) tt;
-  kept = record {
-    count = λ key. ap (λ ks. epochs_of ks key) k;
-    rows = λ key. ap (λ rs. states_at rs (number_of store.keys key)) r ∙ by_test f.row_per_epoch (λ t. rw t refl) (λ t. rw t refl);
-  };
   few = omega arith;
+}
+
+pub store_empty : (f : Folding) (store : Store) → store.keys ≡ [] → store.rows ≡ [] → StoreHolds f store []
+store_empty f store k r = record {
+  count = λ key. ap (λ ks. epochs_of ks key) k;
+  rows = λ key. ap (λ rs. states_at rs (number_of store.keys key)) r ∙ by_test f.row_per_epoch (λ t. rw t refl) (λ t. rw t refl);
 }

@@ -58,6 +58,6 @@ all_done k [] [] d s = tt
 all_done k [] (m ∷ ms) d s = absurd s
 all_done k (l ∷ lanes) [] d s = absurd s
 all_done k (l ∷ lanes) (m ∷ ms) d s = (
-  drained_is_done (ghosts.stands l.kind) (ghosts.folding l.kind) l.cache l.pipe l.store (both_pass (lane_is_drained l) (list_all lane_is_drained lanes) d).0 m s.0,
+  drained_is_done (ghosts.stands l.kind) l.cache l.pipe (both_pass (lane_is_drained l) (list_all lane_is_drained lanes) d).0 m s.0.front,
   all_done (suc k) lanes ms (both_pass (lane_is_drained l) (list_all lane_is_drained lanes) d).1 s.1,
 )

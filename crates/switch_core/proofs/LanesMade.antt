@@ -7,7 +7,9 @@ use Rattle.fold_class.specs.Program.{IsProgramOf}
 use Rattle.query_lang.specs.declared.fold.TypedFold.{TypedFold}
 use Rattle.epoch_model.specs.Epochs.{Geometry}
 use Rattle.epoch_model.specs.Machine.{empty_machine}
-use Rattle.epoch_entry.specs.Foldings.{IsKindOf, per_epoch}
+use Rattle.epoch_entry.specs.declared.purpose.Entries.{Entries}
+use Rattle.epoch_entry.specs.Foldings.{per_epoch}
+use Rattle.epoch_entry.specs.Purposes.{EntriesSuitFolds, IsKindFor}
 use Rattle.epoch_entry.specs.contracts.any.AnyEpochsEpochKind.TheImpl.{ghosts}
 use Rattle.stage_plan.specs.declared.group.GroupPlan.{GroupPlan}
 use Rattle.stage_plan.specs.declared.group.GroupWiring.{GroupWiring}
@@ -44,14 +46,15 @@ group_sound plan i group sound at =
     let wired = got_some plan.wiring i (let w = sound.wired in omega arith) in
     (wired.0, rw wired.1 refl, sound.each i group wired.0 at wired.1)
 
-pub lane_made : (plan : PlanParts) (buckets i : ℕ) (lane : LaneView) (group : GroupPlan) → IsSoundPlan plan → slice_get plan.groups i ≡ Some group
+pub lane_made : EntriesSuitFolds → (entries : Entries) (plan : PlanParts) (buckets i : ℕ) (lane : LaneView) (group : GroupPlan) → IsSoundPlan plan → slice_get plan.groups i ≡ Some group
     → length lane.cache.lists ≡ buckets → lane.cache.key_words ≡ length group.key_names
-    → ((f : TypedFold) → IsProgramOf f group.program → IsKindOf f (ghosts.sizes lane.kind) (ghosts.folding lane.kind) (ghosts.open_bound lane.kind) (ghosts.absorb_bound lane.kind))
-    → IsLaneOf buckets lane.cache (ghosts.sizes lane.kind) (ghosts.folding lane.kind) (ghosts.open_bound lane.kind) (ghosts.absorb_bound lane.kind) group (wiring_at plan i)
-lane_made plan buckets i lane group sound at many keys kind =
+    → ((f : TypedFold) → IsProgramOf f group.program → IsKindFor entries f (ghosts.sizes lane.kind) (ghosts.folding lane.kind) (ghosts.open_bound lane.kind) (ghosts.absorb_bound lane.kind))
+    → IsLaneOf entries buckets lane.cache (ghosts.sizes lane.kind) (ghosts.folding lane.kind) (ghosts.open_bound lane.kind) (ghosts.absorb_bound lane.kind) group (wiring_at plan i)
+lane_made suit entries plan buckets i lane group sound at many keys kind =
     let own = group_sound plan i group sound at in
-    let args : (ghosts.sizes lane.kind).args ≡ group.program.layout.args = ∥∥₁_elim own.2.program (hlevel props) (λ h. (kind h.0 h.1).args ∙ sym h.1.layout.args) in
-    let class : (ghosts.folding lane.kind).row_per_epoch ≡ per_epoch group.program.class = ∥∥₁_elim own.2.program (hlevel props) (λ h. (kind h.0 h.1).row_per_epoch ∙ ap per_epoch (sym h.1.class)) in
+    let suits = λ (f : TypedFold) (is : IsProgramOf f group.program). suit entries f (ghosts.sizes lane.kind) (ghosts.folding lane.kind) (ghosts.open_bound lane.kind) (ghosts.absorb_bound lane.kind) (kind f is) in
+    let args : (ghosts.sizes lane.kind).args ≡ group.program.layout.args = ∥∥₁_elim own.2.program (hlevel props) (λ h. (suits h.0 h.1).args ∙ sym h.1.layout.args) in
+    let class : (ghosts.folding lane.kind).row_per_epoch ≡ per_epoch group.program.class = ∥∥₁_elim own.2.program (hlevel props) (λ h. (suits h.0 h.1).row_per_epoch ∙ ap per_epoch (sym h.1.class)) in
     record {
       many = many;
       keys = keys;

@@ -1,14 +1,18 @@
--- A lane whose oldest record was merged stands for the machine after the merge.
-use Rattle.std.proofs.Common.{◌≡◌, ℕ, zero, suc, ◌+◌, ◌<◌, ◌≤◌, true, false, List, [], ◌∷◌, ◌++◌, length, take, drop, get_or, refl, sym, ap, ◌∙◌, subst, arith, length-drop}
+-- A front whose oldest record was merged stands for the machine after the merge, and the store holds the merged epoch.
+use Rattle.std.proofs.Common.{◌≡◌, ℕ, zero, suc, ◌+◌, ◌<◌, ◌≤◌, true, false, List, [], ◌∷◌, ◌++◌, length, take, drop, get_or, refl, sym, ap, ◌∙◌, subst, arith, append-nil, length-drop}
 use Rattle.std.specs.Prelude.{nat_lt}
 use Rattle.std.proofs.lemmas.Bool.{lt-ltb, le-ltb}
+use Rattle.std.proofs.lemmas.Bool.Decides.{nat_tests}
+use Rattle.std.proofs.Math.Seq.{drop-length}
 use Rattle.epoch_model.specs.Machine.{Epoch, Machine, merge}
 use Rattle.epoch_model.specs.Tables.{Folding}
 use Rattle.bucket_cache.specs.Caches.{Cache}
 use Rattle.evict_pipe.specs.Pipes.{Pipe}
 use Rattle.backing_store.specs.Store.{Store}
 use Rattle.merged_epochs.specs.Merged.{StoreHolds}
-use Rattle.switch_core.specs.Lanes.{Standing, RecordStands, RecordsStand, LaneStands}
+use Rattle.switch_core.specs.Lanes.{Standing, RecordStands, RecordsStand, StoreStands, FrontStands}
+use Rattle.switch_core.specs.FrontEvents.{next_merged}
+use Rattle.switch_core.proofs.Standing.{by_test}
 
 pub records_none : (stands : Standing) (kw : ℕ) (records : List (List ℕ)) (epochs : List Epoch) → RecordsStand stands kw records epochs → length records ≡ 0 → epochs ≡ []
 records_none stands kw [] [] s e = refl
@@ -19,8 +23,8 @@ all_merged : (m : Machine) → m.merged ≤ length m.closed → drop m.merged m.
 all_merged m few e = let l = length-drop m.merged m.closed in let z = ap length e in omega arith
 
 -- With no record in the pipe every closed epoch is merged.
-pub none_piped : (stands : Standing) (f : Folding) (cache : Cache) (pipe : Pipe) (store : Store) (m : Machine) → LaneStands stands f cache pipe store m → length pipe.records ≡ 0 → m.merged ≡ length m.closed
-none_piped stands f cache pipe store m s e = all_merged m s.few (records_none stands cache.key_words pipe.records (drop m.merged m.closed) s.piped e)
+pub none_piped : (stands : Standing) (cache : Cache) (pipe : Pipe) (m : Machine) → FrontStands stands cache pipe m → length pipe.records ≡ 0 → m.merged ≡ length m.closed
+none_piped stands cache pipe m s e = all_merged m s.few (records_none stands cache.key_words pipe.records (drop m.merged m.closed) s.piped e)
 
 pub merge_none : (m : Machine) → m.merged ≡ length m.closed → merge m ≡ m
 merge_none m e = let shut : nat_lt m.merged (length m.closed) ≡ false = le-ltb m.merged (length m.closed) (omega arith) in rw shut refl
@@ -45,23 +49,45 @@ one_on (suc n) [] e es h = absurd (nothing h)
     nothing h = cc
 one_on (suc n) (x ∷ xs) e es h = let rest = one_on n xs e es h in (ap (λ ys. x ∷ ys) rest.0, rest.1, let l = rest.2 in omega arith)
 
-pub merge_one : (stands : Standing) (f : Folding) (cache : Cache) (old new : Pipe) (before after : Store) (m : Machine) → 0 < length old.records → new.records ≡ drop 1 old.records
-    → ((epoch : Epoch) (epochs : List Epoch) → RecordStands stands cache.key_words (get_or old.records 0 []) epoch → StoreHolds f before epochs → StoreHolds f after (epochs ++ epoch ∷ []))
-    → LaneStands stands f cache old before m → LaneStands stands f cache new after (merge m)
-merge_one stands f cache old new before after m some dropped held s =
+-- the pipe's first record is dropped
+pub front_merged : (stands : Standing) (cache : Cache) (old new : Pipe) (m : Machine) → 0 < length old.records → new.records ≡ drop 1 old.records → FrontStands stands cache old m → FrontStands stands cache new (merge m)
+front_merged stands cache old new m some dropped s =
     let first = records_first stands cache.key_words old.records (drop m.merged m.closed) s.piped some in
-    let e = first.0 in
-    let on = one_on m.merged m.closed e first.1 first.2 in
+    let on = one_on m.merged m.closed first.0 first.1 first.2 in
     let next : m.merged + 1 ≡ suc m.merged = omega arith in
     let is : nat_lt m.merged (length m.closed) ≡ true = lt-ltb m.merged (length m.closed) on.2 in
     let n : Machine = record { recent = m.recent; closed = m.closed; merged = m.merged + 1 } in
     let merged : merge m ≡ n = rw is refl in
-    let kept = held e (take m.merged m.closed) first.3 s.kept in
-    let taken : take (m.merged + 1) m.closed ≡ take m.merged m.closed ++ e ∷ [] = ap (λ k. take k m.closed) next ∙ on.0 in
-    subst (LaneStands stands f cache new after) (sym merged) record {
+    subst (FrontStands stands cache new) (sym merged) record {
       cached = record { buckets = s.cached.buckets; each = s.cached.each };
       piped = subst (λ rs. RecordsStand stands cache.key_words rs (drop (m.merged + 1) m.closed)) (sym dropped)
           (subst (RecordsStand stands cache.key_words (drop 1 old.records)) (sym (ap (λ k. drop k m.closed) next ∙ on.1)) first.4);
-      kept = subst (StoreHolds f after) (sym taken) kept;
       few = let l = on.2 in omega arith;
     }
+
+-- the first record stands for the oldest epoch that isn't merged
+pub next_held : (stands : Standing) (f : Folding) (cache : Cache) (pipe : Pipe) (before after : Store) (m : Machine) (epochs : List Epoch) → 0 < length pipe.records
+    → ((epoch : Epoch) → RecordStands stands cache.key_words (get_or pipe.records 0 []) epoch → StoreHolds f before epochs → StoreHolds f after (epochs ++ epoch ∷ []))
+    → FrontStands stands cache pipe m → StoreHolds f before epochs → StoreHolds f after (epochs ++ next_merged m)
+next_held stands f cache pipe before after m epochs some held s kept =
+    let first = records_first stands cache.key_words pipe.records (drop m.merged m.closed) s.piped some in
+    subst (λ es. StoreHolds f after (epochs ++ es)) (sym (ap (take 1) first.2)) (held first.0 first.3 kept)
+
+-- with nothing in the pipe nothing is merged
+pub none_next : (m : Machine) → m.merged ≡ length m.closed → next_merged m ≡ []
+none_next m e = ap (λ n. take 1 (drop n m.closed)) e ∙ rw (drop-length m.closed) refl
+
+-- after a merge the oldest unmerged epoch is the latest merged one
+pub merged_next : (m : Machine) → m.merged ≤ length m.closed → take (merge m).merged (merge m).closed ≡ take m.merged m.closed ++ next_merged m
+merged_next m few = by_test (nat_lt m.merged (length m.closed))
+    (λ t. rw t (ap (λ k. take k m.closed) (let q : m.merged + 1 ≡ suc m.merged = omega arith in q) ∙ next m.merged m.closed))
+    (λ t. let end : m.merged ≡ length m.closed = grind (arith, nat_tests) in rw t (sym (ap (λ es. take m.merged m.closed ++ es) (none_next m end) ∙ append-nil (take m.merged m.closed))))
+  where
+    next : (n : ℕ) (xs : List Epoch) → take (suc n) xs ≡ take n xs ++ take 1 (drop n xs)
+    next zero xs = refl
+    next (suc n) [] = refl
+    next (suc n) (x ∷ xs) = ap (λ ys. x ∷ ys) (next n xs)
+
+-- a lane's store holds the merged epochs after a merge
+pub kept_next : (f : Folding) (store : Store) (m : Machine) → m.merged ≤ length m.closed → StoreHolds f store (take m.merged m.closed ++ next_merged m) → StoreStands f store (merge m)
+kept_next f store m few held = subst (StoreHolds f store) (sym (merged_next m few)) held

@@ -6,6 +6,7 @@ use Rattle.epoch_model.specs.Machine.{Machine, Event, run, empty_buckets}
 use Rattle.epoch_model.specs.Tables.{Folding}
 use Rattle.epoch_model.specs.Timeline.{NoPacket}
 use Rattle.epoch_model.specs.Laws.{SameEpochs}
+use Rattle.epoch_entry.specs.declared.purpose.Entries.{Entries}
 use Rattle.epoch_entry.specs.contracts.any.AnyEpochsEpochKind.TheImpl.{ghosts}
 use Rattle.stage_plan.specs.declared.group.GroupPlan.{GroupPlan}
 use Rattle.stage_plan.specs.Planned.{wiring_at}
@@ -43,30 +44,30 @@ sweeps_sizes ways old new m =
 
 -- they are the lanes of the plan's groupbys still
 pub lanes_kept : (R : ℕ → LaneView → LaneView → Type 0) → ((n : ℕ) (a b : LaneView) → R n a b → SameSizes a b)
-    → (plan : PlanParts) (buckets k : ℕ) (old new : List LaneView) (groups : List GroupPlan) → EachFrom R k old new
-    → EachFrom (λ n lane group. IsLaneOf buckets lane.cache (ghosts.sizes lane.kind) (ghosts.folding lane.kind) (ghosts.open_bound lane.kind) (ghosts.absorb_bound lane.kind) group (wiring_at plan n)) k old groups
-    → EachFrom (λ n lane group. IsLaneOf buckets lane.cache (ghosts.sizes lane.kind) (ghosts.folding lane.kind) (ghosts.open_bound lane.kind) (ghosts.absorb_bound lane.kind) group (wiring_at plan n)) k new groups
-lanes_kept R sizes plan buckets k [] [] [] e f = tt
-lanes_kept R sizes plan buckets k [] [] (g ∷ groups) e f = absurd f
-lanes_kept R sizes plan buckets k [] (b ∷ new) groups e f = absurd e
-lanes_kept R sizes plan buckets k (a ∷ old) [] groups e f = absurd e
-lanes_kept R sizes plan buckets k (a ∷ old) (b ∷ new) [] e f = absurd f
-lanes_kept R sizes plan buckets k (a ∷ old) (b ∷ new) (g ∷ groups) e f =
+    → (entries : Entries) (plan : PlanParts) (buckets k : ℕ) (old new : List LaneView) (groups : List GroupPlan) → EachFrom R k old new
+    → EachFrom (λ n lane group. IsLaneOf entries buckets lane.cache (ghosts.sizes lane.kind) (ghosts.folding lane.kind) (ghosts.open_bound lane.kind) (ghosts.absorb_bound lane.kind) group (wiring_at plan n)) k old groups
+    → EachFrom (λ n lane group. IsLaneOf entries buckets lane.cache (ghosts.sizes lane.kind) (ghosts.folding lane.kind) (ghosts.open_bound lane.kind) (ghosts.absorb_bound lane.kind) group (wiring_at plan n)) k new groups
+lanes_kept R sizes entries plan buckets k [] [] [] e f = tt
+lanes_kept R sizes entries plan buckets k [] [] (g ∷ groups) e f = absurd f
+lanes_kept R sizes entries plan buckets k [] (b ∷ new) groups e f = absurd e
+lanes_kept R sizes entries plan buckets k (a ∷ old) [] groups e f = absurd e
+lanes_kept R sizes entries plan buckets k (a ∷ old) (b ∷ new) [] e f = absurd f
+lanes_kept R sizes entries plan buckets k (a ∷ old) (b ∷ new) (g ∷ groups) e f =
     let s = sizes k a b e.0 in
     let own = f.0 in (
-      subst (λ kind. IsLaneOf buckets b.cache (ghosts.sizes kind) (ghosts.folding kind) (ghosts.open_bound kind) (ghosts.absorb_bound kind) g (wiring_at plan k)) (sym s.kind)
+      subst (λ kind. IsLaneOf entries buckets b.cache (ghosts.sizes kind) (ghosts.folding kind) (ghosts.open_bound kind) (ghosts.absorb_bound kind) g (wiring_at plan k)) (sym s.kind)
           (record { many = s.buckets ∙ own.many; keys = s.key_words ∙ own.keys; args = own.args; class = own.class; kind = own.kind }),
-      lanes_kept R sizes plan buckets (suc k) old new groups e.1 f.1,
+      lanes_kept R sizes entries plan buckets (suc k) old new groups e.1 f.1,
     )
 
 -- all lanes have so many buckets
-pub lanes_many : (plan : PlanParts) (buckets k : ℕ) (lanes : List LaneView) (groups : List GroupPlan)
-    → EachFrom (λ n lane group. IsLaneOf buckets lane.cache (ghosts.sizes lane.kind) (ghosts.folding lane.kind) (ghosts.open_bound lane.kind) (ghosts.absorb_bound lane.kind) group (wiring_at plan n)) k lanes groups
+pub lanes_many : (entries : Entries) (plan : PlanParts) (buckets k : ℕ) (lanes : List LaneView) (groups : List GroupPlan)
+    → EachFrom (λ n lane group. IsLaneOf entries buckets lane.cache (ghosts.sizes lane.kind) (ghosts.folding lane.kind) (ghosts.open_bound lane.kind) (ghosts.absorb_bound lane.kind) group (wiring_at plan n)) k lanes groups
     → (n : ℕ) (lane : LaneView) → slice_get lanes n ≡ Some lane → length lane.cache.lists ≡ buckets
-lanes_many plan buckets k [] groups f n lane h = cc
-lanes_many plan buckets k (a ∷ lanes) [] f n lane h = absurd f
-lanes_many plan buckets k (a ∷ lanes) (g ∷ groups) f zero lane h = let same : a ≡ lane = cc in subst (λ l. length l.cache.lists ≡ buckets) same f.0.many
-lanes_many plan buckets k (a ∷ lanes) (g ∷ groups) f (suc n) lane h = lanes_many plan buckets (suc k) lanes groups f.1 n lane h
+lanes_many entries plan buckets k [] groups f n lane h = cc
+lanes_many entries plan buckets k (a ∷ lanes) [] f n lane h = absurd f
+lanes_many entries plan buckets k (a ∷ lanes) (g ∷ groups) f zero lane h = let same : a ≡ lane = cc in subst (λ l. length l.cache.lists ≡ buckets) same f.0.many
+lanes_many entries plan buckets k (a ∷ lanes) (g ∷ groups) f (suc n) lane h = lanes_many entries plan buckets (suc k) lanes groups f.1 n lane h
 
 -- the machines after the events
 
@@ -110,13 +111,14 @@ same_places R sizes k [] (b ∷ new) e = absurd e
 same_places R sizes k (a ∷ old) [] e = absurd e
 same_places R sizes k (a ∷ old) (b ∷ new) e = let s = sizes k a b e.0 in let rest = same_places R sizes (suc k) old new e.1 in rw (s.places, rest) refl
 
-pub pipeline_makes : (ways : ℕ) (events : ℕ → List Event) (plan : PlanParts) (buckets : ℕ) (old new : List LaneView) → AreLanesOf plan buckets old → LanesMake ways events old new
-    → PipelineMakes ways events (record { plan = plan; buckets = buckets; lanes = old }) (record { plan = plan; buckets = buckets; lanes = new })
-pipeline_makes ways events plan buckets old new are e = record {
-  stands = λ ms s. stand_after ways buckets events 0 old new ms (lanes_many plan buckets 0 old plan.groups are) e s;
+pub pipeline_makes : (ways : ℕ) (events : ℕ → List Event) (entries : Entries) (plan : PlanParts) (buckets : ℕ) (old new : List LaneView) → AreLanesOf entries plan buckets old → LanesMake ways events old new
+    → PipelineMakes ways events (record { plan = plan; entries = entries; buckets = buckets; lanes = old }) (record { plan = plan; entries = entries; buckets = buckets; lanes = new })
+pipeline_makes ways events entries plan buckets old new are e = record {
+  stands = λ ms s. stand_after ways buckets events 0 old new ms (lanes_many entries plan buckets 0 old plan.groups are) e s;
   others = λ n none. same_others ways events 0 old new e n n (omega arith) none;
   kinds = same_kinds (λ n. LaneMakes ways (events n)) (λ n a b m. makes_sizes ways (events n) a b m) 0 old new e;
   plan = refl;
+  entries = refl;
   buckets = refl;
   places = same_places (λ n. LaneMakes ways (events n)) (λ n a b m. makes_sizes ways (events n) a b m) 0 old new e;
 }
@@ -153,10 +155,10 @@ kinds_each ways k [] (b ∷ new) e = absurd e
 kinds_each ways k (a ∷ old) [] e = absurd e
 kinds_each ways k (a ∷ old) (b ∷ new) e = (e.0.kind, kinds_each ways (suc k) old new e.1)
 
-pub pipeline_is_swept : (ways : ℕ) (plan : PlanParts) (buckets : ℕ) (old new : List LaneView) → AreLanesOf plan buckets old → Each (LaneSweeps ways) old new → Each LaneIsSwept old new
-    → PipelineIsSwept (record { plan = plan; buckets = buckets; lanes = old }) (record { plan = plan; buckets = buckets; lanes = new })
-pipeline_is_swept ways plan buckets old new are made e = record {
-  stands = λ ms s. swept_stand buckets 0 old new ms (lanes_many plan buckets 0 old plan.groups are) (kinds_each ways 0 old new made) e s;
+pub pipeline_is_swept : (ways : ℕ) (entries : Entries) (plan : PlanParts) (buckets : ℕ) (old new : List LaneView) → AreLanesOf entries plan buckets old → Each (LaneSweeps ways) old new → Each LaneIsSwept old new
+    → PipelineIsSwept (record { plan = plan; entries = entries; buckets = buckets; lanes = old }) (record { plan = plan; entries = entries; buckets = buckets; lanes = new })
+pipeline_is_swept ways entries plan buckets old new are made e = record {
+  stands = λ ms s. swept_stand buckets 0 old new ms (lanes_many entries plan buckets 0 old plan.groups are) (kinds_each ways 0 old new made) e s;
   held = swept_empty 0 old new e;
 }
 
@@ -178,12 +180,13 @@ sweeps_stand ways buckets k (a ∷ old) (b ∷ new) (m ∷ ms) many e s =
       ((made.0, made.1, refl), rest.2),
     )
 
-pub pipeline_sweeps : (ways : ℕ) (plan : PlanParts) (buckets : ℕ) (old new : List LaneView) → AreLanesOf plan buckets old → Each (LaneSweeps ways) old new
-    → PipelineSweeps ways (record { plan = plan; buckets = buckets; lanes = old }) (record { plan = plan; buckets = buckets; lanes = new })
-pipeline_sweeps ways plan buckets old new are e = record {
-  stands = λ ms s. sweeps_stand ways buckets 0 old new ms (lanes_many plan buckets 0 old plan.groups are) e s;
+pub pipeline_sweeps : (ways : ℕ) (entries : Entries) (plan : PlanParts) (buckets : ℕ) (old new : List LaneView) → AreLanesOf entries plan buckets old → Each (LaneSweeps ways) old new
+    → PipelineSweeps ways (record { plan = plan; entries = entries; buckets = buckets; lanes = old }) (record { plan = plan; entries = entries; buckets = buckets; lanes = new })
+pipeline_sweeps ways entries plan buckets old new are e = record {
+  stands = λ ms s. sweeps_stand ways buckets 0 old new ms (lanes_many entries plan buckets 0 old plan.groups are) e s;
   kinds = same_kinds (λ n. LaneSweeps ways) (λ n a b m. sweeps_sizes ways a b m) 0 old new e;
   plan = refl;
+  entries = refl;
   buckets = refl;
   places = same_places (λ n. LaneSweeps ways) (λ n a b m. sweeps_sizes ways a b m) 0 old new e;
 }

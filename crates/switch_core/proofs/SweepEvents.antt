@@ -74,7 +74,7 @@ records_long means kw (w ∷ ws) (e ∷ es) s = ap (λ n. suc n) (records_long m
 
 -- as many records as there are closed epochs that aren't merged
 waiting : (means : Standing) (f : Folding) (lane : Parts) (m : Machine) → PartsStand means f lane m → length m.closed - m.merged ≡ length lane.pipe.records
-waiting means f lane m s = sym (length-drop m.merged m.closed) ∙ sym (records_long means lane.cache.key_words lane.pipe.records (drop m.merged m.closed) s.piped)
+waiting means f lane m s = sym (length-drop m.merged m.closed) ∙ sym (records_long means lane.cache.key_words lane.pipe.records (drop m.merged m.closed) s.front.piped)
 
 pub runs_ready : (means : Standing) (f : Folding) (ways : ℕ) (lane : Parts) → nat_lt (length lane.pipe.records) lane.pipe.places ≡ true → RunsAll means f ways (room_events lane.pipe.places) lane lane
 runs_ready means f ways lane room m s =
@@ -130,7 +130,7 @@ evicted_more means f ways bucket first was ready new same before room made one =
 
 -- as many pairs as open epochs
 open_long : (means : Standing) (f : Folding) (bucket : ℕ) (lane : Parts) (m : Machine) → PartsStand means f lane m → length (list_at lane.cache bucket) ≡ length (open_in m bucket)
-open_long means f bucket lane m s = pairs_long (PairStands means lane.cache) (list_at lane.cache bucket) (open_in m bucket) (s.cached.each bucket)
+open_long means f bucket lane m s = pairs_long (PairStands means lane.cache) (list_at lane.cache bucket) (open_in m bucket) (s.front.cached.each bucket)
 
 -- the eviction that finds the bucket empty
 pub bucket_runs : (means : Standing) (f : Folding) (ways bucket : ℕ) (first was ready new : Parts) → SameRoom first was → Evicted means f ways bucket first was

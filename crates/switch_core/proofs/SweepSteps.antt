@@ -69,7 +69,7 @@ none_open (x ∷ epochs) e = absurd (omega arith)
 pub on_end : BucketsEmptyByEvictions → (means : Standing) (f : Folding) (bucket : ℕ) (a b : Parts) → LeadsOn means f bucket a b → length (list_at b.cache bucket) ≡ 0 → Leads means f (λ m. empty_bucket m bucket) a b
 on_end buckets means f bucket a b l e m s =
     let n = l m s in
-    let none = none_open (open_in n.0 bucket) (sym (pairs_long (PairStands means b.cache) (list_at b.cache bucket) (open_in n.0 bucket) (n.1.cached.each bucket)) ∙ e) in
+    let none = none_open (open_in n.0 bucket) (sym (pairs_long (PairStands means b.cache) (list_at b.cache bucket) (open_in n.0 bucket) (n.1.front.cached.each bucket)) ∙ e) in
     (n.0, n.1, subst (λ x. SameEpochs x (empty_bucket m bucket)) (buckets.done n.0 bucket none) n.2)
 
 -- one bucket after another

@@ -1,4 +1,4 @@
--- When cache, pipe and store stand for a machine.
+-- When a front, a store and a lane stand for a machine.
 use Rattle.std.specs.Prelude.{◌≡◌, ◌≤◌, ℕ, List, [], ◌∷◌, length, take, drop}
 use Rattle.epoch_model.specs.Keys.{ArgRow}
 use Rattle.epoch_model.specs.Epochs.{Geometry}
@@ -52,9 +52,13 @@ StoreStands f store m = StoreHolds f store (take m.merged m.closed)
 abbrev pub geometry : ℕ → Cache → Geometry
 geometry ways cache = record { buckets = length cache.lists; ways = ways; refresh = 0 }
 
--- A lane stands for a machine: the cache for its open epochs, the pipe for its closed ones that aren't merged, and the store for its merged ones.
-pub record LaneStands (stands : Standing) (f : Folding) (cache : Cache) (pipe : Pipe) (store : Store) (m : Machine) : Type 0 where
+-- A front stands for a machine: the cache for its open epochs, and the pipe for its closed ones that aren't merged.
+pub record FrontStands (stands : Standing) (cache : Cache) (pipe : Pipe) (m : Machine) : Type 0 where
   pub cached : CacheStands stands cache m
   pub piped : PipeStands stands cache.key_words pipe.records m
-  pub kept : StoreStands f store m
   pub few : m.merged ≤ length m.closed
+
+-- A lane stands for a machine: its front does, and its store for the merged epochs.
+pub record LaneStands (stands : Standing) (f : Folding) (cache : Cache) (pipe : Pipe) (store : Store) (m : Machine) : Type 0 where
+  pub front : FrontStands stands cache pipe m
+  pub kept : StoreStands f store m

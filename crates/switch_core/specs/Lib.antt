@@ -1,7 +1,8 @@
 pub mod Places
 pub mod Lanes
 pub mod Shapes
-pub mod LaneParts
+pub mod FrontParts
+pub mod FrontEvents
 pub mod LaneEvents
 pub mod Closing
 pub mod Sweeps

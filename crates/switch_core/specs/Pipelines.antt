@@ -6,8 +6,10 @@ use Rattle.epoch_model.specs.Epochs.{Geometry}
 use Rattle.epoch_model.specs.Machine.{Machine, Event, run, empty_machine}
 use Rattle.epoch_model.specs.Tables.{Folding}
 use Rattle.epoch_model.specs.Driving.{event_of}
-use Rattle.epoch_entry.specs.Foldings.{IsKindOf, per_epoch}
+use Rattle.epoch_entry.specs.declared.purpose.Entries.{Entries}
+use Rattle.epoch_entry.specs.Foldings.{per_epoch}
 use Rattle.epoch_entry.specs.Kinds.{Sizes}
+use Rattle.epoch_entry.specs.Purposes.{IsKindFor}
 use Rattle.bucket_cache.specs.Caches.{Cache}
 use Rattle.evict_pipe.specs.Pipes.{Pipe}
 use Rattle.final_queries.specs.declared.table.Table.{Table}
@@ -18,12 +20,13 @@ use Rattle.stage_plan.specs.Planned.{registers_of, taken}
 use Rattle.stage_plan.specs.Sound.{PlanParts}
 
 -- what a lane has of its groupby: as many buckets as all lanes, the words of the groupby's keys and arguments, and the kind of its program
-pub record IsLaneOf (buckets : ℕ) (cache : Cache) (sizes : Sizes) (folding : Folding) (opening absorbing : ℕ) (group : GroupPlan) (wiring : GroupWiring) : Type 0 where
+-- for what the entries are for
+pub record IsLaneOf (entries : Entries) (buckets : ℕ) (cache : Cache) (sizes : Sizes) (folding : Folding) (opening absorbing : ℕ) (group : GroupPlan) (wiring : GroupWiring) : Type 0 where
   pub many : length cache.lists ≡ buckets
   pub keys : cache.key_words ≡ length group.key_names
   pub args : sizes.args ≡ length wiring.args
   pub class : folding.row_per_epoch ≡ per_epoch group.program.class
-  pub kind : (f : TypedFold) → IsProgramOf f group.program → IsKindOf f sizes folding opening absorbing
+  pub kind : (f : TypedFold) → IsProgramOf f group.program → IsKindFor entries f sizes folding opening absorbing
 
 -- room for the registers of the plan, for a key and for a row of arguments
 pub record HasRooms (plan : PlanParts) (registers key args : List ℕ) : Type 0 where

@@ -6,13 +6,14 @@ use Rattle.epoch_model.specs.Timeline.{NoPacket}
 use Rattle.epoch_model.specs.Laws.{SameEpochs}
 use Rattle.epoch_model.specs.Tables.{Folding}
 use Rattle.epoch_entry.specs.declared.any.AnyEpochs.{AnyEpochs}
+use Rattle.epoch_entry.specs.declared.purpose.Entries.{Entries}
 use Rattle.epoch_entry.specs.contracts.any.AnyEpochsEpochKind.TheImpl.{ghosts}
 use Rattle.bucket_cache.specs.Caches.{Cache}
 use Rattle.evict_pipe.specs.Pipes.{Pipe}
 use Rattle.backing_store.specs.Store.{Store}
 use Rattle.stage_plan.specs.Planned.{registers_of, wiring_at}
 use Rattle.stage_plan.specs.Sound.{PlanParts}
-use Rattle.switch_core.specs.declared.lane.Lane.{Lane}
+use Rattle.switch_core.specs.FrontParts.{LaneOf}
 use Rattle.switch_core.specs.Lanes.{LaneStands}
 use Rattle.switch_core.specs.LaneEvents.{Parts, parts, MakesAll}
 use Rattle.switch_core.specs.Pipelines.{IsLaneOf, HasRooms, after_events, geometry_of}
@@ -27,12 +28,13 @@ pub record LaneView : Type 0 where
   pub pipe : Pipe
   pub store : Store
 
-abbrev pub lane_view : {ways : ℕ} → Lane AnyEpochs ways ghosts → LaneView
+abbrev pub lane_view : LaneOf AnyEpochs → LaneView
 lane_view lane = record { kind = lane.kind; cache = lane.cache; pipe = lane.pipe; store = lane.store }
 
--- the plan, the number of buckets of each lane, and the lanes in the order of the groupbys
+-- the plan, what the entries are for, the number of buckets of each lane, and the lanes in the order of the groupbys
 pub record PipelineView : Type 0 where
   pub plan : PlanParts
+  pub entries : Entries
   pub buckets : ℕ
   pub lanes : List LaneView
 
@@ -67,15 +69,15 @@ lane_is_ready lane = nat_lt (length lane.pipe.records) lane.pipe.places
 abbrev pub AtLane : (LaneView → Type 0) → List LaneView → ℕ → Type 0
 AtLane P lanes n = (lane : LaneView) → slice_get lanes n ≡ Some lane → P lane
 
--- the lanes are those of the plan's groupbys, in order
-abbrev pub AreLanesOf : PlanParts → ℕ → List LaneView → Type 0
-AreLanesOf plan buckets lanes =
-    EachFrom (λ n lane group. IsLaneOf buckets lane.cache (ghosts.sizes lane.kind) (ghosts.folding lane.kind) (ghosts.open_bound lane.kind) (ghosts.absorb_bound lane.kind) group (wiring_at plan n)) 0 lanes plan.groups
+-- the lanes are those of the plan's groupbys, in order, with entries for this
+abbrev pub AreLanesOf : Entries → PlanParts → ℕ → List LaneView → Type 0
+AreLanesOf entries plan buckets lanes =
+    EachFrom (λ n lane group. IsLaneOf entries buckets lane.cache (ghosts.sizes lane.kind) (ghosts.folding lane.kind) (ghosts.open_bound lane.kind) (ghosts.absorb_bound lane.kind) group (wiring_at plan n)) 0 lanes plan.groups
 
 -- a lane for each groupby of the plan, and room for what is taken of a packet
 pub record IsPipeline (ways : ℕ) (p : PipelineView) (registers key args : List ℕ) : Type 0 where
   pub few_ways : ways ≤ 65536
-  pub lanes : AreLanesOf p.plan p.buckets p.lanes
+  pub lanes : AreLanesOf p.entries p.plan p.buckets p.lanes
   pub rooms : HasRooms p.plan registers key args
 
 -- a lane makes these events one after another
@@ -93,6 +95,7 @@ pub record PipelineMakes (ways : ℕ) (events : ℕ → List Event) (old new : P
   pub others : (n : ℕ) → events n ≡ [] → slice_get new.lanes n ≡ slice_get old.lanes n
   pub kinds : map (λ lane. lane.kind) new.lanes ≡ map (λ lane. lane.kind) old.lanes
   pub plan : new.plan ≡ old.plan
+  pub entries : new.entries ≡ old.entries
   pub buckets : new.buckets ≡ old.buckets
   pub places : places_of new.lanes ≡ places_of old.lanes
 
@@ -145,5 +148,6 @@ pub record PipelineSweeps (ways : ℕ) (old new : PipelineView) : Type 0 where
       × Each (λ m n. (events : List Event) × NoPacket events × (n ≡ run (geometry_of ways old.buckets) events m)) machines later
   pub kinds : map (λ lane. lane.kind) new.lanes ≡ map (λ lane. lane.kind) old.lanes
   pub plan : new.plan ≡ old.plan
+  pub entries : new.entries ≡ old.entries
   pub buckets : new.buckets ≡ old.buckets
   pub places : places_of new.lanes ≡ places_of old.lanes

@@ -1,18 +1,17 @@
 //! A lane: what is kept for one groupby.
 
-ghost use Rattle.std.specs.Prelude.{◌≡◌, ◌+◌, ◌-◌, ◌*◌, ◌<◌, ◌≤◌, ◌==◌, ◌&&◌, ◌↔◌, List, [], take, drop, OnOk, OnErr, not, true, false, length, map, nat_lt, IfOk, sum_by};
+ghost use Rattle.std.specs.Prelude.{◌≡◌, ◌+◌, ◌-◌, ◌*◌, ◌<◌, ◌≤◌, ◌==◌, ◌↔◌, take, drop, OnOk, OnErr, not, true, false, length, nat_lt, IfOk};
 ghost use Rattle.epoch_model.specs.Machine.{Machine, Packet, Evict, Merge, empty_machine};
 ghost use Rattle.epoch_model.specs.Timeline.{IsSwept};
-ghost use Rattle.bucket_cache.specs.Caches.{Cache, list_at, with_list};
+ghost use Rattle.bucket_cache.specs.Caches.{list_at, with_list};
 ghost use Rattle.switch_core.specs.Lanes.{LaneStands, geometry};
-ghost use Rattle.switch_core.specs.LaneParts.{AreParts};
+ghost use Rattle.switch_core.specs.FrontParts.{IsFront, FitsStore};
 ghost use Rattle.switch_core.specs.LaneEvents.{EventsAreFollowed, Makes, parts};
 ghost use Rattle.switch_core.specs.Closing.{held_in, is_drained};
 ghost use Rattle.final_queries.specs.GroupTable.{closed_table};
 
 use crate::closing::columns;
-use crate::merging::merge_record;
-use crate::packet::{packet_at, push_pair};
+use crate::front::{Front, Merged};
 use backing_store::BackingStore;
 use bucket_cache::BucketCache;
 use epoch_entry::EpochKind;
@@ -22,30 +21,26 @@ use marple_base::{Seq, Steps, Text};
 use merged_epochs::{held_rows_are_the_tables, shown_rows};
 use query_lang::Class;
 use std::alloc::{AllocError, Global};
+use std::marker::Model;
 use std::sync::ledger::Ledger;
-
-/// What a merge found.
-#[derive(Clone, Copy, Debug, PartialEq, Eq)]
-pub enum Merged {
-    /// The oldest record, which is in the store now.
-    Done,
-    /// An empty pipe.
-    Empty,
-}
 
 /// The cache, the pipe and the store of one groupby, for entries of one kind. Only `merge` and `close` take memory once
 /// it is made.
 #[derive(Drop)]
 pub struct Lane<K: EpochKind, const WAYS: usize> {
     alloc: Global,
-    kind: K,
-    cache: BucketCache<WAYS>,
-    pipe: EvictPipe,
+    front: Front<K, WAYS>,
     store: BackingStore,
-    scratch: Vec<u64>,
-    room: Vec<u64>,
-    initial: Vec<u64>,
-    ghost parts: { AreParts WAYS (K.sizes kind) (K.folding kind) cache pipe store scratch.items room.items initial.items },
+}
+
+impl<K: EpochKind, const WAYS: usize> Model for Lane<K, WAYS> {
+    ghost use Rattle.switch_core.specs.FrontParts.{LaneOf, FitsStore};
+
+    ghost Value = { LaneOf K };
+
+    ghost view = { λ l. record { kind = l.front.kind; cache = l.front.cache; pipe = l.front.pipe; store = l.store } };
+
+    ghost invariant = { λ l. FitsStore (K.sizes l.front.kind) l.front.cache l.store };
 }
 
 impl<K: EpochKind, const WAYS: usize> Lane<K, WAYS> {
@@ -69,32 +64,28 @@ impl<K: EpochKind, const WAYS: usize> Lane<K, WAYS> {
         ensures places { IfOk result (λ lane. lane.pipe.places ≡ pipe_records) }
         ensures key { IfOk result (λ lane. lane.cache.key_words ≡ key_words) }
     {
-        let entry_words = kind.entry_words();
-        let cache = BucketCache::new(alloc, buckets, key_words, entry_words)?;
-        let pipe = EvictPipe::new(alloc, pipe_records, key_words + entry_words)?;
-        let state_words = kind.state_words();
-        let store = BackingStore::new(alloc, key_words, state_words);
-        let scratch = vec![in alloc; 0; kind.scratch_words()]?;
-        let room = vec![in alloc; 0; key_words + entry_words]?;
-        let mut initial = vec![in alloc; 0; state_words]?;
-        kind.initial(&mut initial);
+        let store = BackingStore::new(alloc, key_words, kind.state_words());
+        let front = Front::new(alloc, kind, buckets, key_words, pipe_records)?;
         Ok(Lane {
             alloc,
-            kind,
-            cache,
-            pipe,
+            front,
             store,
-            scratch,
-            room,
-            initial,
         })
+    }
+
+    /// What holds of every lane: its words are as many as the kind says.
+    pub fn known(&self)
+        ensures front { IsFront WAYS (K.sizes self.now.kind) self.now.cache self.now.pipe }
+        ensures store { FitsStore (K.sizes self.now.kind) self.now.cache self.now.store }
+    {
+        self.front.known();
     }
 
     /// Whether the pipe has room for a record.
     pub fn ready(&self) -> bool
         ensures { result ≡ nat_lt (length self.now.pipe.records) self.now.pipe.places }
     {
-        self.pipe.has_room()
+        self.front.ready()
     }
 
     /// Takes a packet with this key and argument row.
@@ -108,15 +99,7 @@ impl<K: EpochKind, const WAYS: usize> Lane<K, WAYS> {
         ensures cost { let key_words = self.old.cache.key_words in
             steps.new ≤ steps.old + (key_words + 2 * WAYS * (key_words + 1) + (key_words + (K.sizes self.old.kind).entry) + K.open_bound self.old.kind + K.absorb_bound self.old.kind) }
     {
-        packet_at(
-            &self.kind,
-            &mut self.cache,
-            &mut self.pipe,
-            key,
-            args,
-            &mut self.scratch,
-            steps,
-        );
+        self.front.packet(key, args, steps);
     }
 
     /// Closes the least recently used epoch of a bucket: its entry goes into the pipe. False exactly where the bucket
@@ -132,14 +115,7 @@ impl<K: EpochKind, const WAYS: usize> Lane<K, WAYS> {
         ensures store { self.new.store ≡ self.old.store }
         ensures at_least { steps.old ≤ steps.new }
     {
-        match self.cache.least(bucket) {
-            Some(place) => {
-                push_pair(&self.cache, &mut self.pipe, place, steps);
-                self.cache.drop_entry(bucket, steps);
-                true
-            }
-            None => false,
-        }
+        self.front.evict(bucket, steps)
     }
 
     /// Merges the oldest record of the pipe into the store. Empty exactly where the pipe is empty, and then nothing
@@ -155,20 +131,7 @@ impl<K: EpochKind, const WAYS: usize> Lane<K, WAYS> {
         ensures cache { self.new.cache ≡ self.old.cache }
         ensures at_least { steps.old ≤ steps.new }
     {
-        if self.piped() == 0 {
-            return Ok(Merged::Empty);
-        }
-        let _copied = self.pipe.front_into(&mut self.room, steps);
-        merge_record(
-            &self.kind,
-            &mut self.store,
-            &self.room,
-            &self.initial,
-            &mut self.scratch,
-            steps,
-        )?;
-        self.pipe.drop_front();
-        Ok(Merged::Done)
+        self.front.merge_into(&mut self.store, steps)
     }
 
     /// The number of open epochs in the cache.
@@ -176,7 +139,7 @@ impl<K: EpochKind, const WAYS: usize> Lane<K, WAYS> {
         ensures number { result ≡ held_in self.now.cache }
         ensures bound { result ≤ length self.now.cache.lists * WAYS }
     {
-        self.cache.held()
+        self.front.held()
     }
 
     /// The number of records in the pipe.
@@ -184,7 +147,7 @@ impl<K: EpochKind, const WAYS: usize> Lane<K, WAYS> {
         ensures number { result ≡ length self.now.pipe.records }
         ensures bound { result ≤ self.now.pipe.places }
     {
-        self.pipe.len()
+        self.front.piped()
     }
 
     /// Whether cache and pipe are empty. Then no epoch is open, and all closed ones are merged.
@@ -192,7 +155,7 @@ impl<K: EpochKind, const WAYS: usize> Lane<K, WAYS> {
         ensures value { result ≡ is_drained self.now.cache self.now.pipe }
         ensures done { result ≡ true → (m : Machine) → LaneStands (K.stands self.now.kind) (K.folding self.now.kind) self.now.cache self.now.pipe self.now.store m → IsSwept m × (m.merged ≡ length m.closed) }
     {
-        self.held() == 0 && self.piped() == 0
+        self.front.drained()
     }
 
     /// The table of the closed epochs, under these names. The lane stays as it is.
@@ -211,10 +174,11 @@ impl<K: EpochKind, const WAYS: usize> Lane<K, WAYS> {
             → table ≡ closed_table (record { name = name; key_names = key_names; state_names = state_names; class = class; depth = depth }) (K.folding self.now.kind) m.closed) }
     {
         held_rows_are_the_tables();
+        self.known();
         self.store.known();
         let keys = key_names.len() as u8;
         let stored = self.store.sorted()?;
-        let shown = shown_rows(self.alloc, stored, self.kind.row_per_epoch())?;
+        let shown = shown_rows(self.alloc, stored, self.front.kind().row_per_epoch())?;
         Ok(Table {
             name,
             columns: columns(key_names, state_names)?,
@@ -229,28 +193,28 @@ impl<K: EpochKind, const WAYS: usize> Lane<K, WAYS> {
     pub fn follows_events(&self)
         ensures { EventsAreFollowed (K.stands self.now.kind) (K.folding self.now.kind) WAYS }
     {
-        let _kind = &self.kind;
+        let _front = &self.front;
     }
 
     /// The kind of its entries.
     pub fn kind(&self) -> &K
         ensures { result.now ≡ self.now.kind }
     {
-        &self.kind
+        self.front.kind()
     }
 
     /// The cache of open epochs.
     pub fn cache(&self) -> &BucketCache<WAYS>
         ensures { result.now ≡ self.now.cache }
     {
-        &self.cache
+        self.front.cache()
     }
 
     /// The pipe of closed epochs that aren't merged.
     pub fn pipe(&self) -> &EvictPipe
         ensures { result.now ≡ self.now.pipe }
     {
-        &self.pipe
+        self.front.pipe()
     }
 
     /// The store of merged epochs.

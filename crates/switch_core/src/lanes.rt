@@ -4,6 +4,7 @@ ghost use Rattle.std.specs.Prelude.{◌≡◌, ◌+◌, ◌<◌, ◌≤◌, ◌=
 ghost use Rattle.std.specs.List.{list_all};
 ghost use Rattle.epoch_model.specs.Machine.{Evict, Merge};
 ghost use Rattle.epoch_model.specs.Driving.{event_of};
+ghost use Rattle.epoch_entry.specs.declared.purpose.Entries.{Entries};
 ghost use Rattle.stage_plan.specs.Planned.{registers_of, wiring_at};
 ghost use Rattle.stage_plan.specs.Registers.{taken_at};
 ghost use Rattle.bucket_cache.specs.Caches.{list_at};
@@ -12,7 +13,8 @@ ghost use Rattle.switch_core.specs.Rows.{Each};
 ghost use Rattle.switch_core.specs.Pipelines.{event_at};
 ghost use Rattle.switch_core.specs.PlanLanes.{AreLanesOf, AtLane, LaneMakes, LanesMake, LaneView, LaneIsSwept, LaneRunsSweep, LaneSweeps, SweepBreaksOff, lane_cost, lane_is_ready, lane_view};
 
-use crate::lane::{Lane, Merged};
+use crate::front::Merged;
+use crate::lane::Lane;
 use crate::sweeping::sweep_lane;
 use epoch_entry::{AnyEpochs, EpochKind};
 use marple_base::Steps;
@@ -72,7 +74,7 @@ pub fn packet_lanes<const WAYS: usize, L: Ledger>(
     args: &mut [u64],
     steps: &mut Steps<L>,
 )
-    requires lanes { (buckets : ℕ) × AreLanesOf plan.now buckets (map lane_view lanes.old) }
+    requires lanes { (entries : Entries) × (buckets : ℕ) × AreLanesOf entries plan.now buckets (map lane_view lanes.old) }
     requires registers { length registers.now ≡ registers_of plan.now }
     requires ready { list_all lane_is_ready (map lane_view lanes.old) ≡ true }
     requires key { length key.old ≡ 8 }

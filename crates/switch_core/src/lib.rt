@@ -3,6 +3,7 @@
 #![tactic(auto)]
 
 mod closing;
+mod front;
 mod lane;
 mod lanes;
 mod laws;
@@ -14,7 +15,8 @@ mod places;
 mod sweeping;
 mod tables;
 
-pub use lane::{Lane, Merged};
+pub use front::{Front, Merged};
+pub use lane::Lane;
 pub use laws::tables_are_of_folds;
 pub use merging::merge_entry;
 pub use pipeline::Pipeline;

@@ -4,13 +4,13 @@ ghost use Rattle.std.specs.Prelude.{◌≡◌, ◌*◌, ◌<◌, ◌≤◌, leng
 ghost use Rattle.fold_class.specs.Program.{IsProgram, IsProgramOf};
 ghost use Rattle.query_lang.specs.declared.fold.TypedFold.{TypedFold};
 ghost use Rattle.epoch_model.specs.Machine.{empty_machine};
-ghost use Rattle.epoch_entry.specs.Foldings.{IsKindOf};
+ghost use Rattle.epoch_entry.specs.Purposes.{IsKindFor};
 ghost use Rattle.switch_core.specs.Rows.{Each};
 ghost use Rattle.switch_core.specs.Pipelines.{empty_machines, geometry_of};
 ghost use Rattle.switch_core.specs.PlanLanes.{AreLanesOf, HavePlaces, StandsFor, lane_view};
 
 use crate::lane::Lane;
-use epoch_entry::{AnyEpochs, EpochKind, entries_are_small};
+use epoch_entry::{AnyEpochs, Entries, EpochKind, entries_are_small, entries_suit_folds};
 use stage_plan::{GroupPlan, Plan};
 use std::alloc::{AllocError, Global};
 
@@ -18,6 +18,7 @@ use std::alloc::{AllocError, Global};
 fn made_lane<const WAYS: usize>(
     alloc: Global,
     group: &GroupPlan,
+    entries: Entries,
     buckets: u32,
     pipe_records: u32,
 ) -> Result<Lane<AnyEpochs, WAYS>, AllocError>
@@ -32,10 +33,10 @@ fn made_lane<const WAYS: usize>(
     ensures pipe_places { IfOk result (λ lane. lane.pipe.places ≡ pipe_records) }
     ensures keys { IfOk result (λ lane. lane.cache.key_words ≡ length group.now.key_names) }
     ensures kind { IfOk result (λ lane. (f : TypedFold) → IsProgramOf f group.now.program
-        → IsKindOf f (⟦<AnyEpochs as EpochKind>⟧.sizes lane.kind) (⟦<AnyEpochs as EpochKind>⟧.folding lane.kind) (⟦<AnyEpochs as EpochKind>⟧.open_bound lane.kind) (⟦<AnyEpochs as EpochKind>⟧.absorb_bound lane.kind)) }
+        → IsKindFor entries f (⟦<AnyEpochs as EpochKind>⟧.sizes lane.kind) (⟦<AnyEpochs as EpochKind>⟧.folding lane.kind) (⟦<AnyEpochs as EpochKind>⟧.open_bound lane.kind) (⟦<AnyEpochs as EpochKind>⟧.absorb_bound lane.kind)) }
 {
     entries_are_small();
-    let kind = AnyEpochs::of(group.program.copy(alloc)?);
+    let kind = AnyEpochs::for_entries(entries, group.program.copy(alloc)?);
     Lane::new(alloc, kind, buckets, group.key_names.len(), pipe_records)
 }
 
@@ -43,6 +44,7 @@ fn made_lane<const WAYS: usize>(
 pub fn made_lanes<const WAYS: usize>(
     alloc: Global,
     plan: &Plan,
+    entries: Entries,
     buckets: u32,
     pipe_records: u32,
 ) -> Result<Vec<Lane<AnyEpochs, WAYS>>, AllocError>
@@ -50,14 +52,15 @@ pub fn made_lanes<const WAYS: usize>(
     requires buckets { 0 < buckets }
     requires places { buckets * WAYS ≤ 65536 }
     requires pipe { (0 < pipe_records) × (pipe_records ≤ 65536) }
-    ensures lanes { IfOk result (λ lanes. AreLanesOf plan.now buckets (map lane_view lanes.items)) }
+    ensures lanes { IfOk result (λ lanes. AreLanesOf entries plan.now buckets (map lane_view lanes.items)) }
     ensures pipe_places { IfOk result (λ lanes. HavePlaces pipe_records (map lane_view lanes.items)) }
     ensures stands { IfOk result (λ lanes. Each StandsFor (map lane_view lanes.items) (empty_machines (geometry_of WAYS buckets) plan.now.groups)) }
 {
+    entries_suit_folds();
     plan.known();
     let mut lanes = Vec::new(alloc);
     for i in 0..plan.groups() {
-        let lane = made_lane(alloc, plan.group(i), buckets, pipe_records)?;
+        let lane = made_lane(alloc, plan.group(i), entries, buckets, pipe_records)?;
         lanes.push(lane)?;
     }
     Ok(lanes)

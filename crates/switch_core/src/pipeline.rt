@@ -6,16 +6,18 @@ ghost use Rattle.epoch_model.specs.Machine.{Machine, Evict, Merge};
 ghost use Rattle.epoch_model.specs.Timeline.{IsSwept};
 ghost use Rattle.switch_core.specs.Rows.{Each};
 ghost use Rattle.bucket_cache.specs.Caches.{list_at};
+ghost use Rattle.epoch_entry.specs.Purposes.{runs_of};
 ghost use Rattle.stage_plan.specs.Planned.{plan_bound};
 ghost use Rattle.switch_core.specs.Closing.{held_in};
 ghost use Rattle.switch_core.specs.Pipelines.{empty_machines, event_at, geometry_of, packet_events, tables_of};
 ghost use Rattle.switch_core.specs.PlanLanes.{AreLanesOf, AtLane, HavePlaces, LaneRunsSweep, PipelineIsSwept, PipelineMakes, PipelineStands, PipelineSweeps, SweepBreaksOff, folding_at, lane_is_drained, lane_is_ready, lane_view, pipeline_cost};
 
-use crate::lane::{Lane, Merged};
+use crate::front::Merged;
+use crate::lane::Lane;
 use crate::lanes::{all_drained, all_ready, evict_at, merge_at, packet_lanes, sweep_lanes};
 use crate::making::made_lanes;
 use crate::tables::lane_tables;
-use epoch_entry::AnyEpochs;
+use epoch_entry::{AnyEpochs, Entries, entries_suit_folds};
 use final_queries::Table;
 use fold_class::depth_is_found;
 use marple_base::{Packet, Seq, Steps};
@@ -24,11 +26,12 @@ use std::alloc::{AllocError, Global};
 use std::marker::Model;
 use std::sync::ledger::Ledger;
 
-/// A plan with a lane for each groupby. Only `merge`, `sweep` and `close` take memory once it is made.
+/// A plan with a lane for each groupby, whose entries give the folds or bounds of them. Only `merge`, `sweep` and `close` take memory once it is made.
 #[derive(Drop)]
 pub struct Pipeline<const WAYS: usize> {
     alloc: Global,
     plan: Plan,
+    entries: Entries,
     buckets: u32,
     lanes: Vec<Lane<AnyEpochs, WAYS>>,
     registers: Vec<u64>,
@@ -42,16 +45,18 @@ impl<const WAYS: usize> Model for Pipeline<WAYS> {
 
     ghost Value = { PipelineView };
 
-    ghost view = { λ p. record { plan = p.plan; buckets = p.buckets; lanes = map lane_view p.lanes.items } };
+    ghost view = { λ p. record { plan = p.plan; entries = p.entries; buckets = p.buckets; lanes = map lane_view p.lanes.items } };
 
-    ghost invariant = { λ p. IsPipeline WAYS (record { plan = p.plan; buckets = p.buckets; lanes = map lane_view p.lanes.items }) p.registers.items p.key.items p.args.items };
+    ghost invariant = { λ p. IsPipeline WAYS (record { plan = p.plan; entries = p.entries; buckets = p.buckets; lanes = map lane_view p.lanes.items }) p.registers.items p.key.items p.args.items };
 }
 
 impl<const WAYS: usize> Pipeline<WAYS> {
-    /// A lane for each groupby of the plan, with so many buckets and with a pipe for so many records. No epoch is open.
+    /// A lane for each groupby of the plan, with entries for this, with so many buckets and with a pipe for so many records.
+    /// No epoch is open.
     pub fn new(
         alloc: Global,
         plan: Plan,
+        entries: Entries,
         buckets: u32,
         pipe_records: u32,
     ) -> Result<Pipeline<WAYS>, AllocError>
@@ -61,16 +66,18 @@ impl<const WAYS: usize> Pipeline<WAYS> {
         requires pipe { (0 < pipe_records) × (pipe_records ≤ 65536) }
         ensures stands { IfOk result (λ p. PipelineStands p (empty_machines (geometry_of WAYS buckets) plan.groups)) }
         ensures plan { IfOk result (λ p. p.plan ≡ plan) }
+        ensures entries { IfOk result (λ p. p.entries ≡ entries) }
         ensures buckets { IfOk result (λ p. p.buckets ≡ buckets) }
         ensures pipe_places { IfOk result (λ p. HavePlaces pipe_records p.lanes) }
     {
-        let lanes = made_lanes(alloc, &plan, buckets, pipe_records)?;
+        let lanes = made_lanes(alloc, &plan, entries, buckets, pipe_records)?;
         let registers = vec![in alloc; 0; plan.registers()]?;
         let key = vec![in alloc; 0; 8]?;
         let args = vec![in alloc; 0; 16]?;
         Ok(Pipeline {
             alloc,
             plan,
+            entries,
             buckets,
             lanes,
             registers,
@@ -79,9 +86,10 @@ impl<const WAYS: usize> Pipeline<WAYS> {
         })
     }
 
-    /// What holds of every pipeline: its lanes are those of the plan's groupbys, each with entries of its fold's kind.
+    /// What holds of every pipeline: its lanes are those of the plan's groupbys, each with entries of its fold's
+    /// kind for what they are for.
     pub fn known(&self)
-        ensures { AreLanesOf self.now.plan self.now.buckets self.now.lanes }
+        ensures { AreLanesOf self.now.entries self.now.plan self.now.buckets self.now.lanes }
     {
         let _buckets = self.buckets;
     }
@@ -115,9 +123,10 @@ impl<const WAYS: usize> Pipeline<WAYS> {
         ensures makes { PipelineMakes WAYS (packet_events self.old.plan p.now.words) self.old self.new }
         ensures at_least { steps.old ≤ steps.new }
         ensures cost { steps.new ≤ steps.old + pipeline_cost WAYS self.old }
-        ensures bound { steps.new ≤ steps.old + plan_bound self.old.plan WAYS }
+        ensures bound { steps.new ≤ steps.old + runs_of self.old.entries * plan_bound self.old.plan WAYS }
     {
         depth_is_found();
+        entries_suit_folds();
         self.plan.known();
         self.plan.row(p, &mut self.registers, steps);
         packet_lanes(
@@ -189,7 +198,7 @@ impl<const WAYS: usize> Pipeline<WAYS> {
         all_drained(&self.lanes)
     }
 
-    /// The most steps that a packet takes, by the sizes of the plan.
+    /// The most steps that a packet takes for each run of a fold in an entry, by the sizes of the plan.
     pub fn bound(&self) -> u64
         ensures { result ≡ plan_bound self.now.plan WAYS }
     {
@@ -210,6 +219,13 @@ impl<const WAYS: usize> Pipeline<WAYS> {
         ensures { slice_get self.now.lanes lane ≡ Some (lane_view result.now) }
     {
         &self.lanes[lane as usize]
+    }
+
+    /// What the entries are for.
+    pub fn entries(&self) -> Entries
+        ensures { result ≡ self.now.entries }
+    {
+        self.entries
     }
 
     /// The plan.

@@ -3,6 +3,7 @@
 ghost use Rattle.std.specs.Prelude.{◌≡◌, ℕ, List, true, length, map, IfOk};
 ghost use Rattle.std.specs.List.{list_all};
 ghost use Rattle.epoch_model.specs.Machine.{Machine};
+ghost use Rattle.epoch_entry.specs.declared.purpose.Entries.{Entries};
 ghost use Rattle.epoch_entry.specs.Foldings.{per_epoch};
 ghost use Rattle.final_queries.specs.GroupTable.{closed_table};
 ghost use Rattle.switch_core.specs.Rows.{Each};
@@ -51,7 +52,7 @@ pub fn lane_tables<const WAYS: usize>(
     plan: &Plan,
     lanes: &[Lane<AnyEpochs, WAYS>],
 ) -> Result<Seq<Table>, AllocError>
-    requires lanes { (buckets : ℕ) × AreLanesOf plan.now buckets (map lane_view lanes.now) }
+    requires lanes { (entries : Entries) × (buckets : ℕ) × AreLanesOf entries plan.now buckets (map lane_view lanes.now) }
     requires drained { list_all lane_is_drained (map lane_view lanes.now) ≡ true }
     ensures { IfOk result (λ tables. (machines : List Machine) → Each StandsFor (map lane_view lanes.now) machines
         → tables ≡ tables_of plan.now.groups (map folding_at (map lane_view lanes.now)) machines) }

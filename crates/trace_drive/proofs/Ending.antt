@@ -5,6 +5,7 @@ use Rattle.std.proofs.lemmas.List.Elements.{All-cons, All-head, All-nil, All-tai
 use Rattle.std.proofs.lemmas.List.Sums.{sum_by-cons}
 use Rattle.bucket_cache.specs.Buckets.{Pair}
 use Rattle.bucket_cache.specs.Caches.{list_at}
+use Rattle.epoch_entry.specs.declared.purpose.Entries.{Entries}
 use Rattle.epoch_entry.specs.contracts.any.AnyEpochsEpochKind.TheImpl.{ghosts}
 use Rattle.epoch_model.specs.Driving.{SweepsReachTheEnd}
 use Rattle.epoch_model.specs.Epochs.{Geometry}
@@ -37,7 +38,7 @@ ends_reached law plan g words i k (lane ∷ lanes) [] (group ∷ groups) long s 
 ends_reached law plan g words i k (lane ∷ lanes) (m ∷ machines) (group ∷ groups) long s a none =
     let left = piped lane m s.0 in
     let here = none 0 in
-    let few = s.0.few in
+    let few = s.0.front.few in
     let merged : m.merged ≡ length m.closed = omega arith in (
       subst (StandsFor lane) (law.whole g (uses_by plan i words) (length words) m a.0 merged) s.0,
       ends_reached law plan g words (suc i) (suc k) lanes machines groups (omega arith) s.1 a.1 (λ lane. none (suc lane)),
@@ -63,7 +64,7 @@ none_held (pairs ∷ lists) h =
 
 lane_empty : (lane : LaneView) (m : Machine) → StandsFor lane m → IsSwept m → held_in lane.cache ≡ 0
 lane_empty lane m s swept =
-    none_held lane.cache.lists (λ bucket. pairs_long (PairStands (ghosts.stands lane.kind) lane.cache) (list_at lane.cache bucket) (open_in m bucket) (s.cached.each bucket) ∙ ap length (swept bucket))
+    none_held lane.cache.lists (λ bucket. pairs_long (PairStands (ghosts.stands lane.kind) lane.cache) (list_at lane.cache bucket) (open_in m bucket) (s.front.cached.each bucket) ∙ ap length (swept bucket))
 
 both_zero : (a b : ℕ) → a ≡ 0 → b ≡ 0 → ((a == 0) && (b == 0)) ≡ true
 both_zero a b e f = rw (e, f) refl
@@ -95,9 +96,9 @@ each_long R k [] (y ∷ ys) e = absurd e
 each_long R k (x ∷ xs) [] e = absurd e
 each_long R k (x ∷ xs) (y ∷ ys) e = ap (λ n. suc n) (each_long R (suc k) xs ys e.1)
 
-lanes_long : (plan : PlanParts) (buckets : ℕ) (lanes : List LaneView) → AreLanesOf plan buckets lanes → length lanes ≡ length plan.groups
-lanes_long plan buckets lanes are =
-    each_long (λ n (lane : LaneView) (group : GroupPlan). IsLaneOf buckets lane.cache (ghosts.sizes lane.kind) (ghosts.folding lane.kind) (ghosts.open_bound lane.kind) (ghosts.absorb_bound lane.kind) group (wiring_at plan n)) 0 lanes plan.groups are
+lanes_long : (entries : Entries) (plan : PlanParts) (buckets : ℕ) (lanes : List LaneView) → AreLanesOf entries plan buckets lanes → length lanes ≡ length plan.groups
+lanes_long entries plan buckets lanes are =
+    each_long (λ n (lane : LaneView) (group : GroupPlan). IsLaneOf entries buckets lane.cache (ghosts.sizes lane.kind) (ghosts.folding lane.kind) (ghosts.open_bound lane.kind) (ghosts.absorb_bound lane.kind) group (wiring_at plan n)) 0 lanes plan.groups are
 
 -- pipes whose places are kept have as many as before
 pub places_kept : (places : ℕ) (old new : List LaneView) → places_of new ≡ places_of old → HavePlaces places old → HavePlaces places new
@@ -111,10 +112,10 @@ places_kept places (a ∷ old) (b ∷ new) kept have =
 
 -- the pipeline of a plan, once all packets are taken, all lanes swept and all pipes empty
 pub whole_trace : SweepsReachTheEnd → (g : Geometry) (plan : PlanParts) (words : List (List ℕ)) (count : ℕ) (start took done : PipelineView) → start.plan ≡ plan → start.buckets ≡ g.buckets → count ≡ length words
-    → Keeps start took → Keeps took done → AreLanesOf done.plan done.buckets done.lanes → FollowsBy (λ i. empty_buckets took.buckets (after_packets g (uses_by start.plan i words) count)) done
+    → Keeps start took → Keeps took done → AreLanesOf done.entries done.plan done.buckets done.lanes → FollowsBy (λ i. empty_buckets took.buckets (after_packets g (uses_by start.plan i words) count)) done
     → ((lane : ℕ) → waiting done.lanes lane ≡ 0) → PipelineStands done (end_machines plan g words) × (list_all (λ lane. is_drained lane.cache lane.pipe) done.lanes ≡ true)
 whole_trace law g plan words count start took done p b n k l are f none =
-    let long = lanes_long done.plan done.buckets done.lanes are ∙ ap (λ x. length x.groups) (l.plan ∙ (k.plan ∙ p)) in
+    let long = lanes_long done.entries done.plan done.buckets done.lanes are ∙ ap (λ x. length x.groups) (l.plan ∙ (k.plan ∙ p)) in
     let behind = follows_as (λ (i : ℕ). empty_buckets took.buckets (after_packets g (uses_by start.plan i words) count)) (last plan g words) done
     (last_as g plan start.plan words took.buckets count p (k.buckets ∙ b) n) f in
     let stands = end_reached law g words plan done long behind none in

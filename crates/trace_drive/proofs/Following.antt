@@ -19,7 +19,7 @@ alike_along : (m n o : Machine) → SameEpochs m n → SameEpochs n o → SameEp
 alike_along m n o a b = record { recent = a.recent ∙ b.recent; closed = a.closed ∙ b.closed }
 
 pub keeps_along : (a b c : PipelineView) → Keeps a b → Keeps b c → Keeps a c
-keeps_along a b c k l = record { plan = l.plan ∙ k.plan; buckets = l.buckets ∙ k.buckets; lanes = l.lanes ∙ k.lanes; places = l.places ∙ k.places }
+keeps_along a b c k l = record { plan = l.plan ∙ k.plan; entries = l.entries ∙ k.entries; buckets = l.buckets ∙ k.buckets; lanes = l.lanes ∙ k.lanes; places = l.places ∙ k.places }
 
 -- the same machines, said in another way
 alike_as : (after later : ℕ → Machine) → ((i : ℕ) → after i ≡ later i) → (i : ℕ) (machines : List Machine) → AlikeFrom after i machines → AlikeFrom later i machines

@@ -42,7 +42,7 @@ records_long means key_words (r ∷ records) [] s = absurd s
 records_long means key_words (r ∷ records) (e ∷ epochs) s = ap (λ n. suc n) (records_long means key_words records epochs s.1)
 
 pub piped : (lane : LaneView) (m : Machine) → StandsFor lane m → length lane.pipe.records ≡ length m.closed - m.merged
-piped lane m s = records_long (ghosts.stands lane.kind) lane.cache.key_words lane.pipe.records (drop m.merged m.closed) s.piped ∙ length-drop m.merged m.closed
+piped lane m s = records_long (ghosts.stands lane.kind) lane.cache.key_words lane.pipe.records (drop m.merged m.closed) s.front.piped ∙ length-drop m.merged m.closed
 
 less_left : (m : Machine) (more : Bool) → nat_lt m.merged (length m.closed) ≡ more → let n = if more then record { recent = m.recent; closed = m.closed; merged = m.merged + 1 } else m in length n.closed - n.merged ≡ (length m.closed - m.merged) - 1
 less_left m true e = omega arith

@@ -15,9 +15,10 @@ pub record FollowsBy (after : ℕ → Machine) (pipeline : PipelineView) : Type 
   pub stands : PipelineStands pipeline machines
   pub alike : AlikeFrom after 0 machines
 
--- The plan, the number of buckets, the number of lanes and the places of each lane's pipe are as they were.
+-- The plan, what the entries are for, the number of buckets, the number of lanes and the places of each lane's pipe are as they were.
 pub record Keeps (old new : PipelineView) : Type 0 where
   pub plan : new.plan ≡ old.plan
+  pub entries : new.entries ≡ old.entries
   pub buckets : new.buckets ≡ old.buckets
   pub lanes : length new.lanes ≡ length old.lanes
   pub places : places_of new.lanes ≡ places_of old.lanes

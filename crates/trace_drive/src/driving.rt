@@ -14,6 +14,7 @@ use crate::merging::empty_pipes;
 use crate::packets::Packets;
 use crate::schedule::Schedule;
 use crate::turn::{sweep, turn};
+use epoch_entry::Entries;
 use epoch_model::{
     events_keep_alike, packets_follow_the_trace, sweeps_reach_the_end, taken_uses_are_in_trace,
 };
@@ -88,6 +89,7 @@ pub fn drive<const WAYS: usize, L: Ledger>(
     ensures machines { IfOk result (λ pipeline. PipelineStands pipeline (end_machines plan (geometry_for WAYS schedule) (words_of (coming packets.entry)))) }
     ensures drained { IfOk result (λ pipeline. list_all (λ lane. is_drained lane.cache lane.pipe) pipeline.lanes ≡ true) }
     ensures plan { IfOk result (λ pipeline. pipeline.plan ≡ plan) }
+    ensures entries { IfOk result (λ pipeline. pipeline.entries ≡ Entries.Folds) }
     ensures buckets { IfOk result (λ pipeline. pipeline.buckets ≡ schedule.buckets) }
     ensures pipe_places { IfOk result (λ pipeline. HavePlaces schedule.pipe pipeline.lanes) }
     ensures refused { IfErr result (λ answer. IfRefused answer (λ fault. fault_of packets.entry ≡ Some fault)) }
@@ -95,7 +97,7 @@ pub fn drive<const WAYS: usize, L: Ledger>(
 {
     events_keep_alike();
     sweeps_reach_the_end();
-    let mut pipeline = match Pipeline::new(alloc, plan, schedule.buckets, schedule.pipe) {
+    let mut pipeline = match Pipeline::new(alloc, plan, Entries::Folds, schedule.buckets, schedule.pipe) {
         Ok(pipeline) => pipeline,
         Err(AllocError) => return Err(TraceAnswer::Memory),
     };

@@ -21,7 +21,7 @@ view_lane-requires g c =
     let i = c.loop-i.i in
     let lane = lane_view c.lane.result.now in
     let at : slice_get p.plan.groups i ≡ Some c.group.result.now = ap (λ x. slice_get x.groups i) (sym c.plan-plan.ensures) ∙ c.group.ensures in
-    let fits = lane_fits p.plan p.buckets i p.lanes c.group.result.now lane c.entries_are_small.ensures (subst IsSoundPlan c.plan-plan.ensures c.known-2.ensures) c.known.ensures at c.lane.ensures in
+    let fits = lane_fits p.entries p.plan p.buckets i p.lanes c.group.result.now lane c.entries_are_small.ensures (subst IsSoundPlan c.plan-plan.ensures c.known-2.ensures) c.known.ensures at c.lane.ensures in
     (lit< tt, (sym fits.keys, fits.small))
 
 pub loop-i-preserved : goal.loop-i-preserved

@@ -9,7 +9,7 @@ use Rattle.switch_core.proofs.making.made_lanes.Given as goal
 -- the lanes of the groupbys so far
 abbrev pub invariant-loop-i : goal.invariant-loop-i
 invariant-loop-i g l = record {
-  lanes : EachFrom (λ n lane group. IsLaneOf l.buckets lane.cache (ghosts.sizes lane.kind) (ghosts.folding lane.kind) (ghosts.open_bound lane.kind) (ghosts.absorb_bound lane.kind) group (wiring_at l.plan n)) 0 (map lane_view l.lanes.items) (take l.i l.plan.groups);
+  lanes : EachFrom (λ n lane group. IsLaneOf l.entries l.buckets lane.cache (ghosts.sizes lane.kind) (ghosts.folding lane.kind) (ghosts.open_bound lane.kind) (ghosts.absorb_bound lane.kind) group (wiring_at l.plan n)) 0 (map lane_view l.lanes.items) (take l.i l.plan.groups);
   pipe_places : HavePlaces l.pipe_records (map lane_view l.lanes.items);
   stands : Each StandsFor (map lane_view l.lanes.items) (empty_machines (geometry_of g.row.WAYS l.buckets) (take l.i l.plan.groups));
 }

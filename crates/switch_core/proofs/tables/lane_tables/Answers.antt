@@ -13,13 +13,13 @@ use Rattle.switch_core.proofs.tables.lane_tables.Goals as goal
 pub overflow_cast-i : goal.overflow_cast-i
 overflow_cast-i g c =
     let many = c.known.ensures.most_groups in
-    let long : length c.args.lanes.now ≡ length c.args.plan.now.groups = sym (length-map c.args.lanes.now lane_view) ∙ each_long _ 0 (map lane_view c.args.lanes.now) c.args.plan.now.groups c.requires.lanes.1 in
+    let long : length c.args.lanes.now ≡ length c.args.plan.now.groups = sym (length-map c.args.lanes.now lane_view) ∙ each_long _ 0 (map lane_view c.args.lanes.now) c.args.plan.now.groups c.requires.lanes.2 in
     let below = c.loop-i-test.true in
     Fits-below {n = 8} tt (omega arith)
 
 pub group-requires : goal.group-requires
 group-requires g c =
-    let long : length c.args.lanes.now ≡ length c.args.plan.now.groups = sym (length-map c.args.lanes.now lane_view) ∙ each_long _ 0 (map lane_view c.args.lanes.now) c.args.plan.now.groups c.requires.lanes.1 in
+    let long : length c.args.lanes.now ≡ length c.args.plan.now.groups = sym (length-map c.args.lanes.now lane_view) ∙ each_long _ 0 (map lane_view c.args.lanes.now) c.args.plan.now.groups c.requires.lanes.2 in
     let below = c.loop-i-test.true in
     omega arith
 
@@ -29,7 +29,7 @@ lane_table-requires g c =
     let lanes = map lane_view c.args.lanes.now in
     let lane = lane_view c.index-lanes-i.result in
     let here : slice_get lanes i ≡ Some lane = got_view c.args.lanes.now i c.index-lanes-i.result c.loop-i-test.true ∙ ap (λ l. Some (lane_view l)) (sym c.index-lanes-i.is) in
-    let found = each_at _ 0 i lanes c.args.plan.now.groups lane c.requires.lanes.1 here in
+    let found = each_at _ 0 i lanes c.args.plan.now.groups lane c.requires.lanes.2 here in
     let own = found.2 i (omega arith) in
     let same = same_some found.0 c.group.result.now (sym found.1 ∙ c.group.ensures) in
     (lit< tt, (all_at lane_is_drained lanes i lane c.requires.drained here, (own.keys ∙ ap (λ x. length x.key_names) same, own.class ∙ ap (λ x. per_epoch x.program.class) same)))

@@ -18,7 +18,7 @@ packets-init g c =
       within = omega arith;
       rest = refl;
       fault = refl;
-      keeps = record { plan = refl; buckets = refl; lanes = refl; places = refl };
+      keeps = record { plan = refl; entries = refl; buckets = refl; lanes = refl; places = refl };
       follows = follows_as (λ (i : ℕ). empty_machine geometry) (λ (i : ℕ). after_packets geometry (uses_by plan i (words_of all)) zero) c.args.pipeline.now
           (λ i. sym (c.packets_follow_the_trace.ensures.start geometry (uses_by plan i (words_of all)))) c.requires.start;
       refreshes = c.new-refreshes.ensures.counted;

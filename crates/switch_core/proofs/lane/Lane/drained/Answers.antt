@@ -1,14 +1,6 @@
-use Rattle.std.proofs.Common.{◌≡◌, ◌==◌, true, refl, sym}
-use Rattle.switch_core.specs.Closing.{is_drained}
-use Rattle.switch_core.proofs.Drained.{drained_is_done}
+use Rattle.std.proofs.Common.{sym, subst}
+use Rattle.switch_core.specs.Lanes.{FrontStands}
 use Rattle.switch_core.proofs.lane.Lane.drained.Goals as goal
 
-pub returns-then-held-eq0-clause-done : goal.returns-then-held-eq0-clause-done
-returns-then-held-eq0-clause-done g c t m s =
-    let old = c.args.self.now in
-    let none : (c.piped.result == 0) ≡ true = t in
-    let held = c.held.ensures.number in
-    let piped = c.piped.ensures.number in
-    let empty = c.if-held-eq0.true in
-    let drained : is_drained old.cache old.pipe ≡ true = rw (sym held, sym piped, empty, none) refl in
-    drained_is_done (g.K.EpochKind.stands old.kind) (g.K.EpochKind.folding old.kind) old.cache old.pipe old.store drained m s
+pub returns-clause-done : goal.returns-clause-done
+returns-clause-done g c t m s = c.drained.ensures.done t m (subst (λ x. FrontStands (g.K.EpochKind.stands x.kind) x.cache x.pipe m) (sym c.self.view_is) s.front)

@@ -1,40 +1,17 @@
-use Rattle.std.proofs.Common.{◌≡◌, true, ◌<◌, [], ◌++◌, take, drop, length, refl, sym, ap, ◌∙◌, subst, arith, get_or, ◌-◌, length-drop}
-use Rattle.std.proofs.lemmas.Bool.Decides.{nat_tests}
-use Rattle.std.proofs.Math.Seq.{take-append_seam}
-use Rattle.switch_core.specs.Lanes.{LaneStands, RecordStands}
-use Rattle.switch_core.proofs.MergeSteps.{none_piped, merge_none, merge_one}
+use Rattle.std.proofs.Common.{OnOk, subst}
+use Rattle.epoch_model.specs.Machine.{Merge}
+use Rattle.switch_core.specs.FrontEvents.{FrontMakes, MergesNext}
+use Rattle.switch_core.specs.LaneEvents.{Makes, parts}
+use Rattle.switch_core.proofs.LaneMakes.{lane_merge, on_both}
 use Rattle.switch_core.proofs.lane.Lane.merge.Goals as goal
-
-pub returns-then-piped-eq0-clause-stands : goal.returns-then-piped-eq0-clause-stands
-returns-then-piped-eq0-clause-stands g c =
-    let old = c.args.self.now in
-    let stands = g.K.EpochKind.stands old.kind in
-    let f = g.K.EpochKind.folding old.kind in
-    let none : length old.pipe.records ≡ 0 = grind (arith, c.piped.ensures.number, c.if-piped-eq0.true) in
-    record { stands = λ m s. subst (LaneStands stands f old.cache old.pipe old.store) (sym (merge_none m (none_piped stands f old.cache old.pipe old.store m s none))) s; buckets = refl; key_words = refl; places = refl }
 
 pub returns-clause-stands : goal.returns-clause-stands
 returns-clause-stands g c =
-    let old = c.args.self.now in
-    let stands = g.K.EpochKind.stands old.kind in
-    let f = g.K.EpochKind.folding old.kind in
-    let some : 0 < length old.pipe.records = grind (arith, c.piped.ensures.number, c.if-piped-eq0.false) in
-    let long : length c.front_into-copied.new.into ≡ old.room.len = c.front_into-copied.auto.into ∙ c.deref_mut.ensures.len in
-    let copied : c.front_into-copied.result ≡ true = grind (arith, nat_tests, c.front_into-copied.ensures.some, some) in
-    let words : c.deref.result.now ≡ get_or old.pipe.records 0 [] = c.deref.ensures.value ∙ (subst (λ n. take n (c.front_into-copied.new.into ++ drop (length c.front_into-copied.new.into) old.room.items) ≡ c.front_into-copied.new.into) long (take-append_seam c.front_into-copied.new.into (drop (length c.front_into-copied.new.into) old.room.items)) ∙ (c.front_into-copied.ensures.copied ∙ rw copied refl)) in
-    record {
-      stands = λ m s. merge_one stands f old.cache old.pipe c.drop_front.new.self old.store c.merge_record.new.store m some (ap (λ p. p.records) c.drop_front.ensures) (λ epoch epochs stood held. c.in_ok-merge_record.ensures.ok epoch epochs
-          (subst (λ n. RecordStands stands n c.deref.result.now epoch) (sym old.parts.key) (subst (λ ws. RecordStands stands old.cache.key_words ws epoch) (sym words) stood)) held) s;
-      buckets = refl;
-      key_words = refl;
-      places = ap (λ p. p.places) c.drop_front.ensures;
-    }
-
-pub returns-clause-ready : goal.returns-clause-ready
-returns-clause-ready g c =
-    let old = c.args.self.now in
-    let some : 0 < length old.pipe.records = grind (arith, c.piped.ensures.number, c.if-piped-eq0.false) in
-    let shorter : length c.drop_front.new.self.records ≡ length old.pipe.records - 1 = ap (λ p. length p.records) c.drop_front.ensures ∙ length-drop 1 old.pipe.records in
-    let places : c.drop_front.new.self.places ≡ old.pipe.places = ap (λ p. p.places) c.drop_front.ensures in
-    let few = c.piped.ensures.bound in let same = c.piped.ensures.number in
-    omega arith
+    let old = c.self.inside in
+    let stands = g.K.EpochKind.stands old.front.kind in
+    let f = g.K.EpochKind.folding old.front.kind in
+    let new = c.merge_into.new.self in
+    let store = c.merge_into.new.store in
+    subst (λ x. OnOk c.merge_into.result (Makes (g.K.EpochKind.stands x.kind) (g.K.EpochKind.folding x.kind) g.row.WAYS Merge (parts x.cache x.pipe x.store) (parts new.cache new.pipe store))) c.self.view_is
+    (on_both (FrontMakes stands g.row.WAYS Merge old.front new) (MergesNext stands f old.front old.store store) (Makes stands f g.row.WAYS Merge (parts old.front.cache old.front.pipe old.store) (parts new.cache new.pipe store)) c.merge_into.result
+    (lane_merge stands f g.row.WAYS old.front new old.store store) c.merge_into.ensures.makes c.merge_into.ensures.held)

@@ -22,7 +22,7 @@ evict_at-requires g c =
         omega arith,
         (
           (λ x e. c.requires.ready x (subst (λ vs. slice_get vs c.args.lane ≡ Some x) seen e)),
-          (λ x e. let many = lanes_many p.plan p.buckets 0 (map lane_view p.lanes.items) p.plan.groups c.self.invariant.lanes c.args.lane x (subst (λ ls. slice_get (map lane_view ls) c.args.lane ≡ Some x) c.deref_mut.ensures.value e) in
+          (λ x e. let many = lanes_many p.entries p.plan p.buckets 0 (map lane_view p.lanes.items) p.plan.groups c.self.invariant.lanes c.args.lane x (subst (λ ls. slice_get (map lane_view ls) c.args.lane ≡ Some x) c.deref_mut.ensures.value e) in
               let range = c.requires.range in omega arith),
         ),
       ),
@@ -34,10 +34,10 @@ invariant_of-self g c =
     let new = c.evict_at.new.lanes in
     let events = event_at c.args.lane (Evict c.args.bucket) in
     let whole : take p.lanes.len (new ++ drop (length new) p.lanes.items) ≡ new = whole_written new (drop (length new) p.lanes.items) p.lanes.len (c.evict_at.auto.lanes ∙ c.deref_mut.ensures.len) in
-    let kept : AreLanesOf p.plan p.buckets (map lane_view new) =
+    let kept : AreLanesOf p.entries p.plan p.buckets (map lane_view new) =
     lanes_kept (λ n. LaneMakes g.row.WAYS (events n)) (λ n a b m. makes_sizes g.row.WAYS (events n) a b m)
-    p.plan p.buckets 0 (map lane_view c.deref_mut.result.now) (map lane_view new) p.plan.groups c.evict_at.ensures.makes (subst (λ x. AreLanesOf p.plan p.buckets (map lane_view x)) (sym c.deref_mut.ensures.value) c.self.invariant.lanes) in
-    record { lanes = subst (λ x. AreLanesOf p.plan p.buckets (map lane_view x)) (sym whole) kept; rooms = c.self.invariant.rooms; few_ways = c.self.invariant.few_ways }
+    p.entries p.plan p.buckets 0 (map lane_view c.deref_mut.result.now) (map lane_view new) p.plan.groups c.evict_at.ensures.makes (subst (λ x. AreLanesOf p.entries p.plan p.buckets (map lane_view x)) (sym c.deref_mut.ensures.value) c.self.invariant.lanes) in
+    record { lanes = subst (λ x. AreLanesOf p.entries p.plan p.buckets (map lane_view x)) (sym whole) kept; rooms = c.self.invariant.rooms; few_ways = c.self.invariant.few_ways }
 
 pub returns-clause-makes : goal.returns-clause-makes
 returns-clause-makes g c =
@@ -48,5 +48,5 @@ returns-clause-makes g c =
     let lanes : LanesMake g.row.WAYS events (map lane_view p.lanes.items) (map lane_view (take p.lanes.len (new ++ drop (length new) p.lanes.items))) =
     subst (λ x. LanesMake g.row.WAYS events (map lane_view p.lanes.items) (map lane_view x)) (sym whole)
     (subst (λ x. LanesMake g.row.WAYS events (map lane_view x) (map lane_view new)) c.deref_mut.ensures.value c.evict_at.ensures.makes) in
-    let after : PipelineView = record { plan = p.plan; buckets = p.buckets; lanes = map lane_view (take p.lanes.len (new ++ drop (length new) p.lanes.items)) } in
-    subst (λ v. PipelineMakes g.row.WAYS events v after) c.self.view_is (pipeline_makes g.row.WAYS events p.plan p.buckets (map lane_view p.lanes.items) after.lanes c.self.invariant.lanes lanes)
+    let after : PipelineView = record { plan = p.plan; entries = p.entries; buckets = p.buckets; lanes = map lane_view (take p.lanes.len (new ++ drop (length new) p.lanes.items)) } in
+    subst (λ v. PipelineMakes g.row.WAYS events v after) c.self.view_is (pipeline_makes g.row.WAYS events p.entries p.plan p.buckets (map lane_view p.lanes.items) after.lanes c.self.invariant.lanes lanes)

@@ -12,12 +12,12 @@ invariant_of-self g c =
     let new = c.merge_at.new.lanes in
     let events = event_at c.args.lane Merge in
     let whole : take p.lanes.len (new ++ drop (length new) p.lanes.items) ≡ new = whole_written new (drop (length new) p.lanes.items) p.lanes.len (c.merge_at.auto.lanes ∙ c.deref_mut.ensures.len) in
-    let was : AreLanesOf p.plan p.buckets (map lane_view c.deref_mut.result.now) = subst (λ x. AreLanesOf p.plan p.buckets (map lane_view x)) (sym c.deref_mut.ensures.value) c.self.invariant.lanes in
-    let kept : AreLanesOf p.plan p.buckets (map lane_view new) =
-    either_way (LanesMake g.row.WAYS events (map lane_view c.deref_mut.result.now) (map lane_view new)) (map lane_view new ≡ map lane_view c.deref_mut.result.now) (AreLanesOf p.plan p.buckets (map lane_view new)) c.merge_at.result c.merge_at.ensures.makes c.merge_at.ensures.err
-    (λ made. lanes_kept (λ n. LaneMakes g.row.WAYS (events n)) (λ n a b m. makes_sizes g.row.WAYS (events n) a b m) p.plan p.buckets 0 (map lane_view c.deref_mut.result.now) (map lane_view new) p.plan.groups made was)
-    (λ same. subst (AreLanesOf p.plan p.buckets) (sym same) was) in
-    record { lanes = subst (λ x. AreLanesOf p.plan p.buckets (map lane_view x)) (sym whole) kept; rooms = c.self.invariant.rooms; few_ways = c.self.invariant.few_ways }
+    let was : AreLanesOf p.entries p.plan p.buckets (map lane_view c.deref_mut.result.now) = subst (λ x. AreLanesOf p.entries p.plan p.buckets (map lane_view x)) (sym c.deref_mut.ensures.value) c.self.invariant.lanes in
+    let kept : AreLanesOf p.entries p.plan p.buckets (map lane_view new) =
+    either_way (LanesMake g.row.WAYS events (map lane_view c.deref_mut.result.now) (map lane_view new)) (map lane_view new ≡ map lane_view c.deref_mut.result.now) (AreLanesOf p.entries p.plan p.buckets (map lane_view new)) c.merge_at.result c.merge_at.ensures.makes c.merge_at.ensures.err
+    (λ made. lanes_kept (λ n. LaneMakes g.row.WAYS (events n)) (λ n a b m. makes_sizes g.row.WAYS (events n) a b m) p.entries p.plan p.buckets 0 (map lane_view c.deref_mut.result.now) (map lane_view new) p.plan.groups made was)
+    (λ same. subst (AreLanesOf p.entries p.plan p.buckets) (sym same) was) in
+    record { lanes = subst (λ x. AreLanesOf p.entries p.plan p.buckets (map lane_view x)) (sym whole) kept; rooms = c.self.invariant.rooms; few_ways = c.self.invariant.few_ways }
 
 pub returns-clause-makes : goal.returns-clause-makes
 returns-clause-makes g c =
@@ -25,11 +25,11 @@ returns-clause-makes g c =
     let new = c.merge_at.new.lanes in
     let events = event_at c.args.lane Merge in
     let whole : take p.lanes.len (new ++ drop (length new) p.lanes.items) ≡ new = whole_written new (drop (length new) p.lanes.items) p.lanes.len (c.merge_at.auto.lanes ∙ c.deref_mut.ensures.len) in
-    let after : PipelineView = record { plan = p.plan; buckets = p.buckets; lanes = map lane_view (take p.lanes.len (new ++ drop (length new) p.lanes.items)) } in
+    let after : PipelineView = record { plan = p.plan; entries = p.entries; buckets = p.buckets; lanes = map lane_view (take p.lanes.len (new ++ drop (length new) p.lanes.items)) } in
     on_ok (LanesMake g.row.WAYS events (map lane_view c.deref_mut.result.now) (map lane_view new)) (PipelineMakes g.row.WAYS events c.args.self.now after) c.merge_at.result
     (λ made.
     let lanes : LanesMake g.row.WAYS events (map lane_view p.lanes.items) (map lane_view (take p.lanes.len (new ++ drop (length new) p.lanes.items))) =
     subst (λ x. LanesMake g.row.WAYS events (map lane_view p.lanes.items) (map lane_view x)) (sym whole)
     (subst (λ x. LanesMake g.row.WAYS events (map lane_view x) (map lane_view new)) c.deref_mut.ensures.value made) in
-    subst (λ v. PipelineMakes g.row.WAYS events v after) c.self.view_is (pipeline_makes g.row.WAYS events p.plan p.buckets (map lane_view p.lanes.items) after.lanes c.self.invariant.lanes lanes))
+    subst (λ v. PipelineMakes g.row.WAYS events v after) c.self.view_is (pipeline_makes g.row.WAYS events p.entries p.plan p.buckets (map lane_view p.lanes.items) after.lanes c.self.invariant.lanes lanes))
     c.merge_at.ensures.makes

@@ -1,6 +1,7 @@
-use Rattle.std.proofs.Common.{◌≡◌, ◌+◌, ◌≤◌, ◌++◌, length, map, take, drop, sym, ap, ◌∙◌, subst, arith}
+use Rattle.std.proofs.Common.{◌≡◌, ◌+◌, ◌*◌, ◌≤◌, ◌++◌, length, map, take, drop, sym, ap, ◌∙◌, subst, arith}
 use Rattle.std.specs.Prelude.{sum_by}
 use Rattle.epoch_model.specs.Driving.{event_of}
+use Rattle.epoch_entry.specs.Purposes.{runs_of}
 use Rattle.stage_plan.specs.Planned.{plan_bound, row_of, wiring_at}
 use Rattle.stage_plan.specs.Registers.{taken_at}
 use Rattle.switch_core.specs.Pipelines.{packet_events}
@@ -24,20 +25,20 @@ returns-clause-makes g c =
     let lanes : LanesMake g.row.WAYS (packet_events p.plan c.args.p.now.words) (map lane_view p.lanes.items) (map lane_view (take p.lanes.len (new ++ drop (length new) p.lanes.items))) =
     subst (λ x. LanesMake g.row.WAYS (packet_events p.plan c.args.p.now.words) (map lane_view p.lanes.items) (map lane_view x)) (sym whole)
     (subst (λ x. LanesMake g.row.WAYS (packet_events p.plan c.args.p.now.words) (map lane_view x) (map lane_view new)) c.deref_mut-2.ensures.value taken) in
-    let after : PipelineView = record { plan = p.plan; buckets = p.buckets; lanes = map lane_view (take p.lanes.len (new ++ drop (length new) p.lanes.items)) } in
+    let after : PipelineView = record { plan = p.plan; entries = p.entries; buckets = p.buckets; lanes = map lane_view (take p.lanes.len (new ++ drop (length new) p.lanes.items)) } in
     subst (λ v. PipelineMakes g.row.WAYS (packet_events v.plan c.args.p.now.words) v after) c.self.view_is
-    (pipeline_makes g.row.WAYS (packet_events p.plan c.args.p.now.words) p.plan p.buckets (map lane_view p.lanes.items) after.lanes c.self.invariant.lanes lanes)
+    (pipeline_makes g.row.WAYS (packet_events p.plan c.args.p.now.words) p.entries p.plan p.buckets (map lane_view p.lanes.items) after.lanes c.self.invariant.lanes lanes)
 
 pub returns-clause-bound : goal.returns-clause-bound
 returns-clause-bound g c =
     let p = c.self.inside in
-    let before : PipelineView = record { plan = p.plan; buckets = p.buckets; lanes = map lane_view p.lanes.items } in
-    let within : pipeline_cost g.row.WAYS before ≤ plan_bound p.plan g.row.WAYS = packet_within c.depth_is_found.ensures g.row.WAYS before c.known.ensures c.self.invariant.lanes in
+    let before : PipelineView = record { plan = p.plan; entries = p.entries; buckets = p.buckets; lanes = map lane_view p.lanes.items } in
+    let within : pipeline_cost g.row.WAYS before ≤ runs_of p.entries * plan_bound p.plan g.row.WAYS = packet_within c.depth_is_found.ensures c.entries_suit_folds.ensures g.row.WAYS before c.known.ensures c.self.invariant.lanes in
     let row = c.row.ensures.steps in
     let lanes : c.packet_lanes.new.steps ≤ c.row.new.steps + sum_by (lane_cost g.row.WAYS) before.lanes =
     subst (λ xs. c.packet_lanes.new.steps ≤ c.row.new.steps + sum_by (lane_cost g.row.WAYS) (map lane_view xs)) c.deref_mut-2.ensures.value c.packet_lanes.ensures.cost in
-    let all : c.packet_lanes.new.steps ≤ c.args.steps.now + plan_bound p.plan g.row.WAYS = omega arith in
-    subst (λ (v : PipelineView). c.packet_lanes.new.steps ≤ c.args.steps.now + plan_bound v.plan g.row.WAYS) c.self.view_is all
+    let all : c.packet_lanes.new.steps ≤ c.args.steps.now + runs_of p.entries * plan_bound p.plan g.row.WAYS = omega arith in
+    subst (λ (v : PipelineView). c.packet_lanes.new.steps ≤ c.args.steps.now + runs_of v.entries * plan_bound v.plan g.row.WAYS) c.self.view_is all
 
 pub invariant_of-self : goal.invariant_of-self
 invariant_of-self g c =
@@ -45,15 +46,15 @@ invariant_of-self g c =
     let new = c.packet_lanes.new.lanes in
     let whole : take p.lanes.len (new ++ drop (length new) p.lanes.items) ≡ new = whole_written new (drop (length new) p.lanes.items) p.lanes.len (c.packet_lanes.auto.lanes ∙ c.deref_mut-2.ensures.len) in
     let made : LanesMake g.row.WAYS (λ n. event_of (taken_at (wiring_at p.plan n) c.deref.result.now)) (map lane_view c.deref_mut-2.result.now) (map lane_view new) = c.packet_lanes.ensures.makes in
-    let kept : AreLanesOf p.plan p.buckets (map lane_view new) =
+    let kept : AreLanesOf p.entries p.plan p.buckets (map lane_view new) =
     lanes_kept (λ n. LaneMakes g.row.WAYS (event_of (taken_at (wiring_at p.plan n) c.deref.result.now))) (λ n a b m. makes_sizes g.row.WAYS (event_of (taken_at (wiring_at p.plan n) c.deref.result.now)) a b m)
-    p.plan p.buckets 0 (map lane_view c.deref_mut-2.result.now) (map lane_view new) p.plan.groups made (subst (λ x. AreLanesOf p.plan p.buckets (map lane_view x)) (sym c.deref_mut-2.ensures.value) c.self.invariant.lanes) in
+    p.entries p.plan p.buckets 0 (map lane_view c.deref_mut-2.result.now) (map lane_view new) p.plan.groups made (subst (λ x. AreLanesOf p.entries p.plan p.buckets (map lane_view x)) (sym c.deref_mut-2.ensures.value) c.self.invariant.lanes) in
     let filled = c.row.new.registers in
     let key = c.packet_lanes.new.key in
     let args = c.packet_lanes.new.args in
     record {
       few_ways = c.self.invariant.few_ways;
-      lanes = subst (λ x. AreLanesOf p.plan p.buckets (map lane_view x)) (sym whole) kept;
+      lanes = subst (λ x. AreLanesOf p.entries p.plan p.buckets (map lane_view x)) (sym whole) kept;
       rooms = record {
         for_row = ap length (whole_written filled (drop (length filled) p.registers.items) p.registers.len (c.row.auto.registers ∙ c.deref_mut.ensures.len))
             ∙ (c.row.auto.registers ∙ (ap length c.deref_mut.ensures.value ∙ c.self.invariant.rooms.for_row));

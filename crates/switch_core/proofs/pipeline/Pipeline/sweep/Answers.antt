@@ -10,28 +10,28 @@ invariant_of-self g c =
     let p = c.self.inside in
     let new = c.sweep_lanes.new.lanes in
     let whole : take p.lanes.len (new ++ drop (length new) p.lanes.items) ≡ new = whole_written new (drop (length new) p.lanes.items) p.lanes.len (c.sweep_lanes.auto.lanes ∙ c.deref_mut.ensures.len) in
-    let kept : AreLanesOf p.plan p.buckets (map lane_view new) =
+    let kept : AreLanesOf p.entries p.plan p.buckets (map lane_view new) =
     lanes_kept (λ n. LaneSweeps g.row.WAYS) (λ n a b m. sweeps_sizes g.row.WAYS a b m)
-    p.plan p.buckets 0 (map lane_view c.deref_mut.result.now) (map lane_view new) p.plan.groups c.sweep_lanes.ensures.makes (subst (λ x. AreLanesOf p.plan p.buckets (map lane_view x)) (sym c.deref_mut.ensures.value) c.self.invariant.lanes) in
-    record { lanes = subst (λ x. AreLanesOf p.plan p.buckets (map lane_view x)) (sym whole) kept; rooms = c.self.invariant.rooms; few_ways = c.self.invariant.few_ways }
+    p.entries p.plan p.buckets 0 (map lane_view c.deref_mut.result.now) (map lane_view new) p.plan.groups c.sweep_lanes.ensures.makes (subst (λ x. AreLanesOf p.entries p.plan p.buckets (map lane_view x)) (sym c.deref_mut.ensures.value) c.self.invariant.lanes) in
+    record { lanes = subst (λ x. AreLanesOf p.entries p.plan p.buckets (map lane_view x)) (sym whole) kept; rooms = c.self.invariant.rooms; few_ways = c.self.invariant.few_ways }
 
 pub returns-clause-makes : goal.returns-clause-makes
 returns-clause-makes g c =
     let p = c.self.inside in
     let new = c.sweep_lanes.new.lanes in
     let whole : take p.lanes.len (new ++ drop (length new) p.lanes.items) ≡ new = whole_written new (drop (length new) p.lanes.items) p.lanes.len (c.sweep_lanes.auto.lanes ∙ c.deref_mut.ensures.len) in
-    let after : PipelineView = record { plan = p.plan; buckets = p.buckets; lanes = map lane_view (take p.lanes.len (new ++ drop (length new) p.lanes.items)) } in
+    let after : PipelineView = record { plan = p.plan; entries = p.entries; buckets = p.buckets; lanes = map lane_view (take p.lanes.len (new ++ drop (length new) p.lanes.items)) } in
     let made : Each (LaneSweeps g.row.WAYS) (map lane_view p.lanes.items) after.lanes =
     subst (λ x. Each (LaneSweeps g.row.WAYS) (map lane_view p.lanes.items) (map lane_view x)) (sym whole)
     (subst (λ x. Each (LaneSweeps g.row.WAYS) (map lane_view x) (map lane_view new)) c.deref_mut.ensures.value c.sweep_lanes.ensures.makes) in
-    subst (λ v. PipelineSweeps g.row.WAYS v after) c.self.view_is (pipeline_sweeps g.row.WAYS p.plan p.buckets (map lane_view p.lanes.items) after.lanes c.self.invariant.lanes made)
+    subst (λ v. PipelineSweeps g.row.WAYS v after) c.self.view_is (pipeline_sweeps g.row.WAYS p.entries p.plan p.buckets (map lane_view p.lanes.items) after.lanes c.self.invariant.lanes made)
 
 pub returns-clause-swept : goal.returns-clause-swept
 returns-clause-swept g c =
     let p = c.self.inside in
     let new = c.sweep_lanes.new.lanes in
     let whole : take p.lanes.len (new ++ drop (length new) p.lanes.items) ≡ new = whole_written new (drop (length new) p.lanes.items) p.lanes.len (c.sweep_lanes.auto.lanes ∙ c.deref_mut.ensures.len) in
-    let after : PipelineView = record { plan = p.plan; buckets = p.buckets; lanes = map lane_view (take p.lanes.len (new ++ drop (length new) p.lanes.items)) } in
+    let after : PipelineView = record { plan = p.plan; entries = p.entries; buckets = p.buckets; lanes = map lane_view (take p.lanes.len (new ++ drop (length new) p.lanes.items)) } in
     let made : Each (LaneSweeps g.row.WAYS) (map lane_view p.lanes.items) after.lanes =
     subst (λ x. Each (LaneSweeps g.row.WAYS) (map lane_view p.lanes.items) (map lane_view x)) (sym whole)
     (subst (λ x. Each (LaneSweeps g.row.WAYS) (map lane_view x) (map lane_view new)) c.deref_mut.ensures.value c.sweep_lanes.ensures.makes) in
@@ -40,7 +40,7 @@ returns-clause-swept g c =
     let lanes : Each LaneIsSwept (map lane_view p.lanes.items) after.lanes =
     subst (λ x. Each LaneIsSwept (map lane_view p.lanes.items) (map lane_view x)) (sym whole)
     (subst (λ x. Each LaneIsSwept (map lane_view x) (map lane_view new)) c.deref_mut.ensures.value swept) in
-    subst (λ v. PipelineIsSwept v after) c.self.view_is (pipeline_is_swept g.row.WAYS p.plan p.buckets (map lane_view p.lanes.items) after.lanes c.self.invariant.lanes made lanes))
+    subst (λ v. PipelineIsSwept v after) c.self.view_is (pipeline_is_swept g.row.WAYS p.entries p.plan p.buckets (map lane_view p.lanes.items) after.lanes c.self.invariant.lanes made lanes))
     c.sweep_lanes.ensures.leads
 
 pub returns-clause-runs : goal.returns-clause-runs
@@ -49,7 +49,7 @@ returns-clause-runs g c =
     let first = c.deref_mut.result.now in
     let new = c.sweep_lanes.new.lanes in
     let whole : take p.lanes.len (new ++ drop (length new) p.lanes.items) ≡ new = whole_written new (drop (length new) p.lanes.items) p.lanes.len (c.sweep_lanes.auto.lanes ∙ c.deref_mut.ensures.len) in
-    let after : PipelineView = record { plan = p.plan; buckets = p.buckets; lanes = map lane_view (take p.lanes.len (new ++ drop (length new) p.lanes.items)) } in
+    let after : PipelineView = record { plan = p.plan; entries = p.entries; buckets = p.buckets; lanes = map lane_view (take p.lanes.len (new ++ drop (length new) p.lanes.items)) } in
     on_ok (Each (LaneRunsSweep g.row.WAYS) (map lane_view first) (map lane_view new)) (Each (LaneRunsSweep g.row.WAYS) c.args.self.now.lanes after.lanes) c.sweep_lanes.result
     (λ made.
     let lanes : Each (LaneRunsSweep g.row.WAYS) (map lane_view p.lanes.items) after.lanes =
@@ -63,7 +63,7 @@ returns-clause-breaks_off g c =
     let first = c.deref_mut.result.now in
     let new = c.sweep_lanes.new.lanes in
     let whole : take p.lanes.len (new ++ drop (length new) p.lanes.items) ≡ new = whole_written new (drop (length new) p.lanes.items) p.lanes.len (c.sweep_lanes.auto.lanes ∙ c.deref_mut.ensures.len) in
-    let after : PipelineView = record { plan = p.plan; buckets = p.buckets; lanes = map lane_view (take p.lanes.len (new ++ drop (length new) p.lanes.items)) } in
+    let after : PipelineView = record { plan = p.plan; entries = p.entries; buckets = p.buckets; lanes = map lane_view (take p.lanes.len (new ++ drop (length new) p.lanes.items)) } in
     on_err (SweepBreaksOff g.row.WAYS (map lane_view first) (map lane_view new)) (SweepBreaksOff g.row.WAYS c.args.self.now.lanes after.lanes) c.sweep_lanes.result
     (λ made.
     let lanes : SweepBreaksOff g.row.WAYS (map lane_view p.lanes.items) after.lanes =

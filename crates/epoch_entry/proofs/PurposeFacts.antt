@@ -1,0 +1,80 @@
+-- The kinds of entries for each purpose.
+use Rattle.std.proofs.Common.{◌≡◌, ℕ, ◌+◌, ◌*◌, ◌≤◌, sym, ap, ◌∙◌, subst, refl, arith}
+use Rattle.std.proofs.Math.Nat.{add-mul}
+use Rattle.query_lang.specs.declared.fold.TypedFold.{TypedFold}
+use Rattle.query_lang.specs.declared.typed.Class.{Class}
+use Rattle.query_lang.specs.declared.typed.Class.TheVariants.{Linear, Other}
+use Rattle.query_lang.specs.Folds.{fold_states, IsValidFold}
+use Rattle.epoch_model.specs.Tables.{Folding}
+use Rattle.fold_class.specs.declared.program.FoldProgram.{FoldProgram}
+use Rattle.fold_class.specs.Kinds.{class_of}
+use Rattle.fold_class.specs.Program.{IsProgramOf}
+use Rattle.epoch_entry.specs.declared.purpose.Entries.{Entries}
+use Rattle.epoch_entry.specs.declared.purpose.Entries.TheVariants.{Folds, Bounds}
+use Rattle.epoch_entry.specs.Kinds.{Sizes}
+use Rattle.epoch_entry.specs.Foldings.{IsKindOf, entry_bound, absorb_bound, per_epoch}
+use Rattle.epoch_entry.specs.Bounds.{IsBoundsKindOf}
+use Rattle.epoch_entry.specs.Purposes.{IsBoundingKind, IsKindFor, SuitsFold, runs_of}
+use Rattle.epoch_entry.proofs.KindFacts.{entry_fits}
+
+module _ (f : TypedFold) (sizes : Sizes) (folding : Folding) (opening absorbing : ℕ) where
+  own_suits : IsKindOf f sizes folding opening absorbing → SuitsFold 1 f sizes folding opening absorbing
+  own_suits h = record {
+    args = h.args;
+    row_per_epoch = h.row_per_epoch;
+    entry = omega (arith, h.entry);
+    «open» = omega (arith, h.«open»);
+    absorb = omega (arith, h.absorb);
+  }
+
+  own_suits_more : IsKindOf f sizes folding opening absorbing → SuitsFold 3 f sizes folding opening absorbing
+  own_suits_more h = record {
+    args = h.args;
+    row_per_epoch = h.row_per_epoch;
+    entry = omega (arith, h.entry);
+    «open» = omega (arith, h.«open»);
+    absorb = omega (arith, h.absorb);
+  }
+
+  -- a state is no larger than an entry, and a run of the code no dearer than absorbing
+  few_words : fold_states f ≤ entry_bound f
+  few_words = omega arith
+
+  cheap_run : f.nodes + 4 * f.statements + 1 ≤ absorb_bound f
+  cheap_run = omega (arith, add-mul (fold_states f) 1 (f.nodes + 4 * f.statements + 1))
+
+  bounds_suit : Other ≡ class_of f → IsBoundsKindOf f sizes folding opening absorbing → SuitsFold 3 f sizes folding opening absorbing
+  bounds_suit e h = record {
+    args = h.args;
+    row_per_epoch = h.row_per_epoch ∙ ap per_epoch e;
+    entry = omega (arith, h.entry, few_words);
+    «open» = omega (arith, h.«open», few_words);
+    absorb = omega (arith, h.absorb, cheap_run);
+  }
+
+  bounding_suits : (c : Class) → c ≡ class_of f → IsBoundingKind c f sizes folding opening absorbing → SuitsFold 3 f sizes folding opening absorbing
+  bounding_suits Linear e h = own_suits_more h
+  bounding_suits Other e h = bounds_suit e h
+
+  pub kind_suits : (entries : Entries) → IsKindFor entries f sizes folding opening absorbing → SuitsFold (runs_of entries) f sizes folding opening absorbing
+  kind_suits Folds h = own_suits h
+  kind_suits Bounds h = bounding_suits (class_of f) refl h
+
+  own_fits : (key : ℕ) → IsValidFold f → key ≤ 8 → IsKindOf f sizes folding opening absorbing → key + sizes.entry ≤ 274
+  own_fits key valid few h = omega (arith, h.entry, entry_fits f key valid few)
+
+  bounds_fit : (key : ℕ) → IsValidFold f → key ≤ 8 → IsBoundsKindOf f sizes folding opening absorbing → key + sizes.entry ≤ 274
+  bounds_fit key valid few h = omega (arith, h.entry, valid.states)
+
+  bounding_fits : (key : ℕ) → IsValidFold f → key ≤ 8 → (c : Class) → IsBoundingKind c f sizes folding opening absorbing → key + sizes.entry ≤ 274
+  bounding_fits key valid few Linear h = own_fits key valid few h
+  bounding_fits key valid few Other h = bounds_fit key valid few h
+
+  pub kind_fits : (entries : Entries) (key : ℕ) → IsValidFold f → IsKindFor entries f sizes folding opening absorbing → key ≤ 8 → key + sizes.entry ≤ 274
+  kind_fits Folds key valid h few = own_fits key valid few h
+  kind_fits Bounds key valid h few = bounding_fits key valid few (class_of f) h
+
+  -- where bounds are asked for, by the class of the program
+  pub for_bounds : (entries : Entries) (p : FoldProgram) (c : Class) → IsProgramOf f p → entries ≡ Bounds → p.class ≡ c → IsBoundingKind c f sizes folding opening absorbing → IsKindFor entries f sizes folding opening absorbing
+  for_bounds entries p c is asked e h =
+      subst (λ x. IsKindFor x f sizes folding opening absorbing) (sym asked) (subst (λ k. IsBoundingKind k f sizes folding opening absorbing) (sym e ∙ is.class) h)

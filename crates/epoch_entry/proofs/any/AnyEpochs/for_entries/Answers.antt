@@ -1,0 +1,19 @@
+use Rattle.query_lang.specs.declared.typed.Class.TheVariants.{Linear, Other}
+use Rattle.epoch_entry.specs.Bounds.{bounds_sizes, bounds_folding, bounds_open, bounds_absorb}
+use Rattle.epoch_entry.specs.contracts.any.AnyEpochsEpochKind.TheImpl.{ghosts}
+use Rattle.epoch_entry.proofs.PurposeFacts.{for_bounds}
+use Rattle.epoch_entry.proofs.any.AnyEpochs.for_entries.Goals as goal
+
+pub returns-in-Linear : goal.returns-in-Linear
+returns-in-Linear c = record {
+  kind = λ f is.
+      let k = c.of-in-Linear.result in
+      for_bounds f (ghosts.sizes k) (ghosts.folding k) (ghosts.open_bound k) (ghosts.absorb_bound k) c.args.entries c.args.program Linear is c.in-Bounds.is c.in-Linear.is (c.of-in-Linear.ensures.kind f is);
+}
+
+pub returns-in-Other : goal.returns-in-Other
+returns-in-Other c = record {
+  kind = λ f is.
+      let p = c.of-in-Other.result.program in
+      for_bounds f (bounds_sizes p) (bounds_folding p) (bounds_open p) (bounds_absorb p) c.args.entries c.args.program Other is c.in-Bounds.is c.in-Other.is (c.of-in-Other.ensures.kind f is);
+}

@@ -1,0 +1,18 @@
+use Rattle.std.proofs.Common.{◌≡◌, drop, length}
+use Rattle.query_lang.specs.Blocks.{block_of}
+use Rattle.monotone_folds.specs.Kinds.{marked}
+use Rattle.fold_class.specs.Walk.{AssignsBelow}
+use Rattle.monotone_folds.specs.Walk.{kinds_in}
+use Rattle.monotone_folds.proofs.walk.+mark_stmt.Given as goal
+
+abbrev pub invariant-then_block : goal.invariant-then_block
+invariant-then_block l = record {
+  kinds : marked (block_of (drop l.inner-index l.inner-items)) (kinds_in l.kinds) ≡ marked (block_of l.inner-items) (kinds_in l.initial.kinds);
+  below : AssignsBelow (length l.kinds) (block_of (drop l.inner-index l.inner-items));
+}
+
+abbrev pub invariant-else_block : goal.invariant-else_block
+invariant-else_block l = record {
+  kinds : marked (block_of (drop l.inner-index l.inner-items)) (kinds_in l.kinds) ≡ marked (block_of l.inner-items) (kinds_in l.initial.kinds);
+  below : AssignsBelow (length l.kinds) (block_of (drop l.inner-index l.inner-items));
+}

@@ -1,0 +1,12 @@
+use Rattle.std.proofs.Common.{◌≡◌, drop}
+use Rattle.query_lang.specs.Blocks.{block_of}
+use Rattle.monotone_folds.specs.Kinds.{kinds_after}
+use Rattle.fold_class.specs.Walk.{AssignsBelow}
+use Rattle.monotone_folds.specs.Walk.{kinds_in}
+use Rattle.monotone_folds.proofs.walk.walk_block.Given as goal
+
+abbrev pub invariant-loop-s : goal.invariant-loop-s
+invariant-loop-s l = record {
+  kinds : kinds_after (block_of (drop l.s-index l.block)) (kinds_in l.kinds) ≡ kinds_after (block_of l.block) (kinds_in l.initial.kinds);
+  below : AssignsBelow 8 (block_of (drop l.s-index l.block));
+}

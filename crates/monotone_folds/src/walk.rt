@@ -1,0 +1,168 @@
+// The walk over a fold's statements with the kinds of its variables.
+
+ghost use Rattle.std.specs.Prelude.{◌≡◌, ℕ, ◌<◌, ◌≤◌, length};
+ghost use Rattle.query_lang.specs.Terms.{term_of};
+ghost use Rattle.query_lang.specs.Blocks.{stmt_block, block_of};
+ghost use Rattle.fold_class.specs.Walk.{AssignsBelow};
+ghost use Rattle.monotone_folds.specs.Kinds.{role, greater, role_kind, expr_kind, marked, kinds_after};
+ghost use Rattle.fold_class.specs.Tables.{update};
+ghost use Rattle.monotone_folds.specs.Walk.{kinds_in};
+
+use crate::kind::{Kind, Role};
+use query_lang::{Op, TypedExpr, TypedStmt};
+
+// The greater kind.
+fn greater_of(left: Kind, right: Kind) -> Kind
+    ensures { result ≡ greater left right }
+{
+    match left {
+        Kind::Free => right,
+        Kind::Rising => match right {
+            Kind::Free => Kind::Rising,
+            Kind::Rising => Kind::Rising,
+            Kind::Wild => Kind::Wild,
+        },
+        Kind::Wild => Kind::Wild,
+    }
+}
+
+// The kind of what an operator of this role makes of two kinds.
+fn combined(role: Role, left: Kind, right: Kind) -> Kind
+    ensures { result ≡ role_kind role left right }
+{
+    match role {
+        Role::Joined => greater_of(left, right),
+        Role::Scaled => left,
+        Role::Outside => match left {
+            Kind::Free => match right {
+                Kind::Free => Kind::Free,
+                Kind::Rising => Kind::Wild,
+                Kind::Wild => Kind::Wild,
+            },
+            Kind::Rising => Kind::Wild,
+            Kind::Wild => Kind::Wild,
+        },
+    }
+}
+
+// What an operator makes of kinds.
+fn role_of(op: Op) -> Role
+    ensures { result ≡ role op }
+{
+    match op {
+        Op::Max => Role::Joined,
+        Op::Min => Role::Joined,
+        Op::Sadd => Role::Joined,
+        Op::Decay => Role::Scaled,
+        Op::Shr => Role::Scaled,
+        Op::Div => Role::Scaled,
+        _ => Role::Outside,
+    }
+}
+
+// The kind of an expression.
+fn kind_of(kinds: &[Kind], e: &TypedExpr) -> Kind
+    ensures { result ≡ expr_kind (term_of e.now) (kinds_in kinds.now) }
+{
+    match e {
+        TypedExpr::Number(_) => Kind::Free,
+        TypedExpr::Slot(s) => {
+            if (*s as usize) < kinds.len() {
+                kinds[*s as usize]
+            } else {
+                Kind::Free
+            }
+        }
+        TypedExpr::Not(inner) => combined(Role::Outside, Kind::Free, kind_of(kinds, inner.get())),
+        TypedExpr::Binary(op, left, right) => {
+            let first = kind_of(kinds, left.get());
+            let second = kind_of(kinds, right.get());
+            combined(role_of(*op), first, second)
+        }
+    }
+}
+
+// Another kind for one variable.
+#[tactic(auto, using(crate::proofs::WalkLemmas::set_kind))]
+fn set_kind(kinds: &mut [Kind], v: u16, kind: Kind)
+    requires { v < length kinds.old }
+    ensures { kinds_in kinds.new ≡ update (kinds_in kinds.old) v kind }
+{
+    kinds[v as usize] = kind;
+}
+
+// For each variable the greater of its kinds in two tables.
+fn join(kinds: &mut [Kind], others: &[Kind])
+    requires { length kinds.old ≡ length others.now }
+    ensures { kinds_in kinds.new ≡ (λ (v : ℕ). greater (kinds_in kinds.old v) (kinds_in others.now v)) }
+{
+    for (v, other) in others.iter().enumerate() {
+        kinds[v] = greater_of(kinds[v], *other);
+    }
+}
+
+// Each variable that a statement gives a value becomes Wild.
+fn mark_stmt(kinds: &mut [Kind], s: &TypedStmt)
+    requires { AssignsBelow (length kinds.old) (stmt_block s.now) }
+    ensures { kinds_in kinds.new ≡ marked (stmt_block s.now) (kinds_in kinds.old) }
+{
+    match s {
+        TypedStmt::Assign(v, _) => set_kind(kinds, *v, Kind::Wild),
+        TypedStmt::If(_, a, b) => {
+            'then_block: for inner in a.as_slice() {
+                mark_stmt(kinds, inner);
+            }
+            'else_block: for inner in b.as_slice() {
+                mark_stmt(kinds, inner);
+            }
+        }
+    }
+}
+
+// A table with the same kinds.
+fn copied(kinds: &[Kind]) -> [Kind; 8]
+    requires { length kinds.now ≡ 8 }
+    ensures { result ≡ kinds.now }
+{
+    let mut copy = [Kind::Free; 8];
+    copy.copy_from_slice(kinds);
+    copy
+}
+
+// The kinds after a statement.
+fn walk_stmt(kinds: &mut [Kind], s: &TypedStmt)
+    requires size { length kinds.old ≡ 8 }
+    requires below { AssignsBelow 8 (stmt_block s.now) }
+    ensures { kinds_in kinds.new ≡ kinds_after (stmt_block s.now) (kinds_in kinds.old) }
+{
+    match s {
+        TypedStmt::Assign(v, e) => {
+            let kind = kind_of(kinds, e);
+            set_kind(kinds, *v, kind);
+        }
+        TypedStmt::If(c, a, b) => match kind_of(kinds, c) {
+            Kind::Free => {
+                let mut others = copied(kinds);
+                'then_block: for inner in a.as_slice() {
+                    walk_stmt(kinds, inner);
+                }
+                'else_block: for inner in b.as_slice() {
+                    walk_stmt(&mut others, inner);
+                }
+                join(kinds, &others);
+            }
+            _ => mark_stmt(kinds, s),
+        },
+    }
+}
+
+/// The kinds after statements.
+pub(crate) fn walk_block(kinds: &mut [Kind], block: &[TypedStmt])
+    requires size { length kinds.old ≡ 8 }
+    requires below { AssignsBelow 8 (block_of block.now) }
+    ensures { kinds_in kinds.new ≡ kinds_after (block_of block.now) (kinds_in kinds.old) }
+{
+    for s in block {
+        walk_stmt(kinds, s);
+    }
+}

@@ -1,0 +1,20 @@
+//! Tests over the public contracts of the parts: folds, entries, stages, lanes, tables and views. They stand apart from the
+//! parts, so that no crate is proved twice for its tests.
+#![tactic(auto)]
+
+#[cfg(test)]
+mod direct;
+#[cfg(test)]
+mod entries;
+#[cfg(test)]
+mod fold_programs;
+#[cfg(test)]
+mod folds;
+#[cfg(test)]
+mod lanes;
+#[cfg(test)]
+mod stages;
+#[cfg(test)]
+mod tables;
+#[cfg(test)]
+mod views;

@@ -1,0 +1,10 @@
+//! The typing of queries as rules, in the way of inference rules: no order of tests, no faults. The laws say that the checks
+//! give exactly what the rules do.
+#![tactic(auto)]
+
+mod laws;
+
+pub use laws::{
+    conditions_agree, faults_have_no_form, finals_agree, folds_agree, one_typed_form,
+    queries_agree, streams_agree, words_agree,
+};

@@ -1,0 +1,67 @@
+use Rattle.std.proofs.Common.{◌≡◌, ◌-◌, ◌<◌, false, take, length, refl, sym, ap, ◌∙◌, subst, lit<, length-set}
+use Rattle.std.specs.Prelude.{not, ◌==◌}
+use Rattle.epoch_model.specs.Machine.{Evict, evict}
+use Rattle.bucket_cache.specs.Caches.{list_at, with_list}
+use Rattle.switch_core.specs.FrontParts.{front_of}
+use Rattle.switch_core.specs.FrontEvents.{FrontMakes}
+use Rattle.switch_core.specs.Lanes.{FrontStands, PipeStands}
+use Rattle.switch_core.proofs.CacheSteps.{least_within, some_least, none_least, drop_stands, evict_none}
+use Rattle.switch_core.proofs.PipeSteps.{pipe_evicted}
+use Rattle.switch_core.proofs.LaneSteps.{evict_merged_same}
+use Rattle.switch_core.proofs.Drained.{nothing_taken}
+use Rattle.switch_core.proofs.front.Front.evict.Goals as goal
+
+pub push_pair-requires : goal.push_pair-requires
+push_pair-requires g c =
+    let old = c.self.inside in (
+      lit< tt,
+      (
+        least_within g.row.WAYS old.cache c.args.bucket c.in-Some.place c.in-Some.ensures.sound (sym c.in-Some.ensures.place),
+        (subst (λ x. length x.pipe.records < x.pipe.places) (sym c.self.view_is) c.requires.ready, c.self.invariant.front.record_words),
+      ),
+    )
+
+pub returns-in-Some-clause-makes : goal.returns-in-Some-clause-makes
+returns-in-Some-clause-makes g c =
+    let old = c.self.inside in
+    let stands = g.K.EpochKind.stands old.kind in
+    let some = some_least (list_at old.cache c.args.bucket) c.in-Some.place c.in-Some.ensures.place in
+    let new = front_of old.kind c.drop_entry.new.self c.push_pair.new.pipe in
+    let range : c.args.bucket < length old.cache.lists = subst (λ x. c.args.bucket < length x.cache.lists) (sym c.self.view_is) c.requires.range in
+    subst (λ x. FrontMakes (g.K.EpochKind.stands x.kind) g.row.WAYS (Evict c.args.bucket) x new) c.self.view_is
+    record {
+      stands = λ m s. record {
+        cached = drop_stands stands old.cache c.drop_entry.new.self c.args.bucket range some c.drop_entry.ensures.pairs m s.cached;
+        piped = subst (λ n. PipeStands stands n c.push_pair.new.pipe.records (evict m c.args.bucket)) (sym (ap (λ x. x.key_words) c.drop_entry.ensures.pairs))
+            (pipe_evicted stands g.row.WAYS old.cache c.args.bucket c.in-Some.place old.pipe.records c.push_pair.new.pipe.records c.in-Some.ensures.sound some (sym c.in-Some.ensures.place) c.push_pair.ensures.pushed m s.cached s.few s.piped);
+        few = (evict_merged_same m c.args.bucket s.few).1;
+      };
+      kind = refl;
+      buckets = ap (λ x. length x.lists) c.drop_entry.ensures.pairs ∙ length-set old.cache.lists c.args.bucket _;
+      key_words = ap (λ x. x.key_words) c.drop_entry.ensures.pairs;
+      places = ap (λ p. p.places) c.push_pair.ensures.rest;
+    }
+
+pub returns-in-None-clause-makes : goal.returns-in-None-clause-makes
+returns-in-None-clause-makes g c =
+    let old = c.self.inside in
+    let stands = g.K.EpochKind.stands old.kind in
+    let none = none_least (list_at old.cache c.args.bucket) c.in-None.ensures.place in
+    subst (λ x. FrontMakes (g.K.EpochKind.stands x.kind) g.row.WAYS (Evict c.args.bucket) x x) c.self.view_is
+    record {
+      stands = λ m s. subst (FrontStands stands old.cache old.pipe) (sym (evict_none stands old.cache c.args.bucket none m s.cached)) s;
+      kind = refl;
+      buckets = refl;
+      key_words = refl;
+      places = refl;
+    }
+
+pub returns-in-None-clause-some : goal.returns-in-None-clause-some
+returns-in-None-clause-some g c =
+    let none = none_least (list_at c.self.inside.cache c.args.bucket) c.in-None.ensures.place in
+    subst (λ x. false ≡ not (length (list_at x.cache c.args.bucket) == 0)) c.self.view_is (sym (ap (λ n. not (n == 0)) none))
+
+pub returns-in-None-clause-cache : goal.returns-in-None-clause-cache
+returns-in-None-clause-cache g c =
+    let none = none_least (list_at c.self.inside.cache c.args.bucket) c.in-None.ensures.place in
+    subst (λ x. x.cache ≡ with_list x.cache c.args.bucket (take (length (list_at x.cache c.args.bucket) - 1) (list_at x.cache c.args.bucket))) c.self.view_is (nothing_taken c.self.inside.cache c.args.bucket none)
