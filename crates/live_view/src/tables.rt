@@ -76,6 +76,7 @@ pub fn view_lane<K: EpochKind, const WAYS: usize, L: Ledger>(
         → table ≡ closed_table (heading_of group.now) (K.folding lane.now.kind) (all_epochs m)) }
     ensures at_least { steps.old ≤ steps.new }
 {
+    lane.known();
     let store = full_store(alloc, lane, group.key_names.len(), steps)?;
     let row_per_epoch = lane.kind().row_per_epoch();
     store_table(alloc, group, &store, row_per_epoch)

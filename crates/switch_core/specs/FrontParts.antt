@@ -32,7 +32,8 @@ pub record IsFront (ways : ℕ) (sizes : Sizes) (cache : Cache) (pipe : Pipe) : 
   pub few_key_words : cache.key_words ≤ 8
 
 -- and so are those of the room to work in and of the initial state
-pub record AreFrontParts (ways : ℕ) (sizes : Sizes) (f : Folding) (cache : Cache) (pipe : Pipe) (scratch room initial : List ℕ) : Type 0 where
+pub record AreFrontParts (ways : ℕ) (sizes : Sizes) (f : Folding) (cache : Cache) (pipe : Pipe)
+    (scratch room initial : List ℕ) : Type 0 where
   pub front : IsFront ways sizes cache pipe
   pub scratch_words : length scratch ≡ sizes.scratch
   pub room_words : length room ≡ pipe.record_words

@@ -1,6 +1,7 @@
 //! A front: the cache of open epochs and the pipe of closed ones, before the store that they are merged into.
 
-ghost use Rattle.std.specs.Prelude.{◌≡◌, ◌+◌, ◌-◌, ◌*◌, ◌<◌, ◌≤◌, ◌==◌, ◌↔◌, take, drop, OnOk, OnErr, not, true, false, length, nat_lt, IfOk};
+ghost use Rattle.std.specs.Prelude.{◌≡◌, ◌+◌, ◌-◌, ◌*◌, ◌<◌, ◌≤◌, ◌==◌, ◌↔◌, take, drop, not, true, false, length, nat_lt};
+ghost use Rattle.std.specs.Prelude.{IfOk, OnOk, OnErr};
 ghost use Rattle.epoch_model.specs.Machine.{Machine, Packet, Evict, Merge, empty_machine};
 ghost use Rattle.epoch_model.specs.Timeline.{IsSwept};
 ghost use Rattle.bucket_cache.specs.Caches.{list_at, with_list};
@@ -48,7 +49,8 @@ impl<K: EpochKind, const WAYS: usize> Model for Front<K, WAYS> {
 
     ghost view = { λ f. record { kind = f.kind; cache = f.cache; pipe = f.pipe } };
 
-    ghost invariant = { λ f. AreFrontParts WAYS (K.sizes f.kind) (K.folding f.kind) f.cache f.pipe f.scratch.items f.room.items f.initial.items };
+    ghost invariant = { λ f. AreFrontParts WAYS (K.sizes f.kind) (K.folding f.kind) f.cache f.pipe
+        f.scratch.items f.room.items f.initial.items };
 }
 
 impl<K: EpochKind, const WAYS: usize> Front<K, WAYS> {
@@ -66,7 +68,8 @@ impl<K: EpochKind, const WAYS: usize> Front<K, WAYS> {
         requires key { (0 < key_words) × (key_words ≤ 8) }
         requires entry { key_words + (K.sizes kind).entry ≤ 512 }
         requires pipe { (0 < pipe_records) × (pipe_records ≤ 65536) }
-        ensures stands { IfOk result (λ front. FrontStands (K.stands front.kind) front.cache front.pipe (empty_machine (geometry WAYS front.cache))) }
+        ensures stands { IfOk result (λ front.
+            FrontStands (K.stands front.kind) front.cache front.pipe (empty_machine (geometry WAYS front.cache))) }
         ensures kind { IfOk result (λ front. front.kind ≡ kind) }
         ensures buckets { IfOk result (λ front. length front.cache.lists ≡ buckets) }
         ensures places { IfOk result (λ front. front.pipe.places ≡ pipe_records) }
@@ -111,7 +114,8 @@ impl<K: EpochKind, const WAYS: usize> Front<K, WAYS> {
         ensures makes { FrontMakes (K.stands self.old.kind) WAYS (Packet key.now args.now) self.old self.new }
         ensures at_least { steps.old ≤ steps.new }
         ensures cost { let key_words = self.old.cache.key_words in
-            steps.new ≤ steps.old + (key_words + 2 * WAYS * (key_words + 1) + (key_words + (K.sizes self.old.kind).entry) + K.open_bound self.old.kind + K.absorb_bound self.old.kind) }
+            steps.new ≤ steps.old + (key_words + 2 * WAYS * (key_words + 1) + (key_words + (K.sizes self.old.kind).entry)
+            + K.open_bound self.old.kind + K.absorb_bound self.old.kind) }
     {
         packet_at(
             &self.kind,
@@ -131,7 +135,8 @@ impl<K: EpochKind, const WAYS: usize> Front<K, WAYS> {
         requires range { bucket < length self.old.cache.lists }
         ensures makes { FrontMakes (K.stands self.old.kind) WAYS (Evict bucket) self.old self.new }
         ensures some { result ≡ not (length (list_at self.old.cache bucket) == 0) }
-        ensures cache { let list = list_at self.old.cache bucket in self.new.cache ≡ with_list self.old.cache bucket (take (length list - 1) list) }
+        ensures cache { let list = list_at self.old.cache bucket in
+            self.new.cache ≡ with_list self.old.cache bucket (take (length list - 1) list) }
         ensures same { result ≡ false → self.new ≡ self.old }
         ensures at_least { steps.old ≤ steps.new }
     {
@@ -200,7 +205,8 @@ impl<K: EpochKind, const WAYS: usize> Front<K, WAYS> {
     /// Whether cache and pipe are empty. Then no epoch is open, and all closed ones are merged.
     pub fn drained(&self) -> bool
         ensures value { result ≡ is_drained self.now.cache self.now.pipe }
-        ensures done { result ≡ true → (m : Machine) → FrontStands (K.stands self.now.kind) self.now.cache self.now.pipe m → IsSwept m × (m.merged ≡ length m.closed) }
+        ensures done { result ≡ true → (m : Machine) → FrontStands (K.stands self.now.kind) self.now.cache self.now.pipe m
+            → IsSwept m × (m.merged ≡ length m.closed) }
     {
         self.held() == 0 && self.piped() == 0
     }

@@ -1,6 +1,7 @@
 //! A lane: what is kept for one groupby.
 
-ghost use Rattle.std.specs.Prelude.{◌≡◌, ◌+◌, ◌-◌, ◌*◌, ◌<◌, ◌≤◌, ◌==◌, ◌↔◌, take, drop, OnOk, OnErr, not, true, false, length, nat_lt, IfOk};
+ghost use Rattle.std.specs.Prelude.{◌≡◌, ◌+◌, ◌-◌, ◌*◌, ◌<◌, ◌≤◌, ◌==◌, ◌↔◌, take, drop, not, true, false, length, nat_lt};
+ghost use Rattle.std.specs.Prelude.{IfOk, OnOk, OnErr};
 ghost use Rattle.epoch_model.specs.Machine.{Machine, Packet, Evict, Merge, empty_machine};
 ghost use Rattle.epoch_model.specs.Timeline.{IsSwept};
 ghost use Rattle.bucket_cache.specs.Caches.{list_at, with_list};

@@ -10,8 +10,8 @@ use Rattle.switch_core.specs.Pipelines.{after_events, event_at, geometry_of}
 use Rattle.switch_core.specs.PlanLanes.{LaneView, PipelineView, PipelineMakes, PipelineStands, StandsFor, lane_is_ready}
 use Rattle.switch_core.specs.Rows.{EachFrom}
 use Rattle.std.specs.declared.alloc.AllocError.{AllocError}
-use Rattle.switch_core.specs.declared.lane.Merged.{Merged}
-use Rattle.switch_core.specs.declared.lane.Merged.TheVariants.{Done, Empty}
+use Rattle.switch_core.specs.declared.front.Merged.{Merged}
+use Rattle.switch_core.specs.declared.front.Merged.TheVariants.{Done, Empty}
 use Rattle.epoch_entry.specs.contracts.any.AnyEpochsEpochKind.TheImpl.{ghosts}
 use Rattle.trace_drive.specs.Follows.{waiting}
 
