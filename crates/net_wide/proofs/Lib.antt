@@ -1,0 +1,3 @@
+mod Taking
+mod Combined
+mod SameTexts

@@ -1,1 +1,3 @@
 pub mod Combining
+pub mod NetTables
+pub mod NetLaws
