@@ -1,5 +1,5 @@
 -- Lists that have the same packets of each switch have the same tables.
-use Rattle.std.proofs.Common.{◌≡◌, ℕ, suc, ◌+◌, ◌<◌, Bool, true, false, List, [], ◌∷◌, ◌++◌, length, map, flat_map, fold, slice_index, Option, Some, None, refl, sym, ap, subst, ◌∙◌, ◌⊎◌, inl, inr, arith}
+use Rattle.std.proofs.Common.{◌≡◌, ℕ, suc, ◌+◌, true, List, [], ◌∷◌, ◌++◌, length, map, flat_map, fold, slice_index, Option, Some, None, refl, sym, ap, subst, ◌∙◌, inl, inr}
 use Rattle.std.specs.Prelude.{slice_get, option_map, option_and_then, if◌then◌else◌}
 use Rattle.std.specs.List.{All}
 use Rattle.std.proofs.lemmas.List.{get_or-map}
@@ -10,31 +10,28 @@ use Rattle.epoch_model.specs.declared.tables.Row.{Row}
 use Rattle.epoch_model.specs.Keys.{Key, ArgRow, key_eq}
 use Rattle.epoch_model.specs.Epochs.{Geometry, epochs}
 use Rattle.epoch_model.specs.Driving.{Taken, uses_taken}
-use Rattle.epoch_model.specs.Tables.{Folding, exact_row, epoch_rows, epochs_shown, keys_used}
+use Rattle.epoch_model.specs.Tables.{Folding, epoch_rows, epochs_shown, keys_used}
 use Rattle.epoch_model.proofs.KeyLists.{key_eq-true}
 use Rattle.query_lang.specs.declared.fold.TypedFold.{TypedFold}
 use Rattle.query_lang.specs.declared.typed.TypedQuery.{TypedQuery}
 use Rattle.query_lang.specs.Words.{AreWords}
 use Rattle.query_lang.specs.Folds.{IsValidFold, folded}
-use Rattle.query_lang.specs.Streams.{Tuple, Taking, takings, stream, values_at}
+use Rattle.query_lang.specs.Streams.{Tuple, Taking, takings, stream}
 use Rattle.query_lang.specs.TypedQueries.{IsValidQuery}
 use Rattle.query_types.specs.Uses.{uses}
 use Rattle.epoch_entry.specs.Foldings.{folding_of}
-use Rattle.fold_code.specs.Additive.{is_additive}
 use Rattle.stage_plan.specs.Planned.{fold_at}
 use Rattle.stage_plan.specs.Shape.{GroupShape, query_groups}
 use Rattle.stage_plan.proofs.StreamRows as packetwise
 use Rattle.final_queries.specs.declared.table.Table.{Table}
 use Rattle.final_queries.specs.declared.table.TableKind.TheVariants as kind
 use Rattle.final_queries.specs.Finals.{with_finals}
-use Rattle.final_queries.specs.GroupTable.{Heading}
-use Rattle.query_tables.specs.Tables.{heading_of, printed}
+use Rattle.query_tables.specs.Tables.{printed}
 use Rattle.additive_folds.specs.Pieces.{all_rows}
-use Rattle.additive_folds.specs.Laws.{IsAdditiveFrom}
 use Rattle.additive_folds.proofs.Orders.{any_interleaving}
 use Rattle.net_wide.specs.Combining.{net_fault}
-use Rattle.net_wide.specs.NetTables.{switch_in, packets_at, switches, uses_at, caches_of, net_epochs, key_args, net_key_rows, net_rows, net_count, table_with, net_table, net_table_if, net_tables_from, net_tables, net_text}
-use Rattle.net_wide.specs.NetLaws.{AreWhole, SameOfEachSwitch, IsSwitchSlot, TellsSwitches, SwitchesDoNotWait}
+use Rattle.net_wide.specs.NetTables.{switch_in, switches, uses_at, caches_of, net_epochs, key_args, net_key_rows, net_rows, net_count, net_table, net_table_if, net_tables_from, net_tables, net_text}
+use Rattle.net_wide.specs.NetLaws.{AreWhole, SameOfEachSwitch, TellsSwitches, SwitchesDoNotWait}
 use Rattle.net_wide.proofs.Taking.{given, args_given, same_of_each, alone, same_keys_used, same_switches}
 use Rattle.net_wide.proofs.Combined.{HasSwitchKey, Combines, all_combine}
 

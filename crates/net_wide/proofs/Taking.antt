@@ -1,11 +1,11 @@
 -- What is taken of the packets, switch by switch: the same keys, and the same rows of each key but for their order.
-use Rattle.std.proofs.Common.{◌≡◌, ℕ, suc, Bool, true, false, ◌==◌, List, [], ◌∷◌, ◌++◌, length, map, filter, slice_index, Option, Some, None, refl, sym, ap, ◌∙◌, arith, if◌then◌else◌}
-use Rattle.std.specs.List.{All, flat_map}
+use Rattle.std.proofs.Common.{◌≡◌, ℕ, suc, true, false, ◌==◌, List, [], ◌∷◌, ◌++◌, length, map, slice_index, Option, Some, None, refl, sym, ap, ◌∙◌, arith, if◌then◌else◌}
+use Rattle.std.specs.List.{flat_map}
 use Rattle.std.proofs.lemmas.Bool.Decides.{nat_tests}
 use Rattle.std.proofs.lemmas.List.Elements.{All-head, All-tail}
 use Rattle.std.proofs.lemmas.List.Sorted.{length_permutation}
-use Rattle.epoch_model.specs.Keys.{Key, ArgRow, key_eq, has, ascending}
-use Rattle.epoch_model.specs.Epochs.{Use, is_use_of}
+use Rattle.epoch_model.specs.Keys.{Key, key_eq, has, ascending}
+use Rattle.epoch_model.specs.Epochs.{Use}
 use Rattle.epoch_model.specs.Driving.{Taken, use_at, uses_taken}
 use Rattle.epoch_model.specs.Tables.{keys_used}
 use Rattle.epoch_model.proofs.KeyLists.{by_test}

@@ -1,3 +1,4 @@
 pub mod Combining
 pub mod NetTables
 pub mod NetLaws
+pub mod Sharing

@@ -1,11 +1,16 @@
 -- That the order of packets of different switches decides nothing.
-use Rattle.std.specs.Prelude.{◌≡◌, ℕ, ◌<◌, true, false, None, List, [], ◌∷◌, length, slice_index, All}
+use Rattle.std.specs.Prelude.{◌≡◌, ◌≢◌, ℕ, ◌<◌, true, false, None, List, [], ◌∷◌, length, slice_index, All}
 use Rattle.query_lang.specs.declared.typed.TypedOp.{TypedOp}
 use Rattle.query_lang.specs.declared.typed.TypedOp.TheVariants.{Filter, Map, Zip, Group}
 use Rattle.query_lang.specs.declared.typed.TypedQuery.{TypedQuery}
 use Rattle.query_lang.specs.Words.{AreWords}
 use Rattle.query_lang.specs.Streams.{stream}
 use Rattle.query_lang.specs.TypedQueries.{IsValidQuery}
+use Rattle.epoch_model.specs.Keys.{Key}
+use Rattle.epoch_model.specs.Epochs.{Geometry}
+use Rattle.epoch_model.specs.Laws.{HasRoom, rows_given}
+use Rattle.epoch_model.specs.Tables.{Folding, closed_key_rows}
+use Rattle.additive_folds.specs.Network.{SwitchEvent, SwitchEpoch, events_at, all_epochs, machine_at, AllMerged}
 use Rattle.net_wide.specs.Combining.{is_switch, makes_switch, net_fault}
 use Rattle.net_wide.specs.NetTables.{switch_in, packets_at, net_text}
 
@@ -39,3 +44,10 @@ pub record TellsSwitches (q : TypedQuery) : Type 0 where
 abbrev pub SwitchesDoNotWait : Type 0
 SwitchesDoNotWait = (q : TypedQuery) (buckets ways : ℕ) (packets other : List (List ℕ)) → IsValidQuery q → net_fault q ≡ None → TellsSwitches q
     → AreWhole packets → AreWhole other → SameOfEachSwitch packets other → net_text q buckets ways packets ≡ net_text q buckets ways other
+
+-- A key whose packets are all of one switch has the table rows of that switch's machine, for any way of folding, whatever the
+-- order in which one store merges the epochs of all switches.
+abbrev pub KeysOfOneSwitch : Type 0
+KeysOfOneSwitch = (f : Folding) (g : Geometry) (events : List SwitchEvent) (merged : List SwitchEpoch) (key : Key) (switch : ℕ) → HasRoom g
+    → AllMerged g events merged → ((other : ℕ) → other ≢ switch → rows_given key (events_at other events) ≡ [])
+    → closed_key_rows f (all_epochs merged) key ≡ closed_key_rows f (machine_at g switch events).closed key

@@ -4,7 +4,11 @@
 ghost use Rattle.net_wide.specs.NetTables.{net_text};
 
 mod check;
+mod close;
+mod fronts;
 mod laws;
 
 pub use check::net_check;
-pub use laws::switches_do_not_wait;
+pub use close::store_table;
+pub use fronts::{add_front, all_drained, evict_at, merge_at, packet_at};
+pub use laws::{keys_of_one_switch, switches_do_not_wait};
