@@ -1,5 +1,6 @@
 -- Which groupbys may merge the epochs of several switches into one store, and the fault of a query with one that may not.
-use Rattle.std.specs.Prelude.{ℕ, ◌-◌, Bool, true, false, not, ◌&&◌, ◌||◌, if◌then◌else◌, List, [], ◌∷◌, length, drop, slice_get, Option, Some, None}
+use Rattle.std.specs.Prelude.{ℕ, ◌-◌, Bool, true, false, not, ◌&&◌, ◌||◌, if◌then◌else◌}
+use Rattle.std.specs.Prelude.{List, [], ◌∷◌, length, drop, slice_get, Option, Some, None}
 use Rattle.std.specs.List.{list_any}
 use Rattle.std.specs.Str.{bytes_eq}
 use Rattle.marple_base.specs.declared.field.Field.TheVariants.{Switch}
@@ -38,8 +39,8 @@ abbrev pub adds : Option TypedFold → Bool
 adds None = false
 adds (Some f) = is_additive f
 
--- Whether a groupby with this fold and these keys combines: its fold is additive, or one of its keys is named `switch` and no `map` of a stream of the
--- query makes a column of that name.
+-- Whether a groupby with this fold and these keys combines: its fold is additive, or one of its keys is named `switch` and no `map` of
+-- a stream of the query makes a column of that name.
 abbrev pub combines : TypedQuery → ℕ → List ℕ → Bool
 combines q f keys = adds (slice_get q.folds f) || (names_switch q.names keys && not (makes_switch q.names q.streams))
 
@@ -53,7 +54,8 @@ may_stand q columns (Group input keys f args) = combines q f columns
 -- the fault of the first of these streams that is of a groupby that doesn't combine, at its name
 abbrev pub first_apart : TypedQuery → List TypedStream → Option QueryFault
 first_apart q [] = None
-first_apart q (one ∷ streams) = if may_stand q one.columns one.op then first_apart q streams else Some (record { kind = NotAdditive; span = one.name.span })
+first_apart q (one ∷ streams) =
+    if may_stand q one.columns one.op then first_apart q streams else Some (record { kind = NotAdditive; span = one.name.span })
 
 -- The fault of a query for several switches, at the name of the first groupby that doesn't combine; None where every groupby combines.
 abbrev pub net_fault : TypedQuery → Option QueryFault

@@ -24,7 +24,8 @@ SameOfEachSwitch packets other = (switch : ℕ) → packets_at switch packets �
 
 -- this slot of the stream is the packet's switch, whatever the packet
 abbrev pub IsSwitchSlot : TypedQuery → ℕ → ℕ → Type 0
-IsSwitchSlot q input slot = (words : List ℕ) → length words ≡ 14 → All (λ t. slice_index t.row slot ≡ switch_in words) (stream q input (words ∷ []))
+IsSwitchSlot q input slot = (words : List ℕ) → length words ≡ 14
+    → All (λ t. slice_index t.row slot ≡ switch_in words) (stream q input (words ∷ []))
 
 -- each key of a groupby that is named `switch` is the packet's switch, unless some `map` makes a column of that name
 abbrev pub SwitchKeysAreSwitches : TypedQuery → List ℕ → TypedOp → Type 0
@@ -32,7 +33,8 @@ SwitchKeysAreSwitches q columns (Filter input condition) = Unit {0}
 SwitchKeysAreSwitches q columns (Map input values) = Unit {0}
 SwitchKeysAreSwitches q columns (Zip left right slots) = Unit {0}
 SwitchKeysAreSwitches q columns (Group input keys f args) =
-    (j : ℕ) → j < length keys → is_switch q.names (slice_index columns j) ≡ true → makes_switch q.names q.streams ≡ false → IsSwitchSlot q input (slice_index keys j)
+    (j : ℕ) → j < length keys → is_switch q.names (slice_index columns j) ≡ true → makes_switch q.names q.streams ≡ false
+    → IsSwitchSlot q input (slice_index keys j)
 
 -- A query whose names tell what its columns are, as names in a text do: the keys named `switch` are switches, and the state
 -- variables start as words.
@@ -42,12 +44,15 @@ pub record TellsSwitches (q : TypedQuery) : Type 0 where
 
 -- Where every groupby combines, two lists that have the same packets of each switch are printed as the same text.
 abbrev pub SwitchesDoNotWait : Type 0
-SwitchesDoNotWait = (q : TypedQuery) (buckets ways : ℕ) (packets other : List (List ℕ)) → IsValidQuery q → net_fault q ≡ None → TellsSwitches q
-    → AreWhole packets → AreWhole other → SameOfEachSwitch packets other → net_text q buckets ways packets ≡ net_text q buckets ways other
+SwitchesDoNotWait = (q : TypedQuery) (buckets ways : ℕ) (packets other : List (List ℕ))
+    → IsValidQuery q → net_fault q ≡ None → TellsSwitches q
+    → AreWhole packets → AreWhole other → SameOfEachSwitch packets other
+    → net_text q buckets ways packets ≡ net_text q buckets ways other
 
 -- A key whose packets are all of one switch has the table rows of that switch's machine, for any way of folding, whatever the
 -- order in which one store merges the epochs of all switches.
 abbrev pub KeysOfOneSwitch : Type 0
-KeysOfOneSwitch = (f : Folding) (g : Geometry) (events : List SwitchEvent) (merged : List SwitchEpoch) (key : Key) (switch : ℕ) → HasRoom g
+KeysOfOneSwitch = (f : Folding) (g : Geometry) (events : List SwitchEvent) (merged : List SwitchEpoch) (key : Key) (switch : ℕ)
+    → HasRoom g
     → AllMerged g events merged → ((other : ℕ) → other ≢ switch → rows_given key (events_at other events) ≡ [])
     → closed_key_rows f (all_epochs merged) key ≡ closed_key_rows f (machine_at g switch events).closed key

@@ -1,5 +1,6 @@
 -- The tables of a query over several switches, each with caches of its own, and what the query prints.
-use Rattle.std.specs.Prelude.{ℕ, suc, ◌==◌, List, [], ◌∷◌, ◌++◌, length, map, filter, flat_map, sum_by, slice_index, Option, Some, None, if◌then◌else◌}
+use Rattle.std.specs.Prelude.{ℕ, suc, ◌==◌, List, [], ◌∷◌, ◌++◌, length, map, filter, flat_map, sum_by, slice_index}
+use Rattle.std.specs.Prelude.{Option, Some, None, if◌then◌else◌}
 use Rattle.marple_base.specs.declared.field.Field.TheVariants.{Switch}
 use Rattle.marple_base.specs.Field.{number_of}
 use Rattle.query_lang.specs.declared.fold.TypedFold.{TypedFold}
@@ -82,7 +83,8 @@ net_table_if q g packets i shape (Some f) = net_table q g packets i shape f ∷ 
 -- the tables of groupbys in order, where the first has this number
 abbrev pub net_tables_from : TypedQuery → Geometry → List (List ℕ) → ℕ → List GroupShape → List Table
 net_tables_from q g packets i [] = []
-net_tables_from q g packets i (shape ∷ shapes) = net_table_if q g packets i shape (fold_at q i) ++ net_tables_from q g packets (suc i) shapes
+net_tables_from q g packets i (shape ∷ shapes) =
+    net_table_if q g packets i shape (fold_at q i) ++ net_tables_from q g packets (suc i) shapes
 
 -- The tables of a query's groupbys over the packets of several switches.
 unfoldable pub net_tables : TypedQuery → Geometry → List (List ℕ) → List Table

@@ -70,6 +70,7 @@ pub fn merge_at<K: EpochKind, const WAYS: usize, L: Ledger>(
     ensures leads { OnOk result (LeadsByMerge (λ kind. K.stands kind) WAYS at fronts.old fronts.new) }
     ensures takes { OnOk result (AtSwitch (λ front.
         StoreTakes (λ kind. K.stands kind) (K.folding front.kind) WAYS at fronts.old store.old store.new) fronts.old at) }
+    ensures sizes { (store.new.key_words ≡ store.old.key_words) × (store.new.state_words ≡ store.old.state_words) }
     ensures empty { AtSwitch (λ front. (result ≡ Ok Merged.Empty) ↔ (length front.pipe.records ≡ 0)) fronts.old at }
     ensures err { OnErr result ((fronts.new ≡ fronts.old) × (store.new ≡ store.old)) }
     ensures at_least { steps.old ≤ steps.new }

@@ -63,3 +63,13 @@ merge_into-requires g c =
     let fronts = c.args.fronts.now in
     let first = c.index-fronts-at.result in
     (search rules, c.requires.fits (get_or fronts c.args.at first) (got_here fronts c.args.at first c.requires.switch))
+
+pub returns-clause-sizes : goal.returns-clause-sizes
+returns-clause-sizes g c =
+    let fronts = c.args.fronts.now in
+    let first = c.index-fronts-at.result in
+    let was = c.requires.fits (get_or fronts c.args.at first) (got_here fronts c.args.at first c.requires.switch) in
+    let now = c.merge_into.ensures.fits in (
+      now.key ∙ (ap (λ x. x.key_words) c.merge_into.ensures.cache ∙ sym was.key),
+      now.state ∙ (ap (λ k. (g.K.EpochKind.sizes k).state) c.merge_into.ensures.kind ∙ sym was.state),
+    )
