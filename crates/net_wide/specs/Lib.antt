@@ -2,3 +2,4 @@ pub mod Combining
 pub mod NetTables
 pub mod NetLaws
 pub mod Sharing
+pub mod Numbering
