@@ -3,3 +3,4 @@ mod Combined
 mod SameTexts
 mod Sharing
 mod OneSwitch
+mod UsesOfOne

@@ -1,5 +1,5 @@
 -- That the order of packets of different switches decides nothing.
-use Rattle.std.specs.Prelude.{◌≡◌, ◌≢◌, ℕ, ◌<◌, true, false, None, List, [], ◌∷◌, length, slice_index, All}
+use Rattle.std.specs.Prelude.{◌≡◌, ◌≢◌, ◌==◌, ℕ, ◌-◌, ◌<◌, true, false, None, List, [], ◌∷◌, length, map, filter, slice_index, slice_index_or, All}
 use Rattle.query_lang.specs.declared.typed.TypedOp.{TypedOp}
 use Rattle.query_lang.specs.declared.typed.TypedOp.TheVariants.{Filter, Map, Zip, Group}
 use Rattle.query_lang.specs.declared.typed.TypedQuery.{TypedQuery}
@@ -7,12 +7,14 @@ use Rattle.query_lang.specs.Words.{AreWords}
 use Rattle.query_lang.specs.Streams.{stream}
 use Rattle.query_lang.specs.TypedQueries.{IsValidQuery}
 use Rattle.epoch_model.specs.Keys.{Key}
-use Rattle.epoch_model.specs.Epochs.{Geometry}
+use Rattle.epoch_model.specs.Epochs.{Use, Geometry}
+use Rattle.epoch_model.specs.Driving.{Taken}
+use Rattle.query_types.specs.Uses.{uses}
 use Rattle.epoch_model.specs.Laws.{HasRoom, rows_given}
 use Rattle.epoch_model.specs.Tables.{Folding, closed_key_rows}
 use Rattle.additive_folds.specs.Network.{SwitchEvent, SwitchEpoch, events_at, all_epochs, machine_at, AllMerged}
 use Rattle.net_wide.specs.Combining.{is_switch, makes_switch, net_fault}
-use Rattle.net_wide.specs.NetTables.{switch_in, packets_at, net_text}
+use Rattle.net_wide.specs.NetTables.{switch_in, packets_at, uses_at, net_text}
 
 -- the packets have the words of 14 fields
 abbrev pub AreWhole : List (List ℕ) → Type 0
@@ -56,3 +58,17 @@ KeysOfOneSwitch = (f : Folding) (g : Geometry) (events : List SwitchEvent) (merg
     → HasRoom g
     → AllMerged g events merged → ((other : ℕ) → other ≢ switch → rows_given key (events_at other events) ≡ [])
     → closed_key_rows f (all_epochs merged) key ≡ closed_key_rows f (machine_at g switch events).closed key
+
+-- the switch of the packet with this number, counted from 1
+abbrev pub switch_of : List (List ℕ) → ℕ → ℕ
+switch_of packets number = switch_in (slice_index_or packets (number - 1) [])
+
+-- a use without the packet's number
+abbrev pub taken_in : Use → Taken
+taken_in u = record { key = u.key; row = u.row }
+
+-- What a groupby takes of one switch's packets alone is what it takes of all packets, where the packet is of that switch. Only the
+-- numbers of packets differ, which decide nothing without a refresh.
+abbrev pub UsesAreTheSwitchs : Type 0
+UsesAreTheSwitchs = (q : TypedQuery) (i : ℕ) (packets : List (List ℕ)) (switch : ℕ) → AreWhole packets
+    → map taken_in (uses_at q i packets switch) ≡ map taken_in (filter (λ u. switch_of packets u.packet == switch) (uses q i packets))

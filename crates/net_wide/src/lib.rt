@@ -12,5 +12,5 @@ mod numbering;
 pub use check::net_check;
 pub use close::store_table;
 pub use fronts::{add_front, all_drained, evict_at, merge_at, packet_at};
-pub use laws::{keys_of_one_switch, switches_do_not_wait};
+pub use laws::{keys_of_one_switch, switches_do_not_wait, uses_are_the_switchs};
 pub use numbering::number_switch;
