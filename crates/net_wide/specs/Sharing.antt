@@ -60,3 +60,12 @@ abbrev pub StoreTakes : {K : Type 0} → (K → Standing) → Folding → ℕ �
 StoreTakes means f ways switch fronts before after = (buckets : ℕ) (events : List SwitchEvent) (merged : List SwitchEpoch)
     → FrontsStand means ways buckets fronts events merged → StoreHolds f before (all_epochs merged)
     → StoreHolds f after (all_epochs (merged ++ merged_at ways buckets switch events))
+
+-- A front with this kind of entries and these sizes stands behind the others.
+pub record AddsFront {K : Type 0} (kind : K) (buckets key_words places : ℕ) (old new : List (FrontOf K)) : Type 0 where
+  pub front : FrontOf K
+  pub added : new ≡ old ++ front ∷ []
+  pub has_kind : front.kind ≡ kind
+  pub has_buckets : length front.cache.lists ≡ buckets
+  pub has_key_words : front.cache.key_words ≡ key_words
+  pub has_places : front.pipe.places ≡ places

@@ -8,7 +8,7 @@ ghost use Rattle.switch_core.specs.FrontParts.{FitsStore};
 ghost use Rattle.switch_core.specs.Closing.{is_drained};
 ghost use Rattle.additive_folds.specs.Network.{SwitchEvent, SwitchEpoch, AllMerged};
 ghost use Rattle.net_wide.specs.NetTables.{caches_of};
-ghost use Rattle.net_wide.specs.Sharing.{AtSwitch, SwitchMakes, LeadsBy, LeadsByMerge, StoreTakes, FrontsStand};
+ghost use Rattle.net_wide.specs.Sharing.{AtSwitch, SwitchMakes, LeadsBy, LeadsByMerge, StoreTakes, FrontsStand, AddsFront};
 
 use backing_store::BackingStore;
 use epoch_entry::EpochKind;
@@ -97,6 +97,7 @@ pub fn add_front<K: EpochKind, const WAYS: usize>(
     ensures stand { OnOk result ((events : List SwitchEvent) (merged : List SwitchEpoch)
         → FrontsStand (λ kind. K.stands kind) WAYS buckets fronts.old.items events merged
         → FrontsStand (λ kind. K.stands kind) WAYS buckets fronts.new.items events merged) }
+    ensures adds { OnOk result (AddsFront kind buckets key_words pipe_records fronts.old.items fronts.new.items) }
     ensures count { OnOk result (length fronts.new.items ≡ length fronts.old.items + 1) }
     ensures err { OnErr result (fronts.new.items ≡ fronts.old.items) }
 {
