@@ -5,12 +5,11 @@ use Rattle.std.proofs.lemmas.List.Elements.{All-filter}
 use Rattle.epoch_model.specs.Epochs.{Use}
 use Rattle.epoch_model.specs.Driving.{Taken, use_at, uses_taken}
 use Rattle.epoch_model.proofs.KeyLists.{by_test}
-use Rattle.query_lang.specs.declared.typed.TypedQuery.{TypedQuery}
 use Rattle.query_lang.specs.Streams.{Taking, takings}
 use Rattle.query_types.specs.Uses.{taken_by, uses}
 use Rattle.stage_plan.proofs.StreamRows as packetwise
 use Rattle.net_wide.specs.NetTables.{switch_in, packets_at, uses_at}
-use Rattle.net_wide.specs.NetLaws.{AreWhole, switch_of, taken_in, UsesAreTheSwitchs}
+use Rattle.net_wide.specs.NetLaws.{switch_of, taken_in, UsesAreTheSwitchs}
 
 module _ (take : List ℕ → Option Taken) (s : ℕ) (all : List (List ℕ)) where
   abbrev is_here : Use → Bool
