@@ -66,7 +66,6 @@ pub fn run_query<const WAYS: usize, L: Ledger>(
     requires buckets { 0 < schedule.buckets }
     requires places { schedule.buckets * WAYS ≤ 65536 }
     requires pipe { (0 < schedule.pipe) × (schedule.pipe ≤ 65536) }
-    requires lag { 0 < schedule.lag }
     requires valid { IsValidQuery typed.now }
     requires plan { IsPlanOf typed.now plan }
     requires whole { AreWhole (words_of (coming packets)) }
@@ -81,7 +80,11 @@ pub fn run_query<const WAYS: usize, L: Ledger>(
     ensures steps { steps.old ≤ steps.new }
 {
     ends_are_the_querys();
-    let pipeline = drive::<WAYS, L>(alloc, plan, schedule, packets, steps)?;
+    let fresh: Pipeline<WAYS> = match Pipeline::new(alloc, plan, schedule.buckets, schedule.pipe) {
+        Ok(fresh) => fresh,
+        Err(AllocError) => return Err(TraceAnswer::Memory),
+    };
+    let pipeline = drive(fresh, schedule, packets, steps)?;
     match printed(alloc, typed, &pipeline, steps) {
         Ok(text) => Ok(Answered { text, pipeline }),
         Err(AllocError) => Err(TraceAnswer::Memory),
