@@ -22,7 +22,7 @@ use Rattle.additive_folds.specs.Laws.{IsAdditiveFrom}
 use Rattle.additive_folds.proofs.Orders.{interleaved_rows}
 use Rattle.additive_folds.proofs.Stores.{given_at, pieces_at, given_rows, lists_all, events_interleave, store_folds}
 
-same_some : {A : Type 0} (xs ys : List A) → length xs ≡ length ys → some xs ≡ some ys
+pub same_some : {A : Type 0} (xs ys : List A) → length xs ≡ length ys → some xs ≡ some ys
 same_some [] [] e = refl
 same_some [] (y ∷ ys) e = absurd (omega (arith, e))
 same_some (x ∷ xs) [] e = absurd (omega (arith, e))

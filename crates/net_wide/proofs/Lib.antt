@@ -1,0 +1,5 @@
+mod Taking
+mod Combined
+mod SameTexts
+mod Sharing
+mod OneSwitch

@@ -1,0 +1,58 @@
+-- That the order of packets of different switches decides nothing.
+use Rattle.std.specs.Prelude.{◌≡◌, ◌≢◌, ℕ, ◌<◌, true, false, None, List, [], ◌∷◌, length, slice_index, All}
+use Rattle.query_lang.specs.declared.typed.TypedOp.{TypedOp}
+use Rattle.query_lang.specs.declared.typed.TypedOp.TheVariants.{Filter, Map, Zip, Group}
+use Rattle.query_lang.specs.declared.typed.TypedQuery.{TypedQuery}
+use Rattle.query_lang.specs.Words.{AreWords}
+use Rattle.query_lang.specs.Streams.{stream}
+use Rattle.query_lang.specs.TypedQueries.{IsValidQuery}
+use Rattle.epoch_model.specs.Keys.{Key}
+use Rattle.epoch_model.specs.Epochs.{Geometry}
+use Rattle.epoch_model.specs.Laws.{HasRoom, rows_given}
+use Rattle.epoch_model.specs.Tables.{Folding, closed_key_rows}
+use Rattle.additive_folds.specs.Network.{SwitchEvent, SwitchEpoch, events_at, all_epochs, machine_at, AllMerged}
+use Rattle.net_wide.specs.Combining.{is_switch, makes_switch, net_fault}
+use Rattle.net_wide.specs.NetTables.{switch_in, packets_at, net_text}
+
+-- the packets have the words of 14 fields
+abbrev pub AreWhole : List (List ℕ) → Type 0
+AreWhole packets = All (λ words. length words ≡ 14) packets
+
+-- both lists have the same packets of each switch, in the same order
+abbrev pub SameOfEachSwitch : List (List ℕ) → List (List ℕ) → Type 0
+SameOfEachSwitch packets other = (switch : ℕ) → packets_at switch packets ≡ packets_at switch other
+
+-- this slot of the stream is the packet's switch, whatever the packet
+abbrev pub IsSwitchSlot : TypedQuery → ℕ → ℕ → Type 0
+IsSwitchSlot q input slot = (words : List ℕ) → length words ≡ 14
+    → All (λ t. slice_index t.row slot ≡ switch_in words) (stream q input (words ∷ []))
+
+-- each key of a groupby that is named `switch` is the packet's switch, unless some `map` makes a column of that name
+abbrev pub SwitchKeysAreSwitches : TypedQuery → List ℕ → TypedOp → Type 0
+SwitchKeysAreSwitches q columns (Filter input condition) = Unit {0}
+SwitchKeysAreSwitches q columns (Map input values) = Unit {0}
+SwitchKeysAreSwitches q columns (Zip left right slots) = Unit {0}
+SwitchKeysAreSwitches q columns (Group input keys f args) =
+    (j : ℕ) → j < length keys → is_switch q.names (slice_index columns j) ≡ true → makes_switch q.names q.streams ≡ false
+    → IsSwitchSlot q input (slice_index keys j)
+
+-- A query whose names tell what its columns are, as names in a text do: the keys named `switch` are switches, and the state
+-- variables start as words.
+pub record TellsSwitches (q : TypedQuery) : Type 0 where
+  pub keys : All (λ one. SwitchKeysAreSwitches q one.columns one.op) q.streams
+  pub words : All (λ f. AreWords f.initial) q.folds
+
+-- Where every groupby combines, two lists that have the same packets of each switch are printed as the same text.
+abbrev pub SwitchesDoNotWait : Type 0
+SwitchesDoNotWait = (q : TypedQuery) (buckets ways : ℕ) (packets other : List (List ℕ))
+    → IsValidQuery q → net_fault q ≡ None → TellsSwitches q
+    → AreWhole packets → AreWhole other → SameOfEachSwitch packets other
+    → net_text q buckets ways packets ≡ net_text q buckets ways other
+
+-- A key whose packets are all of one switch has the table rows of that switch's machine, for any way of folding, whatever the
+-- order in which one store merges the epochs of all switches.
+abbrev pub KeysOfOneSwitch : Type 0
+KeysOfOneSwitch = (f : Folding) (g : Geometry) (events : List SwitchEvent) (merged : List SwitchEpoch) (key : Key) (switch : ℕ)
+    → HasRoom g
+    → AllMerged g events merged → ((other : ℕ) → other ≢ switch → rows_given key (events_at other events) ≡ [])
+    → closed_key_rows f (all_epochs merged) key ≡ closed_key_rows f (machine_at g switch events).closed key

@@ -1,0 +1,96 @@
+-- The tables of a query over several switches, each with caches of its own, and what the query prints.
+use Rattle.std.specs.Prelude.{ℕ, suc, ◌==◌, List, [], ◌∷◌, ◌++◌, length, map, filter, flat_map, sum_by, slice_index}
+use Rattle.std.specs.Prelude.{Option, Some, None, if◌then◌else◌}
+use Rattle.marple_base.specs.declared.field.Field.TheVariants.{Switch}
+use Rattle.marple_base.specs.Field.{number_of}
+use Rattle.query_lang.specs.declared.fold.TypedFold.{TypedFold}
+use Rattle.query_lang.specs.declared.typed.TypedQuery.{TypedQuery}
+use Rattle.query_types.specs.Uses.{uses}
+use Rattle.epoch_model.specs.declared.tables.Row.{Row}
+use Rattle.epoch_model.specs.Keys.{Key, ArgRow, ascending}
+use Rattle.epoch_model.specs.Epochs.{Use, Geometry, is_use_of, epochs}
+use Rattle.epoch_model.specs.Tables.{Folding, exact_row, epoch_rows, epochs_shown, keys_used}
+use Rattle.epoch_entry.specs.Foldings.{folding_of}
+use Rattle.stage_plan.specs.Planned.{fold_at}
+use Rattle.stage_plan.specs.Shape.{GroupShape, query_groups}
+use Rattle.final_queries.specs.declared.table.Table.{Table}
+use Rattle.final_queries.specs.declared.table.TableKind.TheVariants.{Group}
+use Rattle.final_queries.specs.Finals.{with_finals}
+use Rattle.final_queries.specs.GroupTable.{Heading}
+use Rattle.query_tables.specs.Tables.{heading_of, printed}
+
+-- the switch of a packet with these words
+abbrev pub switch_in : List ℕ → ℕ
+switch_in words = slice_index words (number_of Switch)
+
+-- the packets of one switch, in order
+abbrev pub packets_at : ℕ → List (List ℕ) → List (List ℕ)
+packets_at switch packets = filter (λ words. switch_in words == switch) packets
+
+-- the switches of the packets in ascending order, each once; they are put in order as keys of one word
+abbrev pub switches : List (List ℕ) → List ℕ
+switches packets = map (λ key. slice_index key 0) (ascending (map (λ words. switch_in words ∷ []) packets))
+
+-- a switch's caches: so many buckets and ways, and no refresh
+abbrev pub caches_of : ℕ → ℕ → Geometry
+caches_of buckets ways = record { buckets = buckets; ways = ways; refresh = 0 }
+
+-- what the groupby takes of the packets of one switch, as if there were no others
+abbrev pub uses_at : TypedQuery → ℕ → List (List ℕ) → ℕ → List Use
+uses_at q i packets switch = uses q i (packets_at switch packets)
+
+-- The epochs of a key: switch by switch, in ascending order, those into which the switch's caches cut what it gives the key.
+abbrev pub net_epochs : TypedQuery → ℕ → Geometry → List (List ℕ) → Key → List (List ArgRow)
+net_epochs q i g packets key = flat_map (λ switch. epochs g (uses_at q i packets switch) key) (switches packets)
+
+-- all argument rows of the key in the order of the trace, whatever the switch
+abbrev pub key_args : Key → List Use → List ArgRow
+key_args key used = map (λ u. u.row) (filter (is_use_of key) used)
+
+-- the key's table rows: one for each of these epochs, or one for all of the key's argument rows
+abbrev pub net_key_rows : Folding → List (List ArgRow) → List ArgRow → Key → List Row
+net_key_rows f pieces args key =
+    if f.row_per_epoch then epoch_rows f key (length pieces) 1 pieces else (exact_row f key (length pieces) args ∷ [])
+
+-- The rows of the groupby's table, by the keys of all switches in ascending order.
+abbrev pub net_rows : TypedQuery → ℕ → Geometry → List (List ℕ) → Folding → List Row
+net_rows q i g packets f =
+    flat_map (λ key. net_key_rows f (net_epochs q i g packets key) (key_args key (uses q i packets)) key) (keys_used (uses q i packets))
+
+-- The number of epochs over all keys of the table.
+abbrev pub net_count : TypedQuery → ℕ → Geometry → List (List ℕ) → ℕ
+net_count q i g packets = epochs_shown (sum_by (λ key. length (net_epochs q i g packets key)) (keys_used (uses q i packets)))
+
+-- a groupby's table with this heading
+abbrev pub table_with : TypedQuery → ℕ → Geometry → List (List ℕ) → Heading → Folding → Table
+table_with q i g packets heading f = record {
+  name = heading.name;
+  columns = heading.key_names ++ heading.state_names;
+  keys = length heading.key_names;
+  kind = Group heading.class heading.depth (net_count q i g packets);
+  rows = net_rows q i g packets f;
+}
+
+-- The table of the groupby with this number over the packets of several switches.
+abbrev pub net_table : TypedQuery → Geometry → List (List ℕ) → ℕ → GroupShape → TypedFold → Table
+net_table q g packets i shape f = table_with q i g packets (heading_of shape) (folding_of f)
+
+-- a groupby whose fold isn't there has no table; each groupby of a valid query has a fold
+abbrev pub net_table_if : TypedQuery → Geometry → List (List ℕ) → ℕ → GroupShape → Option TypedFold → List Table
+net_table_if q g packets i shape None = []
+net_table_if q g packets i shape (Some f) = net_table q g packets i shape f ∷ []
+
+-- the tables of groupbys in order, where the first has this number
+abbrev pub net_tables_from : TypedQuery → Geometry → List (List ℕ) → ℕ → List GroupShape → List Table
+net_tables_from q g packets i [] = []
+net_tables_from q g packets i (shape ∷ shapes) =
+    net_table_if q g packets i shape (fold_at q i) ++ net_tables_from q g packets (suc i) shapes
+
+-- The tables of a query's groupbys over the packets of several switches.
+unfoldable pub net_tables : TypedQuery → Geometry → List (List ℕ) → List Table
+net_tables q g packets = net_tables_from q g packets 0 (query_groups q)
+
+-- What a query prints over the packets of several switches, whose caches have so many buckets and ways: the tables of its
+-- groupbys and finals, in the order of its prints.
+unfoldable pub net_text : TypedQuery → ℕ → ℕ → List (List ℕ) → List ℕ
+net_text q buckets ways packets = printed q (with_finals q.names q.folds (net_tables q (caches_of buckets ways) packets) q.finals)
