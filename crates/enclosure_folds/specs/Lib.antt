@@ -1,2 +1,4 @@
 pub mod Bounds
 pub mod Examples
+pub mod BoundsTables
+pub mod Check
