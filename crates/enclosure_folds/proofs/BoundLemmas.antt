@@ -41,7 +41,7 @@ split_last : (x : List ArgRow) (xs : List (List ArgRow)) → (earlier : List Arg
 split_last x [] = ([], append-nil x)
 split_last x (y ∷ ys) = let r = split_last y ys in (x ++ r.0, ap (λ z. x ++ z) r.1 ∙ sym (append_assoc x r.0 (last_or y ys)))
 
-last_map : (g : List ArgRow → List ℕ) (x : List ArgRow) (xs : List (List ArgRow)) → last_or (g x) (map g xs) ≡ g (last_or x xs)
+pub last_map : (g : List ArgRow → List ℕ) (x : List ArgRow) (xs : List (List ArgRow)) → last_or (g x) (map g xs) ≡ g (last_or x xs)
 last_map g x [] = refl
 last_map g x (y ∷ ys) = last_map g y ys
 
@@ -96,6 +96,11 @@ module _ (f : TypedFold) (valid : IsValidFold f) (mono : is_monotone f ≡ true)
       let cut = split_last x (y ∷ ys) in
       several (last_or y ys) (last_or (bounds_after f y) (map (bounds_after f) ys)) (all_rows (x ∷ y ∷ ys)) cut.0 (last_map (bounds_after f) y ys) cut.1 rows
 
+-- some rows are in some pieces
+pub some_pieces : (pieces : List (List ArgRow)) (rows : List ArgRow) → all_rows pieces ≡ rows → 0 < length rows → 0 < length pieces
+some_pieces [] rows e some = absurd (omega (arith, ap (λ l. length l) e, some))
+some_pieces (x ∷ xs) rows e some = omega arith
+
 -- the words of an epoch's row are what its rows are folded to
 row_words_are : (folding : Folding) (key : Key) (count number : ℕ) (lists : List (List ArgRow)) → row_words (epoch_rows folding key count number lists) ≡ map (λ rows. fold folding.step folding.initial rows) lists
 row_words_are folding key count number [] = refl
@@ -108,10 +113,6 @@ module _ (f : TypedFold) (sizes : Sizes) (folding : Folding) (opening absorbing 
       subst (λ z. Encloses (low_bound (fold_states f) z) (high_bound (fold_states f) z) (folded f (initial_state f) (all_rows lists)))
       (sym (row_words_are folding key count number lists ∙ ap (λ g. map g lists) (fun_ext h.folded)))
       (enclosed f valid mono words lists rows some)
-
-  some_pieces : (pieces : List (List ArgRow)) (rows : List ArgRow) → all_rows pieces ≡ rows → 0 < length rows → 0 < length pieces
-  some_pieces [] rows e some = absurd (omega (arith, ap (λ l. length l) e, some))
-  some_pieces (x ∷ xs) rows e some = omega arith
 
   pub table_enclosed : (g : Geometry) (uses : List Use) (key : Key) → All AreWords (map (λ u. u.row) (filter (is_use_of key) uses)) → 0 < length (filter (is_use_of key) uses) →
       RowsEnclose (fold_states f) (key_rows folding g uses key) (folded f (initial_state f) (map (λ u. u.row) (filter (is_use_of key) uses)))

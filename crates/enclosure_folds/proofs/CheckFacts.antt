@@ -13,12 +13,12 @@ use Rattle.stage_plan.specs.Planned.{IsPlanOf, fold_at}
 use Rattle.stage_plan.specs.Sound.{PlanParts}
 use Rattle.enclosure_folds.specs.Check.{fold_fault, stream_fault, or_else, first_fault}
 
-record Stands {A : Type 0} (xs : List A) (n : ℕ) (x : A) (rest : List A) : Type 0 where
-  found : slice_get xs n ≡ Some x
-  within : n < length xs
-  next : drop (n + 1) xs ≡ rest
+pub record Stands {A : Type 0} (xs : List A) (n : ℕ) (x : A) (rest : List A) : Type 0 where
+  pub found : slice_get xs n ≡ Some x
+  pub within : n < length xs
+  pub next : drop (n + 1) xs ≡ rest
 
-stands : {A : Type 0} (xs : List A) (n : ℕ) (x : A) (rest : List A) → drop n xs ≡ x ∷ rest → Stands xs n x rest
+pub stands : {A : Type 0} (xs : List A) (n : ℕ) (x : A) (rest : List A) → drop n xs ≡ x ∷ rest → Stands xs n x rest
 stands [] zero x rest e = absurd (omega (arith, ap (λ l. length l) e))
 stands [] (suc n) x rest e = absurd (omega (arith, ap (λ l. length l) e))
 stands (y ∷ ys) zero x rest e = record { found = ap (λ l. slice_get l 0) e; within = omega arith; next = ap (λ l. drop 1 l) e }

@@ -13,6 +13,10 @@ ghost use Rattle.monotone_folds.specs.Examples.{decayed_sum, clamped};
 ghost use Rattle.enclosure_folds.specs.Examples.{AreKeyBounds, one_epoch, two_epochs};
 ghost use Rattle.epoch_entry.specs.Bounds.{bounds_after, IsBoundsKindOf};
 ghost use Rattle.enclosure_folds.specs.Bounds.{low_bound, high_bound, is_exact, Encloses, RowsEnclose, all_rows};
+ghost use Rattle.enclosure_folds.specs.Shown.{TablesGiveBounds};
+ghost use Rattle.enclosure_folds.specs.KeyBounds.{EpochRowsGiveBounds, KeyBoundsEnclose, TriplesGiveWholeTables};
+
+use final_queries::{alike_foldings_make_one_table, group_tables_are_read};
 
 /// By the row lists of a key's epochs: the bounds of a monotone fold enclose its fold over all rows of the key.
 pub fn epochs_enclose()
@@ -42,3 +46,27 @@ pub fn small_bounds()
     ensures clamped_twice { AreKeyBounds clamped (two_epochs 12 20) 10 10 true }
     ensures clamped_once { AreKeyBounds clamped (one_epoch 3) 3 3 true }
 {}
+
+/// The table whose rows are those of the epochs of a groupby, by entries for a fold's bounds, gives the groupby's table of bounds.
+pub fn epoch_rows_give_bounds()
+    ensures { EpochRowsGiveBounds }
+{}
+
+/// The bounds of each key of a groupby's table enclose the fold of a monotone fold over the rows of all uses of the key, word by word, and where
+/// they are equal both are that fold.
+pub fn key_bounds_enclose()
+    ensures { KeyBoundsEnclose }
+{}
+
+/// The table of bounds that a table of three states gives has the words that its names say.
+pub fn triples_give_whole_tables()
+    ensures { TriplesGiveWholeTables }
+{}
+
+/// The table of a groupby's uses by entries for bounds gives what is shown of the groupby: the table of a linear fold, or the table of bounds of any other.
+pub fn tables_give_bounds()
+    ensures { TablesGiveBounds }
+{
+    alike_foldings_make_one_table();
+    group_tables_are_read();
+}

@@ -1,8 +1,9 @@
 // The rows of a table of bounds that finals may read.
 
-ghost use Rattle.std.specs.Prelude.{◌≡◌, ◌++◌, length, map, filter, IfOk, OnOk};
+ghost use Rattle.std.specs.Prelude.{◌≡◌, ◌++◌, length, map, filter, IfOk};
 ghost use Rattle.enclosure_folds.specs.BoundsTables.{IsBoundsTable, row_is_exact, exact_row, exact_table};
 
+use crate::copies::{names_copy, push_copies, words_copy};
 use crate::table::{BoundsRow, BoundsTable};
 use epoch_model::{Mark, Row};
 use final_queries::{Table, TableKind};
@@ -15,12 +16,6 @@ pub(crate) fn is_exact(row: &BoundsRow) -> bool
     ensures { result ≡ row_is_exact row.now }
 {
     row.low.as_slice() == row.high.as_slice()
-}
-
-fn words_copy(alloc: Global, words: &[u64]) -> Result<Seq<u64>, AllocError>
-    ensures { IfOk result (λ copy. copy ≡ words.now) }
-{
-    Ok(Seq::from_vec(Vec::from_slice(alloc, words)?))
 }
 
 fn row_copy(alloc: Global, row: &BoundsRow) -> Result<Row, AllocError>
@@ -51,19 +46,9 @@ fn row_copies(alloc: Global, rows: &[BoundsRow]) -> Result<Seq<Row>, AllocError>
 fn all_names(alloc: Global, first: &[Text], others: &[Text]) -> Result<Seq<Text>, AllocError>
     ensures { IfOk result (λ names. names ≡ first.now ++ others.now) }
 {
-    let mut names = Seq::new(alloc);
-    push_copies(alloc, &mut names, first)?;
+    let mut names = names_copy(alloc, first)?;
     push_copies(alloc, &mut names, others)?;
     Ok(names)
-}
-
-fn push_copies(alloc: Global, names: &mut Seq<Text>, more: &[Text]) -> Result<(), AllocError>
-    ensures { OnOk result (names.new ≡ names.old ++ more.now) }
-{
-    for name in more {
-        names.push(Text::from_slice(alloc, name.as_slice())?)?;
-    }
-    Ok(())
 }
 
 /// The table that finals read in the place of a table of bounds: the rows whose bounds are equal, in order, with these as
