@@ -13,14 +13,15 @@ need_tools() {
 }
 
 # Writes a line for each packet of the capture $1 into the file $2, in the capture's order: number, time, addresses, ports of
-# TCP and of UDP, protocol, lengths, sequence number, IP identification. Numbers of packets are those that Wireshark shows.
+# TCP and of UDP, protocol, lengths of the IP header, of all and of the TCP header, sequence number, IP identification, place
+# of a fragment. Numbers of packets are those that Wireshark shows.
 read_capture() {
     [ -r "$1" ] || fail "cannot read $1"
     tshark -r "$1" -n -T fields -E separator=, -E occurrence=f \
         -o ip.defragment:FALSE -o tcp.relative_sequence_numbers:FALSE \
         -o tcp.analyze_sequence_numbers:FALSE -o tcp.desegment_tcp_streams:FALSE \
         -e frame.number -e frame.time_epoch -e ip.src -e ip.dst -e tcp.srcport -e tcp.dstport -e udp.srcport -e udp.dstport \
-        -e ip.proto -e ip.hdr_len -e ip.len -e tcp.len -e udp.length -e tcp.seq -e ip.id >"$2" 2>"$2.err" ||
+        -e ip.proto -e ip.hdr_len -e ip.len -e tcp.hdr_len -e tcp.seq -e ip.id -e ip.frag_offset >"$2" 2>"$2.err" ||
         fail "tshark cannot read $1: $(grep -v '^Running as user' "$2.err" | head -n 1)"
 }
 
@@ -36,9 +37,11 @@ function read_packet(    cut) {
     if (origin == "") origin = second
     time = (second - origin) * 1000000000 + part
     source = $3; target = $4; protocol = $9 + 0; length_of = $11 + 0
+    # A fragment behind the first has no ports, and a capture of joined segments may have a length of 0.
     source_port = 0; target_port = 0; sequence = 0; payload = length_of - $10
-    if (protocol == 6) { source_port = $5 + 0; target_port = $6 + 0; sequence = $14 + 0; payload = $12 + 0 }
-    if (protocol == 17) { source_port = $7 + 0; target_port = $8 + 0; payload = $13 - 8 }
+    if (protocol == 6 && $5 != "") { source_port = $5; target_port = $6; sequence = $13; payload -= $12 }
+    if (protocol == 17 && $7 != "") { source_port = $7; target_port = $8; payload -= 8 }
+    if (payload < 0) payload = 0
 }
 function check_time() {
     if (time >= 0) return

@@ -14,6 +14,7 @@ ghost use Rattle.trace_reader.specs.Faults.{IfRefused};
 ghost use Rattle.query_run.specs.Runs.{AreWhole, query_ends};
 
 use crate::laws::ends_are_the_querys;
+use epoch_entry::Entries;
 use marple_base::{Steps, Text};
 use query_lang::TypedQuery;
 use query_tables::{print_tables, query_tables_are_read};
@@ -68,7 +69,6 @@ pub fn run_query<const WAYS: usize, L: Ledger>(
     requires buckets { 0 < schedule.buckets }
     requires places { schedule.buckets * WAYS ≤ 65536 }
     requires pipe { (0 < schedule.pipe) × (schedule.pipe ≤ 65536) }
-    requires lag { 0 < schedule.lag }
     requires valid { IsValidQuery typed.now }
     requires plan { IsPlanOf typed.now plan }
     requires whole { AreWhole (words_of (coming packets)) }
@@ -84,7 +84,12 @@ pub fn run_query<const WAYS: usize, L: Ledger>(
     ensures steps { steps.old ≤ steps.new }
 {
     ends_are_the_querys();
-    let pipeline = drive::<WAYS, L>(alloc, plan, schedule, packets, steps)?;
+    let fresh: Pipeline<WAYS> =
+        match Pipeline::new(alloc, plan, Entries::Folds, schedule.buckets, schedule.pipe) {
+            Ok(fresh) => fresh,
+            Err(AllocError) => return Err(TraceAnswer::Memory),
+        };
+    let pipeline = drive(fresh, schedule, packets, steps)?;
     match printed(alloc, typed, &pipeline, steps) {
         Ok(text) => Ok(Answered { text, pipeline }),
         Err(AllocError) => Err(TraceAnswer::Memory),

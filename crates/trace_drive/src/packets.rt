@@ -19,7 +19,7 @@ impl<'a> Packets<'a> {
     pub fn next_into(&mut self, packet: &mut Packet) -> Result<bool, TraceAnswer>
         ensures packet { result ≡ Ok true → coming self.old ≡ packet.new ∷ coming self.new }
         ensures fault { result ≡ Ok true → fault_of self.new ≡ fault_of self.old }
-        ensures end { result ≡ Ok false → (coming self.old ≡ []) × (fault_of self.old ≡ None) }
+        ensures end { result ≡ Ok false → (coming self.old ≡ []) × (coming self.new ≡ []) × (fault_of self.old ≡ None) × (fault_of self.new ≡ None) }
         ensures refused { IfErr result (λ answer. IfRefused answer (λ fault. fault_of self.old ≡ Some fault)) }
     {
         match self {
@@ -32,7 +32,7 @@ impl<'a> Packets<'a> {
 // The packet at the next place.
 fn made_into(made: &Seq<Packet>, at: &mut usize, packet: &mut Packet) -> bool
     ensures packet { result ≡ true → drop at.old made.now ≡ packet.new ∷ drop at.new made.now }
-    ensures end { result ≡ false → drop at.old made.now ≡ [] }
+    ensures end { result ≡ false → (drop at.old made.now ≡ []) × (drop at.new made.now ≡ []) }
 {
     if *at >= made.len() {
         return false;

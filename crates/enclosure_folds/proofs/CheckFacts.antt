@@ -1,0 +1,85 @@
+-- The groupbys of a query and those of its plan, one by one.
+use Rattle.std.proofs.Common.{◌≡◌, ℕ, zero, suc, ◌+◌, ◌<◌, false, List, [], ◌∷◌, length, get_or, drop, Some, None, Option, refl, sym, ap, ◌∙◌, arith}
+use Rattle.std.specs.Prelude.{is_some, slice_get, option_map, option_and_then}
+use Rattle.std.specs.List.{cons_option}
+use Rattle.std.proofs.lemmas.List.{drop_more}
+use Rattle.query_lang.specs.declared.fold.TypedFold.{TypedFold}
+use Rattle.query_lang.specs.declared.typed.TypedQuery.{TypedQuery}
+use Rattle.query_lang.specs.declared.typed.TypedStream.{TypedStream}
+use Rattle.query_lang.specs.Streams.{Taking, taking_of, takings}
+use Rattle.fold_class.specs.Kinds.{class_of}
+use Rattle.stage_plan.specs.declared.group.GroupPlan.{GroupPlan}
+use Rattle.stage_plan.specs.Planned.{IsPlanOf, fold_at}
+use Rattle.stage_plan.specs.Sound.{PlanParts}
+use Rattle.enclosure_folds.specs.Check.{fold_fault, stream_fault, or_else, first_fault}
+
+pub record Stands {A : Type 0} (xs : List A) (n : ℕ) (x : A) (rest : List A) : Type 0 where
+  pub found : slice_get xs n ≡ Some x
+  pub within : n < length xs
+  pub next : drop (n + 1) xs ≡ rest
+
+pub stands : {A : Type 0} (xs : List A) (n : ℕ) (x : A) (rest : List A) → drop n xs ≡ x ∷ rest → Stands xs n x rest
+stands [] zero x rest e = absurd (omega (arith, ap (λ l. length l) e))
+stands [] (suc n) x rest e = absurd (omega (arith, ap (λ l. length l) e))
+stands (y ∷ ys) zero x rest e = record { found = ap (λ l. slice_get l 0) e; within = omega arith; next = ap (λ l. drop 1 l) e }
+stands (y ∷ ys) (suc n) x rest e =
+    let later = stands ys n x rest e in
+    let on : suc n + 1 ≡ suc (n + 1) = omega arith in
+    record { found = later.found; within = omega (arith, later.within); next = ap (λ k. drop k (y ∷ ys)) on ∙ later.next }
+
+-- what is known of a stream that is a groupby, with the fold of this number
+pub record IsGroupby (q : TypedQuery) (p : PlanParts) (xs : List TypedStream) (i : ℕ) (one : TypedStream) (group number : ℕ) : Type 0 where
+  pub within : group < length p.groups
+  pub class : (f : TypedFold) (planned : GroupPlan) → slice_get q.folds number ≡ Some f → slice_get p.groups group ≡ Some planned → planned.program.class ≡ class_of f
+  pub groups : drop (group + 1) (takings q.streams) ≡ takings (drop (i + 1) xs)
+  pub fault : first_fault q.folds (drop i xs) ≡ or_else (fold_fault one.name (slice_get q.folds number)) (first_fault q.folds (drop (i + 1) xs))
+
+pub not_some : {A : Type 0} (o : Option A) → is_some o ≡ false → o ≡ None
+not_some None e = refl
+not_some (Some x) e = absurd cc
+
+module _ (q : TypedQuery) (p : PlanParts) (plan : IsPlanOf q p) (xs : List TypedStream) (i : ℕ) (one : TypedStream) (lt : i < length xs) (is : one ≡ get_or xs i one) (group : ℕ)
+    (groups : drop group (takings q.streams) ≡ takings (drop i xs)) where
+  here : drop i xs ≡ one ∷ drop (i + 1) xs
+  here = drop_more xs i one lt ∙ ap (λ z. z ∷ drop (i + 1) xs) (sym is)
+
+  first : first_fault q.folds (drop i xs) ≡ or_else (stream_fault q.folds one) (first_fault q.folds (drop (i + 1) xs))
+  first = ap (first_fault q.folds) here
+
+  split : drop group (takings q.streams) ≡ cons_option (taking_of one.op) (takings (drop (i + 1) xs))
+  split = groups ∙ ap takings here
+
+  taken : (number : ℕ) (t : Taking) → taking_of one.op ≡ Some t → t.fold_number ≡ number → IsGroupby q p xs i one group number
+  taken number t e same =
+      let at = stands (takings q.streams) group t (takings (drop (i + 1) xs)) (split ∙ ap (λ o. cons_option o (takings (drop (i + 1) xs))) e) in record {
+        within = omega (arith, at.within, plan.groups);
+        class = λ f planned found there.
+            let fold : fold_at q group ≡ Some f = ap (option_and_then (λ t. slice_get q.folds t.fold_number)) at.found ∙ (ap (slice_get q.folds) same ∙ found) in
+            (plan.programs group f planned fold there).class;
+        groups = at.next;
+        fault =
+            first
+            ∙ ap (λ o. or_else (fold_fault one.name (option_and_then (λ t. slice_get q.folds t.fold_number) o)) (first_fault q.folds (drop (i + 1) xs))) e
+            ∙ ap (λ n. or_else (fold_fault one.name (slice_get q.folds n)) (first_fault q.folds (drop (i + 1) xs))) same;
+      }
+
+  pub is_groupby : (number : ℕ) → Some number ≡ option_map (λ t. t.fold_number) (taking_of one.op) → IsGroupby q p xs i one group number
+  is_groupby number e = go (taking_of one.op) refl e
+    where
+      go : (o : Option Taking) → taking_of one.op ≡ o → Some number ≡ option_map (λ t. t.fold_number) o → IsGroupby q p xs i one group number
+      go None known none = absurd cc
+      go (Some t) known some = taken number t known (sym cc)
+
+  pub other_groups : None ≡ option_map (λ t. t.fold_number) (taking_of one.op) → drop group (takings q.streams) ≡ takings (drop (i + 1) xs)
+  other_groups e = go (taking_of one.op) refl e
+    where
+      go : (o : Option Taking) → taking_of one.op ≡ o → None ≡ option_map (λ t. t.fold_number) o → drop group (takings q.streams) ≡ takings (drop (i + 1) xs)
+      go None known none = split ∙ ap (λ o. cons_option o (takings (drop (i + 1) xs))) known
+      go (Some t) known some = absurd cc
+
+  pub other_fault : None ≡ option_map (λ t. t.fold_number) (taking_of one.op) → first_fault q.folds (drop i xs) ≡ first_fault q.folds (drop (i + 1) xs)
+  other_fault e = go (taking_of one.op) refl e
+    where
+      go : (o : Option Taking) → taking_of one.op ≡ o → None ≡ option_map (λ t. t.fold_number) o → first_fault q.folds (drop i xs) ≡ first_fault q.folds (drop (i + 1) xs)
+      go None known none = first ∙ ap (λ o. or_else (fold_fault one.name (option_and_then (λ t. slice_get q.folds t.fold_number) o)) (first_fault q.folds (drop (i + 1) xs))) known
+      go (Some t) known some = absurd cc

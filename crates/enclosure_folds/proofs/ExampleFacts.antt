@@ -1,0 +1,46 @@
+-- The examples, from their definitions.
+use Rattle.std.proofs.Common.{◌≡◌, ℕ, ◌-◌, ◌^◌, Bool, true, false, List, [], ◌∷◌, map, replicate, refl, ap, ◌∙◌}
+use Rattle.std.specs.Prelude.{fold}
+use Rattle.query_lang.specs.declared.fold.TypedFold.{TypedFold}
+use Rattle.query_lang.specs.Words.{op_value}
+use Rattle.query_lang.specs.Blocks.{Block}
+use Rattle.query_lang.specs.Folds.{after, fold_block, initial_state}
+use Rattle.epoch_model.specs.Keys.{ArgRow}
+use Rattle.monotone_folds.specs.Examples.{HasBody, decayed_sum, clamped}
+use Rattle.epoch_entry.specs.Triples.{beside}
+use Rattle.epoch_entry.specs.Bounds.{bounds_after}
+use Rattle.enclosure_folds.specs.Bounds.{low_bound, high_bound, is_exact}
+use Rattle.enclosure_folds.specs.Examples.{AreKeyBounds, one_epoch, two_epochs}
+
+abbrev triple_by : ℕ → Block → List ℕ → List ArgRow → List ℕ
+triple_by n b start rows = beside (fold (λ s a. after b a s) start rows) (fold (λ s a. after b a s) (replicate n 0) rows) (fold (λ s a. after b a s) (replicate n (2 ^ 64 - 1)) rows)
+
+triples_are : (b : Block) (f : TypedFold) (lists : List (List ArgRow)) → HasBody f 1 b → initial_state f ≡ 0 ∷ [] → map (bounds_after f) lists ≡ map (triple_by 1 b (0 ∷ [])) lists
+triples_are b f lists h e =
+    ap (λ z. map (triple_by z (fold_block f) (initial_state f)) lists) h.0
+    ∙ ap (λ z. map (triple_by 1 z (initial_state f)) lists) h.1
+    ∙ ap (λ z. map (triple_by 1 b z) lists) e
+
+key_bounds : (b : Block) (lists : List (List ArgRow)) (low high : ℕ) (mark : Bool) → low_bound 1 (map (triple_by 1 b (0 ∷ [])) lists) ≡ low ∷ [] → high_bound 1 (map (triple_by 1 b (0 ∷ [])) lists) ≡ high ∷ [] →
+    is_exact (low ∷ []) (high ∷ []) ≡ mark → AreKeyBounds b lists low high mark
+key_bounds b lists low high mark el eh em f h e =
+    let t = triples_are b f lists h e in
+    let l = ap (low_bound 1) t ∙ el in
+    let u = ap (high_bound 1) t ∙ eh in
+    (l, u, ap (λ z. is_exact z (high_bound 1 (map (bounds_after f) lists))) l ∙ ap (is_exact (low ∷ [])) u ∙ em)
+
+pub decayed_twice : AreKeyBounds decayed_sum (two_epochs 8 8) 8 9223372036854775816 false
+unfolding op_value
+decayed_twice = key_bounds decayed_sum (two_epochs 8 8) 8 9223372036854775816 false refl refl refl
+
+pub decayed_once : AreKeyBounds decayed_sum (one_epoch 0) 0 0 true
+unfolding op_value
+decayed_once = key_bounds decayed_sum (one_epoch 0) 0 0 true refl refl refl
+
+pub clamped_twice : AreKeyBounds clamped (two_epochs 12 20) 10 10 true
+unfolding op_value
+clamped_twice = key_bounds clamped (two_epochs 12 20) 10 10 true refl refl refl
+
+pub clamped_once : AreKeyBounds clamped (one_epoch 3) 3 3 true
+unfolding op_value
+clamped_once = key_bounds clamped (one_epoch 3) 3 3 true refl refl refl

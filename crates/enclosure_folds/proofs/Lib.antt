@@ -1,0 +1,5 @@
+pub mod BoundLemmas
+pub mod ExampleFacts
+pub mod CheckFacts
+pub mod RowFacts
+pub mod ShownFacts

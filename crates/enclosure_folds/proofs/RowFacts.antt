@@ -1,0 +1,187 @@
+-- The last row of each key gives its bounds.
+use Rattle.std.proofs.Common.{◌≡◌, ℕ, suc, ◌*◌, ◌<◌, ◌==◌, Bool, true, false, ◌||◌, List, [], ◌∷◌, ◌++◌, length, map, take, drop, refl, sym, ap, ◌∙◌, subst, arith, length-append, if◌then◌else◌}
+use Rattle.std.specs.declared.cmp.Ordering.TheVariants.{Less}
+use Rattle.std.specs.List.{All, filter, flat_map}
+use Rattle.std.proofs.lemmas.Bool.Decides.{nat_tests}
+use Rattle.std.proofs.lemmas.List.{length-map, length-take-le, length-drop, places}
+use Rattle.std.proofs.lemmas.List.Elements.{All-nil, All-cons, All-head, All-tail}
+use Rattle.std.proofs.Math.Seq.{take-append_seam, drop-append_seam}
+use Rattle.query_lang.specs.declared.fold.TypedFold.{TypedFold}
+use Rattle.query_lang.specs.Words.{AreWords}
+use Rattle.query_lang.specs.Folds as Folds
+use Rattle.query_lang.specs.Folds.{fold_states, initial_state}
+use Rattle.epoch_model.specs.declared.tables.Mark.{Mark}
+use Rattle.epoch_model.specs.declared.tables.Mark.TheVariants.{Exact, Valid, Invalid, Plain}
+use Rattle.epoch_model.specs.declared.tables.Row.{Row}
+use Rattle.epoch_model.specs.Keys.{Key, ArgRow, key_eq, key_cmp, has, AreAbove, IsAscending}
+use Rattle.epoch_model.specs.Epochs.{Use, Geometry, is_use_of, epochs}
+use Rattle.epoch_model.specs.Tables.{Folding, folded, mark_of, epochs_shown, epoch_rows, exact_row, key_rows, keys_used, group_rows}
+use Rattle.epoch_model.proofs.Cuts.{epochs_cut_the_rows_lem}
+use Rattle.epoch_model.proofs.KeyLists.{by_test, key_eq-true, key_eq-refl}
+use Rattle.epoch_model.proofs.KeyOrder.{ascending-ascends, has-ascending, same_ascending}
+use Rattle.epoch_entry.specs.Bounds.{bounds_after, IsBoundsKindOf}
+use Rattle.epoch_entry.specs.Kinds.{Sizes}
+use Rattle.final_queries.specs.Finals.{HasColumns}
+use Rattle.final_queries.specs.GroupTable.{group_table}
+use Rattle.enclosure_folds.specs.declared.table.BoundsRow.{BoundsRow}
+use Rattle.enclosure_folds.specs.Bounds.{last_or, low_bound, high_bound, all_rows, Encloses}
+use Rattle.enclosure_folds.specs.BoundsTables.{HasBounds}
+use Rattle.enclosure_folds.specs.KeyBounds.{key_bounds, bounds_table, goes_on, row_bounds, bounds_in, low_in, high_in, states_in, rows_of, EpochRowsGiveBounds, KeyBoundsEnclose, TriplesGiveWholeTables}
+use Rattle.enclosure_folds.proofs.BoundLemmas.{last_map, some_pieces, enclosed}
+
+-- each key that is used has an epoch
+
+or_true : (a b : Bool) → b ≡ true → (a || b) ≡ true
+or_true true b e = refl
+or_true false b e = e
+
+all_of : (P : Key → Type 0) (keys : List Key) → ((k : Key) → has k keys ≡ true → P k) → All P keys
+all_of P [] h = All-nil P
+all_of P (x ∷ xs) h = All-cons P x xs (h x (ap (λ t. t || has x xs) (key_eq-refl x))) (all_of P xs (λ k e. h k (or_true (key_eq x k) (has k xs) e)))
+
+has_use : (key : Key) (uses : List Use) → has key (map (λ u. u.key) uses) ≡ true → 0 < length (filter (is_use_of key) uses)
+has_use key [] e = absurd cc
+has_use key (u ∷ uses) e = by_test (key_eq u.key key)
+    (λ t. rw t (omega arith))
+    (λ t. rw t (has_use key uses (sym (ap (λ b. b || has key (map (λ u. u.key) uses)) t) ∙ e)))
+
+has_epoch : (g : Geometry) (uses : List Use) (key : Key) → 0 < length (filter (is_use_of key) uses) → 0 < length (epochs g uses key)
+has_epoch g uses key some =
+    let mine = filter (is_use_of key) uses in
+    some_pieces (epochs g uses key) (map (λ u. u.row) mine) (epochs_cut_the_rows_lem g uses key).0 (omega (arith, some, length-map {A = Use} {B = ArgRow} mine (λ u. u.row)))
+
+all_have_epochs : (g : Geometry) (uses : List Use) → All (λ key. 0 < length (epochs g uses key)) (keys_used uses)
+all_have_epochs g uses =
+    all_of (λ key. 0 < length (epochs g uses key)) (keys_used uses)
+    (λ key e. has_epoch g uses key (has_use key uses (sym (has-ascending key (map (λ u. u.key) uses)) ∙ e)))
+
+-- a key isn't one that is greater
+
+or_same : (t : Bool) → (t || (t || false)) ≡ (t || false)
+or_same true = refl
+or_same false = refl
+
+not_above_itself : (a : Key) → key_cmp a a ≡ Less → ⊥
+not_above_itself a e =
+    let same : a ∷ a ∷ [] ≡ a ∷ [] = same_ascending (a ∷ a ∷ []) (a ∷ []) ((e, tt), (tt, tt)) (tt, tt) (λ k. or_same (key_eq a k)) in
+    absurd (omega (arith, ap (λ l. length l) same))
+
+less_apart : (a b : Key) → key_cmp a b ≡ Less → key_eq a b ≡ false
+less_apart a b e = by_test (key_eq a b)
+    (λ t. absurd (not_above_itself a (subst (λ x. key_cmp a x ≡ Less) (sym (key_eq-true a b t)) e)))
+    (λ t. t)
+
+-- the rows of one key
+
+module _ (n : ℕ) (folding : Folding) (key : Key) (count : ℕ) where
+  abbrev bounds_by : List ArgRow → BoundsRow
+  bounds_by rows = row_bounds n (record { key = key; mark = mark_of count; epoch = 0; epochs = epochs_shown count; values = folded folding rows })
+
+  last_counts : (number : ℕ) (x : List ArgRow) (xs : List (List ArgRow)) (rest : List Row) → goes_on key rest ≡ false →
+      bounds_in n (epoch_rows folding key count number (x ∷ xs) ++ rest) ≡ bounds_by (last_or x xs) ∷ bounds_in n rest
+  last_counts number x [] rest other = rw other refl
+  last_counts number x (y ∷ ys) rest other = rw (key_eq-refl key) (last_counts (suc number) y ys rest other)
+
+module _ (f : TypedFold) (sizes : Sizes) (folding : Folding) (opening absorbing : ℕ) (h : IsBoundsKindOf f sizes folding opening absorbing) (g : Geometry) (uses : List Use) where
+  abbrev n : ℕ
+  n = fold_states f
+
+  abbrev bounds_for : Key → List (List ArgRow) → BoundsRow
+  bounds_for key pieces = record {
+    key = key;
+    epochs = epochs_shown (length pieces);
+    low = low_bound n (map (bounds_after f) pieces);
+    high = high_bound n (map (bounds_after f) pieces);
+  }
+
+  by_pieces : (key : Key) (x : List ArgRow) (xs : List (List ArgRow)) → bounds_by n folding key (length (x ∷ xs)) (last_or x xs) ≡ bounds_for key (x ∷ xs)
+  by_pieces key x [] = ap (λ state. row_bounds n (record { key = key; mark = Valid; epoch = 0; epochs = epochs_shown 1; values = state })) (h.folded x)
+  by_pieces key x (y ∷ ys) =
+      let many : (suc (suc (length ys)) == 1) ≡ false = grind (arith, nat_tests) in
+      let count = suc (suc (length ys)) in
+      ap (λ b. row_bounds n (record { key = key; mark = if b then Valid else Invalid; epoch = 0; epochs = epochs_shown count; values = folded folding (last_or y ys) })) many
+      ∙ ap (λ state. row_bounds n (record { key = key; mark = Invalid; epoch = 0; epochs = epochs_shown count; values = state })) (h.folded (last_or y ys) ∙ sym (last_map (bounds_after f) y ys))
+
+  rows_are : (key : Key) → key_rows folding g uses key ≡ epoch_rows folding key (length (epochs g uses key)) 1 (epochs g uses key)
+  rows_are key = ap (λ b. if b then epoch_rows folding key (length (epochs g uses key)) 1 (epochs g uses key) else (exact_row folding key (length (epochs g uses key)) (map (λ u. u.row) (filter (is_use_of key) uses)) ∷ [])) h.row_per_epoch
+
+  -- rows of a greater key come next
+  other_next : (key : Key) (keys : List Key) → AreAbove key keys → All (λ k. 0 < length (epochs g uses k)) keys → goes_on key (flat_map (key_rows folding g uses) keys) ≡ false
+  other_next key [] above all = refl
+  other_next key (next ∷ keys) above all =
+      ap (λ rows. goes_on key (rows ++ flat_map (key_rows folding g uses) keys)) (rows_are next)
+      ∙ go (epochs g uses next) (All-head (λ k. 0 < length (epochs g uses k)) next keys all)
+    where
+      go : (pieces : List (List ArgRow)) → 0 < length pieces → goes_on key (epoch_rows folding next (length pieces) 1 pieces ++ flat_map (key_rows folding g uses) keys) ≡ false
+      go [] some = absurd (omega (arith, some))
+      go (x ∷ xs) some = less_apart key next above.0
+
+  one_key : (key : Key) (rest : List Row) → goes_on key rest ≡ false → 0 < length (epochs g uses key) → bounds_in n (key_rows folding g uses key ++ rest) ≡ key_bounds f g uses key ∷ bounds_in n rest
+  one_key key rest other some = ap (λ rows. bounds_in n (rows ++ rest)) (rows_are key) ∙ go (epochs g uses key) some
+    where
+      go : (pieces : List (List ArgRow)) → 0 < length pieces → bounds_in n (epoch_rows folding key (length pieces) 1 pieces ++ rest) ≡ bounds_for key pieces ∷ bounds_in n rest
+      go [] some = absurd (omega (arith, some))
+      go (x ∷ xs) some = last_counts n folding key (length (x ∷ xs)) 1 x xs rest other ∙ ap (λ row. row ∷ bounds_in n rest) (by_pieces key x xs)
+
+  all_keys : (keys : List Key) → IsAscending keys → All (λ key. 0 < length (epochs g uses key)) keys → bounds_in n (flat_map (key_rows folding g uses) keys) ≡ map (key_bounds f g uses) keys
+  all_keys [] order all = refl
+  all_keys (key ∷ keys) order all =
+      let later = All-tail (λ k. 0 < length (epochs g uses k)) key keys all in
+      one_key key (flat_map (key_rows folding g uses) keys) (other_next key keys order.0 later) (All-head (λ k. 0 < length (epochs g uses k)) key keys all)
+      ∙ ap (λ rows. key_bounds f g uses key ∷ rows) (all_keys keys order.1 later)
+
+  pub rows_give : bounds_in n (group_rows folding g uses) ≡ map (key_bounds f g uses) (keys_used uses)
+  rows_give = all_keys (keys_used uses) (ascending-ascends (map (λ u. u.key) uses)) (all_have_epochs g uses)
+
+pub give_bounds : EpochRowsGiveBounds
+give_bounds heading f sizes folding opening absorbing g uses h states =
+    let t = group_table heading folding g uses in
+    let names = heading.key_names in
+    let others : states_in t ≡ fold_states f = omega (arith, length-append names heading.state_names, states) in
+    let front : take t.keys t.columns ≡ names = take-append_seam names heading.state_names in
+    let back : drop t.keys t.columns ≡ heading.state_names = drop-append_seam names heading.state_names in
+    let rows : bounds_in (states_in t) t.rows ≡ map (key_bounds f g uses) (keys_used uses) = ap (λ k. bounds_in k t.rows) others ∙ rows_give f sizes folding opening absorbing h g uses in
+    ap (λ z. record (bounds_table heading f g uses) { key_names = z; state_names = drop t.keys t.columns; rows = bounds_in (states_in t) t.rows }) front
+    ∙ ap (λ z. record (bounds_table heading f g uses) { state_names = z; rows = bounds_in (states_in t) t.rows }) back
+    ∙ ap (λ z. record (bounds_table heading f g uses) { rows = z }) rows
+
+pub keys_enclose : KeyBoundsEnclose
+keys_enclose f g uses key valid mono words rows some =
+    let pieces = epochs g uses key in
+    let cut : all_rows pieces ≡ rows_of uses key = (epochs_cut_the_rows_lem g uses key).0 in
+    subst (λ z. Encloses (key_bounds f g uses key).low (key_bounds f g uses key).high (Folds.folded f (initial_state f) z)) cut
+    (enclosed f valid mono words pieces (subst (All AreWords) (sym cut) rows) (some_pieces pieces (rows_of uses key) cut some))
+
+-- the bounds have as many words as there are states
+
+module _ (n : ℕ) (triple : List ℕ) (long : length triple ≡ 3 * n) where
+  long_low : (mark : Mark) → length (low_in n mark triple) ≡ n
+  long_low Exact = grind (arith, places)
+  long_low Valid = grind (arith, places)
+  long_low Invalid = grind (arith, places)
+  long_low Plain = grind (arith, places)
+
+  long_high : (mark : Mark) → length (high_in n mark triple) ≡ n
+  long_high Exact = grind (arith, places)
+  long_high Valid = grind (arith, places)
+  long_high Invalid = grind (arith, places)
+  long_high Plain = grind (arith, places)
+
+have_bounds : (keys n : ℕ) (rows : List Row) → All (HasColumns keys (3 * n)) rows → All (HasBounds keys n) (bounds_in n rows)
+have_bounds keys n [] all = All-nil (HasBounds keys n)
+have_bounds keys n (row ∷ rows) all =
+    let here = All-head (HasColumns keys (3 * n)) row rows all in
+    let later = have_bounds keys n rows (All-tail (HasColumns keys (3 * n)) row rows all) in
+    by_test (goes_on row.key rows)
+    (λ t. rw t later)
+    (λ t. rw t (All-cons (HasBounds keys n) (row_bounds n row) (bounds_in n rows) (record { key = here.key; low = long_low n row.values here.values row.mark; high = long_high n row.values here.values row.mark }) later))
+
+pub whole_table : TriplesGiveWholeTables
+whole_table t h some most =
+    let keys : length (take t.keys t.columns) ≡ t.keys = length-take-le t.keys t.columns h.keys in
+    let states : length (drop t.keys t.columns) ≡ states_in t = length-drop t.keys t.columns in record {
+      some_keys = omega (arith, keys, some);
+      most_keys = omega (arith, keys, most);
+      rows = subst (λ n. All (HasBounds n (length (drop t.keys t.columns))) (bounds_in (states_in t) t.rows)) (sym keys)
+          (subst (λ n. All (HasBounds t.keys n) (bounds_in (states_in t) t.rows)) (sym states) (have_bounds t.keys (states_in t) t.rows h.rows));
+    }

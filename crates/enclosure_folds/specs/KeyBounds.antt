@@ -1,0 +1,135 @@
+-- The table of bounds of a groupby: by the uses of the whole trace, and by the rows that a table of three states has for its epochs.
+use Rattle.std.specs.Prelude.{◌≡◌, ℕ, ◌-◌, ◌*◌, ◌<◌, ◌≤◌, Bool, true, false, List, [], ◌∷◌, All, length, map, filter, take, drop, if◌then◌else◌}
+use Rattle.query_lang.specs.declared.fold.TypedFold.{TypedFold}
+use Rattle.query_lang.specs.declared.typed.Class.{Class}
+use Rattle.query_lang.specs.declared.typed.Class.TheVariants as class
+use Rattle.query_lang.specs.Folds.{folded, fold_states, initial_state, IsValidFold}
+use Rattle.query_lang.specs.Words.{AreWords}
+use Rattle.epoch_model.specs.declared.tables.Mark.{Mark}
+use Rattle.epoch_model.specs.declared.tables.Mark.TheVariants.{Valid}
+use Rattle.epoch_model.specs.declared.tables.Row.{Row}
+use Rattle.epoch_model.specs.Keys.{Key, ArgRow, key_eq}
+use Rattle.epoch_model.specs.Epochs.{Use, Geometry, is_use_of, epochs}
+use Rattle.epoch_model.specs.Tables.{Folding, epochs_shown, keys_used, group_epochs}
+use Rattle.fold_class.specs.Kinds.{class_of}
+use Rattle.monotone_folds.specs.Kinds.{is_monotone}
+use Rattle.epoch_entry.specs.Bounds.{bounds_after, IsBoundsKindOf}
+use Rattle.epoch_entry.specs.Foldings.{folding_of}
+use Rattle.epoch_entry.specs.Kinds.{Sizes}
+use Rattle.epoch_entry.specs.Triples.{first_third, second_third, last_third}
+use Rattle.final_queries.specs.declared.table.Table.{Table}
+use Rattle.final_queries.specs.declared.table.TableKind.{TableKind}
+use Rattle.final_queries.specs.declared.table.TableKind.TheVariants.{Group, Final}
+use Rattle.final_queries.specs.Finals.{HasColumns}
+use Rattle.final_queries.specs.GroupTable.{Heading, group_table}
+use Rattle.enclosure_folds.specs.declared.table.BoundsRow.{BoundsRow}
+use Rattle.enclosure_folds.specs.declared.table.BoundsTable.{BoundsTable}
+use Rattle.enclosure_folds.specs.declared.table.Enclosed.{Enclosed}
+use Rattle.enclosure_folds.specs.declared.table.Enclosed.TheVariants as enclosed
+use Rattle.enclosure_folds.specs.BoundsTables.{IsBoundsTable}
+use Rattle.enclosure_folds.specs.Bounds.{low_bound, high_bound, Encloses}
+
+-- By the uses of a trace.
+
+-- the row of a key: the bounds by what each of its epochs is folded to from the initial state, the least and the greatest
+abbrev pub key_bounds : TypedFold → Geometry → List Use → Key → BoundsRow
+key_bounds f g uses key =
+    let states = map (bounds_after f) (epochs g uses key) in
+    record {
+      key = key;
+      epochs = epochs_shown (length (epochs g uses key));
+      low = low_bound (fold_states f) states;
+      high = high_bound (fold_states f) states;
+    }
+
+-- The table of a groupby that takes these uses: a row for each key, in ascending order.
+abbrev pub bounds_table : Heading → TypedFold → Geometry → List Use → BoundsTable
+bounds_table heading f g uses = record {
+  name = heading.name;
+  key_names = heading.key_names;
+  state_names = heading.state_names;
+  depth = heading.depth;
+  epochs = group_epochs g uses;
+  rows = map (key_bounds f g uses) (keys_used uses);
+}
+
+-- What is shown of a groupby: a linear fold has its table, and any other fold a table of bounds.
+abbrev pub enclosed_by : Class → Heading → TypedFold → Geometry → List Use → Enclosed
+enclosed_by class.Linear heading f g uses = enclosed.Linear (group_table heading (folding_of f) g uses)
+enclosed_by class.Other heading f g uses = enclosed.Bounds (bounds_table heading f g uses)
+
+abbrev pub enclosed_table : Heading → TypedFold → Geometry → List Use → Enclosed
+enclosed_table heading f g uses = enclosed_by (class_of f) heading f g uses
+
+-- By the rows of a table whose values are three states side by side, with a row for each epoch.
+
+-- whether the next row is of this key too
+abbrev pub goes_on : Key → List Row → Bool
+goes_on key [] = false
+goes_on key (next ∷ rows) = key_eq key next.key
+
+-- the bounds that a key's last row gives: its first state where it is of the only epoch, and else the second and the third
+abbrev pub low_in : ℕ → Mark → List ℕ → List ℕ
+low_in n Valid triple = first_third n triple
+low_in n _ triple = second_third n triple
+
+abbrev pub high_in : ℕ → Mark → List ℕ → List ℕ
+high_in n Valid triple = first_third n triple
+high_in n _ triple = last_third n triple
+
+abbrev pub row_bounds : ℕ → Row → BoundsRow
+row_bounds n row = record { key = row.key; epochs = row.epochs; low = low_in n row.mark row.values; high = high_in n row.mark row.values }
+
+-- one row of bounds for each run of rows of one key
+abbrev pub bounds_in : ℕ → List Row → List BoundsRow
+bounds_in n [] = []
+bounds_in n (row ∷ rows) = if goes_on row.key rows then bounds_in n rows else (row_bounds n row ∷ bounds_in n rows)
+
+abbrev pub depth_in : TableKind → ℕ
+depth_in (Group class depth epochs) = depth
+depth_in Final = 0
+
+abbrev pub epochs_in : TableKind → ℕ
+epochs_in (Group class depth epochs) = epochs
+epochs_in Final = 0
+
+-- how many columns stand behind the keys
+abbrev pub states_in : Table → ℕ
+states_in t = length t.columns - t.keys
+
+-- The table of bounds that such a table gives.
+abbrev pub table_bounds : Table → BoundsTable
+table_bounds t = record {
+  name = t.name;
+  key_names = take t.keys t.columns;
+  state_names = drop t.keys t.columns;
+  depth = depth_in t.kind;
+  epochs = epochs_in t.kind;
+  rows = bounds_in (states_in t) t.rows;
+}
+
+-- a table with three states in each of its rows
+pub record HasTriples (t : Table) : Type 0 where
+  pub keys : t.keys ≤ length t.columns
+  pub rows : All (HasColumns t.keys (3 * states_in t)) t.rows
+
+-- The rows of a groupby's epochs, by entries for a fold's bounds, give its table of bounds.
+abbrev pub EpochRowsGiveBounds : Type 0
+EpochRowsGiveBounds = (heading : Heading) (f : TypedFold) (sizes : Sizes) (folding : Folding) (opening absorbing : ℕ) (g : Geometry) (uses : List Use)
+    → IsBoundsKindOf f sizes folding opening absorbing → length heading.state_names ≡ fold_states f
+    → table_bounds (group_table heading folding g uses) ≡ bounds_table heading f g uses
+
+-- the argument rows of all uses of a key
+abbrev pub rows_of : List Use → Key → List ArgRow
+rows_of uses key = map (λ u. u.row) (filter (is_use_of key) uses)
+
+-- For each key that has a use, the bounds of a monotone fold enclose the fold over the rows of all uses of the key, word by word. Where they are equal, both are
+-- that fold.
+abbrev pub KeyBoundsEnclose : Type 0
+KeyBoundsEnclose = (f : TypedFold) (g : Geometry) (uses : List Use) (key : Key) → IsValidFold f → is_monotone f ≡ true → AreWords (initial_state f) → All AreWords (rows_of uses key)
+    → 0 < length (rows_of uses key)
+    → Encloses (key_bounds f g uses key).low (key_bounds f g uses key).high (folded f (initial_state f) (rows_of uses key))
+
+-- The table of bounds that a table of three states gives has as many words in its rows as names.
+abbrev pub TriplesGiveWholeTables : Type 0
+TriplesGiveWholeTables = (t : Table) → HasTriples t → 0 < t.keys → t.keys ≤ 8 → IsBoundsTable (table_bounds t)

@@ -1,0 +1,122 @@
+// The table of bounds that a table of three states side by side gives.
+
+ghost use Rattle.std.specs.Prelude.{◌≡◌, ◌*◌, ◌<◌, ◌≤◌, All, length, IfOk};
+ghost use Rattle.final_queries.specs.Finals.{HasColumns};
+ghost use Rattle.enclosure_folds.specs.BoundsTables.{IsBoundsTable};
+ghost use Rattle.enclosure_folds.specs.KeyBounds.{HasTriples, goes_on, row_bounds, bounds_in, depth_in, epochs_in, table_bounds};
+
+use crate::copies::{names_copy, words_copy};
+use crate::laws::triples_give_whole_tables;
+use crate::table::{BoundsRow, BoundsTable};
+use epoch_model::{Mark, Row};
+use final_queries::{Table, TableKind};
+use marple_base::{Seq, Text};
+use std::alloc::{AllocError, Global};
+
+// Whether the next row is of this key too.
+#[tactic(auto, unfolding(epoch_model::specs::Keys::key_eq))]
+fn goes_on(key: &[u64], rows: &[Row]) -> bool
+    ensures { result ≡ goes_on key.now rows.now }
+{
+    match rows.split_first() {
+        Some((next, _)) => key == next.key.as_slice(),
+        None => false,
+    }
+}
+
+// The bounds that the last row of a key gives.
+fn row_bounds(alloc: Global, states: usize, row: &Row) -> Result<BoundsRow, AllocError>
+    requires { length row.now.values ≡ 3 * states }
+    ensures { IfOk result (λ bounds. bounds ≡ row_bounds states row.now) }
+{
+    let key = words_copy(alloc, row.key.as_slice())?;
+    let epochs = row.epochs;
+    let (alone, rest) = row.values.as_slice().split_at(states);
+    if row.mark == Mark::Valid {
+        let low = words_copy(alloc, alone)?;
+        let high = words_copy(alloc, alone)?;
+        return Ok(BoundsRow {
+            key,
+            epochs,
+            low,
+            high,
+        });
+    }
+    let (least, greatest) = rest.split_at(states);
+    let low = words_copy(alloc, least)?;
+    let high = words_copy(alloc, greatest)?;
+    Ok(BoundsRow {
+        key,
+        epochs,
+        low,
+        high,
+    })
+}
+
+// One row of bounds for each run of rows of one key.
+fn all_bounds(
+    alloc: Global,
+    keys: usize,
+    states: usize,
+    rows: &[Row],
+) -> Result<Seq<BoundsRow>, AllocError>
+    requires { All (HasColumns keys (3 * states)) rows.now }
+    ensures { IfOk result (λ made. made ≡ bounds_in states rows.now) }
+{
+    let mut made = Seq::new(alloc);
+    for i in 0..rows.len() {
+        if !goes_on(rows[i].key.as_slice(), &rows[i + 1..]) {
+            made.push(row_bounds(alloc, states, &rows[i])?)?;
+        }
+    }
+    Ok(made)
+}
+
+fn depth_in(kind: TableKind) -> u8
+    ensures { result ≡ depth_in kind }
+{
+    match kind {
+        TableKind::Group(_, depth, _) => depth,
+        TableKind::Final => 0,
+    }
+}
+
+fn epochs_in(kind: TableKind) -> u64
+    ensures { result ≡ epochs_in kind }
+{
+    match kind {
+        TableKind::Group(_, _, epochs) => epochs,
+        TableKind::Final => 0,
+    }
+}
+
+fn made_bounds(alloc: Global, table: &Table) -> Result<BoundsTable, AllocError>
+    requires { HasTriples table.now }
+    ensures { IfOk result (λ bounds. bounds ≡ table_bounds table.now) }
+{
+    let keys = usize::from(table.keys);
+    let (key_names, state_names) = table.columns.as_slice().split_at(keys);
+    Ok(BoundsTable {
+        name: Text::from_slice(alloc, table.name.as_slice())?,
+        key_names: names_copy(alloc, key_names)?,
+        state_names: names_copy(alloc, state_names)?,
+        depth: depth_in(table.kind),
+        epochs: epochs_in(table.kind),
+        rows: all_bounds(alloc, keys, state_names.len(), table.rows.as_slice())?,
+    })
+}
+
+/// The table of bounds of a groupby, by the table that has three states side by side for each of its epochs: the fold of
+/// the epoch's rows from the initial state, from zeros, and from the greatest words. A key with one epoch has the first
+/// as both bounds, and a key with more has the second and the third of its last epoch.
+pub fn bounds_of(alloc: Global, table: &Table) -> Result<BoundsTable, AllocError>
+    requires triples { HasTriples table.now }
+    requires some_keys { 0 < table.now.keys }
+    requires most_keys { table.now.keys ≤ 8 }
+    ensures table { IfOk result (λ bounds. bounds ≡ table_bounds table.now) }
+    ensures whole { IfOk result IsBoundsTable }
+{
+    triples_give_whole_tables();
+    let bounds = made_bounds(alloc, table)?;
+    Ok(bounds)
+}

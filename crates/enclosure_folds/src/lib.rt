@@ -1,0 +1,22 @@
+//! The bounds of the keys of monotone folds, by the rows of their epochs, and tables of such bounds.
+#![tactic(auto)]
+
+mod bounds;
+mod check;
+mod copies;
+mod enclosed;
+mod laws;
+mod printer;
+mod rows;
+mod table;
+
+pub use bounds::bounds_of;
+pub use check::enclose_check;
+pub use enclosed::enclosed_of;
+pub use laws::{
+    epoch_rows_give_bounds, epochs_enclose, exact_bounds_are_equal, key_bounds_enclose,
+    rows_enclose, small_bounds, table_rows_enclose, tables_give_bounds, triples_give_whole_tables,
+};
+pub use printer::bounds_text;
+pub use rows::exact_rows;
+pub use table::{BoundsRow, BoundsTable, Enclosed};

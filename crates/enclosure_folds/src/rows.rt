@@ -1,0 +1,67 @@
+// The rows of a table of bounds that finals may read.
+
+ghost use Rattle.std.specs.Prelude.{◌≡◌, ◌++◌, length, map, filter, IfOk};
+ghost use Rattle.enclosure_folds.specs.BoundsTables.{IsBoundsTable, row_is_exact, exact_row, exact_table};
+
+use crate::copies::{names_copy, push_copies, words_copy};
+use crate::table::{BoundsRow, BoundsTable};
+use epoch_model::{Mark, Row};
+use final_queries::{Table, TableKind};
+use marple_base::{Seq, Text};
+use query_lang::Class;
+use std::alloc::{AllocError, Global};
+
+/// Whether a row's bounds are equal.
+pub(crate) fn is_exact(row: &BoundsRow) -> bool
+    ensures { result ≡ row_is_exact row.now }
+{
+    row.low.as_slice() == row.high.as_slice()
+}
+
+fn row_copy(alloc: Global, row: &BoundsRow) -> Result<Row, AllocError>
+    ensures { IfOk result (λ copy. copy ≡ exact_row row.now) }
+{
+    Ok(Row {
+        key: words_copy(alloc, row.key.as_slice())?,
+        mark: Mark::Exact,
+        epoch: 0,
+        epochs: row.epochs,
+        values: words_copy(alloc, row.low.as_slice())?,
+    })
+}
+
+fn row_copies(alloc: Global, rows: &[BoundsRow]) -> Result<Seq<Row>, AllocError>
+    ensures { IfOk result (λ copies. copies ≡ map exact_row (filter row_is_exact rows.now)) }
+{
+    let mut copies = Seq::new(alloc);
+    for row in rows {
+        if is_exact(row) {
+            copies.push(row_copy(alloc, row)?)?;
+        }
+    }
+    Ok(copies)
+}
+
+// Names, and behind them others.
+fn all_names(alloc: Global, first: &[Text], others: &[Text]) -> Result<Seq<Text>, AllocError>
+    ensures { IfOk result (λ names. names ≡ first.now ++ others.now) }
+{
+    let mut names = names_copy(alloc, first)?;
+    push_copies(alloc, &mut names, others)?;
+    Ok(names)
+}
+
+/// The table that finals read in the place of a table of bounds: the rows whose bounds are equal, in order, with these as
+/// values and with mark Exact. The other rows are left out.
+pub fn exact_rows(alloc: Global, t: &BoundsTable) -> Result<Table, AllocError>
+    requires { IsBoundsTable t.now }
+    ensures { IfOk result (λ table. table ≡ exact_table t.now) }
+{
+    Ok(Table {
+        name: Text::from_slice(alloc, t.name.as_slice())?,
+        columns: all_names(alloc, t.key_names.as_slice(), t.state_names.as_slice())?,
+        keys: t.key_names.len() as u8,
+        kind: TableKind::Group(Class::Other, t.depth, t.epochs),
+        rows: row_copies(alloc, t.rows.as_slice())?,
+    })
+}

@@ -1,0 +1,32 @@
+use final_queries::Table;
+use marple_base::{Seq, Text};
+
+/// What is shown of a groupby where bounds are asked for: the table of a linear fold is exact as it is.
+#[derive(Drop)]
+pub enum Enclosed {
+    Linear(Table),
+    Bounds(BoundsTable),
+}
+
+/// A groupby's table of bounds, with a row for each key.
+#[derive(Drop)]
+pub struct BoundsTable {
+    pub name: Text,
+    pub key_names: Seq<Text>,
+    pub state_names: Seq<Text>,
+    /// The depth of the fold.
+    pub depth: u8,
+    /// The number of epochs over all keys, which is 2^64-1 where it would be greater.
+    pub epochs: u64,
+    pub rows: Seq<BoundsRow>,
+}
+
+/// A key, and the bounds of its fold over all packets, word by word.
+#[derive(Drop)]
+pub struct BoundsRow {
+    pub key: Seq<u64>,
+    /// How many epochs the key has, or the greatest `u64` where that is more.
+    pub epochs: u64,
+    pub low: Seq<u64>,
+    pub high: Seq<u64>,
+}

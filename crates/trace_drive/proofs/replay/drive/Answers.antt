@@ -1,0 +1,15 @@
+use Rattle.std.proofs.Common.{◌∙◌, ap, subst, sym}
+use Rattle.switch_core.specs.PlanLanes.{HavePlaces, PipelineStands}
+use Rattle.trace_drive.specs.Drives.{coming, end_machines, geometry_for, words_of}
+use Rattle.trace_drive.proofs.replay.drive.Goals as goal
+
+pub returns-clause-machines : goal.returns-clause-machines
+returns-clause-machines g c =
+    let all = coming c.args.packets in
+    subst (λ plan. PipelineStands c.in_ok-found.found (end_machines plan (geometry_for g.row.WAYS c.args.schedule) (words_of all)))
+    (c.in_ok-found.ensures.keeps.plan ∙ ap (λ p. p.plan) c.new-replay.ensures.pipeline)
+    (c.in_ok-found.ensures.machines c.args.schedule all 0 c.new-replay.ensures.under_way)
+
+pub returns-clause-pipe_places : goal.returns-clause-pipe_places
+returns-clause-pipe_places g c places have =
+    c.in_ok-found.ensures.pipe_places places (subst (λ p. HavePlaces places p.lanes) (sym c.new-replay.ensures.pipeline) have)
