@@ -1,8 +1,11 @@
 -- The groupbys of a query and those of its plan, one by one.
-use Rattle.std.proofs.Common.{◌≡◌, ℕ, zero, suc, ◌+◌, ◌<◌, false, List, [], ◌∷◌, length, get_or, drop, Some, None, Option, refl, sym, ap, ◌∙◌, arith}
+use Rattle.std.proofs.Common.{◌≡◌, ℕ, zero, suc, ◌+◌, ◌<◌, Bool, true, false, if◌then◌else◌, List, [], ◌∷◌, length, get_or, drop, Some, None, Option, refl, sym, ap, ◌∙◌, arith}
 use Rattle.std.specs.Prelude.{is_some, slice_get, option_map, option_and_then}
 use Rattle.std.specs.List.{cons_option}
 use Rattle.std.proofs.lemmas.List.{drop_more}
+use Rattle.query_lang.specs.declared.fault.FaultKind.TheVariants.{NotMonotone}
+use Rattle.query_lang.specs.declared.fault.QueryFault.{QueryFault}
+use Rattle.query_lang.specs.declared.query.Name.{Name}
 use Rattle.query_lang.specs.declared.fold.TypedFold.{TypedFold}
 use Rattle.query_lang.specs.declared.typed.TypedQuery.{TypedQuery}
 use Rattle.query_lang.specs.declared.typed.TypedStream.{TypedStream}
@@ -11,7 +14,7 @@ use Rattle.fold_class.specs.Kinds.{class_of}
 use Rattle.stage_plan.specs.declared.group.GroupPlan.{GroupPlan}
 use Rattle.stage_plan.specs.Planned.{IsPlanOf, fold_at}
 use Rattle.stage_plan.specs.Sound.{PlanParts}
-use Rattle.enclosure_folds.specs.Check.{fold_fault, stream_fault, or_else, first_fault}
+use Rattle.enclosure_folds.specs.Check.{is_bounded, fold_fault, stream_fault, or_else, first_fault, NoFaultMeansBounds}
 
 pub record Stands {A : Type 0} (xs : List A) (n : ℕ) (x : A) (rest : List A) : Type 0 where
   pub found : slice_get xs n ≡ Some x
@@ -83,3 +86,38 @@ module _ (q : TypedQuery) (p : PlanParts) (plan : IsPlanOf q p) (xs : List Typed
       go : (o : Option Taking) → taking_of one.op ≡ o → None ≡ option_map (λ t. t.fold_number) o → first_fault q.folds (drop i xs) ≡ first_fault q.folds (drop (i + 1) xs)
       go None known none = first ∙ ap (λ o. or_else (fold_fault one.name (option_and_then (λ t. slice_get q.folds t.fold_number) o)) (first_fault q.folds (drop (i + 1) xs))) known
       go (Some t) known some = absurd cc
+
+-- a groupby without a fault
+
+none_first : (a b : Option QueryFault) → or_else a b ≡ None → a ≡ None
+none_first None b e = refl
+none_first (Some x) b e = absurd cc
+
+none_later : (a b : Option QueryFault) → or_else a b ≡ None → b ≡ None
+none_later None b e = e
+none_later (Some x) b e = absurd cc
+
+bounded : (name : Name) (f : TypedFold) → fold_fault name (Some f) ≡ None → is_bounded (class_of f) f ≡ true
+bounded name f e = go (is_bounded (class_of f) f) e
+  where
+    go : (b : Bool) → if◌then◌else◌ {A = Option QueryFault} b None (Some (record { kind = NotMonotone; span = name.span })) ≡ None → b ≡ true
+    go true e = refl
+    go false e = absurd cc
+
+all_bounded : (folds : List TypedFold) (streams : List TypedStream) → first_fault folds streams ≡ None
+    → (i : ℕ) (f : TypedFold) → option_and_then (λ t. slice_get folds t.fold_number) (slice_get (takings streams) i) ≡ Some f → is_bounded (class_of f) f ≡ true
+all_bounded folds [] e i f has = absurd cc
+all_bounded folds (one ∷ streams) e i f has = go (taking_of one.op) refl (λ j h. all_bounded folds streams (none_later (stream_fault folds one) (first_fault folds streams) e) j f h) i has
+  where
+    here : stream_fault folds one ≡ None
+    here = none_first (stream_fault folds one) (first_fault folds streams) e
+
+    go : (o : Option Taking) → taking_of one.op ≡ o → ((j : ℕ) → option_and_then (λ t. slice_get folds t.fold_number) (slice_get (takings streams) j) ≡ Some f → is_bounded (class_of f) f ≡ true)
+        → (j : ℕ) → option_and_then (λ t. slice_get folds t.fold_number) (slice_get (cons_option o (takings streams)) j) ≡ Some f → is_bounded (class_of f) f ≡ true
+    go None known later j h = later j h
+    go (Some t) known later zero h =
+        bounded one.name f (ap (fold_fault one.name) (sym h) ∙ ap (λ o. fold_fault one.name (option_and_then (λ (t : Taking). slice_get folds t.fold_number) o)) (sym known) ∙ here)
+    go (Some t) known later (suc j) h = later j h
+
+pub no_fault : NoFaultMeansBounds
+no_fault q i f e has = all_bounded q.folds q.streams e i f has

@@ -3,3 +3,4 @@ pub mod ExampleFacts
 pub mod CheckFacts
 pub mod RowFacts
 pub mod ShownFacts
+pub mod ReadFacts

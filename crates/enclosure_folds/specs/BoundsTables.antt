@@ -3,8 +3,10 @@ use Rattle.std.specs.Prelude.{◌≡◌, ℕ, ◌<◌, ◌≤◌, Bool, true, fa
 use Rattle.query_lang.specs.declared.typed.Class.TheVariants.{Other}
 use Rattle.epoch_model.specs.declared.tables.Mark.TheVariants.{Exact}
 use Rattle.epoch_model.specs.declared.tables.Row.{Row}
+use Rattle.epoch_model.specs.Keys.{IsAscending}
 use Rattle.final_queries.specs.declared.table.Table.{Table}
 use Rattle.final_queries.specs.declared.table.TableKind.TheVariants.{Group}
+use Rattle.final_queries.specs.Finals.{IsTable}
 use Rattle.table_printer.specs.TableText.{line, numbers}
 use Rattle.enclosure_folds.specs.declared.table.BoundsTable.{BoundsTable}
 use Rattle.enclosure_folds.specs.declared.table.BoundsRow.{BoundsRow}
@@ -70,3 +72,7 @@ exact_table t = record {
   kind = Group Other t.depth t.epochs;
   rows = map exact_row (filter row_is_exact t.rows);
 }
+
+-- Where the keys of its rows ascend, finals may read them.
+abbrev pub ExactTablesAreRead : Type 0
+ExactTablesAreRead = (t : BoundsTable) → IsBoundsTable t → IsAscending (map (λ row. row.key) t.rows) → IsTable (exact_table t)

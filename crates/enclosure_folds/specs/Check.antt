@@ -1,5 +1,5 @@
 -- Which queries have bounds, and the fault of one that has none.
-use Rattle.std.specs.Prelude.{Bool, true, List, [], ◌∷◌, slice_get, Option, Some, None, option_and_then, if◌then◌else◌}
+use Rattle.std.specs.Prelude.{◌≡◌, ℕ, Bool, true, List, [], ◌∷◌, slice_get, Option, Some, None, option_and_then, if◌then◌else◌}
 use Rattle.query_lang.specs.declared.fault.FaultKind.TheVariants.{NotMonotone}
 use Rattle.query_lang.specs.declared.fault.QueryFault.{QueryFault}
 use Rattle.query_lang.specs.declared.fold.TypedFold.{TypedFold}
@@ -10,6 +10,7 @@ use Rattle.query_lang.specs.declared.typed.TypedQuery.{TypedQuery}
 use Rattle.query_lang.specs.declared.typed.TypedStream.{TypedStream}
 use Rattle.query_lang.specs.Streams.{taking_of}
 use Rattle.fold_class.specs.Kinds.{class_of}
+use Rattle.stage_plan.specs.Planned.{fold_at}
 use Rattle.monotone_folds.specs.Kinds.{is_monotone}
 
 -- a linear fold has its value, and any other fold has bounds where it is monotone
@@ -38,3 +39,7 @@ first_fault folds (one ∷ streams) = or_else (stream_fault folds one) (first_fa
 -- The fault of a query whose groupbys have no bounds: it stands at the name of the first groupby whose fold is neither linear nor monotone.
 abbrev pub enclose_fault : TypedQuery → Option QueryFault
 enclose_fault q = first_fault q.folds q.streams
+
+-- Each groupby of a query without this fault has its value or bounds.
+abbrev pub NoFaultMeansBounds : Type 0
+NoFaultMeansBounds = (q : TypedQuery) (i : ℕ) (f : TypedFold) → enclose_fault q ≡ None → fold_at q i ≡ Some f → is_bounded (class_of f) f ≡ true

@@ -13,6 +13,8 @@ ghost use Rattle.monotone_folds.specs.Examples.{decayed_sum, clamped};
 ghost use Rattle.enclosure_folds.specs.Examples.{AreKeyBounds, one_epoch, two_epochs};
 ghost use Rattle.epoch_entry.specs.Bounds.{bounds_after, IsBoundsKindOf};
 ghost use Rattle.enclosure_folds.specs.Bounds.{low_bound, high_bound, is_exact, Encloses, RowsEnclose, all_rows};
+ghost use Rattle.enclosure_folds.specs.BoundsTables.{ExactTablesAreRead};
+ghost use Rattle.enclosure_folds.specs.Check.{NoFaultMeansBounds};
 ghost use Rattle.enclosure_folds.specs.Shown.{TablesGiveBounds};
 ghost use Rattle.enclosure_folds.specs.KeyBounds.{EpochRowsGiveBounds, KeyBoundsEnclose, TriplesGiveWholeTables};
 
@@ -70,3 +72,13 @@ pub fn tables_give_bounds()
     alike_foldings_make_one_table();
     group_tables_are_read();
 }
+
+/// Each groupby of a query in which the check finds no fault has a linear fold or a monotone one.
+pub fn no_fault_means_bounds()
+    ensures { NoFaultMeansBounds }
+{}
+
+/// Finals may read the rows of a table of bounds that are exact, where the keys ascend.
+pub fn exact_tables_are_read()
+    ensures { ExactTablesAreRead }
+{}
