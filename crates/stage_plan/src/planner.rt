@@ -7,7 +7,6 @@ ghost use Rattle.stage_plan.specs.Making.{packet_wires, all_made, made_fault};
 ghost use Rattle.stage_plan.specs.Planned.{IsPlanOf, IsRefusal};
 
 use crate::answer::PlanAnswer;
-use crate::chain::longest_chain;
 use crate::fields::read_fields;
 use crate::groups::{plan_groups, wire_groups};
 use crate::order::{order_by_stage, registers_in, reorder};
@@ -37,8 +36,7 @@ fn put_plan(alloc: Global, q: &TypedQuery, made: &MadeStreams) -> Result<Plan, A
     )?;
     let groups = plan_groups(alloc, q)?;
     let reads = read_fields(alloc, q)?;
-    let chain = longest_chain(alloc, sorted.as_slice())?;
-    let plan = Plan::of(reads, sorted, groups, wiring, chain);
+    let plan = Plan::of_parts(alloc, reads, sorted, groups, wiring)?;
     Ok(plan)
 }
 

@@ -1,16 +1,18 @@
 // A plan, and what it does with a packet.
 
-ghost use Rattle.std.specs.Prelude.{◌≡◌, ℕ, ◌+◌, ◌*◌, ◌^◌, ◌<◌, ◌≤◌, ◌==◌, map, length, slice_get, count_by, Some};
+ghost use Rattle.std.specs.Prelude.{◌≡◌, ℕ, ◌+◌, ◌*◌, ◌^◌, ◌<◌, ◌≤◌, ◌==◌, map, length, slice_get, count_by, Some, IfOk};
 ghost use Rattle.query_lang.specs.Words.{holds};
 ghost use Rattle.stage_plan.specs.Registers.{operand_value, stages_of};
 ghost use Rattle.stage_plan.specs.Planned.{registers_of, row_of, wiring_at, plan_bound};
 ghost use Rattle.stage_plan.specs.Sound.{PlanParts, IsSoundPlan, IsChain};
 
 use crate::bound::most_of_groups;
+use crate::chain::longest_chain;
 use crate::group::{GroupPlan, GroupWiring};
 use crate::op::PlanOp;
 use crate::rows::{copy_into, fill, operand_in};
 use marple_base::{FieldSet, Packet, Seq, Steps};
+use std::alloc::{AllocError, Global};
 use std::marker::Model;
 use std::sync::ledger::Ledger;
 
@@ -33,25 +35,28 @@ impl Model for Plan {
 }
 
 impl Plan {
-    // A plan of these parts.
-    pub(crate) fn of(
+    /// The plan of exactly these parts. It fails only where there is no memory.
+    ///
+    /// Each operation reads fields, earlier operations and numbers, and stands in the stage behind those of its operands, from 1 to 64; the
+    /// operations are in the order of their stages. `wiring` has one entry for each groupby, with as many keys and arguments as it names.
+    pub fn of_parts(
+        alloc: Global,
         reads: FieldSet,
         ops: Seq<PlanOp>,
         groups: Seq<GroupPlan>,
         wiring: Seq<GroupWiring>,
-        chain: Seq<u32>,
-    ) -> Plan
-        requires sound { IsSoundPlan (record { reads = reads; ops = ops; groups = groups; wiring = wiring }) }
-        requires chain { IsChain ops chain }
-        ensures { result ≡ record { reads = reads; ops = ops; groups = groups; wiring = wiring } }
+    ) -> Result<Plan, AllocError>
+        requires { IsSoundPlan (record { reads = reads; ops = ops; groups = groups; wiring = wiring }) }
+        ensures { IfOk result (λ plan. plan ≡ record { reads = reads; ops = ops; groups = groups; wiring = wiring }) }
     {
-        Plan {
+        let chain = longest_chain(alloc, ops.as_slice())?;
+        Ok(Plan {
             reads,
             ops,
             groups,
             wiring,
             chain,
-        }
+        })
     }
 
     /// What holds of each plan.

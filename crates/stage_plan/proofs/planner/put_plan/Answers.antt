@@ -14,8 +14,8 @@ registers_in-requires-clause-few c =
     (record { valid = c.requires.valid; ops_are = c.requires.ops; streams_are = c.requires.streams; fits = c.requires.fits; few = c.requires.few })
     (order_from c.args.made.now.ops c.as_slice-ops.result.now c.greatest_stage.result c.in_ok-order.order c.as_slice.result.now c.as_slice-ops.ensures c.greatest_stage.ensures c.in_ok-order.ensures c.as_slice.ensures)
 
-pub of-plan-requires-clause-sound : goal.of-plan-requires-clause-sound
-of-plan-requires-clause-sound c =
+pub of_parts-requires : goal.of_parts-requires
+of_parts-requires c =
     (put_from c.args.q.now c.args.made.now.ops c.as_slice-ops.result.now c.args.made.now.streams c.as_slice-5.result.now c.as_slice-4.result.now c.greatest_stage.result
     c.in_ok-order.order c.as_slice.result.now c.as_slice-2.result.now c.in_ok-registers.registers c.as_slice-3.result.now c.as_slice-6.result.now
     c.in_ok-sorted.sorted c.in_ok-wiring.wiring c.in_ok-groups.groups c.in_ok-reads.reads
@@ -24,19 +24,6 @@ of-plan-requires-clause-sound c =
     c.as_slice-2.ensures c.as_slice-3.ensures c.in_ok-sorted.ensures
     c.as_slice-4.ensures c.as_slice-5.ensures c.as_slice-6.ensures c.in_ok-wiring.ensures
     c.in_ok-groups.ensures.shapes c.in_ok-groups.ensures.sound c.in_ok-groups.ensures.all c.in_ok-reads.ensures).is_sound
-
-pub longest_chain-requires : goal.longest_chain-requires
-longest_chain-requires c =
-    rw c.as_slice-7.ensures (
-    (put_from c.args.q.now c.args.made.now.ops c.as_slice-ops.result.now c.args.made.now.streams c.as_slice-5.result.now c.as_slice-4.result.now c.greatest_stage.result
-    c.in_ok-order.order c.as_slice.result.now c.as_slice-2.result.now c.in_ok-registers.registers c.as_slice-3.result.now c.as_slice-6.result.now
-    c.in_ok-sorted.sorted c.in_ok-wiring.wiring c.in_ok-groups.groups c.in_ok-reads.reads
-    (record { valid = c.requires.valid; ops_are = c.requires.ops; streams_are = c.requires.streams; fits = c.requires.fits; few = c.requires.few })
-    c.as_slice-ops.ensures c.greatest_stage.ensures c.in_ok-order.ensures c.as_slice.ensures c.in_ok-registers.ensures.placed c.in_ok-registers.ensures.long
-    c.as_slice-2.ensures c.as_slice-3.ensures c.in_ok-sorted.ensures
-    c.as_slice-4.ensures c.as_slice-5.ensures c.as_slice-6.ensures c.in_ok-wiring.ensures
-    c.in_ok-groups.ensures.shapes c.in_ok-groups.ensures.sound c.in_ok-groups.ensures.all c.in_ok-reads.ensures).is_sound.ops
-    )
 
 pub returns : goal.returns
 returns c =
@@ -50,4 +37,4 @@ returns c =
     c.as_slice-4.ensures c.as_slice-5.ensures c.as_slice-6.ensures c.in_ok-wiring.ensures
     c.in_ok-groups.ensures.shapes c.in_ok-groups.ensures.sound c.in_ok-groups.ensures.all c.in_ok-reads.ensures
     in
-    rw c.of-plan.ensures p.is_plan
+    rw c.in_ok-plan.ensures p.is_plan
