@@ -1,0 +1,2 @@
+pub mod LexisFacts
+pub mod Wanted

@@ -1,0 +1,4 @@
+pub mod Lexis
+pub mod Lexemes
+pub mod Bodies
+pub mod Wants

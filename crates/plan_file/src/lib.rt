@@ -1,0 +1,6 @@
+//! The text of a plan: what its lines say, which lines are valid after those before them, and where a text is refused.
+#![tactic(auto)]
+
+mod lexemes;
+mod lexis;
+mod wants;
