@@ -2,3 +2,5 @@ pub mod Lexis
 pub mod Lexemes
 pub mod Bodies
 pub mod Wants
+pub mod Operations
+pub mod Named

@@ -3,4 +3,7 @@
 
 mod lexemes;
 mod lexis;
+mod named;
+mod operations;
+mod reads;
 mod wants;
