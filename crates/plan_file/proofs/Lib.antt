@@ -4,3 +4,4 @@ pub mod OperandFacts
 pub mod OpFacts
 pub mod NamedFacts
 pub mod ReadsFacts
+pub mod NameFacts

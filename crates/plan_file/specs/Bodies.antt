@@ -42,8 +42,10 @@ pub record IsBody (states args : ℕ) (words : List Lexeme) (body : Block) : Typ
   pub typed : IsValidBlock states args body
   pub nesting : open_braces body ≤ 64
 
--- `body` and statements
-pub record IsBodyLine (states args : ℕ) (line : List ℕ) (body : Block) : Type 0 where
+-- `body` and the tokens of a body
+pub record IsBodyLine (states args : ℕ) (line : List ℕ) (words : List Lexeme) : Type 0 where
   pub rest : List (List ℕ)
-  pub words : tokens line ≡ codes "body" ∷ rest
-  pub is_body : IsBody states args (map lexeme_of rest) body
+  pub begins : tokens line ≡ codes "body" ∷ rest
+  pub are : words ≡ map lexeme_of rest
+  pub body : Block
+  pub is_body : IsBody states args words body

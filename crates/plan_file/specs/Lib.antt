@@ -4,3 +4,5 @@ pub mod Bodies
 pub mod Wants
 pub mod Operations
 pub mod Named
+pub mod LineWords
+pub mod Groups

@@ -1,8 +1,11 @@
 //! The text of a plan: what its lines say, which lines are valid after those before them, and where a text is refused.
 #![tactic(auto)]
 
+mod group_lines;
 mod lexemes;
 mod lexis;
+mod line_word;
+mod made;
 mod named;
 mod operations;
 mod reads;
