@@ -5,3 +5,10 @@ pub mod OpFacts
 pub mod NamedFacts
 pub mod ReadsFacts
 pub mod NameFacts
+pub mod TextFacts
+pub mod TextLaws
+pub mod TreeFacts
+pub mod ReadFacts
+pub mod WithinFacts
+pub mod SameFold
+pub mod LineLaws

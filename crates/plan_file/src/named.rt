@@ -92,7 +92,7 @@ pub(crate) fn is_name(token: &[u8]) -> bool
 }
 
 // What stands behind a first word.
-fn after_word<'a>(word: &[u8], line: &'a [u8]) -> Option<&'a [u8]>
+pub(crate) fn after_word<'a>(word: &[u8], line: &'a [u8]) -> Option<&'a [u8]>
     ensures { MatchOption result ((t : List ℕ) → (ts : List (List ℕ)) → tokens line.now ≡ word.now ∷ t ∷ ts → ⊥) (λ rest. tokens line.now ≡ word.now ∷ tokens rest.now) }
 {
     let (first, rest) = cut_at_space(line)?;
@@ -104,7 +104,7 @@ fn after_word<'a>(word: &[u8], line: &'a [u8]) -> Option<&'a [u8]>
 }
 
 // The two tokens of a line that has two.
-fn two_tokens(line: &[u8]) -> Option<(&[u8], &[u8])>
+pub(crate) fn two_tokens(line: &[u8]) -> Option<(&[u8], &[u8])>
     ensures { MatchOption result ((a b : List ℕ) → tokens line.now ≡ a ∷ b ∷ [] → ⊥) (λ r. tokens line.now ≡ r.0.now ∷ r.1.now ∷ []) }
 {
     let (first, second) = cut_at_space(line)?;
