@@ -12,3 +12,4 @@ pub mod ReadFacts
 pub mod WithinFacts
 pub mod SameFold
 pub mod LineLaws
+pub mod AnswerFacts

@@ -2,6 +2,7 @@
 #![tactic(auto)]
 
 mod answer;
+mod check;
 mod fold_line;
 mod group_lines;
 mod lexemes;
@@ -17,3 +18,4 @@ mod tree;
 mod wants;
 
 pub use answer::PlanFileAnswer;
+pub use check::check_plan;
