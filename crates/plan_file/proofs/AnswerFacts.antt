@@ -1,5 +1,5 @@
 -- A text has one answer.
-use Rattle.std.proofs.Common.{◌≡◌, ℕ, List}
+use Rattle.std.proofs.Common.{ℕ, List}
 use Rattle.plan_file.specs.declared.answer.PlanFileAnswer.{PlanFileAnswer}
 use Rattle.plan_file.specs.declared.answer.PlanFileAnswer.TheVariants as answers
 use Rattle.plan_file.specs.declared.made.Made.{Made}

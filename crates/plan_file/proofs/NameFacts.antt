@@ -1,5 +1,5 @@
 -- Whether a name is among names.
-use Rattle.std.proofs.Common.{◌≡◌, ℕ, zero, suc, ◌<◌, Bool, true, false, List, [], ◌∷◌, length, get_or, map, refl, sym, ap, ◌∙◌, arith, Contains}
+use Rattle.std.proofs.Common.{◌≡◌, ℕ, zero, suc, ◌<◌, true, false, List, [], ◌∷◌, length, get_or, refl, sym, ap, ◌∙◌, arith, Contains}
 use Rattle.std.specs.Str.{bytes_eq}
 use Rattle.plan_file.specs.declared.made.Folded.{Folded}
 use Rattle.plan_file.specs.Groups.{names_of}

@@ -1,16 +1,11 @@
 -- How far the lines of a text are read.
-use Rattle.std.proofs.Common.{◌≡◌, ℕ, zero, suc, ◌+◌, ◌<◌, ◌≤◌, List, [], ◌∷◌, ◌++◌, length, take, drop, Some, None, refl, sym, ap, ◌∙◌, subst, arith, add-one, inl, inr}
-use Rattle.std.specs.Prelude.{slice_get, ◌⊎◌, IfSome, sum_by, Bool, true, false}
+use Rattle.std.proofs.Common.{◌≡◌, ℕ, zero, suc, ◌+◌, ◌<◌, ◌≤◌, List, [], ◌∷◌, length, take, Some, refl, sym, ap, subst, arith, add-one, inl, inr}
+use Rattle.std.specs.Prelude.{slice_get}
 use Rattle.std.proofs.lemmas.List.{take_all, length-drop}
-use Rattle.plan_file.specs.declared.line_word.LineWord.{LineWord}
-use Rattle.plan_file.specs.declared.line_word.LineWord.TheVariants as words
-use Rattle.plan_file.specs.declared.made.Group.{Group}
 use Rattle.plan_file.specs.declared.made.Made.{Made}
-use Rattle.plan_file.specs.Lexis.{lines, pieces, bytes_after_lines, start_of_line}
-use Rattle.plan_file.specs.Groups.{IsInGroup}
-use Rattle.plan_file.specs.Lines.{nothing, IsLine, IsLineOf, IsValidAfter, IsWithin, IsGroupWithin}
-use Rattle.plan_file.specs.LineWords.{line_word}
-use Rattle.plan_file.specs.Texts.{Make, Says, IsBadAt, IsFirstBadLine, EndsBad, IsLineStart, IsBehindLines}
+use Rattle.plan_file.specs.Lexis.{lines, bytes_after_lines}
+use Rattle.plan_file.specs.Lines.{nothing, IsLine}
+use Rattle.plan_file.specs.Texts.{Make, Says, IsBadAt, IsLineStart, IsBehindLines}
 
 -- so many lines are read, up to a byte, and they made this
 pub record IsReached (text : List ℕ) (i at : ℕ) (made : Made) : Type 0 where

@@ -1,5 +1,5 @@
 -- Folds with as many variables and the same statements have the same class and depth, and a line says one class and one depth.
-use Rattle.std.proofs.Common.{◌≡◌, ℕ, zero, suc, ◌<◌, ◌≤◌, Bool, true, false, not, ◌||◌, List, [], ◌∷◌, Some, refl, sym, ap, ◌∙◌, subst, arith}
+use Rattle.std.proofs.Common.{◌≡◌, ℕ, zero, suc, not, ◌||◌, List, [], ◌∷◌, Some, refl, sym, ap, ◌∙◌, arith}
 use Rattle.std.specs.Prelude.{nat_lt, if◌then◌else◌, codes}
 use mathlib.Core.Path.{fun_ext}
 use Rattle.query_lang.specs.declared.fold.TypedFold.{TypedFold}
@@ -11,7 +11,7 @@ use Rattle.fold_class.specs.declared.class.Algebra.TheVariants.{Sums, Maxima}
 use Rattle.fold_class.specs.declared.class.Kind.{Kind}
 use Rattle.fold_class.specs.declared.class.Kind.TheVariants.{Pure, Affine}
 use Rattle.fold_class.specs.Tables.{all_below}
-use Rattle.fold_class.specs.Depth.{reads_after, reads_first, fold_reads, is_within, is_history, IsHistory, IsDepth}
+use Rattle.fold_class.specs.Depth.{reads_after, reads_first, fold_reads, is_within, is_history, IsDepth}
 use Rattle.fold_class.specs.Kinds.{role, kinds_after, kinds_first, fold_kinds, is_no_other, is_linear_by, class_of}
 use Rattle.fold_class.proofs.DepthLemmas.{all_same}
 use Rattle.stage_plan.specs.Shape.{class_word}

@@ -1,6 +1,3 @@
-use Rattle.std.proofs.Common.{◌≡◌, ℕ, sym, subst}
-use Rattle.std.specs.Prelude.{MatchResult}
-use Rattle.plan_file.specs.Texts.{IsBadAt, IsOnlyAnswer}
 use Rattle.plan_file.proofs.AnswerFacts.{nowhere, only_answer}
 use Rattle.plan_file.proofs.check.check_plan.Goals as goal
 use Rattle.plan_file.proofs.check.check_plan.Goals.{in-Ok, in-Err}

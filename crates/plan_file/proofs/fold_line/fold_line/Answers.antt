@@ -1,7 +1,5 @@
-use Rattle.std.proofs.Common.{◌≡◌, refl, sym, ap, subst, ◌∙◌}
-use Rattle.query_lang.specs.declared.typed.Class.{Class}
-use Rattle.query_lang.specs.Folds.{fold_states, fold_block}
-use Rattle.fold_class.specs.Depth.{IsDepth}
+use Rattle.std.proofs.Common.{◌≡◌, refl, sym, subst, ◌∙◌}
+use Rattle.query_lang.specs.Folds.{fold_states}
 use Rattle.plan_file.specs.FoldLines.{IsFoldWords}
 use Rattle.plan_file.proofs.SameFold.{class_same, depth_same, depth_once, words_once}
 use Rattle.plan_file.proofs.fold_line.fold_line.Goals as goal

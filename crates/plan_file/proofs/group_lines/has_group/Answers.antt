@@ -1,4 +1,4 @@
-use Rattle.std.proofs.Common.{◌≡◌, ◌<◌, true, false, length, sym, ap, ◌∙◌, arith, below_more}
+use Rattle.std.proofs.Common.{◌≡◌, ◌<◌, true, false, length, arith, below_more}
 use Rattle.std.specs.Str.{bytes_eq}
 use Rattle.plan_file.specs.Groups.{names_of}
 use Rattle.plan_file.proofs.NameFacts.{found_at, other_at, not_among, count_names, named_at}

@@ -1,4 +1,4 @@
-use Rattle.std.proofs.Common.{◌≡◌, ℕ, ◌≤◌, ◌-◌, length}
+use Rattle.std.proofs.Common.{ℕ, ◌≤◌, ◌-◌, length}
 use Rattle.plan_file.specs.Lines.{IsWithin}
 use Rattle.plan_file.proofs.ReadFacts.{IsReached}
 use Rattle.plan_file.proofs.texts.read_text.Given as goal

@@ -1,7 +1,5 @@
-use Rattle.std.proofs.Common.{◌≡◌, ◌++◌, ◌-◌, List, length, drop, ap, sym, ◌∙◌, arith}
+use Rattle.std.proofs.Common.{◌++◌, ◌-◌, length, drop, ◌∙◌, arith}
 use Rattle.std.proofs.lemmas.List.{take_all, length-drop}
-use Rattle.query_lang.specs.declared.fold.TypedExpr.TheVariants as typed
-use Rattle.query_lang.specs.Terms.{Negation, Operation, term_of}
 use Rattle.query_lang.proofs.TreeLemmas.{term_not, term_binary}
 use Rattle.plan_file.specs.declared.lexemes.Lexeme.TheVariants.{Set}
 use Rattle.plan_file.specs.Bodies.{written}

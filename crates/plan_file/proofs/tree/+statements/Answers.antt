@@ -1,11 +1,10 @@
-use Rattle.std.proofs.Common.{◌≡◌, ◌<◌, ◌-◌, true, false, List, [], ◌∷◌, ◌++◌, length, sym, ap, subst, ◌∙◌, arith}
-use Rattle.query_lang.specs.Terms.{term_of}
+use Rattle.std.proofs.Common.{◌≡◌, ◌<◌, ◌-◌, true, false, ◌∷◌, ◌++◌, length, sym, ap, subst, ◌∙◌, arith}
 use Rattle.query_lang.specs.Blocks.{End, Fork, block_of, stmt_block}
 use Rattle.query_lang.proofs.TreeLemmas.{block_if}
 use Rattle.plan_file.specs.declared.lexemes.Lexeme.TheVariants as word
 use Rattle.plan_file.specs.Bodies.{written, written_block}
 use Rattle.plan_file.specs.Trees.{begins_statement}
-use Rattle.plan_file.proofs.TreeFacts.{tail_same, choice_front, IsLeft, left_first, left_last, left_ahead, left_more}
+use Rattle.plan_file.proofs.TreeFacts.{tail_same, choice_front, IsLeft, left_last, left_ahead, left_more}
 use Rattle.plan_file.proofs.tree.+statements.Goals as goal
 
 pub choice-returns-in-Some-behind_brace-4-clause-found : goal.choice-returns-in-Some-behind_brace-4-clause-found

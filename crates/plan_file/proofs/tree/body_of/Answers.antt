@@ -1,4 +1,4 @@
-use Rattle.std.proofs.Common.{◌≡◌, false, [], ◌∷◌, ◌++◌, sym, ◌∙◌, subst, append-nil}
+use Rattle.std.proofs.Common.{[], sym, ◌∙◌, append-nil}
 use Rattle.plan_file.specs.Bodies.{written_block}
 use Rattle.plan_file.proofs.TreeFacts.{small_body, body_small, same_args}
 use Rattle.plan_file.proofs.tree.body_of.Goals as goal
