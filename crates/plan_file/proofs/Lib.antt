@@ -1,0 +1,15 @@
+pub mod LexisFacts
+pub mod Wanted
+pub mod OperandFacts
+pub mod OpFacts
+pub mod NamedFacts
+pub mod ReadsFacts
+pub mod NameFacts
+pub mod TextFacts
+pub mod TextLaws
+pub mod TreeFacts
+pub mod ReadFacts
+pub mod WithinFacts
+pub mod SameFold
+pub mod LineLaws
+pub mod AnswerFacts

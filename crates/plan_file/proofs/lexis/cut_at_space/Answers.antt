@@ -1,0 +1,15 @@
+use Rattle.std.proofs.Common.{◌+◌, ◌-◌, drop, length, arith, rules}
+use Rattle.std.proofs.lemmas.List.{take_all, length-drop}
+use Rattle.plan_file.specs.Lexis.{is_space}
+use Rattle.plan_file.proofs.LexisFacts.{split_first, split_none}
+use Rattle.plan_file.proofs.lexis.cut_at_space.Goals as goal
+
+pub returns-then-byte-eq32-clause-parts : goal.returns-then-byte-eq32-clause-parts
+returns-then-byte-eq32-clause-parts c =
+    let text = c.args.line.now in
+    let i = c.loop-i.i in
+    let all = take_all (length text - (i + 1)) (drop (i + 1) text) (omega (arith, length-drop (i + 1) text)) in
+    rw all (split_first is_space text i c.loop-i-test.true c.loop-i.invariant (search rules))
+
+pub returns-clause-parts : goal.returns-clause-parts
+returns-clause-parts c = split_none is_space c.args.line.now c.loop-i.i c.loop-i-test.false c.loop-i.invariant

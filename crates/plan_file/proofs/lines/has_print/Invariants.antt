@@ -1,0 +1,5 @@
+use Rattle.std.proofs.Common.{◌≡◌, ℕ, ◌<◌, get_or}
+use Rattle.plan_file.proofs.lines.has_print.Given as goal
+
+abbrev pub invariant-loop-one : goal.invariant-loop-one
+invariant-loop-one l = (k : ℕ) → k < l.one-index → get_or l.prints k 0 ≡ l.n → ⊥

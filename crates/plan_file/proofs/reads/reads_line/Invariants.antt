@@ -1,0 +1,6 @@
+use Rattle.plan_file.specs.Lexis.{tokens_left}
+use Rattle.plan_file.proofs.ReadsFacts.{IsPassed}
+use Rattle.plan_file.proofs.reads.reads_line.Given as goal
+
+abbrev pub invariant-loop-i : goal.invariant-loop-i
+invariant-loop-i l = IsPassed l.line l.found l.i (tokens_left l.left l.rest)

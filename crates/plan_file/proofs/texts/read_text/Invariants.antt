@@ -1,0 +1,15 @@
+use Rattle.std.proofs.Common.{ℕ, ◌≤◌, ◌-◌, length}
+use Rattle.plan_file.specs.Lines.{IsWithin}
+use Rattle.plan_file.proofs.ReadFacts.{IsReached}
+use Rattle.plan_file.proofs.texts.read_text.Given as goal
+
+abbrev pub invariant-lines : goal.invariant-lines
+invariant-lines l = record {
+  within : l.at ≤ length l.text;
+  small : length l.text ≤ 2097152;
+  limits : IsWithin l.made;
+  reached : (i : ℕ) × IsReached l.text i l.at l.made;
+}
+
+abbrev pub decreases-lines : goal.decreases-lines
+decreases-lines l = length l.text - l.at

@@ -1,0 +1,12 @@
+pub mod Lexis
+pub mod Lexemes
+pub mod Bodies
+pub mod Wants
+pub mod Trees
+pub mod Operations
+pub mod Named
+pub mod LineWords
+pub mod Groups
+pub mod FoldLines
+pub mod Lines
+pub mod Texts

@@ -1,0 +1,175 @@
+// A line `fold` as it is read.
+
+ghost use Rattle.std.specs.Prelude.{◌≡◌, ◌≤◌, ℕ, true, false, length, MatchOption, IfOk, IfSome};
+ghost use Rattle.query_lang.specs.declared.fold.TypedFold.{TypedFold};
+ghost use Rattle.query_lang.specs.declared.typed.Class.{Class};
+ghost use Rattle.query_lang.specs.Folds.{IsValidFold, fold_block};
+ghost use Rattle.fold_class.specs.Kinds.{class_of};
+ghost use Rattle.fold_class.specs.Depth.{IsDepth};
+ghost use Rattle.stage_plan.specs.Shape.{class_word};
+ghost use Rattle.plan_file.specs.declared.made.Folded.{Folded};
+ghost use Rattle.plan_file.specs.FoldLines.{IsFoldOf, IsFoldWords, AreBounds, IsFoldLine};
+ghost use Rattle.plan_file.specs.Lines.{IsGroupWithin};
+
+use crate::lexis::{cut_at_space, is_text, number};
+use crate::made::{Folded, Group};
+use crate::named::{after_word, two_tokens};
+use crate::tree::body_of;
+use fold_class::classify;
+use fold_code::compile;
+use marple_base::Seq;
+use query_lang::{Class, Name, Span, TypedFold};
+use std::alloc::{AllocError, Global};
+
+/// What a line `fold` says.
+#[derive(Clone, Copy)]
+struct FoldWords {
+    class: Class,
+    depth: u64,
+    nodes: u64,
+    statements: u64,
+}
+
+fn class_named(token: &[u8]) -> Option<Class>
+    ensures { MatchOption result ((class : Class) → token.now ≡ class_word class → ⊥) (λ class. token.now ≡ class_word class) }
+{
+    if is_text(token, b"linear") {
+        Some(Class::Linear)
+    } else if is_text(token, b"other") {
+        Some(Class::Other)
+    } else {
+        None
+    }
+}
+
+// What a line of the word `fold`, a class and three numbers says.
+fn fold_words(line: &[u8]) -> Option<FoldWords>
+    ensures { MatchOption result ((class : Class) → (depth nodes statements : ℕ) → IsFoldWords line.now class depth nodes statements → ⊥) (λ w. IsFoldWords line.now w.class w.depth w.nodes w.statements) }
+{
+    let rest = after_word(b"fold", line)?;
+    let (class, rest) = cut_at_space(rest)?;
+    let (depth, rest) = cut_at_space(rest)?;
+    let (nodes, statements) = two_tokens(rest)?;
+    let class = class_named(class)?;
+    let depth = number(depth)?;
+    let nodes = number(nodes)?;
+    let statements = number(statements)?;
+    Some(FoldWords {
+        class,
+        depth,
+        nodes,
+        statements,
+    })
+}
+
+// Whether a line says this class and this depth.
+fn is_said(words: FoldWords, class: Class, depth: u32) -> bool
+    ensures yes { result ≡ true → (class ≡ words.class) × (depth ≡ words.depth) }
+    ensures no { result ≡ false → class ≡ words.class → depth ≡ words.depth → ⊥ }
+{
+    let same = match (words.class, class) {
+        (Class::Linear, Class::Linear) | (Class::Other, Class::Other) => true,
+        _ => false,
+    };
+    same && u64::from(depth) == words.depth
+}
+
+// Numbers from one on, so many.
+fn numbers(alloc: Global, from: u32, count: usize) -> Result<Seq<u32>, AllocError>
+    requires from { from ≤ 8 }
+    requires count { count ≤ 16 }
+    ensures { IfOk result (λ all. length all ≡ count) }
+{
+    let mut all = Seq::new(alloc);
+    for i in 0..count {
+        all.push(from + i as u32)?;
+    }
+    Ok(all)
+}
+
+fn words_copied(alloc: Global, words: &[u64]) -> Result<Seq<u64>, AllocError>
+    ensures { IfOk result (λ copy. copy ≡ words.now) }
+{
+    Ok(Seq::from_vec(Vec::from_slice(alloc, words)?))
+}
+
+// The fold of a group whose body has at most so many nodes and statements.
+fn fold_of(
+    alloc: Global,
+    group: &Group,
+    nodes: u32,
+    statements: u32,
+) -> Result<Option<TypedFold>, AllocError>
+    requires within { IsGroupWithin group.now }
+    requires nodes { nodes ≤ 512 }
+    requires statements { statements ≤ 64 }
+    ensures { IfOk result (λ found. MatchOption found ((other : TypedFold) → IsFoldOf group.now other → AreBounds other nodes statements → ⊥) (λ f. IsFoldOf group.now f × AreBounds f nodes statements × IsValidFold f × ((other : TypedFold) → IsFoldOf group.now other → fold_block other ≡ fold_block f))) }
+{
+    let words = match &group.body {
+        Some(words) => words.as_slice(),
+        None => return Ok(None),
+    };
+    let states = group.initial.len();
+    let args = group.args.len();
+    match body_of(alloc, states as u64, args as u64, words, nodes, statements)? {
+        Some(body) => Ok(Some(TypedFold {
+            name: Name {
+                id: 0,
+                span: Span { start: 0, end: 0 },
+            },
+            state_names: numbers(alloc, 0, states)?,
+            initial: words_copied(alloc, group.initial.as_slice())?,
+            arg_names: numbers(alloc, states as u32, args)?,
+            body,
+            emit: None,
+            nodes,
+            statements,
+        })),
+        None => Ok(None),
+    }
+}
+
+// The class and the depth of a fold.
+fn class_and_depth(alloc: Global, fold: &TypedFold) -> Result<(Class, u32), AllocError>
+    requires { IsValidFold fold.now }
+    ensures { IfOk result (λ found. (found.0 ≡ class_of fold.now) × IsDepth fold.now found.1) }
+{
+    let code = compile(alloc, fold)?;
+    let program = classify(alloc, fold, code)?;
+    Ok((program.class, u32::from(program.depth)))
+}
+
+/// The group that a line `fold` ends, where the line is valid after the group's other lines.
+pub(crate) fn fold_line(
+    alloc: Global,
+    before: Group,
+    line: &[u8],
+) -> Result<Option<Folded>, AllocError>
+    requires { IsGroupWithin before }
+    ensures { IfOk result (λ made. MatchOption made ((after : Folded) → IsFoldLine before line.now after → ⊥) (λ after. IsFoldLine before line.now after)) }
+{
+    let words = match fold_words(line) {
+        Some(words) => words,
+        None => return Ok(None),
+    };
+    if words.nodes > 512 || words.statements > 64 {
+        return Ok(None);
+    }
+    let nodes = words.nodes as u32;
+    let statements = words.statements as u32;
+    let fold = match fold_of(alloc, &before, nodes, statements)? {
+        Some(fold) => fold,
+        None => return Ok(None),
+    };
+    let (class, depth) = class_and_depth(alloc, &fold)?;
+    if !is_said(words, class, depth) {
+        return Ok(None);
+    }
+    Ok(Some(Folded {
+        group: before,
+        class,
+        depth,
+        nodes,
+        statements,
+    }))
+}

@@ -1,0 +1,238 @@
+// The lines of a group, from `group` to `body`, as they are read.
+
+ghost use Rattle.std.specs.Prelude.{◌≡◌, ◌≤◌, ◌+◌, ◌<◌, ◌^◌, length, true, false, Contains, MatchOption, IfOk, List, ℕ};
+ghost use Rattle.plan_file.specs.declared.made.Group.{Group};
+ghost use Rattle.plan_file.specs.declared.lexemes.Lexeme.{Lexeme};
+ghost use Rattle.plan_file.specs.Bodies.{IsBodyLine};
+ghost use Rattle.plan_file.specs.Groups as Groups;
+ghost use Rattle.plan_file.specs.Groups.{names_of, IsGroupLine, IsNewIn, IsKeyLine, IsArgLine, IsStateLine, IsGroupBody, IsInGroup};
+
+use crate::lexemes::{Lexeme, lexemes};
+use crate::lexis::{first_token, is_text};
+use crate::line_word::LineWord;
+use crate::made::{Folded, Group};
+use crate::named::{named_number, named_operand, one_operand};
+use crate::wants::is_body;
+use marple_base::{Field, Seq, Text};
+use stage_plan::{Operand, PlanOp};
+use std::alloc::{AllocError, Global};
+
+// Whether a name is among names.
+fn has_name(names: &[Text], name: &[u8]) -> bool
+    ensures yes { result ≡ true → Contains names.now name.now }
+    ensures no { result ≡ false → Contains names.now name.now → ⊥ }
+{
+    for one in names {
+        if is_text(one.as_slice(), name) {
+            return true;
+        }
+    }
+    false
+}
+
+// Whether a group has a name.
+fn has_group(groups: &[Folded], name: &[u8]) -> bool
+    ensures yes { result ≡ true → Contains (names_of groups.now) name.now }
+    ensures no { result ≡ false → Contains (names_of groups.now) name.now → ⊥ }
+{
+    for one in groups {
+        if is_text(one.group.name.as_slice(), name) {
+            return true;
+        }
+    }
+    false
+}
+
+// Whether no key and no state variable of a group has a name.
+fn is_new_in(group: &Group, name: &[u8]) -> bool
+    ensures yes { result ≡ true → IsNewIn group.now name.now }
+    ensures no { result ≡ false → IsNewIn group.now name.now → ⊥ }
+{
+    !has_name(group.key_names.as_slice(), name) && !has_name(group.state_names.as_slice(), name)
+}
+
+// A group with a name and the operand that says whether it takes a use, and nothing else yet.
+fn group_with(alloc: Global, name: &[u8], present: Operand) -> Result<Group, AllocError>
+    ensures { IfOk result (λ group. group ≡ Groups.group_with name.now present) }
+{
+    Ok(Group {
+        name: Text::from_slice(alloc, name)?,
+        present,
+        key_names: Seq::new(alloc),
+        keys: Seq::new(alloc),
+        args: Seq::new(alloc),
+        state_names: Seq::new(alloc),
+        initial: Seq::new(alloc),
+        body: None,
+    })
+}
+
+/// The group that a line `group` begins, where the line is valid after these fields, operations and groups.
+pub(crate) fn group_line(
+    alloc: Global,
+    fields: &[Field],
+    ops: &[PlanOp],
+    groups: &[Folded],
+    line: &[u8],
+) -> Result<Option<Group>, AllocError>
+    requires few { length ops.now ≤ 32768 }
+    ensures { IfOk result (λ made. MatchOption made ((after : Group) → IsGroupLine fields.now ops.now groups.now line.now after → ⊥) (λ after. IsGroupLine fields.now ops.now groups.now line.now after)) }
+{
+    if groups.len() >= 8 {
+        return Ok(None);
+    }
+    let (name, present) = match named_operand(fields, ops, b"group", line) {
+        Some(found) => found,
+        None => return Ok(None),
+    };
+    if is_text(name, b"pktstream") {
+        return Ok(None);
+    }
+    if has_group(groups, name) {
+        return Ok(None);
+    }
+    Ok(Some(group_with(alloc, name, present)?))
+}
+
+// The group behind a line `key`.
+fn key_line(
+    alloc: Global,
+    fields: &[Field],
+    ops: &[PlanOp],
+    before: Group,
+    line: &[u8],
+) -> Result<Option<Group>, AllocError>
+    requires few { length ops.now ≤ 32768 }
+    ensures { IfOk result (λ made. MatchOption made ((after : Group) → IsKeyLine fields.now ops.now before line.now after → ⊥) (λ after. IsKeyLine fields.now ops.now before line.now after)) }
+{
+    if !before.args.is_empty()
+        || !before.state_names.is_empty()
+        || before.body.is_some()
+        || before.keys.len() >= 8
+    {
+        return Ok(None);
+    }
+    let (name, value) = match named_operand(fields, ops, b"key", line) {
+        Some(found) => found,
+        None => return Ok(None),
+    };
+    if !is_new_in(&before, name) {
+        return Ok(None);
+    }
+    let mut after = before;
+    after.key_names.push(Text::from_slice(alloc, name)?)?;
+    after.keys.push(value)?;
+    Ok(Some(after))
+}
+
+// The group behind a line `arg`.
+fn arg_line(
+    fields: &[Field],
+    ops: &[PlanOp],
+    before: Group,
+    line: &[u8],
+) -> Result<Option<Group>, AllocError>
+    requires few { length ops.now ≤ 32768 }
+    ensures { IfOk result (λ made. MatchOption made ((after : Group) → IsArgLine fields.now ops.now before line.now after → ⊥) (λ after. IsArgLine fields.now ops.now before line.now after)) }
+{
+    if before.keys.is_empty()
+        || !before.state_names.is_empty()
+        || before.body.is_some()
+        || before.args.len() >= 16
+    {
+        return Ok(None);
+    }
+    let value = match one_operand(fields, ops, b"arg", line) {
+        Some(found) => found,
+        None => return Ok(None),
+    };
+    let mut after = before;
+    after.args.push(value)?;
+    Ok(Some(after))
+}
+
+// The group behind a line `state`.
+fn state_line(alloc: Global, before: Group, line: &[u8]) -> Result<Option<Group>, AllocError>
+    ensures { IfOk result (λ made. MatchOption made ((after : Group) → IsStateLine before line.now after → ⊥) (λ after. IsStateLine before line.now after)) }
+{
+    if before.keys.is_empty() || before.body.is_some() || before.initial.len() >= 8 {
+        return Ok(None);
+    }
+    let (name, value) = match named_number(b"state", line) {
+        Some(found) => found,
+        None => return Ok(None),
+    };
+    if !is_new_in(&before, name) {
+        return Ok(None);
+    }
+    let mut after = before;
+    after.state_names.push(Text::from_slice(alloc, name)?)?;
+    after.initial.push(value)?;
+    Ok(Some(after))
+}
+
+// The tokens of a line `body`.
+fn body_words(
+    alloc: Global,
+    states: u64,
+    args: u64,
+    line: &[u8],
+) -> Result<Option<Seq<Lexeme>>, AllocError>
+    requires { states + args < 2 ^ 32 }
+    ensures { IfOk result (λ found. MatchOption found ((words : List Lexeme) → IsBodyLine states args line.now words → ⊥) (λ words. IsBodyLine states args line.now words)) }
+{
+    let (word, rest, more) = first_token(line);
+    if !is_text(word, b"body") {
+        return Ok(None);
+    }
+    let words = lexemes(alloc, rest, more)?;
+    if is_body(alloc, states, args, words.as_slice())? {
+        Ok(Some(words))
+    } else {
+        Ok(None)
+    }
+}
+
+// The group behind a line `body`.
+fn body_line(alloc: Global, before: Group, line: &[u8]) -> Result<Option<Group>, AllocError>
+    requires states { length before.initial ≤ 8 }
+    requires args { length before.args ≤ 16 }
+    ensures { IfOk result (λ made. MatchOption made ((after : Group) → IsGroupBody before line.now after → ⊥) (λ after. IsGroupBody before line.now after)) }
+{
+    if before.keys.is_empty() || before.body.is_some() {
+        return Ok(None);
+    }
+    let states = before.initial.len() as u64;
+    let args = before.args.len() as u64;
+    match body_words(alloc, states, args, line)? {
+        Some(words) => {
+            let mut after = before;
+            after.body = Some(words);
+            Ok(Some(after))
+        }
+        None => Ok(None),
+    }
+}
+
+/// The group behind one more of its lines, which begins with this word.
+pub(crate) fn in_group(
+    alloc: Global,
+    word: LineWord,
+    fields: &[Field],
+    ops: &[PlanOp],
+    before: Group,
+    line: &[u8],
+) -> Result<Option<Group>, AllocError>
+    requires few { length ops.now ≤ 32768 }
+    requires states { length before.initial ≤ 8 }
+    requires args { length before.args ≤ 16 }
+    ensures { IfOk result (λ made. MatchOption made ((after : Group) → IsInGroup word fields.now ops.now before line.now after → ⊥) (λ after. IsInGroup word fields.now ops.now before line.now after)) }
+{
+    match word {
+        LineWord::Key => key_line(alloc, fields, ops, before, line),
+        LineWord::Arg => arg_line(fields, ops, before, line),
+        LineWord::State => state_line(alloc, before, line),
+        LineWord::Body => body_line(alloc, before, line),
+        _ => Ok(None),
+    }
+}

@@ -1,0 +1,176 @@
+// Lines, tokens, numbers and operands as they are read.
+
+ghost use Rattle.std.specs.Prelude.{◌≡◌, ◌+◌, ◌<◌, ◌≤◌, if◌then◌else◌, ◌∷◌, [], true, length, MatchOption, IfSome, drop};
+ghost use Rattle.std.specs.Char.{digit_value};
+ghost use Rattle.std.specs.List.{list_all, slice_split};
+ghost use Rattle.std.specs.Str.{bytes_eq};
+ghost use Rattle.std.specs.Str.Parse.{digits_value};
+ghost use Rattle.query_lang.specs.Lexis.{below_limit, is_digit};
+ghost use Rattle.plan_file.specs.Lexis as Lexis;
+ghost use Rattle.plan_file.specs.Lexis.{is_line_feed, is_space, number_behind, tokens, tokens_left};
+
+use query_lang::Op;
+
+/// What stands before the first LF, and what stands after it.
+pub(crate) fn cut_at_line_feed(text: &[u8]) -> Option<(&[u8], &[u8])>
+    ensures place { IfSome result (λ parts. (length parts.0.now < length text.now) × (parts.1.now ≡ drop (length parts.0.now + 1) text.now)) }
+    ensures parts { MatchOption result (slice_split is_line_feed text.now ≡ text.now ∷ []) (λ parts. slice_split is_line_feed text.now ≡ parts.0.now ∷ slice_split is_line_feed parts.1.now) }
+{
+    for (i, byte) in text.iter().enumerate() {
+        if *byte == b'\n' {
+            return Some((&text[..i], &text[i + 1..]));
+        }
+    }
+    None
+}
+
+/// The first token of a line, and what stands behind its space.
+pub(crate) fn cut_at_space(line: &[u8]) -> Option<(&[u8], &[u8])>
+    ensures size { IfSome result (λ parts. length parts.1.now < length line.now) }
+    ensures parts { MatchOption result (slice_split is_space line.now ≡ line.now ∷ []) (λ parts. slice_split is_space line.now ≡ parts.0.now ∷ slice_split is_space parts.1.now) }
+{
+    for (i, byte) in line.iter().enumerate() {
+        if *byte == b' ' {
+            return Some((&line[..i], &line[i + 1..]));
+        }
+    }
+    None
+}
+
+/// The first token of a line, what stands behind it, and whether a space stands between them.
+pub(crate) fn first_token(line: &[u8]) -> (&[u8], &[u8], bool)
+    ensures tokens { tokens line.now ≡ result.0.now ∷ tokens_left result.2 result.1.now }
+    ensures size { length result.1.now + (if result.2 then 1 else 0) ≤ length line.now }
+{
+    match cut_at_space(line) {
+        Some((token, rest)) => (token, rest, true),
+        None => (line, line, false),
+    }
+}
+
+fn is_decimal_digit(byte: u8) -> bool
+    ensures { result ≡ is_digit byte }
+{
+    byte.is_ascii_digit()
+}
+
+fn all_digits(text: &[u8]) -> bool
+    ensures { result ≡ list_all is_digit text.now }
+{
+    for byte in text {
+        if !is_decimal_digit(*byte) {
+            return false;
+        }
+    }
+    true
+}
+
+fn digit_of(byte: u8) -> u64
+    requires { is_digit byte ≡ true }
+    ensures value { result ≡ digit_value byte }
+    ensures small { result < 10 }
+{
+    u64::from(byte - b'0')
+}
+
+// The number that digits write, where it fits.
+fn value_of(digits: &[u8]) -> Option<u64>
+    requires { list_all is_digit digits.now ≡ true }
+    ensures { result ≡ below_limit (digits_value 10 digits.now) }
+{
+    let mut n: u64 = 0;
+    for d in digits {
+        let digit = digit_of(*d);
+        if n > (u64::MAX - digit) / 10 {
+            return None;
+        }
+        n = n * 10 + digit;
+    }
+    Some(n)
+}
+
+/// A decimal number below 2^64 without leading zeros.
+pub(crate) fn number(text: &[u8]) -> Option<u64>
+    ensures { result ≡ Lexis.number text.now }
+{
+    match text {
+        [] => None,
+        [first, rest @ ..] => {
+            if all_digits(text) && (rest.is_empty() || *first != b'0') {
+                value_of(text)
+            } else {
+                None
+            }
+        }
+    }
+}
+
+// The number behind a first byte.
+pub(crate) fn behind(byte: u8, token: &[u8]) -> Option<u64>
+    ensures { result ≡ number_behind byte token.now }
+{
+    match token {
+        [] => None,
+        [first, rest @ ..] => { if *first == byte { number(rest) } else { None } }
+    }
+}
+
+pub(crate) fn is_text(a: &[u8], b: &[u8]) -> bool
+    ensures { result ≡ bytes_eq a.now b.now }
+{
+    a == b
+}
+
+/// The function of two operands with this name.
+#[tactic(auto, unfolding(crate::specs::Lexis::function_named))]
+pub(crate) fn function_named(token: &[u8]) -> Option<Op>
+    ensures { result ≡ Lexis.function_named token.now }
+{
+    if is_text(token, b"mul") {
+        Some(Op::Mul)
+    } else if is_text(token, b"div") {
+        Some(Op::Div)
+    } else if is_text(token, b"rem") {
+        Some(Op::Rem)
+    } else if is_text(token, b"add") {
+        Some(Op::Add)
+    } else if is_text(token, b"sub") {
+        Some(Op::Sub)
+    } else if is_text(token, b"shl") {
+        Some(Op::Shl)
+    } else if is_text(token, b"shr") {
+        Some(Op::Shr)
+    } else if is_text(token, b"and") {
+        Some(Op::And)
+    } else if is_text(token, b"xor") {
+        Some(Op::Xor)
+    } else if is_text(token, b"or") {
+        Some(Op::Or)
+    } else if is_text(token, b"eq") {
+        Some(Op::Eq)
+    } else if is_text(token, b"ne") {
+        Some(Op::Ne)
+    } else if is_text(token, b"lt") {
+        Some(Op::Lt)
+    } else if is_text(token, b"le") {
+        Some(Op::Le)
+    } else if is_text(token, b"gt") {
+        Some(Op::Gt)
+    } else if is_text(token, b"ge") {
+        Some(Op::Ge)
+    } else if is_text(token, b"both") {
+        Some(Op::Both)
+    } else if is_text(token, b"either") {
+        Some(Op::Either)
+    } else if is_text(token, b"max") {
+        Some(Op::Max)
+    } else if is_text(token, b"min") {
+        Some(Op::Min)
+    } else if is_text(token, b"sadd") {
+        Some(Op::Sadd)
+    } else if is_text(token, b"decay") {
+        Some(Op::Decay)
+    } else {
+        None
+    }
+}

@@ -1,0 +1,21 @@
+//! The text of a plan: what its lines say, which lines are valid after those before them, and where a text is refused.
+#![tactic(auto)]
+
+mod answer;
+mod check;
+mod fold_line;
+mod group_lines;
+mod lexemes;
+mod lexis;
+mod line_word;
+mod lines;
+mod made;
+mod named;
+mod operations;
+mod reads;
+mod texts;
+mod tree;
+mod wants;
+
+pub use answer::PlanFileAnswer;
+pub use check::check_plan;

@@ -1,0 +1,192 @@
+// Lines of a word, a name and an operand or a number, as they are read.
+
+ghost use Rattle.std.specs.Prelude.{◌≡◌, ◌≤◌, ◌∷◌, [], List, ℕ, true, false, codes, length, is_some, MatchOption};
+ghost use Rattle.std.specs.List.{list_all};
+ghost use Rattle.query_lang.specs.Lexis.{is_word_byte, reserved};
+ghost use Rattle.plan_file.specs.Lexis as Lexis;
+ghost use Rattle.plan_file.specs.Lexis.{tokens};
+ghost use Rattle.plan_file.specs.Named.{IsNamedNumber, IsNamedOperand, IsOneNumber, IsOneOperand};
+
+use crate::lexis::{cut_at_space, is_text, number};
+use crate::operations::operand;
+use marple_base::Field;
+use stage_plan::{Operand, PlanOp};
+
+#[tactic(auto, unfolding(query_lang::specs::Lexis::reserved))]
+fn is_reserved(token: &[u8]) -> bool
+    ensures { result ≡ is_some (reserved token.now) }
+{
+    if is_text(token, b"def") {
+        true
+    } else if is_text(token, b"if") {
+        true
+    } else if is_text(token, b"else") {
+        true
+    } else if is_text(token, b"emit") {
+        true
+    } else if is_text(token, b"filter") {
+        true
+    } else if is_text(token, b"map") {
+        true
+    } else if is_text(token, b"zip") {
+        true
+    } else if is_text(token, b"groupby") {
+        true
+    } else if is_text(token, b"final") {
+        true
+    } else if is_text(token, b"print") {
+        true
+    } else if is_text(token, b"join") {
+        true
+    } else if is_text(token, b"top") {
+        true
+    } else if is_text(token, b"max") {
+        true
+    } else if is_text(token, b"min") {
+        true
+    } else if is_text(token, b"sadd") {
+        true
+    } else if is_text(token, b"decay") {
+        true
+    } else if is_text(token, b"infinity") {
+        true
+    } else if is_text(token, b"mark") {
+        true
+    } else if is_text(token, b"epoch") {
+        true
+    } else if is_text(token, b"epochs") {
+        true
+    } else {
+        false
+    }
+}
+
+fn is_word(byte: u8) -> bool
+    ensures { result ≡ is_word_byte byte }
+{
+    matches!(byte, b'0'..=b'9')
+        || matches!(byte, b'A'..=b'Z')
+        || matches!(byte, b'a'..=b'z')
+        || byte == b'_'
+}
+
+fn all_words(text: &[u8]) -> bool
+    ensures { result ≡ list_all is_word_byte text.now }
+{
+    for byte in text {
+        if !is_word(*byte) {
+            return false;
+        }
+    }
+    true
+}
+
+/// A name: letters, digits and underscores, with no digit first, and no reserved word.
+pub(crate) fn is_name(token: &[u8]) -> bool
+    ensures { result ≡ Lexis.is_name token.now }
+{
+    match token {
+        [] => false,
+        [first, ..] => all_words(token) && !matches!(*first, b'0'..=b'9') && !is_reserved(token),
+    }
+}
+
+// What stands behind a first word.
+pub(crate) fn after_word<'a>(word: &[u8], line: &'a [u8]) -> Option<&'a [u8]>
+    ensures { MatchOption result ((t : List ℕ) → (ts : List (List ℕ)) → tokens line.now ≡ word.now ∷ t ∷ ts → ⊥) (λ rest. tokens line.now ≡ word.now ∷ tokens rest.now) }
+{
+    let (first, rest) = cut_at_space(line)?;
+    if is_text(first, word) {
+        Some(rest)
+    } else {
+        None
+    }
+}
+
+// The two tokens of a line that has two.
+pub(crate) fn two_tokens(line: &[u8]) -> Option<(&[u8], &[u8])>
+    ensures { MatchOption result ((a b : List ℕ) → tokens line.now ≡ a ∷ b ∷ [] → ⊥) (λ r. tokens line.now ≡ r.0.now ∷ r.1.now ∷ []) }
+{
+    let (first, second) = cut_at_space(line)?;
+    match cut_at_space(second) {
+        Some(_) => None,
+        None => Some((first, second)),
+    }
+}
+
+// The token of a line that has one.
+fn one_token(line: &[u8]) -> Option<&[u8]>
+    ensures { MatchOption result ((a : List ℕ) → tokens line.now ≡ a ∷ [] → ⊥) (λ r. tokens line.now ≡ r.now ∷ []) }
+{
+    match cut_at_space(line) {
+        Some(_) => None,
+        None => Some(line),
+    }
+}
+
+/// The number of a line of this word and a number.
+pub(crate) fn one_number(word: &[u8], line: &[u8]) -> Option<u64>
+    ensures { MatchOption result ((n : ℕ) → IsOneNumber word.now line.now n → ⊥) (λ n. IsOneNumber word.now line.now n) }
+{
+    let rest = after_word(word, line)?;
+    let token = one_token(rest)?;
+    number(token)
+}
+
+/// The operand of a line of this word and an operand.
+pub(crate) fn one_operand(
+    fields: &[Field],
+    ops: &[PlanOp],
+    word: &[u8],
+    line: &[u8],
+) -> Option<Operand>
+    requires few { length ops.now ≤ 32768 }
+    ensures { MatchOption result ((v : Operand) → IsOneOperand fields.now ops.now word.now line.now v → ⊥) (λ v. IsOneOperand fields.now ops.now word.now line.now v) }
+{
+    let rest = after_word(word, line)?;
+    let token = one_token(rest)?;
+    operand(fields, ops, token)
+}
+
+/// The name and the operand of a line of this word, a name and an operand.
+pub(crate) fn named_operand<'a>(
+    fields: &[Field],
+    ops: &[PlanOp],
+    word: &[u8],
+    line: &'a [u8],
+) -> Option<(&'a [u8], Operand)>
+    requires few { length ops.now ≤ 32768 }
+    ensures { MatchOption result ((name : List ℕ) → (v : Operand) → IsNamedOperand fields.now ops.now word.now line.now name v → ⊥) (λ r. IsNamedOperand fields.now ops.now word.now line.now r.0.now r.1) }
+{
+    let rest = after_word(word, line)?;
+    let (name, token) = two_tokens(rest)?;
+    if !is_name(name) {
+        return None;
+    }
+    let value = operand(fields, ops, token)?;
+    Some((name, value))
+}
+
+/// The name and the number of a line of this word, a name and a number.
+pub(crate) fn named_number<'a>(word: &[u8], line: &'a [u8]) -> Option<(&'a [u8], u64)>
+    ensures { MatchOption result ((name : List ℕ) → (n : ℕ) → IsNamedNumber word.now line.now name n → ⊥) (λ r. IsNamedNumber word.now line.now r.0.now r.1) }
+{
+    let rest = after_word(word, line)?;
+    let (name, token) = two_tokens(rest)?;
+    if !is_name(name) {
+        return None;
+    }
+    let value = number(token)?;
+    Some((name, value))
+}
+
+/// Whether a line is the first line of a plan.
+pub(crate) fn is_first_line(line: &[u8]) -> bool
+    ensures yes { result ≡ true → tokens line.now ≡ codes "marple-plan" ∷ codes "1" ∷ [] }
+    ensures no { result ≡ false → tokens line.now ≡ codes "marple-plan" ∷ codes "1" ∷ [] → ⊥ }
+{
+    match two_tokens(line) {
+        Some((word, version)) => is_text(word, b"marple-plan") && is_text(version, b"1"),
+        None => false,
+    }
+}

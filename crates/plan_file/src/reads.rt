@@ -1,0 +1,57 @@
+// The line `reads` as it is read.
+
+ghost use Rattle.std.specs.Prelude.{◌≡◌, ◌<◌, ◌∷◌, List, IfOk, MatchOption};
+ghost use Rattle.marple_base.specs.Field.{number_of};
+ghost use Rattle.marple_base.specs.declared.field.Field.{Field};
+ghost use Rattle.plan_file.specs.Lexis.{tokens};
+ghost use Rattle.plan_file.specs.Operations.{IsReadsLine};
+
+use crate::lexis::{first_token, is_text};
+use marple_base::{Field, Seq};
+use std::alloc::{AllocError, Global};
+
+// The field with this number.
+fn field_at(n: usize) -> Field
+    requires { n < 14 }
+    ensures { number_of result ≡ n }
+{
+    match n {
+        0 => Field::Switch,
+        1 => Field::Qid,
+        2 => Field::Uid,
+        3 => Field::SrcIp,
+        4 => Field::DstIp,
+        5 => Field::SrcPort,
+        6 => Field::DstPort,
+        7 => Field::Proto,
+        8 => Field::PktLen,
+        9 => Field::PayloadLen,
+        10 => Field::TcpSeq,
+        11 => Field::Tin,
+        12 => Field::Tout,
+        _ => Field::QSize,
+    }
+}
+
+/// The fields of a line `reads`, where the line is valid.
+pub(crate) fn reads_line(alloc: Global, line: &[u8]) -> Result<Option<Seq<Field>>, AllocError>
+    ensures { IfOk result (λ read. MatchOption read ((fields : List Field) → IsReadsLine line.now fields → ⊥) (λ fields. IsReadsLine line.now fields)) }
+{
+    let (word, mut rest, mut left) = first_token(line);
+    if !is_text(word, b"reads") {
+        return Ok(None);
+    }
+    let mut found = Seq::new(alloc);
+    for i in 0..14 {
+        if left {
+            let (token, behind, more) = first_token(rest);
+            let field = field_at(i);
+            if is_text(token, field.name()) {
+                found.push(field)?;
+                rest = behind;
+                left = more;
+            }
+        }
+    }
+    if left { Ok(None) } else { Ok(Some(found)) }
+}

@@ -1,0 +1,64 @@
+// The lines of a text, one after another.
+
+ghost use Rattle.std.specs.Prelude.{◌≡◌, ◌≤◌, ◌<◌, ◌+◌, ℕ, length, slice_get, IfSome, MatchOption, MatchResult, Some};
+ghost use Rattle.plan_file.specs.Lexis.{lines};
+ghost use Rattle.plan_file.specs.Texts.{IsBehindLines, IsLineStart, Says, IsRefused};
+
+use crate::answer::PlanFileAnswer;
+use crate::lexis::cut_at_line_feed;
+use crate::lines::{nothing, one_more};
+use crate::made::Made;
+use query_lang::{FaultKind, QueryFault, Span};
+use std::alloc::Global;
+
+/// The most bytes that a text may have.
+const MOST_BYTES: usize = 2_097_152;
+
+/// The line that begins at a byte, and where the next one begins.
+fn next_line(text: &[u8], at: usize) -> Option<(&[u8], usize)>
+    requires within { at ≤ length text.now }
+    ensures line { (i : ℕ) → IsLineStart text.now i at → MatchOption result (IsBehindLines text.now i at) (λ r. (slice_get (lines text.now) i ≡ Some r.0.now) × IsLineStart text.now (i + 1) r.1) }
+    ensures later { IfSome result (λ r. (at < r.1) × (r.1 ≤ length text.now)) }
+{
+    let rest = &text[at..];
+    match cut_at_line_feed(rest) {
+        None => None,
+        Some((line, _)) => Some((line, at + line.len() + 1)),
+    }
+}
+
+// A refusal at a byte.
+fn refused(at: usize) -> PlanFileAnswer
+    requires { at ≤ 2097152 }
+    ensures { result ≡ PlanFileAnswer.Refused (record { kind = FaultKind.BadPlan; span = record { start = at; end = at } }) }
+{
+    let at = at as u32;
+    PlanFileAnswer::Refused(QueryFault {
+        kind: FaultKind::BadPlan,
+        span: Span { start: at, end: at },
+    })
+}
+
+/// What the lines of a valid text make; a refusal stands at the first line that isn't valid after the lines before it.
+pub(crate) fn read_text(alloc: Global, text: &[u8]) -> Result<Made, PlanFileAnswer>
+    ensures { MatchResult result (λ made. Says text.now made) (λ answer. IsRefused text.now answer) }
+{
+    if text.len() > MOST_BYTES {
+        return Err(refused(MOST_BYTES));
+    }
+    let mut made = nothing(alloc);
+    let mut at = 0;
+    'lines: while let Some((line, next)) = next_line(text, at) {
+        match one_more(alloc, made, line)? {
+            Some(after) => {
+                made = after;
+                at = next;
+            }
+            None => return Err(refused(at)),
+        }
+    }
+    if at < text.len() || made.prints.is_empty() {
+        return Err(refused(text.len()));
+    }
+    Ok(made)
+}
