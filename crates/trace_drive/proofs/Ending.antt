@@ -89,13 +89,13 @@ last_as g plan here words buckets count p b n i =
     ∙ (ap (λ x. empty_buckets g.buckets (after_packets g (uses_by x i words) count)) p
     ∙ ap (λ x. empty_buckets g.buckets (after_packets g (uses_by plan i words) x)) n)
 
-each_long : {X Y : Type 0} (R : ℕ → X → Y → Type 0) (k : ℕ) (xs : List X) (ys : List Y) → EachFrom R k xs ys → length xs ≡ length ys
+pub each_long : {X Y : Type 0} (R : ℕ → X → Y → Type 0) (k : ℕ) (xs : List X) (ys : List Y) → EachFrom R k xs ys → length xs ≡ length ys
 each_long R k [] [] e = refl
 each_long R k [] (y ∷ ys) e = absurd e
 each_long R k (x ∷ xs) [] e = absurd e
 each_long R k (x ∷ xs) (y ∷ ys) e = ap (λ n. suc n) (each_long R (suc k) xs ys e.1)
 
-lanes_long : (plan : PlanParts) (buckets : ℕ) (lanes : List LaneView) → AreLanesOf plan buckets lanes → length lanes ≡ length plan.groups
+pub lanes_long : (plan : PlanParts) (buckets : ℕ) (lanes : List LaneView) → AreLanesOf plan buckets lanes → length lanes ≡ length plan.groups
 lanes_long plan buckets lanes are =
     each_long (λ n (lane : LaneView) (group : GroupPlan). IsLaneOf buckets lane.cache (ghosts.sizes lane.kind) (ghosts.folding lane.kind) (ghosts.open_bound lane.kind) (ghosts.absorb_bound lane.kind) group (wiring_at plan n)) 0 lanes plan.groups are
 

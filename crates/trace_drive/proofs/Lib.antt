@@ -3,3 +3,4 @@ pub mod Following
 pub mod Waiting
 pub mod Taking
 pub mod Ending
+pub mod Replaying

@@ -1,3 +1,4 @@
 pub mod Drives
 pub mod Clocks
 pub mod Follows
+pub mod Replays

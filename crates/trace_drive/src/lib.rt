@@ -3,12 +3,12 @@
 #![tactic(auto)]
 
 mod clock;
-mod driving;
 mod merging;
 mod packets;
+mod replay;
 mod schedule;
 mod turn;
 
-pub use driving::drive;
 pub use packets::Packets;
+pub use replay::{Replay, drive};
 pub use schedule::Schedule;

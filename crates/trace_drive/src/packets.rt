@@ -1,6 +1,6 @@
 //! Where packets come from.
 
-ghost use Rattle.std.specs.Prelude.{◌≡◌, [], ◌∷◌, IfErr, None, Some, drop, true, false};
+ghost use Rattle.std.specs.Prelude.{◌≡◌, [], ◌∷◌, IfErr, None, OnOk, Some, drop, true, false};
 ghost use Rattle.trace_drive.specs.Drives.{coming, fault_of};
 ghost use Rattle.trace_reader.specs.Faults.{IfRefused};
 
@@ -18,8 +18,8 @@ impl<'a> Packets<'a> {
     /// The next packet into `packet`, and whether there was one.
     pub fn next_into(&mut self, packet: &mut Packet) -> Result<bool, TraceAnswer>
         ensures packet { result ≡ Ok true → coming self.old ≡ packet.new ∷ coming self.new }
-        ensures fault { result ≡ Ok true → fault_of self.new ≡ fault_of self.old }
-        ensures end { result ≡ Ok false → (coming self.old ≡ []) × (fault_of self.old ≡ None) }
+        ensures fault { OnOk result (fault_of self.new ≡ fault_of self.old) }
+        ensures end { result ≡ Ok false → (coming self.old ≡ []) × (coming self.new ≡ []) × (fault_of self.old ≡ None) }
         ensures refused { IfErr result (λ answer. IfRefused answer (λ fault. fault_of self.old ≡ Some fault)) }
     {
         match self {
@@ -32,7 +32,7 @@ impl<'a> Packets<'a> {
 // The packet at the next place.
 fn made_into(made: &Seq<Packet>, at: &mut usize, packet: &mut Packet) -> bool
     ensures packet { result ≡ true → drop at.old made.now ≡ packet.new ∷ drop at.new made.now }
-    ensures end { result ≡ false → drop at.old made.now ≡ [] }
+    ensures end { result ≡ false → (drop at.old made.now ≡ []) × (drop at.new made.now ≡ []) }
 {
     if *at >= made.len() {
         return false;

@@ -1,6 +1,6 @@
 use Rattle.std.proofs.Common.{ℕ, lit<}
 use Rattle.epoch_model.specs.Machine.{empty_buckets}
-use Rattle.trace_drive.proofs.driving.finish.Goals as goal
+use Rattle.trace_drive.proofs.replay.drain.Goals as goal
 
 pub empty_pipes-requires : goal.empty_pipes-requires
 empty_pipes-requires g c =

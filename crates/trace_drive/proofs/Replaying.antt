@@ -1,0 +1,92 @@
+-- A trace on its way, packet by packet and at its end.
+use Rattle.std.proofs.Common.{◌≡◌, ℕ, suc, ◌+◌, ◌<◌, ◌≤◌, List, [], ◌∷◌, length, drop, refl, sym, ap, ◌∙◌, subst, arith, add-zero, length-drop}
+use Rattle.epoch_model.specs.Driving.{EventsKeepAlike, PacketsFollowTheTrace, TakenUsesAreInTrace, after_packet, event_of}
+use Rattle.epoch_model.specs.Machine.{after_packets, empty_machine}
+use Rattle.marple_base.specs.declared.field.Packet.{Packet}
+use Rattle.stage_plan.specs.Planned.{taken}
+use Rattle.switch_core.specs.Pipelines.{empty_machines, geometry_of}
+use Rattle.switch_core.specs.PlanLanes.{PipelineView, PipelineStands}
+use Rattle.trace_drive.specs.Clocks.{HasCounted}
+use Rattle.trace_drive.specs.Drives.{coming, geometry_for, uses_by, words_of}
+use Rattle.trace_drive.specs.Follows.{FollowsBy, Keeps}
+use Rattle.trace_drive.specs.Replays.{Advances, IsUnderWay}
+use Rattle.trace_drive.specs.declared.packets.Packets.{Packets}
+use Rattle.trace_drive.specs.declared.replay.Replay.{Replay}
+use Rattle.trace_drive.specs.declared.schedule.Schedule.{Schedule}
+use Rattle.trace_drive.proofs.Following.{follows_as, start_follows}
+use Rattle.trace_drive.proofs.Taking.{after_turn, all_taken, more_left, next_left}
+
+pub keeps_itself : (p : PipelineView) → Keeps p p
+keeps_itself p = record { plan = refl; buckets = refl; lanes = refl; places = refl }
+
+-- the machines of a pipeline in which nothing happened yet
+pub start_way : EventsKeepAlike → PacketsFollowTheTrace → (ways : ℕ) (schedule : Schedule) (all : List Packet) (p : PipelineView) → PipelineStands p (empty_machines (geometry_of ways p.buckets) p.plan.groups) → p.buckets ≡ schedule.buckets
+    → FollowsBy (λ i. after_packets (geometry_for ways schedule) (uses_by p.plan i (words_of all)) 0) p
+start_way alike follow ways schedule all p stands buckets =
+    let g = geometry_for ways schedule in
+    follows_as (λ (i : ℕ). empty_machine (geometry_of ways p.buckets)) (λ (i : ℕ). after_packets g (uses_by p.plan i (words_of all)) 0) p
+    (λ i. ap (λ n. empty_machine (geometry_of ways n)) buckets ∙ sym (follow.start g (uses_by p.plan i (words_of all))))
+    (start_follows alike (geometry_of ways p.buckets) p p.plan.groups stands)
+
+-- one packet more, with its turn
+pub one_more : PacketsFollowTheTrace → TakenUsesAreInTrace → {ways : ℕ} (schedule : Schedule) (all : List Packet) (count : ℕ) (p : Packet) (old new : Replay ways) → IsUnderWay schedule all count old
+    → coming old.packets ≡ p ∷ coming new.packets → Keeps old.pipeline new.pipeline
+    → FollowsBy (λ i. after_packet (record { buckets = old.pipeline.buckets; ways = ways; refresh = old.refreshes.every }) (suc count) (event_of (taken old.pipeline.plan i p.words)) (after_packets (geometry_for ways schedule) (uses_by old.pipeline.plan i (words_of all)) count)) new.pipeline
+    → HasCounted (suc count) new.refreshes → HasCounted (suc count) new.lags → new.refreshes.every ≡ old.refreshes.every → new.lags.every ≡ old.lags.every
+    → IsUnderWay schedule all (count + 1) new
+one_more follow law {ways} schedule all count p old new way given keeps follows refreshes lags refresh lag =
+    let g = geometry_for ways schedule in
+    let plan = old.pipeline.plan in
+    let left : drop count all ≡ p ∷ coming new.packets = sym way.rest ∙ given in
+    let inside = more_left all count p (coming new.packets) left in
+    let turned = follows_as
+    (λ (i : ℕ). after_packet (record { buckets = old.pipeline.buckets; ways = ways; refresh = old.refreshes.every }) (suc count) (event_of (taken plan i p.words)) (after_packets g (uses_by plan i (words_of all)) count))
+    (λ (i : ℕ). after_packets g (uses_by plan i (words_of all)) (suc count)) new.pipeline
+    (after_turn follow law g plan plan old.pipeline.buckets old.refreshes.every all count p (coming new.packets) left refl way.buckets way.refresh) follows in
+    let behind : IsUnderWay schedule all (suc count) new = record {
+      within = omega arith;
+      rest = (next_left all count p (coming new.packets) left).1;
+      buckets = keeps.buckets ∙ way.buckets;
+      follows = subst (λ x. FollowsBy (λ i. after_packets g (uses_by x i (words_of all)) (suc count)) new.pipeline) (sym keeps.plan) turned;
+      refreshes = refreshes;
+      lags = lags;
+      refresh = refresh ∙ way.refresh;
+      lag = lag ∙ way.lag;
+    } in
+    let next : suc count ≡ count + 1 = omega arith in
+    subst (λ n. IsUnderWay schedule all n new) next behind
+
+-- no packet was left
+pub none_more : {ways : ℕ} (schedule : Schedule) (all : List Packet) (count : ℕ) (old : Replay ways) (packets : Packets) → IsUnderWay schedule all count old → coming old.packets ≡ [] → coming packets ≡ []
+    → (length all < count + 1) × IsUnderWay schedule all (length all) (record old { packets = packets })
+none_more {ways} schedule all count old packets way gone left =
+    let nothing : drop count all ≡ [] = sym way.rest ∙ gone in
+    let whole = all_taken all count nothing way.within in
+    let here : IsUnderWay schedule all count (record old { packets = packets }) = record {
+      within = way.within;
+      rest = left ∙ sym nothing;
+      buckets = way.buckets;
+      follows = way.follows;
+      refreshes = way.refreshes;
+      lags = way.lags;
+      refresh = way.refresh;
+      lag = way.lag;
+    } in
+    (omega arith, subst (λ n. IsUnderWay schedule all n (record old { packets = packets })) whole here)
+
+pub none_taken : {ways : ℕ} (replay : Replay ways) → Advances 0 replay replay
+none_taken replay schedule all count way = let same : count ≡ count + 0 = omega arith in subst (λ n. IsUnderWay schedule all n replay) same way
+
+-- one packet more behind those so far
+pub taken_next : {ways : ℕ} (number : ℕ) (start old new : Replay ways) → Advances number start old → Advances 1 old new → Advances (number + 1) start new
+taken_next number start old new before next schedule all count way =
+    let same : (count + number) + 1 ≡ count + (number + 1) = omega arith in
+    subst (λ n. IsUnderWay schedule all n new) same (next schedule all (count + number) (before schedule all count way))
+
+-- fewer packets are left behind each one
+pub less_left : {ways : ℕ} (schedule : Schedule) (all : List Packet) (count : ℕ) (old new : Replay ways) → IsUnderWay schedule all count old → IsUnderWay schedule all (count + 1) new → length (coming new.packets) < length (coming old.packets)
+less_left schedule all count old new before after =
+    let a = ap length before.rest in
+    let b = ap length after.rest in
+    let within = after.within in
+    omega (arith, length-drop {A = Packet} count all, length-drop {A = Packet} (count + 1) all)

@@ -1,0 +1,200 @@
+//! A trace on its way through a pipeline.
+
+ghost use Rattle.std.specs.Prelude.{◌≡◌, ◌≤◌, ℕ, None, Some, IfErr, IfOk, OnOk, true};
+ghost use Rattle.std.specs.List.{list_all};
+ghost use Rattle.epoch_model.specs.Machine.{Machine, empty_buckets};
+ghost use Rattle.switch_core.specs.Pipelines.{empty_machines, geometry_of};
+ghost use Rattle.switch_core.specs.PlanLanes.{HavePlaces, PipelineStands, lane_is_drained};
+ghost use Rattle.trace_drive.specs.Drives.{coming, end_machines, fault_of, geometry_for, words_of};
+ghost use Rattle.trace_drive.specs.Follows.{FollowsBy, Keeps, waiting};
+ghost use Rattle.trace_drive.specs.Replays.{Advances, IsOnItsWay, IsUnderWay, ReachesTheEnd, TakesAll, TakesTheRest, fault_in, pipeline_in};
+ghost use Rattle.trace_reader.specs.Faults.{IfRefused};
+
+use crate::clock::Clock;
+use crate::merging::empty_pipes;
+use crate::packets::Packets;
+use crate::schedule::Schedule;
+use crate::turn::{sweep, turn};
+use epoch_model::{
+    events_keep_alike, packets_follow_the_trace, sweeps_reach_the_end, taken_uses_are_in_trace,
+};
+use marple_base::{Packet, Steps};
+use std::alloc::AllocError;
+use std::sync::ledger::Ledger;
+use switch_core::Pipeline;
+use trace_reader::TraceAnswer;
+
+/// A trace that is taken packet by packet: its pipeline, the packets still to come, and when the next refresh and the next
+/// merges are due. Between two calls the pipeline may be looked at.
+#[derive(Drop)]
+pub struct Replay<'a, const WAYS: usize> {
+    pipeline: Pipeline<WAYS>,
+    packets: Packets<'a>,
+    refreshes: Clock,
+    lags: Clock,
+}
+
+// A sweep, and the merges of all that waits.
+fn drain<const WAYS: usize, L: Ledger>(
+    pipeline: &mut Pipeline<WAYS>,
+    steps: &mut Steps<L>,
+) -> Result<(), AllocError>
+    requires { (after : ℕ → Machine) × FollowsBy after pipeline.old }
+    ensures follows { OnOk result ((after : ℕ → Machine) → FollowsBy after pipeline.old → FollowsBy (λ i. empty_buckets pipeline.old.buckets (after i)) pipeline.new) }
+    ensures empty { OnOk result ((lane : ℕ) → waiting pipeline.new.lanes lane ≡ 0) }
+    ensures keeps { OnOk result (Keeps pipeline.old pipeline.new) }
+    ensures steps { steps.old ≤ steps.new }
+{
+    sweep(pipeline, steps)?;
+    empty_pipes(pipeline, steps)
+}
+
+impl<'a, const WAYS: usize> Replay<'a, WAYS> {
+    /// A trace at its first packet, on a pipeline in which no epoch was opened yet.
+    pub fn new(
+        pipeline: Pipeline<WAYS>,
+        schedule: Schedule,
+        packets: Packets<'a>,
+    ) -> Replay<'a, WAYS>
+        requires fresh { PipelineStands pipeline (empty_machines (geometry_of WAYS pipeline.buckets) pipeline.plan.groups) }
+        requires buckets { pipeline.buckets ≡ schedule.buckets }
+        ensures under_way { IsUnderWay schedule (coming packets.entry) 0 result }
+        ensures fault { fault_in result ≡ fault_of packets.entry }
+        ensures pipeline { pipeline_in result ≡ pipeline }
+    {
+        events_keep_alike();
+        packets_follow_the_trace();
+        Replay {
+            pipeline,
+            packets,
+            refreshes: Clock::new(schedule.refresh),
+            lags: Clock::new(schedule.lag),
+        }
+    }
+
+    /// The pipeline, as it is behind the packets that were taken.
+    pub fn pipeline(&self) -> &Pipeline<WAYS>
+        ensures { result.now ≡ pipeline_in self.now }
+    {
+        &self.pipeline
+    }
+
+    // The next packet, with the merges and the sweep that are due; and whether there was one.
+    fn step<L: Ledger>(
+        &mut self,
+        packet: &mut Packet,
+        steps: &mut Steps<L>,
+    ) -> Result<bool, TraceAnswer>
+        requires { IsOnItsWay self.old }
+        ensures next { result ≡ Ok true → Advances 1 self.old self.new }
+        ensures end { result ≡ Ok false → TakesTheRest 1 self.old self.new }
+        ensures accepted { result ≡ Ok false → fault_in self.old ≡ None }
+        ensures fault { OnOk result (fault_in self.new ≡ fault_in self.old) }
+        ensures keeps { OnOk result (Keeps (pipeline_in self.old) (pipeline_in self.new)) }
+        ensures refused { IfErr result (λ answer. IfRefused answer (λ fault. fault_in self.old ≡ Some fault)) }
+        ensures steps { steps.old ≤ steps.new }
+    {
+        packets_follow_the_trace();
+        taken_uses_are_in_trace();
+        if !self.packets.next_into(packet)? {
+            return Ok(false);
+        }
+        match turn(
+            &mut self.pipeline,
+            &mut self.refreshes,
+            &mut self.lags,
+            packet,
+            steps,
+        ) {
+            Ok(()) => Ok(true),
+            Err(AllocError) => Err(TraceAnswer::Memory),
+        }
+    }
+
+    /// Takes so many packets, or fewer where the trace ends before; and whether there were so many. The packets are numbered
+    /// from 1; for each one, in this order: each lane whose pipe is full merges a record; the packet; a sweep, where the
+    /// number is a multiple of the refresh; a merge of each lane, where it is a multiple of the lag. No memory is taken for a
+    /// packet, but by a store for a new key.
+    pub fn advance<L: Ledger>(
+        &mut self,
+        most: u32,
+        steps: &mut Steps<L>,
+    ) -> Result<bool, TraceAnswer>
+        requires { IsOnItsWay self.old }
+        ensures all { result ≡ Ok true → Advances most self.old self.new }
+        ensures end { result ≡ Ok false → TakesTheRest most self.old self.new }
+        ensures accepted { result ≡ Ok false → fault_in self.old ≡ None }
+        ensures fault { OnOk result (fault_in self.new ≡ fault_in self.old) }
+        ensures keeps { OnOk result (Keeps (pipeline_in self.old) (pipeline_in self.new)) }
+        ensures refused { IfErr result (λ answer. IfRefused answer (λ fault. fault_in self.old ≡ Some fault)) }
+        ensures steps { steps.old ≤ steps.new }
+    {
+        let mut packet = Packet { words: [0; 14] };
+        'packets: for _taken in 0..most {
+            if !self.step(&mut packet, steps)? {
+                return Ok(false);
+            }
+        }
+        Ok(true)
+    }
+
+    // Takes all packets that are left.
+    fn take_rest<L: Ledger>(&mut self, steps: &mut Steps<L>) -> Result<(), TraceAnswer>
+        requires { IsOnItsWay self.old }
+        ensures rest { OnOk result (TakesAll self.old self.new) }
+        ensures accepted { OnOk result (fault_in self.old ≡ None) }
+        ensures keeps { OnOk result (Keeps (pipeline_in self.old) (pipeline_in self.new)) }
+        ensures refused { IfErr result (λ answer. IfRefused answer (λ fault. fault_in self.old ≡ Some fault)) }
+        ensures steps { steps.old ≤ steps.new }
+    {
+        let mut packet = Packet { words: [0; 14] };
+        'packets: while self.step(&mut packet, steps)? {}
+        Ok(())
+    }
+
+    /// Takes the packets that are left, and behind the last one makes a sweep, and merges until each pipe is empty: the
+    /// pipeline at the trace's end.
+    pub fn finish<L: Ledger>(mut self, steps: &mut Steps<L>) -> Result<Pipeline<WAYS>, TraceAnswer>
+        requires { IsOnItsWay self }
+        ensures accepted { IfOk result (λ pipeline. fault_in self.entry ≡ None) }
+        ensures machines { IfOk result (ReachesTheEnd self.entry) }
+        ensures drained { IfOk result (λ pipeline. list_all lane_is_drained pipeline.lanes ≡ true) }
+        ensures keeps { IfOk result (Keeps (pipeline_in self.entry)) }
+        ensures pipe_places { IfOk result (λ pipeline. (places : ℕ) → HavePlaces places (pipeline_in self.entry).lanes → HavePlaces places pipeline.lanes) }
+        ensures refused { IfErr result (λ answer. IfRefused answer (λ fault. fault_in self.entry ≡ Some fault)) }
+        ensures steps { steps.old ≤ steps.new }
+    {
+        events_keep_alike();
+        sweeps_reach_the_end();
+        self.take_rest(steps)?;
+        let Replay { mut pipeline, .. } = self;
+        match drain(&mut pipeline, steps) {
+            Ok(()) => {
+                pipeline.known();
+                Ok(pipeline)
+            }
+            Err(AllocError) => Err(TraceAnswer::Memory),
+        }
+    }
+}
+
+/// The pipeline of a plan after a whole trace: the packets one after another, as `Replay::advance` takes them, and then
+/// the end. The pipeline that is passed has opened no epoch yet.
+pub fn drive<const WAYS: usize, L: Ledger>(
+    pipeline: Pipeline<WAYS>,
+    schedule: Schedule,
+    packets: Packets<'_>,
+    steps: &mut Steps<L>,
+) -> Result<Pipeline<WAYS>, TraceAnswer>
+    requires fresh { PipelineStands pipeline (empty_machines (geometry_of WAYS pipeline.buckets) pipeline.plan.groups) }
+    requires buckets { pipeline.buckets ≡ schedule.buckets }
+    ensures accepted { IfOk result (λ found. fault_of packets.entry ≡ None) }
+    ensures machines { IfOk result (λ found. PipelineStands found (end_machines pipeline.plan (geometry_for WAYS schedule) (words_of (coming packets.entry)))) }
+    ensures drained { IfOk result (λ found. list_all lane_is_drained found.lanes ≡ true) }
+    ensures keeps { IfOk result (Keeps pipeline) }
+    ensures pipe_places { IfOk result (λ found. (places : ℕ) → HavePlaces places pipeline.lanes → HavePlaces places found.lanes) }
+    ensures refused { IfErr result (λ answer. IfRefused answer (λ fault. fault_of packets.entry ≡ Some fault)) }
+    ensures steps { steps.old ≤ steps.new }
+{
+    Replay::new(pipeline, schedule, packets).finish(steps)
+}
