@@ -1,5 +1,6 @@
 -- How a run breaks off, wherever it does.
-use Rattle.std.proofs.Common.{◌≡◌, ℕ, ◌<◌, ◌≤◌, ◌^◌, ◌-◌, List, [], ◌++◌, Option, None, Some, length, refl, sym, subst, arith, inl, inr, length-append, ap, ◌∙◌}
+use Rattle.std.proofs.Common.{◌≡◌, ℕ, ◌<◌, ◌≤◌, ◌^◌, ◌-◌, List, [], ◌++◌, Option, None, Some, length, refl, sym, subst, arith, inl, inr, length-append, ap, ◌∙◌, Result, Ok, Err, IfErr}
+use Rattle.std.specs.Result.{IsErrAnd}
 use Rattle.std.specs.Prelude.{◌⊎◌}
 use Rattle.std.proofs.Math.Seq.{take-append_seam}
 use Rattle.std.proofs.KnownBytes.{Appends-nil}
@@ -14,6 +15,11 @@ use Rattle.trace_reader.specs.declared.fault.TraceAnswer.{TraceAnswer}
 use Rattle.trace_reader.specs.declared.fault.TraceAnswer.TheVariants as answers
 use Rattle.trace_reader.specs.declared.fault.TraceFault.{TraceFault}
 use Rattle.query_run.proofs.Pieces.{TakesFront-more}
+
+-- a fact of the answer that a result has
+pub err_is : {A E : Type 0} (P : E → Type 0) (result : Result A E) (answer : E) → IsErrAnd result (λ found. found ≡ answer) → P answer → IfErr result P
+err_is P (Ok done) answer is known = tt
+err_is P (Err found) answer is known = subst P (sym is) known
 
 pub nothing_taken : (bytes : Option (List ℕ)) (text : List ℕ) → TakesFront bytes bytes text
 nothing_taken bytes text = record { count = 0; within = omega arith; taken = Appends-nil bytes }

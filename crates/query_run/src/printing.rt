@@ -35,7 +35,8 @@ fn text_of<L: Ledger>(
     ensures steps { steps.old ≤ steps.new }
 {
     query_tables_are_read();
-    print_tables(alloc, typed, groups, steps)
+    let text = print_tables(alloc, typed, groups, steps)?;
+    Ok(text)
 }
 
 /// The text of the tables that a drained pipeline of the query's plan gives.
@@ -55,7 +56,8 @@ pub(crate) fn end_text<const WAYS: usize, L: Ledger>(
     ends_are_the_querys();
     pipeline.known();
     let groups = pipeline.close()?;
-    text_of(alloc, typed, groups, steps)
+    let text = text_of(alloc, typed, groups, steps)?;
+    Ok(text)
 }
 
 /// What a query prints in the middle of a trace: over the packets that were taken so far, as if the trace ended with them.
@@ -76,5 +78,6 @@ pub fn view_query<const WAYS: usize, L: Ledger>(
     views_end_the_trace();
     pipeline.known();
     let groups = view(alloc, pipeline, steps)?;
-    text_of(alloc, typed, groups, steps)
+    let text = text_of(alloc, typed, groups, steps)?;
+    Ok(text)
 }
