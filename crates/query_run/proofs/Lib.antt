@@ -1,2 +1,7 @@
 mod QueryEnds
 mod WholePackets
+mod FewPackets
+mod Seen
+mod ViewTexts
+pub mod Breaking
+pub mod Pieces
