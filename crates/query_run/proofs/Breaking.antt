@@ -36,7 +36,7 @@ rose_since : (old mid new : ℕ) → old ≤ mid → Rose mid new → Rose old n
 rose_since old mid new later (inl less) = inl (omega arith)
 rose_since old mid new later (inr last) = inr last
 
-none_some : {X : Type 0} (x : X) (o : Option X) → o ≡ None → o ≡ Some x → ⊥
+pub none_some : {X : Type 0} (x : X) (o : Option X) → o ≡ None → o ≡ Some x → ⊥
 none_some x o a b = cc
 
 module _ {O : Type 0} (taken : O → Option (List ℕ)) (faults : O → ℕ) (text : List ℕ) (fault : Option TraceFault) where

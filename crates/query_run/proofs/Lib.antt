@@ -3,5 +3,6 @@ mod WholePackets
 mod FewPackets
 mod Seen
 mod ViewTexts
+mod Viewing
 pub mod Breaking
 pub mod Pieces

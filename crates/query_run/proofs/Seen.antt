@@ -3,6 +3,7 @@ use Rattle.std.proofs.Common.{◌≡◌, ℕ, suc, ◌≤◌, List, [], ◌∷�
 use Rattle.std.proofs.lemmas.List.{length-map, length-take-le, take-map}
 use Rattle.std.proofs.lemmas.List.Elements.{All-take}
 use Rattle.final_queries.specs.declared.table.Table.{Table}
+use Rattle.epoch_entry.specs.declared.purpose.Entries.TheVariants.{Folds}
 use Rattle.epoch_model.specs.Driving.{uses_taken}
 use Rattle.epoch_model.specs.Epochs.{Geometry}
 use Rattle.epoch_model.specs.Laws.{SameEpochs}
@@ -43,11 +44,11 @@ ends_seen law plan g packets number within i (group ∷ groups) (m ∷ machines)
 
 -- the tables of a view are the query's over the packets so far
 pub seen_tables : ViewsEndTheTrace → EndsAreTheQuerys → (q : TypedQuery) (g : Geometry) (packets : List (List ℕ)) (number : ℕ) (p : PipelineView) (tables : List Table) → IsValidQuery q → IsPlanOf q p.plan
-    → AreLanesOf p.plan p.buckets p.lanes → ((machines : List Machine) → PipelineStands p machines → tables ≡ tables_seen p.plan.groups (map folding_at p.lanes) machines)
+    → AreLanesOf Folds p.plan p.buckets p.lanes → ((machines : List Machine) → PipelineStands p machines → tables ≡ tables_seen p.plan.groups (map folding_at p.lanes) machines)
     → IsAsFarAs g packets number p → tables ≡ group_tables q g (take number packets)
 seen_tables law ends q g packets number p tables valid plan lanes shown far =
     let f = far.follows in
-    let long = sym (each_long (λ n. StandsFor) 0 p.lanes f.machines f.stands) ∙ lanes_long p.plan p.buckets p.lanes lanes in
+    let long = sym (each_long (λ n. StandsFor) 0 p.lanes f.machines f.stands) ∙ lanes_long Folds p.plan p.buckets p.lanes lanes in
     let closed = ends_seen law p.plan g packets number far.within 0 p.plan.groups f.machines long f.alike in
     shown f.machines f.stands
     ∙ (ap (tables_of p.plan.groups (map folding_at p.lanes)) closed

@@ -3,6 +3,7 @@
 ghost use Rattle.std.specs.Prelude.{◌≡◌, ◌≤◌, ℕ, List, IfOk, take, true};
 ghost use Rattle.std.specs.List.{list_all};
 ghost use Rattle.query_lang.specs.TypedQueries.{IsValidQuery};
+ghost use Rattle.epoch_entry.specs.declared.purpose.Entries.TheVariants.{Folds};
 ghost use Rattle.epoch_model.specs.Epochs.{Geometry};
 ghost use Rattle.epoch_model.specs.Laws.{HasRoom};
 ghost use Rattle.stage_plan.specs.Planned.{IsPlanOf};
@@ -48,6 +49,7 @@ pub(crate) fn end_text<const WAYS: usize, L: Ledger>(
 ) -> Result<Text, AllocError>
     requires valid { IsValidQuery typed.now }
     requires plan { IsPlanOf typed.now pipeline.now.plan }
+    requires entries { pipeline.now.entries ≡ Folds }
     requires drained { list_all lane_is_drained pipeline.now.lanes ≡ true }
     requires ends { (g : Geometry) × (packets : List (List ℕ)) × HasRoom g × AreWhole packets × PipelineStands pipeline.now (end_machines pipeline.now.plan g packets) }
     ensures text { IfOk result (λ text. (g : Geometry) (packets : List (List ℕ)) → HasRoom g → AreWhole packets → PipelineStands pipeline.now (end_machines pipeline.now.plan g packets) → text ≡ query_text typed.now g packets) }
@@ -70,6 +72,7 @@ pub fn view_query<const WAYS: usize, L: Ledger>(
 ) -> Result<Text, AllocError>
     requires valid { IsValidQuery typed.now }
     requires plan { IsPlanOf typed.now pipeline.now.plan }
+    requires entries { pipeline.now.entries ≡ Folds }
     requires seen { (g : Geometry) × (packets : List (List ℕ)) × (number : ℕ) × IsAsFarAs g packets number pipeline.now }
     ensures text { IfOk result (λ text. (g : Geometry) (packets : List (List ℕ)) (number : ℕ) → IsAsFarAs g packets number pipeline.now → text ≡ query_text typed.now g (take number packets)) }
     ensures steps { steps.old ≤ steps.new }

@@ -1,7 +1,8 @@
 // Views of a trace on its way, written one after another.
 
-ghost use Rattle.std.specs.Prelude.{◌≡◌, ◌×◌, ◌<◌, ◌≤◌, ℕ, List, None, IfErr, IfOk, OnOk, length};
+ghost use Rattle.std.specs.Prelude.{◌≡◌, ◌<◌, ◌≤◌, ℕ, List, None, IfErr, IfOk, OnOk, length};
 ghost use Rattle.std.specs.Io.KnownBytes.{Appends};
+ghost use Rattle.epoch_entry.specs.declared.purpose.Entries.TheVariants.{Folds};
 ghost use Rattle.epoch_model.specs.Epochs.{Geometry};
 ghost use Rattle.query_lang.specs.TypedQueries.{IsValidQuery};
 ghost use Rattle.stage_plan.specs.Planned.{IsPlanOf};
@@ -46,6 +47,7 @@ fn write_view<const WAYS: usize, O: Sink, L: Ledger>(
 ) -> Result<(), RunAnswer>
     requires valid { IsValidQuery typed.now }
     requires plan { IsPlanOf typed.now pipeline.now.plan }
+    requires entries { pipeline.now.entries ≡ Folds }
     requires seen { (g : Geometry) × (packets : List (List ℕ)) × IsAsFarAs g packets number pipeline.now }
     ensures written { OnOk result ((g : Geometry) (packets : List (List ℕ)) → IsAsFarAs g packets number pipeline.now
         → Appends (O.taken out.old) (O.taken out.new) (view_text typed.now g packets number)) }
@@ -78,13 +80,14 @@ pub(crate) fn write_views<'a, const WAYS: usize, O: Sink, L: Ledger>(
     requires room { (0 < WAYS) × (0 < schedule.buckets) }
     requires valid { IsValidQuery typed.now }
     requires plan { IsPlanOf typed.now pipeline.plan }
+    requires entries { pipeline.entries ≡ Folds }
     requires whole { AreWhole (words_of (coming packets)) }
     requires viewed { 0 < every → CanBeViewed packets }
     ensures written { IfOk result (λ replay. Appends (O.taken out.old) (O.taken out.new)
         (views_up_to typed.now (geometry_for WAYS schedule) every (words_of (coming packets.entry)) (length (coming packets.entry)))) }
     ensures under_way { IfOk result (λ replay. (count : ℕ) × IsUnderWay schedule (coming packets.entry) count replay) }
     ensures fault { IfOk result (λ replay. fault_in replay ≡ fault_of packets.entry) }
-    ensures keeps { IfOk result (λ replay. Keeps pipeline (pipeline_in replay)) }
+    ensures keeps { IfOk result (λ replay. Keeps pipeline.entry (pipeline_in replay)) }
     ensures untouched { every ≡ 0 → out.new ≡ out.old }
     ensures breaks_off { IfErr result (BreaksOff O.taken O.faults (views_text typed.now (geometry_for WAYS schedule) every (words_of (coming packets.entry)))
         (fault_of packets.entry) out.old out.new) }
