@@ -58,8 +58,8 @@ fn trial<O: Sink, L: Ledger>(
     ensures out_later { O.faults out.old ≤ O.faults out.new }
     ensures steps { steps.old ≤ steps.new }
 {
-    let left = run_made(alloc, generation, setting, out, steps)?;
-    *driven = Some(left);
+    let made = run_made(alloc, generation, setting, out, steps)?;
+    *driven = Some(made);
     Ok(())
 }
 

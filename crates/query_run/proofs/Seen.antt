@@ -12,7 +12,7 @@ use Rattle.live_view.specs.Laws.{ViewsEndTheTrace}
 use Rattle.live_view.specs.Views.{all_closed, tables_seen}
 use Rattle.query_lang.specs.declared.typed.TypedQuery.{TypedQuery}
 use Rattle.query_lang.specs.TypedQueries.{IsValidQuery}
-use Rattle.query_run.specs.Runs.{AreWhole, EndsAreTheQuerys}
+use Rattle.query_run.specs.Runs.{EndsAreTheQuerys}
 use Rattle.query_run.specs.Views.{IsAsFarAs}
 use Rattle.query_tables.specs.Tables.{group_tables}
 use Rattle.stage_plan.specs.declared.group.GroupPlan.{GroupPlan}
@@ -20,7 +20,7 @@ use Rattle.stage_plan.specs.Planned.{IsPlanOf, taken}
 use Rattle.stage_plan.specs.Sound.{PlanParts}
 use Rattle.switch_core.specs.Pipelines.{tables_of}
 use Rattle.switch_core.specs.PlanLanes.{AreLanesOf, PipelineStands, PipelineView, StandsFor, folding_at}
-use Rattle.trace_drive.specs.Drives.{end_machines, ends_from, uses_by}
+use Rattle.trace_drive.specs.Drives.{ends_from, uses_by}
 use Rattle.trace_drive.specs.Follows.{AlikeFrom}
 use Rattle.trace_drive.proofs.Ending.{each_long, lanes_long}
 

@@ -6,9 +6,12 @@ use Rattle.query_run.proofs.printing.end_text.Goals as goal
 pub text_of-requires-clause-groups : goal.text_of-requires-clause-groups
 text_of-requires-clause-groups g c =
     let p = c.args.pipeline.now in
-    let e = c.requires.ends in
-    (e.0, e.1, c.in_ok-groups.ensures (end_machines p.plan e.0 e.1) e.4
-    ∙ c.ends_are_the_querys.ensures.tables c.args.typed.now p.plan p.buckets p.lanes e.0 e.1 c.requires.valid c.requires.plan (subst (λ e. AreLanesOf e c.args.pipeline.now.plan c.args.pipeline.now.buckets c.args.pipeline.now.lanes) c.requires.entries c.known.ensures) e.2 e.3)
+    let e = c.requires.ends in (
+      e.0,
+      e.1,
+      c.in_ok-groups.ensures (end_machines p.plan e.0 e.1) e.4
+          ∙ c.ends_are_the_querys.ensures.tables c.args.typed.now p.plan p.buckets p.lanes e.0 e.1 c.requires.valid c.requires.plan (subst (λ e. AreLanesOf e c.args.pipeline.now.plan c.args.pipeline.now.buckets c.args.pipeline.now.lanes) c.requires.entries c.known.ensures) e.2 e.3,
+    )
 
 pub returns-clause-text : goal.returns-clause-text
 returns-clause-text g c of packets room whole stands =

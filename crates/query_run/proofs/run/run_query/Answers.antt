@@ -1,9 +1,9 @@
-use Rattle.std.proofs.Common.{◌≡◌, Some, None, lit<, sym, ap, ◌∙◌, subst}
+use Rattle.std.proofs.Common.{◌≡◌, Some, lit<, sym, ◌∙◌, subst}
 use Rattle.std.specs.Io.KnownBytes.{Appends}
 use Rattle.marple_base.specs.Sink.{TakesFront}
 use Rattle.stage_plan.specs.Planned.{IsPlanOf}
 use Rattle.switch_core.specs.PlanLanes.{PipelineStands}
-use Rattle.trace_drive.specs.Drives.{coming, end_machines, fault_of, geometry_for, words_of}
+use Rattle.trace_drive.specs.Drives.{coming, fault_of, geometry_for, words_of}
 use Rattle.trace_drive.specs.Replays.{pipeline_in}
 use Rattle.trace_drive.proofs.Ending.{places_kept}
 use Rattle.trace_reader.specs.Faults.{IfRefused}
@@ -38,9 +38,22 @@ end_text-requires g c =
     let way = c.in_ok-replay.ensures.under_way in
     let stands = c.in_ok-pipeline.ensures.machines c.args.schedule all way.0 way.1 in
     let plan = c.in_ok-pipeline.ensures.keeps.plan ∙ (c.in_ok-replay.ensures.keeps.plan ∙ c.in_ok-fresh.ensures.plan) in
-    let entries = c.in_ok-pipeline.ensures.keeps.entries ∙ (c.in_ok-replay.ensures.keeps.entries ∙ c.in_ok-fresh.ensures.entries) in
-    (lit< tt, (c.requires.valid, (subst (IsPlanOf c.args.typed.now) (sym plan) c.requires.plan, (entries, (c.in_ok-pipeline.ensures.drained,
-    (of, words_of all, (c.requires.buckets, c.requires.ways), c.requires.whole, stands))))))
+    let entries = c.in_ok-pipeline.ensures.keeps.entries ∙ (c.in_ok-replay.ensures.keeps.entries ∙ c.in_ok-fresh.ensures.entries) in (
+      lit< tt,
+      (
+        c.requires.valid,
+        (
+          subst (IsPlanOf c.args.typed.now) (sym plan) c.requires.plan,
+          (
+            entries,
+            (
+              c.in_ok-pipeline.ensures.drained,
+              (of, words_of all, (c.requires.buckets, c.requires.ways), c.requires.whole, stands),
+            ),
+          ),
+        ),
+      ),
+    )
 
 pub returns-in_err-text-clause-breaks_off : goal.returns-in_err-text-clause-breaks_off
 returns-in_err-text-clause-breaks_off g c =

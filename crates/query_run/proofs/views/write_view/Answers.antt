@@ -1,4 +1,4 @@
-use Rattle.std.proofs.Common.{◌≡◌, ◌∙◌, List, None, ℕ, subst, take}
+use Rattle.std.proofs.Common.{◌∙◌, List, None, ℕ, subst, take}
 use Rattle.std.specs.Io.KnownBytes.{Appends}
 use Rattle.marple_base.specs.Sink.{TakesFront}
 use Rattle.epoch_model.specs.Epochs.{Geometry}
