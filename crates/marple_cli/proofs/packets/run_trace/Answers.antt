@@ -1,5 +1,6 @@
-use Rattle.std.proofs.Common.{◌≡◌, None}
+use Rattle.std.proofs.Common.{◌≡◌, ℕ, List, None}
 use Rattle.std.specs.Io.KnownBytes.{Appends}
+use Rattle.marple_base.specs.declared.field.Packet.{Packet}
 use Rattle.marple_base.specs.declared.inputs.Which.TheVariants.{Trace}
 use Rattle.query_run.specs.Runs.{query_ends}
 use Rattle.query_run.specs.Views.{views_text}
@@ -13,14 +14,21 @@ use Rattle.marple_cli.proofs.Limits.{told_contents, read_ends, trace_ends, err_t
 use Rattle.marple_cli.proofs.packets.run_trace.Goals as goal
 
 pub returns-in_err-bytes-clause-err : goal.returns-in_err-bytes-clause-err
-returns-in_err-bytes-clause-err g c = ?
+returns-in_err-bytes-clause-err g c =
+    let before = g.I.Inputs.input c.args.inputs.now Trace in
+    let after = g.I.Inputs.input c.read_trace.new.inputs Trace in
+    let reads = reads_of c.args.query.typed in
+    let fault = λ (trace : List ℕ). trace_fault trace reads in
+    let text = λ (trace : List ℕ). views_text c.args.query.typed (geometry_of c.args.setting) c.args.every (words_of (packets trace reads)) in
+    err_told (TraceEnds g.O.Sink.taken g.O.Sink.faults fault text before after c.args.out.now c.args.out.now) c.from_residual.result c.in_err-bytes.field-0.0 c.from_residual.ensures.1
+    (read_ends g.O.Sink.taken g.O.Sink.faults fault text before after c.args.out.now c.in_err-bytes.field-0.0 c.in_err-bytes.ensures.err)
 
 pub returns-in_err-driven-clause-err : goal.returns-in_err-driven-clause-err
 returns-in_err-driven-clause-err g c =
     let before = g.I.Inputs.input c.args.inputs.now Trace in
     let after = g.I.Inputs.input c.read_trace.new.inputs Trace in
     let reads = reads_of c.args.query.typed in
-    let shown = λ packets. views_text c.args.query.typed (geometry_of c.args.setting) c.args.every (words_of packets) in
+    let shown = λ (packets : List Packet). views_text c.args.query.typed (geometry_of c.args.setting) c.args.every (words_of packets) in
     err_told (TraceEnds g.O.Sink.taken g.O.Sink.faults (λ trace. trace_fault trace reads) (λ trace. shown (packets trace reads)) before after c.args.out.now c.run_over_trace.new.out)
     c.from_residual-in_err-driven.result (status_for c.in_err-driven.field-0.0) c.from_residual-in_err-driven.ensures.1
     (trace_ends g.O.Sink.taken g.O.Sink.faults reads shown before after c.args.out.now c.run_over_trace.new.out c.in_ok-bytes.bytes c.as_slice.result.now c.in_err-driven.field-0.0

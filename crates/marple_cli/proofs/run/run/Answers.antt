@@ -1,4 +1,4 @@
-use Rattle.std.proofs.Common.{◌≡◌, None, IfSome, refl, subst}
+use Rattle.std.proofs.Common.{◌≡◌, ℕ, List, None, IfSome, refl, subst}
 use Rattle.std.specs.Io.KnownBytes.{Appends}
 use Rattle.marple_base.specs.declared.inputs.Which.TheVariants.{Query, Trace}
 use Rattle.accepted_query.specs.Accepted.{query_fault}
@@ -30,8 +30,8 @@ returns-in_err-left-clause-ends g c =
     let after = g.I.Inputs.input c.run_trace.new.inputs in
     let query = c.in_ok-query.query.typed in
     let run = Run c.args.setting c.args.every in
-    let fault = λ trace. trace_fault trace (reads_of query) in
-    let text = λ trace. views_text query (geometry_of c.args.setting) c.args.every (words_of (packets trace (reads_of query))) in
+    let fault = λ (trace : List ℕ). trace_fault trace (reads_of query) in
+    let text = λ (trace : List ℕ). views_text query (geometry_of c.args.setting) c.args.every (words_of (packets trace (reads_of query))) in
     trace_ends_it g.O.Sink.taken g.O.Sink.faults run before after c.args.out.now c.run_trace.new.out (query_told run before query (λ bytes. refl) c.in_ok-query.ensures.ok) fault text refl refl
     (run_is c.args.setting c.args.every before query c.in_ok-query.ensures.ok) c.from_residual-in_err-left.result c.in_err-left.field-0.0 c.from_residual-in_err-left.ensures.1
     (subst (λ trace. TraceEnds g.O.Sink.taken g.O.Sink.faults fault text trace (after Trace) c.args.out.now c.run_trace.new.out c.in_err-left.field-0.0) c.in_ok-query.ensures.trace_kept c.in_err-left.ensures.err)
@@ -51,8 +51,8 @@ returns-clause-ends g c =
     let query = c.in_ok-query.query.typed in
     let run = Run c.args.setting c.args.every in
     let kept = c.in_ok-query.ensures.trace_kept in
-    let fault = λ trace. trace_fault trace (reads_of query) in
-    let text = λ trace. views_text query (geometry_of c.args.setting) c.args.every (words_of (packets trace (reads_of query))) in
+    let fault = λ (trace : List ℕ). trace_fault trace (reads_of query) in
+    let text = λ (trace : List ℕ). views_text query (geometry_of c.args.setting) c.args.every (words_of (packets trace (reads_of query))) in
     trace_written g.O.Sink.taken g.O.Sink.faults run before after c.args.out.now c.run_trace.new.out (query_told run before query (λ bytes. refl) c.in_ok-query.ensures.ok) fault text refl refl
     (run_is c.args.setting c.args.every before query c.in_ok-query.ensures.ok)
     (subst (λ trace. IfSome trace.left (λ bytes. fault bytes ≡ None)) kept c.in_ok-left.ensures.accepted)
