@@ -33,7 +33,7 @@ abbrev pub ways_of : List ℕ → Option Ways
 ways_of text = option_and_then ways_with (number_within 1 32 text)
 
 abbrev pub no_options : Options
-no_options = record { buckets = None; ways = None; pipe = None; lag = None; refresh = None }
+no_options = record { buckets = None; ways = None; pipe = None; lag = None; refresh = None; every = None }
 
 -- the value is in these limits, where there is one
 abbrev pub IsWithin : ℕ → ℕ → Option ℕ → Type 0
@@ -46,6 +46,7 @@ pub record AreWithin (options : Options) : Type 0 where
   pub pipe : IsWithin 1 65536 options.pipe
   pub lag : IsWithin 1 1000000 options.lag
   pub refresh : IsWithin 0 4194304 options.refresh
+  pub every : IsWithin 0 4194304 options.every
 
 -- the word names an option that isn't set yet
 abbrev pub is_new : {A : Type 0} → List ℕ → List ℕ → Option A → Bool
@@ -59,6 +60,7 @@ with_option options name value =
     else if is_new (codes "--pipe") name options.pipe then option_map (λ n. record options { pipe = Some n }) (number_within 1 65536 value)
     else if is_new (codes "--lag") name options.lag then option_map (λ n. record options { lag = Some n }) (number_within 1 1000000 value)
     else if is_new (codes "--refresh") name options.refresh then option_map (λ n. record options { refresh = Some n }) (number_within 0 4194304 value)
+    else if is_new (codes "--every") name options.every then option_map (λ n. record options { every = Some n }) (number_within 0 4194304 value)
     else None
 
 -- the options with those that pairs of words name, in any order
@@ -77,17 +79,25 @@ setting_of options =
     then Some (record { buckets = buckets; ways = ways; pipe = unwrap_or options.pipe 64; lag = unwrap_or options.lag 1; refresh = unwrap_or options.refresh 0 })
     else None
 
+-- the setting of a command that gives no views
+abbrev pub plain_setting_of : Options → Option Setting
+plain_setting_of options = if is_none options.every then setting_of options else None
+
 abbrev pub setting_from : List (List ℕ) → Option Setting
-setting_from words = option_and_then setting_of (options_from no_options words)
+setting_from words = option_and_then plain_setting_of (options_from no_options words)
 
 -- 1 to 1,000,000 packets, from a start of at most 2,147,483,647
 abbrev pub generation_of : List ℕ → List ℕ → Option Generation
 generation_of packets start =
     option_and_then (λ n. option_map (λ s. record { packets = n; start = s }) (number_within 0 2147483647 start)) (number_within 1 1000000 packets)
 
+-- a run with these options: without views where they don't say otherwise
+abbrev pub run_with : Options → Option Command
+run_with options = option_map (λ setting. Run setting (unwrap_or options.every 0)) (setting_of options)
+
 -- run QUERY TRACE [options]. Any words may stand for the operands
 abbrev pub asked_run : List (List ℕ) → Option Command
-asked_run (query ∷ trace ∷ options) = option_map Run (setting_from options)
+asked_run (query ∷ trace ∷ options) = option_and_then run_with (options_from no_options options)
 asked_run words = None
 
 -- plan QUERY [--ways W]
@@ -132,7 +142,7 @@ pub record IsGeneration (generation : Generation) : Type 0 where
   pub start_limit : generation.start ≤ 2147483647
 
 abbrev pub IsCommand : Command → Type 0
-IsCommand (Run setting) = IsSetting setting
+IsCommand (Run setting every) = IsSetting setting × (every ≤ 4194304)
 IsCommand (Plan ways) = Unit {0}
 IsCommand (Gen generation) = IsGeneration generation
 IsCommand (Trial generation setting) = IsGeneration generation × IsSetting setting

@@ -1,10 +1,10 @@
 // Commands.
 
 ghost use Rattle.std.specs.Prelude.{◌≡◌, ◌≤◌, map, string_bytes, IfSome};
-ghost use Rattle.command_line.specs.Command.{IsCommand, IsGeneration, asked, asked_run, asked_plan, asked_gen, asked_trial, generation_of};
+ghost use Rattle.command_line.specs.Command.{IsCommand, IsGeneration, asked, asked_gen, asked_plan, asked_run, asked_trial, generation_of};
 
 use crate::number::number_within;
-use crate::options::setting_from;
+use crate::options::{options_of, setting_from};
 use crate::setting::{Setting, Ways, ways_of};
 
 /// The packets that the generator makes: how many, and the state of its draws at first.
@@ -17,8 +17,8 @@ pub struct Generation {
 /// What a command line asks for. Its operands are words by their places.
 #[derive(Clone, Copy, Debug, PartialEq, Eq)]
 pub enum Command {
-    /// Writes the tables of a query over a trace.
-    Run(Setting),
+    /// Writes the tables of a query over a trace, and before them a view behind every so many packets: none, where that is 0.
+    Run(Setting, u32),
     /// Writes the stages of a query, and the bound on its steps for these ways.
     Plan(Ways),
     /// Writes the trace of the generator.
@@ -41,8 +41,10 @@ fn run_of(words: &[String]) -> Option<Command>
     ensures within { IfSome result IsCommand }
 {
     let (_query, more) = words.split_first()?;
-    let (_trace, options) = more.split_first()?;
-    Some(Command::Run(setting_from(options)?))
+    let (_trace, words) = more.split_first()?;
+    let options = options_of(words)?;
+    let setting = options.setting()?;
+    Some(Command::Run(setting, options.every.unwrap_or(0)))
 }
 
 fn plan_of(words: &[String]) -> Option<Command>

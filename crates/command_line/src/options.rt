@@ -14,6 +14,7 @@ pub(crate) struct Options {
     pub(crate) pipe: Option<u32>,
     pub(crate) lag: Option<u32>,
     pub(crate) refresh: Option<u32>,
+    pub(crate) every: Option<u32>,
 }
 
 const NO_OPTIONS: Options = Options {
@@ -22,6 +23,7 @@ const NO_OPTIONS: Options = Options {
     pipe: None,
     lag: None,
     refresh: None,
+    every: None,
 };
 
 impl Options {
@@ -42,14 +44,16 @@ impl Options {
             options.lag = Some(number_within(1, 1_000_000, value.as_bytes())?);
         } else if name.as_str() == "--refresh" && self.refresh.is_none() {
             options.refresh = Some(number_within(0, 4_194_304, value.as_bytes())?);
+        } else if name.as_str() == "--every" && self.every.is_none() {
+            options.every = Some(number_within(0, 4_194_304, value.as_bytes())?);
         } else {
             return None;
         }
         Some(options)
     }
 
-    // What they say, where the cache has few enough places.
-    fn setting(self) -> Option<Setting>
+    // What they say of caches and pipes, where a cache has few enough places.
+    pub(crate) fn setting(self) -> Option<Setting>
         requires within { AreWithin self }
         ensures setting { result ≡ setting_of self }
         ensures within { IfSome result IsSetting }
@@ -69,7 +73,8 @@ impl Options {
     }
 }
 
-fn options_of(words: &[String]) -> Option<Options>
+/// The options that pairs of words name.
+pub(crate) fn options_of(words: &[String]) -> Option<Options>
     ensures options { result ≡ options_from no_options (map string_bytes words.now) }
     ensures within { IfSome result AreWithin }
 {
@@ -83,10 +88,14 @@ fn options_of(words: &[String]) -> Option<Options>
     Some(options)
 }
 
-/// The setting that pairs of words say.
+/// The setting that pairs of words say, where they name no views.
 pub(crate) fn setting_from(words: &[String]) -> Option<Setting>
     ensures setting { result ≡ setting_from (map string_bytes words.now) }
     ensures within { IfSome result IsSetting }
 {
-    options_of(words)?.setting()
+    let options = options_of(words)?;
+    if options.every.is_some() {
+        return None;
+    }
+    options.setting()
 }

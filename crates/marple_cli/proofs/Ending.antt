@@ -1,5 +1,6 @@
 -- How commands end: what each status says, where it comes from.
-use Rattle.std.proofs.Common.{◌≡◌, ℕ, true, false, List, [], Option, None, Some, IfSome, Result, Ok, Err, refl, sym, ap, ◌∙◌, subst, arith}
+use Rattle.std.proofs.Common.{◌≡◌, ℕ, true, false, List, [], Option, None, Some, IfSome, Result, Ok, Err, refl, sym, ap, ap₂, ◌∙◌, subst, arith, if◌then◌else◌}
+use Rattle.std.specs.Prelude.{is_some}
 use Rattle.std.specs.Result.{IsErrAnd}
 use Rattle.std.specs.Io.KnownBytes.{Appends}
 use Rattle.marple_base.specs.Faults.{Rose}
@@ -9,13 +10,18 @@ use Rattle.marple_base.specs.declared.inputs.Which.{Which}
 use Rattle.marple_base.specs.declared.inputs.Which.TheVariants.{Query, Trace}
 use Rattle.std.proofs.lemmas.Bool.{true≢false}
 use Rattle.std.proofs.lemmas.Grind.{common_steps}
+use Rattle.query_lang.specs.declared.fault.QueryFault.{QueryFault}
 use Rattle.query_lang.specs.declared.typed.TypedQuery.{TypedQuery}
 use Rattle.stage_plan.specs.Fields.{reads_of}
 use Rattle.stage_plan.specs.Planned.{IsPlanOf}
 use Rattle.stage_plan.specs.Shape.{query_shape, plan_text_of}
 use Rattle.trace_reader.specs.Traces as traces
+use Rattle.trace_reader.specs.declared.fault.TraceFault.{TraceFault}
 use Rattle.trace_drive.specs.Drives.{words_of}
-use Rattle.query_tables.specs.Tables.{query_text}
+use Rattle.query_run.specs.Answers.{BreaksOff, text_unless}
+use Rattle.query_run.specs.Views.{views_text}
+use Rattle.query_run.specs.declared.answer.RunAnswer.{RunAnswer}
+use Rattle.query_run.specs.declared.answer.RunAnswer.TheVariants as breaks
 use Rattle.query_run.specs.Runs.{query_ends}
 use Rattle.switch_core.specs.PlanLanes.{PipelineStands}
 use Rattle.accepted_query.specs.Accepted.{accepted, query_fault, fault_in}
@@ -27,19 +33,13 @@ use Rattle.command_line.specs.declared.setting.Setting.{Setting}
 use Rattle.command_line.specs.declared.setting.Ways.{Ways}
 use Rattle.driven_query.specs.Driven.{IsLeftBy, geometry_of, pipeline_in}
 use Rattle.driven_query.specs.declared.driven.Driven.{Driven}
+use Rattle.query_run.proofs.Breaking.{nothing_taken}
 use Rattle.marple_cli.specs.Call.{Holds, ToldOf}
-use Rattle.marple_cli.specs.Driven.{DrivenAfter, IsDriven, StandsForEnd}
-use Rattle.marple_cli.specs.Ends.{Ends, QueryEnds, QueryTold, TraceEnds, status_of}
-use Rattle.marple_cli.specs.Output.{IsAccepted, takes, output, fault_for, tables_text, stages_text, read_packets}
+use Rattle.marple_cli.specs.Driven.{DrivenAfter, Leaves, StandsForEnd}
+use Rattle.marple_cli.specs.Ends.{Ends, QueryEnds, QueryTold, TraceEnds, WriteEnds, status_for, status_of}
+use Rattle.marple_cli.specs.Output.{IsAccepted, defined_text, fault_for, output, read_packets, refusal, run_text, stages_text, takes, trace_refusal}
 use Rattle.marple_cli.specs.declared.status.Status.{Status}
 use Rattle.marple_cli.specs.declared.status.Status.TheVariants as statuses
-
-nothing_appended : (bytes : Option (List ℕ)) → Appends bytes bytes []
-nothing_appended None = tt
-nothing_appended (Some bytes) = grind (arith, common_steps)
-
-nothing_taken : (bytes : Option (List ℕ)) (text : List ℕ) → TakesFront bytes bytes text
-nothing_taken bytes text = record { count = 0; within = omega arith; taken = nothing_appended bytes }
 
 -- a fact of the bytes that an input tells
 told : {A : Type 0} (P : A → Type 0) (left : Option A) (x : A) → IfSome left P → left ≡ Some x → P x
@@ -49,14 +49,27 @@ status_is : (result : Result (Unit {0}) Status) (status : Status) → IsErrAnd r
 status_is (Ok done) status is = absurd is
 status_is (Err found) status is = is
 
--- the query of a command was accepted
-pub query_told : (command : Command) (before : Which → Input) (found : TypedQuery) → IfSome (before Query).left (λ query. accepted query ≡ Ok found)
-    → QueryTold command before (λ query. query_fault query ≡ None)
-query_told command before found known query takes is = ap fault_in (told (λ query. accepted query ≡ Ok found) (before Query).left query known is)
+-- the query of a command that refuses what isn't accepted was accepted
+pub query_told : (command : Command) (before : Which → Input) (found : TypedQuery) → ((query : List ℕ) → refusal command query ≡ query_fault query)
+    → IfSome (before Query).left (λ query. accepted query ≡ Ok found) → QueryTold command before (λ query. refusal command query ≡ None)
+query_told command before found by known query takes is = by query ∙ ap fault_in (told (λ query. accepted query ≡ Ok found) (before Query).left query known is)
 
 -- where the text is what the command writes of accepted operands
 abbrev pub IsText : Command → (Which → Input) → List ℕ → Type 0
 IsText command before text = ToldOf command before (λ query trace. IsAccepted command query trace × (text ≡ output command query trace))
+
+-- where the query is accepted, the text is defined by the trace's fault
+defined_is : (command : Command) (query trace : List ℕ) (fault : Option TraceFault) (text : List ℕ) → refusal command query ≡ None → trace_refusal command query trace ≡ fault → output command query trace ≡ text
+    → defined_text command query trace ≡ text_unless fault text
+defined_is command query trace fault text accepts same is = parted (refusal command query) (trace_refusal command query trace) (output command query trace) accepts ∙ ap₂ text_unless same is
+  where
+    parted : (r : Option QueryFault) (f : Option TraceFault) (t : List ℕ) → r ≡ None → (if is_some r then [] else if is_some f then [] else t) ≡ text_unless f t
+    parted None None t e = refl
+    parted None (Some found) t e = refl
+    parted (Some found) f t e = absurd (some_none e)
+      where
+        some_none : {x : QueryFault} → Some x ≡ None → ⊥
+        some_none e = cc
 
 module _ {O : Type 0} (taken : O → Option (List ℕ)) (faults : O → ℕ) (command : Command) (before after : Which → Input) where
   nothing_written : (out : O) → Ends taken faults command before after out out statuses.Memory
@@ -65,24 +78,13 @@ module _ {O : Type 0} (taken : O → Option (List ℕ)) (faults : O → ℕ) (co
   pub memory_ends : (out : O) (result : Result (Unit {0}) Status) → IsErrAnd result (λ found. found ≡ statuses.Memory) → Ends taken faults command before after out out (status_of result)
   memory_ends out result is = subst (Ends taken faults command before after out out) (sym (status_is result statuses.Memory is)) (nothing_written out)
 
-  module _ (old new : O) (text : List ℕ) (query : QueryTold command before (λ query. query_fault query ≡ None)) (is_text : IsText command before text) where
-    pub all_written : Appends (taken old) (taken new) text → Ends taken faults command before after old new statuses.Ok
-    all_written whole =
-        (query, λ query trace holds. let is = is_text query trace holds in record { accepted = is.0; whole = subst (Appends (taken old) (taken new)) is.1 whole })
-
-    pub cut_off : (result : Result (Unit {0}) Status) → IsErrAnd result (λ found. found ≡ statuses.OutputFault) → Rose (faults old) (faults new) → TakesFront (taken old) (taken new) text
-        → Ends taken faults command before after old new (status_of result)
-    cut_off result is rose front =
-        subst (Ends taken faults command before after old new) (sym (status_is result statuses.OutputFault is))
-        (rose, query, λ query trace holds. let is = is_text query trace holds in record { accepted = is.0; front = subst (TakesFront (taken old) (taken new)) is.1 front })
-
   -- the query wasn't read, or it was refused
-  by_query : (out : O) → takes command Query ≡ true → after Trace ≡ before Trace → (status : Status) → QueryEnds (before Query) (after Query) status
+  by_query : (out : O) → takes command Query ≡ true → after Trace ≡ before Trace → (status : Status) → QueryEnds (refusal command) (before Query) (after Query) status
       → Ends taken faults command before after out out status
   by_query out has kept statuses.Memory ended = nothing_written out
   by_query out has kept (statuses.InputFault Query) ended = (has, ended, kept, refl)
   by_query out has kept (statuses.QueryRefused fault) ended =
-      (has, λ query t is. ap fault_in (told (λ query. accepted query ≡ Err fault) (before Query).left query ended is), kept, refl)
+      (has, λ query t is. told (λ query. refusal command query ≡ Some fault) (before Query).left query ended is, kept, refl)
   by_query out has kept statuses.Ok ended = absurd ended
   by_query out has kept statuses.Usage ended = absurd ended
   by_query out has kept (statuses.InputFault Trace) ended = absurd ended
@@ -90,55 +92,111 @@ module _ {O : Type 0} (taken : O → Option (List ℕ)) (faults : O → ℕ) (co
   by_query out has kept statuses.OutputFault ended = absurd ended
 
   pub query_ends_it : (out : O) → takes command Query ≡ true → after Trace ≡ before Trace → (result : Result (Unit {0}) Status) (status : Status) → IsErrAnd result (λ found. found ≡ status)
-      → QueryEnds (before Query) (after Query) status → Ends taken faults command before after out out (status_of result)
+      → QueryEnds (refusal command) (before Query) (after Query) status → Ends taken faults command before after out out (status_of result)
   query_ends_it out has kept result status is ended =
       subst (Ends taken faults command before after out out) (sym (status_is result status is)) (by_query out has kept status ended)
 
--- a run whose query was accepted
-module _ {O : Type 0} (taken : O → Option (List ℕ)) (faults : O → ℕ) (setting : Setting) (before after : Which → Input) (out : O) (found : TypedQuery)
-    (known : IfSome (before Query).left (λ query. accepted query ≡ Ok found)) where
-  by_trace : (status : Status) → TraceEnds (reads_of found) (before Trace) (after Trace) status → Ends taken faults (Run setting) before after out out status
-  by_trace statuses.Memory ended = nothing_written taken faults (Run setting) before after out
-  by_trace (statuses.InputFault Trace) ended = (refl, ended, query_told (Run setting) before found known, refl)
-  by_trace (statuses.TraceRefused fault) ended = (
-    refl,
-    query_told (Run setting) before found known,
-    λ query trace holds. (
-      query_told (Run setting) before found known query refl (holds.of_query refl),
-      ap (λ read. fault_for read trace) (told (λ query. accepted query ≡ Ok found) (before Query).left query known (holds.of_query refl))
-          ∙ told (λ bytes. traces.trace_fault bytes (reads_of found) ≡ Some fault) (before Trace).left trace ended (holds.of_trace refl),
-    ),
-    refl,
-  )
-  by_trace statuses.Ok ended = absurd ended
-  by_trace statuses.Usage ended = absurd ended
-  by_trace (statuses.InputFault Query) ended = absurd ended
-  by_trace (statuses.QueryRefused fault) ended = absurd ended
-  by_trace statuses.OutputFault ended = absurd ended
+  module _ (old new : O) (accepts : QueryTold command before (λ query. refusal command query ≡ None)) where
+    -- a command whose text is known before it is written
+    module _ (text : List ℕ) (is_text : IsText command before text) where
+      pub all_written : Appends (taken old) (taken new) text → Ends taken faults command before after old new statuses.Ok
+      all_written whole =
+          (accepts, λ query trace holds. let is = is_text query trace holds in record { accepted = is.0; whole = subst (Appends (taken old) (taken new)) is.1 whole })
 
-  pub trace_ends_it : (result : Result (Unit {0}) Status) (status : Status) → IsErrAnd result (λ found. found ≡ status) → TraceEnds (reads_of found) (before Trace) (after Trace) status
-      → Ends taken faults (Run setting) before after out out (status_of result)
-  trace_ends_it result status is ended = subst (Ends taken faults (Run setting) before after out out) (sym (status_is result status is)) (by_trace status ended)
+      by_writing : (status : Status) → WriteEnds taken faults text old new status → Ends taken faults command before after old new status
+      by_writing statuses.Memory ended = (
+        λ query trace holds.
+            let is = is_text query trace holds in
+            subst (TakesFront (taken old) (taken new)) (sym (defined_is command query trace None text is.0.by_query is.0.by_trace (sym is.1))) ended,
+        λ query has is refused. absurd (refused (accepts query has is)),
+      )
+      by_writing statuses.OutputFault ended =
+          (ended.0, accepts, λ query trace holds. let is = is_text query trace holds in record { accepted = is.0; front = subst (TakesFront (taken old) (taken new)) is.1 ended.1 })
+      by_writing statuses.Ok ended = absurd ended
+      by_writing statuses.Usage ended = absurd ended
+      by_writing (statuses.InputFault which) ended = absurd ended
+      by_writing (statuses.QueryRefused fault) ended = absurd ended
+      by_writing (statuses.TraceRefused fault) ended = absurd ended
 
-  pub tables_are_text : (text : List ℕ) → IfSome (before Trace).left (λ trace. traces.trace_fault trace (reads_of found) ≡ None)
-      → IfSome (before Trace).left (λ trace. text ≡ query_text found (geometry_of setting) (words_of (traces.packets trace (reads_of found)))) → IsText (Run setting) before text
-  tables_are_text text sound is query trace holds =
-      let read = told (λ query. accepted query ≡ Ok found) (before Query).left query known (holds.of_query refl) in (
-        record {
-          by_query = λ takes. ap fault_in read;
-          by_trace = λ takes. ap (λ read. fault_for read trace) read ∙ told (λ bytes. traces.trace_fault bytes (reads_of found) ≡ None) (before Trace).left trace sound (holds.of_trace refl);
+      pub write_ends_it : (result : Result (Unit {0}) Status) (status : Status) → IsErrAnd result (λ found. found ≡ status) → WriteEnds taken faults text old new status
+          → Ends taken faults command before after old new (status_of result)
+      write_ends_it result status is ended = subst (Ends taken faults command before after old new) (sym (status_is result status is)) (by_writing status ended)
+
+      pub cut_off : (result : Result (Unit {0}) Status) → IsErrAnd result (λ found. found ≡ statuses.OutputFault) → Rose (faults old) (faults new) → TakesFront (taken old) (taken new) text
+          → Ends taken faults command before after old new (status_of result)
+      cut_off result is rose front = write_ends_it result statuses.OutputFault is (rose, front)
+
+    -- a command with a trace: these are the faults for which it refuses the trace, and the text that it writes of it
+    module _ (fault : List ℕ → Option TraceFault) (text : List ℕ → List ℕ) (has_query : takes command Query ≡ true) (has_trace : takes command Trace ≡ true)
+        (same : ToldOf command before (λ query trace. (trace_refusal command query trace ≡ fault trace) × (output command query trace ≡ text trace))) where
+      told_trace : (P : List ℕ → Type 0) → IfSome (before Trace).left P → ToldOf command before (λ query trace. P trace)
+      told_trace P known query trace holds = told P (before Trace).left trace known (holds.of_trace has_trace)
+
+      accepted_query : ToldOf command before (λ query trace. refusal command query ≡ None)
+      accepted_query query trace holds = accepts query has_query (holds.of_query has_query)
+
+      pub trace_written : IfSome (before Trace).left (λ trace. fault trace ≡ None) → IfSome (before Trace).left (λ trace. Appends (taken old) (taken new) (text trace))
+          → Ends taken faults command before after old new statuses.Ok
+      trace_written sound whole = (
+        accepts,
+        λ query trace holds. record {
+          accepted = record { by_query = accepted_query query trace holds; by_trace = (same query trace holds).0 ∙ told_trace (λ trace. fault trace ≡ None) sound query trace holds };
+          whole = subst (Appends (taken old) (taken new)) (sym (same query trace holds).1) (told_trace (λ trace. Appends (taken old) (taken new) (text trace)) whole query trace holds);
         },
-        told (λ trace. text ≡ query_text found (geometry_of setting) (words_of (traces.packets trace (reads_of found)))) (before Trace).left trace is (holds.of_trace refl)
-            ∙ sym (ap (λ read. tables_text setting read (read_packets trace)) read),
       )
 
-  pub run_is_driven : (driven : Driven) → IsLeftBy setting driven → IsPlanOf found (pipeline_in driven).plan
+      by_trace : (status : Status) → TraceEnds taken faults fault text (before Trace) (after Trace) old new status → Ends taken faults command before after old new status
+      by_trace statuses.Memory ended = (
+        λ query trace holds.
+            subst (TakesFront (taken old) (taken new)) (sym (defined_is command query trace (fault trace) (text trace) (accepted_query query trace holds) (same query trace holds).0 (same query trace holds).1))
+            (told_trace (λ trace. TakesFront (taken old) (taken new) (text_unless (fault trace) (text trace))) ended query trace holds),
+        λ query has is refused. absurd (refused (accepts query has is)),
+      )
+      by_trace (statuses.InputFault Trace) ended = (has_trace, ended.0, accepts, ended.1)
+      by_trace (statuses.TraceRefused found) ended = (
+        has_trace,
+        accepts,
+        λ query trace holds. (accepted_query query trace holds, (same query trace holds).0 ∙ told_trace (λ trace. fault trace ≡ Some found) ended.0 query trace holds),
+        ended.1,
+      )
+      by_trace statuses.OutputFault ended = (
+        ended.0,
+        accepts,
+        λ query trace holds.
+            let cut = told_trace (λ trace. (fault trace ≡ None) × TakesFront (taken old) (taken new) (text trace)) ended.1 query trace holds in
+            record {
+              accepted = record { by_query = accepted_query query trace holds; by_trace = (same query trace holds).0 ∙ cut.0 };
+              front = subst (TakesFront (taken old) (taken new)) (sym (same query trace holds).1) cut.1;
+            },
+      )
+      by_trace statuses.Ok ended = absurd ended
+      by_trace statuses.Usage ended = absurd ended
+      by_trace (statuses.InputFault Query) ended = absurd ended
+      by_trace (statuses.QueryRefused found) ended = absurd ended
+
+      pub trace_ends_it : (result : Result (Unit {0}) Status) (status : Status) → IsErrAnd result (λ found. found ≡ status) → TraceEnds taken faults fault text (before Trace) (after Trace) old new status
+          → Ends taken faults command before after old new (status_of result)
+      trace_ends_it result status is ended = subst (Ends taken faults command before after old new) (sym (status_is result status is)) (by_trace status ended)
+
+-- a run whose query was accepted
+module _ (setting : Setting) (every : ℕ) (before : Which → Input) (found : TypedQuery) (known : IfSome (before Query).left (λ query. accepted query ≡ Ok found)) where
+  read : ToldOf (Run setting every) before (λ query trace. accepted query ≡ Ok found)
+  read query trace holds = told (λ query. accepted query ≡ Ok found) (before Query).left query known (holds.of_query refl)
+
+  pub run_is : ToldOf (Run setting every) before (λ query trace. (trace_refusal (Run setting every) query trace ≡ traces.trace_fault trace (reads_of found))
+      × (output (Run setting every) query trace ≡ views_text found (geometry_of setting) every (words_of (traces.packets trace (reads_of found)))))
+  run_is query trace holds = (
+    ap (λ one. fault_for one trace) (read query trace holds),
+    ap (λ one. run_text setting every one (read_packets trace)) (read query trace holds),
+  )
+
+  pub run_leaves : (old : Option Driven) (driven : Driven) → IsLeftBy setting driven → IsPlanOf found (pipeline_in driven).plan
       → IfSome (before Trace).left (λ trace. PipelineStands (pipeline_in driven) (query_ends found (geometry_of setting) (words_of (traces.packets trace (reads_of found)))))
-      → IsDriven setting (Some driven) (λ p. ToldOf (Run setting) before (λ query trace. StandsForEnd setting (accepted query) (read_packets trace) p))
-  run_is_driven driven left plan stands = (
+      → Leaves (Run setting every) before old (Some driven)
+  run_leaves old driven left plan stands = (
     left,
     λ query trace holds.
-        subst (λ read. StandsForEnd setting read (read_packets trace) (pipeline_in driven)) (sym (told (λ query. accepted query ≡ Ok found) (before Query).left query known (holds.of_query refl)))
+        subst (λ one. StandsForEnd setting one (read_packets trace) (pipeline_in driven)) (sym (read query trace holds))
         (plan, told (λ trace. PipelineStands (pipeline_in driven) (query_ends found (geometry_of setting) (words_of (traces.packets trace (reads_of found))))) (before Trace).left trace stands (holds.of_trace refl)),
   )
 
@@ -146,67 +204,50 @@ module _ {O : Type 0} (taken : O → Option (List ℕ)) (faults : O → ℕ) (se
 pub stages_are_text : (ways : Ways) (before : Which → Input) (found : TypedQuery) (text : List ℕ) → IfSome (before Query).left (λ query. accepted query ≡ Ok found)
     → text ≡ plan_text_of (query_shape found) (ways_number ways) → IsText (Plan ways) before text
 stages_are_text ways before found text known is query trace holds =
-    let read = told (λ query. accepted query ≡ Ok found) (before Query).left query known (holds.of_query refl) in (
-      record { by_query = λ takes. ap fault_in read; by_trace = λ takes. absurd (true≢false (sym takes)) },
-      is ∙ sym (ap (stages_text ways) read),
-    )
+    let read = told (λ query. accepted query ≡ Ok found) (before Query).left query known (holds.of_query refl) in
+    (record { by_query = ap fault_in read; by_trace = refl }, is ∙ sym (ap (stages_text ways) read))
 
--- a command without operands
-no_query : (command : Command) (before : Which → Input) → takes command Query ≡ false → QueryTold command before (λ query. query_fault query ≡ None)
-no_query command before none query takes is = absurd (true≢false (sym takes ∙ none))
+-- commands without operands
 
-no_faults : (command : Command) (query trace : List ℕ) → takes command Query ≡ false → takes command Trace ≡ false → IsAccepted command query trace
-no_faults command query trace none nor = record { by_query = λ takes. absurd (true≢false (sym takes ∙ none)); by_trace = λ takes. absurd (true≢false (sym takes ∙ nor)) }
+abbrev pub NoRefusal : Command → Type 0
+NoRefusal command = (query trace : List ℕ) → IsAccepted command query trace
 
-pub generation_told : (generation : Generation) (before : Which → Input) → QueryTold (Gen generation) before (λ query. query_fault query ≡ None)
-generation_told generation before = no_query (Gen generation) before refl
+pub nothing_refused : (command : Command) (before : Which → Input) → NoRefusal command → QueryTold command before (λ query. refusal command query ≡ None)
+nothing_refused command before none query takes is = (none query []).by_query
+
+pub gen_refuses_nothing : (generation : Generation) → NoRefusal (Gen generation)
+gen_refuses_nothing generation query trace = record { by_query = refl; by_trace = refl }
+
+pub trial_refuses_nothing : (generation : Generation) (setting : Setting) → NoRefusal (Trial generation setting)
+trial_refuses_nothing generation setting query trace = record { by_query = refl; by_trace = refl }
 
 pub trace_is_text : (generation : Generation) (before : Which → Input) (text : List ℕ) → text ≡ output (Gen generation) [] [] → IsText (Gen generation) before text
-trace_is_text generation before text is query trace holds = (no_faults (Gen generation) query trace refl refl, is)
+trace_is_text generation before text is query trace holds = (gen_refuses_nothing generation query trace, is)
 
-pub trial_told : (generation : Generation) (setting : Setting) (before : Which → Input) → QueryTold (Trial generation setting) before (λ query. query_fault query ≡ None)
-trial_told generation setting before = no_query (Trial generation setting) before refl
+pub trial_is_text : (generation : Generation) (setting : Setting) (before : Which → Input) → IsText (Trial generation setting) before (output (Trial generation setting) [] [])
+trial_is_text generation setting before query trace holds = (trial_refuses_nothing generation setting query trace, refl)
 
-pub trial_is_text : (generation : Generation) (setting : Setting) (before : Which → Input) (text : List ℕ) → text ≡ output (Trial generation setting) [] [] → IsText (Trial generation setting) before text
-trial_is_text generation setting before text is query trace holds = (no_faults (Trial generation setting) query trace refl refl, is)
+-- no status but Ok changes the working parts
+module _ (command : Command) (before : Which → Input) (old new : Option Driven) (kept : new ≡ old) where
+  kept_by : (status : Status) → (status ≡ statuses.Ok → ⊥) → DrivenAfter (Some command) before old new status
+  kept_by statuses.Ok other = absurd (other refl)
+  kept_by statuses.Memory other = kept
+  kept_by statuses.Usage other = kept
+  kept_by (statuses.InputFault which) other = kept
+  kept_by (statuses.QueryRefused fault) other = kept
+  kept_by (statuses.TraceRefused fault) other = kept
+  kept_by statuses.OutputFault other = kept
 
--- no status but Ok leaves other working parts
-
-module _ (before : Which → Input) (old new : Option Driven) (kept : new ≡ old) where
-  run_kept : (setting : Setting) (status : Status) → (status ≡ statuses.Ok → ⊥) → DrivenAfter (Some (Run setting)) before old new status
-  run_kept setting statuses.Ok other = absurd (other refl)
-  run_kept setting statuses.Memory other = kept
-  run_kept setting statuses.Usage other = kept
-  run_kept setting (statuses.InputFault which) other = kept
-  run_kept setting (statuses.QueryRefused fault) other = kept
-  run_kept setting (statuses.TraceRefused fault) other = kept
-  run_kept setting statuses.OutputFault other = kept
-
-  trial_kept : (generation : Generation) (setting : Setting) (status : Status) → (status ≡ statuses.Ok → ⊥) → DrivenAfter (Some (Trial generation setting)) before old new status
-  trial_kept generation setting statuses.Ok other = absurd (other refl)
-  trial_kept generation setting statuses.Memory other = kept
-  trial_kept generation setting statuses.Usage other = kept
-  trial_kept generation setting (statuses.InputFault which) other = kept
-  trial_kept generation setting (statuses.QueryRefused fault) other = kept
-  trial_kept generation setting (statuses.TraceRefused fault) other = kept
-  trial_kept generation setting statuses.OutputFault other = kept
-
-  module _ (result : Result (Unit {0}) Status) (status : Status) (is : IsErrAnd result (λ found. found ≡ status)) (other : status ≡ statuses.Ok → ⊥) where
-    pub run_keeps : (setting : Setting) → DrivenAfter (Some (Run setting)) before old new (status_of result)
-    run_keeps setting = subst (DrivenAfter (Some (Run setting)) before old new) (sym (status_is result status is)) (run_kept setting status other)
-
-    pub trial_keeps : (generation : Generation) (setting : Setting) → DrivenAfter (Some (Trial generation setting)) before old new (status_of result)
-    trial_keeps generation setting = subst (DrivenAfter (Some (Trial generation setting)) before old new) (sym (status_is result status is)) (trial_kept generation setting status other)
+  pub driven_kept : (result : Result (Unit {0}) Status) (status : Status) → IsErrAnd result (λ found. found ≡ status) → (status ≡ statuses.Ok → ⊥) → DrivenAfter (Some command) before old new (status_of result)
+  driven_kept result status is other = subst (DrivenAfter (Some command) before old new) (sym (status_is result status is)) (kept_by status other)
 
 -- the statuses of these phases aren't Ok
-pub query_not_ok : (before after : Input) (status : Status) → QueryEnds before after status → status ≡ statuses.Ok → ⊥
-query_not_ok before after status ended is = subst (QueryEnds before after) is ended
+pub query_not_ok : (fault : List ℕ → Option QueryFault) (before after : Input) (status : Status) → QueryEnds fault before after status → status ≡ statuses.Ok → ⊥
+query_not_ok fault before after status ended is = subst (QueryEnds fault before after) is ended
 
-pub trace_not_ok : (found : TypedQuery) (before after : Input) (status : Status) → TraceEnds (reads_of found) before after status → status ≡ statuses.Ok → ⊥
-trace_not_ok found before after status ended is = subst (TraceEnds (reads_of found) before after) is ended
+module _ {O : Type 0} (taken : O → Option (List ℕ)) (faults : O → ℕ) (old new : O) where
+  pub trace_not_ok : (fault : List ℕ → Option TraceFault) (text : List ℕ → List ℕ) (before after : Input) (status : Status) → TraceEnds taken faults fault text before after old new status → status ≡ statuses.Ok → ⊥
+  trace_not_ok fault text before after status ended is = subst (TraceEnds taken faults fault text before after old new) is ended
 
-pub memory_not_ok : statuses.Memory ≡ statuses.Ok → ⊥
-memory_not_ok e = cc
-
-pub output_not_ok : statuses.OutputFault ≡ statuses.Ok → ⊥
-output_not_ok e = cc
+  pub write_not_ok : (text : List ℕ) (status : Status) → WriteEnds taken faults text old new status → status ≡ statuses.Ok → ⊥
+  write_not_ok text status ended is = subst (WriteEnds taken faults text old new) is ended

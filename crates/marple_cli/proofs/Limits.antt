@@ -4,6 +4,8 @@ use Rattle.std.specs.Result.{IsErrAnd}
 use Rattle.std.proofs.lemmas.Bool.Decides.{leb_tells, nat_tests}
 use Rattle.std.proofs.lemmas.Grind.{common_steps}
 use Rattle.marple_base.specs.Inputs.{Input}
+use Rattle.marple_base.specs.Sink.{TakesFront}
+use Rattle.marple_base.specs.declared.field.Packet.{Packet}
 use Rattle.marple_base.specs.declared.field.FieldSet.{FieldSet}
 use Rattle.marple_base.specs.declared.inputs.Which.TheVariants.{Query, Trace}
 use Rattle.query_lang.specs.Checks.{Checked}
@@ -13,15 +15,18 @@ use Rattle.query_lang.specs.declared.fault.QueryFault.{QueryFault}
 use Rattle.query_lang.specs.declared.typed.TypedQuery.{TypedQuery}
 use Rattle.trace_reader.specs.Traces.{Contents, contents, opening}
 use Rattle.trace_reader.specs.declared.fault.TraceFault.TheVariants as faults
-use Rattle.trace_reader.specs.declared.fault.TraceAnswer.{TraceAnswer}
-use Rattle.trace_reader.specs.declared.fault.TraceAnswer.TheVariants as answers
-use Rattle.trace_reader.specs.Faults as trace_faults
-use Rattle.accepted_query.specs.Accepted.{accepted}
+use Rattle.trace_reader.specs.declared.fault.TraceFault.{TraceFault}
+use Rattle.accepted_query.specs.Accepted.{accepted, fault_in, query_fault}
 use Rattle.accepted_query.specs.Answers.{IsAnswerTo}
 use Rattle.accepted_query.specs.declared.answer.QueryAnswer.{QueryAnswer}
 use Rattle.accepted_query.specs.declared.answer.QueryAnswer.TheVariants.{Refused}
-use Rattle.marple_cli.specs.Ends.{TraceEnds, status_for}
+use Rattle.query_run.specs.Answers.{BreaksOff, text_unless}
+use Rattle.query_run.specs.declared.answer.RunAnswer.{RunAnswer}
+use Rattle.query_run.specs.declared.answer.RunAnswer.TheVariants as breaks
+use Rattle.marple_cli.specs.Ends.{ReadEnds, TraceEnds, WriteEnds, status_for}
 use Rattle.marple_cli.specs.declared.status.Status.{Status}
+use Rattle.marple_cli.specs.declared.status.Status.TheVariants as statuses
+use Rattle.query_run.proofs.Breaking.{nothing_taken}
 
 take_whole : (limit : ℕ) (bytes : List ℕ) → length bytes ≤ limit → take (limit + 1) bytes ≡ bytes
 take_whole limit bytes short = grind (arith, common_steps)
@@ -78,9 +83,9 @@ told_answer P left text slice read same known =
     (λ bytes is. subst P (ap accepted same ∙ sym is) known) (told_query left text read)
 
 pub told_refused : (left : Option (List ℕ)) (text slice : List ℕ) (answer : QueryAnswer) (fault : QueryFault) → IfSome left (λ bytes. text ≡ take 65537 bytes) → slice ≡ text
-    → answer ≡ Refused fault → IsAnswerTo slice answer → IfSome left (λ bytes. accepted bytes ≡ Err fault)
+    → answer ≡ Refused fault → IsAnswerTo slice answer → IfSome left (λ bytes. query_fault bytes ≡ Some fault)
 told_refused left text slice answer fault read same is refused =
-    told_answer (λ found. found ≡ Err fault) left text slice read same (subst (IsAnswerTo slice) is refused)
+    told_answer (λ found. fault_in found ≡ Some fault) left text slice read same (ap fault_in (subst (IsAnswerTo slice) is refused))
 
 -- What is known of the packets and the fault of the bytes that were read holds of the trace that the input tells.
 pub told_contents : (P : Contents → Type 0) (reads : FieldSet) (left : Option (List ℕ)) (text slice : List ℕ) → IfSome left (λ bytes. text ≡ take 268435457 bytes) → slice ≡ text
@@ -89,12 +94,42 @@ told_contents P reads left text slice read same known =
     IfSome-map (λ bytes. contents bytes reads ≡ contents text reads) (λ bytes. P (contents bytes reads)) left
     (λ bytes is. subst P (ap (λ bytes. contents bytes reads) same ∙ sym is) known) (told_trace reads left text read)
 
--- how the phase of the trace ends, where its packets ended so
-pub trace_ends : (reads : FieldSet) (before after : Input) (text slice : List ℕ) (answer : TraceAnswer) → IfSome before.left (λ bytes. text ≡ take 268435457 bytes) → slice ≡ text
-    → trace_faults.IfRefused answer (λ fault. (contents slice reads).fault ≡ Some fault) → TraceEnds reads before after (status_for answer)
-trace_ends reads before after text slice answers.Memory read same ended = ended
-trace_ends reads before after text slice (answers.Refused fault) read same ended =
-    told_contents (λ found. found.fault ≡ Some fault) reads before.left text slice read same ended
+-- how the phase of the trace ends, where the run over its packets broke off so
+pub trace_ends : {O : Type 0} (taken : O → Option (List ℕ)) (faults : O → ℕ) (reads : FieldSet) (shown : List Packet → List ℕ) (before after : Input) (old new : O) (text slice : List ℕ) (answer : RunAnswer)
+    → IfSome before.left (λ bytes. text ≡ take 268435457 bytes) → slice ≡ text → BreaksOff taken faults (shown (contents slice reads).packets) (contents slice reads).fault old new answer
+    → TraceEnds taken faults (λ bytes. (contents bytes reads).fault) (λ bytes. shown (contents bytes reads).packets) before after old new (status_for answer)
+trace_ends taken faults reads shown before after old new text slice breaks.Memory read same ended =
+    told_contents (λ found. TakesFront (taken old) (taken new) (text_unless found.fault (shown found.packets))) reads before.left text slice read same ended
+trace_ends taken faults reads shown before after old new text slice (breaks.Refused fault) read same ended =
+    (told_contents (λ found. found.fault ≡ Some fault) reads before.left text slice read same ended.0, ended.1)
+trace_ends taken faults reads shown before after old new text slice breaks.Failed read same ended =
+    (ended.1, told_contents (λ found. (found.fault ≡ None) × TakesFront (taken old) (taken new) (shown found.packets)) reads before.left text slice read same (ended.0, ended.2))
+
+-- how the phase that reads the trace ends, where nothing was written
+pub read_ends : {O : Type 0} (taken : O → Option (List ℕ)) (faults : O → ℕ) (fault : List ℕ → Option TraceFault) (shown : List ℕ → List ℕ) (before after : Input) (out : O) (status : Status)
+    → ReadEnds before after status → TraceEnds taken faults fault shown before after out out status
+read_ends taken faults fault shown before after out statuses.Memory ended = by_left before.left
+  where
+    by_left : (left : Option (List ℕ)) → IfSome left (λ bytes. TakesFront (taken out) (taken out) (text_unless (fault bytes) (shown bytes)))
+    by_left None = tt
+    by_left (Some bytes) = nothing_taken (taken out) (text_unless (fault bytes) (shown bytes))
+read_ends taken faults fault shown before after out (statuses.InputFault Trace) ended = (ended, refl)
+read_ends taken faults fault shown before after out statuses.Ok ended = absurd ended
+read_ends taken faults fault shown before after out statuses.Usage ended = absurd ended
+read_ends taken faults fault shown before after out (statuses.InputFault Query) ended = absurd ended
+read_ends taken faults fault shown before after out (statuses.QueryRefused found) ended = absurd ended
+read_ends taken faults fault shown before after out (statuses.TraceRefused found) ended = absurd ended
+read_ends taken faults fault shown before after out statuses.OutputFault ended = absurd ended
+
+-- how a phase that writes ends, where a run over made packets broke off so
+pub made_ends : {O : Type 0} (taken : O → Option (List ℕ)) (faults : O → ℕ) (text : List ℕ) (old new : O) (answer : RunAnswer) → BreaksOff taken faults text None old new answer
+    → WriteEnds taken faults text old new (status_for answer)
+made_ends taken faults text old new breaks.Memory ended = ended
+made_ends taken faults text old new (breaks.Refused found) ended = absurd (no_fault ended.0)
+  where
+    no_fault : {x : TraceFault} → None ≡ Some x → ⊥
+    no_fault e = cc
+made_ends taken faults text old new breaks.Failed ended = (ended.1, ended.2)
 
 -- a fact of the status that a result has
 pub err_told : {A : Type 0} (P : Status → Type 0) (result : Result A Status) (status : Status) → IsErrAnd result (λ found. found ≡ status) → P status → IfErr result P

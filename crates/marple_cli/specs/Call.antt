@@ -26,9 +26,10 @@ abbrev pub WhereTold : Option Command → (Which → Input) → (Command → Lis
 WhereTold asked inputs P =
     (command : Command) (query trace : List ℕ) → asked ≡ Some command → Holds command inputs query trace → P command query trace
 
--- P holds of the bytes of the query, where a command with a query is asked for and the input tells them, whatever the other input tells.
-abbrev pub WhereQueryTold : Option Command → (Which → Input) → (List ℕ → Type 0) → Type 0
-WhereQueryTold asked inputs P = (query : List ℕ) → Takes asked Query → (inputs Query).left ≡ Some query → P query
+-- P holds of the command and the bytes of its query, where a command with a query is asked for and the input tells them, whatever the other input tells.
+abbrev pub WhereQueryTold : Option Command → (Which → Input) → (Command → List ℕ → Type 0) → Type 0
+WhereQueryTold asked inputs P =
+    (command : Command) (query : List ℕ) → asked ≡ Some command → takes command Query ≡ true → (inputs Query).left ≡ Some query → P command query
 
 -- The counts of the command's inputs and of the output did not rise.
 pub record IsQuiet (command : Command) (before after : Which → Input) (out_before out_after : ℕ) : Type 0 where

@@ -31,11 +31,16 @@ abbrev pub IsDriven : Setting → Option Driven → (PipelineView → Type 0) �
 IsDriven setting None P = ⊥
 IsDriven setting (Some driven) P = IsLeftBy setting driven × P (pipeline_in driven)
 
--- What a run or a trial that answers Ok leaves of its working parts; where the inputs tell their bytes they are the machines at the trace's end. Every other
--- command and status leaves them as they were.
-abbrev pub DrivenAfter : Option Command → (Which → Input) → Option Driven → Option Driven → Status → Type 0
-DrivenAfter (Some (Run setting)) before old new statuses.Ok =
-    IsDriven setting new (λ p. ToldOf (Run setting) before (λ query trace. StandsForEnd setting (accepted query) (read_packets trace) p))
-DrivenAfter (Some (Trial generation setting)) before old new statuses.Ok =
+-- What a command that answers Ok leaves of the working parts. Of a run and a trial they are there, and where the inputs tell their bytes they are the machines at
+-- the trace's end; every other command leaves them as they were.
+abbrev pub Leaves : Command → (Which → Input) → Option Driven → Option Driven → Type 0
+Leaves (Run setting every) before old new =
+    IsDriven setting new (λ p. ToldOf (Run setting every) before (λ query trace. StandsForEnd setting (accepted query) (read_packets trace) p))
+Leaves (Trial generation setting) before old new =
     IsDriven setting new (λ p. StandsForEnd setting (accepted trial_query) (λ q. made_packets generation) p)
+Leaves command before old new = new ≡ old
+
+-- The working parts after a call. Only a command that answers Ok changes them.
+abbrev pub DrivenAfter : Option Command → (Which → Input) → Option Driven → Option Driven → Status → Type 0
+DrivenAfter (Some command) before old new statuses.Ok = Leaves command before old new
 DrivenAfter asked before old new status = new ≡ old

@@ -4,10 +4,10 @@
 mod complaint;
 mod generate;
 mod operands;
+mod packets;
 mod run;
 mod staging;
 mod status;
-mod tables;
 mod top;
 mod trial_query;
 

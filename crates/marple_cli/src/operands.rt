@@ -3,7 +3,7 @@ ghost use Rattle.std.specs.Prelude.{◌≡◌, ◌+◌, ◌≤◌, Ok, IfOk, IfE
 ghost use Rattle.marple_base.specs.Inputs.{IsClosed};
 ghost use Rattle.query_lang.specs.TypedQueries.{IsValidQuery};
 ghost use Rattle.stage_plan.specs.Planned.{IsPlanOf};
-ghost use Rattle.accepted_query.specs.Accepted.{accepted};
+ghost use Rattle.accepted_query.specs.Accepted.{accepted, query_fault};
 ghost use Rattle.marple_cli.specs.Ends.{QueryEnds, ReadEnds};
 
 use crate::status::Status;
@@ -23,7 +23,7 @@ pub fn read_query<I: Inputs>(alloc: Global, inputs: &mut I) -> Result<AcceptedQu
     ensures ok { IfOk result (λ found. IfSome (I.input inputs.old Which.Query).left (λ query. accepted query ≡ Ok found.typed)) }
     ensures valid { IfOk result (λ found. IsValidQuery found.typed) }
     ensures plan { IfOk result (λ found. IsPlanOf found.typed found.plan) }
-    ensures err { IfErr result (QueryEnds (I.input inputs.old Which.Query) (I.input inputs.new Which.Query)) }
+    ensures err { IfErr result (QueryEnds query_fault (I.input inputs.old Which.Query) (I.input inputs.new Which.Query)) }
     ensures later { (I.input inputs.old Which.Query).faults ≤ (I.input inputs.new Which.Query).faults }
     ensures trace_kept { I.input inputs.new Which.Trace ≡ I.input inputs.old Which.Trace }
 {

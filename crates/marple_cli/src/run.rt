@@ -9,18 +9,19 @@ ghost use Rattle.marple_cli.specs.Output.{takes};
 
 use crate::generate::generate;
 use crate::operands::read_query;
+use crate::packets::{run_made, run_trace};
 use crate::staging::write_stages;
 use crate::status::Status;
-use crate::tables::{tables_of_made, tables_of_trace};
 use command_line::{Command, Generation, Setting};
 use driven_query::Driven;
-use marple_base::{Inputs, Sink, Steps, Which, write_all};
+use marple_base::{Inputs, Sink, Steps, Which};
 use std::alloc::Global;
 use std::sync::ledger::Ledger;
 
 fn run<I: Inputs, O: Sink, L: Ledger>(
     alloc: Global,
     setting: Setting,
+    every: u32,
     inputs: &mut I,
     out: &mut O,
     driven: &mut Option<Driven>,
@@ -29,17 +30,16 @@ fn run<I: Inputs, O: Sink, L: Ledger>(
     requires setting { IsSetting setting }
     requires query_closed { IsClosed (I.input inputs.old Which.Query) }
     requires trace_closed { IsClosed (I.input inputs.old Which.Trace) }
-    ensures ends { Ends O.taken O.faults (Command.Run setting) (I.input inputs.old) (I.input inputs.new) out.old out.new (status_of result) }
-    ensures driven { DrivenAfter (Some (Command.Run setting)) (I.input inputs.old) driven.old driven.new (status_of result) }
+    ensures ends { Ends O.taken O.faults (Command.Run setting every) (I.input inputs.old) (I.input inputs.new) out.old out.new (status_of result) }
+    ensures driven { DrivenAfter (Some (Command.Run setting every)) (I.input inputs.old) driven.old driven.new (status_of result) }
     ensures query_later { (I.input inputs.old Which.Query).faults ≤ (I.input inputs.new Which.Query).faults }
     ensures trace_later { (I.input inputs.old Which.Trace).faults ≤ (I.input inputs.new Which.Trace).faults }
     ensures out_later { O.faults out.old ≤ O.faults out.new }
     ensures steps { steps.old ≤ steps.new }
 {
     let query = read_query(alloc, inputs)?;
-    let found = tables_of_trace(alloc, setting, query, inputs, steps)?;
-    write_all(out, found.text.as_slice())?;
-    *driven = Some(found.driven);
+    let left = run_trace(alloc, setting, every, query, inputs, out, steps)?;
+    *driven = Some(left);
     Ok(())
 }
 
@@ -58,9 +58,8 @@ fn trial<O: Sink, L: Ledger>(
     ensures out_later { O.faults out.old ≤ O.faults out.new }
     ensures steps { steps.old ≤ steps.new }
 {
-    let made = tables_of_made(alloc, generation, setting, steps)?;
-    write_all(out, made.text.as_slice())?;
-    *driven = Some(made.driven);
+    let made = run_made(alloc, generation, setting, out, steps)?;
+    *driven = Some(made);
     Ok(())
 }
 
@@ -85,7 +84,7 @@ pub fn perform<I: Inputs, O: Sink, L: Ledger>(
     ensures steps { steps.old ≤ steps.new }
 {
     match command {
-        Command::Run(setting) => run(alloc, setting, inputs, out, driven, steps),
+        Command::Run(setting, every) => run(alloc, setting, every, inputs, out, driven, steps),
         Command::Plan(ways) => write_stages(alloc, ways, inputs, out),
         Command::Gen(generation) => generate(alloc, generation, out),
         Command::Trial(generation, setting) => {

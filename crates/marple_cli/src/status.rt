@@ -6,8 +6,9 @@ ghost use Rattle.marple_cli.specs.declared.status.Status.TheVariants.{Memory, Ou
 
 use marple_base::{Failed, Which};
 use query_lang::QueryFault;
+use query_run::RunAnswer;
 use std::alloc::AllocError;
-use trace_reader::{TraceAnswer, TraceFault};
+use trace_reader::TraceFault;
 
 /// How a command ends. The statuses are numbered from 0 in this order.
 #[derive(Clone, Copy, Debug, PartialEq, Eq)]
@@ -46,13 +47,14 @@ impl From<AllocError> for Status {
     }
 }
 
-impl From<TraceAnswer> for Status {
+impl From<RunAnswer> for Status {
     ghost from_gives = { λ answer status. status ≡ status_for answer };
 
-    fn from(answer: TraceAnswer) -> Status {
+    fn from(answer: RunAnswer) -> Status {
         match answer {
-            TraceAnswer::Refused(fault) => Status::TraceRefused(fault),
-            TraceAnswer::Memory => Status::Memory,
+            RunAnswer::Refused(fault) => Status::TraceRefused(fault),
+            RunAnswer::Memory => Status::Memory,
+            RunAnswer::Failed => Status::OutputFault,
         }
     }
 }

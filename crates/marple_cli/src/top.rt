@@ -4,13 +4,12 @@ ghost use Rattle.std.specs.Io.KnownBytes.{Appends};
 ghost use Rattle.marple_base.specs.Faults.{Rose};
 ghost use Rattle.marple_base.specs.Inputs.{IsClosed};
 ghost use Rattle.marple_base.specs.Sink.{TakesFront};
-ghost use Rattle.accepted_query.specs.Accepted.{query_fault};
 ghost use Rattle.command_line.specs.Command.{asked};
 ghost use Rattle.marple_cli.specs.Call.{Takes, WhereTold, WhereQueryTold, WritesOutput, WritesFront, IsQuiet, IsBeforeOutput, IsBeforeTrace};
 ghost use Rattle.marple_cli.specs.Complaint.{complaint};
 ghost use Rattle.marple_cli.specs.Driven.{DrivenAfter};
 ghost use Rattle.marple_cli.specs.Ends.{Answers};
-ghost use Rattle.marple_cli.specs.Output.{IsAccepted, trace_fault, defined_text};
+ghost use Rattle.marple_cli.specs.Output.{IsAccepted, refusal, trace_refusal, defined_text};
 
 use crate::complaint::complain;
 use crate::run::perform;
@@ -74,23 +73,23 @@ pub fn marple<I: Inputs, O: Sink, E: Sink, L: Ledger>(
     ensures input_fault { (which : _) → result ≡ Status.InputFault which →
         Takes (asked (map string_bytes words.now)) which × Rose (I.input inputs.old which).faults (I.input inputs.new which).faults }
     ensures trace_fault { result ≡ Status.InputFault Which.Trace →
-        WhereQueryTold (asked (map string_bytes words.now)) (I.input inputs.old) (λ query. query_fault query ≡ None) }
+        WhereQueryTold (asked (map string_bytes words.now)) (I.input inputs.old) (λ command query. refusal command query ≡ None) }
     ensures output_fault { result ≡ Status.OutputFault → Rose (O.faults out.old) (O.faults out.new) }
 
     // Refusals.
     ensures query_refused { (fault : _) → result ≡ Status.QueryRefused fault →
         Takes (asked (map string_bytes words.now)) Which.Query
-        × WhereQueryTold (asked (map string_bytes words.now)) (I.input inputs.old) (λ query. query_fault query ≡ Some fault) }
+        × WhereQueryTold (asked (map string_bytes words.now)) (I.input inputs.old) (λ command query. refusal command query ≡ Some fault) }
     ensures refuses_query { (fault : _) →
-        WhereQueryTold (asked (map string_bytes words.now)) (I.input inputs.old) (λ query. query_fault query ≡ Some fault →
+        WhereQueryTold (asked (map string_bytes words.now)) (I.input inputs.old) (λ command query. refusal command query ≡ Some fault →
         (result ≡ Status.QueryRefused fault) ⊎ (result ≡ Status.InputFault Which.Query) ⊎ (result ≡ Status.Memory)) }
     ensures trace_refused { (fault : _) → result ≡ Status.TraceRefused fault →
         Takes (asked (map string_bytes words.now)) Which.Trace
-        × WhereQueryTold (asked (map string_bytes words.now)) (I.input inputs.old) (λ query. query_fault query ≡ None)
-        × WhereTold (asked (map string_bytes words.now)) (I.input inputs.old) (λ command query trace. trace_fault query trace ≡ Some fault) }
+        × WhereQueryTold (asked (map string_bytes words.now)) (I.input inputs.old) (λ command query. refusal command query ≡ None)
+        × WhereTold (asked (map string_bytes words.now)) (I.input inputs.old) (λ command query trace. trace_refusal command query trace ≡ Some fault) }
     ensures refuses_trace { (fault : _) →
         WhereTold (asked (map string_bytes words.now)) (I.input inputs.old) (λ command query trace.
-        Takes (Some command) Which.Trace → query_fault query ≡ None → trace_fault query trace ≡ Some fault →
+        refusal command query ≡ None → trace_refusal command query trace ≡ Some fault →
         (result ≡ Status.TraceRefused fault) ⊎ ((which : _) × (result ≡ Status.InputFault which)) ⊎ (result ≡ Status.Memory)) }
 
     // What was written by then.
@@ -99,7 +98,7 @@ pub fn marple<I: Inputs, O: Sink, E: Sink, L: Ledger>(
     ensures memory_front { result ≡ Status.Memory → WhereTold (asked (map string_bytes words.now)) (I.input inputs.old) (λ command query trace.
         TakesFront (O.taken out.old) (O.taken out.new) (defined_text command query trace)) }
     ensures memory_query { (fault : _) → result ≡ Status.Memory →
-        WhereQueryTold (asked (map string_bytes words.now)) (I.input inputs.old) (λ query. query_fault query ≡ Some fault → out.new ≡ out.old) }
+        WhereQueryTold (asked (map string_bytes words.now)) (I.input inputs.old) (λ command query. refusal command query ≡ Some fault → out.new ≡ out.old) }
 
     // Inputs that weren't asked for, or not reached.
     ensures no_operand { (which : _) → (Takes (asked (map string_bytes words.now)) which → ⊥) → I.input inputs.new which ≡ I.input inputs.old which }

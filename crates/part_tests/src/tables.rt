@@ -2,7 +2,7 @@
 ghost use Rattle.std.specs.Prelude.{◌≡◌, ◌<◌, ◌≤◌};
 
 use accepted_query::{AcceptedQuery, accept};
-use marple_base::{Steps, Text};
+use marple_base::{MemorySink, Seq, Steps, Text};
 use query_run::{read_packets_are_whole, run_query};
 use std::alloc::Global;
 use std::marker::Brand;
@@ -19,6 +19,9 @@ const ONE_BUCKET: Schedule = Schedule {
     refresh: 0,
 };
 
+/// The most bytes that a query prints here.
+const PLACES: usize = 4096;
+
 /// What a query prints over a trace.
 fn printed<const WAYS: usize, L: Ledger>(
     alloc: Global,
@@ -32,8 +35,11 @@ fn printed<const WAYS: usize, L: Ledger>(
     read_packets_are_whole();
     let AcceptedQuery { typed, plan } = accept(alloc, query)?;
     let packets = Packets::Trace(open_trace(alloc, trace, plan.reads())?);
-    let answered = run_query::<WAYS, L>(alloc, &typed, plan, ONE_BUCKET, packets, steps)?;
-    Ok(answered.text)
+    let mut out = MemorySink::new(alloc, PLACES, PLACES, Seq::new(alloc))?;
+    let _drained = run_query::<WAYS, MemorySink, L>(
+        alloc, &typed, plan, ONE_BUCKET, 0, packets, &mut out, steps,
+    )?;
+    Ok(Text::from_slice(alloc, out.taken())?)
 }
 
 fn printed_by_one_way<L: Ledger>(

@@ -1,5 +1,5 @@
 -- What a query makes of a trace.
-use Rattle.std.specs.Prelude.{◌≡◌, ℕ, suc, List, [], ◌∷◌, length, map, All}
+use Rattle.std.specs.Prelude.{◌≡◌, ◌≤◌, ℕ, suc, List, [], ◌∷◌, length, map, All}
 use Rattle.query_lang.specs.declared.typed.TypedQuery.{TypedQuery}
 use Rattle.query_lang.specs.Streams.{Taking, takings}
 use Rattle.query_lang.specs.TypedQueries.{IsValidQuery}
@@ -14,7 +14,7 @@ use Rattle.switch_core.specs.Pipelines.{tables_of}
 use Rattle.switch_core.specs.PlanLanes.{LaneView, AreLanesOf, folding_at}
 use Rattle.query_tables.specs.Tables.{group_tables}
 use Rattle.marple_base.specs.declared.field.FieldSet.{FieldSet}
-use Rattle.trace_reader.specs.Traces.{packets}
+use Rattle.trace_reader.specs.Traces.{most_records, packets}
 use Rattle.trace_drive.specs.Drives.{end_machines, words_of}
 
 -- the packets have the words of 14 fields
@@ -39,3 +39,7 @@ pub record EndsAreTheQuerys : Type 0 where
 -- The packets of a trace have the words of all fields.
 abbrev pub ReadPacketsAreWhole : Type 0
 ReadPacketsAreWhole = (text : List ℕ) (reads : FieldSet) → AreWhole (words_of (packets text reads))
+
+-- The packets of a trace are no more than a trace may have records.
+abbrev pub ReadPacketsAreFew : Type 0
+ReadPacketsAreFew = (text : List ℕ) (reads : FieldSet) → length (packets text reads) ≤ most_records

@@ -21,8 +21,8 @@ returns-in_err-write_all-clause-ends g c =
     let before = g.I.Inputs.input c.args.inputs.now in
     let found = c.in_ok-query.query.typed in
     let text = c.as_slice.ensures ∙ c.in_ok-text.ensures ∙ ap (plan_text_of (shape_of c.in_ok-query.query.plan)) c.number.ensures ∙ ap (λ shape. plan_text_of shape (ways_number c.args.ways)) c.in_ok-query.ensures.plan.shape in
-    cut_off g.O.Sink.taken g.O.Sink.faults (Plan c.args.ways) before (g.I.Inputs.input c.read_query.new.inputs) c.args.out.now c.write_all.new.out c.as_slice.result.now
-    (query_told (Plan c.args.ways) before found c.in_ok-query.ensures.ok) (stages_are_text c.args.ways before found c.as_slice.result.now c.in_ok-query.ensures.ok text)
+    cut_off g.O.Sink.taken g.O.Sink.faults (Plan c.args.ways) before (g.I.Inputs.input c.read_query.new.inputs) c.args.out.now c.write_all.new.out
+    (query_told (Plan c.args.ways) before found (λ bytes. refl) c.in_ok-query.ensures.ok) c.as_slice.result.now (stages_are_text c.args.ways before found c.as_slice.result.now c.in_ok-query.ensures.ok text)
     c.from_residual-in_err-write_all.result c.from_residual-in_err-write_all.ensures.1 c.in_err-write_all.ensures.cause.failed c.in_err-write_all.ensures.front
 
 pub returns-clause-ends : goal.returns-clause-ends
@@ -30,6 +30,6 @@ returns-clause-ends g c =
     let before = g.I.Inputs.input c.args.inputs.now in
     let found = c.in_ok-query.query.typed in
     let text = c.as_slice.ensures ∙ c.in_ok-text.ensures ∙ ap (plan_text_of (shape_of c.in_ok-query.query.plan)) c.number.ensures ∙ ap (λ shape. plan_text_of shape (ways_number c.args.ways)) c.in_ok-query.ensures.plan.shape in
-    all_written g.O.Sink.taken g.O.Sink.faults (Plan c.args.ways) before (g.I.Inputs.input c.read_query.new.inputs) c.args.out.now c.write_all.new.out c.as_slice.result.now
-    (query_told (Plan c.args.ways) before found c.in_ok-query.ensures.ok) (stages_are_text c.args.ways before found c.as_slice.result.now c.in_ok-query.ensures.ok text)
+    all_written g.O.Sink.taken g.O.Sink.faults (Plan c.args.ways) before (g.I.Inputs.input c.read_query.new.inputs) c.args.out.now c.write_all.new.out
+    (query_told (Plan c.args.ways) before found (λ bytes. refl) c.in_ok-query.ensures.ok) c.as_slice.result.now (stages_are_text c.args.ways before found c.as_slice.result.now c.in_ok-query.ensures.ok text)
     c.in_ok-write_all.ensures.ok

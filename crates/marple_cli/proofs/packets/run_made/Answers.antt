@@ -1,0 +1,24 @@
+use Rattle.std.proofs.Common.{◌≡◌, Ok, None, ap, sym, ◌∙◌, subst}
+use Rattle.accepted_query.specs.Accepted.{accepted}
+use Rattle.query_run.specs.Answers.{BreaksOff}
+use Rattle.query_tables.specs.Tables.{query_text}
+use Rattle.trace_drive.specs.Drives.{words_of}
+use Rattle.driven_query.specs.Driven.{geometry_of}
+use Rattle.marple_cli.specs.Ends.{WriteEnds, status_for}
+use Rattle.marple_cli.specs.Output.{made_packets, tables_text}
+use Rattle.marple_cli.specs.TrialQuery.{trial_query}
+use Rattle.marple_cli.proofs.Limits.{err_told, made_ends}
+use Rattle.marple_cli.proofs.packets.run_made.Goals as goal
+
+pub returns-in_err-driven-clause-err : goal.returns-in_err-driven-clause-err
+returns-in_err-driven-clause-err g c =
+    let text = tables_text c.args.setting (accepted trial_query) (λ q. made_packets c.args.generation) in
+    let old = c.args.out.now in
+    let new = c.run_over_made.new.out in
+    let read : accepted trial_query ≡ Ok c.in-Ok.query.typed = ap accepted (sym c.trial_query.ensures) ∙ c.in-Ok.ensures.typed in
+    let is : query_text c.in-Ok.query.typed (geometry_of c.args.setting) (words_of c.in_ok-made.made) ≡ text =
+    ap (λ made. query_text c.in-Ok.query.typed (geometry_of c.args.setting) (words_of made)) c.in_ok-made.ensures
+    ∙ sym (ap (λ one. tables_text c.args.setting one (λ q. made_packets c.args.generation)) read) in
+    err_told (WriteEnds g.O.Sink.taken g.O.Sink.faults text old new) c.from_residual-in_err-driven.result (status_for c.in_err-driven.field-0.0) c.from_residual-in_err-driven.ensures.1
+    (made_ends g.O.Sink.taken g.O.Sink.faults text old new c.in_err-driven.field-0.0
+    (subst (λ text. BreaksOff g.O.Sink.taken g.O.Sink.faults text None old new c.in_err-driven.field-0.0) is c.in_err-driven.ensures.breaks_off))

@@ -1,0 +1,74 @@
+-- How a run breaks off, wherever it does.
+use Rattle.std.proofs.Common.{◌≡◌, ℕ, ◌≤◌, List, [], ◌++◌, Option, None, Some, length, refl, sym, subst, arith, inl, inr, length-append, Result, Ok, Err, IfErr}
+use Rattle.std.specs.Result.{IsErrAnd}
+use Rattle.std.proofs.Math.Seq.{take-append_seam}
+use Rattle.std.proofs.KnownBytes.{Appends-nil}
+use Rattle.std.specs.Io.KnownBytes.{Appends}
+use Rattle.marple_base.specs.Faults.{Rose}
+use Rattle.marple_base.specs.Sink.{TakesFront}
+use Rattle.query_run.specs.Answers.{BreaksOff, answer_for, text_unless}
+use Rattle.query_run.specs.declared.answer.RunAnswer.{RunAnswer}
+use Rattle.query_run.specs.declared.answer.RunAnswer.TheVariants.{Refused, Memory, Failed}
+use Rattle.trace_reader.specs.Faults.{IfRefused}
+use Rattle.trace_reader.specs.declared.fault.TraceAnswer.{TraceAnswer}
+use Rattle.trace_reader.specs.declared.fault.TraceAnswer.TheVariants as answers
+use Rattle.trace_reader.specs.declared.fault.TraceFault.{TraceFault}
+use Rattle.query_run.proofs.Pieces.{TakesFront-more}
+
+-- a fact of the answer that a result has
+pub err_is : {A E : Type 0} (P : E → Type 0) (result : Result A E) (answer : E) → IsErrAnd result (λ found. found ≡ answer) → P answer → IfErr result P
+err_is P (Ok done) answer is known = tt
+err_is P (Err found) answer is known = subst P (sym is) known
+
+pub nothing_taken : (bytes : Option (List ℕ)) (text : List ℕ) → TakesFront bytes bytes text
+nothing_taken bytes text = record { count = 0; within = omega arith; taken = Appends-nil bytes }
+
+-- all of the first part was taken
+pub part_taken : (old new : Option (List ℕ)) (done rest : List ℕ) → Appends old new done → TakesFront old new (done ++ rest)
+part_taken old new done rest whole = record {
+  count = length done;
+  within = omega (arith, length-append done rest);
+  taken = subst (Appends old new) (sym (take-append_seam done rest)) whole;
+}
+
+rose_since : (old mid new : ℕ) → old ≤ mid → Rose mid new → Rose old new
+rose_since old mid new later (inl less) = inl (omega arith)
+rose_since old mid new later (inr last) = inr last
+
+pub none_some : {X : Type 0} (x : X) (o : Option X) → o ≡ None → o ≡ Some x → ⊥
+none_some x o a b = cc
+
+module _ {O : Type 0} (taken : O → Option (List ℕ)) (faults : O → ℕ) (text : List ℕ) (fault : Option TraceFault) where
+  -- out of memory, with nothing written
+  pub out_of_memory : (out : O) → BreaksOff taken faults text fault out out Memory
+  out_of_memory out = nothing_taken (taken out) (text_unless fault text)
+
+  -- out of memory behind what was written of a sound trace's text, where a trace that may have a fault has nothing written
+  pub memory_behind : (old new : O) (done rest : List ℕ) → text ≡ done ++ rest → ((found : TraceFault) → fault ≡ Some found → done ≡ []) → Appends (taken old) (taken new) done
+      → BreaksOff taken faults text fault old new Memory
+  memory_behind old new done rest is none whole = by_fault fault refl
+    where
+      by_fault : (f : Option TraceFault) → fault ≡ f → TakesFront (taken old) (taken new) (text_unless f text)
+      by_fault None e = subst (TakesFront (taken old) (taken new)) (sym is) (part_taken (taken old) (taken new) done rest whole)
+      by_fault (Some found) e = part_taken (taken old) (taken new) [] [] (subst (Appends (taken old) (taken new)) (none found e) whole)
+
+  -- the reader broke off, where nothing was written of a trace that may have a fault
+  pub reader_breaks : (old new : O) (done rest : List ℕ) → text ≡ done ++ rest → ((found : TraceFault) → fault ≡ Some found → (done ≡ []) × (new ≡ old)) → Appends (taken old) (taken new) done
+      → (answer : TraceAnswer) → IfRefused answer (λ found. fault ≡ Some found) → BreaksOff taken faults text fault old new (answer_for answer)
+  reader_breaks old new done rest is none whole (answers.Refused found) e = (e, (none found e).1)
+  reader_breaks old new done rest is none whole answers.Memory e = memory_behind old new done rest is (λ found f. (none found f).0) whole
+
+  -- a write failed behind what was written
+  pub write_breaks : (old mid new : O) (done piece rest : List ℕ) → text ≡ done ++ (piece ++ rest) → fault ≡ None → Appends (taken old) (taken mid) done → faults old ≤ faults mid
+      → Rose (faults mid) (faults new) → TakesFront (taken mid) (taken new) piece → BreaksOff taken faults text fault old new Failed
+  write_breaks old mid new done piece rest is sound whole later rose front =
+      (sound, rose_since (faults old) (faults mid) (faults new) later rose, subst (TakesFront (taken old) (taken new)) (sym is) (TakesFront-more (taken old) (taken mid) (taken new) done piece rest whole front))
+
+  -- a part of the text broke off behind what was written
+  pub part_breaks : (old mid new : O) (done piece rest : List ℕ) → text ≡ done ++ (piece ++ rest) → fault ≡ None → Appends (taken old) (taken mid) done → faults old ≤ faults mid
+      → (answer : RunAnswer) → BreaksOff taken faults piece None mid new answer → BreaksOff taken faults text fault old new answer
+  part_breaks old mid new done piece rest is sound whole later (Refused found) broke = absurd (none_some found None refl broke.0)
+  part_breaks old mid new done piece rest is sound whole later Memory broke =
+      subst (λ f. TakesFront (taken old) (taken new) (text_unless f text)) (sym sound) (subst (TakesFront (taken old) (taken new)) (sym is) (TakesFront-more (taken old) (taken mid) (taken new) done piece rest whole broke))
+  part_breaks old mid new done piece rest is sound whole later Failed broke =
+      write_breaks old mid new done piece rest is sound whole later broke.1 broke.2

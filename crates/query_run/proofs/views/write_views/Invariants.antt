@@ -1,0 +1,22 @@
+use Rattle.std.proofs.Common.{◌≡◌, ◌≤◌, ◌-◌, ◌%◌, length}
+use Rattle.std.specs.Io.KnownBytes.{Appends}
+use Rattle.trace_drive.specs.Drives.{coming, fault_of, geometry_for, words_of}
+use Rattle.trace_drive.specs.Follows.{Keeps}
+use Rattle.trace_drive.specs.Replays.{IsUnderWay, fault_in, pipeline_in}
+use Rattle.query_run.specs.Views.{views_up_to}
+use Rattle.query_run.proofs.views.write_views.Given as goal
+
+-- the views up to this number, which is a multiple of `every`, were written, and as many packets were taken
+abbrev pub invariant-views : goal.invariant-views
+invariant-views g l = record {
+  way : IsUnderWay l.fn.schedule (coming l.fn.packets) l.number l.replay;
+  multiple : l.number % l.every ≡ 0;
+  fault : fault_in l.replay ≡ fault_of l.fn.packets;
+  keeps : Keeps l.fn.pipeline (pipeline_in l.replay);
+  written : Appends (g.O.Sink.taken l.fn.out) (g.O.Sink.taken l.out) (views_up_to l.typed (geometry_for g.row.WAYS l.fn.schedule) l.every (words_of (coming l.fn.packets)) l.number);
+  out_later : g.O.Sink.faults l.fn.out ≤ g.O.Sink.faults l.out;
+  later : l.fn.steps ≤ l.steps;
+}
+
+abbrev pub decreases-views : goal.decreases-views
+decreases-views g l = length (coming l.fn.packets) - l.number

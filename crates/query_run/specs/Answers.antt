@@ -1,0 +1,26 @@
+-- What a run over packets says where it breaks off.
+use Rattle.std.specs.Prelude.{◌≡◌, ℕ, List, [], Option, Some, None}
+use Rattle.marple_base.specs.Faults.{Rose}
+use Rattle.marple_base.specs.Sink.{TakesFront}
+use Rattle.query_run.specs.declared.answer.RunAnswer.{RunAnswer}
+use Rattle.query_run.specs.declared.answer.RunAnswer.TheVariants.{Refused, Memory, Failed}
+use Rattle.trace_reader.specs.declared.fault.TraceAnswer.{TraceAnswer}
+use Rattle.trace_reader.specs.declared.fault.TraceAnswer.TheVariants as answers
+use Rattle.trace_reader.specs.declared.fault.TraceFault.{TraceFault}
+
+-- the answer of a run for an answer of the trace's reader
+abbrev pub answer_for : TraceAnswer → RunAnswer
+answer_for (answers.Refused fault) = Refused fault
+answer_for answers.Memory = Memory
+
+-- the text that a run may write: nothing where the trace has a fault
+abbrev pub text_unless : Option TraceFault → List ℕ → List ℕ
+text_unless None text = text
+text_unless (Some fault) text = []
+
+-- A run that would write this text over a trace with this first fault, if it has one, broke off with an answer.
+module _ {O : Type 0} (taken : O → Option (List ℕ)) (faults : O → ℕ) (text : List ℕ) (fault : Option TraceFault) (old new : O) where
+  abbrev pub BreaksOff : RunAnswer → Type 0
+  BreaksOff (Refused found) = (fault ≡ Some found) × (new ≡ old)
+  BreaksOff Memory = TakesFront (taken old) (taken new) (text_unless fault text)
+  BreaksOff Failed = (fault ≡ None) × Rose (faults old) (faults new) × TakesFront (taken old) (taken new) text

@@ -1,0 +1,107 @@
+// Views of a trace on its way, written one after another.
+
+ghost use Rattle.std.specs.Prelude.{◌≡◌, ◌<◌, ◌≤◌, ℕ, List, None, IfErr, IfOk, OnOk, length};
+ghost use Rattle.std.specs.Io.KnownBytes.{Appends};
+ghost use Rattle.epoch_entry.specs.declared.purpose.Entries.TheVariants.{Folds};
+ghost use Rattle.epoch_model.specs.Epochs.{Geometry};
+ghost use Rattle.query_lang.specs.TypedQueries.{IsValidQuery};
+ghost use Rattle.stage_plan.specs.Planned.{IsPlanOf};
+ghost use Rattle.switch_core.specs.Pipelines.{empty_machines, geometry_of};
+ghost use Rattle.switch_core.specs.PlanLanes.{PipelineStands};
+ghost use Rattle.trace_drive.specs.Drives.{coming, fault_of, geometry_for, words_of};
+ghost use Rattle.trace_drive.specs.Follows.{Keeps};
+ghost use Rattle.trace_drive.specs.Replays.{IsUnderWay, fault_in, pipeline_in};
+ghost use Rattle.query_run.specs.Answers.{BreaksOff};
+ghost use Rattle.query_run.specs.Runs.{AreWhole};
+ghost use Rattle.query_run.specs.Views.{CanBeViewed, IsAsFarAs, view_line, view_text, views_text, views_up_to};
+
+use crate::answer::RunAnswer;
+use crate::printing::view_query;
+use itoa::Buffer;
+use marple_base::{Sink, Steps, Text, write_all};
+use query_lang::TypedQuery;
+use std::alloc::{AllocError, Global};
+use std::sync::ledger::Ledger;
+use switch_core::Pipeline;
+use trace_drive::{Packets, Replay, Schedule};
+
+// The line at the head of the view after so many packets.
+fn view_line(alloc: Global, number: u32) -> Result<Text, AllocError>
+    ensures { IfOk result (λ line. line ≡ view_line number) }
+{
+    let mut buffer = Buffer::new();
+    let mut line = Text::from_slice(alloc, b"view ")?;
+    line.push_slice(buffer.format(number).as_bytes())?;
+    line.push(b'\n')?;
+    Ok(line)
+}
+
+// Writes the view after so many packets: all of it, or some front.
+fn write_view<const WAYS: usize, O: Sink, L: Ledger>(
+    alloc: Global,
+    typed: &TypedQuery,
+    pipeline: &Pipeline<WAYS>,
+    number: u32,
+    out: &mut O,
+    steps: &mut Steps<L>,
+) -> Result<(), RunAnswer>
+    requires valid { IsValidQuery typed.now }
+    requires plan { IsPlanOf typed.now pipeline.now.plan }
+    requires entries { pipeline.now.entries ≡ Folds }
+    requires seen { (g : Geometry) × (packets : List (List ℕ)) × IsAsFarAs g packets number pipeline.now }
+    ensures written { OnOk result ((g : Geometry) (packets : List (List ℕ)) → IsAsFarAs g packets number pipeline.now
+        → Appends (O.taken out.old) (O.taken out.new) (view_text typed.now g packets number)) }
+    ensures breaks_off { IfErr result (λ answer. (g : Geometry) (packets : List (List ℕ)) → IsAsFarAs g packets number pipeline.now
+        → BreaksOff O.taken O.faults (view_text typed.now g packets number) None out.old out.new answer) }
+    ensures out_later { O.faults out.old ≤ O.faults out.new }
+    ensures steps { steps.old ≤ steps.new }
+{
+    let text = view_query(alloc, typed, pipeline, steps)?;
+    let line = view_line(alloc, number)?;
+    write_all(out, line.as_slice())?;
+    write_all(out, text.as_slice())?;
+    Ok(())
+}
+
+/// Writes a view after each packet whose number is a multiple of `every`, and none where that is 0. The packets are taken as
+/// far as the last view needs. The memory of a view is given back before the next one.
+pub(crate) fn write_views<'a, const WAYS: usize, O: Sink, L: Ledger>(
+    alloc: Global,
+    typed: &TypedQuery,
+    pipeline: Pipeline<WAYS>,
+    schedule: Schedule,
+    every: u32,
+    packets: Packets<'a>,
+    out: &mut O,
+    steps: &mut Steps<L>,
+) -> Result<Replay<'a, WAYS>, RunAnswer>
+    requires fresh { PipelineStands pipeline (empty_machines (geometry_of WAYS pipeline.buckets) pipeline.plan.groups) }
+    requires buckets { pipeline.buckets ≡ schedule.buckets }
+    requires room { (0 < WAYS) × (0 < schedule.buckets) }
+    requires valid { IsValidQuery typed.now }
+    requires plan { IsPlanOf typed.now pipeline.plan }
+    requires entries { pipeline.entries ≡ Folds }
+    requires whole { AreWhole (words_of (coming packets)) }
+    requires viewed { 0 < every → CanBeViewed packets }
+    ensures written { IfOk result (λ replay. Appends (O.taken out.old) (O.taken out.new)
+        (views_up_to typed.now (geometry_for WAYS schedule) every (words_of (coming packets.entry)) (length (coming packets.entry)))) }
+    ensures under_way { IfOk result (λ replay. (count : ℕ) × IsUnderWay schedule (coming packets.entry) count replay) }
+    ensures fault { IfOk result (λ replay. fault_in replay ≡ fault_of packets.entry) }
+    ensures keeps { IfOk result (λ replay. Keeps pipeline.entry (pipeline_in replay)) }
+    ensures untouched { every ≡ 0 → out.new ≡ out.old }
+    ensures breaks_off { IfErr result (BreaksOff O.taken O.faults (views_text typed.now (geometry_for WAYS schedule) every (words_of (coming packets.entry)))
+        (fault_of packets.entry) out.old out.new) }
+    ensures out_later { O.faults out.old ≤ O.faults out.new }
+    ensures steps { steps.old ≤ steps.new }
+{
+    let mut replay = Replay::new(pipeline, schedule, packets);
+    if every == 0 {
+        return Ok(replay);
+    }
+    let mut number = 0;
+    'views: while replay.advance(every, steps)? {
+        number += every;
+        write_view(alloc, typed, replay.pipeline(), number, out, steps)?;
+    }
+    Ok(replay)
+}
