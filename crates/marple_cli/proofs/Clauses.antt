@@ -8,7 +8,7 @@ use Rattle.query_lang.specs.declared.fault.QueryFault.{QueryFault}
 use Rattle.trace_reader.specs.declared.fault.TraceFault.{TraceFault}
 use Rattle.command_line.specs.declared.command.Command.{Command}
 use Rattle.marple_cli.specs.Call.{Holds, IsBeforeOutput, IsBeforeTrace, Takes, WhereQueryTold, WhereTold}
-use Rattle.marple_cli.specs.Ends.{Answers, QueryTold}
+use Rattle.marple_cli.specs.Ends.{Answers, Ends, QueryTold}
 use Rattle.marple_cli.specs.Output.{refusal, takes, trace_refusal}
 use Rattle.marple_cli.specs.declared.status.Status.{Status}
 use Rattle.marple_cli.specs.declared.status.Status.TheVariants as statuses
@@ -77,7 +77,7 @@ module _ {O : Type 0} (taken : O → Option (List ℕ)) (faults : O → ℕ) (be
 
   memory_at : (asked : Option Command) (fault : QueryFault) → Answers taken faults before after old new asked statuses.Memory
       → WhereQueryTold asked before (λ command query. refusal command query ≡ Some fault → new ≡ old)
-  memory_at None fault a command query is has left some = absurd (clash is)
+  memory_at None fault a = λ command query is has left some. absurd (clash is)
   memory_at (Some command) fault a =
       asked_query command before (λ one query. refusal one query ≡ Some fault → new ≡ old) (λ query has left some. a.0.1 query has left (λ none. both fault (refusal command query) none some))
 
@@ -101,6 +101,10 @@ module _ {O : Type 0} (taken : O → Option (List ℕ)) (faults : O → ℕ) (be
 
     pub memory_query : (fault : QueryFault) → status ≡ statuses.Memory → WhereQueryTold asked before (λ command query. refusal command query ≡ Some fault → new ≡ old)
     memory_query fault is = memory_at asked fault (subst (Answers taken faults before after old new asked) is a)
+
+  pub usage : (asked : Option Command) (status : Status) → Answers taken faults before after old new asked status → (status ≡ statuses.Usage → asked ≡ None) × (asked ≡ None → status ≡ statuses.Usage)
+  usage None status a = ((λ is. refl), (λ is. a.0))
+  usage (Some command) status a = ((λ is. absurd (subst (Ends taken faults command before after old new) is a.0)), (λ is. absurd (clash (sym is))))
 
   pub no_operand : (asked : Option Command) (status : Status) → Answers taken faults before after old new asked status
       → (which : Which) → (Takes asked which → ⊥) → after which ≡ before which
@@ -145,7 +149,7 @@ module _ {O : Type 0} (taken : O → Option (List ℕ)) (faults : O → ℕ) (be
   pub refuses_query : (asked : Option Command) (status : Status) → Answers taken faults before after old new asked status → (fault : QueryFault)
       → WhereQueryTold asked before (λ command query. refusal command query ≡ Some fault →
       (status ≡ statuses.QueryRefused fault) ⊎ (status ≡ statuses.InputFault Query) ⊎ (status ≡ statuses.Memory))
-  refuses_query None status a fault command query is has left some = absurd (clash is)
+  refuses_query None status a fault = λ command query is has left some. absurd (clash is)
   refuses_query (Some command) status a fault =
       asked_query command before (λ one query. refusal one query ≡ Some fault → (status ≡ statuses.QueryRefused fault) ⊎ (status ≡ statuses.InputFault Query) ⊎ (status ≡ statuses.Memory))
       (refused_by command status a fault)

@@ -1,5 +1,5 @@
 -- How commands end: what each status says, where it comes from.
-use Rattle.std.proofs.Common.{◌≡◌, ℕ, true, false, List, [], Option, None, Some, IfSome, Result, Ok, Err, refl, sym, ap, ap₂, ◌∙◌, subst, arith, if◌then◌else◌}
+use Rattle.std.proofs.Common.{◌≡◌, ℕ, true, List, [], Option, None, Some, IfSome, Result, Ok, Err, refl, sym, ap, ap₂, ◌∙◌, subst, if◌then◌else◌}
 use Rattle.std.specs.Prelude.{is_some}
 use Rattle.std.specs.Result.{IsErrAnd}
 use Rattle.std.specs.Io.KnownBytes.{Appends}
@@ -8,8 +8,6 @@ use Rattle.marple_base.specs.Inputs.{Input}
 use Rattle.marple_base.specs.Sink.{TakesFront}
 use Rattle.marple_base.specs.declared.inputs.Which.{Which}
 use Rattle.marple_base.specs.declared.inputs.Which.TheVariants.{Query, Trace}
-use Rattle.std.proofs.lemmas.Bool.{true≢false}
-use Rattle.std.proofs.lemmas.Grind.{common_steps}
 use Rattle.query_lang.specs.declared.fault.QueryFault.{QueryFault}
 use Rattle.query_lang.specs.declared.typed.TypedQuery.{TypedQuery}
 use Rattle.stage_plan.specs.Fields.{reads_of}
@@ -18,10 +16,8 @@ use Rattle.stage_plan.specs.Shape.{query_shape, plan_text_of}
 use Rattle.trace_reader.specs.Traces as traces
 use Rattle.trace_reader.specs.declared.fault.TraceFault.{TraceFault}
 use Rattle.trace_drive.specs.Drives.{words_of}
-use Rattle.query_run.specs.Answers.{BreaksOff, text_unless}
+use Rattle.query_run.specs.Answers.{text_unless}
 use Rattle.query_run.specs.Views.{views_text}
-use Rattle.query_run.specs.declared.answer.RunAnswer.{RunAnswer}
-use Rattle.query_run.specs.declared.answer.RunAnswer.TheVariants as breaks
 use Rattle.query_run.specs.Runs.{query_ends}
 use Rattle.switch_core.specs.PlanLanes.{PipelineStands}
 use Rattle.accepted_query.specs.Accepted.{accepted, query_fault, fault_in}
@@ -34,9 +30,9 @@ use Rattle.command_line.specs.declared.setting.Ways.{Ways}
 use Rattle.driven_query.specs.Driven.{IsLeftBy, geometry_of, pipeline_in}
 use Rattle.driven_query.specs.declared.driven.Driven.{Driven}
 use Rattle.query_run.proofs.Breaking.{nothing_taken}
-use Rattle.marple_cli.specs.Call.{Holds, ToldOf}
+use Rattle.marple_cli.specs.Call.{ToldOf}
 use Rattle.marple_cli.specs.Driven.{DrivenAfter, Leaves, StandsForEnd}
-use Rattle.marple_cli.specs.Ends.{Ends, QueryEnds, QueryTold, TraceEnds, WriteEnds, status_for, status_of}
+use Rattle.marple_cli.specs.Ends.{Ends, QueryEnds, QueryTold, TraceEnds, WriteEnds, status_of}
 use Rattle.marple_cli.specs.Output.{IsAccepted, defined_text, fault_for, output, read_packets, refusal, run_text, stages_text, takes, trace_refusal}
 use Rattle.marple_cli.specs.declared.status.Status.{Status}
 use Rattle.marple_cli.specs.declared.status.Status.TheVariants as statuses

@@ -1,5 +1,5 @@
 -- What is read to one byte more than a limit tells what all the bytes do, where all longer texts are alike.
-use Rattle.std.proofs.Common.{inl, inr, ◌≡◌, ℕ, ◌+◌, ◌<◌, ◌≤◌, true, nat_lt, List, length, take, Option, None, Some, IfSome, ap, sym, ◌∙◌, arith, Result, Ok, Err, refl, [], IfOk, IfErr, subst}
+use Rattle.std.proofs.Common.{inl, inr, ◌≡◌, ℕ, ◌+◌, ◌<◌, ◌≤◌, true, nat_lt, List, length, take, Option, None, Some, IfSome, ap, sym, ◌∙◌, arith, Result, Ok, Err, refl, [], IfErr, subst}
 use Rattle.std.specs.Result.{IsErrAnd}
 use Rattle.std.proofs.lemmas.Bool.Decides.{leb_tells, nat_tests}
 use Rattle.std.proofs.lemmas.Grind.{common_steps}

@@ -1,6 +1,5 @@
 use Rattle.std.proofs.Common.{◌∙◌, ap}
 use Rattle.queue_sim.specs.TraceText.{trace_text}
-use Rattle.marple_cli.specs.declared.status.Status.TheVariants.{OutputFault}
 use Rattle.command_line.specs.declared.command.Command.TheVariants.{Gen}
 use Rattle.marple_cli.proofs.Ending.{all_written, cut_off, gen_refuses_nothing, nothing_refused, trace_is_text}
 use Rattle.marple_cli.proofs.generate.generate.Goals as goal

@@ -4,11 +4,19 @@ use Rattle.query_run.specs.Answers.{BreaksOff}
 use Rattle.query_tables.specs.Tables.{query_text}
 use Rattle.trace_drive.specs.Drives.{words_of}
 use Rattle.driven_query.specs.Driven.{geometry_of}
+use Rattle.query_run.proofs.Breaking.{nothing_taken}
 use Rattle.marple_cli.specs.Ends.{WriteEnds, status_for}
 use Rattle.marple_cli.specs.Output.{made_packets, tables_text}
 use Rattle.marple_cli.specs.TrialQuery.{trial_query}
+use Rattle.marple_cli.specs.declared.status.Status.TheVariants.{Memory}
 use Rattle.marple_cli.proofs.Limits.{err_told, made_ends}
 use Rattle.marple_cli.proofs.packets.run_made.Goals as goal
+
+pub returns-in_err-made-clause-err : goal.returns-in_err-made-clause-err
+returns-in_err-made-clause-err g c =
+    let text = tables_text c.args.setting (accepted trial_query) (λ q. made_packets c.args.generation) in
+    let out = c.args.out.now in
+    err_told (WriteEnds g.O.Sink.taken g.O.Sink.faults text out out) c.from_residual.result Memory c.from_residual.ensures.1 (nothing_taken (g.O.Sink.taken out) text)
 
 pub returns-in_err-driven-clause-err : goal.returns-in_err-driven-clause-err
 returns-in_err-driven-clause-err g c =

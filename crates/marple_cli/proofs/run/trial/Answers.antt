@@ -1,4 +1,4 @@
-use Rattle.std.proofs.Common.{refl}
+use Rattle.std.proofs.Common.{[], refl}
 use Rattle.command_line.specs.declared.command.Command.TheVariants.{Trial}
 use Rattle.marple_cli.specs.Output.{output}
 use Rattle.marple_cli.proofs.Ending.{all_written, driven_kept, nothing_refused, trial_is_text, trial_refuses_nothing, write_ends_it, write_not_ok}

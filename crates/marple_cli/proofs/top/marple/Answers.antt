@@ -1,7 +1,12 @@
 use Rattle.std.specs.Prelude.{map, string_bytes}
 use Rattle.command_line.specs.Command.{asked}
-use Rattle.marple_cli.proofs.Clauses.{fault_of_trace, input_fault, memory_query, no_operand, not_reached, output_fault, query_refused, refuses_query, trace_refused, untouched}
+use Rattle.marple_cli.proofs.Clauses.{fault_of_trace, input_fault, memory_query, no_operand, not_reached, output_fault, query_refused, refuses_query, trace_refused, untouched, usage}
 use Rattle.marple_cli.proofs.top.marple.Goals as goal
+
+pub returns-clause-usage : goal.returns-clause-usage
+returns-clause-usage g c =
+    usage g.O.Sink.taken g.O.Sink.faults (g.I.Inputs.input c.args.inputs.now) (g.I.Inputs.input c.answer-status.new.inputs) c.args.out.now c.answer-status.new.out
+    (asked (map string_bytes c.args.words.now)) c.answer-status.result c.answer-status.ensures.answers
 
 pub returns-clause-input_fault : goal.returns-clause-input_fault
 returns-clause-input_fault g c =
