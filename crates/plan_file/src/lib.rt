@@ -19,3 +19,7 @@ mod wants;
 
 pub use answer::PlanFileAnswer;
 pub use check::check_plan;
+pub use fold_line::fold_of;
+pub use lexemes::Lexeme;
+pub use made::{Folded, Group, Made};
+pub use texts::read_text;

@@ -1,0 +1,13 @@
+// What holds of the texts of plans.
+
+ghost use Rattle.plan_loader.specs.Loaded.{BodiesAreRead, TextsSayOne};
+
+/// The statements of a body are read from its tokens.
+pub fn bodies_are_read()
+    ensures { BodiesAreRead }
+{}
+
+/// A text says at most one thing.
+pub fn texts_say_one()
+    ensures { TextsSayOne }
+{}
