@@ -20,7 +20,7 @@ use Rattle.plan_file.proofs.SameFold.{algebra_same, class_same, depth_once, dept
 use Rattle.plan_loader.specs.Meaning.{block_in, fold_in}
 use Rattle.plan_loader.specs.Parts.{IsFoldIn, IsGroupFrom, IsSoundFolded, IsWhole}
 use Rattle.plan_loader.specs.Reading.{block_written, stmts_for}
-use Rattle.plan_loader.proofs.Reads.{bodies, stmts_same}
+use Rattle.plan_loader.proofs.BodyReading.{bodies, stmts_same}
 
 -- the body of a group's fold is read from its tokens
 pub block_is : (group : Group) (f : TypedFold) → IsFoldOf group f → fold_block f ≡ block_in group

@@ -3,7 +3,7 @@ use Rattle.std.proofs.Common.{◌≡◌, ℕ, zero, suc, ◌+◌, ◌<◌, ◌�
 use Rattle.std.specs.Prelude.{slice_get, option_map, All}
 use Rattle.std.specs.List.{AllZip}
 use Rattle.std.proofs.lemmas.List.{length-map}
-use Rattle.std.proofs.lemmas.List.Elements.{All-get_or, All-head, All-tail, All-weaker, length_all_zip}
+use Rattle.std.proofs.lemmas.List.Elements.{All-get_or, All-head, All-tail, All-weaker}
 use Rattle.std.proofs.lemmas.Option.{get_or_from_slice_get, same_Some, slice_get-map, slice_get_within}
 use Rattle.query_lang.specs.declared.fold.TypedFold.{TypedFold}
 use Rattle.query_lang.specs.Folds.{fold_states}
@@ -33,6 +33,12 @@ zip_at R (a ∷ xs) [] i y z e = absurd z
 zip_at R (a ∷ xs) (b ∷ ys) zero y z e = (a, refl, subst (R a) (same_Some b y e) z.0)
 zip_at R (a ∷ xs) (b ∷ ys) (suc i) y z e = zip_at R xs ys i y z.1 e
 
+zip_length : {A B : Type 0} (R : A → B → Type 0) (xs : List A) (ys : List B) → AllZip R xs ys → length xs ≡ length ys
+zip_length R [] [] z = refl
+zip_length R [] (b ∷ ys) z = absurd z
+zip_length R (a ∷ xs) [] z = absurd z
+zip_length R (a ∷ xs) (b ∷ ys) z = ap suc (zip_length R xs ys z.1)
+
 pub all_at : {A : Type 0} (P : A → Type 0) (xs : List A) (i : ℕ) (x : A) → All P xs → slice_get xs i ≡ Some x → P x
 all_at P xs i x all e = subst P (get_or_from_slice_get xs i x x e) (All-get_or P xs i x (slice_get_within xs i x e) all)
 
@@ -60,7 +66,7 @@ sound_group registers one group s from =
 
 pub sound_plan : (made : Made) (plan : PlanParts) → IsSoundMade made → IsPlanFrom made plan → IsSoundPlan plan
 sound_plan made plan sound from =
-    let count = length_all_zip IsGroupFrom made.groups plan.groups from.groups in
+    let count = zip_length IsGroupFrom made.groups plan.groups from.groups in
     let most = sound.most_groups in
     let wires : length plan.wiring ≡ length made.groups = ap length from.wiring ∙ length-map made.groups wiring_in in
     record {

@@ -2,3 +2,4 @@ pub mod Reading
 pub mod Meaning
 pub mod Parts
 pub mod Loaded
+pub mod Faults

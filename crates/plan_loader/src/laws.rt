@@ -1,5 +1,6 @@
 // What holds of the texts of plans.
 
+ghost use Rattle.plan_loader.specs.Faults.{OnePlanFault};
 ghost use Rattle.plan_loader.specs.Loaded.{BodiesAreRead, TextsSayOne};
 
 /// The statements of a body are read from its tokens.
@@ -10,4 +11,9 @@ pub fn bodies_are_read()
 /// A text says at most one thing.
 pub fn texts_say_one()
     ensures { TextsSayOne }
+{}
+
+/// A text has one fault at most.
+pub fn one_plan_fault()
+    ensures { OnePlanFault }
 {}

@@ -6,6 +6,6 @@ mod laws;
 mod load;
 mod loaded;
 
-pub use laws::{bodies_are_read, texts_say_one};
+pub use laws::{bodies_are_read, one_plan_fault, texts_say_one};
 pub use load::read_plan;
 pub use loaded::LoadedPlan;

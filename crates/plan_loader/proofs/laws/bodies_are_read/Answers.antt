@@ -1,4 +1,4 @@
-use Rattle.plan_loader.proofs.Reads.{bodies}
+use Rattle.plan_loader.proofs.BodyReading.{bodies}
 use Rattle.plan_loader.proofs.laws.bodies_are_read.Goals as goal
 
 pub returns : goal.returns
