@@ -16,12 +16,12 @@ use Rattle.trace_drive.specs.Drives.{end_machines}
 abbrev pub HasKeys : Table → Type 0
 HasKeys table = table.keys ≤ length table.columns
 
--- The pipeline is of a plan of what these lines make, and stands for its machines at the end of packets; these are the numbers of the groups that
+-- The pipeline is of a plan of what these lines make, and stands for its machines at the end of packets; the numbers are those of the groups that
 -- the lines print.
-pub record EndsAt (made : Made) (prints : List ℕ) (g : Geometry) (packets : List (List ℕ)) (pipeline : PipelineView) : Type 0 where
+pub record EndsAt (made : Made) (numbers : List ℕ) (g : Geometry) (packets : List (List ℕ)) (pipeline : PipelineView) : Type 0 where
   pub sound : IsSoundMade made
   pub plan : IsPlanFrom made pipeline.plan
-  pub prints : prints ≡ made.prints
+  pub prints : numbers ≡ made.prints
   pub room : HasRoom g
   pub stands : PipelineStands pipeline (end_machines pipeline.plan g packets)
 
