@@ -13,24 +13,13 @@ ghost use Rattle.trace_drive.specs.Drives.{coming, end_machines, fault_of, words
 
 use crate::run::run_plan;
 use command_line::{Setting, Ways};
-use driven_query::Driven;
+use driven_query::{Driven, schedule_of};
 use marple_base::{Sink, Steps};
 use plan_loader::LoadedPlan;
 use query_run::RunAnswer;
 use std::alloc::Global;
 use std::sync::ledger::Ledger;
-use trace_drive::{Packets, Schedule};
-
-fn schedule_of(setting: Setting) -> Schedule
-    ensures { result ≡ record { buckets = setting.buckets; pipe = setting.pipe; lag = setting.lag; refresh = setting.refresh } }
-{
-    Schedule {
-        buckets: setting.buckets,
-        pipe: setting.pipe,
-        lag: setting.lag,
-        refresh: setting.refresh,
-    }
-}
+use trace_drive::Packets;
 
 /// Runs a plan over packets with the ways of the setting, and writes what it prints.
 pub(crate) fn run_plan_with_its_ways<O: Sink, L: Ledger>(

@@ -70,7 +70,8 @@ module _ (group : Group) (f g : TypedFold) (p : IsFoldOf group f) (q : IsFoldOf 
 
 -- a group that has all its lines is within the limits of its lines
 pub whole_within : (one : Folded) → IsWhole one → IsGroupWithin one.group
-whole_within one (registers, s) =
+whole_within one whole =
+    let s = whole.sound in
     record {
       states = s.most_states;
       args = s.most_args;

@@ -1,5 +1,5 @@
 -- The plan of what a valid text makes is one, with the sizes that the text says.
-use Rattle.std.proofs.Common.{◌≡◌, ℕ, zero, suc, ◌+◌, ◌<◌, ◌≤◌, List, [], ◌∷◌, length, map, get_or, Option, Some, None, refl, sym, ap, ap₂, ◌∙◌, subst, arith}
+use Rattle.std.proofs.Common.{◌≡◌, ℕ, zero, suc, ◌+◌, ◌<◌, ◌≤◌, List, [], ◌∷◌, ◌++◌, length, map, get_or, Option, Some, None, refl, sym, ap, ap₂, ◌∙◌, subst, arith}
 use Rattle.std.specs.Prelude.{slice_get, option_map, All}
 use Rattle.std.specs.List.{AllZip}
 use Rattle.std.proofs.lemmas.List.{length-map}
@@ -38,6 +38,12 @@ zip_length R [] [] z = refl
 zip_length R [] (b ∷ ys) z = absurd z
 zip_length R (a ∷ xs) [] z = absurd z
 zip_length R (a ∷ xs) (b ∷ ys) z = ap suc (zip_length R xs ys z.1)
+
+pub zip_push : {A B : Type 0} (R : A → B → Type 0) (xs : List A) (ys : List B) (x : A) (y : B) → AllZip R xs ys → R x y → AllZip R (xs ++ x ∷ []) (ys ++ y ∷ [])
+zip_push R [] [] x y z r = (r, z)
+zip_push R [] (b ∷ ys) x y z r = absurd z
+zip_push R (a ∷ xs) [] x y z r = absurd z
+zip_push R (a ∷ xs) (b ∷ ys) x y z r = (z.0, zip_push R xs ys x y z.1 r)
 
 pub all_at : {A : Type 0} (P : A → Type 0) (xs : List A) (i : ℕ) (x : A) → All P xs → slice_get xs i ≡ Some x → P x
 all_at P xs i x all e = subst P (get_or_from_slice_get xs i x x e) (All-get_or P xs i x (slice_get_within xs i x e) all)
@@ -112,4 +118,4 @@ shape_is made plan sound from =
     ap (λ ops. make ops (map group_shape plan.groups)) from.ops ∙ ap (make made.ops) groups
 
 pub all_whole : (made : Made) → IsSoundMade made → All IsWhole made.groups
-all_whole made sound = All-weaker (IsSoundFolded (14 + length made.ops)) IsWhole (λ one s. (14 + length made.ops, s)) made.groups sound.groups
+all_whole made sound = All-weaker (IsSoundFolded (14 + length made.ops)) IsWhole (λ one s. record { registers = 14 + length made.ops; sound = s }) made.groups sound.groups

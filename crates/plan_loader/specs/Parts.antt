@@ -56,8 +56,9 @@ pub record IsSoundFolded (registers : ℕ) (one : Folded) : Type 0 where
   pub bounds : AreBounds fold one.nodes one.statements
 
 -- a group with all its lines
-abbrev pub IsWhole : Folded → Type 0
-IsWhole one = (registers : ℕ) × IsSoundFolded registers one
+pub record IsWhole (one : Folded) : Type 0 where
+  pub registers : ℕ
+  pub sound : IsSoundFolded registers one
 
 -- what a text's lines make
 pub record IsSoundMade (made : Made) : Type 0 where

@@ -1,6 +1,6 @@
 // The groupbys of a plan by the groups of its text.
 
-ghost use Rattle.std.specs.Prelude.{◌≡◌, ◌^◌, bit_or, map, All, IfOk};
+ghost use Rattle.std.specs.Prelude.{◌≡◌, ◌^◌, bit_or, map, unwrap_or, [], All, IfOk};
 ghost use Rattle.marple_base.specs.Field.{number_of};
 ghost use Rattle.query_lang.specs.declared.fold.TypedFold.{TypedFold as AnyFold};
 ghost use Rattle.fold_class.specs.Program.{IsProgramOf};
@@ -22,8 +22,8 @@ fn with_field(bits: u16, field: Field) -> u16
     bits | 1 << field.number()
 }
 
-/// The set of these fields.
-pub(crate) fn set_of(fields: &[Field]) -> FieldSet
+// The set of these fields.
+fn set_of(fields: &[Field]) -> FieldSet
     ensures { result ≡ field_set fields.now }
 {
     let mut bits = 0;
@@ -31,6 +31,16 @@ pub(crate) fn set_of(fields: &[Field]) -> FieldSet
         bits = with_field(bits, *field);
     }
     FieldSet { bits }
+}
+
+/// The set of the fields that are read, where they are named.
+pub(crate) fn set_read(reads: &Option<Seq<Field>>) -> FieldSet
+    ensures { result ≡ field_set (unwrap_or reads.now []) }
+{
+    match reads {
+        Some(fields) => set_of(fields.as_slice()),
+        None => FieldSet { bits: 0 },
+    }
 }
 
 // The program of a group's fold.

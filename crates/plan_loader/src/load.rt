@@ -5,9 +5,8 @@ ghost use Rattle.plan_file.specs.Texts.{IsBadAt, IsOnlyAnswer, IsRefused};
 ghost use Rattle.plan_loader.specs.Loaded.{IsLoaded, IsLoadedFrom};
 ghost use Rattle.plan_loader.specs.Parts.{IsSoundMade};
 
-use crate::groups::{set_of, wired_groups};
+use crate::groups::{set_read, wired_groups};
 use crate::loaded::LoadedPlan;
-use marple_base::{FieldSet, Seq};
 use plan_file::{Made, PlanFileAnswer, read_text};
 use stage_plan::Plan;
 use std::alloc::{AllocError, Global};
@@ -25,10 +24,7 @@ fn plan_of(alloc: Global, made: Made) -> Result<LoadedPlan, AllocError>
         current: _,
         prints,
     } = made;
-    let reads = match &reads {
-        Some(fields) => set_of(fields.as_slice()),
-        None => FieldSet { bits: 0 },
-    };
+    let reads = set_read(&reads);
     let (plans, wirings) = wired_groups(alloc, groups)?;
     let plan = Plan::of_parts(alloc, reads, ops, plans, wirings)?;
     Ok(LoadedPlan { plan, prints })
@@ -41,7 +37,11 @@ pub fn read_plan(alloc: Global, text: &[u8]) -> Result<LoadedPlan, PlanFileAnswe
     ensures answer { MatchResult result (IsLoaded text.now) (IsRefused text.now) }
     ensures exact { MatchResult result (λ loaded. (place : ℕ) → IsBadAt text.now place → ⊥) (IsOnlyAnswer text.now) }
 {
-    let made = read_text(alloc, text)?;
-    let loaded = plan_of(alloc, made)?;
-    Ok(loaded)
+    match read_text(alloc, text) {
+        Ok(made) => {
+            let loaded = plan_of(alloc, made)?;
+            Ok(loaded)
+        }
+        Err(answer) => Err(answer),
+    }
 }
