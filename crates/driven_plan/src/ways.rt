@@ -45,18 +45,10 @@ pub(crate) fn run_plan_with_its_ways<O: Sink, L: Ledger>(
 {
     let schedule = schedule_of(setting);
     match setting.ways {
-        Ways::One => Ok(Driven::Ways1(run_plan(
-            alloc, loaded, schedule, packets, out, steps,
-        )?)),
-        Ways::Two => Ok(Driven::Ways2(run_plan(
-            alloc, loaded, schedule, packets, out, steps,
-        )?)),
-        Ways::Four => Ok(Driven::Ways4(run_plan(
-            alloc, loaded, schedule, packets, out, steps,
-        )?)),
-        Ways::Eight => Ok(Driven::Ways8(run_plan(
-            alloc, loaded, schedule, packets, out, steps,
-        )?)),
+        Ways::One => Ok(Driven::Ways1(run_plan(alloc, loaded, schedule, packets, out, steps)?)),
+        Ways::Two => Ok(Driven::Ways2(run_plan(alloc, loaded, schedule, packets, out, steps)?)),
+        Ways::Four => Ok(Driven::Ways4(run_plan(alloc, loaded, schedule, packets, out, steps)?)),
+        Ways::Eight => Ok(Driven::Ways8(run_plan(alloc, loaded, schedule, packets, out, steps)?)),
         Ways::Sixteen => Ok(Driven::Ways16(run_plan(
             alloc, loaded, schedule, packets, out, steps,
         )?)),

@@ -1,10 +1,7 @@
 -- The statements that tokens write are read from them.
-use Rattle.std.proofs.Common.{◌≡◌, ℕ, zero, suc, ◌+◌, ◌-◌, ◌<◌, ◌≤◌, Bool, true, false, List, [], ◌∷◌, ◌++◌, length, drop, refl, sym, ap, ◌∙◌, subst, arith, append_assoc, append-nil, length-append}
+use Rattle.std.proofs.Common.{◌≡◌, ℕ, zero, suc, ◌+◌, ◌-◌, ◌≤◌, Bool, true, false, List, [], ◌∷◌, ◌++◌, length, drop, refl, sym, ap, ◌∙◌, arith, append_assoc, append-nil, length-append}
 use Rattle.std.specs.Prelude.{nat_lt, if◌then◌else◌}
 use Rattle.std.proofs.lemmas.Bool.Decides.{nat_tests}
-use Rattle.query_lang.specs.declared.fold.Op.{Op}
-use Rattle.query_lang.specs.declared.fold.TypedExpr.{TypedExpr}
-use Rattle.query_lang.specs.declared.fold.TypedStmt.{TypedStmt}
 use Rattle.query_lang.specs.Terms.{Term, Literal, Read, Negation, Operation, term_of}
 use Rattle.query_lang.specs.Blocks.{Block, End, Set, Fork, block_of, followed}
 use Rattle.query_lang.proofs.TreeLemmas.{term_number, term_slot, term_not, term_binary, block_assign, block_if}
@@ -38,8 +35,8 @@ term_read (suc n) states (Read s) rest le = slot_read n states s rest
 term_read (suc n) states (Negation e) rest le = ap (λ f. front (Negation f.found) f.left) (term_read n states e rest (omega (arith, le)))
 term_read (suc n) states (Operation op a b) rest le =
     let first : read_term n states ((written states a ++ written states b) ++ rest) ≡ front a (written states b ++ rest) =
-        ap (read_term n states) (append_assoc (written states a) (written states b) rest)
-        ∙ term_read n states a (written states b ++ rest) (omega (arith, le, length-append (written states a) (written states b))) in
+    ap (read_term n states) (append_assoc (written states a) (written states b) rest)
+    ∙ term_read n states a (written states b ++ rest) (omega (arith, le, length-append (written states a) (written states b))) in
     let second = term_read n states b rest (omega (arith, le, length-append (written states a) (written states b))) in
     ap (λ f. let g = read_term n states f.left in front (Operation op f.found g.found) g.left) first
     ∙ ap (λ g. front (Operation op a g.found) g.left) second
@@ -80,7 +77,7 @@ block_read (suc n) states (Set v e next) rest c le =
     let we = written states e in
     let wn = written_block states next in
     let first : read_term n states ((we ++ wn) ++ rest) ≡ front e (wn ++ rest) =
-        ap (read_term n states) (append_assoc we wn rest) ∙ term_read n states e (wn ++ rest) (omega (arith, le, length-append we wn)) in
+    ap (read_term n states) (append_assoc we wn rest) ∙ term_read n states e (wn ++ rest) (omega (arith, le, length-append we wn)) in
     let second = block_read n states next rest c (omega (arith, le, length-append we wn)) in
     ap (λ f. let g = read_block n states f.left in front (Set v f.found g.found) g.left) first
     ∙ ap (λ g. front (Set v e g.found) g.left) second
@@ -92,17 +89,18 @@ block_read (suc n) states (Fork t a b next) rest c le =
     let behind_b = word.Close ∷ wn in
     let behind_a = word.Close ∷ word.Open ∷ (wb ++ behind_b) in
     let behind_t = word.Open ∷ (wa ++ behind_a) in
-    let sizes : (length wt ≤ n) × (length wa ≤ n) × (length wb ≤ n) × (length wn ≤ n) =
-        (omega (arith, le, length-append wt behind_t),
-        omega (arith, le, length-append wt behind_t, length-append wa behind_a),
-        omega (arith, le, length-append wt behind_t, length-append wa behind_a, length-append wb behind_b),
-        omega (arith, le, length-append wt behind_t, length-append wa behind_a, length-append wb behind_b)) in
+    let sizes : (length wt ≤ n) × (length wa ≤ n) × (length wb ≤ n) × (length wn ≤ n) = (
+      omega (arith, le, length-append wt behind_t),
+      omega (arith, le, length-append wt behind_t, length-append wa behind_a),
+      omega (arith, le, length-append wt behind_t, length-append wa behind_a, length-append wb behind_b),
+      omega (arith, le, length-append wt behind_t, length-append wa behind_a, length-append wb behind_b),
+    ) in
     let first : read_term n states ((wt ++ behind_t) ++ rest) ≡ front t (behind_t ++ rest) =
-        ap (read_term n states) (append_assoc wt behind_t rest) ∙ term_read n states t (behind_t ++ rest) sizes.0 in
+    ap (read_term n states) (append_assoc wt behind_t rest) ∙ term_read n states t (behind_t ++ rest) sizes.0 in
     let second : read_block n states ((wa ++ behind_a) ++ rest) ≡ front a (behind_a ++ rest) =
-        ap (read_block n states) (append_assoc wa behind_a rest) ∙ block_read n states a (behind_a ++ rest) tt sizes.1 in
+    ap (read_block n states) (append_assoc wa behind_a rest) ∙ block_read n states a (behind_a ++ rest) tt sizes.1 in
     let third : read_block n states ((wb ++ behind_b) ++ rest) ≡ front b (behind_b ++ rest) =
-        ap (read_block n states) (append_assoc wb behind_b rest) ∙ block_read n states b (behind_b ++ rest) tt sizes.2 in
+    ap (read_block n states) (append_assoc wb behind_b rest) ∙ block_read n states b (behind_b ++ rest) tt sizes.2 in
     let fourth = block_read n states next rest c sizes.3 in
     ap (behind_condition n states) first ∙ ap (behind_then n states t) second ∙ ap (behind_else n states t a) third
     ∙ ap (λ g. front (Fork t a b g.found) g.left) fourth

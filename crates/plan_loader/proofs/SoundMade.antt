@@ -1,10 +1,9 @@
 -- What the lines of a valid text make is sound.
-use Rattle.std.proofs.Common.{◌≡◌, ℕ, ◌+◌, ◌<◌, ◌≤◌, List, [], ◌∷◌, ◌++◌, length, Option, Some, None, refl, sym, ap, ◌∙◌, subst, arith}
+use Rattle.std.proofs.Common.{◌≡◌, ℕ, ◌+◌, ◌<◌, ◌≤◌, List, [], ◌∷◌, ◌++◌, length, Option, Some, None, refl, sym, subst, arith}
 use Rattle.std.specs.Prelude.{IfSome, All}
 use Rattle.std.proofs.lemmas.List.{length_push}
 use Rattle.std.proofs.lemmas.List.Elements.{All-nil, All-push, All-weaker}
 use Rattle.marple_base.specs.declared.field.Field.{Field}
-use Rattle.stage_plan.specs.declared.op.Operand.{Operand}
 use Rattle.stage_plan.specs.declared.op.PlanOp.{PlanOp}
 use Rattle.stage_plan.specs.Sound.{AreSoundOps, IsWithin}
 use Rattle.plan_file.specs.declared.lexemes.Lexeme.{Lexeme}
@@ -14,9 +13,9 @@ use Rattle.plan_file.specs.declared.made.Folded.{Folded}
 use Rattle.plan_file.specs.declared.made.Group.{Group}
 use Rattle.plan_file.specs.declared.made.Made.{Made}
 use Rattle.plan_file.specs.FoldLines.{IsFoldLine, IsFoldOf}
-use Rattle.plan_file.specs.Groups.{IsGroupLine, IsInGroup, IsKeyLine, IsArgLine, IsStateLine, IsGroupBody, group_with}
+use Rattle.plan_file.specs.Groups.{IsInGroup, IsKeyLine, IsArgLine, IsStateLine, IsGroupBody, group_with}
 use Rattle.plan_file.specs.Lexis.{lines}
-use Rattle.plan_file.specs.Lines.{nothing, IsLine, IsLineOf, IsFirst, IsReads, IsOp, IsGroup, IsPart, IsFold, IsPrint}
+use Rattle.plan_file.specs.Lines.{nothing, IsLineOf, IsFirst, IsReads, IsOp, IsGroup, IsPart, IsFold, IsPrint}
 use Rattle.plan_file.specs.LineWords.{line_word}
 use Rattle.plan_file.specs.Texts.{Make, Says}
 use Rattle.plan_loader.specs.Parts.{IsSoundFolded, IsSoundMade}

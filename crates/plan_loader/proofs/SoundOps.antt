@@ -108,13 +108,13 @@ ops_more fs ops op sound allowed =
       ];
       ordered = λ i j one other lt found later. elim (push_cases ops op j other later) [
         | inl old ↦ elim (push_cases ops op i one found) [
-            | inl first ↦ sound.ordered i j one other lt first old
-            | inr last ↦ absurd (let n = slice_get_within ops j other old in let e = last.0 in omega arith)
-          ]
+          | inl first ↦ sound.ordered i j one other lt first old
+          | inr last ↦ absurd (let n = slice_get_within ops j other old in let e = last.0 in omega arith)
+        ]
         | inr last ↦ elim (push_cases ops op i one found) [
-            | inl first ↦ (let le = most_last ops i one sound first in let order = staged.order in omega (arith, le, order, ap (λ (x : PlanOp). x.stage) last.1))
-            | inr both ↦ absurd (let e = last.0 in let f = both.0 in omega arith)
-          ]
+          | inl first ↦ (let le = most_last ops i one sound first in let order = staged.order in omega (arith, le, order, ap (λ (x : PlanOp). x.stage) last.1))
+          | inr both ↦ absurd (let e = last.0 in let f = both.0 in omega arith)
+        ]
       ];
       most = (let room = staged.room in omega (arith, room, length_push ops op));
     }

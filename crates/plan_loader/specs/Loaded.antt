@@ -6,7 +6,6 @@ use Rattle.plan_file.specs.declared.lexemes.Lexeme.{Lexeme}
 use Rattle.plan_file.specs.Bodies.{IsBody}
 use Rattle.plan_file.specs.Texts.{Says}
 use Rattle.stage_plan.specs.Planned.{shape_of}
-use Rattle.stage_plan.specs.Sound.{PlanParts}
 use Rattle.plan_loader.specs.declared.loaded.LoadedPlan.{LoadedPlan}
 use Rattle.plan_loader.specs.Meaning.{text_shape}
 use Rattle.plan_loader.specs.Parts.{IsPlanFrom, IsSoundMade}

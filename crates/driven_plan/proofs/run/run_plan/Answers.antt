@@ -38,9 +38,13 @@ pub end_text-requires-clause-ends : goal.end_text-requires-clause-ends
 end_text-requires-clause-ends g c =
     let of = geometry_for g.row.WAYS c.args.schedule in
     let packets = words_of (coming c.args.packets) in
-    let made = c.requires.loaded.0 in
-    (made, of, packets, ends_at made c.args.loaded c.as_slice.result.now c.in_ok-fresh.fresh.plan of packets c.in_ok-pipeline.pipeline c.requires.loaded.1 c.as_slice.ensures
-        (c.in_ok-pipeline.ensures.keeps.plan ∙ c.in_ok-fresh.ensures.plan) c.in_ok-fresh.ensures.plan (c.requires.buckets, c.requires.ways) c.in_ok-pipeline.ensures.machines)
+    let made = c.requires.loaded.0 in (
+      made,
+      of,
+      packets,
+      ends_at made c.args.loaded c.as_slice.result.now c.in_ok-fresh.fresh.plan of packets c.in_ok-pipeline.pipeline c.requires.loaded.1 c.as_slice.ensures
+          (c.in_ok-pipeline.ensures.keeps.plan ∙ c.in_ok-fresh.ensures.plan) c.in_ok-fresh.ensures.plan (c.requires.buckets, c.requires.ways) c.in_ok-pipeline.ensures.machines,
+    )
 
 pub returns-in_err-text-clause-breaks_off : goal.returns-in_err-text-clause-breaks_off
 returns-in_err-text-clause-breaks_off g c =

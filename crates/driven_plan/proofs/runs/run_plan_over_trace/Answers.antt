@@ -20,9 +20,9 @@ returns-in_err-trace-clause-breaks_off g c =
     let all = words_of (packets c.args.bytes.now reads) in
     let fault = trace_fault c.args.bytes.now reads in
     let Breaks = λ (found : RunAnswer). (made : Made) → IsLoadedFrom made c.args.loaded
-        → BreaksOff g.O.Sink.taken g.O.Sink.faults (plan_output made (geometry_of c.args.setting) all) fault out out found in
+    → BreaksOff g.O.Sink.taken g.O.Sink.faults (plan_output made (geometry_of c.args.setting) all) fault out out found in
     err_is Breaks c.from_residual.result (answer_for answer) c.from_residual.ensures.1
     (λ made from.
-        let text = plan_output made (geometry_of c.args.setting) all in
-        reader_breaks g.O.Sink.taken g.O.Sink.faults text fault out out [] text refl (λ found is. (refl, refl)) (Appends-nil (g.O.Sink.taken out)) answer
-        (subst (λ reads. IfRefused answer (λ found. trace_fault c.args.bytes.now reads ≡ Some found)) c.reads.ensures c.in_err-trace.ensures.refused))
+    let text = plan_output made (geometry_of c.args.setting) all in
+    reader_breaks g.O.Sink.taken g.O.Sink.faults text fault out out [] text refl (λ found is. (refl, refl)) (Appends-nil (g.O.Sink.taken out)) answer
+    (subst (λ reads. IfRefused answer (λ found. trace_fault c.args.bytes.now reads ≡ Some found)) c.reads.ensures c.in_err-trace.ensures.refused))
