@@ -1,6 +1,5 @@
 -- A run of a plan, at its end.
-use Rattle.std.proofs.Common.{◌≡◌, ℕ, ◌≤◌, List, [], ◌++◌, Option, None, refl, sym, ◌∙◌, ap, subst, arith, append-nil}
-use Rattle.std.proofs.KnownBytes.{Appends-nil}
+use Rattle.std.proofs.Common.{◌≡◌, ℕ, List, Option, None, sym, ◌∙◌, subst}
 use Rattle.epoch_model.specs.Epochs.{Geometry}
 use Rattle.epoch_model.specs.Laws.{HasRoom}
 use Rattle.marple_base.specs.Faults.{Rose}
@@ -11,7 +10,6 @@ use Rattle.plan_loader.specs.declared.loaded.LoadedPlan.{LoadedPlan}
 use Rattle.plan_loader.specs.Parts.{IsPlanFrom}
 use Rattle.query_run.specs.Answers.{BreaksOff}
 use Rattle.query_run.specs.declared.answer.RunAnswer.TheVariants.{Failed}
-use Rattle.query_run.proofs.Breaking.{write_breaks}
 use Rattle.stage_plan.specs.Sound.{PlanParts}
 use Rattle.switch_core.specs.PlanLanes.{PipelineStands, PipelineView}
 use Rattle.trace_drive.specs.Drives.{end_machines}

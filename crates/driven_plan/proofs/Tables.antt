@@ -1,7 +1,7 @@
 -- The tables that the pipeline of a plan gives at the end of packets are those of the plan's text.
-use Rattle.std.proofs.Common.{◌≡◌, ℕ, zero, suc, ◌+◌, ◌<◌, ◌≤◌, List, [], ◌∷◌, ◌++◌, length, map, drop, Option, Some, None, refl, sym, ap, ap₂, ◌∙◌, subst, arith, length-append}
+use Rattle.std.proofs.Common.{◌≡◌, ℕ, zero, suc, ◌+◌, ◌<◌, List, [], ◌∷◌, length, map, drop, Option, Some, refl, sym, ap, ap₂, ◌∙◌, subst, arith, length-append}
 use Rattle.std.specs.Prelude.{slice_get, option_map, unwrap_or, flat_map, slice_index_or}
-use Rattle.std.specs.List.{All, AllZip}
+use Rattle.std.specs.List.{All}
 use Rattle.std.proofs.lemmas.List.{length-map}
 use Rattle.std.proofs.lemmas.List.Elements.{All-map}
 use Rattle.std.proofs.lemmas.Option.{slice_get-map}
@@ -17,7 +17,7 @@ use Rattle.final_queries.specs.FinalLaws.{AreAlike, AlikeFoldingsMakeOneTable}
 use Rattle.final_queries.specs.GroupTable.{ClosedGiveTheGroupTable, Heading, closed_table, group_table}
 use Rattle.plan_file.specs.declared.made.Folded.{Folded}
 use Rattle.plan_file.specs.declared.made.Made.{Made}
-use Rattle.plan_loader.specs.Meaning.{fold_in, heading_in, plan_output, plan_tables, table_in, taken_in, uses_in, wiring_in}
+use Rattle.plan_loader.specs.Meaning.{fold_in, heading_in, plan_output, plan_tables, table_in, uses_in, wiring_in}
 use Rattle.plan_loader.specs.Parts.{AreGroupsFrom, IsGroupFrom, IsPlanFrom, IsSoundFolded, IsSoundMade}
 use Rattle.plan_loader.proofs.Folds.{fold_in_is, foldings}
 use Rattle.plan_loader.proofs.SoundPlan.{all_at, shape_same}

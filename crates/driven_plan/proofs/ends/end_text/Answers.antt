@@ -1,4 +1,3 @@
-use Rattle.std.proofs.Common.{◌∙◌}
 use Rattle.driven_plan.proofs.Tables.{end_keys, end_prints, end_tables, output_is}
 use Rattle.driven_plan.proofs.ends.end_text.Goals as goal
 
