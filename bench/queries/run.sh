@@ -8,7 +8,7 @@ top=$(cd "$here/../.." && pwd)
 work=$(mktemp -d)
 trap 'rm -rf "$work"' EXIT
 rustc -O -C target-cpu=x86-64-v2 -o "$work/limit" "$here/limit.rs"
-rustc -O -C target-cpu=x86-64-v2 -o "$work/hand" "$here/hand.rs"
+rustc -O -C target-cpu=x86-64-v2 -o "$work/hand" "$here/hand/main.rs"
 "$top/marple" gen 1000000 1 >"$work/trace"
 marple="$top/crates/marple/out/marple"
 
