@@ -1,5 +1,5 @@
 -- Where a text is accepted, its typed form is valid, and its folds start as words.
-use Rattle.std.proofs.Common.{◌≡◌, ℕ, List, [], ◌∷◌, map, Option, Some, None, Ok, Err, refl, sym, subst}
+use Rattle.std.proofs.Common.{◌≡◌, ℕ, List, [], ◌∷◌, Option, Some, None, Ok, sym, subst}
 use Rattle.std.specs.Prelude.{All}
 use Rattle.std.proofs.lemmas.List.Elements.{All-nil, All-head, All-tail, All-push, All-map}
 use Rattle.query_lang.specs.declared.fault.QueryFault.{QueryFault}
@@ -11,7 +11,7 @@ use Rattle.query_lang.specs.declared.query.Query.{Query}
 use Rattle.query_lang.specs.declared.query.StateVar.{StateVar}
 use Rattle.query_lang.specs.declared.typed.TypedQuery.{TypedQuery}
 use Rattle.query_lang.specs.declared.typing.Given.{Given}
-use Rattle.query_lang.specs.Checks.{Checked, and_then}
+use Rattle.query_lang.specs.Checks.{and_then}
 use Rattle.query_lang.specs.Typing.{checked, typed_names, given_of}
 use Rattle.query_lang.specs.Words.{IsWord, AreWords}
 use Rattle.query_grammar.specs.Texts.{IsQueryOf, parsed_text}

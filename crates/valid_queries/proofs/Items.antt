@@ -1,5 +1,5 @@
 -- The numbers in the items of a text's query are words.
-use Rattle.std.proofs.Common.{◌≡◌, ℕ, ◌<◌, ◌^◌, List, [], ◌∷◌, length, map, Option, Some, None, refl, sym, subst, arith}
+use Rattle.std.proofs.Common.{ℕ, List, [], length, Option, Some, None, sym, subst, arith}
 use Rattle.std.specs.Prelude.{All}
 use Rattle.std.proofs.lemmas.List.Elements.{All-weaker}
 use Rattle.query_lang.specs.declared.fault.Span.{Span}
@@ -7,23 +7,19 @@ use Rattle.query_lang.specs.declared.query.Column.{Column}
 use Rattle.query_lang.specs.declared.query.Expr.{Expr}
 use Rattle.query_lang.specs.declared.query.FinalOp.{FinalOp}
 use Rattle.query_lang.specs.declared.query.Item.{Item}
-use Rattle.query_lang.specs.declared.query.Item.TheVariants as item
-use Rattle.query_lang.specs.declared.query.Name.{Name}
-use Rattle.query_lang.specs.declared.query.Query.{Query}
 use Rattle.query_lang.specs.declared.query.StateVar.{StateVar}
 use Rattle.query_lang.specs.declared.query.StreamOp.{StreamOp}
 use Rattle.query_lang.specs.declared.token.Mark.TheVariants as marks
 use Rattle.query_lang.specs.declared.token.Word.TheVariants as words
 use Rattle.query_lang.specs.Words.{IsWord}
-use Rattle.query_types.specs.Numbers.{greatest_of, greatest_number, greatest_in, columns_number, stream_number, final_number, item_number}
+use Rattle.query_types.specs.Numbers.{greatest_number, greatest_in, columns_number, stream_number, final_number, item_number}
 use Rattle.query_grammar.specs.Language.{Language}
 use Rattle.query_grammar.specs.Kinds.{sign, keyword}
-use Rattle.query_grammar.specs.Grammar.{initial_of, StateVariable, Parameters, Fold, Filter, ColumnOf, Mapping, Streaming, Stream, Finishing, Final, Print, ItemOf, Expression}
-use Rattle.query_grammar.specs.Texts.{IsQueryOf}
+use Rattle.query_grammar.specs.Grammar.{initial_of, StateVariable, Parameters, Fold, Filter, ColumnOf, Mapping, Streaming, Stream, Finishing, Final, Print, ItemOf}
 use Rattle.valid_queries.specs.ValidLaws.{StartsAsWords, NumbersAreWords}
 use Rattle.valid_queries.proofs.Tokens.{AreWordTokens, cut_words}
-use Rattle.valid_queries.proofs.Holds.{HaveWords, leaves_have, both_have, Holds, any, any_holds, first_is_word, number_holds, then_holds, first_holds, second_holds, meaning_holds, either_holds, repeats, if_some, once_holds, after_holds, between_holds, parens_hold, brackets_hold, separated_holds, listed_holds}
-use Rattle.valid_queries.proofs.Numbers.{is_word_expr, is_word_stmt, greatest_word, expr_holds, block_holds, stmt_holds}
+use Rattle.valid_queries.proofs.Holds.{HaveWords, leaves_have, both_have, Holds, any_holds, first_is_word, number_holds, then_holds, first_holds, second_holds, meaning_holds, either_holds, repeats, if_some, once_holds, after_holds, between_holds, parens_hold, brackets_hold, separated_holds, listed_holds}
+use Rattle.valid_queries.proofs.Numbers.{is_word_expr, greatest_word, expr_holds, block_holds, stmt_holds}
 
 -- ---- parts of items
 

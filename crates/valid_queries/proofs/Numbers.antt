@@ -1,5 +1,5 @@
 -- The numbers in expressions and statements are words.
-use Rattle.std.proofs.Common.{◌≡◌, ℕ, zero, suc, ◌<◌, ◌-◌, ◌^◌, List, [], ◌∷◌, map, Option, Some, None, refl, sym, ap, subst, ◌∙◌, arith, inl, inr, ◌⊎◌}
+use Rattle.std.proofs.Common.{◌≡◌, ℕ, zero, suc, ◌-◌, ◌^◌, List, [], ◌∷◌, map, Option, Some, None, sym, ap, subst, ◌∙◌, arith, inl, inr, ◌⊎◌}
 use Rattle.std.specs.Prelude.{All, max}
 use Rattle.std.proofs.lemmas.List.Elements.{All-head, All-tail}
 use Rattle.query_lang.specs.declared.fault.Span.{Span}
@@ -19,7 +19,7 @@ use Rattle.query_grammar.specs.Language.{Language, Leaf, Chain, Chained}
 use Rattle.query_grammar.specs.Kinds.{sign, keyword}
 use Rattle.query_grammar.specs.Grammar.{grouped, compared, negated, else_of, Operators, either_ops, both_ops, or_ops, xor_ops, and_ops, shift_ops, sum_ops, product_ops, Level, Atom, CallOf, Unary, Product, Sum, Shift, BitAnd, BitXor, BitOr, Comparison, Conjunction, Disjunction, Expression, Assignment, Emission, Block, IfPart, ElsePart, IfStatement, Statement_at}
 use Rattle.query_grammar.proofs.ItemWeights.{all_cons, all_none}
-use Rattle.valid_queries.proofs.Holds.{HaveWords, both_have, Holds, any, any_holds, number_holds, then_holds, second_holds, meaning_holds, either_holds, repeated_holds, if_some, once_holds, after_holds, between_holds, parens_hold, listed_holds}
+use Rattle.valid_queries.proofs.Holds.{HaveWords, both_have, Holds, any_holds, number_holds, then_holds, second_holds, meaning_holds, either_holds, repeated_holds, if_some, once_holds, after_holds, between_holds, parens_hold, listed_holds}
 
 -- ---- the greatest number
 
