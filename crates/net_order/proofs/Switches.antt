@@ -1,5 +1,5 @@
 -- The keys of an accepted query that are named `switch` are switches.
-use Rattle.std.proofs.Common.{◌≡◌, ℕ, ◌+◌, ◌<◌, Bool, true, false, ◌||◌, List, [], ◌∷◌, ◌++◌, length, map, slice_index, Option, Some, None, refl, sym, ap, subst, ◌∙◌, arith}
+use Rattle.std.proofs.Common.{◌≡◌, ℕ, ◌+◌, Bool, true, false, ◌||◌, List, [], ◌∷◌, ◌++◌, length, slice_index, Some, None, refl, sym, subst, arith}
 use Rattle.std.specs.Prelude.{All}
 use Rattle.std.specs.List.{list_any}
 use Rattle.std.proofs.lemmas.List.{length_push}
@@ -18,7 +18,7 @@ use Rattle.query_lang.specs.declared.typed.TypedStream.{TypedStream}
 use Rattle.query_lang.specs.declared.typing.Given.{Given}
 use Rattle.query_lang.specs.declared.typing.MadeStream.{MadeStream}
 use Rattle.query_lang.specs.declared.typing.Origin.TheVariants as origin
-use Rattle.query_lang.specs.Streams.{Tuple, stream}
+use Rattle.query_lang.specs.Streams.{Tuple}
 use Rattle.query_lang.specs.TypedFinals.{five_fields}
 use Rattle.query_lang.specs.TypedStreams.{column_names}
 use Rattle.query_lang.specs.Typing.{typed_names, field_numbers, given_of}
@@ -26,8 +26,8 @@ use Rattle.query_rules.specs.Context.{Entry, AFold, AStream, AFinal, APrint, str
 use Rattle.query_rules.specs.QueryRules.{HasItem, HasItems, of_none, of_more, IsTyped, query_with}
 use Rattle.query_rules.specs.StreamRules.{HasStream}
 use Rattle.stage_plan.proofs.StreamRows.{Row, row_at, row_made, rows_from, all_rows, tuple_of, at_last, stream_rows}
-use Rattle.net_wide.specs.Combining.{is_switch, names_switch, columns_made, makes_switch}
-use Rattle.net_wide.specs.NetLaws.{IsSwitchSlot, SwitchKeysAreSwitches}
+use Rattle.net_wide.specs.Combining.{names_switch, columns_made, makes_switch}
+use Rattle.net_wide.specs.NetLaws.{SwitchKeysAreSwitches}
 use Rattle.net_wide.specs.NetTables.{switch_in}
 use Rattle.net_order.proofs.Tells.{AreKnown, packet_tells}
 use Rattle.net_order.proofs.FieldNames.{all_known}
