@@ -17,6 +17,4 @@ mod lanes;
 #[cfg(test)]
 mod stages;
 #[cfg(test)]
-mod tables;
-#[cfg(test)]
 mod views;
