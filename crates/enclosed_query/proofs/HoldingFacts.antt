@@ -3,7 +3,7 @@ use Rattle.std.proofs.Common.{◌≡◌, ℕ, zero, suc, ◌+◌, ◌<◌, List,
 use Rattle.std.specs.Prelude.{option_and_then}
 use Rattle.std.specs.List.{All, filter, flat_map, slice_get}
 use Rattle.std.proofs.lemmas.List.{length-map}
-use Rattle.std.proofs.lemmas.List.Elements.{All-nil, All-cons, All-filter, All-get_or, All-map}
+use Rattle.std.proofs.lemmas.List.Elements.{All-filter, All-map}
 use Rattle.std.proofs.lemmas.Option.{get_or_from_slice_get, slice_get_within}
 use Rattle.query_lang.specs.declared.fold.TypedFold.{TypedFold}
 use Rattle.query_lang.specs.declared.typed.Class.{Class}
@@ -11,28 +11,27 @@ use Rattle.query_lang.specs.declared.typed.Class.TheVariants.{Linear, Other}
 use Rattle.query_lang.specs.declared.typed.TypedQuery.{TypedQuery}
 use Rattle.query_lang.specs.Folds.{IsValidFold, initial_state}
 use Rattle.query_lang.specs.Streams.{Taking, takings}
-use Rattle.query_lang.specs.TypedQueries.{IsValidQuery}
 use Rattle.query_lang.specs.Words.{AreWords}
 use Rattle.query_types.specs.Uses.{uses}
 use Rattle.epoch_model.specs.declared.tables.Row.{Row}
 use Rattle.epoch_model.specs.Epochs.{Use, Geometry, epochs, is_use_of}
-use Rattle.epoch_model.specs.Keys.{Key, has}
-use Rattle.epoch_model.specs.Tables.{exact_row, epoch_rows, group_rows, key_rows, keys_used}
+use Rattle.epoch_model.specs.Keys.{Key}
+use Rattle.epoch_model.specs.Tables.{exact_row, epoch_rows, key_rows, keys_used}
 use Rattle.epoch_model.proofs.KeyOrder.{has-ascending}
 use Rattle.epoch_entry.specs.Foldings.{folding_of, per_epoch}
 use Rattle.fold_class.specs.Kinds.{class_of}
-use Rattle.final_queries.specs.GroupTable.{Heading, group_table}
+use Rattle.final_queries.specs.GroupTable.{Heading}
 use Rattle.stage_plan.specs.Planned.{fold_at}
 use Rattle.stage_plan.specs.Shape.{GroupShape, query_groups}
 use Rattle.query_tables.specs.Tables.{heading_of}
 use Rattle.enclosure_folds.specs.declared.table.BoundsRow.{BoundsRow}
 use Rattle.enclosure_folds.specs.declared.table.Enclosed.{Enclosed}
 use Rattle.enclosure_folds.specs.Bounds.{Encloses}
-use Rattle.enclosure_folds.specs.Check.{enclose_fault, is_bounded, NoFaultMeansBounds}
+use Rattle.enclosure_folds.specs.Check.{is_bounded, NoFaultMeansBounds}
 use Rattle.enclosure_folds.specs.KeyBounds.{KeyBoundsEnclose, enclosed_by, enclosed_table, key_bounds, rows_of}
 use Rattle.enclosure_folds.proofs.RowFacts.{all_of, has_use}
 use Rattle.enclosed_query.specs.EnclosedTables.{enclosed_from, enclosed_if, enclosed_tables}
-use Rattle.enclosed_query.specs.Holding.{HoldsOver, RowsHold, ShownHolds, ShownTablesHold, key_fold, keys_shown}
+use Rattle.enclosed_query.specs.Holding.{HoldsOver, ShownTablesHold, key_fold}
 use Rattle.enclosed_query.proofs.EndFacts.{fold_there}
 use Rattle.enclosed_query.proofs.ReadTables.{keys_bounded}
 use Rattle.enclosed_query.proofs.StreamWords.{uses_words}
@@ -80,9 +79,9 @@ module _ (f : TypedFold) (g : Geometry) (given : List Use) where
   rows_bounded law valid mono words rows =
       All-map BoundsHold (key_bounds f g given) (keys_used given)
       (λ k d lt. let key = get_or (keys_used given) k d in
-          law f g given key valid mono words
-          (All-map AreWords (λ (u : Use). u.row) (filter (is_use_of key) given) (All-filter (is_use_of key) (λ (u : Use). AreWords u.row) given rows))
-          (some_rows given k d lt))
+      law f g given key valid mono words
+      (All-map AreWords (λ (u : Use). u.row) (filter (is_use_of key) given) (All-filter (is_use_of key) (λ (u : Use). AreWords u.row) given rows))
+      (some_rows given k d lt))
 
   one_holds : KeyBoundsEnclose → IsValidFold f → is_bounded (class_of f) f ≡ true → AreWords (initial_state f) → All (λ (u : Use). AreWords u.row) given
       → (heading : Heading) (class : Class) → class_of f ≡ class → HoldsOver f given (enclosed_by class heading f g given)

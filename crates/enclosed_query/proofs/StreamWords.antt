@@ -1,6 +1,6 @@
 -- The streams of packets of words are of words.
 use Rattle.std.proofs.Common.{ℕ, zero, suc, List, [], ◌∷◌, ◌++◌, Option, Some, None, length, get_or, map, slice_index, Bool, true, false, not}
-use Rattle.std.specs.Prelude.{IfSome, fold, option_map, unwrap_or, ◌==◌, if◌then◌else◌}
+use Rattle.std.specs.Prelude.{IfSome, fold, option_map, ◌==◌, if◌then◌else◌}
 use Rattle.std.specs.List.{All, cons_option, filter, filter_map, find, slice_get}
 use Rattle.std.proofs.lemmas.List.Elements.{All-nil, All-cons, All-head, All-tail, All-append, All-filter, All-map, All-push}
 use Rattle.epoch_entry.proofs.FoldLemmas.{word_at}
@@ -85,7 +85,7 @@ made_words folds before width streams (op.Map input values) v h =
     let given = list_at streams input in
     All-map HasWords (λ (t : Tuple). record { packet = t.packet; row = t.row ++ map (λ e. expr_value e t.row) values }) given
     (λ k d lt. let t = get_or given k d in let words = listed_words streams input h k d lt in
-        All-append IsWord t.row (map (λ e. expr_value e t.row) values) words (exprs_words _ values t.row v.1.0 words))
+    All-append IsWord t.row (map (λ e. expr_value e t.row) values) words (exprs_words _ values t.row v.1.0 words))
 made_words folds before width streams (op.Zip left right slots) v h = joined_words slots (list_at streams left) (list_at streams right) (listed_words streams left h) (listed_words streams right h)
 made_words folds before width streams (op.Group input keys f args) v h = keys_words (slice_get folds f) keys args (list_at streams input) (listed_words streams input h)
 

@@ -1,6 +1,6 @@
 -- The texts of tables in two parts are those of what is shown.
-use Rattle.std.proofs.Common.{◌≡◌, ℕ, zero, suc, List, [], ◌∷◌, ◌++◌, Option, Some, None, length, map, drop, refl, sym, ap, ◌∙◌, subst, append-nil, append_assoc}
-use Rattle.std.specs.Prelude.{option_map, unwrap_or}
+use Rattle.std.proofs.Common.{◌≡◌, ℕ, zero, suc, List, [], ◌∷◌, ◌++◌, Option, length, map, drop, refl, sym, ap, ◌∙◌, append-nil, append_assoc}
+use Rattle.std.specs.Prelude.{unwrap_or}
 use Rattle.std.specs.List.{All, flat_map, slice_get}
 use Rattle.std.proofs.Math.Seq.{drop-append_seam}
 use Rattle.std.proofs.lemmas.List.{length-map}
@@ -12,9 +12,11 @@ use Rattle.query_lang.specs.declared.typed.PrintOf.{PrintOf}
 use Rattle.query_lang.specs.declared.typed.TypedQuery.{TypedQuery}
 use Rattle.query_lang.specs.Streams.{takings}
 use Rattle.query_lang.specs.TypedFinals.{table_number}
+use Rattle.query_lang.specs.TypedQueries.{group_shape}
 use Rattle.final_queries.specs.declared.table.Table.{Table}
-use Rattle.final_queries.specs.Finals.{final_table, with_finals}
+use Rattle.final_queries.specs.Finals.{final_table, table_shape, with_finals}
 use Rattle.table_printer.specs.TableText.{table_text}
+use Rattle.enclosure_folds.specs.declared.table.BoundsTable.{BoundsTable}
 use Rattle.enclosure_folds.specs.declared.table.Enclosed.{Enclosed}
 use Rattle.enclosure_folds.specs.declared.table.Enclosed.TheVariants.{Linear, Bounds}
 use Rattle.epoch_model.specs.Epochs.{Geometry}
@@ -67,8 +69,22 @@ module _ (q : TypedQuery) (groups : List Enclosed) where
       ap (λ text. text ++ flat_map (λ (p : PrintOf). text_at (map bounds_shown groups) all_tables (table_number (length (takings q.streams)) p)) prints) (one_text number)
       ∙ ap (λ texts. unwrap_or (slice_get (all_texts q groups) number) [] ++ texts) (all_prints prints)
 
-  pub prints_are : flat_map (λ one. text_at (map bounds_shown groups) all_tables (table_number (length (takings q.streams)) one)) q.prints ≡ enclosed_print q groups
+  prints_are : flat_map (λ one. text_at (map bounds_shown groups) all_tables (table_number (length (takings q.streams)) one)) q.prints ≡ enclosed_print q groups
   prints_are = all_prints q.prints
+
+-- by the parts of what is shown, and the finals behind
+pub texts_are : (q : TypedQuery) (groups : List Enclosed) (count : ℕ) (bounds : List (Option BoundsTable)) (read tables : List Table) (prints : List PrintOf)
+    → count ≡ length groups → map table_shape (map table_read groups) ≡ map (group_shape q.folds) (takings q.streams) → bounds ≡ map bounds_shown groups → read ≡ map table_read groups
+    → tables ≡ with_finals q.names q.folds read q.finals → prints ≡ q.prints
+    → flat_map (λ one. text_at bounds tables (table_number count one)) prints ≡ enclosed_print q groups
+texts_are q groups count bounds read tables prints count_is shapes bounds_are read_are tables_are all =
+    let taken : count ≡ length (takings q.streams) =
+    count_is ∙ (sym (length-map groups table_read) ∙ (sym (length-map (map table_read groups) table_shape) ∙ (ap (λ ss. length ss) shapes ∙ length-map (takings q.streams) (group_shape q.folds)))) in
+    ap (λ n. flat_map (λ one. text_at bounds tables (table_number n one)) prints) taken
+    ∙ (ap (λ bs. flat_map (λ one. text_at bs tables (table_number (length (takings q.streams)) one)) prints) bounds_are
+    ∙ (ap (λ ts. flat_map (λ one. text_at (map bounds_shown groups) ts (table_number (length (takings q.streams)) one)) prints) (tables_are ∙ ap (λ ts. with_finals q.names q.folds ts q.finals) read_are)
+    ∙ (ap (flat_map (λ one. text_at (map bounds_shown groups) (with_finals q.names q.folds (map table_read groups) q.finals) (table_number (length (takings q.streams)) one))) all
+    ∙ prints_are q groups)))
 
 -- the bounds that are shown are whole
 pub whole_parts : (groups : List Enclosed) → All IsWhole groups → All IsWholeIfThere (map bounds_shown groups)

@@ -18,16 +18,25 @@ use std::alloc::{AllocError, Global};
 use switch_core::Pipeline;
 
 // What is shown of groupbys with these tables.
+fn each_shown(alloc: Global, tables: Seq<Table>) -> Result<Seq<Enclosed>, AllocError>
+    requires { All MayBeShown tables }
+    ensures { IfOk result (λ made. made ≡ map shown tables) }
+{
+    let mut made = Seq::new(alloc);
+    for table in tables.into_vec() {
+        made.push(enclosed_of(alloc, table)?)?;
+    }
+    Ok(made)
+}
+
+// The same, where tables of bounds have the words that their names say.
 fn all_shown(alloc: Global, tables: Seq<Table>) -> Result<Seq<Enclosed>, AllocError>
     requires { All MayBeShown tables }
     ensures made { IfOk result (λ made. made ≡ map shown tables) }
     ensures whole { IfOk result (All IsWhole) }
 {
     triples_give_whole_tables();
-    let mut made = Seq::new(alloc);
-    for table in tables.into_vec() {
-        made.push(enclosed_of(alloc, table)?)?;
-    }
+    let made = each_shown(alloc, tables)?;
     Ok(made)
 }
 

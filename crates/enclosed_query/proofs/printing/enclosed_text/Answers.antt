@@ -1,4 +1,4 @@
-use Rattle.std.proofs.Common.{sym, ap, ◌∙◌, subst, map}
+use Rattle.std.proofs.Common.{lit<, sym, ap, ◌∙◌, subst, map}
 use Rattle.std.specs.List.{All}
 use Rattle.final_queries.specs.Finals.{IsTable, table_shape}
 use Rattle.enclosed_query.specs.EnclosedTables.{table_read}
@@ -6,10 +6,12 @@ use Rattle.enclosed_query.specs.Reading.{IsWhole}
 use Rattle.enclosed_query.proofs.TextParts.{text_is}
 use Rattle.enclosed_query.proofs.printing.enclosed_text.Goals as goal
 
-pub enclosed-requires-clause-ends : goal.enclosed-requires-clause-ends
-enclosed-requires-clause-ends g c =
-    let e = c.requires.ends in
-    (c.args.typed.now, e.0, e.1, e.2)
+pub enclosed-requires : goal.enclosed-requires
+enclosed-requires g c =
+    let e = c.requires.ends in (
+      lit< tt,
+      (c.requires.entries, (c.requires.drained, (c.args.typed.now, e.0, e.1, e.2))),
+    )
 
 pub print_enclosed-requires-clause-tables : goal.print_enclosed-requires-clause-tables
 print_enclosed-requires-clause-tables g c =
