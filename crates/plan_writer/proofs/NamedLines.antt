@@ -3,7 +3,7 @@ use Rattle.std.proofs.Common.{◌≡◌, ℕ, ◌+◌, ◌<◌, ◌≤◌, List,
 use Rattle.std.proofs.lemmas.List.{drop_more, drop_all}
 use Rattle.std.proofs.lemmas.Bool.{cases_lt}
 use Rattle.plan_writer.specs.Words.{line}
-use Rattle.plan_writer.specs.PlanTexts.{named_lines}
+use Rattle.plan_writer.specs.PlanText.{named_lines}
 
 no_names : (word : List ℕ) (lasts : List (List ℕ)) → named_lines word [] lasts ≡ []
 no_names word [] = refl

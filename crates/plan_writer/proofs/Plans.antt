@@ -26,7 +26,7 @@ use Rattle.stage_plan.proofs.Deep.{IsAt, WiresAt, AreMade, AllMakes, all_make, n
 use Rattle.stage_plan.proofs.Runs.{stage_below}
 use Rattle.stage_plan.proofs.Sorted.{Staged}
 use Rattle.plan_writer.specs.Ordered.{query_order, query_registers, query_ops, query_wiring}
-use Rattle.plan_writer.specs.PlanTexts.{group_lines, group_lines_of, group_text}
+use Rattle.plan_writer.specs.PlanText.{group_lines, group_lines_of, group_text}
 use Rattle.plan_writer.proofs.Once.{registers_are}
 
 -- the packets' columns are fields, before any operation

@@ -1,3 +1,3 @@
 pub mod Words
 pub mod Ordered
-pub mod PlanTexts
+pub mod PlanText

@@ -1,7 +1,7 @@
 // What a plan's text can't have.
 
 ghost use Rattle.std.specs.Prelude.{◌≡◌};
-ghost use Rattle.plan_writer.specs.PlanTexts.{final_fault};
+ghost use Rattle.plan_writer.specs.PlanText.{final_fault};
 
 use query_lang::{FaultKind, QueryFault, TypedQuery};
 

@@ -8,7 +8,7 @@ ghost use Rattle.query_lang.specs.TypedQueries.{IsValidQuery};
 ghost use Rattle.stage_plan.specs.Planned.{IsPlanOf};
 ghost use Rattle.stage_plan.specs.Shape.{class_word, group_shape};
 ghost use Rattle.plan_writer.specs.Words.{behind, line, operand_word, block_words};
-ghost use Rattle.plan_writer.specs.PlanTexts.{named_lines, group_lines, group_text};
+ghost use Rattle.plan_writer.specs.PlanText.{named_lines, group_lines, group_text};
 
 use crate::bodies::push_body;
 use crate::words::{push_number, push_operand, push_word};

@@ -3,7 +3,7 @@
 ghost use Rattle.std.specs.Prelude.{◌≡◌, ◌∷◌, ◌++◌, [], map, filter, flat_map, codes, decimal, OnOk};
 ghost use Rattle.marple_base.specs.Field.{field_name, has_field};
 ghost use Rattle.plan_writer.specs.Words.{behind, line};
-ghost use Rattle.plan_writer.specs.PlanTexts.{fields_of, reads_line, print_line};
+ghost use Rattle.plan_writer.specs.PlanText.{fields_of, reads_line, print_line};
 
 use crate::words::{push_number, push_word};
 use marple_base::{Field, FieldSet, Text};

@@ -2,7 +2,7 @@
 
 ghost use Rattle.std.specs.Prelude.{◌≡◌, ◌++◌, flat_map, OnOk};
 ghost use Rattle.plan_writer.specs.Words.{behind, function_word, operation_words};
-ghost use Rattle.plan_writer.specs.PlanTexts.{op_line};
+ghost use Rattle.plan_writer.specs.PlanText.{op_line};
 
 use crate::words::{push_number, push_operand, push_word};
 use marple_base::Text;

@@ -1,9 +1,9 @@
 // The text of a plan.
 
-ghost use Rattle.std.specs.Prelude.{◌≡◌, [], IfOk};
+ghost use Rattle.std.specs.Prelude.{◌≡◌, None, IfOk};
 ghost use Rattle.query_lang.specs.TypedQueries.{IsValidQuery};
 ghost use Rattle.stage_plan.specs.Planned.{IsPlanOf};
-ghost use Rattle.plan_writer.specs.PlanTexts.{compiled_text};
+ghost use Rattle.plan_writer.specs.PlanText.{compiled_text, final_fault};
 
 use crate::groups::push_groups;
 use crate::lines::{push_head, push_prints};
@@ -18,7 +18,7 @@ use std::alloc::{AllocError, Global};
 pub fn plan_file_text(alloc: Global, q: &TypedQuery, p: &Plan) -> Result<Text, AllocError>
     requires valid { IsValidQuery q.now }
     requires plan { IsPlanOf q.now p.now }
-    requires no_finals { q.now.finals ≡ [] }
+    requires no_finals { final_fault q.now ≡ None }
     ensures { IfOk result (λ text. text ≡ compiled_text q.now) }
 {
     let mut text = Text::new(alloc);

@@ -1,7 +1,7 @@
 use Rattle.std.proofs.Common.{◌≡◌, ◌++◌}
 use Rattle.std.specs.Prelude.{flat_map}
 use Rattle.std.specs.List.{range_with_len}
-use Rattle.plan_writer.specs.PlanTexts.{group_text}
+use Rattle.plan_writer.specs.PlanText.{group_text}
 use Rattle.plan_writer.proofs.groups.push_groups.Given as goal
 
 abbrev pub invariant-loop-i : goal.invariant-loop-i

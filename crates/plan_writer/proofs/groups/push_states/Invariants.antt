@@ -1,6 +1,6 @@
 use Rattle.std.proofs.Common.{◌≡◌, ◌++◌, drop}
 use Rattle.std.specs.Prelude.{map, codes, decimal}
-use Rattle.plan_writer.specs.PlanTexts.{named_lines}
+use Rattle.plan_writer.specs.PlanText.{named_lines}
 use Rattle.plan_writer.proofs.groups.push_states.Given as goal
 
 abbrev pub invariant-loop-at : goal.invariant-loop-at

@@ -1,6 +1,6 @@
 use Rattle.std.proofs.Common.{◌≡◌, ◌++◌, take}
 use Rattle.std.specs.Prelude.{flat_map}
-use Rattle.plan_writer.specs.PlanTexts.{print_line}
+use Rattle.plan_writer.specs.PlanText.{print_line}
 use Rattle.plan_writer.proofs.lines.push_prints.Given as goal
 
 abbrev pub invariant-loop-print : goal.invariant-loop-print

@@ -1,6 +1,6 @@
 use Rattle.std.proofs.Common.{◌≡◌, ◌++◌, take}
 use Rattle.std.specs.Prelude.{flat_map}
-use Rattle.plan_writer.specs.PlanTexts.{op_line}
+use Rattle.plan_writer.specs.PlanText.{op_line}
 use Rattle.plan_writer.proofs.operations.push_ops.Given as goal
 
 abbrev pub invariant-loop-number : goal.invariant-loop-number
