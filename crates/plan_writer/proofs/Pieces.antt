@@ -1,13 +1,17 @@
 -- Pieces of a line that are written one after another.
 use Rattle.std.proofs.Common.{◌≡◌, ℕ, ◌+◌, ◌<◌, ◌≤◌, List, [], ◌∷◌, ◌++◌, length, get_or, drop, sym, ap, ◌∙◌, append_assoc, append-nil}
-use Rattle.std.specs.Prelude.{codes}
-use Rattle.std.proofs.lemmas.List.{drop_more, drop_all}
+use Rattle.std.specs.Prelude.{codes, map, filter, take}
+use Rattle.std.proofs.lemmas.List.{drop_more, drop_all, map-append, take_more}
+use Rattle.std.proofs.lemmas.List.Elements.{filter-append}
+use Rattle.marple_base.specs.declared.field.Field.{Field}
+use Rattle.marple_base.specs.declared.field.FieldSet.{FieldSet}
+use Rattle.marple_base.specs.Field.{field_name, has_field}
 use Rattle.std.proofs.lemmas.Grind.{flat_map-append}
 use Rattle.query_lang.specs.declared.fold.TypedExpr.{TypedExpr}
-use Rattle.query_lang.specs.declared.fold.TypedStmt.{TypedStmt, If}
+use Rattle.query_lang.specs.declared.fold.TypedStmt.{TypedStmt, Assign, If}
 use Rattle.query_lang.specs.Terms.{term_of}
 use Rattle.query_lang.specs.Blocks.{Block, End, Set, Fork, followed, stmt_block, block_of}
-use Rattle.query_lang.proofs.TreeLemmas.{block_if}
+use Rattle.query_lang.proofs.TreeLemmas.{block_assign, block_if}
 use Rattle.plan_writer.specs.Words.{behind, state_word, term_words, block_words}
 
 pub behind_both : (xs ys : List (List ℕ)) → behind (xs ++ ys) ≡ behind xs ++ behind ys
@@ -62,16 +66,48 @@ choice_written states s c a b p q t0 t1 t2 t3 t4 t5 t6 t7 t8 is ea eb e1 e2 e3 e
     ∙ ap (λ l. t0 ++ behind (block_words states l)) (sym (block_if c a b))
     ∙ ap (λ l. t0 ++ behind (block_words states (stmt_block l))) (sym is)
   where
-    glued : (t0 i o e : List ℕ) (x y z : List (List ℕ)) →
-        (((((((t0 ++ behind (i ∷ [])) ++ behind x) ++ behind (o ∷ [])) ++ behind y) ++ behind (e ∷ [])) ++ behind (o ∷ [])) ++ behind z) ++ behind (e ∷ [])
-        ≡ t0 ++ behind (i ∷ (x ++ (o ∷ (y ++ (e ∷ o ∷ (z ++ (e ∷ [])))))))
-    glued t0 i o e x y z =
-        ap (λ t. ((((((t ++ behind x) ++ behind (o ∷ [])) ++ behind y) ++ behind (e ∷ [])) ++ behind (o ∷ [])) ++ behind z) ++ behind (e ∷ [])) (λ _. t0 ++ behind (i ∷ []))
-        ∙ flat t0 (behind (i ∷ [])) (behind x) (behind (o ∷ [])) (behind y) (behind (e ∷ [])) (behind z)
-        ∙ ap (λ l. t0 ++ l) (sym (parts (i ∷ []) x (o ∷ []) y (e ∷ []) z))
-
     flat : (t i x o y e z : List ℕ) → (((((((t ++ i) ++ x) ++ o) ++ y) ++ e) ++ o) ++ z) ++ e ≡ t ++ (i ++ (x ++ (o ++ (y ++ (e ++ (o ++ (z ++ e)))))))
     flat t i x o y e z = simp (append_assoc)
 
     parts : (i x o y e z : List (List ℕ)) → behind (i ++ (x ++ (o ++ (y ++ (e ++ (o ++ (z ++ e))))))) ≡ behind i ++ (behind x ++ (behind o ++ (behind y ++ (behind e ++ (behind o ++ (behind z ++ behind e))))))
     parts i x o y e z = simp (behind_both)
+
+    glued : (t0 i o e : List ℕ) (x y z : List (List ℕ)) →
+        (((((((t0 ++ behind (i ∷ [])) ++ behind x) ++ behind (o ∷ [])) ++ behind y) ++ behind (e ∷ [])) ++ behind (o ∷ [])) ++ behind z) ++ behind (e ∷ [])
+        ≡ t0 ++ behind (i ∷ (x ++ (o ∷ (y ++ (e ∷ o ∷ (z ++ (e ∷ [])))))))
+    glued t0 i o e x y z =
+        flat t0 (behind (i ∷ [])) (behind x) (behind (o ∷ [])) (behind y) (behind (e ∷ [])) (behind z)
+        ∙ ap (λ l. t0 ++ l) (sym (parts (i ∷ []) x (o ∷ []) y (e ∷ []) z))
+
+-- the three pieces of an assignment
+pub assignment_written : (states v n : ℕ) (s : TypedStmt) (e : TypedExpr) (t0 t1 t2 t3 : List ℕ) → s ≡ Assign v e → n ≡ v →
+    t1 ≡ t0 ++ behind (codes "set" ∷ []) → t2 ≡ t1 ++ behind (state_word n ∷ []) → t3 ≡ t2 ++ behind (term_words states (term_of e)) → t3 ≡ t0 ++ behind (block_words states (stmt_block s))
+assignment_written states v n s e t0 t1 t2 t3 is same e1 e2 e3 =
+    let x = behind (term_words states (term_of e)) in
+    let all : t3 ≡ ((t0 ++ behind (codes "set" ∷ [])) ++ behind (state_word n ∷ [])) ++ x = cc in
+    all
+    ∙ glued t0 (codes "set") (state_word n) (term_words states (term_of e))
+    ∙ ap (λ m. t0 ++ behind (codes "set" ∷ state_word m ∷ term_words states (term_of e))) same
+    ∙ ap (λ l. t0 ++ behind (codes "set" ∷ state_word v ∷ l)) (sym (append-nil (term_words states (term_of e))))
+    ∙ ap (λ l. t0 ++ behind (block_words states l)) (sym (block_assign v e))
+    ∙ ap (λ l. t0 ++ behind (block_words states (stmt_block l))) (sym is)
+  where
+    glued : (t0 i o : List ℕ) (x : List (List ℕ)) → ((t0 ++ behind (i ∷ [])) ++ behind (o ∷ [])) ++ behind x ≡ t0 ++ behind (i ∷ o ∷ x)
+    glued t0 i o x =
+        append_assoc (t0 ++ behind (i ∷ [])) (behind (o ∷ [])) (behind x)
+        ∙ append_assoc t0 (behind (i ∷ [])) (behind (o ∷ []) ++ behind x)
+        ∙ ap (λ l. t0 ++ (behind (i ∷ []) ++ l)) (sym (behind_both (o ∷ []) x))
+        ∙ ap (λ l. t0 ++ l) (sym (behind_both (i ∷ []) (o ∷ x)))
+
+-- one more field's name is written, where it is in the set
+pub fields_more : (reads : FieldSet) (fields : List Field) (i : ℕ) (d : Field) (t0 t1 t2 : List ℕ) → i < length fields → t1 ≡ t0 ++ behind (map field_name (filter (has_field reads) (take i fields))) →
+    t2 ≡ t1 ++ behind (map field_name (filter (has_field reads) (get_or fields i d ∷ []))) → t2 ≡ t0 ++ behind (map field_name (filter (has_field reads) (take (i + 1) fields)))
+fields_more reads fields i d t0 t1 t2 lt e f =
+    let x = filter (has_field reads) (take i fields) in
+    let y = filter (has_field reads) (get_or fields i d ∷ []) in
+    f ∙ ap (λ t. t ++ behind (map field_name y)) e
+    ∙ append_assoc t0 (behind (map field_name x)) (behind (map field_name y))
+    ∙ ap (λ l. t0 ++ l) (sym (behind_both (map field_name x) (map field_name y)))
+    ∙ ap (λ l. t0 ++ behind l) (sym (map-append field_name x y))
+    ∙ ap (λ l. t0 ++ behind (map field_name l)) (sym (filter-append (has_field reads) (take i fields) (get_or fields i d ∷ [])))
+    ∙ ap (λ l. t0 ++ behind (map field_name (filter (has_field reads) l))) (sym (take_more fields i d lt))

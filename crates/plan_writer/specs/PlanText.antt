@@ -1,5 +1,5 @@
 -- The text of a query's plan.
-use Rattle.std.specs.Prelude.{◌≡◌, ℕ, List, [], ◌∷◌, ◌++◌, length, map, flat_map, filter, codes, decimal, slice_get, Option, Some, None}
+use Rattle.std.specs.Prelude.{ℕ, List, [], ◌∷◌, ◌++◌, length, map, flat_map, filter, codes, decimal, slice_get, Option, Some, None}
 use Rattle.std.specs.List.{range_with_len}
 use Rattle.marple_base.specs.declared.field.Field.{Field}
 use Rattle.marple_base.specs.declared.field.FieldSet.{FieldSet}
@@ -63,7 +63,7 @@ print_line (printed.Group i) = line (codes "print") (decimal i ∷ [])
 print_line (printed.Final i) = []
 
 -- The text of a query's plan: the fields that it reads, its operations in ascending stage, its groupbys, and which of them are printed.
-abbrev pub compiled_text : TypedQuery → List ℕ
+unfoldable pub compiled_text : TypedQuery → List ℕ
 compiled_text q =
     line (codes "marple-plan") (codes "1" ∷ [])
     ++ (reads_line (reads_of q)

@@ -71,11 +71,7 @@ fn push_stmt(text: &mut Text, states: u16, s: &TypedStmt) -> Result<(), AllocErr
 }
 
 /// The statements of a fold with so many state variables.
-pub(crate) fn push_body(
-    text: &mut Text,
-    states: u16,
-    body: &[TypedStmt],
-) -> Result<(), AllocError>
+pub(crate) fn push_body(text: &mut Text, states: u16, body: &[TypedStmt]) -> Result<(), AllocError>
     ensures { OnOk result (text.new ≡ text.old ++ behind (block_words states (block_of body.now))) }
 {
     for s in body {

@@ -1,11 +1,11 @@
 // The groupbys of a plan.
 
-ghost use Rattle.std.specs.Prelude.{◌≡◌, ℕ, ◌<◌, ◌∷◌, ◌++◌, [], length, map, flat_map, codes, decimal, option_to_list, IfOk, OnOk};
+ghost use Rattle.std.specs.Prelude.{◌≡◌, ℕ, ◌<◌, ◌≤◌, ◌∷◌, ◌++◌, [], Some, length, map, flat_map, codes, decimal, option_to_list, IfOk, OnOk};
 ghost use Rattle.std.specs.List.{range_with_len};
 ghost use Rattle.query_lang.specs.Folds.{fold_block};
 ghost use Rattle.query_lang.specs.Streams.{taking_of, takings};
 ghost use Rattle.query_lang.specs.TypedQueries.{IsValidQuery};
-ghost use Rattle.stage_plan.specs.Planned.{IsPlanOf};
+ghost use Rattle.stage_plan.specs.Planned.{IsPlanOf, fold_at};
 ghost use Rattle.stage_plan.specs.Shape.{class_word, group_shape};
 ghost use Rattle.plan_writer.specs.Words.{behind, line, operand_word, block_words};
 ghost use Rattle.plan_writer.specs.PlanText.{named_lines, group_lines, group_text};
@@ -104,7 +104,7 @@ fn class_name(class: Class) -> &'static [u8]
 fn push_bounds(
     text: &mut Text,
     class: Class,
-    depth: u32,
+    depth: u8,
     nodes: u32,
     statements: u32,
 ) -> Result<(), AllocError>
@@ -177,6 +177,36 @@ fn fold_numbers(alloc: Global, streams: &[TypedStream]) -> Result<Seq<u16>, Allo
     Ok(all)
 }
 
+// The fold of the groupby with a number.
+fn fold_of<'a>(q: &'a TypedQuery, numbers: &[u16], i: u32) -> &'a TypedFold
+    requires valid { IsValidQuery q.now }
+    requires numbers { numbers.now ≡ map (λ t. t.fold_number) (takings q.now.streams) }
+    requires groupby { i < length numbers.now }
+    ensures found { fold_at q.now i ≡ Some result.now }
+    ensures states { length result.now.state_names ≤ 8 }
+{
+    q.folds.get(usize::from(numbers[i as usize]))
+}
+
+// The lines of the groupby with a number.
+fn push_group_at(
+    text: &mut Text,
+    q: &TypedQuery,
+    p: &Plan,
+    numbers: &[u16],
+    i: u32,
+) -> Result<(), AllocError>
+    requires valid { IsValidQuery q.now }
+    requires plan { IsPlanOf q.now p.now }
+    requires numbers { numbers.now ≡ map (λ t. t.fold_number) (takings q.now.streams) }
+    requires groupby { i < length p.now.groups }
+    ensures { OnOk result (text.new ≡ text.old ++ group_text q.now i) }
+{
+    let f = fold_of(q, numbers, i);
+    push_group(text, p.group(i), p.wiring(i), f)?;
+    Ok(())
+}
+
 /// The lines of a plan's groupbys.
 pub(crate) fn push_groups(
     alloc: Global,
@@ -190,8 +220,7 @@ pub(crate) fn push_groups(
 {
     let numbers = fold_numbers(alloc, q.streams.as_slice())?;
     for i in 0..p.groups() {
-        let f = q.folds.get(usize::from(*numbers.get(i as usize)));
-        push_group(text, p.group(i), p.wiring(i), f)?;
+        push_group_at(text, q, p, numbers.as_slice(), i)?;
     }
     Ok(())
 }

@@ -3,7 +3,7 @@
 ghost use Rattle.std.specs.Prelude.{◌≡◌, ◌∷◌, ◌++◌, [], map, filter, flat_map, codes, decimal, OnOk};
 ghost use Rattle.marple_base.specs.Field.{field_name, has_field};
 ghost use Rattle.plan_writer.specs.Words.{behind, line};
-ghost use Rattle.plan_writer.specs.PlanText.{fields_of, reads_line, print_line};
+ghost use Rattle.plan_writer.specs.PlanText.{reads_line, print_line};
 
 use crate::words::{push_number, push_word};
 use marple_base::{Field, FieldSet, Text};
@@ -20,12 +20,12 @@ fn push_field(text: &mut Text, reads: FieldSet, f: Field) -> Result<(), AllocErr
     Ok(())
 }
 
-// The names of the fields of a set.
-fn push_fields(text: &mut Text, reads: FieldSet) -> Result<(), AllocError>
-    ensures { OnOk result (text.new ≡ text.old ++ behind (map field_name (fields_of reads))) }
+// The names of those fields that are in a set.
+fn push_fields(text: &mut Text, reads: FieldSet, fields: &[Field]) -> Result<(), AllocError>
+    ensures { OnOk result (text.new ≡ text.old ++ behind (map field_name (filter (has_field reads) fields.now))) }
 {
-    for f in Field::ALL {
-        push_field(text, reads, f)?;
+    for f in fields {
+        push_field(text, reads, *f)?;
     }
     Ok(())
 }
@@ -35,7 +35,7 @@ pub(crate) fn push_head(text: &mut Text, reads: FieldSet) -> Result<(), AllocErr
     ensures { OnOk result (text.new ≡ text.old ++ (line (codes "marple-plan") (codes "1" ∷ []) ++ reads_line reads)) }
 {
     text.push_slice(b"marple-plan 1\nreads")?;
-    push_fields(text, reads)?;
+    push_fields(text, reads, &Field::ALL)?;
     text.push(b'\n')?;
     Ok(())
 }
