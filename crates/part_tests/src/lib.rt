@@ -15,6 +15,4 @@ mod lanes;
 #[cfg(test)]
 mod stages;
 #[cfg(test)]
-mod tables;
-#[cfg(test)]
 mod views;
