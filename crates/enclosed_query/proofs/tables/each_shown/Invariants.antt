@@ -1,6 +1,6 @@
 use Rattle.std.proofs.Common.{◌≡◌, map}
 use Rattle.enclosure_folds.specs.Shown.{shown}
-use Rattle.enclosed_query.proofs.tables.all_shown.Given as goal
+use Rattle.enclosed_query.proofs.tables.each_shown.Given as goal
 
 -- what is shown so far
 abbrev pub invariant-loop-table : goal.invariant-loop-table
