@@ -1,5 +1,5 @@
 -- The packets of a trace are of words.
-use Rattle.std.proofs.Common.{◌≡◌, ℕ, ◌+◌, ◌-◌, ◌*◌, ◌^◌, ◌<◌, Bool, true, false, ◌&&◌, nat_le, nat_lt, not, ◌==◌, if◌then◌else◌, List, [], ◌∷◌, length, Option, Some, None, Result, Ok, Err, IfOk, refl, subst, arith}
+use Rattle.std.proofs.Common.{◌≡◌, ℕ, ◌+◌, ◌-◌, ◌*◌, ◌^◌, ◌<◌, Bool, true, false, ◌&&◌, nat_le, nat_lt, not, ◌==◌, if◌then◌else◌, List, [], ◌∷◌, length, Option, Some, None, Result, Ok, Err, IfOk, refl, arith}
 use Rattle.std.specs.Prelude.{IfSome, codes, option_and_then, option_map}
 use Rattle.std.specs.Char.{is_ascii_digit}
 use Rattle.std.specs.List.{All, list_all, slice_split, zip}
@@ -11,13 +11,12 @@ use Rattle.std.proofs.lemmas.List.Elements.{All-nil, All-cons}
 use Rattle.marple_base.specs.Field.{all_fields}
 use Rattle.marple_base.specs.declared.field.Field.{Field}
 use Rattle.marple_base.specs.declared.field.Field.TheVariants as field
-use Rattle.marple_base.specs.declared.field.FieldSet.{FieldSet}
 use Rattle.marple_base.specs.declared.field.Packet.{Packet}
 use Rattle.query_lang.specs.Words.{AreWords, IsWord}
 use Rattle.trace_drive.specs.Drives as drives
-use Rattle.trace_reader.specs.Numbers.{decimal_word, first_some, further_word, infinity_word, is_dot, number_in, octet_word, quad_of, quad_word, without_blanks, word_of}
+use Rattle.trace_reader.specs.Numbers.{decimal_word, first_some, further_word, infinity_word, is_dot, number_in, octet_word, quad_of, without_blanks, word_of}
 use Rattle.trace_reader.specs.Reading.{records}
-use Rattle.trace_reader.specs.Traces.{Contents, Layout, contents, contents_from, contents_with, each, most_records, opening, packet_of, packet_with, packets, rest_of, text_at, with_first, with_packet, word_at, words_of}
+use Rattle.trace_reader.specs.Traces.{Contents, Layout, contents, contents_from, contents_with, each, most_records, opening, packet_of, packet_with, rest_of, text_at, with_first, with_packet, word_at, words_of}
 use Rattle.trace_reader.specs.declared.fault.TraceFault.{TraceFault}
 use Rattle.driven_enclosure.specs.ReadWords.{ReadPacketsAreOfWords}
 

@@ -44,8 +44,13 @@ pub fn enclose_query<const WAYS: usize, O: Sink, L: Ledger>(
     ensures out_later { O.faults out.old ≤ O.faults out.new }
     ensures steps { steps.old ≤ steps.new }
 {
-    let fresh: Pipeline<WAYS> =
-        Pipeline::new(alloc, plan, Entries::Bounds, schedule.buckets, schedule.pipe)?;
+    let fresh: Pipeline<WAYS> = Pipeline::new(
+        alloc,
+        plan,
+        Entries::Bounds,
+        schedule.buckets,
+        schedule.pipe,
+    )?;
     let pipeline = drive(fresh, schedule, packets, steps)?;
     let text = enclosed_text(alloc, typed, &pipeline, steps)?;
     write_all(out, text.as_slice())?;

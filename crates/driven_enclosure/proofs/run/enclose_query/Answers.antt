@@ -1,4 +1,4 @@
-use Rattle.std.proofs.Common.{[], refl, ◌∙◌, subst}
+use Rattle.std.proofs.Common.{[], lit<, refl, ◌∙◌, subst}
 use Rattle.std.proofs.KnownBytes.{Appends-nil}
 use Rattle.std.specs.Io.KnownBytes.{Appends}
 use Rattle.marple_base.specs.Sink.{TakesFront}
@@ -28,17 +28,17 @@ returns-in_err-pipeline-clause-breaks_off g c =
     (reader_breaks g.O.Sink.taken g.O.Sink.faults text fault out out [] text refl (λ found is. (refl, refl)) (Appends-nil (g.O.Sink.taken out))
     c.in_err-pipeline.field-0.0 c.in_err-pipeline.ensures.refused)
 
-pub enclosed_text-requires-clause-entries : goal.enclosed_text-requires-clause-entries
-enclosed_text-requires-clause-entries g c = c.in_ok-pipeline.ensures.keeps.entries ∙ c.in_ok-fresh.ensures.entries
-
-pub enclosed_text-requires-clause-ends : goal.enclosed_text-requires-clause-ends
-enclosed_text-requires-clause-ends g c =
+pub enclosed_text-requires : goal.enclosed_text-requires
+enclosed_text-requires g c =
     let of = geometry_for g.row.WAYS c.args.schedule in
-    let words = words_of (coming c.args.packets) in (
-      of,
-      words,
-      ends_at c.args.typed.now c.args.plan c.in_ok-fresh.fresh c.in_ok-pipeline.pipeline of words c.requires.valid c.requires.plan c.in_ok-fresh.ensures.plan c.in_ok-pipeline.ensures.keeps.plan
-          (c.requires.buckets, c.requires.ways) c.requires.whole c.in_ok-pipeline.ensures.machines,
+    let words = words_of (coming c.args.packets) in
+    let ends = ends_at c.args.typed.now c.args.plan c.in_ok-fresh.fresh c.in_ok-pipeline.pipeline of words c.requires.valid c.requires.plan c.in_ok-fresh.ensures.plan c.in_ok-pipeline.ensures.keeps.plan
+    (c.requires.buckets, c.requires.ways) c.requires.whole c.in_ok-pipeline.ensures.machines in (
+      lit< tt,
+      (
+        c.in_ok-pipeline.ensures.keeps.entries ∙ c.in_ok-fresh.ensures.entries,
+        (c.in_ok-pipeline.ensures.drained, (of, words, ends)),
+      ),
     )
 
 pub returns-in_err-text-clause-breaks_off : goal.returns-in_err-text-clause-breaks_off
