@@ -4,3 +4,4 @@ pub mod PartDecisions
 pub mod GroupDecisions
 pub mod LineDecisions
 pub mod TextReadings
+pub mod OneReading

@@ -3,4 +3,4 @@
 
 mod laws;
 
-pub use laws::every_text_is_read;
+pub use laws::{every_text_is_read, texts_are_read_once};
