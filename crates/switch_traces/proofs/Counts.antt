@@ -9,21 +9,21 @@ use Rattle.additive_folds.specs.Network.{SwitchEpoch, all_epochs, epochs_at}
 use Rattle.switch_traces.specs.TraceLaws.{has_number, AreApart, AreSwitchesOf, EpochsAddUp, EpochsOfOneSwitch}
 
 -- neither of two tests passes
-both_fail : (a b : Bool) → (a || b) ≡ false → (a ≡ false) × (b ≡ false)
+pub both_fail : (a b : Bool) → (a || b) ≡ false → (a ≡ false) × (b ≡ false)
 both_fail true b e = absurd (true≢false e)
 both_fail false b e = (refl, e)
 
-either : (a b : Bool) → a ≡ false → b ≡ false → (a || b) ≡ false
+pub either : (a b : Bool) → a ≡ false → b ≡ false → (a || b) ≡ false
 either true b e h = e
 either false b e h = h
 
-same_number : (a b : ℕ) → (a == b) ≡ true → a ≡ b
+pub same_number : (a b : ℕ) → (a == b) ≡ true → a ≡ b
 same_number a b t = grind (arith, nat_tests)
 
-own_number : (a : ℕ) → (a == a) ≡ true
+pub own_number : (a : ℕ) → (a == a) ≡ true
 own_number a = grind (arith, nat_tests)
 
-not_number : (a b : ℕ) → (a == b) ≡ false → a ≢ b
+pub not_number : (a b : ℕ) → (a == b) ≡ false → a ≢ b
 not_number a b t e = true≢false (sym (own_number b) ∙ (ap (λ n. n == b) (sym e) ∙ t))
 
 turned : (a b : ℕ) → (a == b) ≡ false → (b == a) ≡ false
@@ -98,7 +98,7 @@ module _ (key : Key) where
       }
 
   -- the lists of all epochs are those of the switch, where no other switch has one
-  of_one : (s : ℕ) (merged : List SwitchEpoch) → ((k : ℕ) → k ≢ s → own merged k ≡ []) → lists_of key (all_epochs merged) ≡ own merged s
+  pub of_one : (s : ℕ) (merged : List SwitchEpoch) → ((k : ℕ) → k ≢ s → own merged k ≡ []) → lists_of key (all_epochs merged) ≡ own merged s
   of_one s [] h = refl
   of_one s (e ∷ merged) h =
       let rest = of_one s merged (λ k d. none_behind e merged k (h k d)) in

@@ -1,0 +1,2 @@
+pub mod SwitchLists
+pub mod NetRows

@@ -1,0 +1,13 @@
+// What the merged epochs of several switches give.
+
+ghost use Rattle.net_ends.specs.NetEnds.{EndsAreTheNetTables};
+
+use fold_class::additive_is_linear;
+
+/// In a query without the fault of several switches, the epochs that one store merged of all switches at the end of a trace
+/// give the tables of the definition.
+pub fn ends_are_the_net_tables()
+    ensures { EndsAreTheNetTables }
+{
+    additive_is_linear();
+}
