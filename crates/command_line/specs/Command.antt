@@ -3,9 +3,10 @@ use Rattle.std.specs.Prelude.{ℕ, ◌*◌, ◌≤◌, Bool, ◌&&◌, ◌==◌,
 use Rattle.std.specs.Option.{option_and_then, option_map}
 use Rattle.command_line.specs.Number.{number_within}
 use Rattle.command_line.specs.declared.command.Command.{Command}
-use Rattle.command_line.specs.declared.command.Command.TheVariants.{Run, Plan, Gen, Trial}
+use Rattle.command_line.specs.declared.command.Command.TheVariants.{Run, Plan, Gen, Trial, Net, Enclose, Compile, RunPlan}
 use Rattle.command_line.specs.declared.command.Generation.{Generation}
 use Rattle.command_line.specs.declared.options.Options.{Options}
+use Rattle.command_line.specs.declared.setting.NetSetting.{NetSetting}
 use Rattle.command_line.specs.declared.setting.Setting.{Setting}
 use Rattle.command_line.specs.declared.setting.Ways.{Ways}
 use Rattle.command_line.specs.declared.setting.Ways.TheVariants.{One, Two, Four, Eight, Sixteen, ThirtyTwo}
@@ -86,6 +87,20 @@ plain_setting_of options = if is_none options.every then setting_of options else
 abbrev pub setting_from : List (List ℕ) → Option Setting
 setting_from words = option_and_then plain_setting_of (options_from no_options words)
 
+-- The setting of each of several switches: 64 buckets of 8 ways, 64 records of a pipe and a merge after each packet where the options don't say otherwise.
+-- A cache has at most 1,024 places and a pipe at most 1,024 records; no caches are emptied before the end, and there are no views
+abbrev pub net_setting_of : Options → Option NetSetting
+net_setting_of options =
+    let buckets = unwrap_or options.buckets 64 in
+    let ways = unwrap_or options.ways Eight in
+    let pipe = unwrap_or options.pipe 64 in
+    if is_none options.refresh && is_none options.every && nat_le (buckets * ways_number ways) 1024 && nat_le pipe 1024
+    then Some (record { buckets = buckets; ways = ways; pipe = pipe; lag = unwrap_or options.lag 1 })
+    else None
+
+abbrev pub net_setting_from : List (List ℕ) → Option NetSetting
+net_setting_from words = option_and_then net_setting_of (options_from no_options words)
+
 -- 1 to 1,000,000 packets, from a start of at most 2,147,483,647
 abbrev pub generation_of : List ℕ → List ℕ → Option Generation
 generation_of packets start =
@@ -116,7 +131,22 @@ abbrev pub asked_trial : List (List ℕ) → Option Command
 asked_trial (packets ∷ start ∷ options) = option_and_then (λ generation. option_map (Trial generation) (setting_from options)) (generation_of packets start)
 asked_trial words = None
 
--- The command that the words ask for.
+-- net QUERY TRACE [options]
+abbrev pub asked_net : List (List ℕ) → Option Command
+asked_net (query ∷ trace ∷ options) = option_map Net (net_setting_from options)
+asked_net words = None
+
+-- the setting that the words behind two operands say, where they name no views
+abbrev pub setting_behind : List (List ℕ) → Option Setting
+setting_behind (first ∷ second ∷ options) = setting_from options
+setting_behind words = None
+
+-- compile QUERY
+abbrev pub asked_compile : List (List ℕ) → Option Command
+asked_compile (query ∷ []) = Some Compile
+asked_compile words = None
+
+-- The command that the words ask for. `enclose QUERY TRACE [options]` and `run-plan PLAN TRACE [options]` take the options of a run but for its views.
 abbrev pub asked : List (List ℕ) → Option Command
 asked [] = None
 asked (name ∷ words) =
@@ -124,6 +154,10 @@ asked (name ∷ words) =
     else if bytes_eq name (codes "plan") then asked_plan words
     else if bytes_eq name (codes "gen") then asked_gen words
     else if bytes_eq name (codes "trial") then asked_trial words
+    else if bytes_eq name (codes "net") then asked_net words
+    else if bytes_eq name (codes "enclose") then option_map Enclose (setting_behind words)
+    else if bytes_eq name (codes "compile") then asked_compile words
+    else if bytes_eq name (codes "run-plan") then option_map RunPlan (setting_behind words)
     else None
 
 -- The numbers of a setting are in their limits.
@@ -136,6 +170,15 @@ pub record IsSetting (setting : Setting) : Type 0 where
   pub lag_limit : setting.lag ≤ 1000000
   pub refresh_limit : setting.refresh ≤ 4194304
 
+-- The numbers of a setting for several switches are in their limits.
+pub record IsNetSetting (setting : NetSetting) : Type 0 where
+  pub some_buckets : 1 ≤ setting.buckets
+  pub places : setting.buckets * ways_number setting.ways ≤ 1024
+  pub some_records : 1 ≤ setting.pipe
+  pub records : setting.pipe ≤ 1024
+  pub some_lag : 1 ≤ setting.lag
+  pub lag_limit : setting.lag ≤ 1000000
+
 pub record IsGeneration (generation : Generation) : Type 0 where
   pub some_packets : 1 ≤ generation.packets
   pub packets_limit : generation.packets ≤ 1000000
@@ -146,3 +189,7 @@ IsCommand (Run setting every) = IsSetting setting × (every ≤ 4194304)
 IsCommand (Plan ways) = Unit {0}
 IsCommand (Gen generation) = IsGeneration generation
 IsCommand (Trial generation setting) = IsGeneration generation × IsSetting setting
+IsCommand (Net setting) = IsNetSetting setting
+IsCommand (Enclose setting) = IsSetting setting
+IsCommand Compile = Unit {0}
+IsCommand (RunPlan setting) = IsSetting setting

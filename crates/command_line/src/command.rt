@@ -1,11 +1,11 @@
 // Commands.
 
 ghost use Rattle.std.specs.Prelude.{◌≡◌, ◌≤◌, map, string_bytes, IfSome};
-ghost use Rattle.command_line.specs.Command.{IsCommand, IsGeneration, asked, asked_gen, asked_plan, asked_run, asked_trial, generation_of};
+ghost use Rattle.command_line.specs.Command.{IsCommand, IsGeneration, IsSetting, asked, asked_compile, asked_gen, asked_net, asked_plan, asked_run, asked_trial, generation_of, setting_behind};
 
 use crate::number::number_within;
-use crate::options::{options_of, setting_from};
-use crate::setting::{Setting, Ways, ways_of};
+use crate::options::{net_setting_from, options_of, setting_from};
+use crate::setting::{NetSetting, Setting, Ways, ways_of};
 
 /// The packets that the generator makes: how many, and the state of its draws at first.
 #[derive(Clone, Copy, Debug, PartialEq, Eq)]
@@ -25,6 +25,14 @@ pub enum Command {
     Gen(Generation),
     /// Writes the tables of a fixed query over the generator's packets.
     Trial(Generation, Setting),
+    /// Writes the tables of a query over a trace, where each switch has caches of its own and all of them share one store.
+    Net(NetSetting),
+    /// Writes bounds of a query's folds over a trace, where they aren't exact.
+    Enclose(Setting),
+    /// Writes the plan of a query, as a text that can be run.
+    Compile,
+    /// Writes the tables of the text of a plan over a trace.
+    RunPlan(Setting),
 }
 
 fn generation_of(packets: &String, start: &String) -> Option<Generation>
@@ -83,6 +91,35 @@ fn trial_of(words: &[String]) -> Option<Command>
     Some(Command::Trial(generation, setting_from(options)?))
 }
 
+fn net_of(words: &[String]) -> Option<Command>
+    ensures asked { result ≡ asked_net (map string_bytes words.now) }
+    ensures within { IfSome result IsCommand }
+{
+    let (_query, more) = words.split_first()?;
+    let (_trace, options) = more.split_first()?;
+    Some(Command::Net(net_setting_from(options)?))
+}
+
+// The setting that the words behind two operands say.
+fn setting_behind(words: &[String]) -> Option<Setting>
+    ensures setting { result ≡ setting_behind (map string_bytes words.now) }
+    ensures within { IfSome result IsSetting }
+{
+    let (_first, more) = words.split_first()?;
+    let (_second, options) = more.split_first()?;
+    setting_from(options)
+}
+
+fn compile_of(words: &[String]) -> Option<Command>
+    ensures asked { result ≡ asked_compile (map string_bytes words.now) }
+    ensures within { IfSome result IsCommand }
+{
+    match words {
+        [_query] => Some(Command::Compile),
+        _ => None,
+    }
+}
+
 /// The command that the words ask for.
 pub fn command_of(words: &[String]) -> Option<Command>
     ensures asked { result ≡ asked (map string_bytes words.now) }
@@ -94,6 +131,10 @@ pub fn command_of(words: &[String]) -> Option<Command>
         "plan" => plan_of(operands),
         "gen" => gen_of(operands),
         "trial" => trial_of(operands),
+        "net" => net_of(operands),
+        "enclose" => Some(Command::Enclose(setting_behind(operands)?)),
+        "compile" => compile_of(operands),
+        "run-plan" => Some(Command::RunPlan(setting_behind(operands)?)),
         _ => None,
     }
 }

@@ -7,4 +7,4 @@ mod options;
 mod setting;
 
 pub use command::{Command, Generation, command_of};
-pub use setting::{Setting, Ways};
+pub use setting::{NetSetting, Setting, Ways};

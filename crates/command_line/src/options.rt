@@ -1,10 +1,10 @@
 // Options, as pairs of words.
 
 ghost use Rattle.std.specs.Prelude.{◌≡◌, ◌≤◌, ◌*◌, map, string_bytes, IfSome, ⊤};
-ghost use Rattle.command_line.specs.Command.{IsSetting, no_options, with_option, options_from, setting_of, setting_from, AreWithin};
+ghost use Rattle.command_line.specs.Command.{IsSetting, IsNetSetting, no_options, with_option, options_from, setting_of, setting_from, net_setting_of, net_setting_from, AreWithin};
 
 use crate::number::number_within;
-use crate::setting::{Setting, Ways, ways_of};
+use crate::setting::{NetSetting, Setting, Ways, ways_of};
 
 /// The options that were named so far.
 #[derive(Clone, Copy, Debug, PartialEq, Eq)]
@@ -71,6 +71,29 @@ impl Options {
             refresh: self.refresh.unwrap_or(0),
         })
     }
+
+    // What they say of the caches and pipes of each of several switches, where these are small enough, and nothing else is said.
+    fn net_setting(self) -> Option<NetSetting>
+        requires within { AreWithin self }
+        ensures setting { result ≡ net_setting_of self }
+        ensures within { IfSome result IsNetSetting }
+    {
+        let buckets = self.buckets.unwrap_or(64);
+        let ways = self.ways.unwrap_or(Ways::Eight);
+        let pipe = self.pipe.unwrap_or(64);
+        if self.refresh.is_some() || self.every.is_some() {
+            return None;
+        }
+        if u64::from(buckets) * u64::from(ways.number()) > 1024 || pipe > 1024 {
+            return None;
+        }
+        Some(NetSetting {
+            buckets,
+            ways,
+            pipe,
+            lag: self.lag.unwrap_or(1),
+        })
+    }
 }
 
 /// The options that pairs of words name.
@@ -98,4 +121,12 @@ pub(crate) fn setting_from(words: &[String]) -> Option<Setting>
         return None;
     }
     options.setting()
+}
+
+/// The setting of each of several switches that pairs of words say.
+pub(crate) fn net_setting_from(words: &[String]) -> Option<NetSetting>
+    ensures setting { result ≡ net_setting_from (map string_bytes words.now) }
+    ensures within { IfSome result IsNetSetting }
+{
+    options_of(words)?.net_setting()
 }

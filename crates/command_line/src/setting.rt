@@ -45,6 +45,18 @@ pub struct Setting {
     pub refresh: u32,
 }
 
+/// The caches and pipes of each switch, where several switches share one store, and when entries are merged.
+#[derive(Clone, Copy, Debug, PartialEq, Eq)]
+pub struct NetSetting {
+    /// The buckets of the cache that a switch has for each groupby.
+    pub buckets: u32,
+    pub ways: Ways,
+    /// The most records that wait in the pipe that a switch has for each groupby.
+    pub pipe: u32,
+    /// Every how many packets of a switch a record of each of its pipes is merged.
+    pub lag: u32,
+}
+
 fn ways_with(n: u32) -> Option<Ways>
     ensures { result ≡ ways_with n }
 {
