@@ -3,4 +3,4 @@
 
 mod laws;
 
-pub use laws::ends_are_the_net_tables;
+pub use laws::{ends_are_the_net_tables, net_tables_are_read};

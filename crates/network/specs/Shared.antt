@@ -16,10 +16,10 @@ use Rattle.net_wide.specs.Sharing.{FrontsStand}
 use Rattle.network.specs.FrontRuns.{FrontKept, StoreKept}
 
 -- The fronts stand for the machines of these events, of whose epochs these were merged, and the store holds the merged ones.
-pub record SharedStand {K : Type 0} (means : K → Standing) (f : Folding) (ways buckets : ℕ) (fronts : List (FrontOf K)) (store : Store)
+pub record SharedStand {K : Type 0} (means : K → Standing) (f : Folding) (ways buckets : ℕ) (all : List (FrontOf K)) (into : Store)
     (events : List SwitchEvent) (merged : List SwitchEpoch) : Type 0 where
-  pub fronts : FrontsStand means ways buckets fronts events merged
-  pub store : StoreHolds f store (all_epochs merged)
+  pub fronts : FrontsStand means ways buckets all events merged
+  pub store : StoreHolds f into (all_epochs merged)
 
 -- Events of which this holds led on, with what they merged.
 pub record LedOn {K : Type 0} (means : K → Standing) (f : Folding) (ways buckets : ℕ) (are : List SwitchEvent → Type 0) (fronts : List (FrontOf K)) (store : Store)
@@ -37,14 +37,14 @@ pub record SharedRuns {K : Type 0} (means : K → Standing) (f : Folding) (ways 
       → SharedStand means f ways buckets olds before events merged → LedOn means f ways buckets are news after events merged
 
 -- a front that may share the store: its entries are folded to the same states, and the store has its sizes
-pub record MayShare {K : Type 0} (sizes : K → Sizes) (folding : K → Folding) (f : Folding) (args : ℕ) (store : Store) (front : FrontOf K) : Type 0 where
+pub record MayShare {K : Type 0} (sizes : K → Sizes) (folding : K → Folding) (f : Folding) (words : ℕ) (store : Store) (front : FrontOf K) : Type 0 where
   pub alike : AreAlike (folding front.kind) f
   pub fits : FitsStore (sizes front.kind) front.cache store
-  pub args : (sizes front.kind).args ≡ args
+  pub args : (sizes front.kind).args ≡ words
 
 -- each of the fronts may
 abbrev pub AllShare : {K : Type 0} → (K → Sizes) → (K → Folding) → Folding → ℕ → List (FrontOf K) → Store → Type 0
-AllShare {K = K} sizes folding f args fronts store = (s : ℕ) (front : FrontOf K) → slice_get fronts s ≡ Some front → MayShare sizes folding f args store front
+AllShare {K = K} sizes folding f words fronts store = (s : ℕ) (front : FrontOf K) → slice_get fronts s ≡ Some front → MayShare sizes folding f words store front
 
 -- no packet of any switch
 abbrev pub NoPackets : List SwitchEvent → Type 0
