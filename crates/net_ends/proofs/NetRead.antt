@@ -1,6 +1,6 @@
 -- The tables of several switches may be read by finals: of each key at most one row is read.
-use Rattle.std.proofs.Common.{◌≡◌, ℕ, suc, ◌-◌, ◌+◌, ◌<◌, ◌==◌, Bool, true, false, ◌||◌, List, [], ◌∷◌, ◌++◌, ◌⊎◌, inl, inr, length, drop, map, filter, flat_map, Option, Some, None, refl, sym, ap, ◌∙◌, subst, arith, length-append}
-use Rattle.std.specs.Prelude.{slice_get, option_and_then}
+use Rattle.std.proofs.Common.{◌≡◌, ℕ, suc, ◌-◌, ◌==◌, Bool, true, false, ◌||◌, List, [], ◌∷◌, ◌++◌, ◌⊎◌, inl, inr, length, drop, map, flat_map, Option, Some, None, refl, sym, ap, ◌∙◌, subst, arith, length-append}
+use Rattle.std.specs.Prelude.{slice_get}
 use Rattle.std.specs.List.{All}
 use Rattle.std.proofs.lemmas.Bool.{true≢false}
 use Rattle.std.proofs.lemmas.Bool.Decides.{nat_tests}
@@ -8,8 +8,7 @@ use Rattle.std.proofs.lemmas.List.{map-append, length-map}
 use Rattle.std.proofs.lemmas.List.Elements.{All-nil, All-cons, All-append, All-head, All-tail, filter-append}
 use Rattle.query_lang.specs.declared.fold.TypedFold.{TypedFold}
 use Rattle.query_lang.specs.declared.typed.TypedQuery.{TypedQuery}
-use Rattle.query_lang.specs.Folds.{IsValidFold}
-use Rattle.query_lang.specs.Streams.{Taking, takings}
+use Rattle.query_lang.specs.Streams.{takings}
 use Rattle.query_lang.specs.TypedQueries.{IsValidQuery}
 use Rattle.query_lang.specs.TypedQueries as of_query
 use Rattle.query_types.specs.Uses.{uses}
@@ -30,7 +29,6 @@ use Rattle.stage_plan.specs.Shape.{GroupShape, group_shape, query_groups}
 use Rattle.stage_plan.specs.Sound.{PlanParts, IsSoundPlan}
 use Rattle.switch_core.proofs.LanesMade.{group_sound}
 use Rattle.switch_core.proofs.SideBySide.{got_below}
-use Rattle.final_queries.specs.declared.table.Table.{Table}
 use Rattle.final_queries.specs.Finals.{IsTable, HasColumns, is_read, table_shape}
 use Rattle.final_queries.specs.Joining.{reads}
 use Rattle.final_queries.proofs.StateLengths.{states_length}

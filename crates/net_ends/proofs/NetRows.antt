@@ -1,24 +1,21 @@
 -- The merged epochs of all switches give the rows of the definition.
-use Rattle.std.proofs.Common.{◌≡◌, ◌≢◌, ℕ, suc, ◌+◌, ◌<◌, true, false, Bool, ◌||◌, ◌==◌, List, [], ◌∷◌, ◌++◌, length, map, filter, flat_map, fold, slice_index, Option, Some, None, refl, sym, ap, ◌∙◌, subst, arith, ◌⊎◌, inl, inr}
-use Rattle.std.specs.Prelude.{slice_get, option_map, option_and_then, All, if◌then◌else◌}
+use Rattle.std.proofs.Common.{◌≡◌, ◌≢◌, ℕ, suc, ◌+◌, ◌<◌, true, false, Bool, ◌||◌, ◌==◌, List, [], ◌∷◌, ◌++◌, length, map, flat_map, fold, slice_index, Option, Some, None, refl, sym, ap, ◌∙◌, subst, arith, inl, inr}
+use Rattle.std.specs.Prelude.{slice_get, option_map, option_and_then, if◌then◌else◌}
 use Rattle.std.specs.List.{AllByRecursion, list_any}
-use Rattle.std.proofs.lemmas.Bool.{true≢false}
-use Rattle.std.proofs.lemmas.Bool.Decides.{nat_tests}
 use Rattle.std.proofs.lemmas.List.Elements.{All-nil, All-cons, All-head, All-tail, All-filter}
 use Rattle.query_lang.specs.declared.fold.TypedFold.{TypedFold}
 use Rattle.query_lang.specs.declared.typed.Class.TheVariants.{Linear}
 use Rattle.query_lang.specs.declared.typed.TypedQuery.{TypedQuery}
 use Rattle.query_lang.specs.Words.{AreWords}
-use Rattle.query_lang.specs.Folds.{IsValidFold, body}
+use Rattle.query_lang.specs.Folds.{IsValidFold}
 use Rattle.query_lang.specs.Streams.{Taking, takings}
-use Rattle.query_lang.specs.TypedQueries.{IsValidQuery}
 use Rattle.query_types.specs.Uses.{uses}
 use Rattle.fold_code.specs.Additive.{is_additive}
 use Rattle.fold_class.specs.Kinds.{class_of}
 use Rattle.epoch_model.specs.declared.tables.Row.{Row}
 use Rattle.epoch_model.specs.Keys.{Key, ArgRow, key_eq, ascending}
 use Rattle.epoch_model.specs.TableLaws.{keys_given}
-use Rattle.epoch_model.specs.Epochs.{Use, Geometry, is_use_of, epochs}
+use Rattle.epoch_model.specs.Epochs.{Use, Geometry, epochs}
 use Rattle.epoch_model.specs.Machine.{lists_of}
 use Rattle.epoch_model.specs.Laws.{HasRoom, rows_given}
 use Rattle.epoch_model.specs.Driving.{Taken, use_at, uses_taken}
@@ -27,7 +24,7 @@ use Rattle.epoch_model.proofs.KeyLists.{by_test}
 use Rattle.epoch_model.proofs.Cuts.{IsPiece, epochs-pieces, epochs_cut_the_rows_lem}
 use Rattle.epoch_model.proofs.TableRows.{flat_map-single}
 use Rattle.epoch_entry.specs.Foldings.{folding_of, per_epoch}
-use Rattle.stage_plan.specs.Planned.{IsPlanOf, fold_at, taken}
+use Rattle.stage_plan.specs.Planned.{IsPlanOf, taken}
 use Rattle.stage_plan.specs.Shape.{GroupShape}
 use Rattle.stage_plan.specs.Sound.{PlanParts}
 use Rattle.stage_plan.proofs.StreamRows as packetwise
@@ -39,27 +36,34 @@ use Rattle.additive_folds.specs.Pieces.{joined}
 use Rattle.additive_folds.specs.Network.{SwitchEvent, SwitchEpoch, all_events, all_epochs, epochs_at, AllMerged}
 use Rattle.additive_folds.proofs.StoreTables.{store_table}
 use Rattle.switch_traces.specs.Traces.{Step, IsRun, own_uses, whole_uses, taken_of}
-use Rattle.switch_traces.specs.TraceLaws.{rows_used, has_number, AreSwitchesOf}
+use Rattle.switch_traces.specs.TraceLaws.{rows_used, AreSwitchesOf}
 use Rattle.switch_traces.proofs.OwnEpochs.{own}
 use Rattle.switch_traces.proofs.Givens.{gives, keys_are}
 use Rattle.switch_traces.proofs.Counts.{added, of_one_switch, of_one, same_number, own_number, not_number}
-use Rattle.net_wide.specs.Combining.{net_fault}
 use Rattle.net_wide.specs.NetTables.{switch_in, packets_at, switches, caches_of, uses_at, net_epochs, key_args, net_key_rows, net_rows, net_count, net_table}
-use Rattle.net_wide.specs.NetLaws.{AreWhole, TellsSwitches}
+use Rattle.net_wide.specs.NetLaws.{AreWhole}
 use Rattle.net_wide.proofs.Combined.{HasSwitchKey, Combines, all_combine}
 use Rattle.net_wide.proofs.SameTexts.{flat_maps_alike, sums_alike, tells_switch, at_place}
 use Rattle.net_ends.specs.NetEnds.{IsSeen, AreNumbered, steps_of, EndsAreTheNetTables}
-use Rattle.net_ends.proofs.SwitchLists.{IsOne, AreOnes, first, keys_of, ones, ones_rest, one_first, no_number, all_apart}
+use Rattle.net_ends.proofs.SwitchLists.{AreOnes, first, keys_of, ones, ones_rest, one_first, no_number, all_apart}
 
 -- two ways to take, where the uses of one packet are the same
+
+abbrev first_key : List Use → Key
+first_key [] = []
+first_key (u ∷ used) = u.key
+
+abbrev first_row : List Use → ArgRow
+first_row [] = []
+first_row (u ∷ used) = u.row
 
 same_taken : (a b : Option Taken) → use_at 1 a ++ [] ≡ use_at 1 b ++ [] → a ≡ b
 same_taken None None e = refl
 same_taken None (Some b) e = cc
 same_taken (Some a) None e = cc
 same_taken (Some a) (Some b) e =
-    let k : a.key ≡ b.key = cc in
-    let r : a.row ≡ b.row = cc in
+    let k : a.key ≡ b.key = ap first_key e in
+    let r : a.row ≡ b.row = ap first_row e in
     ap (λ x. Some (record { key = x; row = a.row })) k ∙ ap (λ x. Some (record { key = b.key; row = x })) r
 
 -- a list of pieces that give no row
@@ -100,8 +104,8 @@ module _ (number : ℕ → ℕ) (take : List ℕ → Option Taken) (all : List (
       (λ t. let u : (number (switch_in words) == number s) ≡ true = ap (λ n. number n == number s) (same_number (switch_in words) s t) ∙ own_number (number s) in
       rw (t, u) (ap (λ ts. take words ∷ ts) rest))
       (λ t. let u : (number (switch_in words) == number s) ≡ false = by_test (number (switch_in words) == number s)
-          (λ v. absurd (not_number (switch_in words) s t (numbered (switch_in words) s (sub (switch_in words) (seen_first words packets)) seen (same_number (number (switch_in words)) (number s) v))))
-          (λ v. v) in
+      (λ v. absurd (not_number (switch_in words) s t (numbered (switch_in words) s (sub (switch_in words) (seen_first words packets)) seen (same_number (number (switch_in words)) (number s) v))))
+      (λ v. v) in
       rw (t, u) rest)
 
   -- what a key takes of one number alone, where each packet that gives it has that number

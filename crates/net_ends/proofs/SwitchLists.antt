@@ -1,9 +1,7 @@
 -- The switches of packets, in ascending order and by number.
-use Rattle.std.proofs.Common.{◌≡◌, ◌≢◌, ℕ, true, false, ◌||◌, Bool, ◌==◌, List, [], ◌∷◌, map, slice_index, refl, sym, ap, ◌∙◌, subst, arith}
-use Rattle.std.specs.declared.cmp.Ordering.{Ordering}
+use Rattle.std.proofs.Common.{◌≡◌, ℕ, true, false, ◌||◌, Bool, ◌==◌, List, [], ◌∷◌, map, slice_index, refl, sym, ap, ◌∙◌, subst}
 use Rattle.std.specs.declared.cmp.Ordering.TheVariants.{Less, Equal}
 use Rattle.std.proofs.lemmas.Bool.{true≢false}
-use Rattle.std.proofs.lemmas.Bool.Decides.{nat_tests}
 use Rattle.std.proofs.lemmas.Cmp.{nat_list_cmp_total, tied_itself}
 use Rattle.std.specs.List.{list_any}
 use Rattle.epoch_model.specs.Keys.{Key, key_eq, key_cmp, has, ascending, AreAbove, IsAscending}
@@ -107,10 +105,9 @@ module _ (packets : List (List ℕ)) (number : ℕ → ℕ) where
   pub apart : AreNumbered number packets → (keys : List Key) → IsAscending keys → AreOnes packets keys → AreApart (map number (map first keys))
   apart numbered [] ascends o = tt
   apart numbered (key ∷ keys) ascends o =
-      let one = one_first packets key keys o in
-      (
+      let one = one_first packets key keys o in (
         subst (λ s. has_number (number s) (map number (map first keys)) ≡ false) (sym (ap first one.is))
-        (not_in numbered one.switch one.seen keys (ones_rest packets key keys o) (subst (λ k. has k keys ≡ false) one.is (not_above key keys ascends.0))),
+            (not_in numbered one.switch one.seen keys (ones_rest packets key keys o) (subst (λ k. has k keys ≡ false) one.is (not_above key keys ascends.0))),
         apart numbered keys ascends.1 (ones_rest packets key keys o),
       )
 
