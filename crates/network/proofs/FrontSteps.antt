@@ -135,3 +135,15 @@ merges_are_none [] a = tt
 merges_are_none (Packet key row ∷ xs) a = cc
 merges_are_none (Evict bucket ∷ xs) a = cc
 merges_are_none (Merge ∷ xs) a = merges_are_none xs a
+
+-- what a front does behind what it did, whatever its kind is written as
+module _ {K : Type 0} (means : K → Standing) (folding : K → Folding) (ways : ℕ) (first was new : FrontOf K) (s t u : Store) where
+  pub then_sweeps : FrontRuns (means first.kind) (folding first.kind) ways NoPacket first was s t → FrontRuns (means was.kind) (folding was.kind) ways NoPacket was new t u
+      → FrontRuns (means first.kind) (folding first.kind) ways NoPacket first new s u
+  then_sweeps one two =
+      runs_on (means first.kind) (folding first.kind) ways NoPacket NoPacket NoPacket first was new s t u no_packets_on one
+      (subst (λ k. FrontRuns (means k) (folding k) ways NoPacket was new t u) one.kept.kind two)
+
+  pub then_merges : FrontRuns (means first.kind) (folding first.kind) ways NoPacket first was s t → FrontRuns (means was.kind) (folding was.kind) ways AreMerges was new t u
+      → FrontRuns (means first.kind) (folding first.kind) ways NoPacket first new s u
+  then_merges one two = then_sweeps one (runs_as (means was.kind) (folding was.kind) ways AreMerges NoPacket was new t u merges_are_none two)

@@ -1,2 +1,3 @@
 pub mod FrontSteps
 pub mod SharedSteps
+pub mod GroupSteps

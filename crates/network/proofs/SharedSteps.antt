@@ -1,5 +1,5 @@
 -- What a run of one switch's front makes of the fronts of all.
-use Rattle.std.proofs.Common.{◌≡◌, ◌≢◌, ℕ, zero, suc, ◌<◌, true, false, ◌==◌, List, [], ◌∷◌, ◌++◌, length, filter, take, map, set, Option, Some, None, refl, sym, ap, subst, ◌∙◌, arith, append-nil, append_assoc}
+use Rattle.std.proofs.Common.{◌≡◌, ◌≢◌, ℕ, zero, suc, ◌<◌, Bool, true, false, ◌==◌, List, [], ◌∷◌, ◌++◌, length, filter, take, map, set, Option, Some, None, refl, sym, ap, subst, ◌∙◌, arith, append-nil, append_assoc}
 use Rattle.std.specs.Prelude.{slice_get, flat_map, if◌then◌else◌}
 use Rattle.std.specs.List.{list_all}
 use Rattle.std.proofs.lemmas.Bool.Decides.{nat_tests}
@@ -79,14 +79,14 @@ all_from : (k : ℕ) (epochs : List Epoch) → all_epochs (epochs_from k epochs)
 all_from k [] = refl
 all_from k (x ∷ xs) = ap (λ es. x ∷ es) (all_from k xs)
 
-got_other : {X : Type 0} (xs : List X) (i s : ℕ) (x : X) → s ≢ i → slice_get (set xs i x) s ≡ slice_get xs s
+pub got_other : {X : Type 0} (xs : List X) (i s : ℕ) (x : X) → s ≢ i → slice_get (set xs i x) s ≡ slice_get xs s
 got_other [] i s x d = refl
 got_other (y ∷ xs) zero zero x d = absurd (d refl)
 got_other (y ∷ xs) zero (suc s) x d = refl
 got_other (y ∷ xs) (suc i) zero x d = refl
 got_other (y ∷ xs) (suc i) (suc s) x d = got_other xs i s x (λ e. d (ap suc e))
 
-got_within : {X : Type 0} (xs : List X) (i : ℕ) (x : X) → slice_get xs i ≡ Some x → i < length xs
+pub got_within : {X : Type 0} (xs : List X) (i : ℕ) (x : X) → slice_get xs i ≡ Some x → i < length xs
 got_within [] i x e = cc
 got_within (y ∷ xs) zero x e = omega arith
 got_within (y ∷ xs) (suc i) x e = let r = got_within xs i x e in omega arith
@@ -277,3 +277,8 @@ still_share {K = K} sizes folding f args olds news before after kept store share
         back k (x ∷ olds) [] s now p e = absurd p
         back k (x ∷ olds) (y ∷ news) zero now p e = let same : y ≡ now = cc in (x, refl, subst (FrontKept x) same p.0)
         back k (x ∷ olds) (y ∷ news) (suc s) now p e = back (suc k) olds news s now p.1 e
+
+-- a test that each item passes
+pub all_pass : {X : Type 0} (p : X → Bool) (xs : List X) → ((s : ℕ) (x : X) → slice_get xs s ≡ Some x → p x ≡ true) → list_all p xs ≡ true
+all_pass p [] h = refl
+all_pass p (x ∷ xs) h = let t : p x ≡ true = h 0 x refl in rw t (all_pass p xs (λ s. h (suc s)))

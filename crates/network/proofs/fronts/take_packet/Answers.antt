@@ -1,4 +1,4 @@
-use Rattle.std.proofs.Common.{◌≡◌, true, false, [], Some, map, refl, sym, ap, ◌∙◌, subst}
+use Rattle.std.proofs.Common.{◌≡◌, true, false, [], Option, Some, map, refl, sym, ap, ◌∙◌, subst}
 use Rattle.epoch_model.specs.Driving.{Taken, event_of}
 use Rattle.epoch_model.specs.Keys.{Key, ArgRow}
 use Rattle.query_lang.specs.Words.{holds}
@@ -17,9 +17,9 @@ returns-then-present-clause-runs g c f store =
     let t : holds (operand_value registers wiring.present) ≡ true = sym c.present.ensures ∙ c.if-present.true in
     let key = c.key_into.new.key in
     let row = c.args_into.new.args in
-    let same : taken_at wiring registers ≡ Some (record { key = key; row = row }) =
-    rw t (ap (λ (k : Key). Some {A = Taken} (record { key = k; row = map (operand_value registers) wiring.args })) (sym c.key_into.ensures.key)
-    ∙ ap (λ (r : ArgRow). Some {A = Taken} (record { key = key; row = r })) (sym c.args_into.ensures.args)) in
+    let taking : Key → ArgRow → Option Taken = λ k r. Some (record { key = k; row = r }) in
+    let same : taken_at wiring registers ≡ taking key row =
+    rw t (ap (λ k. taking k (map (operand_value registers) wiring.args)) (sym c.key_into.ensures.key) ∙ ap (taking key) (sym c.args_into.ensures.args)) in
     subst (λ taken. FrontRuns (g.K.EpochKind.stands old.kind) f g.row.WAYS (AreTurnOf taken) old new store store) (sym same)
     (runs_packet (g.K.EpochKind.stands old.kind) f g.row.WAYS key row old new store c.packet.ensures.makes)
 
