@@ -125,7 +125,7 @@ all_grown plan switches olds news are grown =
     each_made (λ n group part. (slice_get plan.groups n ≡ Some part) × IsGroup switches part (wiring_at plan n) group) (Grown plan) (λ n group part. IsGroup (switches + 1) part (wiring_at plan n) group)
     0 olds news plan.groups (λ n a b p r s. s switches p r.0 r.1)
     (each_map (λ n group part. IsGroup switches part (wiring_at plan n) group) (λ n group part. (slice_get plan.groups n ≡ Some part) × IsGroup switches part (wiring_at plan n) group) 0 olds plan.groups
-    (λ j n a p q f e r. (ap (slice_get plan.groups) q ∙ e, r)) are) grown
+    (λ j n a p q f e r. (let same : n ≡ j = omega arith in ap (slice_get plan.groups) same ∙ e, r)) are) grown
 
 -- what a run of the fronts makes of the groupby
 pub group_runs : (ways : ℕ) (are : List SwitchEvent → Type 0) (old view : GroupView) → view ≡ old → (before news after : List (FrontOf AnyEpochs)) (store : Store)
