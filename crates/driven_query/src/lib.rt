@@ -11,3 +11,4 @@ mod ways;
 pub use driven::Driven;
 pub use laws::made_packets_are_whole;
 pub use runs::{run_over_made, run_over_trace};
+pub use ways::schedule_of;

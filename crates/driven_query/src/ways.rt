@@ -21,7 +21,8 @@ use std::alloc::Global;
 use std::sync::ledger::Ledger;
 use trace_drive::{Packets, Schedule};
 
-fn schedule_of(setting: Setting) -> Schedule
+/// When the parts of a pipeline with this setting do what no packet asks for.
+pub fn schedule_of(setting: Setting) -> Schedule
     ensures { result ≡ record { buckets = setting.buckets; pipe = setting.pipe; lag = setting.lag; refresh = setting.refresh } }
 {
     Schedule {

@@ -35,11 +35,11 @@ or_true : (a b : Bool) → b ≡ true → (a || b) ≡ true
 or_true true b e = refl
 or_true false b e = e
 
-all_of : (P : Key → Type 0) (keys : List Key) → ((k : Key) → has k keys ≡ true → P k) → All P keys
+pub all_of : (P : Key → Type 0) (keys : List Key) → ((k : Key) → has k keys ≡ true → P k) → All P keys
 all_of P [] h = All-nil P
 all_of P (x ∷ xs) h = All-cons P x xs (h x (ap (λ t. t || has x xs) (key_eq-refl x))) (all_of P xs (λ k e. h k (or_true (key_eq x k) (has k xs) e)))
 
-has_use : (key : Key) (uses : List Use) → has key (map (λ u. u.key) uses) ≡ true → 0 < length (filter (is_use_of key) uses)
+pub has_use : (key : Key) (uses : List Use) → has key (map (λ u. u.key) uses) ≡ true → 0 < length (filter (is_use_of key) uses)
 has_use key [] e = absurd cc
 has_use key (u ∷ uses) e = by_test (key_eq u.key key)
     (λ t. rw t (omega arith))

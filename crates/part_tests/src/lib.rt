@@ -11,10 +11,10 @@ mod fold_programs;
 #[cfg(test)]
 mod folds;
 #[cfg(test)]
+mod kinds;
+#[cfg(test)]
 mod lanes;
 #[cfg(test)]
 mod stages;
-#[cfg(test)]
-mod tables;
 #[cfg(test)]
 mod views;

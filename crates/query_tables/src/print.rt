@@ -15,8 +15,8 @@ use std::alloc::{AllocError, Global};
 use std::sync::ledger::Ledger;
 use table_printer::table_text;
 
-// The tables of the groupbys, and behind them those of the finals.
-fn add_finals<L: Ledger>(
+/// The tables of the groupbys, and behind them those of the finals, each made of the tables before it.
+pub fn add_finals<L: Ledger>(
     alloc: Global,
     q: &TypedQuery,
     groups: Seq<Table>,
@@ -38,8 +38,8 @@ fn add_finals<L: Ledger>(
     Ok(tables)
 }
 
-// The number of a printed table, where there are so many groupbys.
-fn table_number(groups: usize, one: PrintOf) -> usize
+/// The number of a printed table, where there are so many groupbys.
+pub fn table_number(groups: usize, one: PrintOf) -> usize
     requires { groups ≤ 8 }
     ensures { result ≡ table_number groups one }
 {

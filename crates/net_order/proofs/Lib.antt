@@ -1,0 +1,7 @@
+pub mod Tells
+pub mod FieldNames
+pub mod Columns
+pub mod Rows
+pub mod Made
+pub mod Switches
+pub mod Neighbours

@@ -1,0 +1,85 @@
+-- Where a text is accepted, its typed form is valid, and its folds start as words.
+use Rattle.std.proofs.Common.{◌≡◌, ℕ, List, [], ◌∷◌, Option, Some, None, Ok, sym, subst}
+use Rattle.std.specs.Prelude.{All}
+use Rattle.std.proofs.lemmas.List.Elements.{All-nil, All-head, All-tail, All-push, All-map}
+use Rattle.query_lang.specs.declared.fault.QueryFault.{QueryFault}
+use Rattle.query_lang.specs.declared.fold.TypedFold.{TypedFold}
+use Rattle.query_lang.specs.declared.query.FoldDef.{FoldDef}
+use Rattle.query_lang.specs.declared.query.Item.{Item}
+use Rattle.query_lang.specs.declared.query.Item.TheVariants as item
+use Rattle.query_lang.specs.declared.query.Query.{Query}
+use Rattle.query_lang.specs.declared.query.StateVar.{StateVar}
+use Rattle.query_lang.specs.declared.typed.TypedQuery.{TypedQuery}
+use Rattle.query_lang.specs.declared.typing.Given.{Given}
+use Rattle.query_lang.specs.Checks.{and_then}
+use Rattle.query_lang.specs.Typing.{checked, typed_names, given_of}
+use Rattle.query_lang.specs.Words.{IsWord, AreWords}
+use Rattle.query_grammar.specs.Texts.{IsQueryOf, parsed_text}
+use Rattle.query_grammar.proofs.Numbered.{readable}
+use Rattle.query_grammar.proofs.TextFaults.{query_of_text}
+use Rattle.query_types.proofs.ValidLaws.{query_valid}
+use Rattle.query_rules.specs.Context.{Entry, folds_in}
+use Rattle.query_rules.specs.FoldRules.{HasFold}
+use Rattle.query_rules.specs.QueryRules.{HasItem, HasItems, of_none, of_more, IsTyped}
+use Rattle.query_rules.proofs.QueryLaws.{query_sound}
+use Rattle.query_rules.proofs.Steps.{found_first, same_ok}
+use Rattle.accepted_query.specs.Accepted.{accepted, staged, unless_fault}
+use Rattle.valid_queries.specs.ValidLaws.{StartsAsWords, AcceptedAreValid, AcceptedStartAsWords}
+use Rattle.valid_queries.proofs.Items.{numbers}
+
+stage_same : (o : Option QueryFault) (p q : TypedQuery) → unless_fault o p ≡ Ok q → p ≡ q
+stage_same None p q e = same_ok p q e
+stage_same (Some fault) p q e = cc e
+
+-- an accepted text has a query, whose check gives the typed form
+pub parts : (text : List ℕ) (q : TypedQuery) → accepted text ≡ Ok q → (query : Query) × IsQueryOf text query × (checked query ≡ Ok q)
+unfolding accepted
+parts text q e =
+    let first = found_first (parsed_text text) (λ (z : Query). and_then (checked z) staged) q e in
+    let second = found_first (checked first.0) staged q first.2 in (
+      first.0,
+      query_of_text text first.0 first.1,
+      subst (λ (z : TypedQuery). checked first.0 ≡ Ok z) (stage_same _ second.0 q second.2) second.1,
+    )
+
+pub accepted_valid : AcceptedAreValid
+accepted_valid text q e = let p = parts text q e in query_valid p.0 q (readable text p.0 p.1) (numbers text p.0 p.1).0 p.2
+
+-- ---- what folds start as
+
+abbrev start_words : TypedFold → Type 0
+start_words f = AreWords f.initial
+
+fold_starts : (d : FoldDef) (f : TypedFold) → HasFold d f → All (λ state. IsWord state.initial) d.states → start_words f
+fold_starts d f h words = subst start_words (sym h.is) (All-map IsWord (λ (s : StateVar). s.initial) d.states words)
+
+abbrev Starts : List Entry → Type 0
+Starts items = All start_words (folds_in items)
+
+abbrev starts_with : List Entry → Entry → Type 0
+starts_with items one = Starts (one ∷ items)
+
+one_more : (given : Given) (names : List (List ℕ)) (items : List Entry) (i : Item) (one : Entry) → HasItem given names items i one
+    → StartsAsWords i → Starts items → Starts (one ∷ items)
+one_more given names items (item.Fold d) one h words all =
+    subst (starts_with items) (sym h.is) (All-push start_words (folds_in items) h.f all (fold_starts d h.f h.typed words))
+one_more given names items (item.Stream d) one h words all = subst (starts_with items) (sym h.is) all
+one_more given names items (item.Final d) one h words all = subst (starts_with items) (sym h.is) all
+one_more given names items (item.Print name) one h words all = subst (starts_with items) (sym h.is) all
+
+all_start : (given : Given) (names : List (List ℕ)) (before : List Entry) (list : List Item) (all : List Entry)
+    → HasItems given names before list all → All StartsAsWords list → Starts before → Starts all
+all_start given names _ _ _ (of_none before) words start = start
+all_start given names _ _ _ (of_more before i one rest all h more) words start =
+    all_start given names (one ∷ before) rest all more (All-tail StartsAsWords i rest words)
+    (one_more given names before i one h (All-head StartsAsWords i rest words) start)
+
+pub accepted_starts : AcceptedStartAsWords
+accepted_starts text q e =
+    let p = parts text q e in
+    let typed : IsTyped p.0 q = query_sound p.0 q p.2 in
+    let words : All StartsAsWords p.0.items = (numbers text p.0 p.1).1 in
+    let start : Starts typed.items =
+    all_start (given_of (typed_names p.0.names) p.0.items) (typed_names p.0.names) [] p.0.items typed.items typed.typed words
+    (All-nil start_words) in
+    subst (λ (z : TypedQuery). All start_words z.folds) (sym typed.is) start

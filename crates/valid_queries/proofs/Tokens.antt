@@ -1,0 +1,107 @@
+-- The numbers among the tokens of a text are words.
+use Rattle.std.proofs.Common.{◌≡◌, ℕ, zero, suc, ◌+◌, ◌^◌, Bool, true, false, cond, List, [], ◌∷◌, length, take, drop, Option, Some, None, Ok, Err, refl, subst}
+use Rattle.std.specs.Prelude.{nat_eq, nat_lt, codes}
+use Rattle.std.specs.List.{prefix_len}
+use Rattle.std.specs.Str.{bytes_eq}
+use Rattle.std.specs.Str.Parse.{digits_value}
+use Rattle.std.proofs.lemmas.Bool.{ltb-true}
+use Rattle.query_lang.specs.declared.token.Mark.{Mark}
+use Rattle.query_lang.specs.declared.token.Piece.{Piece}
+use Rattle.query_lang.specs.declared.token.Piece.TheVariants as pieces
+use Rattle.query_lang.specs.declared.token.Token.{Token}
+use Rattle.query_lang.specs.declared.token.TokenKind.{TokenKind}
+use Rattle.query_lang.specs.declared.token.TokenKind.TheVariants as kinds
+use Rattle.query_lang.specs.declared.token.Word.{Word}
+use Rattle.query_lang.specs.Lexis.{Cut, below_limit, cut, cut_piece, is_blank, is_digit, is_word_byte, mark_at, name_piece, number_piece, one_mark, piece, piece_of_mark, reserved, token_at, two_mark, with_front, word_piece}
+use Rattle.query_lang.specs.Names.{number_in, with_name}
+use Rattle.query_lang.specs.Words.{IsWord}
+
+-- a number is a word
+abbrev pub IsWordKind : TokenKind → Type 0
+IsWordKind (kinds.Number n) = IsWord n
+IsWordKind (kinds.Name id) = Unit {0}
+IsWordKind kinds.FiveTuple = Unit {0}
+IsWordKind kinds.End = Unit {0}
+IsWordKind (kinds.Word w) = Unit {0}
+IsWordKind (kinds.Mark m) = Unit {0}
+
+abbrev pub AreWordTokens : List Token → Type 0
+AreWordTokens [] = Unit {0}
+AreWordTokens (t ∷ ts) = IsWordKind t.kind × AreWordTokens ts
+
+abbrev IsWordPiece : Piece → Type 0
+IsWordPiece (pieces.Blank n) = Unit {0}
+IsWordPiece (pieces.Name n) = Unit {0}
+IsWordPiece (pieces.Token kind n) = IsWordKind kind
+IsWordPiece (pieces.Fault kind n) = Unit {0}
+
+of_either : (b : Bool) (p q : Piece) → IsWordPiece p → IsWordPiece q → IsWordPiece (cond b p q)
+of_either true p q f g = f
+of_either false p q f g = g
+
+of_number : (n len : ℕ) → IsWordPiece (number_piece (below_limit n) len)
+of_number n len = go (nat_lt n (2 ^ 64)) refl
+  where
+    go : (b : Bool) → nat_lt n (2 ^ 64) ≡ b → IsWordPiece (number_piece (cond b (Some n) None) len)
+    go true e = ltb-true n (2 ^ 64) e
+    go false e = tt
+
+of_name : (o : Option Word) (len : ℕ) → IsWordPiece (name_piece o len)
+of_name None len = tt
+of_name (Some w) len = tt
+
+of_mark : (two one : Option Mark) → IsWordPiece (piece_of_mark two one)
+of_mark (Some t) one = tt
+of_mark None (Some o) = tt
+of_mark None None = tt
+
+of_mark_at : (b : ℕ) (bytes : List ℕ) → IsWordPiece (mark_at b bytes)
+of_mark_at b [] = of_mark None (one_mark b)
+of_mark_at b (c ∷ bytes) = of_mark (two_mark b c) (one_mark b)
+
+of_word : (w : List ℕ) (digits : ℕ) → IsWordPiece (word_piece w digits)
+of_word w digits = of_either (nat_eq digits (length w)) _ _ (of_number (digits_value 10 w) (length w))
+    (of_either (bytes_eq w (codes "5tuple")) _ _ tt (of_either (nat_eq digits 0) _ _ (of_name (reserved w) (length w)) tt))
+
+of_piece : (b : ℕ) (bytes : List ℕ) → IsWordPiece (piece (b ∷ bytes))
+of_piece b bytes = of_either (is_blank b) _ _ tt (of_either (nat_eq b 35) _ _ tt
+    (of_either (is_word_byte b) _ _ (of_word (take (prefix_len is_word_byte (b ∷ bytes)) (b ∷ bytes)) (prefix_len is_digit (b ∷ bytes)))
+    (of_mark_at b bytes)))
+
+abbrev Pair : Type 0
+Pair = List Token × List (List ℕ)
+
+abbrev HasWords : Pair → Type 0
+HasWords found = AreWordTokens found.0
+
+same_found : (a b : Pair) → ◌≡◌ {A = Cut} (Ok a) (Ok b) → a ≡ b
+same_found a b e = cc
+
+of_front : (t : Token) (o : Cut) (found : Pair) → IsWordKind t.kind → ((got : Pair) → o ≡ Ok got → HasWords got)
+    → with_front t o ≡ Ok found → HasWords found
+of_front t (Ok got) found word h e = subst HasWords (same_found (t ∷ got.0, got.1) found e) (word, h got refl)
+of_front t (Err fault) found word h e = absurd cc
+
+of_cut_piece : (p : Piece) (at : ℕ) (known : List (List ℕ)) (bytes : List ℕ) (next : ℕ → List (List ℕ) → Cut) (found : Pair) → IsWordPiece p
+    → ((k : ℕ) (later : List (List ℕ)) (got : Pair) → next k later ≡ Ok got → HasWords got) → cut_piece p at known bytes next ≡ Ok found
+    → HasWords found
+of_cut_piece (pieces.Blank n) at known bytes next found word h e = h n known found e
+of_cut_piece (pieces.Name n) at known bytes next found word h e =
+    of_front (token_at (kinds.Name (number_in known (take n bytes))) at (at + n)) (next n (with_name known (take n bytes))) found tt
+    (h n (with_name known (take n bytes))) e
+of_cut_piece (pieces.Token kind n) at known bytes next found word h e =
+    of_front (token_at kind at (at + n)) (next n known) found word (h n known) e
+of_cut_piece (pieces.Fault kind n) at known bytes next found word h e = absurd cc
+
+of_end : (at : ℕ) (known : List (List ℕ)) (found : Pair) → ◌≡◌ {A = Cut} (Ok (token_at kinds.End at at ∷ [], known)) (Ok found)
+    → HasWords found
+of_end at known found e = subst HasWords (same_found (token_at kinds.End at at ∷ [], known) found e) (tt, tt)
+
+-- the numbers among the tokens that these bytes are cut into are words
+pub cut_words : (n at : ℕ) (known : List (List ℕ)) (bytes : List ℕ) (found : Pair) → cut n at known bytes ≡ Ok found → HasWords found
+unfolding cut
+cut_words zero at known bytes found e = of_end at known found e
+cut_words (suc n) at known [] found e = of_end at known found e
+cut_words (suc n) at known (b ∷ bytes) found e =
+    of_cut_piece (piece (b ∷ bytes)) at known (b ∷ bytes) (λ k later. cut n (at + k) later (drop k (b ∷ bytes))) found (of_piece b bytes)
+    (λ k later got h. cut_words n (at + k) later (drop k (b ∷ bytes)) got h) e
