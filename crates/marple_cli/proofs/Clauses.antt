@@ -9,7 +9,7 @@ use Rattle.trace_reader.specs.declared.fault.TraceFault.{TraceFault}
 use Rattle.command_line.specs.declared.command.Command.{Command}
 use Rattle.marple_cli.specs.Call.{Holds, IsBeforeOutput, IsBeforeTrace, Takes, WhereQueryTold, WhereTold}
 use Rattle.marple_cli.specs.Ends.{Answers, Ends, QueryTold}
-use Rattle.marple_cli.specs.Output.{refusal, takes, trace_refusal}
+use Rattle.marple_cli.specs.Output.{IsRead, Source, refusal, takes, trace_refusal}
 use Rattle.marple_cli.specs.declared.status.Status.{Status}
 use Rattle.marple_cli.specs.declared.status.Status.TheVariants as statuses
 
@@ -27,9 +27,10 @@ same : {A : Type 0} (x y : A) → Some x ≡ Some y → x ≡ y
 same x y e = cc
 
 -- what is told of the query of the command that is asked for
-asked_query : (command : Command) (before : Which → Input) (P : Command → List ℕ → Type 0) → QueryTold command before (P command) → WhereQueryTold (Some command) before P
-asked_query command before P told other query is has left =
-    subst (λ one. P one query) (same command other is) (told query (subst (λ one. takes one Query ≡ true) (sym (same command other is)) has) left)
+asked_query : (command : Command) (before : Which → Input) (P : Command → Source → Type 0) → QueryTold command before (P command) → WhereQueryTold (Some command) before P
+asked_query command before P told other query is has left read =
+    let other_is = sym (same command other is) in
+    subst (λ one. P one query) (same command other is) (told query (subst (λ one. takes one Query ≡ true) other_is has) left (subst (λ one. IsRead one query) other_is read))
 
 input_is_no_usage : (which : Which) → statuses.InputFault which ≡ statuses.Usage → ⊥
 input_is_no_usage which e = cc
@@ -77,9 +78,9 @@ module _ {O : Type 0} (taken : O → Option (List ℕ)) (faults : O → ℕ) (be
 
   memory_at : (asked : Option Command) (fault : QueryFault) → Answers taken faults before after old new asked statuses.Memory
       → WhereQueryTold asked before (λ command query. refusal command query ≡ Some fault → new ≡ old)
-  memory_at None fault a = λ command query is has left some. absurd (clash is)
+  memory_at None fault a = λ command query is has left read some. absurd (clash is)
   memory_at (Some command) fault a =
-      asked_query command before (λ one query. refusal one query ≡ Some fault → new ≡ old) (λ query has left some. a.0.1 query has left (λ none. both fault (refusal command query) none some))
+      asked_query command before (λ one query. refusal one query ≡ Some fault → new ≡ old) (λ query has left read some. a.0.1 query has left read (λ none. both fault (refusal command query) none some))
 
   module _ (asked : Option Command) (status : Status) (a : Answers taken faults before after old new asked status) where
     pub input_fault : (which : Which) → status ≡ statuses.InputFault which → Takes asked which × Rose (before which).faults (after which).faults
@@ -137,19 +138,19 @@ module _ {O : Type 0} (taken : O → Option (List ℕ)) (faults : O → ℕ) (be
   refused_by : (command : Command) (status : Status) → Answers taken faults before after old new (Some command) status → (fault : QueryFault)
       → QueryTold command before (λ query. refusal command query ≡ Some fault →
       (status ≡ statuses.QueryRefused fault) ⊎ (status ≡ statuses.InputFault Query) ⊎ (status ≡ statuses.Memory))
-  refused_by command statuses.Usage a fault query has left some = absurd a.0
-  refused_by command (statuses.InputFault Query) a fault query has left some = inr (inl refl)
-  refused_by command (statuses.InputFault Trace) a fault query has left some = absurd (both fault (refusal command query) (a.0.2 query has left) some)
-  refused_by command (statuses.QueryRefused found) a fault query has left some = inl (ap statuses.QueryRefused (same found fault (sym (a.0.1 query has left) ∙ some)))
-  refused_by command (statuses.TraceRefused found) a fault query has left some = absurd (both fault (refusal command query) (a.0.1 query has left) some)
-  refused_by command statuses.Ok a fault query has left some = absurd (both fault (refusal command query) (a.0.0 query has left) some)
-  refused_by command statuses.Memory a fault query has left some = inr (inr refl)
-  refused_by command statuses.OutputFault a fault query has left some = absurd (both fault (refusal command query) (a.0.1 query has left) some)
+  refused_by command statuses.Usage a fault query has left read some = absurd a.0
+  refused_by command (statuses.InputFault Query) a fault query has left read some = inr (inl refl)
+  refused_by command (statuses.InputFault Trace) a fault query has left read some = absurd (both fault (refusal command query) (a.0.2 query has left read) some)
+  refused_by command (statuses.QueryRefused found) a fault query has left read some = inl (ap statuses.QueryRefused (same found fault (sym (a.0.1 query has left read) ∙ some)))
+  refused_by command (statuses.TraceRefused found) a fault query has left read some = absurd (both fault (refusal command query) (a.0.1 query has left read) some)
+  refused_by command statuses.Ok a fault query has left read some = absurd (both fault (refusal command query) (a.0.0 query has left read) some)
+  refused_by command statuses.Memory a fault query has left read some = inr (inr refl)
+  refused_by command statuses.OutputFault a fault query has left read some = absurd (both fault (refusal command query) (a.0.1 query has left read) some)
 
   pub refuses_query : (asked : Option Command) (status : Status) → Answers taken faults before after old new asked status → (fault : QueryFault)
       → WhereQueryTold asked before (λ command query. refusal command query ≡ Some fault →
       (status ≡ statuses.QueryRefused fault) ⊎ (status ≡ statuses.InputFault Query) ⊎ (status ≡ statuses.Memory))
-  refuses_query None status a fault = λ command query is has left some. absurd (clash is)
+  refuses_query None status a fault = λ command query is has left read some. absurd (clash is)
   refuses_query (Some command) status a fault =
       asked_query command before (λ one query. refusal one query ≡ Some fault → (status ≡ statuses.QueryRefused fault) ⊎ (status ≡ statuses.InputFault Query) ⊎ (status ≡ statuses.Memory))
       (refused_by command status a fault)

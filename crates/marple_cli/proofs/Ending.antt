@@ -18,8 +18,11 @@ use Rattle.trace_reader.specs.declared.fault.TraceFault.{TraceFault}
 use Rattle.trace_drive.specs.Drives.{words_of}
 use Rattle.query_run.specs.Answers.{text_unless}
 use Rattle.query_run.specs.Views.{views_text}
+use Rattle.query_run.specs.declared.answer.RunAnswer.{RunAnswer}
+use Rattle.query_run.specs.declared.answer.RunAnswer.TheVariants as breaks
 use Rattle.query_run.specs.Runs.{query_ends}
 use Rattle.switch_core.specs.PlanLanes.{PipelineStands}
+use Rattle.queue_sim.specs.TraceText.{trace_text}
 use Rattle.accepted_query.specs.Accepted.{accepted, query_fault, fault_in}
 use Rattle.command_line.specs.Command.{ways_number}
 use Rattle.command_line.specs.declared.command.Command.{Command}
@@ -32,13 +35,14 @@ use Rattle.driven_query.specs.declared.driven.Driven.{Driven}
 use Rattle.query_run.proofs.Breaking.{nothing_taken}
 use Rattle.marple_cli.specs.Call.{ToldOf}
 use Rattle.marple_cli.specs.Driven.{DrivenAfter, Leaves, StandsForEnd}
-use Rattle.marple_cli.specs.Ends.{Ends, QueryEnds, QueryTold, TraceEnds, WriteEnds, status_of}
-use Rattle.marple_cli.specs.Output.{IsAccepted, defined_text, fault_for, output, read_packets, refusal, run_text, stages_text, takes, trace_refusal}
+use Rattle.marple_cli.specs.Ends.{Ends, IsReadFrom, OperandEnds, PlanEnds, QueryEnds, QueryTold, ReadEnds, TraceEnds, WriteEnds, status_for, status_of}
+use Rattle.marple_cli.specs.Output.{IsAccepted, IsRead, SaysPlan, Source, defined_text, fault_behind, fault_for, fault_with, output, read_packets, refusal, run_text, stages_text, tables_text, made_packets, takes, trace_refusal}
+use Rattle.marple_cli.specs.TrialQuery.{trial_query}
 use Rattle.marple_cli.specs.declared.status.Status.{Status}
 use Rattle.marple_cli.specs.declared.status.Status.TheVariants as statuses
 
 -- a fact of the bytes that an input tells
-told : {A : Type 0} (P : A → Type 0) (left : Option A) (x : A) → IfSome left P → left ≡ Some x → P x
+pub told : {A : Type 0} (P : A → Type 0) (left : Option A) (x : A) → IfSome left P → left ≡ Some x → P x
 told P left x known is = subst (λ one. IfSome one P) is known
 
 status_is : (result : Result (Unit {0}) Status) (status : Status) → IsErrAnd result (λ found. found ≡ status) → status_of result ≡ status
@@ -46,16 +50,22 @@ status_is (Ok done) status is = absurd is
 status_is (Err found) status is = is
 
 -- the query of a command that refuses what isn't accepted was accepted
-pub query_told : (command : Command) (before : Which → Input) (found : TypedQuery) → ((query : List ℕ) → refusal command query ≡ query_fault query)
+pub query_told : (command : Command) (before : Which → Input) (found : TypedQuery) → ((query : Source) → refusal command query ≡ query_fault query.text)
     → IfSome (before Query).left (λ query. accepted query ≡ Ok found) → QueryTold command before (λ query. refusal command query ≡ None)
-query_told command before found by known query takes is = by query ∙ ap fault_in (told (λ query. accepted query ≡ Ok found) (before Query).left query known is)
+query_told command before found by known query takes is read = by query ∙ ap fault_in (told (λ text. accepted text ≡ Ok found) (before Query).left query.text known is)
+
+-- the same for a command that finds faults of its own, and found none in this query
+pub query_fits : (command : Command) (own : TypedQuery → Option QueryFault) (before : Which → Input) (found : TypedQuery) → ((query : Source) → refusal command query ≡ fault_with own query.text)
+    → IfSome (before Query).left (λ query. accepted query ≡ Ok found) → own found ≡ None → QueryTold command before (λ query. refusal command query ≡ None)
+query_fits command own before found by known none query takes is read =
+    by query ∙ ap (fault_behind own) (told (λ text. accepted text ≡ Ok found) (before Query).left query.text known is) ∙ none
 
 -- where the text is what the command writes of accepted operands
 abbrev pub IsText : Command → (Which → Input) → List ℕ → Type 0
 IsText command before text = ToldOf command before (λ query trace. IsAccepted command query trace × (text ≡ output command query trace))
 
 -- where the query is accepted, the text is defined by the trace's fault
-defined_is : (command : Command) (query trace : List ℕ) (fault : Option TraceFault) (text : List ℕ) → refusal command query ≡ None → trace_refusal command query trace ≡ fault → output command query trace ≡ text
+defined_is : (command : Command) (query : Source) (trace : List ℕ) (fault : Option TraceFault) (text : List ℕ) → refusal command query ≡ None → trace_refusal command query trace ≡ fault → output command query trace ≡ text
     → defined_text command query trace ≡ text_unless fault text
 defined_is command query trace fault text accepts same is = parted (refusal command query) (trace_refusal command query trace) (output command query trace) accepts ∙ ap₂ text_unless same is
   where
@@ -69,28 +79,36 @@ defined_is command query trace fault text accepts same is = parted (refusal comm
 
 module _ {O : Type 0} (taken : O → Option (List ℕ)) (faults : O → ℕ) (command : Command) (before after : Which → Input) where
   nothing_written : (out : O) → Ends taken faults command before after out out statuses.Memory
-  nothing_written out = (λ query trace holds. nothing_taken (taken out) _, λ query takes is refused. refl)
+  nothing_written out = (λ query trace holds. nothing_taken (taken out) _, λ query takes is read refused. refl)
 
   pub memory_ends : (out : O) (result : Result (Unit {0}) Status) → IsErrAnd result (λ found. found ≡ statuses.Memory) → Ends taken faults command before after out out (status_of result)
   memory_ends out result is = subst (Ends taken faults command before after out out) (sym (status_is result statuses.Memory is)) (nothing_written out)
 
-  -- the query wasn't read, or it was refused
-  by_query : (out : O) → takes command Query ≡ true → after Trace ≡ before Trace → (status : Status) → QueryEnds (refusal command) (before Query) (after Query) status
-      → Ends taken faults command before after out out status
-  by_query out has kept statuses.Memory ended = nothing_written out
-  by_query out has kept (statuses.InputFault Query) ended = (has, ended, kept, refl)
-  by_query out has kept (statuses.QueryRefused fault) ended =
-      (has, λ query t is. told (λ query. refusal command query ≡ Some fault) (before Query).left query ended is, kept, refl)
-  by_query out has kept statuses.Ok ended = absurd ended
-  by_query out has kept statuses.Usage ended = absurd ended
-  by_query out has kept (statuses.InputFault Trace) ended = absurd ended
-  by_query out has kept (statuses.TraceRefused fault) ended = absurd ended
-  by_query out has kept statuses.OutputFault ended = absurd ended
+  -- the first operand wasn't read, or it was refused: each such fault of its text is the one for which the command refuses it
+  module _ (Refuses : List ℕ → QueryFault → Type 0) (by : (query : Source) (fault : QueryFault) → IsRead command query → Refuses query.text fault → refusal command query ≡ Some fault)
+      (out : O) (has : takes command Query ≡ true) (kept : after Trace ≡ before Trace) where
+    by_operand : (status : Status) → OperandEnds Refuses (before Query) (after Query) status → Ends taken faults command before after out out status
+    by_operand statuses.Memory ended = nothing_written out
+    by_operand (statuses.InputFault Query) ended = (has, ended, kept, refl)
+    by_operand (statuses.QueryRefused fault) ended =
+        (has, λ query t is read. by query fault read (told (λ text. Refuses text fault) (before Query).left query.text ended is), kept, refl)
+    by_operand statuses.Ok ended = absurd ended
+    by_operand statuses.Usage ended = absurd ended
+    by_operand (statuses.InputFault Trace) ended = absurd ended
+    by_operand (statuses.TraceRefused fault) ended = absurd ended
+    by_operand statuses.OutputFault ended = absurd ended
 
-  pub query_ends_it : (out : O) → takes command Query ≡ true → after Trace ≡ before Trace → (result : Result (Unit {0}) Status) (status : Status) → IsErrAnd result (λ found. found ≡ status)
-      → QueryEnds (refusal command) (before Query) (after Query) status → Ends taken faults command before after out out (status_of result)
-  query_ends_it out has kept result status is ended =
-      subst (Ends taken faults command before after out out) (sym (status_is result status is)) (by_query out has kept status ended)
+    pub operand_ends_it : (result : Result (Unit {0}) Status) (status : Status) → IsErrAnd result (λ found. found ≡ status)
+        → OperandEnds Refuses (before Query) (after Query) status → Ends taken faults command before after out out (status_of result)
+    operand_ends_it result status is ended =
+        subst (Ends taken faults command before after out out) (sym (status_is result status is)) (by_operand status ended)
+
+  -- the same for the text of a query with these faults
+  pub query_ends_it : (fault : List ℕ → Option QueryFault) → ((query : Source) → refusal command query ≡ fault query.text) → (out : O) → takes command Query ≡ true → after Trace ≡ before Trace
+      → (result : Result (Unit {0}) Status) (status : Status) → IsErrAnd result (λ found. found ≡ status) → QueryEnds fault (before Query) (after Query) status
+      → Ends taken faults command before after out out (status_of result)
+  query_ends_it fault same out has kept result status is ended =
+      operand_ends_it (λ text found. fault text ≡ Some found) (λ query found read refused. same query ∙ refused) out has kept result status is ended
 
   module _ (old new : O) (accepts : QueryTold command before (λ query. refusal command query ≡ None)) where
     -- a command whose text is known before it is written
@@ -104,7 +122,7 @@ module _ {O : Type 0} (taken : O → Option (List ℕ)) (faults : O → ℕ) (co
         λ query trace holds.
             let is = is_text query trace holds in
             subst (TakesFront (taken old) (taken new)) (sym (defined_is command query trace None text is.0.by_query is.0.by_trace (sym is.1))) ended,
-        λ query has is refused. absurd (refused (accepts query has is)),
+        λ query has is read refused. absurd (refused (accepts query has is read)),
       )
       by_writing statuses.OutputFault ended =
           (ended.0, accepts, λ query trace holds. let is = is_text query trace holds in record { accepted = is.0; front = subst (TakesFront (taken old) (taken new)) is.1 ended.1 })
@@ -129,7 +147,7 @@ module _ {O : Type 0} (taken : O → Option (List ℕ)) (faults : O → ℕ) (co
       told_trace P known query trace holds = told P (before Trace).left trace known (holds.of_trace has_trace)
 
       accepted_query : ToldOf command before (λ query trace. refusal command query ≡ None)
-      accepted_query query trace holds = accepts query has_query (holds.of_query has_query)
+      accepted_query query trace holds = accepts query has_query (holds.of_query has_query) holds.read
 
       pub trace_written : IfSome (before Trace).left (λ trace. fault trace ≡ None) → IfSome (before Trace).left (λ trace. Appends (taken old) (taken new) (text trace))
           → Ends taken faults command before after old new statuses.Ok
@@ -146,7 +164,7 @@ module _ {O : Type 0} (taken : O → Option (List ℕ)) (faults : O → ℕ) (co
         λ query trace holds.
             subst (TakesFront (taken old) (taken new)) (sym (defined_is command query trace (fault trace) (text trace) (accepted_query query trace holds) (same query trace holds).0 (same query trace holds).1))
             (told_trace (λ trace. TakesFront (taken old) (taken new) (text_unless (fault trace) (text trace))) ended query trace holds),
-        λ query has is refused. absurd (refused (accepts query has is)),
+        λ query has is read refused. absurd (refused (accepts query has is read)),
       )
       by_trace (statuses.InputFault Trace) ended = (has_trace, ended.0, accepts, ended.1)
       by_trace (statuses.TraceRefused found) ended = (
@@ -176,8 +194,8 @@ module _ {O : Type 0} (taken : O → Option (List ℕ)) (faults : O → ℕ) (co
 
 -- a run whose query was accepted
 module _ (setting : Setting) (every : ℕ) (before : Which → Input) (found : TypedQuery) (known : IfSome (before Query).left (λ query. accepted query ≡ Ok found)) where
-  read : ToldOf (Run setting every) before (λ query trace. accepted query ≡ Ok found)
-  read query trace holds = told (λ query. accepted query ≡ Ok found) (before Query).left query known (holds.of_query refl)
+  read : ToldOf (Run setting every) before (λ query trace. accepted query.text ≡ Ok found)
+  read query trace holds = told (λ text. accepted text ≡ Ok found) (before Query).left query.text known (holds.of_query refl)
 
   pub run_is : ToldOf (Run setting every) before (λ query trace. (trace_refusal (Run setting every) query trace ≡ traces.trace_fault trace (reads_of found))
       × (output (Run setting every) query trace ≡ views_text found (geometry_of setting) every (words_of (traces.packets trace (reads_of found)))))
@@ -200,16 +218,16 @@ module _ (setting : Setting) (every : ℕ) (before : Which → Input) (found : T
 pub stages_are_text : (ways : Ways) (before : Which → Input) (found : TypedQuery) (text : List ℕ) → IfSome (before Query).left (λ query. accepted query ≡ Ok found)
     → text ≡ plan_text_of (query_shape found) (ways_number ways) → IsText (Plan ways) before text
 stages_are_text ways before found text known is query trace holds =
-    let read = told (λ query. accepted query ≡ Ok found) (before Query).left query known (holds.of_query refl) in
+    let read = told (λ text. accepted text ≡ Ok found) (before Query).left query.text known (holds.of_query refl) in
     (record { by_query = ap fault_in read; by_trace = refl }, is ∙ sym (ap (stages_text ways) read))
 
 -- commands without operands
 
 abbrev pub NoRefusal : Command → Type 0
-NoRefusal command = (query trace : List ℕ) → IsAccepted command query trace
+NoRefusal command = (query : Source) (trace : List ℕ) → IsAccepted command query trace
 
 pub nothing_refused : (command : Command) (before : Which → Input) → NoRefusal command → QueryTold command before (λ query. refusal command query ≡ None)
-nothing_refused command before none query takes is = (none query []).by_query
+nothing_refused command before none query takes is known = (none query []).by_query
 
 pub gen_refuses_nothing : (generation : Generation) → NoRefusal (Gen generation)
 gen_refuses_nothing generation query trace = record { by_query = refl; by_trace = refl }
@@ -217,10 +235,13 @@ gen_refuses_nothing generation query trace = record { by_query = refl; by_trace 
 pub trial_refuses_nothing : (generation : Generation) (setting : Setting) → NoRefusal (Trial generation setting)
 trial_refuses_nothing generation setting query trace = record { by_query = refl; by_trace = refl }
 
-pub trace_is_text : (generation : Generation) (before : Which → Input) (text : List ℕ) → text ≡ output (Gen generation) [] [] → IsText (Gen generation) before text
+pub trace_is_text : (generation : Generation) (before : Which → Input) (text : List ℕ) → text ≡ trace_text (made_packets generation) → IsText (Gen generation) before text
 trace_is_text generation before text is query trace holds = (gen_refuses_nothing generation query trace, is)
 
-pub trial_is_text : (generation : Generation) (setting : Setting) (before : Which → Input) → IsText (Trial generation setting) before (output (Trial generation setting) [] [])
+abbrev pub trial_text : Generation → Setting → List ℕ
+trial_text generation setting = tables_text setting (accepted trial_query) (λ q. made_packets generation)
+
+pub trial_is_text : (generation : Generation) (setting : Setting) (before : Which → Input) → IsText (Trial generation setting) before (trial_text generation setting)
 trial_is_text generation setting before query trace holds = (trial_refuses_nothing generation setting query trace, refl)
 
 -- no status but Ok changes the working parts
@@ -238,8 +259,19 @@ module _ (command : Command) (before : Which → Input) (old new : Option Driven
   driven_kept result status is other = subst (DrivenAfter (Some command) before old new) (sym (status_is result status is)) (kept_by status other)
 
 -- the statuses of these phases aren't Ok
+pub operand_not_ok : (Refuses : List ℕ → QueryFault → Type 0) (before after : Input) (status : Status) → OperandEnds Refuses before after status → status ≡ statuses.Ok → ⊥
+operand_not_ok Refuses before after status ended is = subst (OperandEnds Refuses before after) is ended
+
 pub query_not_ok : (fault : List ℕ → Option QueryFault) (before after : Input) (status : Status) → QueryEnds fault before after status → status ≡ statuses.Ok → ⊥
-query_not_ok fault before after status ended is = subst (QueryEnds fault before after) is ended
+query_not_ok fault before after status ended is = operand_not_ok (λ query found. fault query ≡ Some found) before after status ended is
+
+pub answer_not_ok : (answer : RunAnswer) → status_for answer ≡ statuses.Ok → ⊥
+answer_not_ok (breaks.Refused fault) is = cc
+answer_not_ok breaks.Memory is = cc
+answer_not_ok breaks.Failed is = cc
+
+pub read_not_ok : (before after : Input) (status : Status) → ReadEnds before after status → status ≡ statuses.Ok → ⊥
+read_not_ok before after status ended is = subst (ReadEnds before after) is ended
 
 module _ {O : Type 0} (taken : O → Option (List ℕ)) (faults : O → ℕ) (old new : O) where
   pub trace_not_ok : (fault : List ℕ → Option TraceFault) (text : List ℕ → List ℕ) (before after : Input) (status : Status) → TraceEnds taken faults fault text before after old new status → status ≡ statuses.Ok → ⊥

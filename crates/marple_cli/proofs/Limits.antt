@@ -28,10 +28,10 @@ use Rattle.marple_cli.specs.declared.status.Status.{Status}
 use Rattle.marple_cli.specs.declared.status.Status.TheVariants as statuses
 use Rattle.query_run.proofs.Breaking.{nothing_taken}
 
-take_whole : (limit : ℕ) (bytes : List ℕ) → length bytes ≤ limit → take (limit + 1) bytes ≡ bytes
+pub take_whole : (limit : ℕ) (bytes : List ℕ) → length bytes ≤ limit → take (limit + 1) bytes ≡ bytes
 take_whole limit bytes short = grind (arith, common_steps)
 
-take_long : (limit : ℕ) (bytes : List ℕ) → limit < length bytes → limit < length (take (limit + 1) bytes)
+pub take_long : (limit : ℕ) (bytes : List ℕ) → limit < length bytes → limit < length (take (limit + 1) bytes)
 take_long limit bytes long = grind (arith, common_steps)
 
 test_true : (m n : ℕ) → m < n → nat_lt m n ≡ true
@@ -71,7 +71,7 @@ told_trace reads left text read =
     told_same 268435456 (record { packets = []; fault = Some faults.TraceTooLong }) (λ bytes. contents bytes reads) left text (long_trace reads) read
 
 -- a fact that follows, where the bytes are told
-IfSome-map : {A : Type 0} (P Q : A → Type 0) (o : Option A) → ((x : A) → P x → Q x) → IfSome o P → IfSome o Q
+pub IfSome-map : {A : Type 0} (P Q : A → Type 0) (o : Option A) → ((x : A) → P x → Q x) → IfSome o P → IfSome o Q
 IfSome-map P Q None f p = tt
 IfSome-map P Q (Some x) f p = f x p
 
@@ -95,15 +95,16 @@ told_contents P reads left text slice read same known =
     (λ bytes is. subst P (ap (λ bytes. contents bytes reads) same ∙ sym is) known) (told_trace reads left text read)
 
 -- how the phase of the trace ends, where the run over its packets broke off so
-pub trace_ends : {O : Type 0} (taken : O → Option (List ℕ)) (faults : O → ℕ) (reads : FieldSet) (shown : List Packet → List ℕ) (before after : Input) (old new : O) (text slice : List ℕ) (answer : RunAnswer)
-    → IfSome before.left (λ bytes. text ≡ take 268435457 bytes) → slice ≡ text → BreaksOff taken faults (shown (contents slice reads).packets) (contents slice reads).fault old new answer
-    → TraceEnds taken faults (λ bytes. (contents bytes reads).fault) (λ bytes. shown (contents bytes reads).packets) before after old new (status_for answer)
-trace_ends taken faults reads shown before after old new text slice breaks.Memory read same ended =
-    told_contents (λ found. TakesFront (taken old) (taken new) (text_unless found.fault (shown found.packets))) reads before.left text slice read same ended
-trace_ends taken faults reads shown before after old new text slice (breaks.Refused fault) read same ended =
-    (told_contents (λ found. found.fault ≡ Some fault) reads before.left text slice read same ended.0, ended.1)
-trace_ends taken faults reads shown before after old new text slice breaks.Failed read same ended =
-    (ended.1, told_contents (λ found. (found.fault ≡ None) × TakesFront (taken old) (taken new) (shown found.packets)) reads before.left text slice read same (ended.0, ended.2))
+pub trace_ends : {O : Type 0} (taken : O → Option (List ℕ)) (faults : O → ℕ) (reads : FieldSet) (fault : Contents → Option TraceFault) (shown : Contents → List ℕ)
+    (before after : Input) (old new : O) (text slice : List ℕ) (answer : RunAnswer)
+    → IfSome before.left (λ bytes. text ≡ take 268435457 bytes) → slice ≡ text → BreaksOff taken faults (shown (contents slice reads)) (fault (contents slice reads)) old new answer
+    → TraceEnds taken faults (λ bytes. fault (contents bytes reads)) (λ bytes. shown (contents bytes reads)) before after old new (status_for answer)
+trace_ends taken faults reads fault shown before after old new text slice breaks.Memory read same ended =
+    told_contents (λ found. TakesFront (taken old) (taken new) (text_unless (fault found) (shown found))) reads before.left text slice read same ended
+trace_ends taken faults reads fault shown before after old new text slice (breaks.Refused refused) read same ended =
+    (told_contents (λ found. fault found ≡ Some refused) reads before.left text slice read same ended.0, ended.1)
+trace_ends taken faults reads fault shown before after old new text slice breaks.Failed read same ended =
+    (ended.1, told_contents (λ found. (fault found ≡ None) × TakesFront (taken old) (taken new) (shown found)) reads before.left text slice read same (ended.0, ended.2))
 
 -- how the phase that reads the trace ends, where nothing was written
 pub read_ends : {O : Type 0} (taken : O → Option (List ℕ)) (faults : O → ℕ) (fault : List ℕ → Option TraceFault) (shown : List ℕ → List ℕ) (before after : Input) (out : O) (status : Status)

@@ -7,7 +7,7 @@ use Rattle.marple_base.specs.Sink.{TakesFront}
 use Rattle.marple_base.specs.declared.inputs.Which.{Which}
 use Rattle.marple_base.specs.declared.inputs.Which.TheVariants.{Query, Trace}
 use Rattle.command_line.specs.declared.command.Command.{Command}
-use Rattle.marple_cli.specs.Output.{takes, IsAccepted, output}
+use Rattle.marple_cli.specs.Output.{IsAccepted, IsRead, Source, output, takes}
 use Rattle.marple_cli.specs.declared.status.Status.{Status}
 use Rattle.marple_cli.specs.declared.status.Status.TheVariants as statuses
 
@@ -16,20 +16,21 @@ abbrev pub Takes : Option Command → Which → Type 0
 Takes None which = ⊥
 Takes (Some command) which = takes command which ≡ true
 
--- The inputs tell these bytes of the command's operands.
-pub record Holds (command : Command) (inputs : Which → Input) (query trace : List ℕ) : Type 0 where
-  pub of_query : takes command Query ≡ true → (inputs Query).left ≡ Some query
+-- The inputs tell these bytes of the command's operands, and the text of a plan says this.
+pub record Holds (command : Command) (inputs : Which → Input) (query : Source) (trace : List ℕ) : Type 0 where
+  pub of_query : takes command Query ≡ true → (inputs Query).left ≡ Some query.text
+  pub read : IsRead command query
   pub of_trace : takes command Trace ≡ true → (inputs Trace).left ≡ Some trace
 
 -- P holds of the command and the bytes of its operands, where a command is asked for and the inputs tell them.
-abbrev pub WhereTold : Option Command → (Which → Input) → (Command → List ℕ → List ℕ → Type 0) → Type 0
+abbrev pub WhereTold : Option Command → (Which → Input) → (Command → Source → List ℕ → Type 0) → Type 0
 WhereTold asked inputs P =
-    (command : Command) (query trace : List ℕ) → asked ≡ Some command → Holds command inputs query trace → P command query trace
+    (command : Command) (query : Source) (trace : List ℕ) → asked ≡ Some command → Holds command inputs query trace → P command query trace
 
--- P holds of the command and the bytes of its query, where a command with a query is asked for and the input tells them, whatever the other input tells.
-abbrev pub WhereQueryTold : Option Command → (Which → Input) → (Command → List ℕ → Type 0) → Type 0
+-- P holds of the command and its query or plan, where a command with one is asked for and the input tells its bytes, whatever the other input tells.
+abbrev pub WhereQueryTold : Option Command → (Which → Input) → (Command → Source → Type 0) → Type 0
 WhereQueryTold asked inputs P =
-    (command : Command) (query : List ℕ) → asked ≡ Some command → takes command Query ≡ true → (inputs Query).left ≡ Some query → P command query
+    (command : Command) (query : Source) → asked ≡ Some command → takes command Query ≡ true → (inputs Query).left ≡ Some query.text → IsRead command query → P command query
 
 -- The counts of the command's inputs and of the output did not rise.
 pub record IsQuiet (command : Command) (before after : Which → Input) (out_before out_after : ℕ) : Type 0 where
@@ -37,12 +38,12 @@ pub record IsQuiet (command : Command) (before after : Which → Input) (out_bef
   pub out : Rose out_before out_after → ⊥
 
 -- The output took exactly what the command writes, of operands that are accepted.
-pub record WritesOutput (old new : Option (List ℕ)) (command : Command) (query trace : List ℕ) : Type 0 where
+pub record WritesOutput (old new : Option (List ℕ)) (command : Command) (query : Source) (trace : List ℕ) : Type 0 where
   pub accepted : IsAccepted command query trace
   pub whole : Appends old new (output command query trace)
 
 -- The operands are accepted, and the output took some front of what the command writes.
-pub record WritesFront (old new : Option (List ℕ)) (command : Command) (query trace : List ℕ) : Type 0 where
+pub record WritesFront (old new : Option (List ℕ)) (command : Command) (query : Source) (trace : List ℕ) : Type 0 where
   pub accepted : IsAccepted command query trace
   pub front : TakesFront old new (output command query trace)
 
@@ -62,5 +63,5 @@ IsBeforeTrace (statuses.QueryRefused fault) = ⊤
 IsBeforeTrace status = ⊥
 
 -- P holds of the bytes of the command's operands, where the inputs tell them.
-abbrev pub ToldOf : Command → (Which → Input) → (List ℕ → List ℕ → Type 0) → Type 0
-ToldOf command inputs P = (query trace : List ℕ) → Holds command inputs query trace → P query trace
+abbrev pub ToldOf : Command → (Which → Input) → (Source → List ℕ → Type 0) → Type 0
+ToldOf command inputs P = (query : Source) (trace : List ℕ) → Holds command inputs query trace → P query trace

@@ -12,13 +12,18 @@ use Rattle.query_run.specs.declared.answer.RunAnswer.TheVariants as breaks
 use Rattle.trace_reader.specs.declared.fault.TraceFault.{TraceFault}
 use Rattle.command_line.specs.declared.command.Command.{Command}
 use Rattle.marple_cli.specs.Call.{ToldOf, WritesOutput, WritesFront}
-use Rattle.marple_cli.specs.Output.{takes, refusal, trace_refusal, defined_text}
+use Rattle.plan_file.specs.Texts.{IsRefused, Says}
+use Rattle.plan_file.specs.declared.answer.PlanFileAnswer.TheVariants.{Refused}
+use Rattle.plan_file.specs.declared.made.Made.{Made}
+use Rattle.plan_loader.specs.Loaded.{IsLoadedFrom}
+use Rattle.plan_loader.specs.declared.loaded.LoadedPlan.{LoadedPlan}
+use Rattle.marple_cli.specs.Output.{IsRead, Source, defined_text, refusal, takes, trace_refusal}
 use Rattle.marple_cli.specs.declared.status.Status.{Status}
 use Rattle.marple_cli.specs.declared.status.Status.TheVariants as statuses
 
--- P holds of the bytes of the query, where the command has one and its input tells them.
-abbrev pub QueryTold : Command → (Which → Input) → (List ℕ → Type 0) → Type 0
-QueryTold command inputs P = (query : List ℕ) → takes command Query ≡ true → (inputs Query).left ≡ Some query → P query
+-- P holds of the query or the plan, where the command has one and its input tells its bytes.
+abbrev pub QueryTold : Command → (Which → Input) → (Source → Type 0) → Type 0
+QueryTold command inputs P = (query : Source) → takes command Query ≡ true → (inputs Query).left ≡ Some query.text → IsRead command query → P query
 
 -- the status of a run over packets that broke off
 abbrev pub status_for : RunAnswer → Status
@@ -31,12 +36,26 @@ abbrev pub status_of : Result (Unit {0}) Status → Status
 status_of (Ok done) = statuses.Ok
 status_of (Err status) = status
 
--- A phase that reads the query, and refuses it for these faults, ended in this status.
+-- A phase that reads the first operand, and refuses it for such faults, ended in this status.
+abbrev pub OperandEnds : (List ℕ → QueryFault → Type 0) → Input → Input → Status → Type 0
+OperandEnds Refuses before after statuses.Memory = ⊤
+OperandEnds Refuses before after (statuses.InputFault Query) = Rose before.faults after.faults
+OperandEnds Refuses before after (statuses.QueryRefused found) = IfSome before.left (λ text. Refuses text found)
+OperandEnds Refuses before after status = ⊥
+
+-- the same for the text of a query, with these faults
 abbrev pub QueryEnds : (List ℕ → Option QueryFault) → Input → Input → Status → Type 0
-QueryEnds fault before after statuses.Memory = ⊤
-QueryEnds fault before after (statuses.InputFault Query) = Rose before.faults after.faults
-QueryEnds fault before after (statuses.QueryRefused found) = IfSome before.left (λ query. fault query ≡ Some found)
-QueryEnds fault before after status = ⊥
+QueryEnds fault = OperandEnds (λ query found. fault query ≡ Some found)
+
+-- the same for the text of a plan
+abbrev pub PlanEnds : Input → Input → Status → Type 0
+PlanEnds = OperandEnds (λ text found. IsRefused text (Refused found))
+
+-- A plan was read from the first operand.
+pub record IsReadFrom (before : Input) (loaded : LoadedPlan) : Type 0 where
+  pub made : Made
+  pub from : IsLoadedFrom made loaded
+  pub says : IfSome before.left (λ text. Says text made)
 
 -- A phase that reads the bytes of the trace ended in this status.
 abbrev pub ReadEnds : Input → Input → Status → Type 0

@@ -1,5 +1,5 @@
 -- Which queries and traces are accepted, and what a command writes: each definition has one case for each command.
-use Rattle.std.specs.Prelude.{◌≡◌, ℕ, Bool, true, false, List, [], Option, None, is_some, Ok, Err, if◌then◌else◌}
+use Rattle.std.specs.Prelude.{◌≡◌, ℕ, Bool, true, false, List, [], Option, None, Some, is_some, Result, Ok, Err, ⊤, if◌then◌else◌}
 use Rattle.marple_base.specs.declared.field.Packet.{Packet}
 use Rattle.marple_base.specs.declared.inputs.Which.{Which}
 use Rattle.marple_base.specs.declared.inputs.Which.TheVariants.{Query, Trace}
@@ -16,14 +16,50 @@ use Rattle.query_tables.specs.Tables.{query_text}
 use Rattle.trace_drive.specs.Drives.{words_of}
 use Rattle.queue_sim.specs.Generator.{simulated}
 use Rattle.queue_sim.specs.TraceText.{trace_text}
-use Rattle.command_line.specs.Command.{ways_number}
+use Rattle.command_line.specs.Command.{asked, ways_number}
 use Rattle.command_line.specs.declared.command.Command.{Command}
-use Rattle.command_line.specs.declared.command.Command.TheVariants.{Run, Plan, Gen, Trial}
+use Rattle.command_line.specs.declared.command.Command.TheVariants.{Run, Plan, Gen, Trial, Net, Enclose, Compile, RunPlan}
 use Rattle.command_line.specs.declared.command.Generation.{Generation}
 use Rattle.command_line.specs.declared.setting.Setting.{Setting}
 use Rattle.command_line.specs.declared.setting.Ways.{Ways}
 use Rattle.driven_query.specs.Driven.{geometry_of}
+use Rattle.enclosure_folds.specs.Check.{enclose_fault}
+use Rattle.enclosed_query.specs.EnclosedTables.{enclose_text}
+use Rattle.plan_writer.specs.PlanText.{compiled_text, final_fault}
+use Rattle.plan_file.specs.Texts.{IsRefused, Says}
+use Rattle.plan_file.specs.declared.answer.PlanFileAnswer.TheVariants.{Refused}
+use Rattle.plan_file.specs.declared.made.Made.{Made}
+use Rattle.plan_loader.specs.Meaning.{plan_output, reads_in}
 use Rattle.marple_cli.specs.TrialQuery.{trial_query}
+
+-- The text of the first operand; and where it is run as a plan, what its lines make, or the fault for which it is refused.
+pub record Source : Type 0 where
+  pub text : List ℕ
+  pub plan : Checked Made
+
+-- the text of a plan says this, or it is refused for this fault
+abbrev pub SaysPlan : List ℕ → Checked Made → Type 0
+SaysPlan text (Ok made) = Says text made
+SaysPlan text (Err fault) = IsRefused text (Refused fault)
+
+-- A source tells of the plan what its text says, where the command runs it as a plan.
+abbrev pub IsRead : Command → Source → Type 0
+IsRead (RunPlan setting) source = SaysPlan source.text source.plan
+IsRead command source = ⊤
+
+-- Does the program do this command? One over several switches is read, and not done yet: it takes nothing and writes nothing.
+abbrev pub is_offered : Command → Bool
+is_offered (Net setting) = false
+is_offered command = true
+
+-- the command that was asked for, where the program does it
+abbrev pub offered : Option Command → Option Command
+offered None = None
+offered (Some command) = if is_offered command then Some command else None
+
+-- The command that the words ask for, of those that the program does.
+abbrev pub wanted : List (List ℕ) → Option Command
+wanted words = offered (asked words)
 
 -- Is this input an operand of the command?
 abbrev pub takes : Command → Which → Bool
@@ -32,28 +68,56 @@ takes (Plan ways) Query = true
 takes (Plan ways) Trace = false
 takes (Gen generation) which = false
 takes (Trial generation setting) which = false
+takes (Net setting) which = false
+takes (Enclose setting) which = true
+takes Compile Query = true
+takes Compile Trace = false
+takes (RunPlan setting) which = true
 
--- Why the command refuses its query, where it does: the query's first fault.
-abbrev pub refusal : Command → List ℕ → Option QueryFault
-refusal (Run setting every) query = query_fault query
-refusal (Plan ways) query = query_fault query
+-- what is said of a query or a plan where it is accepted, and this where it is refused
+abbrev pub of_accepted : {A X : Type 0} → A → (X → A) → Checked X → A
+of_accepted refused say (Ok q) = say q
+of_accepted refused say (Err fault) = refused
+
+-- the fault of a query or a plan, and where it has none the fault that a command finds in it
+abbrev pub fault_behind : {X : Type 0} → (X → Option QueryFault) → Checked X → Option QueryFault
+fault_behind own (Ok q) = own q
+fault_behind own (Err fault) = Some fault
+
+-- the first fault of a query's text for a command that finds faults of its own: these come behind all others
+abbrev pub fault_with : (TypedQuery → Option QueryFault) → List ℕ → Option QueryFault
+fault_with own query = fault_behind own (accepted query)
+
+-- Why the command refuses its query, where it does: the query's first fault. Behind it, where bounds are asked for, a groupby that has none, and
+-- where a plan is written, a final. The text of a plan is refused where it isn't one.
+abbrev pub refusal : Command → Source → Option QueryFault
+refusal (Run setting every) query = query_fault query.text
+refusal (Plan ways) query = query_fault query.text
 refusal (Gen generation) query = None
 refusal (Trial generation setting) query = None
+refusal (Net setting) query = None
+refusal (Enclose setting) query = fault_with enclose_fault query.text
+refusal Compile query = fault_with final_fault query.text
+refusal (RunPlan setting) query = fault_behind (λ made. None) query.plan
 
 -- the first fault of a trace's bytes for what a query reads; a query that is refused reads nothing
 abbrev pub fault_for : Checked TypedQuery → List ℕ → Option TraceFault
 fault_for (Ok q) trace = traces.trace_fault trace (reads_of q)
 fault_for (Err fault) trace = None
 
--- Why the command refuses its trace, where it does: the trace's first fault for what the query reads.
-abbrev pub trace_refusal : Command → List ℕ → List ℕ → Option TraceFault
-trace_refusal (Run setting every) query trace = fault_for (accepted query) trace
+-- Why the command refuses its trace, where it does: the trace's first fault for what the query or the plan reads.
+abbrev pub trace_refusal : Command → Source → List ℕ → Option TraceFault
+trace_refusal (Run setting every) query trace = fault_for (accepted query.text) trace
 trace_refusal (Plan ways) query trace = None
 trace_refusal (Gen generation) query trace = None
 trace_refusal (Trial generation setting) query trace = None
+trace_refusal (Net setting) query trace = None
+trace_refusal (Enclose setting) query trace = fault_for (accepted query.text) trace
+trace_refusal Compile query trace = None
+trace_refusal (RunPlan setting) query trace = of_accepted None (λ made. traces.trace_fault trace (reads_in made)) query.plan
 
 -- The operands of the command are accepted.
-pub record IsAccepted (command : Command) (query trace : List ℕ) : Type 0 where
+pub record IsAccepted (command : Command) (query : Source) (trace : List ℕ) : Type 0 where
   pub by_query : refusal command query ≡ None
   pub by_trace : trace_refusal command query trace ≡ None
 
@@ -80,15 +144,27 @@ read_packets trace q = traces.packets trace (reads_of q)
 abbrev pub made_packets : Generation → List Packet
 made_packets generation = simulated generation.packets generation.start 16
 
+-- what a query prints of a trace where bounds are asked for
+abbrev pub enclosures_text : Setting → List ℕ → TypedQuery → List ℕ
+enclosures_text setting trace q = enclose_text q (geometry_of setting) (words_of (read_packets trace q))
+
+-- what a plan prints of a trace
+abbrev pub plan_tables_text : Setting → List ℕ → Made → List ℕ
+plan_tables_text setting trace made = plan_output made (geometry_of setting) (words_of (traces.packets trace (reads_in made)))
+
 -- What the command writes where its operands are accepted.
-abbrev pub output : Command → List ℕ → List ℕ → List ℕ
-output (Run setting every) query trace = run_text setting every (accepted query) (read_packets trace)
-output (Plan ways) query trace = stages_text ways (accepted query)
+abbrev pub output : Command → Source → List ℕ → List ℕ
+output (Run setting every) query trace = run_text setting every (accepted query.text) (read_packets trace)
+output (Plan ways) query trace = stages_text ways (accepted query.text)
 output (Gen generation) query trace = trace_text (made_packets generation)
 output (Trial generation setting) query trace = tables_text setting (accepted trial_query) (λ q. made_packets generation)
+output (Net setting) query trace = []
+output (Enclose setting) query trace = of_accepted [] (enclosures_text setting trace) (accepted query.text)
+output Compile query trace = of_accepted [] compiled_text (accepted query.text)
+output (RunPlan setting) query trace = of_accepted [] (plan_tables_text setting trace) query.plan
 
 -- the text that is defined for the command: nothing where a refusal stands
-abbrev pub defined_text : Command → List ℕ → List ℕ → List ℕ
+abbrev pub defined_text : Command → Source → List ℕ → List ℕ
 defined_text command query trace =
     if is_some (refusal command query) then []
     else if is_some (trace_refusal command query trace) then []

@@ -1,11 +1,16 @@
 //! The program as one call over any inputs and sinks: the commands, how each ends, and what it writes.
 #![tactic(auto)]
 
+mod checked;
+mod compile;
 mod complaint;
+mod enclose;
 mod generate;
+mod offered;
 mod operands;
 mod packets;
 mod run;
+mod run_plan;
 mod staging;
 mod status;
 mod top;

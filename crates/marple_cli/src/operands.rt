@@ -4,15 +4,20 @@ ghost use Rattle.marple_base.specs.Inputs.{IsClosed};
 ghost use Rattle.query_lang.specs.TypedQueries.{IsValidQuery};
 ghost use Rattle.stage_plan.specs.Planned.{IsPlanOf};
 ghost use Rattle.accepted_query.specs.Accepted.{accepted, query_fault};
-ghost use Rattle.marple_cli.specs.Ends.{QueryEnds, ReadEnds};
+ghost use Rattle.marple_cli.specs.Ends.{IsReadFrom, PlanEnds, QueryEnds, ReadEnds};
 
 use crate::status::Status;
 use accepted_query::{AcceptedQuery, QueryAnswer, accept};
 use marple_base::{Inputs, ReadAnswer, Text, Which, read_input};
+use plan_file::PlanFileAnswer;
+use plan_loader::{LoadedPlan, read_plan};
 use std::alloc::Global;
 
 /// The most bytes of a query.
 pub const MAX_QUERY: usize = 65_536;
+
+/// The most bytes of the text of a plan.
+pub const MAX_PLAN: usize = 2_097_152;
 
 /// The most bytes of a trace.
 pub const MAX_TRACE: usize = 268_435_456;
@@ -36,6 +41,26 @@ pub fn read_query<I: Inputs>(alloc: Global, inputs: &mut I) -> Result<AcceptedQu
         Ok(query) => Ok(query),
         Err(QueryAnswer::Refused(fault)) => Err(Status::QueryRefused(fault)),
         Err(QueryAnswer::Memory) => Err(Status::Memory),
+    }
+}
+
+/// Reads the text of a plan, to its end or to one byte more than the limit, and makes the plan or refuses the text.
+pub fn read_plan_text<I: Inputs>(alloc: Global, inputs: &mut I) -> Result<LoadedPlan, Status>
+    requires { IsClosed (I.input inputs.old Which.Query) }
+    ensures ok { IfOk result (IsReadFrom (I.input inputs.old Which.Query)) }
+    ensures err { IfErr result (PlanEnds (I.input inputs.old Which.Query) (I.input inputs.new Which.Query)) }
+    ensures later { (I.input inputs.old Which.Query).faults ≤ (I.input inputs.new Which.Query).faults }
+    ensures trace_kept { I.input inputs.new Which.Trace ≡ I.input inputs.old Which.Trace }
+{
+    let text = match read_input(alloc, inputs, Which::Query, MAX_PLAN + 1) {
+        Ok(text) => text,
+        Err(ReadAnswer::Failed) => return Err(Status::InputFault(Which::Query)),
+        Err(ReadAnswer::Memory) => return Err(Status::Memory),
+    };
+    match read_plan(alloc, text.as_slice()) {
+        Ok(loaded) => Ok(loaded),
+        Err(PlanFileAnswer::Refused(fault)) => Err(Status::QueryRefused(fault)),
+        Err(PlanFileAnswer::Memory) => Err(Status::Memory),
     }
 }
 

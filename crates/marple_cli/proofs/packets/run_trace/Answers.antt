@@ -1,12 +1,11 @@
 use Rattle.std.proofs.Common.{◌≡◌, ℕ, List, None}
 use Rattle.std.specs.Io.KnownBytes.{Appends}
-use Rattle.marple_base.specs.declared.field.Packet.{Packet}
 use Rattle.marple_base.specs.declared.inputs.Which.TheVariants.{Trace}
 use Rattle.query_run.specs.Runs.{query_ends}
 use Rattle.query_run.specs.Views.{views_text}
 use Rattle.switch_core.specs.PlanLanes.{PipelineStands}
 use Rattle.trace_drive.specs.Drives.{words_of}
-use Rattle.trace_reader.specs.Traces.{packets, trace_fault}
+use Rattle.trace_reader.specs.Traces.{Contents, contents, packets, trace_fault}
 use Rattle.stage_plan.specs.Fields.{reads_of}
 use Rattle.driven_query.specs.Driven.{geometry_of, pipeline_in}
 use Rattle.marple_cli.specs.Ends.{TraceEnds, status_for}
@@ -28,10 +27,10 @@ returns-in_err-driven-clause-err g c =
     let before = g.I.Inputs.input c.args.inputs.now Trace in
     let after = g.I.Inputs.input c.read_trace.new.inputs Trace in
     let reads = reads_of c.args.query.typed in
-    let shown = λ (packets : List Packet). views_text c.args.query.typed (geometry_of c.args.setting) c.args.every (words_of packets) in
-    err_told (TraceEnds g.O.Sink.taken g.O.Sink.faults (λ trace. trace_fault trace reads) (λ trace. shown (packets trace reads)) before after c.args.out.now c.run_over_trace.new.out)
+    let shown = λ (found : Contents). views_text c.args.query.typed (geometry_of c.args.setting) c.args.every (words_of found.packets) in
+    err_told (TraceEnds g.O.Sink.taken g.O.Sink.faults (λ trace. trace_fault trace reads) (λ trace. shown (contents trace reads)) before after c.args.out.now c.run_over_trace.new.out)
     c.from_residual-in_err-driven.result (status_for c.in_err-driven.field-0.0) c.from_residual-in_err-driven.ensures.1
-    (trace_ends g.O.Sink.taken g.O.Sink.faults reads shown before after c.args.out.now c.run_over_trace.new.out c.in_ok-bytes.bytes c.as_slice.result.now c.in_err-driven.field-0.0
+    (trace_ends g.O.Sink.taken g.O.Sink.faults reads (λ found. found.fault) shown before after c.args.out.now c.run_over_trace.new.out c.in_ok-bytes.bytes c.as_slice.result.now c.in_err-driven.field-0.0
     c.in_ok-bytes.ensures.ok c.as_slice.ensures c.in_err-driven.ensures.breaks_off)
 
 pub returns-clause-accepted : goal.returns-clause-accepted

@@ -16,7 +16,7 @@ use Rattle.marple_cli.proofs.run.run.Goals as goal
 
 pub returns-in_err-query-clause-ends : goal.returns-in_err-query-clause-ends
 returns-in_err-query-clause-ends g c =
-    query_ends_it g.O.Sink.taken g.O.Sink.faults (Run c.args.setting c.args.every) (g.I.Inputs.input c.args.inputs.now) (g.I.Inputs.input c.read_query.new.inputs) c.args.out.now refl
+    query_ends_it g.O.Sink.taken g.O.Sink.faults (Run c.args.setting c.args.every) (g.I.Inputs.input c.args.inputs.now) (g.I.Inputs.input c.read_query.new.inputs) query_fault (λ query. refl) c.args.out.now refl
     c.in_err-query.ensures.trace_kept c.from_residual.result c.in_err-query.field-0.0 c.from_residual.ensures.1 c.in_err-query.ensures.err
 
 pub returns-in_err-query-clause-driven : goal.returns-in_err-query-clause-driven

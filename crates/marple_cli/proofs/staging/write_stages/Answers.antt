@@ -1,6 +1,7 @@
 use Rattle.std.proofs.Common.{◌∙◌, ap, refl}
 use Rattle.command_line.specs.Command.{ways_number}
 use Rattle.command_line.specs.declared.command.Command.TheVariants.{Plan}
+use Rattle.accepted_query.specs.Accepted.{query_fault}
 use Rattle.stage_plan.specs.Planned.{shape_of}
 use Rattle.stage_plan.specs.Shape.{plan_text_of}
 use Rattle.marple_cli.proofs.Ending.{all_written, cut_off, memory_ends, query_ends_it, query_told, stages_are_text}
@@ -8,7 +9,7 @@ use Rattle.marple_cli.proofs.staging.write_stages.Goals as goal
 
 pub returns-in_err-query-clause-ends : goal.returns-in_err-query-clause-ends
 returns-in_err-query-clause-ends g c =
-    query_ends_it g.O.Sink.taken g.O.Sink.faults (Plan c.args.ways) (g.I.Inputs.input c.args.inputs.now) (g.I.Inputs.input c.read_query.new.inputs) c.args.out.now refl
+    query_ends_it g.O.Sink.taken g.O.Sink.faults (Plan c.args.ways) (g.I.Inputs.input c.args.inputs.now) (g.I.Inputs.input c.read_query.new.inputs) query_fault (λ query. refl) c.args.out.now refl
     c.in_err-query.ensures.trace_kept c.from_residual.result c.in_err-query.field-0.0 c.from_residual.ensures.1 c.in_err-query.ensures.err
 
 pub returns-in_err-text-clause-ends : goal.returns-in_err-text-clause-ends

@@ -1,0 +1,40 @@
+-- What a command that finds faults of its own refuses.
+use Rattle.std.proofs.Common.{◌≡◌, ℕ, List, Option, None, Some, IfSome, Ok, Err, ap, ◌∙◌}
+use Rattle.marple_base.specs.Inputs.{Input}
+use Rattle.marple_base.specs.declared.inputs.Which.TheVariants.{Query, Trace}
+use Rattle.query_lang.specs.Checks.{Checked}
+use Rattle.query_lang.specs.declared.fault.QueryFault.{QueryFault}
+use Rattle.query_lang.specs.declared.typed.TypedQuery.{TypedQuery}
+use Rattle.accepted_query.specs.Accepted.{accepted, fault_in, query_fault}
+use Rattle.marple_cli.specs.Ends.{QueryEnds}
+use Rattle.marple_cli.specs.Output.{fault_behind, fault_with}
+use Rattle.marple_cli.specs.declared.status.Status.{Status}
+use Rattle.marple_cli.specs.declared.status.Status.TheVariants as statuses
+use Rattle.marple_cli.proofs.Limits.{IfSome-map}
+
+module _ (own : TypedQuery → Option QueryFault) where
+  -- a fault of the text comes first
+  text_first : (found : Checked TypedQuery) (fault : QueryFault) → fault_in found ≡ Some fault → fault_behind own found ≡ Some fault
+  text_first (Ok q) fault is = absurd (clash is)
+    where
+      clash : {x : QueryFault} → None ≡ Some x → ⊥
+      clash e = cc
+  text_first (Err found) fault is = is
+
+  -- a phase that reads the query and refuses it for the text's faults ends as one that also finds faults of its own
+  pub text_ends : (before after : Input) (status : Status) → QueryEnds query_fault before after status → QueryEnds (fault_with own) before after status
+  text_ends before after statuses.Memory ended = ended
+  text_ends before after (statuses.InputFault Query) ended = ended
+  text_ends before after (statuses.QueryRefused fault) ended =
+      IfSome-map (λ query. query_fault query ≡ Some fault) (λ query. fault_with own query ≡ Some fault) before.left (λ query is. text_first (accepted query) fault is) ended
+  text_ends before after statuses.Ok ended = absurd ended
+  text_ends before after statuses.Usage ended = absurd ended
+  text_ends before after (statuses.InputFault Trace) ended = absurd ended
+  text_ends before after (statuses.TraceRefused fault) ended = absurd ended
+  text_ends before after statuses.OutputFault ended = absurd ended
+
+  -- an accepted query is refused for the fault that the command finds in it
+  pub own_refused : (left : Option (List ℕ)) (q : TypedQuery) (fault : QueryFault) → IfSome left (λ query. accepted query ≡ Ok q) → own q ≡ Some fault
+      → IfSome left (λ query. fault_with own query ≡ Some fault)
+  own_refused left q fault known is =
+      IfSome-map (λ query. accepted query ≡ Ok q) (λ query. fault_with own query ≡ Some fault) left (λ query read. ap (fault_behind own) read ∙ is) known

@@ -1,0 +1,32 @@
+-- What commands write of a query that they accepted.
+use Rattle.std.proofs.Common.{◌≡◌, ℕ, List, [], Option, None, Some, IfSome, Ok, refl, sym, ap, ◌∙◌}
+use Rattle.marple_base.specs.Inputs.{Input}
+use Rattle.marple_base.specs.declared.inputs.Which.{Which}
+use Rattle.marple_base.specs.declared.inputs.Which.TheVariants.{Query}
+use Rattle.query_lang.specs.declared.typed.TypedQuery.{TypedQuery}
+use Rattle.stage_plan.specs.Fields.{reads_of}
+use Rattle.trace_reader.specs.Traces as traces
+use Rattle.accepted_query.specs.Accepted.{accepted}
+use Rattle.command_line.specs.declared.command.Command.{Command}
+use Rattle.command_line.specs.declared.command.Command.TheVariants.{Enclose, Compile}
+use Rattle.command_line.specs.declared.setting.Setting.{Setting}
+use Rattle.plan_writer.specs.PlanText.{compiled_text, final_fault}
+use Rattle.marple_cli.specs.Call.{ToldOf}
+use Rattle.marple_cli.specs.Output.{Source, enclosures_text, fault_behind, fault_for, of_accepted, output, trace_refusal}
+use Rattle.marple_cli.proofs.Ending.{IsText, told}
+
+module _ (before : Which → Input) (found : TypedQuery) (known : IfSome (before Query).left (λ query. accepted query ≡ Ok found)) where
+  read : (query : Source) → (before Query).left ≡ Some query.text → accepted query.text ≡ Ok found
+  read query is = told (λ text. accepted text ≡ Ok found) (before Query).left query.text known is
+
+  pub enclose_is : (setting : Setting)
+      → ToldOf (Enclose setting) before (λ query trace. (trace_refusal (Enclose setting) query trace ≡ traces.trace_fault trace (reads_of found)) × (output (Enclose setting) query trace ≡ enclosures_text setting trace found))
+  enclose_is setting query trace holds = (
+    ap (λ one. fault_for one trace) (read query (holds.of_query refl)),
+    ap (of_accepted [] (enclosures_text setting trace)) (read query (holds.of_query refl)),
+  )
+
+  pub compiled_is : (text : List ℕ) → final_fault found ≡ None → text ≡ compiled_text found → IsText Compile before text
+  compiled_is text none is query trace holds =
+      let accepts = read query (holds.of_query refl) in
+      (record { by_query = ap (fault_behind final_fault) accepts ∙ none; by_trace = refl }, is ∙ sym (ap (of_accepted [] compiled_text) accepts))

@@ -1,0 +1,25 @@
+//! The plan of a query as a text.
+ghost use Rattle.std.specs.Prelude.{◌≡◌, ◌≤◌};
+ghost use Rattle.marple_base.specs.Inputs.{IsClosed};
+ghost use Rattle.marple_cli.specs.Ends.{Ends, status_of};
+
+use crate::checked::query_for_plan;
+use crate::status::Status;
+use command_line::Command;
+use marple_base::{Inputs, Sink, Which, write_all};
+use plan_writer::plan_file_text;
+use std::alloc::Global;
+
+/// Writes the plan of the query, as a text that can be run. The trace isn't opened.
+pub fn compile<I: Inputs, O: Sink>(alloc: Global, inputs: &mut I, out: &mut O) -> Result<(), Status>
+    requires closed { IsClosed (I.input inputs.old Which.Query) }
+    ensures ends { Ends O.taken O.faults Command.Compile (I.input inputs.old) (I.input inputs.new) out.old out.new (status_of result) }
+    ensures trace_kept { I.input inputs.new Which.Trace ≡ I.input inputs.old Which.Trace }
+    ensures query_later { (I.input inputs.old Which.Query).faults ≤ (I.input inputs.new Which.Query).faults }
+    ensures out_later { O.faults out.old ≤ O.faults out.new }
+{
+    let query = query_for_plan(alloc, inputs)?;
+    let text = plan_file_text(alloc, &query.typed, &query.plan)?;
+    write_all(out, text.as_slice())?;
+    Ok(())
+}

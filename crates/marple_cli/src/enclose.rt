@@ -1,0 +1,37 @@
+//! Bounds of the folds of a query.
+ghost use Rattle.std.specs.Prelude.{◌≤◌};
+ghost use Rattle.marple_base.specs.Inputs.{IsClosed};
+ghost use Rattle.command_line.specs.Command.{IsSetting};
+ghost use Rattle.marple_cli.specs.Ends.{Ends, status_of};
+
+use crate::checked::query_for_bounds;
+use crate::operands::read_trace;
+use crate::status::Status;
+use command_line::{Command, Setting};
+use driven_enclosure::enclose_over_trace;
+use marple_base::{Inputs, Sink, Steps, Which};
+use std::alloc::Global;
+use std::sync::ledger::Ledger;
+
+/// Writes bounds of a query's folds over a trace, where they aren't exact.
+pub fn enclose<I: Inputs, O: Sink, L: Ledger>(
+    alloc: Global,
+    setting: Setting,
+    inputs: &mut I,
+    out: &mut O,
+    steps: &mut Steps<L>,
+) -> Result<(), Status>
+    requires setting { IsSetting setting }
+    requires query_closed { IsClosed (I.input inputs.old Which.Query) }
+    requires trace_closed { IsClosed (I.input inputs.old Which.Trace) }
+    ensures ends { Ends O.taken O.faults (Command.Enclose setting) (I.input inputs.old) (I.input inputs.new) out.old out.new (status_of result) }
+    ensures query_later { (I.input inputs.old Which.Query).faults ≤ (I.input inputs.new Which.Query).faults }
+    ensures trace_later { (I.input inputs.old Which.Trace).faults ≤ (I.input inputs.new Which.Trace).faults }
+    ensures out_later { O.faults out.old ≤ O.faults out.new }
+    ensures steps { steps.old ≤ steps.new }
+{
+    let query = query_for_bounds(alloc, inputs)?;
+    let bytes = read_trace(alloc, inputs)?;
+    enclose_over_trace(alloc, setting, query, bytes.as_slice(), out, steps)?;
+    Ok(())
+}
