@@ -45,10 +45,10 @@ got_at (x ∷ xs) (suc i) h = got_at xs i (omega (arith, h))
 
 -- each groupby of valid streams has a fold
 
-abbrev FoldAt : List TypedFold → List TypedStream → ℕ → Type 0
+abbrev pub FoldAt : List TypedFold → List TypedStream → ℕ → Type 0
 FoldAt folds streams i = (f : TypedFold) × (option_and_then (λ t. slice_get folds t.fold_number) (slice_get (takings streams) i) ≡ Some f)
 
-fold_there : (names : ℕ) (folds : List TypedFold) (before streams : List TypedStream) → AreValidStreams names folds before streams → (i : ℕ) → i < length (takings streams) → FoldAt folds streams i
+pub fold_there : (names : ℕ) (folds : List TypedFold) (before streams : List TypedStream) → AreValidStreams names folds before streams → (i : ℕ) → i < length (takings streams) → FoldAt folds streams i
 fold_there names folds before [] valid i h = absurd (omega (arith, h))
 fold_there names folds before (one ∷ streams) valid i h = by_op one.op valid.0.operator (fold_there names folds (before ++ one ∷ []) streams valid.1) i h
   where

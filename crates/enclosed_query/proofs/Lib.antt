@@ -1,1 +1,5 @@
 mod EndFacts
+mod ReadTables
+mod TextParts
+mod StreamWords
+mod HoldingFacts

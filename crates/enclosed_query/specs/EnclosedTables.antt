@@ -64,10 +64,13 @@ shown_text (enclosed.Bounds t) = bounds_text t
 abbrev pub all_texts : TypedQuery → List Enclosed → List (List ℕ)
 all_texts q groups = map shown_text groups ++ map table_text (drop (length groups) (with_finals q.names q.folds (map table_read groups) q.finals))
 
+-- what a query prints of what is shown of its groupbys: the tables that it names, in the order of its prints
+abbrev pub enclosed_print : TypedQuery → List Enclosed → List ℕ
+enclosed_print q groups = flat_map (λ one. unwrap_or (slice_get (all_texts q groups) (table_number (length (takings q.streams)) one)) []) q.prints
+
 -- What a query prints over these packets where bounds are asked for.
 unfoldable pub enclose_text : TypedQuery → Geometry → List (List ℕ) → List ℕ
-enclose_text q g packets =
-    flat_map (λ one. unwrap_or (slice_get (all_texts q (enclosed_tables q g packets)) (table_number (length (takings q.streams)) one)) []) q.prints
+enclose_text q g packets = enclosed_print q (enclosed_tables q g packets)
 
 -- The tables of a plan's lanes for bounds at the end of a trace may be shown, and give what is shown of the query's groupbys.
 pub record EndsGiveEnclosedTables : Type 0 where

@@ -1,1 +1,4 @@
 pub mod EnclosedTables
+pub mod Holding
+pub mod Parts
+pub mod Reading

@@ -1,8 +1,12 @@
-//! What is shown of a query where bounds are asked for.
+//! What is shown of a query where bounds are asked for, and what it prints.
 #![tactic(auto)]
 
 mod laws;
+mod printing;
+mod starts;
 mod tables;
 
-pub use laws::ends_give_enclosed_tables;
+pub use laws::{enclosed_tables_are_read, ends_give_enclosed_tables, shown_tables_hold};
+pub use printing::{enclosed_text, print_enclosed};
+pub use starts::starts_known;
 pub use tables::enclosed;

@@ -1,9 +1,13 @@
 //! Calls of the program whose inputs or outputs fail, and traces that are cut short or full of unlikely bytes.
 
+ghost use Rattle.std.specs.Prelude.{◌<◌};
+
 use crate::call::{Outside, called};
-use crate::realistic::{PREFIXES, QUERY, TABLES, TRACE};
-use marple_base::{FailAt, Which};
+use crate::realistic::{PREFIXES, QUERY, TABLES, TRACE, VIEWS};
+use marple_base::{FailAt, Text, Which};
 use marple_cli::Status;
+use std::alloc::{AllocError, Global};
+use std::process::Abort;
 use std::test::Fail;
 
 const RUN: &str = "run query trace";
@@ -55,19 +59,27 @@ fn each_call_of_an_input_fails(rt: HostRuntime) -> Result<(), Fail> {
     Ok(())
 }
 
-#[test]
-fn each_write_fails(rt: HostRuntime) -> Result<(), Fail> {
-    let alloc = rt.alloc();
-    for most in [1usize, 10, 4096] {
-        assert!(rt; most > 0);
-        for (earlier, _) in TABLES.chunks(most).enumerate() {
-            let failing_writes = [(earlier as u64).saturating_add(1)];
+/// Lets each write of a call fail in turn: it ends with a complaint, and its output took just what was written before. The
+/// pieces are what the call writes one after another, each in writes of so many bytes at most.
+fn fail_each_write(
+    rt: &impl Abort,
+    alloc: Global,
+    line: &str,
+    pieces: &[&[u8]],
+    most: usize,
+) -> Result<(), AllocError>
+    requires { 0 < most }
+{
+    let mut before = Text::new(alloc);
+    let mut write = 1u64;
+    for piece in pieces {
+        for part in piece.chunks(most) {
             let told = called(
                 alloc,
-                RUN,
+                line,
                 &Outside {
                     most,
-                    failing_writes: &failing_writes,
+                    failing_writes: &[write],
                     ..SOUND
                 },
             )?;
@@ -76,21 +88,41 @@ fn each_write_fails(rt: HostRuntime) -> Result<(), Fail> {
                 told.complaint.as_slice(),
                 b"marple: cannot write\n".as_slice()
             );
-            assert_eq!(rt; told.text.len(), earlier.saturating_mul(most));
-            assert!(rt; TABLES.starts_with(told.text.as_slice()));
+            assert_eq!(rt; told.text.as_slice(), before.as_slice());
+            before.push_slice(part)?;
+            write = write.saturating_add(1);
         }
-        let failing_writes = [(TABLES.len().div_ceil(most) as u64).saturating_add(1)];
-        let told = called(
-            alloc,
-            RUN,
-            &Outside {
-                most,
-                failing_writes: &failing_writes,
-                ..SOUND
-            },
-        )?;
-        assert_eq!(rt; told.status, Status::Ok);
-        assert_eq!(rt; told.text.as_slice(), TABLES);
+    }
+    let told = called(
+        alloc,
+        line,
+        &Outside {
+            most,
+            failing_writes: &[write],
+            ..SOUND
+        },
+    )?;
+    assert_eq!(rt; told.status, Status::Ok);
+    assert_eq!(rt; told.text.as_slice(), before.as_slice());
+    Ok(())
+}
+
+#[test]
+fn each_write_fails(rt: HostRuntime) -> Result<(), Fail> {
+    let alloc = rt.alloc();
+    for most in [1usize, 10, 4096] {
+        assert!(rt; most > 0);
+        fail_each_write(&rt, alloc, RUN, &[TABLES], most)?;
+    }
+    Ok(())
+}
+
+#[test]
+fn each_write_among_views_fails(rt: HostRuntime) -> Result<(), Fail> {
+    let alloc = rt.alloc();
+    for most in [10usize, 4096] {
+        assert!(rt; most > 0);
+        fail_each_write(&rt, alloc, "run query trace --every 2", &VIEWS, most)?;
     }
     Ok(())
 }

@@ -1,6 +1,6 @@
-mod Taking
-mod Combined
-mod SameTexts
-mod Sharing
-mod OneSwitch
-mod UsesOfOne
+pub mod Taking
+pub mod Combined
+pub mod SameTexts
+pub mod Sharing
+pub mod OneSwitch
+pub mod UsesOfOne

@@ -35,11 +35,11 @@ use Rattle.net_wide.specs.NetLaws.{AreWhole, SameOfEachSwitch, TellsSwitches, Sw
 use Rattle.net_wide.proofs.Taking.{given, args_given, same_of_each, alone, same_keys_used, same_switches}
 use Rattle.net_wide.proofs.Combined.{HasSwitchKey, Combines, all_combine}
 
-flat_maps_alike : {A B : Type 0} (f h : A → List B) (xs : List A) → ((x : A) → f x ≡ h x) → flat_map f xs ≡ flat_map h xs
+pub flat_maps_alike : {A B : Type 0} (f h : A → List B) (xs : List A) → ((x : A) → f x ≡ h x) → flat_map f xs ≡ flat_map h xs
 flat_maps_alike f h [] e = refl
 flat_maps_alike f h (x ∷ xs) e = ap (λ ys. ys ++ flat_map f xs) (e x) ∙ ap (λ ys. h x ++ ys) (flat_maps_alike f h xs e)
 
-sums_alike : {A : Type 0} (f h : A → ℕ) (start : ℕ) (xs : List A) → ((x : A) → f x ≡ h x) → fold (λ a x. a + f x) start xs ≡ fold (λ a x. a + h x) start xs
+pub sums_alike : {A : Type 0} (f h : A → ℕ) (start : ℕ) (xs : List A) → ((x : A) → f x ≡ h x) → fold (λ a x. a + f x) start xs ≡ fold (λ a x. a + h x) start xs
 sums_alike f h start [] e = refl
 sums_alike f h start (x ∷ xs) e = ap (λ n. fold (λ a y. a + f y) (start + n) xs) (e x) ∙ sums_alike f h (start + h x) xs e
 
@@ -66,7 +66,7 @@ module _ (q : TypedQuery) (i : ℕ) (t : Taking) (at : slice_get (takings q.stre
   keys_alike = ap keys_used (taken_of packets whole) ∙ (same_keys_used take packets other same ∙ ap keys_used (sym (taken_of other other_whole)))
 
   -- a packet that gives the key has the switch that stands in the key
-  tells_switch : (k : HasSwitchKey q t) (key : Key) (words : List ℕ) (one : Taken) → length words ≡ 14 → take words ≡ Some one → key_eq one.key key ≡ true → switch_in words ≡ slice_index key k.at
+  pub tells_switch : (k : HasSwitchKey q t) (key : Key) (words : List ℕ) (one : Taken) → length words ≡ 14 → take words ≡ Some one → key_eq one.key key ≡ true → switch_in words ≡ slice_index key k.at
   tells_switch k key words one size is e = go (packetwise.row_at (packetwise.all_rows q words) t.input) refl is
     where
       go : (o : packetwise.Row) → packetwise.row_at (packetwise.all_rows q words) t.input ≡ o → option_map (packetwise.row_taken t) o ≡ Some one → switch_in words ≡ slice_index key k.at
@@ -125,7 +125,7 @@ module _ (q : TypedQuery) (i : ℕ) (t : Taking) (at : slice_get (takings q.stre
         rows = rows;
       }
 
-at_place : {A : Type 0} (P : A → Type 0) (xs : List A) (i : ℕ) (x : A) → All P xs → slice_get xs i ≡ Some x → P x
+pub at_place : {A : Type 0} (P : A → Type 0) (xs : List A) (i : ℕ) (x : A) → All P xs → slice_get xs i ≡ Some x → P x
 at_place P xs i x all e = subst P (get_or_from_slice_get xs i x x e) (all i x (slice_get_within xs i x e))
 
 module _ (q : TypedQuery) (g : Geometry) (packets other : List (List ℕ)) (valid : IsValidQuery q) (none : net_fault q ≡ None) (tells : TellsSwitches q)

@@ -38,7 +38,7 @@ pub(crate) const FULL: &[u8] = b"def full([x = 5],[]) { x = sadd(x, infinity); }
 pub(crate) const DOUBLE: &[u8] = b"def top1([x],[]) { x = x * 9223372036854775808 + 1; }";
 
 /// A query whose first fold has this text.
-fn query_of(alloc: Global, fold: &[u8]) -> Result<Text, AllocError> {
+pub(crate) fn query_of(alloc: Global, fold: &[u8]) -> Result<Text, AllocError> {
     let mut text = Text::from_slice(alloc, fold)?;
     text.push_slice(b" def idle([],[]) { } r = groupby(pktstream, [srcip], idle); print r;")?;
     Ok(text)

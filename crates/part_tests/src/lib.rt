@@ -11,6 +11,8 @@ mod fold_programs;
 #[cfg(test)]
 mod folds;
 #[cfg(test)]
+mod kinds;
+#[cfg(test)]
 mod lanes;
 #[cfg(test)]
 mod stages;

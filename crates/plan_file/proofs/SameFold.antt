@@ -12,7 +12,7 @@ use Rattle.fold_class.specs.declared.class.Kind.{Kind}
 use Rattle.fold_class.specs.declared.class.Kind.TheVariants.{Pure, Affine}
 use Rattle.fold_class.specs.Tables.{all_below}
 use Rattle.fold_class.specs.Depth.{reads_after, reads_first, fold_reads, is_within, is_history, IsDepth}
-use Rattle.fold_class.specs.Kinds.{role, kinds_after, kinds_first, fold_kinds, is_no_other, is_linear_by, class_of}
+use Rattle.fold_class.specs.Kinds.{role, kinds_after, kinds_first, fold_kinds, is_no_other, is_linear_by, algebra_of, class_of}
 use Rattle.fold_class.proofs.DepthLemmas.{all_same}
 use Rattle.stage_plan.specs.Shape.{class_word}
 use Rattle.plan_file.specs.Lexis.{number}
@@ -48,6 +48,11 @@ module _ (f g : TypedFold) (e : fold_states f ≡ fold_states g) (h : fold_block
   class_same =
       ap (λ z. if z || is_linear_by Maxima f then Linear else Class.Other) (linear_same Sums)
       ∙ ap (λ z. if is_linear_by Sums g || z then Linear else Class.Other) (linear_same Maxima)
+
+  pub algebra_same : algebra_of f ≡ algebra_of g
+  algebra_same =
+      ap (λ z. if z then Sums else (if is_linear_by Maxima f then Maxima else Sums)) (linear_same Sums)
+      ∙ ap (λ z. if is_linear_by Sums g then Sums else (if z then Maxima else Sums)) (linear_same Maxima)
 
   pub depth_same : (d : ℕ) → IsDepth f d → IsDepth g d
   depth_same d p = record {

@@ -93,8 +93,8 @@ fn words_copied(alloc: Global, words: &[u64]) -> Result<Seq<u64>, AllocError>
     Ok(Seq::from_vec(Vec::from_slice(alloc, words)?))
 }
 
-// The fold of a group whose body has at most so many nodes and statements.
-fn fold_of(
+/// The fold of a group whose body has at most so many nodes and statements: 512 nodes and 64 statements at most.
+pub fn fold_of(
     alloc: Global,
     group: &Group,
     nodes: u32,
@@ -103,7 +103,7 @@ fn fold_of(
     requires within { IsGroupWithin group.now }
     requires nodes { nodes ≤ 512 }
     requires statements { statements ≤ 64 }
-    ensures { IfOk result (λ found. MatchOption found ((other : TypedFold) → IsFoldOf group.now other → AreBounds other nodes statements → ⊥) (λ f. IsFoldOf group.now f × AreBounds f nodes statements × IsValidFold f × ((other : TypedFold) → IsFoldOf group.now other → fold_block other ≡ fold_block f))) }
+    ensures { IfOk result (λ found. MatchOption found ((other : TypedFold) → IsFoldOf group.now other → AreBounds other nodes statements → ⊥) (λ f. IsFoldOf group.now f × AreBounds f nodes statements × IsValidFold f × (f.nodes ≡ nodes) × (f.statements ≡ statements) × ((other : TypedFold) → IsFoldOf group.now other → fold_block other ≡ fold_block f))) }
 {
     let words = match &group.body {
         Some(words) => words.as_slice(),

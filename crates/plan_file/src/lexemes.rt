@@ -11,7 +11,7 @@ use std::alloc::{AllocError, Global};
 
 /// What a token of a body is.
 #[derive(Clone, Copy)]
-pub(crate) enum Lexeme {
+pub enum Lexeme {
     Set,
     If,
     Open,

@@ -19,3 +19,8 @@ mod wants;
 
 pub use answer::PlanFileAnswer;
 pub use check::check_plan;
+pub use fold_line::fold_of;
+pub use lexemes::Lexeme;
+pub use line_word::LineWord;
+pub use made::{Folded, Group, Made};
+pub use texts::read_text;

@@ -7,7 +7,7 @@ use crate::lexis::{first_token, is_text};
 
 /// What a line is by its first word.
 #[derive(Clone, Copy)]
-pub(crate) enum LineWord {
+pub enum LineWord {
     Plan,
     Reads,
     Op,

@@ -7,7 +7,7 @@ use stage_plan::{Operand, PlanOp};
 
 /// A group as its lines have made it so far, without a body until the `body` line. A body is kept as its tokens.
 #[derive(Drop)]
-pub(crate) struct Group {
+pub struct Group {
     pub name: Text,
     pub present: Operand,
     pub key_names: Seq<Text>,
@@ -20,7 +20,7 @@ pub(crate) struct Group {
 
 /// A group down to its `fold` line.
 #[derive(Drop)]
-pub(crate) struct Folded {
+pub struct Folded {
     pub group: Group,
     pub class: Class,
     pub depth: u32,
@@ -31,7 +31,7 @@ pub(crate) struct Folded {
 /// Whether the first line is there, the fields that are read, the operations, the groups down to their `fold` lines, the
 /// group whose lines are coming, and the numbers of the printed groups.
 #[derive(Drop)]
-pub(crate) struct Made {
+pub struct Made {
     pub begun: bool,
     pub reads: Option<Seq<Field>>,
     pub ops: Seq<PlanOp>,

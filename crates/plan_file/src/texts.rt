@@ -40,7 +40,7 @@ fn refused(at: usize) -> PlanFileAnswer
 }
 
 /// What the lines of a valid text make; a refusal stands at the first line that isn't valid after the lines before it.
-pub(crate) fn read_text(alloc: Global, text: &[u8]) -> Result<Made, PlanFileAnswer>
+pub fn read_text(alloc: Global, text: &[u8]) -> Result<Made, PlanFileAnswer>
     ensures { MatchResult result (λ made. Says text.now made) (λ answer. IsRefused text.now answer) }
 {
     if text.len() > MOST_BYTES {

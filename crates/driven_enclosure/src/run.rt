@@ -1,0 +1,58 @@
+// A query over packets, with bounds in the place of the tables of folds that aren't linear.
+
+ghost use Rattle.std.specs.Prelude.{◌≡◌, ◌*◌, ◌<◌, ◌≤◌, None, IfErr, OnOk};
+ghost use Rattle.std.specs.Io.KnownBytes.{Appends};
+ghost use Rattle.query_lang.specs.TypedQueries.{IsValidQuery};
+ghost use Rattle.stage_plan.specs.Planned.{IsPlanOf};
+ghost use Rattle.trace_drive.specs.Drives.{coming, fault_of, geometry_for, words_of};
+ghost use Rattle.query_run.specs.Answers.{BreaksOff};
+ghost use Rattle.enclosed_query.specs.EnclosedTables.{AreWhole, enclose_text};
+
+use enclosed_query::enclosed_text;
+use epoch_entry::Entries;
+use marple_base::{Sink, Steps, write_all};
+use query_lang::TypedQuery;
+use query_run::RunAnswer;
+use stage_plan::Plan;
+use std::alloc::Global;
+use std::sync::ledger::Ledger;
+use switch_core::Pipeline;
+use trace_drive::{Packets, Schedule, drive};
+
+/// Runs a query over packets, and writes what it prints where bounds are asked for: the table of each linear fold as it is,
+/// and for any other fold bounds that contain it over all packets of a key. Nothing is written before the last packet.
+pub fn enclose_query<const WAYS: usize, O: Sink, L: Ledger>(
+    alloc: Global,
+    typed: &TypedQuery,
+    plan: Plan,
+    schedule: Schedule,
+    packets: Packets<'_>,
+    out: &mut O,
+    steps: &mut Steps<L>,
+) -> Result<(), RunAnswer>
+    requires ways { 0 < WAYS }
+    requires buckets { 0 < schedule.buckets }
+    requires places { schedule.buckets * WAYS ≤ 65536 }
+    requires pipe { (0 < schedule.pipe) × (schedule.pipe ≤ 65536) }
+    requires valid { IsValidQuery typed.now }
+    requires plan { IsPlanOf typed.now plan }
+    requires whole { AreWhole (words_of (coming packets)) }
+    ensures accepted { OnOk result (fault_of packets.entry ≡ None) }
+    ensures written { OnOk result (Appends (O.taken out.old) (O.taken out.new) (enclose_text typed.now (geometry_for WAYS schedule) (words_of (coming packets.entry)))) }
+    ensures breaks_off { IfErr result (BreaksOff O.taken O.faults (enclose_text typed.now (geometry_for WAYS schedule) (words_of (coming packets.entry)))
+        (fault_of packets.entry) out.old out.new) }
+    ensures out_later { O.faults out.old ≤ O.faults out.new }
+    ensures steps { steps.old ≤ steps.new }
+{
+    let fresh: Pipeline<WAYS> = Pipeline::new(
+        alloc,
+        plan,
+        Entries::Bounds,
+        schedule.buckets,
+        schedule.pipe,
+    )?;
+    let pipeline = drive(fresh, schedule, packets, steps)?;
+    let text = enclosed_text(alloc, typed, &pipeline, steps)?;
+    write_all(out, text.as_slice())?;
+    Ok(())
+}

@@ -1,0 +1,2 @@
+pub mod NetTraces
+pub mod Follows

@@ -1,0 +1,64 @@
+// A query over the packets of several switches.
+
+ghost use Rattle.std.specs.Prelude.{◌≡◌, ◌≤◌, None, IfErr, OnOk};
+ghost use Rattle.std.specs.Io.KnownBytes.{Appends};
+ghost use Rattle.query_lang.specs.TypedQueries.{IsValidQuery};
+ghost use Rattle.stage_plan.specs.Planned.{IsPlanOf};
+ghost use Rattle.query_run.specs.Answers.{BreaksOff};
+ghost use Rattle.trace_drive.specs.Drives.{words_of};
+ghost use Rattle.net_wide.specs.Combining.{net_fault};
+ghost use Rattle.net_wide.specs.NetTables.{net_text};
+ghost use Rattle.net_wide.specs.NetLaws.{TellsSwitches};
+ghost use Rattle.command_line.specs.Command.{IsNetSetting, ways_number};
+ghost use Rattle.driven_net.specs.NetTraces.{net_packets, net_reads, net_trace_fault};
+
+use crate::ways::text_with_its_ways;
+use accepted_query::AcceptedQuery;
+use command_line::NetSetting;
+use marple_base::{Field, FieldSet, Sink, Steps, write_all};
+use query_run::{RunAnswer, read_packets_are_few, read_packets_are_whole};
+use stage_plan::Plan;
+use std::alloc::Global;
+use std::sync::ledger::Ledger;
+use trace_reader::open_trace;
+
+// The fields that a plan reads, and the switch.
+fn net_reads(plan: &Plan) -> FieldSet
+    ensures { (q : TypedQuery) → IsPlanOf q plan.now → result ≡ net_reads q }
+{
+    FieldSet {
+        bits: plan.reads().bits | 1 << Field::Switch.number(),
+    }
+}
+
+/// Runs a query over the packets of a trace's bytes, where each value of `switch` has caches and pipes of its own and all of
+/// them share one store for each groupby; and writes what the query prints at the end. A trace that has a fault for what the
+/// query reads, or a 65th switch, is refused, and nothing is written before the end.
+pub fn net_over_trace<O: Sink, L: Ledger>(
+    alloc: Global,
+    setting: NetSetting,
+    query: AcceptedQuery,
+    bytes: &[u8],
+    out: &mut O,
+    steps: &mut Steps<L>,
+) -> Result<(), RunAnswer>
+    requires setting { IsNetSetting setting }
+    requires valid { IsValidQuery query.typed }
+    requires plan { IsPlanOf query.typed query.plan }
+    requires combines { net_fault query.typed ≡ None }
+    requires tells { TellsSwitches query.typed }
+    ensures accepted { OnOk result (net_trace_fault bytes.now query.typed ≡ None) }
+    ensures written { OnOk result (Appends (O.taken out.old) (O.taken out.new)
+        (net_text query.typed setting.buckets (ways_number setting.ways) (words_of (net_packets bytes.now query.typed)))) }
+    ensures breaks_off { IfErr result (BreaksOff O.taken O.faults (net_text query.typed setting.buckets (ways_number setting.ways) (words_of (net_packets bytes.now query.typed)))
+        (net_trace_fault bytes.now query.typed) out.old out.new) }
+    ensures out_later { O.faults out.old ≤ O.faults out.new }
+    ensures steps { steps.old ≤ steps.new }
+{
+    read_packets_are_whole();
+    read_packets_are_few();
+    let trace = open_trace(alloc, bytes, net_reads(&query.plan))?;
+    let text = text_with_its_ways(alloc, setting, query, trace, steps)?;
+    write_all(out, text.as_slice())?;
+    Ok(())
+}

@@ -1,0 +1,130 @@
+// The packets of a trace, each at its switch.
+
+ghost use Rattle.std.specs.Prelude.{◌≡◌, ◌+◌, ◌<◌, ◌≤◌, ℕ, List, [], ◌∷◌, ◌++◌, All, None, Some, true, length, IfErr, IfOk, OnOk};
+ghost use Rattle.network.specs.Groups.{GroupStands};
+ghost use Rattle.network.specs.Networks.{IsNetwork, Keeps, groups_in};
+ghost use Rattle.net_wide.specs.NetTables.{switch_in};
+ghost use Rattle.net_wide.specs.Numbering.{switch_number, with_switch};
+ghost use Rattle.trace_drive.specs.Drives.{words_of};
+ghost use Rattle.trace_reader.specs.Faults.{IfRefused};
+ghost use Rattle.trace_reader.specs.Traces.{most_records};
+ghost use Rattle.trace_reader.specs.declared.fault.TraceFault.TheVariants.{TooManySwitches as SwitchFault};
+ghost use Rattle.driven_net.specs.Follows.{NetFollows};
+ghost use Rattle.driven_net.specs.NetTraces.{first_fault};
+
+use marple_base::{Field, Packet, Seq, Steps};
+use net_wide::number_switch;
+use network::Network;
+use std::alloc::{AllocError, Global};
+use std::sync::ledger::Ledger;
+use trace_reader::{Trace, TraceAnswer, TraceFault};
+
+// The number of a packet's switch. A switch that is new gets caches and pipes, unless it is the 65th.
+fn switch_at<const WAYS: usize>(
+    network: &mut Network<WAYS>,
+    known: &mut Seq<u64>,
+    switch: u64,
+    number: u32,
+) -> Result<u32, TraceAnswer>
+    requires is { IsNetwork (length known.old) network.old }
+    ensures at { IfOk result (λ at. switch_number known.old switch ≡ Some at) }
+    ensures known { OnOk result (known.new ≡ with_switch known.old switch) }
+    ensures is { OnOk result (IsNetwork (length known.new) network.new) }
+    ensures keeps { OnOk result (Keeps network.old network.new) }
+    ensures follows { OnOk result ((packets : List (List ℕ)) → NetFollows known.old packets network.old → NetFollows known.new packets network.new) }
+    ensures refused { IfErr result (λ answer. IfRefused answer (λ fault. (fault ≡ SwitchFault number) × (switch_number known.old switch ≡ None))) }
+{
+    let before = known.len();
+    let numbered = match number_switch(known, switch) {
+        Ok(numbered) => numbered,
+        Err(AllocError) => return Err(TraceAnswer::Memory),
+    };
+    let Some(at) = numbered else {
+        return Err(TraceAnswer::Refused(TraceFault::TooManySwitches(number)));
+    };
+    if at as usize == before {
+        match network.add_switch() {
+            Ok(()) => {}
+            Err(AllocError) => return Err(TraceAnswer::Memory),
+        }
+    }
+    Ok(at)
+}
+
+// Whether this was the last of so many packets of its switch.
+fn strikes(since: &mut [u32], at: usize, lag: u32) -> bool
+    requires { at < length since.old }
+{
+    since[at] = since[at].saturating_add(1);
+    if since[at] < lag {
+        return false;
+    }
+    since[at] = 0;
+    true
+}
+
+// A packet at its switch.
+fn take_one<const WAYS: usize, L: Ledger>(
+    network: &mut Network<WAYS>,
+    known: &mut Seq<u64>,
+    since: &mut [u32],
+    packet: &Packet,
+    number: u32,
+    lag: u32,
+    steps: &mut Steps<L>,
+) -> Result<(), TraceAnswer>
+    requires is { IsNetwork (length known.old) network.old }
+    requires since { length since.old ≡ 64 }
+    ensures known { OnOk result (known.new ≡ with_switch known.old (switch_in packet.now.words)) }
+    ensures numbered { OnOk result ((at : ℕ) × (switch_number known.old (switch_in packet.now.words) ≡ Some at)) }
+    ensures keeps { OnOk result (Keeps network.old network.new) }
+    ensures follows { OnOk result ((packets : List (List ℕ)) → NetFollows known.old packets network.old → NetFollows known.new (packets ++ packet.now.words ∷ []) network.new) }
+    ensures refused { IfErr result (λ answer. IfRefused answer (λ fault. (fault ≡ SwitchFault number) × (switch_number known.old (switch_in packet.now.words) ≡ None))) }
+    ensures steps { steps.old ≤ steps.new }
+{
+    let at = switch_at(network, known, packet.get(Field::Switch), number)?;
+    let lag_over = strikes(since, at as usize, lag);
+    match network.turn(at, packet, lag_over, steps) {
+        Ok(()) => Ok(()),
+        Err(AllocError) => Err(TraceAnswer::Memory),
+    }
+}
+
+/// Takes all packets of a trace, each at its switch: the network's switches are those of the packets, in the order of their
+/// first packets. Behind every so many packets of a switch its lanes merge a record each.
+pub(crate) fn take_all<const WAYS: usize, L: Ledger>(
+    alloc: Global,
+    network: Network<WAYS>,
+    lag: u32,
+    trace: Trace<'_>,
+    steps: &mut Steps<L>,
+) -> Result<Network<WAYS>, TraceAnswer>
+    requires is { IsNetwork 0 network }
+    requires fresh { All (λ group. GroupStands WAYS network.buckets group [] []) (groups_in network) }
+    requires few { length trace.packets ≤ most_records }
+    ensures accepted { IfOk result (λ found. first_fault [] 1 (words_of trace.entry.packets) trace.entry.fault ≡ None) }
+    ensures follows { IfOk result (λ found. (known : List ℕ) × NetFollows known (words_of trace.entry.packets) found) }
+    ensures keeps { IfOk result (Keeps network) }
+    ensures refused { IfErr result (λ answer. IfRefused answer (λ fault. first_fault [] 1 (words_of trace.entry.packets) trace.entry.fault ≡ Some fault)) }
+    ensures steps { steps.old ≤ steps.new }
+{
+    let mut trace = trace;
+    let mut network = network;
+    let mut known = Seq::new(alloc);
+    let mut since = [0u32; 64];
+    let mut packet = Packet { words: [0; 14] };
+    let mut number = 0;
+    'packets: while trace.next_into(&mut packet)? {
+        number += 1;
+        take_one(
+            &mut network,
+            &mut known,
+            &mut since,
+            &packet,
+            number,
+            lag,
+            steps,
+        )?;
+    }
+    Ok(network)
+}

@@ -1,0 +1,93 @@
+// What a query prints over several switches, with the ways that a setting names.
+
+ghost use Rattle.std.specs.Prelude.{◌≡◌, ◌*◌, ◌<◌, ◌≤◌, None, Some, [], length, IfErr, IfOk};
+ghost use Rattle.query_lang.specs.TypedQueries.{IsValidQuery};
+ghost use Rattle.stage_plan.specs.Planned.{IsPlanOf};
+ghost use Rattle.query_run.specs.Runs.{AreWhole};
+ghost use Rattle.trace_drive.specs.Drives.{words_of};
+ghost use Rattle.trace_reader.specs.Faults.{IfRefused};
+ghost use Rattle.trace_reader.specs.Traces.{most_records};
+ghost use Rattle.net_wide.specs.Combining.{net_fault};
+ghost use Rattle.net_wide.specs.NetTables.{net_text};
+ghost use Rattle.net_wide.specs.NetLaws.{TellsSwitches};
+ghost use Rattle.command_line.specs.Command.{IsNetSetting, ways_number};
+ghost use Rattle.driven_net.specs.NetTraces.{first_fault};
+
+use crate::taking::take_all;
+use accepted_query::AcceptedQuery;
+use command_line::{NetSetting, Ways};
+use final_queries::alike_foldings_make_one_table;
+use marple_base::{Steps, Text};
+use net_ends::ends_are_the_net_tables;
+use network::Network;
+use query_tables::print_tables;
+use std::alloc::{AllocError, Global};
+use std::sync::ledger::Ledger;
+use trace_reader::{Trace, TraceAnswer};
+
+// What the query prints over the trace's packets, with caches of so many ways.
+fn text_with<const WAYS: usize, L: Ledger>(
+    alloc: Global,
+    setting: NetSetting,
+    query: AcceptedQuery,
+    trace: Trace<'_>,
+    steps: &mut Steps<L>,
+) -> Result<Text, TraceAnswer>
+    requires ways { 0 < WAYS }
+    requires buckets { 0 < setting.buckets }
+    requires places { setting.buckets * WAYS ≤ 65536 }
+    requires pipe { (0 < setting.pipe) × (setting.pipe ≤ 65536) }
+    requires valid { IsValidQuery query.typed }
+    requires plan { IsPlanOf query.typed query.plan }
+    requires combines { net_fault query.typed ≡ None }
+    requires tells { TellsSwitches query.typed }
+    requires whole { AreWhole (words_of trace.packets) }
+    requires few { length trace.packets ≤ most_records }
+    ensures accepted { IfOk result (λ text. first_fault [] 1 (words_of trace.entry.packets) trace.entry.fault ≡ None) }
+    ensures text { IfOk result (λ text. text ≡ net_text query.typed setting.buckets WAYS (words_of trace.entry.packets)) }
+    ensures refused { IfErr result (λ answer. IfRefused answer (λ fault. first_fault [] 1 (words_of trace.entry.packets) trace.entry.fault ≡ Some fault)) }
+    ensures steps { steps.old ≤ steps.new }
+{
+    ends_are_the_net_tables();
+    alike_foldings_make_one_table();
+    let AcceptedQuery { typed, plan } = query;
+    let fresh = match Network::<WAYS>::new(alloc, plan, setting.buckets, setting.pipe) {
+        Ok(fresh) => fresh,
+        Err(AllocError) => return Err(TraceAnswer::Memory),
+    };
+    let mut network = take_all(alloc, fresh, setting.lag, trace, steps)?;
+    match end_text(alloc, &typed, &mut network, steps) {
+        Ok(text) => Ok(text),
+        Err(AllocError) => Err(TraceAnswer::Memory),
+    }
+}
+
+/// What the query prints over the trace's packets, with caches of the setting's ways.
+pub(crate) fn text_with_its_ways<L: Ledger>(
+    alloc: Global,
+    setting: NetSetting,
+    query: AcceptedQuery,
+    trace: Trace<'_>,
+    steps: &mut Steps<L>,
+) -> Result<Text, TraceAnswer>
+    requires setting { IsNetSetting setting }
+    requires valid { IsValidQuery query.typed }
+    requires plan { IsPlanOf query.typed query.plan }
+    requires combines { net_fault query.typed ≡ None }
+    requires tells { TellsSwitches query.typed }
+    requires whole { AreWhole (words_of trace.packets) }
+    requires few { length trace.packets ≤ most_records }
+    ensures accepted { IfOk result (λ text. first_fault [] 1 (words_of trace.entry.packets) trace.entry.fault ≡ None) }
+    ensures text { IfOk result (λ text. text ≡ net_text query.typed setting.buckets (ways_number setting.ways) (words_of trace.entry.packets)) }
+    ensures refused { IfErr result (λ answer. IfRefused answer (λ fault. first_fault [] 1 (words_of trace.entry.packets) trace.entry.fault ≡ Some fault)) }
+    ensures steps { steps.old ≤ steps.new }
+{
+    match setting.ways {
+        Ways::One => text_with::<1, L>(alloc, setting, query, trace, steps),
+        Ways::Two => text_with::<2, L>(alloc, setting, query, trace, steps),
+        Ways::Four => text_with::<4, L>(alloc, setting, query, trace, steps),
+        Ways::Eight => text_with::<8, L>(alloc, setting, query, trace, steps),
+        Ways::Sixteen => text_with::<16, L>(alloc, setting, query, trace, steps),
+        Ways::ThirtyTwo => text_with::<32, L>(alloc, setting, query, trace, steps),
+    }
+}

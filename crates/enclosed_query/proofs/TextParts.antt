@@ -1,0 +1,102 @@
+-- The texts of tables in two parts are those of what is shown.
+use Rattle.std.proofs.Common.{◌≡◌, ℕ, zero, suc, List, [], ◌∷◌, ◌++◌, Option, length, map, drop, refl, sym, ap, ◌∙◌, append-nil, append_assoc}
+use Rattle.std.specs.Prelude.{unwrap_or}
+use Rattle.std.specs.List.{All, flat_map, slice_get}
+use Rattle.std.proofs.Math.Seq.{drop-append_seam}
+use Rattle.std.proofs.lemmas.List.{length-map}
+use Rattle.std.proofs.lemmas.List.Elements.{All-nil, All-cons, All-head, All-tail}
+use Rattle.std.proofs.lemmas.Option.{slice_get-map}
+use Rattle.query_lang.specs.declared.fold.TypedFold.{TypedFold}
+use Rattle.query_lang.specs.declared.typed.TypedFinal.{TypedFinal}
+use Rattle.query_lang.specs.declared.typed.PrintOf.{PrintOf}
+use Rattle.query_lang.specs.declared.typed.TypedQuery.{TypedQuery}
+use Rattle.query_lang.specs.Streams.{takings}
+use Rattle.query_lang.specs.TypedFinals.{table_number}
+use Rattle.query_lang.specs.TypedQueries.{group_shape}
+use Rattle.final_queries.specs.declared.table.Table.{Table}
+use Rattle.final_queries.specs.Finals.{final_table, table_shape, with_finals}
+use Rattle.table_printer.specs.TableText.{table_text}
+use Rattle.enclosure_folds.specs.declared.table.BoundsTable.{BoundsTable}
+use Rattle.enclosure_folds.specs.declared.table.Enclosed.{Enclosed}
+use Rattle.enclosure_folds.specs.declared.table.Enclosed.TheVariants.{Linear, Bounds}
+use Rattle.epoch_model.specs.Epochs.{Geometry}
+use Rattle.enclosed_query.specs.EnclosedTables.{all_texts, enclose_text, enclosed_print, enclosed_tables, shown_text, table_read}
+use Rattle.enclosed_query.specs.Parts.{IsWholeIfThere, bounds_shown, text_at}
+use Rattle.enclosed_query.specs.Reading.{IsWhole}
+
+-- the text of the table with this number, of what is shown of groupbys and other tables behind
+
+abbrev text_in : List Enclosed → List Table → ℕ → List ℕ
+text_in groups rest n = unwrap_or (slice_get (map shown_text groups ++ map table_text rest) n) []
+
+parts_at : (groups : List Enclosed) (rest : List Table) (n : ℕ) → text_at (map bounds_shown groups) (map table_read groups ++ rest) n ≡ text_in groups rest n
+parts_at [] rest n = ap (λ o. unwrap_or o []) (sym (slice_get-map table_text rest n))
+parts_at (Linear t ∷ groups) rest zero = refl
+parts_at (Bounds t ∷ groups) rest zero = refl
+parts_at (one ∷ groups) rest (suc n) = parts_at groups rest n
+
+-- finals leave the tables before them as they are
+
+others_behind : (names : List (List ℕ)) (folds : List TypedFold) (tables : List Table) (finals : List TypedFinal) → (rest : List Table) × (with_finals names folds tables finals ≡ tables ++ rest)
+others_behind names folds tables [] = ([], sym (append-nil tables))
+others_behind names folds tables (one ∷ finals) =
+    let made = final_table names folds tables one in
+    let later = others_behind names folds (tables ++ made ∷ []) finals in
+    (made ∷ later.0, later.1 ∙ append_assoc tables (made ∷ []) later.0)
+
+behind_are : (names : List (List ℕ)) (folds : List TypedFold) (tables : List Table) (finals : List TypedFinal)
+    → with_finals names folds tables finals ≡ tables ++ drop (length tables) (with_finals names folds tables finals)
+behind_are names folds tables finals =
+    let others = others_behind names folds tables finals in
+    others.1 ∙ ap (λ rest. tables ++ rest) (sym (drop-append_seam tables others.0) ∙ ap (drop (length tables)) (sym others.1))
+
+-- all of what a query prints
+module _ (q : TypedQuery) (groups : List Enclosed) where
+  abbrev all_tables : List Table
+  all_tables = with_finals q.names q.folds (map table_read groups) q.finals
+
+  one_text : (n : ℕ) → text_at (map bounds_shown groups) all_tables n ≡ unwrap_or (slice_get (all_texts q groups) n) []
+  one_text n =
+      ap (λ ts. text_at (map bounds_shown groups) ts n) (behind_are q.names q.folds (map table_read groups) q.finals)
+      ∙ (parts_at groups (drop (length (map table_read groups)) all_tables) n
+      ∙ ap (λ k. unwrap_or (slice_get (map shown_text groups ++ map table_text (drop k all_tables)) n) []) (length-map groups table_read))
+
+  all_prints : (prints : List PrintOf) → flat_map (λ one. text_at (map bounds_shown groups) all_tables (table_number (length (takings q.streams)) one)) prints
+      ≡ flat_map (λ one. unwrap_or (slice_get (all_texts q groups) (table_number (length (takings q.streams)) one)) []) prints
+  all_prints [] = refl
+  all_prints (one ∷ prints) =
+      let number = table_number (length (takings q.streams)) one in
+      ap (λ text. text ++ flat_map (λ (p : PrintOf). text_at (map bounds_shown groups) all_tables (table_number (length (takings q.streams)) p)) prints) (one_text number)
+      ∙ ap (λ texts. unwrap_or (slice_get (all_texts q groups) number) [] ++ texts) (all_prints prints)
+
+  prints_are : flat_map (λ one. text_at (map bounds_shown groups) all_tables (table_number (length (takings q.streams)) one)) q.prints ≡ enclosed_print q groups
+  prints_are = all_prints q.prints
+
+-- by the parts of what is shown, and the finals behind
+pub texts_are : (q : TypedQuery) (groups : List Enclosed) (count : ℕ) (bounds : List (Option BoundsTable)) (read tables : List Table) (prints : List PrintOf)
+    → count ≡ length groups → map table_shape (map table_read groups) ≡ map (group_shape q.folds) (takings q.streams) → bounds ≡ map bounds_shown groups → read ≡ map table_read groups
+    → tables ≡ with_finals q.names q.folds read q.finals → prints ≡ q.prints
+    → flat_map (λ one. text_at bounds tables (table_number count one)) prints ≡ enclosed_print q groups
+texts_are q groups count bounds read tables prints count_is shapes bounds_are read_are tables_are all =
+    let taken : count ≡ length (takings q.streams) =
+    count_is ∙ (sym (length-map groups table_read) ∙ (sym (length-map (map table_read groups) table_shape) ∙ (ap (λ ss. length ss) shapes ∙ length-map (takings q.streams) (group_shape q.folds)))) in
+    ap (λ n. flat_map (λ one. text_at bounds tables (table_number n one)) prints) taken
+    ∙ (ap (λ bs. flat_map (λ one. text_at bs tables (table_number (length (takings q.streams)) one)) prints) bounds_are
+    ∙ (ap (λ ts. flat_map (λ one. text_at (map bounds_shown groups) ts (table_number (length (takings q.streams)) one)) prints) (tables_are ∙ ap (λ ts. with_finals q.names q.folds ts q.finals) read_are)
+    ∙ (ap (flat_map (λ one. text_at (map bounds_shown groups) (with_finals q.names q.folds (map table_read groups) q.finals) (table_number (length (takings q.streams)) one))) all
+    ∙ prints_are q groups)))
+
+-- the bounds that are shown are whole
+pub whole_parts : (groups : List Enclosed) → All IsWhole groups → All IsWholeIfThere (map bounds_shown groups)
+whole_parts [] whole = All-nil IsWholeIfThere
+whole_parts (one ∷ groups) whole =
+    All-cons IsWholeIfThere (bounds_shown one) (map bounds_shown groups) (by_one one (All-head IsWhole one groups whole)) (whole_parts groups (All-tail IsWhole one groups whole))
+  where
+    by_one : (one : Enclosed) → IsWhole one → IsWholeIfThere (bounds_shown one)
+    by_one (Linear t) w = tt
+    by_one (Bounds t) w = w
+
+-- what is printed of what is shown of the query's groupbys
+pub text_is : (q : TypedQuery) (g : Geometry) (packets : List (List ℕ)) (groups : List Enclosed) → groups ≡ enclosed_tables q g packets → enclosed_print q groups ≡ enclose_text q g packets
+unfolding enclose_text
+text_is q g packets groups same = ap (enclosed_print q) same

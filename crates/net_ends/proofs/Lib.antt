@@ -1,0 +1,4 @@
+pub mod Places
+pub mod SwitchLists
+pub mod NetRows
+pub mod NetRead

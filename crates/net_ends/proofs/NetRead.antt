@@ -1,0 +1,196 @@
+-- The tables of several switches may be read by finals: of each key at most one row is read.
+use Rattle.std.proofs.Common.{◌≡◌, ℕ, suc, ◌-◌, ◌==◌, Bool, true, false, ◌||◌, List, [], ◌∷◌, ◌++◌, ◌⊎◌, inl, inr, length, drop, map, flat_map, Option, Some, None, refl, sym, ap, ◌∙◌, subst, arith, length-append}
+use Rattle.std.specs.Prelude.{slice_get}
+use Rattle.std.specs.List.{All}
+use Rattle.std.proofs.lemmas.Bool.{true≢false}
+use Rattle.std.proofs.lemmas.Bool.Decides.{nat_tests}
+use Rattle.std.proofs.lemmas.List.{map-append, length-map}
+use Rattle.std.proofs.lemmas.List.Elements.{All-nil, All-cons, All-append, All-head, All-tail, filter-append}
+use Rattle.query_lang.specs.declared.fold.TypedFold.{TypedFold}
+use Rattle.query_lang.specs.declared.typed.TypedQuery.{TypedQuery}
+use Rattle.query_lang.specs.Streams.{takings}
+use Rattle.query_lang.specs.TypedQueries.{IsValidQuery}
+use Rattle.query_lang.specs.TypedQueries as of_query
+use Rattle.query_types.specs.Uses.{uses}
+use Rattle.epoch_model.specs.declared.tables.Row.{Row}
+use Rattle.epoch_model.specs.Keys.{Key, ArgRow, has, key_eq, AreAbove, IsAscending}
+use Rattle.epoch_model.specs.Epochs.{Use, Geometry}
+use Rattle.epoch_model.specs.Tables.{Folding, folded, mark_of, exact_row, epoch_rows, keys_used}
+use Rattle.epoch_model.proofs.KeyLists.{by_test, key_eq-refl, key_eq-true}
+use Rattle.epoch_model.proofs.KeyOrder.{ascending-ascends, has-ascending}
+use Rattle.epoch_entry.specs.Foldings.{folding_of}
+use Rattle.epoch_model.specs.Driving.{uses_taken}
+use Rattle.query_lang.specs.Words.{holds}
+use Rattle.stage_plan.specs.declared.group.GroupPlan.{GroupPlan}
+use Rattle.stage_plan.specs.declared.group.GroupWiring.{GroupWiring}
+use Rattle.stage_plan.specs.Planned.{IsPlanOf, fold_at, row_of, taken, wiring_at}
+use Rattle.stage_plan.specs.Registers.{operand_value}
+use Rattle.stage_plan.specs.Shape.{GroupShape, group_shape, query_groups}
+use Rattle.stage_plan.specs.Sound.{PlanParts, IsSoundPlan}
+use Rattle.switch_core.proofs.LanesMade.{group_sound}
+use Rattle.switch_core.proofs.SideBySide.{got_below}
+use Rattle.final_queries.specs.Finals.{IsTable, HasColumns, is_read, table_shape}
+use Rattle.final_queries.specs.Joining.{reads}
+use Rattle.final_queries.proofs.StateLengths.{states_length}
+use Rattle.query_tables.specs.Tables.{query_table, table_if, tables_from, group_tables}
+use Rattle.query_tables.specs.TableLaws.{QueryTablesAreRead}
+use Rattle.net_wide.specs.NetTables.{net_epochs, key_args, net_key_rows, net_rows, net_table, net_table_if, net_tables_from, net_tables}
+use Rattle.net_wide.specs.NetLaws.{AreWhole}
+use Rattle.net_ends.proofs.Places.{first_at}
+use Rattle.net_ends.specs.NetEnds.{NetTablesAreRead}
+
+abbrev key_of : Row → Key
+key_of row = row.key
+
+abbrev keys_read : List Row → List Key
+keys_read rows = map key_of (reads rows)
+
+-- no row is read, or one of this key
+abbrev HasOneAtMost : Key → List Row → Type 0
+HasOneAtMost key rows = (keys_read rows ≡ []) ⊎ (keys_read rows ≡ key ∷ [])
+
+none_read : (f : Folding) (key : Key) (count number : ℕ) (lists : List (List ArgRow)) → is_read (mark_of count) ≡ false → keys_read (epoch_rows f key count number lists) ≡ []
+none_read f key count number [] e = refl
+none_read f key count number (rows ∷ lists) e = rw e (none_read f key count (suc number) lists e)
+
+several : (n : ℕ) → is_read (mark_of (suc (suc n))) ≡ false
+several n = let e : (suc (suc n) == 1) ≡ false = grind (arith, nat_tests) in rw e refl
+
+epochs_read : (f : Folding) (key : Key) (lists : List (List ArgRow)) → HasOneAtMost key (epoch_rows f key (length lists) 1 lists)
+epochs_read f key [] = inl refl
+epochs_read f key (rows ∷ []) = inr refl
+epochs_read f key (rows ∷ more ∷ lists) = inl (none_read f key (suc (suc (length lists))) 1 (rows ∷ more ∷ lists) (several (length lists)))
+
+key_read : (f : Folding) (pieces : List (List ArgRow)) (args : List ArgRow) (key : Key) → HasOneAtMost key (net_key_rows f pieces args key)
+key_read f pieces args key = by_test f.row_per_epoch (λ t. rw t (epochs_read f key pieces)) (λ t. rw t (inr refl))
+
+-- the rows of ascending keys that are read are in order
+module _ (h : Key → List Row) (one : (key : Key) → HasOneAtMost key (h key)) where
+  joined : (key : Key) (rest : List Row) → keys_read (h key ++ rest) ≡ keys_read (h key) ++ keys_read rest
+  joined key rest = ap (map key_of) (filter-append (λ row. is_read row.mark) (h key) rest) ∙ map-append key_of (reads (h key)) (reads rest)
+
+  all_above : (low : Key) (keys : List Key) → AreAbove low keys → AreAbove low (keys_read (flat_map h keys))
+  all_above low [] above = tt
+  all_above low (key ∷ keys) above =
+      let rest = flat_map h keys in
+      let more = all_above low keys above.1 in
+      subst (AreAbove low) (sym (joined key rest)) (elim (one key) [
+        | inl e ↦ subst (λ xs. AreAbove low (xs ++ keys_read rest)) (sym e) more
+        | inr e ↦ subst (λ xs. AreAbove low (xs ++ keys_read rest)) (sym e) (above.0, more)
+      ])
+
+  all_in_order : (keys : List Key) → IsAscending keys → IsAscending (keys_read (flat_map h keys))
+  all_in_order [] order = tt
+  all_in_order (key ∷ keys) order =
+      let rest = flat_map h keys in
+      let more = all_in_order keys order.1 in
+      subst IsAscending (sym (joined key rest)) (elim (one key) [
+        | inl e ↦ subst (λ xs. IsAscending (xs ++ keys_read rest)) (sym e) more
+        | inr e ↦ subst (λ xs. IsAscending (xs ++ keys_read rest)) (sym e) (all_above key keys order.0, more)
+      ])
+
+-- so many key words and values
+
+abbrev AreLong : ℕ → List Key → Type 0
+AreLong words keys = (key : Key) → has key keys ≡ true → length key ≡ words
+
+module _ (words states : ℕ) (f : Folding) (long : (rows : List ArgRow) → length (folded f rows) ≡ states) where
+  epochs_have : (key : Key) (count number : ℕ) (lists : List (List ArgRow)) → length key ≡ words → All (HasColumns words states) (epoch_rows f key count number lists)
+  epochs_have key count number [] e = All-nil (HasColumns words states)
+  epochs_have key count number (rows ∷ lists) e =
+      All-cons (HasColumns words states) (record { key = key; mark = mark_of count; epoch = number; epochs = _; values = folded f rows }) (epoch_rows f key count (suc number) lists)
+      (record { key = e; values = long rows }) (epochs_have key count (suc number) lists e)
+
+  key_has : (pieces : List (List ArgRow)) (args : List ArgRow) (key : Key) → length key ≡ words → All (HasColumns words states) (net_key_rows f pieces args key)
+  key_has pieces args key e = by_test f.row_per_epoch
+      (λ t. rw t (epochs_have key (length pieces) 1 pieces e))
+      (λ t. rw t (All-cons (HasColumns words states) (exact_row f key (length pieces) args) [] (record { key = e; values = long args }) (All-nil (HasColumns words states))))
+
+  rows_have : (h : Key → List Row) → ((key : Key) → length key ≡ words → All (HasColumns words states) (h key)) → (keys : List Key) → AreLong words keys → All (HasColumns words states) (flat_map h keys)
+  rows_have h each [] all = All-nil (HasColumns words states)
+  rows_have h each (key ∷ keys) all =
+      All-append (HasColumns words states) (h key) (flat_map h keys) (each key (all key (ap (λ b. b || has key keys) (key_eq-refl key))))
+      (rows_have h each keys (λ k e. all k (or_has (key_eq key k) (has k keys) e)))
+    where
+      or_has : (a b : Bool) → b ≡ true → (a || b) ≡ true
+      or_has true b e = refl
+      or_has false b e = e
+
+used_long : (words : ℕ) (used : List Use) → All (λ u. length u.key ≡ words) used → AreLong words (map (λ u. u.key) used)
+used_long words [] all key e = absurd (true≢false (sym e))
+used_long words (u ∷ used) all key e = by_test (key_eq u.key key)
+    (λ t. subst (λ k. length k ≡ words) (key_eq-true u.key key t) (All-head (λ (x : Use). length x.key ≡ words) u used all))
+    (λ t. used_long words used (All-tail (λ (x : Use). length x.key ≡ words) u used all) key (sym (ap (λ b. b || has key (map (λ x. x.key) used)) t) ∙ e))
+
+pub table_read : (q : TypedQuery) (g : Geometry) (packets : List (List ℕ)) (i : ℕ) (shape : GroupShape) (f : TypedFold)
+    → All (λ u. length u.key ≡ length shape.key_names) (uses q i packets) → ((rows : List ArgRow) → length (folded (folding_of f) rows) ≡ length shape.state_names)
+    → IsTable (net_table q g packets i shape f)
+table_read q g packets i shape f keys states =
+    let names = shape.key_names in
+    let wide = length-append names shape.state_names in
+    let others : length shape.state_names ≡ length (names ++ shape.state_names) - length names = omega arith in
+    let rows : Key → List Row = λ key. net_key_rows (folding_of f) (net_epochs q i g packets key) (key_args key (uses q i packets)) key in
+    let used = map (λ u. u.key) (uses q i packets) in
+    record {
+      keys = omega arith;
+      rows = subst (λ n. All (HasColumns (length names) n) (net_rows q i g packets (folding_of f))) others
+          (rows_have (length names) (length shape.state_names) (folding_of f) states rows
+          (λ key e. key_has (length names) (length shape.state_names) (folding_of f) states (net_epochs q i g packets key) (key_args key (uses q i packets)) key e)
+          (keys_used (uses q i packets)) (λ key e. used_long (length names) (uses q i packets) keys key (sym (has-ascending key used) ∙ e)));
+      order = all_in_order rows (λ key. key_read (folding_of f) (net_epochs q i g packets key) (key_args key (uses q i packets)) key) (keys_used (uses q i packets)) (ascending-ascends used);
+    }
+
+-- what the plan takes has as many key words as the groupby has key names
+taken_long : (plan : PlanParts) (i n words : ℕ) (packets : List (List ℕ)) → length (wiring_at plan i).keys ≡ words
+    → All (λ u. length u.key ≡ words) (uses_taken n (map (taken plan i) packets))
+taken_long plan i n words [] wide = All-nil (λ (u : Use). length u.key ≡ words)
+taken_long plan i n words (one ∷ packets) wide = by_test (holds (operand_value registers wiring.present))
+    (λ t. rw t (All-cons (λ (u : Use). length u.key ≡ words) (record { packet = n; key = map (operand_value registers) wiring.keys; row = map (operand_value registers) wiring.args })
+    (uses_taken (suc n) (map (taken plan i) packets)) (length-map wiring.keys (operand_value registers) ∙ wide) (taken_long plan i (suc n) words packets wide)))
+    (λ t. rw t (taken_long plan i (suc n) words packets wide))
+  where
+    registers : List ℕ
+    registers = row_of plan one
+
+    wiring : GroupWiring
+    wiring = wiring_at plan i
+
+module _ (q : TypedQuery) (plan : PlanParts) (g : Geometry) (packets : List (List ℕ)) (valid : IsValidQuery q) (p : IsPlanOf q plan) (sound : IsSoundPlan plan) (whole : AreWhole packets) where
+  one_read : (i : ℕ) (part : GroupPlan) (f : TypedFold) → slice_get plan.groups i ≡ Some part → fold_at q i ≡ Some f → IsTable (net_table q g packets i (group_shape part) f)
+  one_read i part f at has =
+      let own = group_sound plan i part sound at in
+      let within = got_below plan.groups i part at in
+      let program = p.programs i f part has at in
+      let wide : length (wiring_at plan i).keys ≡ length part.key_names = ap (λ w. length w.keys) own.1 ∙ own.2.keys in
+      table_read q g packets i (group_shape part) f
+      (subst (All (λ u. length u.key ≡ length part.key_names)) (sym (p.takes i packets within whole)) (taken_long plan i 1 (length part.key_names) packets wide))
+      (λ rows. states_length f rows program.valid ∙ (sym program.valid.starts ∙ (ap length (sym program.layout.initial) ∙ sym own.2.states)))
+
+  shapes_same : (i : ℕ) (shapes : List GroupShape) → map table_shape (net_tables_from q g packets i shapes) ≡ map table_shape (tables_from q g packets i shapes)
+  shapes_same i [] = refl
+  shapes_same i (shape ∷ shapes) = go (fold_at q i) (shapes_same (suc i) shapes)
+    where
+      go : (o : Option TypedFold) → map table_shape (net_tables_from q g packets (suc i) shapes) ≡ map table_shape (tables_from q g packets (suc i) shapes)
+          → map table_shape (net_table_if q g packets i shape o ++ net_tables_from q g packets (suc i) shapes) ≡ map table_shape (table_if q g packets i shape o ++ tables_from q g packets (suc i) shapes)
+      go None h = h
+      go (Some f) h = ap (λ ss. table_shape (query_table q g packets i shape f) ∷ ss) h
+
+  all_read : (i : ℕ) (parts : List GroupPlan) → drop i plan.groups ≡ parts → All IsTable (net_tables_from q g packets i (map group_shape parts))
+  all_read i [] e = All-nil IsTable
+  all_read i (part ∷ parts) e = go (fold_at q i) refl (all_read (suc i) parts (first_at plan.groups i part parts e).1)
+    where
+      go : (o : Option TypedFold) → fold_at q i ≡ o → All IsTable (net_tables_from q g packets (suc i) (map group_shape parts))
+          → All IsTable (net_table_if q g packets i (group_shape part) o ++ net_tables_from q g packets (suc i) (map group_shape parts))
+      go None is rest = rest
+      go (Some f) is rest = All-cons IsTable (net_table q g packets i (group_shape part) f) (net_tables_from q g packets (suc i) (map group_shape parts))
+          (one_read i part f (first_at plan.groups i part parts e).0 is) rest
+
+  read_them : QueryTablesAreRead → All IsTable (net_tables q g packets) × (map table_shape (net_tables q g packets) ≡ map (of_query.group_shape q.folds) (takings q.streams))
+  unfolding net_tables group_tables
+  read_them law = (
+    subst (λ shapes. All IsTable (net_tables_from q g packets 0 shapes)) (ap (λ shape. shape.groups) p.shape) (all_read 0 plan.groups refl),
+    shapes_same 0 (query_groups q) ∙ (law q g packets valid).1,
+  )
+
+pub tables_read : QueryTablesAreRead → NetTablesAreRead
+tables_read law q plan g packets valid p sound whole = read_them q plan g packets valid p sound whole law

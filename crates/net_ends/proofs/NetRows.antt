@@ -1,0 +1,300 @@
+-- The merged epochs of all switches give the rows of the definition.
+use Rattle.std.proofs.Common.{◌≡◌, ◌≢◌, ℕ, suc, ◌+◌, ◌<◌, true, false, Bool, ◌||◌, ◌==◌, List, [], ◌∷◌, ◌++◌, length, map, flat_map, fold, slice_index, Option, Some, None, refl, sym, ap, ◌∙◌, subst, arith, inl, inr}
+use Rattle.std.specs.Prelude.{slice_get, option_map, option_and_then, if◌then◌else◌}
+use Rattle.std.specs.List.{AllByRecursion, list_any}
+use Rattle.std.proofs.lemmas.List.Elements.{All-nil, All-cons, All-head, All-tail, All-filter}
+use Rattle.query_lang.specs.declared.fold.TypedFold.{TypedFold}
+use Rattle.query_lang.specs.declared.typed.Class.TheVariants.{Linear}
+use Rattle.query_lang.specs.declared.typed.TypedQuery.{TypedQuery}
+use Rattle.query_lang.specs.Words.{AreWords}
+use Rattle.query_lang.specs.Folds.{IsValidFold}
+use Rattle.query_lang.specs.Streams.{Taking, takings}
+use Rattle.query_types.specs.Uses.{uses}
+use Rattle.fold_code.specs.Additive.{is_additive}
+use Rattle.fold_class.specs.Kinds.{class_of}
+use Rattle.epoch_model.specs.declared.tables.Row.{Row}
+use Rattle.epoch_model.specs.Keys.{Key, ArgRow, key_eq, ascending}
+use Rattle.epoch_model.specs.TableLaws.{keys_given}
+use Rattle.epoch_model.specs.Epochs.{Use, Geometry, epochs}
+use Rattle.epoch_model.specs.Machine.{lists_of}
+use Rattle.epoch_model.specs.Laws.{HasRoom, rows_given}
+use Rattle.epoch_model.specs.Driving.{Taken, use_at, uses_taken}
+use Rattle.epoch_model.specs.Tables.{Folding, exact_row, epoch_rows, epochs_shown, keys_used, closed_key_rows, closed_keys, closed_rows, closed_epochs}
+use Rattle.epoch_model.proofs.KeyLists.{by_test}
+use Rattle.epoch_model.proofs.Cuts.{IsPiece, epochs-pieces, epochs_cut_the_rows_lem}
+use Rattle.epoch_model.proofs.TableRows.{flat_map-single}
+use Rattle.epoch_entry.specs.Foldings.{folding_of, per_epoch}
+use Rattle.stage_plan.specs.Planned.{IsPlanOf, taken}
+use Rattle.stage_plan.specs.Shape.{GroupShape}
+use Rattle.stage_plan.specs.Sound.{PlanParts}
+use Rattle.stage_plan.proofs.StreamRows as packetwise
+use Rattle.final_queries.specs.declared.table.Table.{Table}
+use Rattle.final_queries.specs.declared.table.TableKind.TheVariants as kind
+use Rattle.final_queries.specs.GroupTable.{closed_table}
+use Rattle.query_tables.specs.Tables.{heading_of}
+use Rattle.additive_folds.specs.Pieces.{joined}
+use Rattle.additive_folds.specs.Network.{SwitchEvent, SwitchEpoch, all_events, all_epochs, epochs_at, AllMerged}
+use Rattle.additive_folds.proofs.StoreTables.{store_table}
+use Rattle.switch_traces.specs.Traces.{Step, IsRun, own_uses, whole_uses, taken_of}
+use Rattle.switch_traces.specs.TraceLaws.{rows_used, AreSwitchesOf}
+use Rattle.switch_traces.proofs.OwnEpochs.{own}
+use Rattle.switch_traces.proofs.Givens.{gives, keys_are}
+use Rattle.switch_traces.proofs.Counts.{added, of_one_switch, of_one, same_number, own_number, not_number}
+use Rattle.net_wide.specs.NetTables.{switch_in, packets_at, switches, caches_of, uses_at, net_epochs, key_args, net_key_rows, net_rows, net_count, net_table}
+use Rattle.net_wide.specs.NetLaws.{AreWhole}
+use Rattle.net_wide.proofs.Combined.{HasSwitchKey, Combines, all_combine}
+use Rattle.net_wide.proofs.SameTexts.{flat_maps_alike, sums_alike, tells_switch, at_place}
+use Rattle.net_ends.specs.NetEnds.{IsSeen, AreNumbered, steps_of, EndsAreTheNetTables}
+use Rattle.net_ends.proofs.SwitchLists.{AreOnes, first, keys_of, ones, ones_rest, one_first, no_number, all_apart}
+
+-- two ways to take, where the uses of one packet are the same
+
+abbrev first_key : List Use → Key
+first_key [] = []
+first_key (u ∷ used) = u.key
+
+abbrev first_row : List Use → ArgRow
+first_row [] = []
+first_row (u ∷ used) = u.row
+
+same_taken : (a b : Option Taken) → use_at 1 a ++ [] ≡ use_at 1 b ++ [] → a ≡ b
+same_taken None None e = refl
+same_taken None (Some b) e = cc
+same_taken (Some a) None e = cc
+same_taken (Some a) (Some b) e =
+    let k : a.key ≡ b.key = ap first_key e in
+    let r : a.row ≡ b.row = ap first_row e in
+    ap (λ x. Some (record { key = x; row = a.row })) k ∙ ap (λ x. Some (record { key = b.key; row = x })) r
+
+-- a list of pieces that give no row
+no_pieces : (lists : List (List ArgRow)) → AllByRecursion IsPiece lists → joined lists ≡ [] → lists ≡ []
+no_pieces [] a e = refl
+no_pieces ([] ∷ lists) a e = absurd (omega (arith, a.0))
+no_pieces ((row ∷ rows) ∷ lists) a e = cc
+
+pub no_epochs : (g : Geometry) (used : List Use) (key : Key) → rows_used key used ≡ [] → epochs g used key ≡ []
+no_epochs g used key e = no_pieces (epochs g used key) (epochs-pieces g used key) ((epochs_cut_the_rows_lem g used key).0 ∙ e)
+
+seen_more : (words : List ℕ) (packets : List (List ℕ)) (s : ℕ) → IsSeen s packets → IsSeen s (words ∷ packets)
+seen_more words packets s seen = or_right (switch_in words == s) (list_any (λ ws. switch_in ws == s) packets) seen
+  where
+    or_right : (a b : Bool) → b ≡ true → (a || b) ≡ true
+    or_right true b e = refl
+    or_right false b e = e
+
+seen_first : (words : List ℕ) (packets : List (List ℕ)) → IsSeen (switch_in words) (words ∷ packets)
+seen_first words packets = ap (λ b. b || list_any (λ ws. switch_in ws == switch_in words) packets) (own_number (switch_in words))
+
+module _ (number : ℕ → ℕ) (take : List ℕ → Option Taken) (all : List (List ℕ)) where
+  -- a number that no switch has gives nothing
+  none_taken : (k : ℕ) → ((s : ℕ) → IsSeen s all → (number s == k) ≡ false) → (packets : List (List ℕ)) → ((s : ℕ) → IsSeen s packets → IsSeen s all)
+      → taken_of k (steps_of number take packets) ≡ []
+  none_taken k none [] sub = refl
+  none_taken k none (words ∷ packets) sub =
+      let t : (number (switch_in words) == k) ≡ false = none (switch_in words) (sub (switch_in words) (seen_first words packets)) in
+      rw t (none_taken k none packets (λ s seen. sub s (seen_more words packets s seen)))
+
+  -- a switch's number has what is taken of the switch's packets
+  taken_own : AreNumbered number all → (s : ℕ) → IsSeen s all → (packets : List (List ℕ)) → ((a : ℕ) → IsSeen a packets → IsSeen a all)
+      → taken_of (number s) (steps_of number take packets) ≡ map take (packets_at s packets)
+  taken_own numbered s seen [] sub = refl
+  taken_own numbered s seen (words ∷ packets) sub =
+      let rest = taken_own numbered s seen packets (λ a some. sub a (seen_more words packets a some)) in
+      by_test (switch_in words == s)
+      (λ t. let u : (number (switch_in words) == number s) ≡ true = ap (λ n. number n == number s) (same_number (switch_in words) s t) ∙ own_number (number s) in
+      rw (t, u) (ap (λ ts. take words ∷ ts) rest))
+      (λ t. let u : (number (switch_in words) == number s) ≡ false = by_test (number (switch_in words) == number s)
+      (λ v. absurd (not_number (switch_in words) s t (numbered (switch_in words) s (sub (switch_in words) (seen_first words packets)) seen (same_number (number (switch_in words)) (number s) v))))
+      (λ v. v) in
+      rw (t, u) rest)
+
+  -- what a key takes of one number alone, where each packet that gives it has that number
+  module _ (key : Key) (one : ℕ) (only : (words : List ℕ) (t : Taken) → length words ≡ 14 → take words ≡ Some t → key_eq t.key key ≡ true → number (switch_in words) ≡ one) where
+    rows_of_one : (n m : ℕ) (packets : List (List ℕ)) → AreWhole packets
+        → rows_used key (uses_taken n (taken_of one (steps_of number take packets))) ≡ rows_used key (uses_taken m (map take packets))
+    rows_of_one n m [] whole = refl
+    rows_of_one n m (words ∷ packets) whole =
+        by_test (number (switch_in words) == one)
+        (λ t. rw t (here (take words) (rows_of_one (suc n) (suc m) packets (All-tail (λ w. length w ≡ 14) words packets whole))))
+        (λ t. rw t (there t (take words) refl (rows_of_one n (suc m) packets (All-tail (λ w. length w ≡ 14) words packets whole))))
+      where
+        here : (o : Option Taken) → rows_used key (uses_taken (suc n) (taken_of one (steps_of number take packets))) ≡ rows_used key (uses_taken (suc m) (map take packets))
+            → rows_used key (use_at n o ++ uses_taken (suc n) (taken_of one (steps_of number take packets))) ≡ rows_used key (use_at m o ++ uses_taken (suc m) (map take packets))
+        here None h = h
+        here (Some x) h = by_test (key_eq x.key key) (λ k. rw k (ap (λ rs. x.row ∷ rs) h)) (λ k. rw k h)
+
+        there : (number (switch_in words) == one) ≡ false → (o : Option Taken) → take words ≡ o
+            → rows_used key (uses_taken n (taken_of one (steps_of number take packets))) ≡ rows_used key (uses_taken (suc m) (map take packets))
+            → rows_used key (uses_taken n (taken_of one (steps_of number take packets))) ≡ rows_used key (use_at m o ++ uses_taken (suc m) (map take packets))
+        there t None is h = h
+        there t (Some x) is h = by_test (key_eq x.key key)
+            (λ k. absurd (not_number (number (switch_in words)) one t (only words x (All-head (λ w. length w ≡ 14) words packets whole) is k)))
+            (λ k. rw k h)
+
+    rows_of_other : (k n : ℕ) → k ≢ one → (packets : List (List ℕ)) → AreWhole packets → rows_used key (uses_taken n (taken_of k (steps_of number take packets))) ≡ []
+    rows_of_other k n d [] whole = refl
+    rows_of_other k n d (words ∷ packets) whole =
+        by_test (number (switch_in words) == k)
+        (λ t. rw t (here t (take words) refl (rows_of_other k (suc n) d packets (All-tail (λ w. length w ≡ 14) words packets whole))))
+        (λ t. rw t (rows_of_other k n d packets (All-tail (λ w. length w ≡ 14) words packets whole)))
+      where
+        here : (number (switch_in words) == k) ≡ true → (o : Option Taken) → take words ≡ o
+            → rows_used key (uses_taken (suc n) (taken_of k (steps_of number take packets))) ≡ []
+            → rows_used key (use_at n o ++ uses_taken (suc n) (taken_of k (steps_of number take packets))) ≡ []
+        here t None is h = h
+        here t (Some x) is h = by_test (key_eq x.key key)
+            (λ e. absurd (d (sym (same_number (number (switch_in words)) k t) ∙ only words x (All-head (λ w. length w ≡ 14) words packets whole) is e)))
+            (λ e. rw e h)
+
+whole_taken : (number : ℕ → ℕ) (take : List ℕ → Option Taken) (packets : List (List ℕ)) → map (λ one. one.taken) (steps_of number take packets) ≡ map take packets
+whole_taken number take [] = refl
+whole_taken number take (words ∷ packets) = ap (λ ts. take words ∷ ts) (whole_taken number take packets)
+
+module _ (q : TypedQuery) (plan : PlanParts) (buckets ways : ℕ) (packets : List (List ℕ)) (number : ℕ → ℕ) (p : IsPlanOf q plan)
+    (room : HasRoom (caches_of buckets ways)) (whole : AreWhole packets) (numbered : AreNumbered number packets) (i : ℕ) (within : i < length plan.groups)
+    (events : List SwitchEvent) (merged : List SwitchEpoch) (ran : IsRun (steps_of number (taken plan i) packets) events) (all : AllMerged (caches_of buckets ways) events merged) where
+  abbrev g : Geometry
+  g = caches_of buckets ways
+
+  abbrev take : List ℕ → Option Taken
+  take words = taken plan i words
+
+  abbrev steps : List Step
+  steps = steps_of number take packets
+
+  uses_are : whole_uses steps ≡ uses q i packets
+  uses_are = ap (uses_taken 1) (whole_taken number take packets) ∙ sym (p.takes i packets within whole)
+
+  own_lists : (key : Key) (k : ℕ) → lists_of key (epochs_at k merged) ≡ epochs g (own_uses k steps) key
+  own_lists key k = own buckets ways steps events merged key k room ran all
+
+  uses_of : (s : ℕ) → IsSeen s packets → own_uses (number s) steps ≡ uses_at q i packets s
+  uses_of s seen =
+      ap (uses_taken 1) (taken_own number take packets numbered s seen packets (λ a some. some))
+      ∙ sym (p.takes i (packets_at s packets) within (All-filter (λ words. switch_in words == s) (λ words. length words ≡ 14) packets whole))
+
+  switches_of : (key : Key) → AreSwitchesOf key merged (map number (switches packets))
+  switches_of key = record {
+    apart = all_apart packets number numbered;
+    others = λ k none.
+        own_lists key k
+        ∙ (ap (λ ts. epochs g (uses_taken 1 ts) key) (none_taken number take packets k (λ s seen. no_number packets number k s seen none) packets (λ s seen. seen))
+        ∙ no_epochs g [] key refl);
+  }
+
+  pieces_from : (key : Key) (keys : List Key) → AreOnes packets keys
+      → flat_map (λ k. lists_of key (epochs_at k merged)) (map number (map first keys)) ≡ flat_map (λ s. epochs g (uses_at q i packets s) key) (map first keys)
+  pieces_from key [] o = refl
+  pieces_from key (k ∷ keys) o =
+      let one = one_first packets k keys o in
+      let here : lists_of key (epochs_at (number (first k)) merged) ≡ epochs g (uses_at q i packets (first k)) key =
+      own_lists key (number (first k)) ∙ ap (λ us. epochs g us key) (uses_of (first k) (subst (λ s. IsSeen s packets) (sym (ap first one.is)) one.seen)) in
+      ap (λ ls. ls ++ flat_map (λ n. lists_of key (epochs_at n merged)) (map number (map first keys))) here
+      ∙ ap (λ ls. epochs g (uses_at q i packets (first k)) key ++ ls) (pieces_from key keys (ones_rest packets k keys o))
+
+  pieces_are : (key : Key) → flat_map (λ k. lists_of key (epochs_at k merged)) (map number (switches packets)) ≡ net_epochs q i g packets key
+  pieces_are key = pieces_from key (keys_of packets) (ones packets)
+
+  counts_are : (key : Key) → length (lists_of key (all_epochs merged)) ≡ length (net_epochs q i g packets key)
+  counts_are key = added key merged (map number (switches packets)) (switches_of key) ∙ ap length (pieces_are key)
+
+  keys_same : closed_keys (all_epochs merged) ≡ keys_used (uses q i packets)
+  keys_same = keys_are buckets ways steps events merged room ran all ∙ ap keys_used uses_are
+
+  epochs_same : closed_epochs (all_epochs merged) ≡ net_count q i g packets
+  epochs_same = ap epochs_shown
+      (sums_alike (λ key. length (lists_of key (all_epochs merged))) (λ key. length (net_epochs q i g packets key)) 0 (closed_keys (all_epochs merged)) counts_are
+      ∙ ap (fold (λ a key. a + length (net_epochs q i g packets key)) 0) keys_same)
+
+  abbrev net_row : Folding → Key → List Row
+  net_row f key = net_key_rows f (net_epochs q i g packets key) (key_args key (uses q i packets)) key
+
+  abbrev exact : Folding → Key → Row
+  exact f key = exact_row f key (length (lists_of key (all_epochs merged))) (rows_given key (all_events events))
+
+  exact_is : (f : Folding) → f.row_per_epoch ≡ false → (key : Key) → exact f key ∷ [] ≡ net_row f key
+  exact_is f one key =
+      let rows : rows_given key (all_events events) ≡ key_args key (uses q i packets) = (gives steps events ran).rows key ∙ ap (rows_used key) uses_are in
+      rw one (ap (λ n. exact_row f key n (rows_given key (all_events events)) ∷ []) (counts_are key)
+      ∙ ap (λ rs. exact_row f key (length (net_epochs q i g packets key)) rs ∷ []) rows)
+
+  -- an additive fold
+  additive_rows : (f : TypedFold) → per_epoch (class_of f) ≡ false → IsValidFold f → is_additive f ≡ true → AreWords f.initial
+      → closed_rows (folding_of f) (all_epochs merged) ≡ net_rows q i g packets (folding_of f)
+  additive_rows f linear valid additive words =
+      store_table f (folding_of f) g events merged refl linear (record { valid = valid; additive = additive; size = valid.starts; words = words }) room all
+      ∙ (sym (flat_map-single (λ key. exact (folding_of f) key ∷ []) (exact (folding_of f)) (ascending (keys_given (all_events events))) (λ key. refl))
+      ∙ (flat_maps_alike (λ key. exact (folding_of f) key ∷ []) (net_row (folding_of f)) (ascending (keys_given (all_events events))) (exact_is (folding_of f) linear)
+      ∙ ap (λ keys. flat_map (net_row (folding_of f)) (ascending keys)) ((gives steps events ran).keys ∙ ap (map (λ u. u.key)) uses_are)))
+
+  -- a key that tells the switch
+  module _ (t : Taking) (at : slice_get (takings q.streams) i ≡ Some t) (k : HasSwitchKey q t) (key : Key) where
+    abbrev one : ℕ
+    one = number (slice_index key k.at)
+
+    abbrev read : List ℕ → Option Taken
+    read words = option_map (packetwise.row_taken t) (packetwise.row_at (packetwise.all_rows q words) t.input)
+
+    alone : (words : List ℕ) → length words ≡ 14 → AreWhole (words ∷ [])
+    alone words size = All-cons (λ ws. length ws ≡ 14) words [] size (All-nil (λ ws. length ws ≡ 14))
+
+    take_is : (words : List ℕ) → length words ≡ 14 → take words ≡ read words
+    take_is words size = same_taken (take words) (read words)
+        (sym (p.takes i (words ∷ []) within (alone words size)) ∙ packetwise.uses_are q i t read at (λ ws long. refl) (words ∷ []) (alone words size))
+
+    only : (words : List ℕ) (x : Taken) → length words ≡ 14 → take words ≡ Some x → key_eq x.key key ≡ true → number (switch_in words) ≡ one
+    only words x size is e = ap number (tells_switch q i t at packets packets whole whole (λ s. refl) k key words x size (sym (take_is words size) ∙ is) e)
+
+    others : (s : ℕ) → s ≢ one → lists_of key (epochs_at s merged) ≡ []
+    others s d = own_lists key s ∙ no_epochs g (own_uses s steps) key (rows_of_other number take packets key one only s 1 d packets whole)
+
+    lists : lists_of key (all_epochs merged) ≡ net_epochs q i g packets key
+    lists = of_one_switch key merged (map number (switches packets)) one (switches_of key) others ∙ pieces_are key
+
+    args : joined (lists_of key (all_epochs merged)) ≡ key_args key (uses q i packets)
+    args =
+        ap joined (of_one key one merged others ∙ own_lists key one)
+        ∙ ((epochs_cut_the_rows_lem g (own_uses one steps) key).0
+        ∙ (rows_of_one number take packets key one only 1 1 packets whole
+        ∙ ap (rows_used key) (sym (p.takes i packets within whole))))
+
+    key_rows_are : (f : Folding) → closed_key_rows f (all_epochs merged) key ≡ net_row f key
+    key_rows_are f =
+        ap (λ (rs : List ArgRow). if f.row_per_epoch then epoch_rows f key (length (lists_of key (all_epochs merged))) 1 (lists_of key (all_epochs merged)) else (exact_row f key (length (lists_of key (all_epochs merged))) rs ∷ [])) args
+        ∙ ap (λ ls. net_key_rows f ls (key_args key (uses q i packets)) key) lists
+
+  switch_rows : (f : Folding) (t : Taking) → slice_get (takings q.streams) i ≡ Some t → HasSwitchKey q t → closed_rows f (all_epochs merged) ≡ net_rows q i g packets f
+  switch_rows f t at k =
+      flat_maps_alike (closed_key_rows f (all_epochs merged)) (net_row f) (closed_keys (all_epochs merged)) (λ key. key_rows_are t at k key f)
+      ∙ ap (flat_map (net_row f)) keys_same
+
+  table_is : (shape : GroupShape) (f : TypedFold) → closed_rows (folding_of f) (all_epochs merged) ≡ net_rows q i g packets (folding_of f)
+      → closed_table (heading_of shape) (folding_of f) (all_epochs merged) ≡ net_table q g packets i shape f
+  table_is shape f rows =
+      ap (λ n. made n (closed_rows (folding_of f) (all_epochs merged))) epochs_same ∙ ap (made (net_count q i g packets)) rows
+    where
+      made : ℕ → List Row → Table
+      made n rows = record {
+        name = shape.name;
+        columns = shape.key_names ++ shape.state_names;
+        keys = length shape.key_names;
+        kind = kind.Group shape.class shape.depth n;
+        rows = rows;
+      }
+
+pub ends_are : ((f : TypedFold) → IsValidFold f → is_additive f ≡ true → class_of f ≡ Linear) → EndsAreTheNetTables
+ends_are linear q plan buckets ways packets number valid none tells p room whole numbered i shape f events merged within at ran all =
+    table_is q plan buckets ways packets number p room whole numbered i within events merged ran all shape f (go (slice_get (takings q.streams) i) refl at)
+  where
+    rows_by : (t : Taking) → slice_get (takings q.streams) i ≡ Some t → slice_get q.folds t.fold_number ≡ Some f → Combines q t f
+        → closed_rows (folding_of f) (all_epochs merged) ≡ net_rows q i (caches_of buckets ways) packets (folding_of f)
+    rows_by t e is (inl additive) =
+        let sound = at_place IsValidFold q.folds t.fold_number f valid.folds is in
+        additive_rows q plan buckets ways packets number p room whole numbered i within events merged ran all f (ap per_epoch (linear f sound additive)) sound additive
+        (at_place (λ f. AreWords f.initial) q.folds t.fold_number f tells.words is)
+    rows_by t e is (inr k) = switch_rows q plan buckets ways packets number p room whole numbered i within events merged ran all (folding_of f) t e k
+
+    go : (o : Option Taking) → slice_get (takings q.streams) i ≡ o → option_and_then (λ t. slice_get q.folds t.fold_number) o ≡ Some f
+        → closed_rows (folding_of f) (all_epochs merged) ≡ net_rows q i (caches_of buckets ways) packets (folding_of f)
+    go None e is = cc
+    go (Some t) e is = rows_by t e is (all_combine q [] q.streams none valid.streams tells.keys i t f e is)

@@ -1,0 +1,48 @@
+-- What a store that merged all epochs of several switches gives is the table of the definition.
+use Rattle.std.specs.Prelude.{◌≡◌, ◌<◌, ℕ, true, None, Some, Option, List, length, map, All, ◌==◌}
+use Rattle.std.specs.List.{list_any}
+use Rattle.query_lang.specs.declared.fold.TypedFold.{TypedFold}
+use Rattle.query_lang.specs.declared.typed.TypedQuery.{TypedQuery}
+use Rattle.query_lang.specs.TypedQueries.{IsValidQuery, group_shape}
+use Rattle.epoch_model.specs.Driving.{Taken}
+use Rattle.epoch_model.specs.Laws.{HasRoom}
+use Rattle.epoch_entry.specs.Foldings.{folding_of}
+use Rattle.stage_plan.specs.Planned.{IsPlanOf, fold_at, taken}
+use Rattle.stage_plan.specs.Shape.{GroupShape}
+use Rattle.stage_plan.specs.Sound.{PlanParts, IsSoundPlan}
+use Rattle.final_queries.specs.Finals.{IsTable, table_shape}
+use Rattle.final_queries.specs.GroupTable.{closed_table}
+use Rattle.query_lang.specs.Streams.{takings}
+use Rattle.epoch_model.specs.Epochs.{Geometry}
+use Rattle.query_tables.specs.Tables.{heading_of}
+use Rattle.additive_folds.specs.Network.{SwitchEvent, SwitchEpoch, all_epochs, AllMerged}
+use Rattle.switch_traces.specs.Traces.{Step, IsRun}
+use Rattle.net_wide.specs.Combining.{net_fault}
+use Rattle.net_wide.specs.NetTables.{switch_in, caches_of, net_table, net_tables}
+use Rattle.net_wide.specs.NetLaws.{AreWhole, TellsSwitches}
+
+-- a packet of this switch is among these
+abbrev pub IsSeen : ℕ → List (List ℕ) → Type 0
+IsSeen switch packets = list_any (λ words. switch_in words == switch) packets ≡ true
+
+-- different switches of these packets have different numbers
+abbrev pub AreNumbered : (ℕ → ℕ) → List (List ℕ) → Type 0
+AreNumbered number packets = (a b : ℕ) → IsSeen a packets → IsSeen b packets → number a ≡ number b → a ≡ b
+
+-- the packets by the numbers of their switches, with what is taken of each
+abbrev pub steps_of : (ℕ → ℕ) → (List ℕ → Option Taken) → List (List ℕ) → List Step
+steps_of number taken packets = map (λ words. record { switch = number (switch_in words); taken = taken words }) packets
+
+-- In a query without the fault, the epochs that were merged of all switches at the end of a trace give the groupby's table, in
+-- whatever order merges came.
+abbrev pub EndsAreTheNetTables : Type 0
+EndsAreTheNetTables = (q : TypedQuery) (plan : PlanParts) (buckets ways : ℕ) (packets : List (List ℕ)) (number : ℕ → ℕ)
+    → IsValidQuery q → net_fault q ≡ None → TellsSwitches q → IsPlanOf q plan → HasRoom (caches_of buckets ways) → AreWhole packets → AreNumbered number packets
+    → (i : ℕ) (shape : GroupShape) (f : TypedFold) (events : List SwitchEvent) (merged : List SwitchEpoch) → i < length plan.groups → fold_at q i ≡ Some f
+    → IsRun (steps_of number (taken plan i) packets) events → AllMerged (caches_of buckets ways) events merged
+    → closed_table (heading_of shape) (folding_of f) (all_epochs merged) ≡ net_table q (caches_of buckets ways) packets i shape f
+
+-- The tables of the definition may be read by finals, and have the shapes of what the groupbys take.
+abbrev pub NetTablesAreRead : Type 0
+NetTablesAreRead = (q : TypedQuery) (plan : PlanParts) (g : Geometry) (packets : List (List ℕ)) → IsValidQuery q → IsPlanOf q plan → IsSoundPlan plan → AreWhole packets
+    → All IsTable (net_tables q g packets) × (map table_shape (net_tables q g packets) ≡ map (group_shape q.folds) (takings q.streams))

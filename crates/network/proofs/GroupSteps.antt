@@ -1,0 +1,188 @@
+-- Groupbys side by side.
+use Rattle.std.proofs.Common.{◌≡◌, ℕ, zero, suc, ◌+◌, ◌<◌, ◌≤◌, true, List, [], ◌∷◌, ◌++◌, ◌⊎◌, inl, inr, Some, length, take, refl, sym, ap, ◌∙◌, subst, arith, length-append}
+use Rattle.std.proofs.Math.Logic.{∥∥₁_elim}
+use Rattle.std.proofs.Props.{props}
+use Rattle.fold_class.specs.Program.{IsProgram, IsProgramOf}
+use Rattle.query_lang.specs.declared.fold.TypedFold.{TypedFold}
+use Rattle.backing_store.specs.Store.{Store}
+use Rattle.epoch_entry.specs.declared.any.AnyEpochs.{AnyEpochs}
+use Rattle.final_queries.specs.FinalLaws.{AreAlike}
+use Rattle.stage_plan.specs.declared.group.GroupWiring.{GroupWiring}
+use Rattle.switch_core.specs.FrontParts.{FrontOf}
+use Rattle.net_wide.specs.Sharing.{AddsFront}
+use Rattle.std.specs.Prelude.{slice_get}
+use Rattle.epoch_model.specs.Machine.{Epoch}
+use Rattle.epoch_entry.specs.Foldings.{IsKindOf}
+use Rattle.epoch_entry.specs.contracts.any.AnyEpochsEpochKind.TheImpl.{ghosts}
+use Rattle.final_queries.specs.GroupTable.{closed_table}
+use Rattle.stage_plan.specs.declared.group.GroupPlan.{GroupPlan}
+use Rattle.stage_plan.specs.Planned.{wiring_at}
+use Rattle.stage_plan.specs.Sound.{PlanParts, IsSoundPlan, IsSoundGroup}
+use Rattle.additive_folds.specs.Network.{SwitchEvent}
+use Rattle.switch_core.specs.Pipelines.{heading_of}
+use Rattle.switch_core.specs.Rows.{EachFrom}
+use Rattle.switch_core.proofs.LanesMade.{group_sound}
+use Rattle.switch_core.proofs.SideBySide.{same_some, each_at, each_long, each_map, got_below}
+use Rattle.network.specs.Groups.{GroupView, IsGroup, AreGroups, GroupRuns, GroupsRun, folding_in, shared_tables}
+use Rattle.network.specs.Shared.{AllShare, MayShare, SharedRuns}
+use Rattle.network.proofs.SharedSteps.{still_share}
+
+-- what is said of items and parts, and what is made of each item, says something of the new items and the parts
+pub each_made : {A B : Type 0} (R : ℕ → A → B → Type 0) (S : ℕ → A → A → Type 0) (T : ℕ → A → B → Type 0) (k : ℕ) (olds news : List A) (parts : List B)
+    → ((n : ℕ) (a b : A) (p : B) → R n a p → S n a b → T n b p) → EachFrom R k olds parts → EachFrom S k olds news → EachFrom T k news parts
+each_made R S T k [] [] [] h r s = tt
+each_made R S T k [] [] (p ∷ parts) h r s = absurd r
+each_made R S T k [] (b ∷ news) parts h r s = absurd s
+each_made R S T k (a ∷ olds) [] parts h r s = absurd s
+each_made R S T k (a ∷ olds) (b ∷ news) [] h r s = absurd r
+each_made R S T k (a ∷ olds) (b ∷ news) (p ∷ parts) h r s = (h k a b p r.0 s.0, each_made R S T (suc k) olds news parts h r.1 s.1)
+
+-- a groupby with its part of the plan
+pub record HasPart (plan : PlanParts) (switches n : ℕ) (group : GroupView) : Type 0 where
+  pub part : GroupPlan
+  pub there : slice_get plan.groups n ≡ Some part
+  pub within : n < length plan.groups
+  pub is : IsGroup switches part (wiring_at plan n) group
+  pub registers : ℕ
+  pub sound : IsSoundGroup registers part (wiring_at plan n)
+  pub keys : group.store.key_words ≡ length (wiring_at plan n).keys
+  pub few_keys : length (wiring_at plan n).keys ≤ 8
+  pub few_args : length (wiring_at plan n).args ≤ 16
+
+pub part_of : (plan : PlanParts) (switches n : ℕ) (groups : List GroupView) (group : GroupView) → IsSoundPlan plan → AreGroups plan switches groups → slice_get groups n ≡ Some group
+    → HasPart plan switches n group
+part_of plan switches n groups group sound are here =
+    let found = each_at (λ i g part. IsGroup switches part (wiring_at plan i) g) 0 n groups plan.groups group are here in
+    let own = found.2 n (omega arith) in
+    let wired = group_sound plan n found.0 sound found.1 in
+    let good : IsSoundGroup (14 + length plan.ops) found.0 (wiring_at plan n) = subst (IsSoundGroup (14 + length plan.ops) found.0) (sym wired.1) wired.2 in
+    record {
+      part = found.0;
+      there = found.1;
+      within = got_below plan.groups n found.0 found.1;
+      is = own;
+      registers = 14 + length plan.ops;
+      sound = good;
+      keys = own.keys ∙ sym good.keys;
+      few_keys = let a = good.keys in let b = good.most_keys in omega arith;
+      few_args = good.most_args;
+    }
+
+-- a run keeps a groupby what it is
+pub still_group : (ways switches : ℕ) (are : List SwitchEvent → Type 0) (part : GroupPlan) (plan : PlanParts) (n : ℕ) (old new : GroupView) → GroupRuns ways are old new
+    → IsGroup switches part (wiring_at plan n) old → IsGroup switches part (wiring_at plan n) new
+still_group ways switches are part plan n old new ran is = record {
+  keys = ran.runs.store.key_words ∙ is.keys;
+  states = ran.runs.store.state_words ∙ (is.states ∙ ap (λ k. (ghosts.sizes k).state) (sym ran.kind));
+  class = ap (λ k. (ghosts.folding k).row_per_epoch) ran.kind ∙ is.class;
+  kind = λ f program. subst (λ k. IsKindOf f (ghosts.sizes k) (ghosts.folding k) (ghosts.open_bound k) (ghosts.absorb_bound k)) (sym ran.kind) (is.kind f program);
+  count = sym (each_long _ 0 old.fronts new.fronts ran.runs.fronts) ∙ is.count;
+  shares = subst (λ k. AllShare ghosts.sizes ghosts.folding (ghosts.folding k) (length (wiring_at plan n).args) new.fronts new.store) (sym ran.kind)
+      (still_share ghosts.sizes ghosts.folding (folding_in old) (length (wiring_at plan n).args) old.fronts new.fronts old.store new.store ran.runs.fronts ran.runs.store is.shares);
+}
+
+pub still_groups : (ways switches : ℕ) (are : ℕ → List SwitchEvent → Type 0) (plan : PlanParts) (olds news : List GroupView) → GroupsRun ways are olds news
+    → AreGroups plan switches olds → AreGroups plan switches news
+still_groups ways switches are plan olds news ran is =
+    each_made (λ n group part. IsGroup switches part (wiring_at plan n) group) (λ n. GroupRuns ways (are n)) (λ n group part. IsGroup switches part (wiring_at plan n) group) 0 olds news plan.groups
+    (λ n a b p r s. still_group ways switches (are n) p plan n a b s r) is ran
+
+-- tables, one after another
+
+tables_next_at : (parts : List GroupPlan) (groups : List GroupView) (epochs : List (List Epoch)) (i : ℕ) (part : GroupPlan) (group : GroupView) (es : List Epoch)
+    → slice_get parts i ≡ Some part → slice_get groups i ≡ Some group → slice_get epochs i ≡ Some es
+    → take (suc i) (shared_tables parts groups epochs) ≡ take i (shared_tables parts groups epochs) ++ closed_table (heading_of part) (folding_in group) es ∷ []
+tables_next_at [] groups epochs i part group es a b e = cc
+tables_next_at (p ∷ parts) [] epochs i part group es a b e = cc
+tables_next_at (p ∷ parts) (g ∷ groups) [] i part group es a b e = cc
+tables_next_at (p ∷ parts) (g ∷ groups) (n ∷ epochs) zero part group es a b e =
+    let x : p ≡ part = cc in let y : g ≡ group = cc in let z : n ≡ es = cc in rw (x, y, z) refl
+tables_next_at (p ∷ parts) (g ∷ groups) (n ∷ epochs) (suc i) part group es a b e =
+    ap (λ ts. closed_table (heading_of p) (folding_in g) n ∷ ts) (tables_next_at parts groups epochs i part group es a b e)
+
+pub tables_next : (parts : List GroupPlan) (groups : List GroupView) (epochs : List (List Epoch)) (i : ℕ) (part : GroupPlan) (group : GroupView) (es : List Epoch)
+    → slice_get parts i ≡ Some part → slice_get groups i ≡ Some group → slice_get epochs i ≡ Some es
+    → take (i + 1) (shared_tables parts groups epochs) ≡ take i (shared_tables parts groups epochs) ++ closed_table (heading_of part) (folding_in group) es ∷ []
+tables_next parts groups epochs i part group es a b e =
+    ap (λ n. take n (shared_tables parts groups epochs)) (let q : i + 1 ≡ suc i = omega arith in q) ∙ tables_next_at parts groups epochs i part group es a b e
+
+pub tables_whole : (parts : List GroupPlan) (groups : List GroupView) (epochs : List (List Epoch)) (i : ℕ) → length groups ≤ i → take i (shared_tables parts groups epochs) ≡ shared_tables parts groups epochs
+tables_whole [] groups epochs zero h = refl
+tables_whole [] groups epochs (suc i) h = refl
+tables_whole (p ∷ parts) [] epochs zero h = refl
+tables_whole (p ∷ parts) [] epochs (suc i) h = refl
+tables_whole (p ∷ parts) (g ∷ groups) [] zero h = refl
+tables_whole (p ∷ parts) (g ∷ groups) [] (suc i) h = refl
+tables_whole (p ∷ parts) (g ∷ groups) (n ∷ epochs) zero h = absurd (omega arith)
+tables_whole (p ∷ parts) (g ∷ groups) (n ∷ epochs) (suc i) h = ap (λ ts. closed_table (heading_of p) (folding_in g) n ∷ ts) (tables_whole parts groups epochs i (omega arith))
+
+-- a groupby has a front more
+abbrev pub Grown : PlanParts → ℕ → GroupView → GroupView → Type 0
+Grown plan n old new = (switches : ℕ) (part : GroupPlan) → slice_get plan.groups n ≡ Some part → IsGroup switches part (wiring_at plan n) old → IsGroup (switches + 1) part (wiring_at plan n) new
+
+pub all_grown : (plan : PlanParts) (switches : ℕ) (olds news : List GroupView) → AreGroups plan switches olds → EachFrom (Grown plan) 0 olds news → AreGroups plan (switches + 1) news
+all_grown plan switches olds news are grown =
+    each_made (λ n group part. (slice_get plan.groups n ≡ Some part) × IsGroup switches part (wiring_at plan n) group) (Grown plan) (λ n group part. IsGroup (switches + 1) part (wiring_at plan n) group)
+    0 olds news plan.groups (λ n a b p r s. s switches p r.0 r.1)
+    (each_map (λ n group part. IsGroup switches part (wiring_at plan n) group) (λ n group part. (slice_get plan.groups n ≡ Some part) × IsGroup switches part (wiring_at plan n) group) 0 olds plan.groups
+    (λ j n a p q f e r. (let same : n ≡ j = omega arith in ap (slice_get plan.groups) same ∙ e, r)) are) grown
+
+-- what a run of the fronts makes of the groupby
+pub group_runs : (ways : ℕ) (are : List SwitchEvent → Type 0) (old view : GroupView) → view ≡ old → (before news after : List (FrontOf AnyEpochs)) (store : Store)
+    → before ≡ view.fronts → after ≡ news → SharedRuns ghosts.stands (folding_in view) ways are before news view.store store
+    → GroupRuns ways are old (record { kind = view.kind; fronts = after; store = store })
+group_runs ways are old view same before news after store was now ran =
+    subst (λ v. GroupRuns ways are v (record { kind = view.kind; fronts = after; store = store })) same
+    (record {
+      kind = refl;
+      runs = subst (λ xs. SharedRuns ghosts.stands (folding_in view) ways are view.fronts xs view.store store) (sym now)
+          (subst (λ xs. SharedRuns ghosts.stands (folding_in view) ways are xs news view.store store) was ran);
+    })
+
+got_push : {X : Type 0} (xs : List X) (x y : X) (s : ℕ) → slice_get (xs ++ x ∷ []) s ≡ Some y → (slice_get xs s ≡ Some y) ⊎ (x ≡ y)
+got_push [] x y zero e = inr (same_some x y e)
+got_push [] x y (suc s) e = cc
+got_push (z ∷ xs) x y zero e = inl e
+got_push (z ∷ xs) x y (suc s) e = got_push xs x y s e
+
+module _ (view : GroupView) (part : GroupPlan) (wiring : GroupWiring) (registers switches : ℕ) (kind : AnyEpochs) (buckets key_words places : ℕ) (news : List (FrontOf AnyEpochs))
+    (adds : AddsFront kind buckets key_words places view.fronts news)
+    (of_kind : (f : TypedFold) → IsProgramOf f part.program → IsKindOf f (ghosts.sizes kind) (ghosts.folding kind) (ghosts.open_bound kind) (ghosts.absorb_bound kind))
+    (program : IsProgram part.program) (words : key_words ≡ length part.key_names) (sound : IsSoundGroup registers part wiring) (is : IsGroup switches part wiring view) where
+  alike : AreAlike (ghosts.folding kind) (folding_in view)
+  alike = ∥∥₁_elim program (hlevel props) (λ h.
+      let a = of_kind h.0 h.1 in
+      let b = is.kind h.0 h.1 in
+      record { row_per_epoch = a.row_per_epoch ∙ sym b.row_per_epoch; states = λ rows. a.folded rows ∙ sym (b.folded rows) })
+
+  states : view.store.state_words ≡ (ghosts.sizes kind).state
+  states = ∥∥₁_elim program (hlevel props) (λ h. is.states ∙ ((is.kind h.0 h.1).state ∙ sym (of_kind h.0 h.1).state))
+
+  args : (ghosts.sizes kind).args ≡ length wiring.args
+  args = ∥∥₁_elim program (hlevel props) (λ h. (of_kind h.0 h.1).args ∙ (sym h.1.layout.args ∙ sym sound.args))
+
+  new_share : MayShare ghosts.sizes ghosts.folding (folding_in view) (length wiring.args) view.store adds.front
+  new_share = record {
+    alike = subst (λ k. AreAlike (ghosts.folding k) (folding_in view)) (sym adds.has_kind) alike;
+    fits = record {
+      key = is.keys ∙ (sym words ∙ sym adds.has_key_words);
+      state = states ∙ ap (λ k. (ghosts.sizes k).state) (sym adds.has_kind);
+    };
+    args = ap (λ k. (ghosts.sizes k).args) adds.has_kind ∙ args;
+  }
+
+  pub grown_group : IsGroup (switches + 1) part wiring (record { kind = view.kind; fronts = news; store = view.store })
+  grown_group = record {
+    keys = is.keys;
+    states = is.states;
+    class = is.class;
+    kind = is.kind;
+    count = ap length adds.added ∙ (length-append view.fronts (adds.front ∷ []) ∙ ap (λ n. n + 1) is.count);
+    shares = λ s front e. elim (got_push view.fronts adds.front front s (ap (λ xs. slice_get xs s) (sym adds.added) ∙ e)) [
+      | inl there ↦ is.shares s front there
+      | inr new ↦ subst (MayShare ghosts.sizes ghosts.folding (folding_in view) (length wiring.args) view.store) new new_share
+    ];
+  }
+
+pub none_there : {X : Type 0} (s : ℕ) (x : X) → slice_get {X = X} [] s ≡ Some x → ⊥
+none_there s x e = cc

@@ -1,0 +1,79 @@
+-- The groupbys of a plan over several switches.
+use Rattle.std.specs.Prelude.{◌≡◌, ℕ, Bool, List, [], ◌∷◌, length}
+use Rattle.std.specs.List.{list_all}
+use Rattle.fold_class.specs.Program.{IsProgramOf}
+use Rattle.query_lang.specs.declared.fold.TypedFold.{TypedFold}
+use Rattle.epoch_model.specs.Machine.{Epoch}
+use Rattle.epoch_model.specs.Tables.{Folding}
+use Rattle.epoch_entry.specs.declared.any.AnyEpochs.{AnyEpochs}
+use Rattle.epoch_entry.specs.contracts.any.AnyEpochsEpochKind.TheImpl.{ghosts}
+use Rattle.epoch_entry.specs.Foldings.{IsKindOf, per_epoch}
+use Rattle.backing_store.specs.Store.{Store}
+use Rattle.merged_epochs.specs.Merged.{StoreHolds}
+use Rattle.final_queries.specs.declared.table.Table.{Table}
+use Rattle.final_queries.specs.GroupTable.{closed_table}
+use Rattle.stage_plan.specs.declared.group.GroupPlan.{GroupPlan}
+use Rattle.stage_plan.specs.declared.group.GroupWiring.{GroupWiring}
+use Rattle.stage_plan.specs.Planned.{wiring_at}
+use Rattle.stage_plan.specs.Sound.{PlanParts}
+use Rattle.switch_core.specs.FrontParts.{FrontOf}
+use Rattle.switch_core.specs.Closing.{is_drained}
+use Rattle.switch_core.specs.Pipelines.{heading_of}
+use Rattle.switch_core.specs.Rows.{Each, EachFrom}
+use Rattle.additive_folds.specs.Network.{SwitchEvent, SwitchEpoch}
+use Rattle.network.specs.Shared.{SharedStand, SharedRuns, AllShare}
+
+-- a groupby: the kind of its entries, the fronts of switches 0, 1 and so on, and the store that they share
+pub record GroupView : Type 0 where
+  pub kind : AnyEpochs
+  pub fronts : List (FrontOf AnyEpochs)
+  pub store : Store
+
+-- what its entries are folded to
+abbrev pub folding_in : GroupView → Folding
+folding_in group = ghosts.folding group.kind
+
+-- It is that of the plan's groupby, with fronts for so many switches.
+pub record IsGroup (switches : ℕ) (part : GroupPlan) (wiring : GroupWiring) (group : GroupView) : Type 0 where
+  pub keys : group.store.key_words ≡ length part.key_names
+  pub states : group.store.state_words ≡ (ghosts.sizes group.kind).state
+  pub class : (folding_in group).row_per_epoch ≡ per_epoch part.program.class
+  pub kind : (f : TypedFold) → IsProgramOf f part.program
+      → IsKindOf f (ghosts.sizes group.kind) (ghosts.folding group.kind) (ghosts.open_bound group.kind) (ghosts.absorb_bound group.kind)
+  pub count : length group.fronts ≡ switches
+  pub shares : AllShare ghosts.sizes ghosts.folding (folding_in group) (length wiring.args) group.fronts group.store
+
+-- one for each groupby of the plan, in order
+abbrev pub AreGroups : PlanParts → ℕ → List GroupView → Type 0
+AreGroups plan switches groups = EachFrom (λ n group part. IsGroup switches part (wiring_at plan n) group) 0 groups plan.groups
+
+-- the groupby's fronts and store stand for these events and merged epochs
+abbrev pub GroupStands : ℕ → ℕ → GroupView → List SwitchEvent → List SwitchEpoch → Type 0
+GroupStands ways buckets group events merged = SharedStand ghosts.stands (folding_in group) ways buckets group.fronts group.store events merged
+
+-- Events of which this holds lead a groupby from old parts to new ones.
+pub record GroupRuns (ways : ℕ) (are : List SwitchEvent → Type 0) (old new : GroupView) : Type 0 where
+  pub kind : new.kind ≡ old.kind
+  pub runs : SharedRuns ghosts.stands (folding_in old) ways are old.fronts new.fronts old.store new.store
+
+-- each groupby's events are those of its number
+abbrev pub GroupsRun : ℕ → (ℕ → List SwitchEvent → Type 0) → List GroupView → List GroupView → Type 0
+GroupsRun ways are olds news = EachFrom (λ n. GroupRuns ways (are n)) 0 olds news
+
+-- A groupby has a front more, for the next switch, which had no event.
+pub record GroupGrows (ways buckets : ℕ) (old new : GroupView) : Type 0 where
+  pub kind : new.kind ≡ old.kind
+  pub stands : (events : List SwitchEvent) (merged : List SwitchEpoch) → GroupStands ways buckets old events merged → GroupStands ways buckets new events merged
+
+-- no cache and no pipe of it has anything
+abbrev pub group_is_drained : GroupView → Bool
+group_is_drained group = list_all (λ front. is_drained front.cache front.pipe) group.fronts
+
+-- the tables of these epochs, each by its groupby
+abbrev pub shared_tables : List GroupPlan → List GroupView → List (List Epoch) → List Table
+shared_tables (part ∷ parts) (group ∷ groups) (epochs ∷ more) = closed_table (heading_of part) (folding_in group) epochs ∷ shared_tables parts groups more
+shared_tables _ _ _ = []
+
+-- the stores hold these epochs
+abbrev pub StoresHold : List GroupView → List (List Epoch) → Type 0
+StoresHold groups epochs = Each (λ group. StoreHolds (folding_in group) group.store) groups epochs

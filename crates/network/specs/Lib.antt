@@ -1,0 +1,4 @@
+pub mod FrontRuns
+pub mod Shared
+pub mod Groups
+pub mod Networks

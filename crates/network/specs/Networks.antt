@@ -1,0 +1,27 @@
+-- A plan over several switches, as contracts see it.
+use Rattle.std.specs.Prelude.{◌≡◌, ℕ, ◌*◌, ◌<◌, ◌≤◌, List}
+use Rattle.switch_core.specs.Pipelines.{HasRooms}
+use Rattle.network.specs.declared.network.Network.{Network}
+use Rattle.network.specs.Groups.{GroupView, AreGroups}
+
+-- its groupbys
+abbrev pub groups_in : {ways : ℕ} → Network ways → List GroupView
+groups_in net = net.groups.items
+
+-- It has so many switches, at most 64, with fronts for each at every groupby; its sizes are those of caches and pipes; and there is
+-- room for what is taken of a packet.
+pub record IsNetwork {ways : ℕ} (switches : ℕ) (net : Network ways) : Type 0 where
+  pub count : net.switches ≡ switches
+  pub few : switches ≤ 64
+  pub groups : AreGroups net.plan switches net.groups.items
+  pub rooms : HasRooms net.plan net.registers.items net.key.items net.args.items
+  pub some_ways : 0 < ways
+  pub some_buckets : 0 < net.buckets
+  pub places : net.buckets * ways ≤ 65536
+  pub some_records : 0 < net.pipe_records
+  pub most_records : net.pipe_records ≤ 65536
+
+-- the plan and the number of buckets are as they were
+pub record Keeps {ways : ℕ} (old new : Network ways) : Type 0 where
+  pub plan : new.plan ≡ old.plan
+  pub buckets : new.buckets ≡ old.buckets

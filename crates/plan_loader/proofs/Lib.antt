@@ -1,0 +1,6 @@
+pub mod BodyReading
+pub mod SoundOps
+pub mod SoundMade
+pub mod Folds
+pub mod SoundPlan
+pub mod OneFault

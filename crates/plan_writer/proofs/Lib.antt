@@ -1,0 +1,4 @@
+pub mod Pieces
+pub mod NamedLines
+pub mod Once
+pub mod Plans

@@ -1,0 +1,33 @@
+-- The operations and the wiring of the one plan that a query has.
+use Rattle.std.specs.Prelude.{ℕ, ◌+◌, ◌==◌, List, length, map}
+use Rattle.std.specs.List.{position_or_len, range_with_len}
+use Rattle.query_lang.specs.declared.typed.TypedQuery.{TypedQuery}
+use Rattle.query_lang.specs.Streams.{takings}
+use Rattle.stage_plan.specs.declared.op.PlanOp.{PlanOp}
+use Rattle.stage_plan.specs.declared.group.GroupWiring.{GroupWiring}
+use Rattle.stage_plan.specs.Ordering.{order_of, moved_op, op_numbered, wiring_of}
+use Rattle.stage_plan.specs.Planned.{query_made}
+use Rattle.stage_plan.specs.Registers.{stages_of}
+
+-- the numbers of a query's operations, as they were made, in ascending stage, and in one stage in the order in which they were made
+abbrev pub query_order : TypedQuery → List ℕ
+query_order q = order_of (query_made q).ops (stages_of (query_made q).ops)
+
+-- the register of the operation with this number: registers 0 to 13 are the fields, and the next ones belong to the operations in order
+abbrev pub register_in : List ℕ → ℕ → ℕ
+register_in order number = 14 + position_or_len (λ other. other == number) order
+
+-- the registers of so many operations
+abbrev pub registers_in : List ℕ → ℕ → List ℕ
+registers_in order operations = map (register_in order) (range_with_len 0 operations)
+
+abbrev pub query_registers : TypedQuery → List ℕ
+query_registers q = registers_in (query_order q) (length (query_made q).ops)
+
+-- The operations of a query in ascending stage.
+abbrev pub query_ops : TypedQuery → List PlanOp
+query_ops q = map (λ number. moved_op (query_registers q) (op_numbered (query_made q).ops number)) (query_order q)
+
+-- What the query's groupbys take of the registers.
+abbrev pub query_wiring : TypedQuery → List GroupWiring
+query_wiring q = map (wiring_of (query_registers q) (query_made q).streams) (takings q.streams)

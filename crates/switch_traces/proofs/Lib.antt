@@ -1,0 +1,4 @@
+pub mod Runs
+pub mod OwnEpochs
+pub mod Givens
+pub mod Counts

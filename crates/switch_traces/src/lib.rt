@@ -1,0 +1,30 @@
+//! A trace's packets, by switch: what the machines of all switches close of them, and what the store that merges it has of
+//! each key. Each law is the contract of a function without a body.
+#![tactic(auto)]
+
+ghost use Rattle.switch_traces.specs.TraceLaws.{EpochsAddUp, EpochsOfOneSwitch, MergedKeysAreUsed, OwnEpochs, RunsGiveTheTrace};
+
+/// Each switch's merged epochs are those into which its caches cut what its own packets give, wherever merges fall.
+pub fn own_epochs()
+    ensures { OwnEpochs }
+{}
+
+/// The events of a run give each key the rows of its uses, in the order of the trace.
+pub fn runs_give_the_trace()
+    ensures { RunsGiveTheTrace }
+{}
+
+/// The merged epochs have the keys that are used.
+pub fn merged_keys_are_used()
+    ensures { MergedKeysAreUsed }
+{}
+
+/// A key has as many merged epochs as all switches have of it.
+pub fn epochs_add_up()
+    ensures { EpochsAddUp }
+{}
+
+/// A key that one switch alone has epochs of has just these.
+pub fn epochs_of_one_switch()
+    ensures { EpochsOfOneSwitch }
+{}

@@ -1,0 +1,12 @@
+pub mod Tokens
+pub mod Numbers
+pub mod Names
+pub mod Bodies
+pub mod Known
+pub mod Written
+pub mod OpLines
+pub mod GroupLines
+pub mod Groups
+pub mod Fields
+pub mod Allowed
+pub mod Says

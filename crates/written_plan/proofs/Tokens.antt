@@ -1,0 +1,110 @@
+-- Words without a space and without LF, and how a line of them is cut.
+use Rattle.std.proofs.Common.{◌≡◌, ℕ, Bool, true, false, List, [], ◌∷◌, ◌++◌, refl, ap, ◌∙◌, append-nil, append_assoc}
+use Rattle.std.specs.Prelude.{All, flat_map, not, ◌&&◌}
+use Rattle.std.specs.List.{list_all}
+use Rattle.std.proofs.lemmas.List.Elements.{All-nil, All-cons}
+use Rattle.std.proofs.lemmas.List.Folds.{list_all-append}
+use Rattle.std.proofs.lemmas.List.Splits.{slice_split_at, slice_split_none}
+use Rattle.plan_file.specs.Lexis.{is_line_feed, is_space, pieces, lines, bytes_after_lines, all_but_last, last_of, tokens}
+use Rattle.plan_writer.specs.Words.{behind}
+
+-- both of two tests
+pub both_true : (a b : Bool) → (a && b) ≡ true → (a ≡ true) × (b ≡ true)
+both_true true b e = (refl, e)
+both_true false b e = cc
+
+pub both_are : (a b : Bool) → a ≡ true → b ≡ true → (a && b) ≡ true
+both_are a b e f = cc
+
+not_false : (b : Bool) → not b ≡ true → b ≡ false
+not_false true e = cc
+not_false false e = refl
+
+-- no byte passes a test
+abbrev pub has_none : (ℕ → Bool) → List ℕ → Bool
+has_none test text = list_all (λ b. not (test b)) text
+
+none_pass : (test : ℕ → Bool) (text : List ℕ) → has_none test text ≡ true → All (λ x. test x ≡ false) text
+none_pass test [] e = All-nil (λ x. test x ≡ false)
+none_pass test (b ∷ text) e =
+    let parts = both_true (not (test b)) (has_none test text) e in
+    All-cons (λ x. test x ≡ false) b text (not_false (test b) parts.0) (none_pass test text parts.1)
+
+-- a byte that is neither a space nor LF
+abbrev pub is_plain : ℕ → Bool
+is_plain b = not (is_space b) && not (is_line_feed b)
+
+abbrev pub is_token : List ℕ → Bool
+is_token word = list_all is_plain word
+
+abbrev pub AreTokens : List (List ℕ) → Type 0
+AreTokens [] = Unit {0}
+AreTokens (word ∷ words) = (is_token word ≡ true) × AreTokens words
+
+pub no_space : (word : List ℕ) → is_token word ≡ true → has_none is_space word ≡ true
+no_space [] e = refl
+no_space (b ∷ word) e =
+    let p = both_true (is_plain b) (is_token word) e in
+    let q = both_true (not (is_space b)) (not (is_line_feed b)) p.0 in
+    both_are (not (is_space b)) (has_none is_space word) q.0 (no_space word p.1)
+
+pub no_line_feed : (word : List ℕ) → is_token word ≡ true → has_none is_line_feed word ≡ true
+no_line_feed [] e = refl
+no_line_feed (b ∷ word) e =
+    let p = both_true (is_plain b) (is_token word) e in
+    let q = both_true (not (is_space b)) (not (is_line_feed b)) p.0 in
+    both_are (not (is_line_feed b)) (has_none is_line_feed word) q.1 (no_line_feed word p.1)
+
+-- the tokens of words with a space between each two
+pub tokens_of : (first : List ℕ) (words : List (List ℕ)) → is_token first ≡ true → AreTokens words → tokens (first ++ behind words) ≡ first ∷ words
+tokens_of first [] e are = ap tokens (append-nil first) ∙ slice_split_none is_space first (none_pass is_space first (no_space first e))
+tokens_of first (word ∷ words) e are =
+    slice_split_at is_space first 32 (word ++ behind words) (none_pass is_space first (no_space first e)) refl
+    ∙ ap (λ l. first ∷ l) (tokens_of word words are.0 are.1)
+
+none_behind : (words : List (List ℕ)) → AreTokens words → has_none is_line_feed (behind words) ≡ true
+none_behind [] are = refl
+none_behind (word ∷ words) are =
+    list_all-append (λ b. not (is_line_feed b)) word (behind words)
+    ∙ both_are (has_none is_line_feed word) (has_none is_line_feed (behind words)) (no_line_feed word are.0) (none_behind words are.1)
+
+pub none_in_line : (first : List ℕ) (words : List (List ℕ)) → is_token first ≡ true → AreTokens words → has_none is_line_feed (first ++ behind words) ≡ true
+none_in_line first words e are =
+    list_all-append (λ b. not (is_line_feed b)) first (behind words)
+    ∙ both_are (has_none is_line_feed first) (has_none is_line_feed (behind words)) (no_line_feed first e) (none_behind words are)
+
+-- lines without LF
+abbrev pub AreLines : List (List ℕ) → Type 0
+AreLines [] = Unit {0}
+AreLines (one ∷ rest) = (has_none is_line_feed one ≡ true) × AreLines rest
+
+pub lines_append : (xs ys : List (List ℕ)) → AreLines xs → AreLines ys → AreLines (xs ++ ys)
+lines_append [] ys a b = b
+lines_append (x ∷ xs) ys a b = (a.0, lines_append xs ys a.1 b)
+
+-- each line with LF behind it
+abbrev pub ended : List (List ℕ) → List ℕ
+ended all = flat_map (λ one. one ++ 10 ∷ []) all
+
+pub pieces_of : (all : List (List ℕ)) → AreLines all → pieces (ended all) ≡ all ++ [] ∷ []
+pieces_of [] are = refl
+pieces_of (one ∷ all) are =
+    ap pieces (append_assoc one (10 ∷ []) (ended all))
+    ∙ slice_split_at is_line_feed one 10 (ended all) (none_pass is_line_feed one are.0) refl
+    ∙ ap (λ l. one ∷ l) (pieces_of all are.1)
+
+but_last : (all : List (List ℕ)) → all_but_last (all ++ [] ∷ []) ≡ all
+but_last [] = refl
+but_last (one ∷ []) = refl
+but_last (one ∷ next ∷ all) = ap (λ l. one ∷ l) (but_last (next ∷ all))
+
+the_last : (all : List (List ℕ)) → last_of (all ++ [] ∷ []) ≡ []
+the_last [] = refl
+the_last (one ∷ []) = refl
+the_last (one ∷ next ∷ all) = the_last (next ∷ all)
+
+pub lines_of : (all : List (List ℕ)) → AreLines all → lines (ended all) ≡ all
+lines_of all are = ap all_but_last (pieces_of all are) ∙ but_last all
+
+pub nothing_behind : (all : List (List ℕ)) → AreLines all → bytes_after_lines (ended all) ≡ []
+nothing_behind all are = ap last_of (pieces_of all are) ∙ the_last all
