@@ -24,7 +24,7 @@ use Rattle.written_plan.proofs.OpLines.{Fits, with_ops}
 use Rattle.written_plan.proofs.Tokens.{is_token, AreTokens}
 use Rattle.written_plan.proofs.Written.{IsWritten, line_written}
 
-in_filter : (test : Field → Bool) (f : Field) (fields : List Field) → test f ≡ true → IsIn f fields → IsIn f (filter test fields)
+pub in_filter : (test : Field → Bool) (f : Field) (fields : List Field) → test f ≡ true → IsIn f fields → IsIn f (filter test fields)
 in_filter test f [] e h = absurd h
 in_filter test f (g ∷ fields) e (inl same) =
     let passes : test g ≡ true = ap test (sym same) ∙ e in
@@ -35,7 +35,17 @@ in_filter test f (g ∷ fields) e (inr h) = by (test g) (in_filter test f fields
     by true rest = inr rest
     by false rest = rest
 
-all_in : (f : Field) → IsIn f all_fields
+-- a field that is left passes the test
+pub out_of_filter : (test : Field → Bool) (f : Field) (fields : List Field) → IsIn f (filter test fields) → test f ≡ true
+out_of_filter test f [] h = absurd h
+out_of_filter test f (g ∷ fields) h = by (test g) refl h (out_of_filter test f fields)
+  where
+    by : (b : Bool) → test g ≡ b → IsIn f (cond b (g ∷ filter test fields) (filter test fields)) → (IsIn f (filter test fields) → test f ≡ true) → test f ≡ true
+    by true e (inl same) rest = ap test same ∙ e
+    by true e (inr k) rest = rest k
+    by false e k rest = rest k
+
+pub all_in : (f : Field) → IsIn f all_fields
 all_in Switch = inl refl
 all_in Qid = inr (inl refl)
 all_in Uid = inr (inr (inl refl))

@@ -10,3 +10,6 @@ pub mod Groups
 pub mod Fields
 pub mod Allowed
 pub mod Says
+pub mod Runs
+pub mod FieldSets
+pub mod Loads

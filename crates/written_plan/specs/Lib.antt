@@ -1,2 +1,3 @@
 pub mod MadeOf
 pub mod WellNamed
+pub mod RunLaws

@@ -3,4 +3,7 @@
 
 mod laws;
 
-pub use laws::written_plan_is_valid;
+pub use laws::{
+    compile_then_run, written_plan_is_valid, written_plan_reads_as_the_query,
+    written_plan_runs_as_the_query,
+};
