@@ -38,6 +38,7 @@ pub(crate) fn end_text<const WAYS: usize, L: Ledger>(
     ends_are_the_net_tables();
     alike_foldings_make_one_table();
     net_tables_are_read();
+    network.plan().known();
     network.drain(steps)?;
     let tables = network.close()?;
     let text = print_tables(alloc, typed, tables, steps)?;

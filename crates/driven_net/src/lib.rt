@@ -3,6 +3,7 @@
 
 ghost use Rattle.driven_net.specs.NetTraces.{net_packets, net_trace_fault};
 
+mod ending;
 mod runs;
 mod taking;
 mod ways;

@@ -2,6 +2,7 @@
 
 ghost use Rattle.std.specs.Prelude.{◌≡◌, ◌≤◌, None, IfErr, OnOk};
 ghost use Rattle.std.specs.Io.KnownBytes.{Appends};
+ghost use Rattle.query_lang.specs.declared.typed.TypedQuery.{TypedQuery};
 ghost use Rattle.query_lang.specs.TypedQueries.{IsValidQuery};
 ghost use Rattle.stage_plan.specs.Planned.{IsPlanOf};
 ghost use Rattle.query_run.specs.Answers.{BreaksOff};
@@ -15,19 +16,19 @@ ghost use Rattle.driven_net.specs.NetTraces.{net_packets, net_reads, net_trace_f
 use crate::ways::text_with_its_ways;
 use accepted_query::AcceptedQuery;
 use command_line::NetSetting;
-use marple_base::{Field, FieldSet, Sink, Steps, write_all};
+use marple_base::{FieldSet, Sink, Steps, write_all};
 use query_run::{RunAnswer, read_packets_are_few, read_packets_are_whole};
 use stage_plan::Plan;
 use std::alloc::Global;
 use std::sync::ledger::Ledger;
 use trace_reader::open_trace;
 
-// The fields that a plan reads, and the switch.
+// The fields that a plan reads, and the switch, whose bit is the first one.
 fn net_reads(plan: &Plan) -> FieldSet
     ensures { (q : TypedQuery) → IsPlanOf q plan.now → result ≡ net_reads q }
 {
     FieldSet {
-        bits: plan.reads().bits | 1 << Field::Switch.number(),
+        bits: plan.reads().bits | 1,
     }
 }
 

@@ -104,7 +104,7 @@ pub(crate) fn take_all<const WAYS: usize, L: Ledger>(
     requires few { length trace.packets ≤ most_records }
     ensures accepted { IfOk result (λ found. first_fault [] 1 (words_of trace.entry.packets) trace.entry.fault ≡ None) }
     ensures follows { IfOk result (λ found. (known : List ℕ) × NetFollows known (words_of trace.entry.packets) found) }
-    ensures keeps { IfOk result (Keeps network) }
+    ensures keeps { IfOk result (Keeps network.entry) }
     ensures refused { IfErr result (λ answer. IfRefused answer (λ fault. first_fault [] 1 (words_of trace.entry.packets) trace.entry.fault ≡ Some fault)) }
     ensures steps { steps.old ≤ steps.new }
 {

@@ -13,14 +13,12 @@ ghost use Rattle.net_wide.specs.NetLaws.{TellsSwitches};
 ghost use Rattle.command_line.specs.Command.{IsNetSetting, ways_number};
 ghost use Rattle.driven_net.specs.NetTraces.{first_fault};
 
+use crate::ending::end_text;
 use crate::taking::take_all;
 use accepted_query::AcceptedQuery;
 use command_line::{NetSetting, Ways};
-use final_queries::alike_foldings_make_one_table;
 use marple_base::{Steps, Text};
-use net_ends::ends_are_the_net_tables;
 use network::Network;
-use query_tables::print_tables;
 use std::alloc::{AllocError, Global};
 use std::sync::ledger::Ledger;
 use trace_reader::{Trace, TraceAnswer};
@@ -48,8 +46,6 @@ fn text_with<const WAYS: usize, L: Ledger>(
     ensures refused { IfErr result (λ answer. IfRefused answer (λ fault. first_fault [] 1 (words_of trace.entry.packets) trace.entry.fault ≡ Some fault)) }
     ensures steps { steps.old ≤ steps.new }
 {
-    ends_are_the_net_tables();
-    alike_foldings_make_one_table();
     let AcceptedQuery { typed, plan } = query;
     let fresh = match Network::<WAYS>::new(alloc, plan, setting.buckets, setting.pipe) {
         Ok(fresh) => fresh,

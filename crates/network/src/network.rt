@@ -92,6 +92,13 @@ impl<const WAYS: usize> Network<WAYS> {
         self.switches
     }
 
+    /// The plan.
+    pub fn plan(&self) -> &Plan
+        ensures { result.now ≡ self.now.plan }
+    {
+        &self.plan
+    }
+
     /// Takes a packet of this switch: where one of its pipes is full, that lane merges a record; then each groupby whose input
     /// has a tuple for the packet has its packet event; and each lane merges a record where the lag is over. No memory is
     /// taken but by a store for a new key.

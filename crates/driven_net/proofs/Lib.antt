@@ -1,0 +1,4 @@
+mod Known
+mod Following
+mod Ends
+mod Opening

@@ -1,0 +1,67 @@
+use Rattle.std.proofs.Common.{◌≡◌, ◌+◌, ◌<◌, ◌++◌, suc, true, Ok, [], ◌∷◌, length, refl, sym, ap, ◌∙◌, subst, arith, append_assoc, length-append}
+use Rattle.std.proofs.Math.Facts.{Fits-below}
+use Rattle.std.proofs.lemmas.List.{length-map}
+use Rattle.trace_drive.specs.Drives.{words_of}
+use Rattle.net_wide.specs.NetTables.{switch_in}
+use Rattle.net_wide.specs.Numbering.{with_switch}
+use Rattle.driven_net.specs.Follows.{NetFollows}
+use Rattle.driven_net.specs.NetTraces.{fault_at, first_fault}
+use Rattle.driven_net.proofs.Following.{follows_start}
+use Rattle.driven_net.proofs.taking.take_all.Goals as goal
+
+pub packets-init : goal.packets-init
+packets-init g c =
+    let trace = c.args.trace in
+    record {
+      fault = ap (λ ks. first_fault ks 1 (words_of trace.packets) trace.fault) (sym c.new-known.ensures);
+      follows = ([], refl, refl, subst (λ ks. NetFollows ks [] c.args.network) (sym c.new-known.ensures) (follows_start c.args.network c.requires.is c.requires.fresh));
+      keeps = record { plan = refl; buckets = refl };
+      since = refl;
+      later = omega arith;
+    }
+
+pub overflow_add-number : goal.overflow_add-number
+overflow_add-number g c =
+    let f = c.packets.invariant.follows in
+    let all = c.args.trace.packets in
+    let left = c.packets.trace.packets in
+    let gives = c.next_into.ensures.packet (c.in_ok-next_into.was ∙ ap Ok c.if-branch.true) in
+    let total = ap length f.1 ∙ length-append f.0 (words_of left) in
+    let all_long = length-map all (λ packet. packet.words) in
+    let left_long = length-map left (λ packet. packet.words) in
+    let one = ap length gives.packets in
+    let count = f.2 in
+    let few = c.requires.few in
+    Fits-below {n = 4194305} tt (omega arith)
+
+pub packets-preserved : goal.packets-preserved
+packets-preserved g c =
+    let was = c.packets.invariant in
+    let f = was.follows in
+    let n = c.packets.number in
+    let known = c.packets.known in
+    let now = c.take_one.new.known in
+    let trace = c.packets.trace in
+    let rest = c.next_into.new.self in
+    let words = c.next_into.new.packet.words in
+    let gives = c.next_into.ensures.packet (c.in_ok-next_into.was ∙ ap Ok c.if-branch.true) in
+    let one = c.in_ok-take_one.ensures in
+    let later = with_switch known (switch_in words) in
+    record {
+      fault =
+          was.fault
+          ∙ (ap (λ ps. first_fault known (suc n) (words_of ps) trace.fault) gives.packets
+          ∙ (ap (λ o. fault_at (suc n) o (first_fault later (suc (suc n)) (words_of rest.packets) trace.fault)) one.numbered.1
+          ∙ (ap (λ ks. first_fault ks (suc (suc n)) (words_of rest.packets) trace.fault) (sym one.known)
+          ∙ (ap (first_fault now (suc (suc n)) (words_of rest.packets)) (sym gives.fault)
+          ∙ ap (λ m. first_fault now m (words_of rest.packets) rest.fault) (let same : suc (suc n) ≡ suc (n + 1) = omega arith in same)))));
+      follows = (
+        f.0 ++ words ∷ [],
+        f.1 ∙ (ap (λ ps. f.0 ++ words_of ps) gives.packets ∙ sym (append_assoc f.0 (words ∷ []) (words_of rest.packets))),
+        ap (λ m. m + 1) f.2 ∙ sym (length-append f.0 (words ∷ [])),
+        one.follows f.0 f.3,
+      );
+      keeps = record { plan = one.keeps.plan ∙ was.keeps.plan; buckets = one.keeps.buckets ∙ was.keeps.buckets };
+      since = c.take_one.auto.since ∙ was.since;
+      later = let a = c.take_one.ensures.steps in let b = was.later in omega arith;
+    }

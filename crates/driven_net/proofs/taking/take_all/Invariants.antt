@@ -1,0 +1,19 @@
+use Rattle.std.proofs.Common.{◌≡◌, ◌≤◌, ℕ, suc, List, [], ◌++◌, length}
+use Rattle.network.specs.Networks.{Keeps}
+use Rattle.trace_drive.specs.Drives.{words_of}
+use Rattle.driven_net.specs.Follows.{NetFollows}
+use Rattle.driven_net.specs.NetTraces.{first_fault}
+use Rattle.driven_net.proofs.taking.take_all.Given as goal
+
+-- the network follows the packets so far, and the fault of the others is that of all
+abbrev pub invariant-packets : goal.invariant-packets
+invariant-packets g l = record {
+  fault : first_fault [] 1 (words_of l.fn.trace.packets) l.fn.trace.fault ≡ first_fault l.known (suc l.number) (words_of l.trace.packets) l.trace.fault;
+  follows : (done : List (List ℕ)) × (words_of l.fn.trace.packets ≡ done ++ words_of l.trace.packets) × (l.number ≡ length done) × NetFollows l.known done l.network;
+  keeps : Keeps l.fn.network l.network;
+  since : length l.since ≡ 64;
+  later : l.initial.steps ≤ l.steps;
+}
+
+abbrev pub decreases-packets : goal.decreases-packets
+decreases-packets g l = length l.trace.packets
