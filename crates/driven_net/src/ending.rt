@@ -10,8 +10,8 @@ ghost use Rattle.net_wide.specs.NetTables.{caches_of, net_text};
 ghost use Rattle.net_wide.specs.NetLaws.{TellsSwitches};
 ghost use Rattle.driven_net.specs.Follows.{NetFollows};
 
-use marple_base::{Steps, Text};
 use final_queries::alike_foldings_make_one_table;
+use marple_base::{Steps, Text};
 use net_ends::{ends_are_the_net_tables, net_tables_are_read};
 use network::Network;
 use query_lang::TypedQuery;

@@ -178,7 +178,7 @@ module _ {K : Type 0} (means : K → Standing) (folding : K → Folding) (ways k
     store = one.store;
     runs = λ buckets events merged s.
         let r = one.runs buckets (machine_at (unrefreshed buckets ways) k events) (all_epochs merged) (s.fronts.sizes k was here) (s.fronts.each k was here)
-            (holds_alike f (folding was.kind) before (all_epochs merged) (alike_back (folding was.kind) f alike) s.store) in
+        (holds_alike f (folding was.kind) before (all_epochs merged) (alike_back (folding was.kind) f alike) s.store) in
         record {
           more = from_switch k r.events;
           right = right r.events r.right;

@@ -28,11 +28,10 @@ drain-requires g c =
     let kept = c.loop-i.auto.fronts in
     let below : i < length fronts = let b = c.loop-i-test.true in omega arith in
     let s = c.requires.shares in
-    let ran = c.loop-i.invariant.runs s.0 s.1 s.2 in
-    (
+    let ran = c.loop-i.invariant.runs s.0 s.1 s.2 in (
       search rules,
       (still_share (λ kind. g.K.EpochKind.sizes kind) (λ kind. g.K.EpochKind.folding kind) s.0 s.1 c.args.fronts.now fronts c.args.store.now c.loop-i.store ran.fronts ran.store s.2
-      i (get_or fronts i c.index-fronts-i.result) (got_here fronts i c.index-fronts-i.result below)).fits,
+          i (get_or fronts i c.index-fronts-i.result) (got_here fronts i c.index-fronts-i.result below)).fits,
     )
 
 pub loop-i-preserved : goal.loop-i-preserved

@@ -16,10 +16,22 @@ turn_at-requires g c =
     let wiring = wiring_at c.args.plan.now c.args.group in
     let share = subst (λ (v : GroupView). AllShare ghosts.sizes ghosts.folding (folding_in v) (length wiring.args) v.fronts v.store) (sym c.self.view_is) c.requires.shares in
     let at = subst (λ (v : GroupView). c.args.at < length v.fronts) (sym c.self.view_is) c.requires.switch in
-    let keys = subst (λ (v : GroupView). v.store.key_words ≡ length wiring.keys) (sym c.self.view_is) c.requires.keys in
-    (lit< tt, (c.requires.group, (subst (λ xs. c.args.at < length xs) (sym c.deref_mut.ensures.value) at, (c.requires.registers,
-    ((folding_in view, subst (λ xs. AllShare ghosts.sizes ghosts.folding (folding_in view) (length wiring.args) xs p.store) (sym c.deref_mut.ensures.value) share),
-    (keys, (c.requires.key_room, c.requires.args_room)))))))
+    let keys = subst (λ (v : GroupView). v.store.key_words ≡ length wiring.keys) (sym c.self.view_is) c.requires.keys in (
+      lit< tt,
+      (
+        c.requires.group,
+        (
+          subst (λ xs. c.args.at < length xs) (sym c.deref_mut.ensures.value) at,
+          (
+            c.requires.registers,
+            (
+              (folding_in view, subst (λ xs. AllShare ghosts.sizes ghosts.folding (folding_in view) (length wiring.args) xs p.store) (sym c.deref_mut.ensures.value) share),
+              (keys, (c.requires.key_room, c.requires.args_room)),
+            ),
+          ),
+        ),
+      ),
+    )
 
 pub returns-clause-runs : goal.returns-clause-runs
 returns-clause-runs g c =
