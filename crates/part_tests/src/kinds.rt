@@ -29,16 +29,28 @@ fn is_text_monotone(alloc: Global, fold: &[u8]) -> Result<bool, Fail> {
 fn kinds(rt: HostRuntime) -> Result<(), Fail> {
     // (the fold, whether greater states stay greater)
     for (fold, monotone) in [
-        (b"def f([m],[qsize]) { m = max(m, qsize); }".as_slice(), true),
+        (
+            b"def f([m],[qsize]) { m = max(m, qsize); }".as_slice(),
+            true,
+        ),
         (b"def f([m],[qsize]) { m = min(m, qsize); }", true),
         (b"def f([m],[qsize]) { m = sadd(m, qsize); }", true),
         (b"def f([m],[qsize]) { m = sadd(qsize, m); }", true),
         (b"def f([m],[qsize]) { m = decay(m, 3); }", true),
         (b"def f([m],[qsize]) { m = m >> 3; }", true),
         (b"def f([m],[qsize]) { m = m / 3; }", true),
-        (b"def f([m],[qsize]) { m = sadd(decay(m, 3), qsize); }", true),
-        (b"def f([m],[qsize]) { m = min(max(m, qsize), 10) / 2; }", true),
-        (b"def f([m],[qsize]) { m = qsize * qsize - qsize % 3; }", true),
+        (
+            b"def f([m],[qsize]) { m = sadd(decay(m, 3), qsize); }",
+            true,
+        ),
+        (
+            b"def f([m],[qsize]) { m = min(max(m, qsize), 10) / 2; }",
+            true,
+        ),
+        (
+            b"def f([m],[qsize]) { m = qsize * qsize - qsize % 3; }",
+            true,
+        ),
         (b"def f([m],[qsize]) { m = m + qsize; }", false),
         (b"def f([m],[qsize]) { m = m - qsize; }", false),
         (b"def f([m],[qsize]) { m = qsize - m; }", false),
@@ -51,12 +63,24 @@ fn kinds(rt: HostRuntime) -> Result<(), Fail> {
         (b"def f([m],[qsize]) { m = max(m + 1, qsize); }", false),
         (b"def f([m],[qsize]) { m = m + 1; m = qsize; }", true),
         (b"def f([m, n],[qsize]) { n = m; m = qsize; }", true),
-        (b"def f([m],[qsize]) { if (qsize > 3) { m = max(m, qsize); } else { m = 2; } }", true),
+        (
+            b"def f([m],[qsize]) { if (qsize > 3) { m = max(m, qsize); } else { m = 2; } }",
+            true,
+        ),
         (b"def f([m],[qsize]) { if (m > 3) { m = qsize; } }", false),
         (b"def f([m, n],[qsize]) { if (m == 3) { n = 1; } }", false),
-        (b"def f([m, n],[qsize]) { n = qsize; if (n != 3) { m = max(m, n); } }", true),
-        (b"def f([m, n],[qsize]) { n = m; if (n < 3) { m = 1; } else { m = 2; } }", false),
-        (b"def f([m, n],[qsize]) { if (m > 3) { n = 1; } n = qsize; }", true),
+        (
+            b"def f([m, n],[qsize]) { n = qsize; if (n != 3) { m = max(m, n); } }",
+            true,
+        ),
+        (
+            b"def f([m, n],[qsize]) { n = m; if (n < 3) { m = 1; } else { m = 2; } }",
+            false,
+        ),
+        (
+            b"def f([m, n],[qsize]) { if (m > 3) { n = 1; } n = qsize; }",
+            true,
+        ),
     ] {
         assert_eq!(rt; is_text_monotone(rt.alloc(), fold)?, monotone);
     }
