@@ -8,16 +8,25 @@ use Rattle.stage_plan.specs.Fields.{reads_of}
 use Rattle.trace_reader.specs.Traces as traces
 use Rattle.accepted_query.specs.Accepted.{accepted}
 use Rattle.command_line.specs.declared.command.Command.{Command}
-use Rattle.command_line.specs.declared.command.Command.TheVariants.{Enclose, Compile}
+use Rattle.command_line.specs.declared.command.Command.TheVariants.{Net, Enclose, Compile}
+use Rattle.command_line.specs.declared.setting.NetSetting.{NetSetting}
 use Rattle.command_line.specs.declared.setting.Setting.{Setting}
+use Rattle.driven_net.specs.NetTraces.{net_trace_fault}
 use Rattle.plan_writer.specs.PlanText.{compiled_text, final_fault}
 use Rattle.marple_cli.specs.Call.{ToldOf}
-use Rattle.marple_cli.specs.Output.{Source, enclosures_text, fault_behind, fault_for, of_accepted, output, trace_refusal}
+use Rattle.marple_cli.specs.Output.{Source, enclosures_text, fault_behind, fault_for, network_text, of_accepted, output, trace_refusal}
 use Rattle.marple_cli.proofs.Ending.{IsText, told}
 
 module _ (before : Which → Input) (found : TypedQuery) (known : IfSome (before Query).left (λ query. accepted query ≡ Ok found)) where
   read : (query : Source) → (before Query).left ≡ Some query.text → accepted query.text ≡ Ok found
   read query is = told (λ text. accepted text ≡ Ok found) (before Query).left query.text known is
+
+  pub net_is : (setting : NetSetting)
+      → ToldOf (Net setting) before (λ query trace. (trace_refusal (Net setting) query trace ≡ net_trace_fault trace found) × (output (Net setting) query trace ≡ network_text setting trace found))
+  net_is setting query trace holds = (
+    ap (of_accepted None (net_trace_fault trace)) (read query (holds.of_query refl)),
+    ap (of_accepted [] (network_text setting trace)) (read query (holds.of_query refl)),
+  )
 
   pub enclose_is : (setting : Setting)
       → ToldOf (Enclose setting) before (λ query trace. (trace_refusal (Enclose setting) query trace ≡ traces.trace_fault trace (reads_of found)) × (output (Enclose setting) query trace ≡ enclosures_text setting trace found))

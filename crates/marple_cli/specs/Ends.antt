@@ -6,6 +6,8 @@ use Rattle.marple_base.specs.Sink.{TakesFront}
 use Rattle.marple_base.specs.declared.inputs.Which.{Which}
 use Rattle.marple_base.specs.declared.inputs.Which.TheVariants.{Query, Trace}
 use Rattle.query_lang.specs.declared.fault.QueryFault.{QueryFault}
+use Rattle.query_lang.specs.declared.typed.TypedQuery.{TypedQuery}
+use Rattle.accepted_query.specs.Accepted.{accepted}
 use Rattle.query_run.specs.Answers.{text_unless}
 use Rattle.query_run.specs.declared.answer.RunAnswer.{RunAnswer}
 use Rattle.query_run.specs.declared.answer.RunAnswer.TheVariants as breaks
@@ -50,6 +52,10 @@ QueryEnds fault = OperandEnds (λ query found. fault query ≡ Some found)
 -- the same for the text of a plan
 abbrev pub PlanEnds : Input → Input → Status → Type 0
 PlanEnds = OperandEnds (λ text found. IsRefused text (Refused found))
+
+-- Some text is that of the query, also where the input doesn't tell its bytes.
+abbrev pub IsOfText : TypedQuery → Type 0
+IsOfText q = (text : List ℕ) × (accepted text ≡ Ok q)
 
 -- A plan was read from the first operand.
 pub record IsReadFrom (before : Input) (loaded : LoadedPlan) : Type 0 where

@@ -16,13 +16,17 @@ use Rattle.query_tables.specs.Tables.{query_text}
 use Rattle.trace_drive.specs.Drives.{words_of}
 use Rattle.queue_sim.specs.Generator.{simulated}
 use Rattle.queue_sim.specs.TraceText.{trace_text}
-use Rattle.command_line.specs.Command.{asked, ways_number}
+use Rattle.command_line.specs.Command.{ways_number}
 use Rattle.command_line.specs.declared.command.Command.{Command}
 use Rattle.command_line.specs.declared.command.Command.TheVariants.{Run, Plan, Gen, Trial, Net, Enclose, Compile, RunPlan}
 use Rattle.command_line.specs.declared.command.Generation.{Generation}
+use Rattle.command_line.specs.declared.setting.NetSetting.{NetSetting}
 use Rattle.command_line.specs.declared.setting.Setting.{Setting}
 use Rattle.command_line.specs.declared.setting.Ways.{Ways}
 use Rattle.driven_query.specs.Driven.{geometry_of}
+use Rattle.net_wide.specs.Combining.{net_fault}
+use Rattle.net_wide.specs.NetTables.{net_text}
+use Rattle.driven_net.specs.NetTraces.{net_packets, net_trace_fault}
 use Rattle.enclosure_folds.specs.Check.{enclose_fault}
 use Rattle.enclosed_query.specs.EnclosedTables.{enclose_text}
 use Rattle.plan_writer.specs.PlanText.{compiled_text, final_fault}
@@ -47,20 +51,6 @@ abbrev pub IsRead : Command → Source → Type 0
 IsRead (RunPlan setting) source = SaysPlan source.text source.plan
 IsRead command source = ⊤
 
--- Does the program do this command? One over several switches is read, and not done yet: it takes nothing and writes nothing.
-abbrev pub is_offered : Command → Bool
-is_offered (Net setting) = false
-is_offered command = true
-
--- the command that was asked for, where the program does it
-abbrev pub offered : Option Command → Option Command
-offered None = None
-offered (Some command) = if is_offered command then Some command else None
-
--- The command that the words ask for, of those that the program does.
-abbrev pub wanted : List (List ℕ) → Option Command
-wanted words = offered (asked words)
-
 -- Is this input an operand of the command?
 abbrev pub takes : Command → Which → Bool
 takes (Run setting every) which = true
@@ -68,7 +58,7 @@ takes (Plan ways) Query = true
 takes (Plan ways) Trace = false
 takes (Gen generation) which = false
 takes (Trial generation setting) which = false
-takes (Net setting) which = false
+takes (Net setting) which = true
 takes (Enclose setting) which = true
 takes Compile Query = true
 takes Compile Trace = false
@@ -88,14 +78,14 @@ fault_behind own (Err fault) = Some fault
 abbrev pub fault_with : (TypedQuery → Option QueryFault) → List ℕ → Option QueryFault
 fault_with own query = fault_behind own (accepted query)
 
--- Why the command refuses its query, where it does: the query's first fault. Behind it, where bounds are asked for, a groupby that has none, and
--- where a plan is written, a final. The text of a plan is refused where it isn't one.
+-- Why the command refuses its query, where it does: the query's first fault. Behind it, where packets of several switches are run, a groupby that doesn't combine;
+-- where bounds are asked for, one that has none; and where a plan is written, a final. The text of a plan is refused where it isn't one.
 abbrev pub refusal : Command → Source → Option QueryFault
 refusal (Run setting every) query = query_fault query.text
 refusal (Plan ways) query = query_fault query.text
 refusal (Gen generation) query = None
 refusal (Trial generation setting) query = None
-refusal (Net setting) query = None
+refusal (Net setting) query = fault_with net_fault query.text
 refusal (Enclose setting) query = fault_with enclose_fault query.text
 refusal Compile query = fault_with final_fault query.text
 refusal (RunPlan setting) query = fault_behind (λ made. None) query.plan
@@ -105,13 +95,14 @@ abbrev pub fault_for : Checked TypedQuery → List ℕ → Option TraceFault
 fault_for (Ok q) trace = traces.trace_fault trace (reads_of q)
 fault_for (Err fault) trace = None
 
--- Why the command refuses its trace, where it does: the trace's first fault for what the query or the plan reads.
+-- Why the command refuses its trace, where it does: the trace's first fault for what the query or the plan reads. Over several switches `switch` is always read, and more than 64
+-- of them are a fault.
 abbrev pub trace_refusal : Command → Source → List ℕ → Option TraceFault
 trace_refusal (Run setting every) query trace = fault_for (accepted query.text) trace
 trace_refusal (Plan ways) query trace = None
 trace_refusal (Gen generation) query trace = None
 trace_refusal (Trial generation setting) query trace = None
-trace_refusal (Net setting) query trace = None
+trace_refusal (Net setting) query trace = of_accepted None (net_trace_fault trace) (accepted query.text)
 trace_refusal (Enclose setting) query trace = fault_for (accepted query.text) trace
 trace_refusal Compile query trace = None
 trace_refusal (RunPlan setting) query trace = of_accepted None (λ made. traces.trace_fault trace (reads_in made)) query.plan
@@ -144,6 +135,10 @@ read_packets trace q = traces.packets trace (reads_of q)
 abbrev pub made_packets : Generation → List Packet
 made_packets generation = simulated generation.packets generation.start 16
 
+-- what a query prints of a trace whose packets go through the caches of their switches
+abbrev pub network_text : NetSetting → List ℕ → TypedQuery → List ℕ
+network_text setting trace q = net_text q setting.buckets (ways_number setting.ways) (words_of (net_packets trace q))
+
 -- what a query prints of a trace where bounds are asked for
 abbrev pub enclosures_text : Setting → List ℕ → TypedQuery → List ℕ
 enclosures_text setting trace q = enclose_text q (geometry_of setting) (words_of (read_packets trace q))
@@ -158,7 +153,7 @@ output (Run setting every) query trace = run_text setting every (accepted query.
 output (Plan ways) query trace = stages_text ways (accepted query.text)
 output (Gen generation) query trace = trace_text (made_packets generation)
 output (Trial generation setting) query trace = tables_text setting (accepted trial_query) (λ q. made_packets generation)
-output (Net setting) query trace = []
+output (Net setting) query trace = of_accepted [] (network_text setting trace) (accepted query.text)
 output (Enclose setting) query trace = of_accepted [] (enclosures_text setting trace) (accepted query.text)
 output Compile query trace = of_accepted [] compiled_text (accepted query.text)
 output (RunPlan setting) query trace = of_accepted [] (plan_tables_text setting trace) query.plan

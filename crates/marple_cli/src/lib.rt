@@ -6,7 +6,7 @@ mod compile;
 mod complaint;
 mod enclose;
 mod generate;
-mod offered;
+mod network;
 mod operands;
 mod packets;
 mod run;

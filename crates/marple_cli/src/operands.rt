@@ -4,7 +4,7 @@ ghost use Rattle.marple_base.specs.Inputs.{IsClosed};
 ghost use Rattle.query_lang.specs.TypedQueries.{IsValidQuery};
 ghost use Rattle.stage_plan.specs.Planned.{IsPlanOf};
 ghost use Rattle.accepted_query.specs.Accepted.{accepted, query_fault};
-ghost use Rattle.marple_cli.specs.Ends.{IsReadFrom, PlanEnds, QueryEnds, ReadEnds};
+ghost use Rattle.marple_cli.specs.Ends.{IsOfText, IsReadFrom, PlanEnds, QueryEnds, ReadEnds};
 
 use crate::status::Status;
 use accepted_query::{AcceptedQuery, QueryAnswer, accept};
@@ -26,6 +26,7 @@ pub const MAX_TRACE: usize = 268_435_456;
 pub fn read_query<I: Inputs>(alloc: Global, inputs: &mut I) -> Result<AcceptedQuery, Status>
     requires { IsClosed (I.input inputs.old Which.Query) }
     ensures ok { IfOk result (λ found. IfSome (I.input inputs.old Which.Query).left (λ query. accepted query ≡ Ok found.typed)) }
+    ensures some_text { IfOk result (λ found. IsOfText found.typed) }
     ensures valid { IfOk result (λ found. IsValidQuery found.typed) }
     ensures plan { IfOk result (λ found. IsPlanOf found.typed found.plan) }
     ensures err { IfErr result (QueryEnds query_fault (I.input inputs.old Which.Query) (I.input inputs.new Which.Query)) }

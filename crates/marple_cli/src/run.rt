@@ -1,15 +1,16 @@
 //! The commands.
-ghost use Rattle.std.specs.Prelude.{◌≡◌, ◌≤◌, Some, true, false};
+ghost use Rattle.std.specs.Prelude.{◌≡◌, ◌≤◌, Some, false};
 ghost use Rattle.marple_base.specs.Inputs.{IsClosed, Input};
 ghost use Rattle.marple_base.specs.declared.inputs.Which.{Which as AnyWhich};
 ghost use Rattle.command_line.specs.Command.{IsCommand, IsSetting, IsGeneration};
 ghost use Rattle.marple_cli.specs.Driven.{DrivenAfter};
 ghost use Rattle.marple_cli.specs.Ends.{Ends, status_of};
-ghost use Rattle.marple_cli.specs.Output.{is_offered, takes};
+ghost use Rattle.marple_cli.specs.Output.{takes};
 
 use crate::compile::compile;
 use crate::enclose::enclose;
 use crate::generate::generate;
+use crate::network::run_network;
 use crate::operands::read_query;
 use crate::packets::{run_made, run_trace};
 use crate::run_plan::run_plan;
@@ -76,7 +77,6 @@ pub fn perform<I: Inputs, O: Sink, L: Ledger>(
     steps: &mut Steps<L>,
 ) -> Result<(), Status>
     requires command { IsCommand command }
-    requires offered { is_offered command ≡ true }
     requires query_closed { IsClosed (I.input inputs.old Which.Query) }
     requires trace_closed { IsClosed (I.input inputs.old Which.Trace) }
     ensures ends { Ends O.taken O.faults command (I.input inputs.old) (I.input inputs.new) out.old out.new (status_of result) }
@@ -94,7 +94,7 @@ pub fn perform<I: Inputs, O: Sink, L: Ledger>(
         Command::Trial(generation, setting) => {
             trial(alloc, generation, setting, out, driven, steps)
         }
-        Command::Net(_) => Err(Status::Usage),
+        Command::Net(setting) => run_network(alloc, setting, inputs, out, steps),
         Command::Enclose(setting) => enclose(alloc, setting, inputs, out, steps),
         Command::Compile => compile(alloc, inputs, out),
         Command::RunPlan(setting) => run_plan(alloc, setting, inputs, out, driven, steps),

@@ -4,16 +4,17 @@ ghost use Rattle.std.specs.Io.KnownBytes.{Appends};
 ghost use Rattle.marple_base.specs.Faults.{Rose};
 ghost use Rattle.marple_base.specs.Inputs.{IsClosed};
 ghost use Rattle.marple_base.specs.Sink.{TakesFront};
+ghost use Rattle.command_line.specs.Command.{asked};
 ghost use Rattle.marple_cli.specs.Call.{Takes, WhereTold, WhereQueryTold, WritesOutput, WritesFront, IsQuiet, IsBeforeOutput, IsBeforeTrace};
 ghost use Rattle.marple_cli.specs.Complaint.{complaint};
 ghost use Rattle.marple_cli.specs.Driven.{DrivenAfter};
 ghost use Rattle.marple_cli.specs.Ends.{Answers};
-ghost use Rattle.marple_cli.specs.Output.{IsAccepted, defined_text, refusal, trace_refusal, wanted};
+ghost use Rattle.marple_cli.specs.Output.{IsAccepted, refusal, trace_refusal, defined_text};
 
 use crate::complaint::complain;
-use crate::offered::wanted;
 use crate::run::perform;
 use crate::status::Status;
+use command_line::command_of;
 use driven_query::Driven;
 use marple_base::{Inputs, Sink, Steps, Which};
 use std::alloc::Global;
@@ -29,14 +30,14 @@ fn answer<I: Inputs, O: Sink, L: Ledger>(
 ) -> Status
     requires query_closed { IsClosed (I.input inputs.old Which.Query) }
     requires trace_closed { IsClosed (I.input inputs.old Which.Trace) }
-    ensures answers { Answers O.taken O.faults (I.input inputs.old) (I.input inputs.new) out.old out.new (wanted (map string_bytes words.now)) result }
-    ensures driven { DrivenAfter (wanted (map string_bytes words.now)) (I.input inputs.old) driven.old driven.new result }
+    ensures answers { Answers O.taken O.faults (I.input inputs.old) (I.input inputs.new) out.old out.new (asked (map string_bytes words.now)) result }
+    ensures driven { DrivenAfter (asked (map string_bytes words.now)) (I.input inputs.old) driven.old driven.new result }
     ensures query_later { (I.input inputs.old Which.Query).faults ≤ (I.input inputs.new Which.Query).faults }
     ensures trace_later { (I.input inputs.old Which.Trace).faults ≤ (I.input inputs.new Which.Trace).faults }
     ensures out_later { O.faults out.old ≤ O.faults out.new }
     ensures steps { steps.old ≤ steps.new }
 {
-    let Some(command) = wanted(words) else {
+    let Some(command) = command_of(words) else {
         return Status::Usage;
     };
     match perform(alloc, command, inputs, out, driven, steps) {
@@ -60,47 +61,47 @@ pub fn marple<I: Inputs, O: Sink, E: Sink, L: Ledger>(
     requires trace_closed { IsClosed (I.input inputs.old Which.Trace) }
 
     // The words.
-    ensures usage { (result ≡ Status.Usage) ↔ (wanted (map string_bytes words.now) ≡ None) }
+    ensures usage { (result ≡ Status.Usage) ↔ (asked (map string_bytes words.now) ≡ None) }
 
     // Success.
-    ensures ok { result ≡ Status.Ok → WhereTold (wanted (map string_bytes words.now)) (I.input inputs.old) (WritesOutput (O.taken out.old) (O.taken out.new)) }
-    ensures complete { WhereTold (wanted (map string_bytes words.now)) (I.input inputs.old) (λ command query trace.
+    ensures ok { result ≡ Status.Ok → WhereTold (asked (map string_bytes words.now)) (I.input inputs.old) (WritesOutput (O.taken out.old) (O.taken out.new)) }
+    ensures complete { WhereTold (asked (map string_bytes words.now)) (I.input inputs.old) (λ command query trace.
         IsAccepted command query trace → IsQuiet command (I.input inputs.old) (I.input inputs.new) (O.faults out.old) (O.faults out.new) →
         (result ≡ Status.Ok) ⊎ (result ≡ Status.Memory)) }
 
     // Faults.
     ensures input_fault { (which : _) → result ≡ Status.InputFault which →
-        Takes (wanted (map string_bytes words.now)) which × Rose (I.input inputs.old which).faults (I.input inputs.new which).faults }
+        Takes (asked (map string_bytes words.now)) which × Rose (I.input inputs.old which).faults (I.input inputs.new which).faults }
     ensures trace_fault { result ≡ Status.InputFault Which.Trace →
-        WhereQueryTold (wanted (map string_bytes words.now)) (I.input inputs.old) (λ command query. refusal command query ≡ None) }
+        WhereQueryTold (asked (map string_bytes words.now)) (I.input inputs.old) (λ command query. refusal command query ≡ None) }
     ensures output_fault { result ≡ Status.OutputFault → Rose (O.faults out.old) (O.faults out.new) }
 
     // Refusals.
     ensures query_refused { (fault : _) → result ≡ Status.QueryRefused fault →
-        Takes (wanted (map string_bytes words.now)) Which.Query
-        × WhereQueryTold (wanted (map string_bytes words.now)) (I.input inputs.old) (λ command query. refusal command query ≡ Some fault) }
+        Takes (asked (map string_bytes words.now)) Which.Query
+        × WhereQueryTold (asked (map string_bytes words.now)) (I.input inputs.old) (λ command query. refusal command query ≡ Some fault) }
     ensures refuses_query { (fault : _) →
-        WhereQueryTold (wanted (map string_bytes words.now)) (I.input inputs.old) (λ command query. refusal command query ≡ Some fault →
+        WhereQueryTold (asked (map string_bytes words.now)) (I.input inputs.old) (λ command query. refusal command query ≡ Some fault →
         (result ≡ Status.QueryRefused fault) ⊎ (result ≡ Status.InputFault Which.Query) ⊎ (result ≡ Status.Memory)) }
     ensures trace_refused { (fault : _) → result ≡ Status.TraceRefused fault →
-        Takes (wanted (map string_bytes words.now)) Which.Trace
-        × WhereQueryTold (wanted (map string_bytes words.now)) (I.input inputs.old) (λ command query. refusal command query ≡ None)
-        × WhereTold (wanted (map string_bytes words.now)) (I.input inputs.old) (λ command query trace. trace_refusal command query trace ≡ Some fault) }
+        Takes (asked (map string_bytes words.now)) Which.Trace
+        × WhereQueryTold (asked (map string_bytes words.now)) (I.input inputs.old) (λ command query. refusal command query ≡ None)
+        × WhereTold (asked (map string_bytes words.now)) (I.input inputs.old) (λ command query trace. trace_refusal command query trace ≡ Some fault) }
     ensures refuses_trace { (fault : _) →
-        WhereTold (wanted (map string_bytes words.now)) (I.input inputs.old) (λ command query trace.
+        WhereTold (asked (map string_bytes words.now)) (I.input inputs.old) (λ command query trace.
         refusal command query ≡ None → trace_refusal command query trace ≡ Some fault →
         (result ≡ Status.TraceRefused fault) ⊎ ((which : _) × (result ≡ Status.InputFault which)) ⊎ (result ≡ Status.Memory)) }
 
     // What was written by then.
     ensures untouched { IsBeforeOutput result → out.new ≡ out.old }
-    ensures output_front { result ≡ Status.OutputFault → WhereTold (wanted (map string_bytes words.now)) (I.input inputs.old) (WritesFront (O.taken out.old) (O.taken out.new)) }
-    ensures memory_front { result ≡ Status.Memory → WhereTold (wanted (map string_bytes words.now)) (I.input inputs.old) (λ command query trace.
+    ensures output_front { result ≡ Status.OutputFault → WhereTold (asked (map string_bytes words.now)) (I.input inputs.old) (WritesFront (O.taken out.old) (O.taken out.new)) }
+    ensures memory_front { result ≡ Status.Memory → WhereTold (asked (map string_bytes words.now)) (I.input inputs.old) (λ command query trace.
         TakesFront (O.taken out.old) (O.taken out.new) (defined_text command query trace)) }
     ensures memory_query { (fault : _) → result ≡ Status.Memory →
-        WhereQueryTold (wanted (map string_bytes words.now)) (I.input inputs.old) (λ command query. refusal command query ≡ Some fault → out.new ≡ out.old) }
+        WhereQueryTold (asked (map string_bytes words.now)) (I.input inputs.old) (λ command query. refusal command query ≡ Some fault → out.new ≡ out.old) }
 
     // Inputs that weren't asked for, or not reached.
-    ensures no_operand { (which : _) → (Takes (wanted (map string_bytes words.now)) which → ⊥) → I.input inputs.new which ≡ I.input inputs.old which }
+    ensures no_operand { (which : _) → (Takes (asked (map string_bytes words.now)) which → ⊥) → I.input inputs.new which ≡ I.input inputs.old which }
     ensures not_reached { IsBeforeTrace result → I.input inputs.new Which.Trace ≡ I.input inputs.old Which.Trace }
 
     // Complaints. A fault of `err` changes no status.
@@ -113,7 +114,7 @@ pub fn marple<I: Inputs, O: Sink, E: Sink, L: Ledger>(
     ensures out_later { O.faults out.old ≤ O.faults out.new }
     ensures err_later { E.faults err.old ≤ E.faults err.new }
 
-    ensures driven { DrivenAfter (wanted (map string_bytes words.now)) (I.input inputs.old) driven.old driven.new result }
+    ensures driven { DrivenAfter (asked (map string_bytes words.now)) (I.input inputs.old) driven.old driven.new result }
     ensures steps { steps.old ≤ steps.new }
 {
     let status = answer(alloc, words, inputs, out, driven, steps);

@@ -1,0 +1,19 @@
+use Rattle.std.proofs.Common.{sym, ◌∙◌}
+use Rattle.marple_base.specs.declared.inputs.Which.TheVariants.{Query}
+use Rattle.marple_cli.specs.Ends.{QueryEnds}
+use Rattle.marple_cli.specs.Output.{fault_with}
+use Rattle.net_wide.specs.Combining.{net_fault}
+use Rattle.marple_cli.proofs.Checking.{own_refused, text_ends}
+use Rattle.marple_cli.proofs.Limits.{err_told}
+use Rattle.marple_cli.proofs.checked.query_for_net.Goals as goal
+
+pub returns-in_err-query-clause-err : goal.returns-in_err-query-clause-err
+returns-in_err-query-clause-err g c =
+    let before = g.I.Inputs.input c.args.inputs.now Query in
+    let after = g.I.Inputs.input c.read_query.new.inputs Query in
+    err_told (QueryEnds (fault_with net_fault) before after) c.from_residual.result c.in_err-query.field-0.0 c.from_residual.ensures.1
+    (text_ends net_fault before after c.in_err-query.field-0.0 c.in_err-query.ensures.err)
+
+pub returns-in-Some-clause-err : goal.returns-in-Some-clause-err
+returns-in-Some-clause-err g c =
+    own_refused net_fault (g.I.Inputs.input c.args.inputs.now Query).left c.in_ok-query.query.typed c.in-Some.fault c.in_ok-query.ensures.ok (sym c.net_check.ensures ∙ c.in-Some.is)
