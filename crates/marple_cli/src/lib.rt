@@ -6,13 +6,13 @@ mod compile;
 mod complaint;
 mod enclose;
 mod generate;
-mod network;
 mod operands;
 mod packets;
 mod run;
 mod run_plan;
 mod staging;
 mod status;
+mod switches;
 mod top;
 mod trial_query;
 

@@ -12,7 +12,7 @@ use Rattle.marple_cli.specs.Output.{fault_with}
 use Rattle.marple_cli.proofs.Ending.{query_ends_it, query_fits}
 use Rattle.marple_cli.proofs.Texts.{net_is}
 use Rattle.marple_cli.proofs.Traced.{broken_off, not_read, whole_written}
-use Rattle.marple_cli.proofs.network.run_network.Goals as goal
+use Rattle.marple_cli.proofs.switches.run_network.Goals as goal
 
 pub returns-in_err-query-clause-ends : goal.returns-in_err-query-clause-ends
 returns-in_err-query-clause-ends g c =
