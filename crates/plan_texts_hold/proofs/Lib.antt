@@ -1,0 +1,9 @@
+pub mod Differ
+pub mod Items
+pub mod Columns
+pub mod Places
+pub mod Queries
+pub mod Lexical
+pub mod Texts
+pub mod Prints
+pub mod Hold

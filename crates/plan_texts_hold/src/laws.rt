@@ -1,0 +1,28 @@
+//! The laws of accepted texts and the texts of their plans.
+
+ghost use Rattle.std.specs.Prelude.{◌≡◌, Ok, None};
+ghost use Rattle.accepted_query.specs.Accepted.{accepted};
+ghost use Rattle.stage_plan.specs.Planned.{IsPlanOf};
+ghost use Rattle.plan_writer.specs.PlanText.{final_fault};
+ghost use Rattle.written_plan.specs.RunLaws.{LoadsAsTheQuery};
+ghost use Rattle.plan_texts_hold.specs.HoldLaws.{AcceptedHavePlanTexts, IsShort};
+
+use query_lang::TypedQuery;
+use stage_plan::Plan;
+
+/// The query of each accepted text has a plan's text if it has no finals and that text is not too long: its groupbys are named
+/// well and differ in their names, its folds begin with words, and it prints something and nothing twice.
+pub fn accepted_have_plan_texts()
+    ensures { AcceptedHavePlanTexts }
+{}
+
+/// The text of an accepted query's plan is valid, and what is loaded of it reads what the query reads and prints what it prints.
+pub fn accepted_compile_and_run(text: &[u8], q: &TypedQuery, p: &Plan)
+    requires accepted { accepted text.now ≡ Ok q.now }
+    requires no_finals { final_fault q.now ≡ None }
+    requires short { IsShort q.now }
+    requires plan { IsPlanOf q.now p.now }
+    ensures { LoadsAsTheQuery q.now }
+{
+    p.known();
+}
