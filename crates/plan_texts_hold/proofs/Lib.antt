@@ -6,4 +6,9 @@ pub mod Queries
 pub mod Lexical
 pub mod Texts
 pub mod Prints
+pub mod Counts
+pub mod LineSizes
+pub mod NameSizes
+pub mod GroupSizes
+pub mod TextSize
 pub mod Hold

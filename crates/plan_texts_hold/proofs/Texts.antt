@@ -32,7 +32,7 @@ all_at P (y ∷ xs) zero x all e = subst P (same_Some y x e) (All-head P y xs al
 all_at P (y ∷ xs) (suc i) x all e = all_at P xs i x (All-tail P y xs all) e
 
 -- an item before others is none of them
-new_apart : {A : Type 0} (before items : List A) (x : A) → AreNew before items → IsIn x before → IsIn x items → ⊥
+pub new_apart : {A : Type 0} (before items : List A) (x : A) → AreNew before items → IsIn x before → IsIn x items → ⊥
 new_apart before [] x new old h = h
 new_apart before (item ∷ items) x new old (inl e) = new.0 (in_contains before item (subst (λ z. IsIn z before) e old))
 new_apart before (item ∷ items) x new old (inr h) = new_apart (before ++ item ∷ []) items x new.1 (in_left x before (item ∷ []) old) h
@@ -58,7 +58,7 @@ covers_more names before texts id text cover e t h = elim (in_push texts text t 
 covers_still : (names : List (List ℕ)) (before : List ℕ) (texts : List (List ℕ)) (id : ℕ) → Cover names before texts → Cover names (before ++ id ∷ []) texts
 covers_still names before texts id cover t h = let k = cover t h in (k.0, in_left k.0 before (id ∷ []) k.1, k.2)
 
-covers_all : (names : List (List ℕ)) (ids : List ℕ) → All (λ id. id < length names) ids → Cover names ids (map (text_at names) ids)
+pub covers_all : (names : List (List ℕ)) (ids : List ℕ) → All (λ id. id < length names) ids → Cover names ids (map (text_at names) ids)
 covers_all names [] all t h = absurd h
 covers_all names (id ∷ ids) all t (inl e) = (id, inl refl, text_there names id (All-head (λ id. id < length names) id ids all) ∙ ap Some (sym e))
 covers_all names (id ∷ ids) all t (inr h) =
@@ -101,16 +101,16 @@ names_are names good (id ∷ ids) all = (
 -- ---- groupbys
 
 -- a stream of a query that makes this groupby
-record IsMadeBy (names : List (List ℕ)) (folds : List TypedFold) (one : TypedStream) (shape : GroupShape) : Type 0 where
-  f : TypedFold
-  number : ℕ
-  args : ℕ
-  at : slice_get folds number ≡ Some f
-  is : shape ≡ shape_with names one.name.id one.columns args f
-  new : AreNew [] one.columns
-  apart : AreApart one.columns f.state_names
+pub record IsMadeBy (names : List (List ℕ)) (folds : List TypedFold) (one : TypedStream) (shape : GroupShape) : Type 0 where
+  pub f : TypedFold
+  pub number : ℕ
+  pub args : ℕ
+  pub at : slice_get folds number ≡ Some f
+  pub is : shape ≡ shape_with names one.name.id one.columns args f
+  pub new : AreNew [] one.columns
+  pub apart : AreApart one.columns f.state_names
 
-made_by : (names : List (List ℕ)) (folds : List TypedFold) (one : TypedStream) (op : TypedOp) (shape : GroupShape) → shape_made names folds one op ≡ Some shape
+pub made_by : (names : List (List ℕ)) (folds : List TypedFold) (one : TypedStream) (op : TypedOp) (shape : GroupShape) → shape_made names folds one op ≡ Some shape
     → HasOwnColumns folds one.columns op → IsMadeBy names folds one shape
 made_by names folds one (typed.Group input keys number args) shape e own = by (slice_get folds number) refl e
   where
@@ -132,7 +132,7 @@ made_by names folds one (typed.Filter input e) shape is own = cc
 made_by names folds one (typed.Map input values) shape is own = cc
 made_by names folds one (typed.Zip left right slots) shape is own = cc
 
-name_of : (names : List (List ℕ)) (folds : List TypedFold) (one : TypedStream) (op : TypedOp) (shape : GroupShape) → shape_made names folds one op ≡ Some shape
+pub name_of : (names : List (List ℕ)) (folds : List TypedFold) (one : TypedStream) (op : TypedOp) (shape : GroupShape) → shape_made names folds one op ≡ Some shape
     → shape.name ≡ text_at names one.name.id
 name_of names folds one (typed.Group input keys number args) shape e = by (slice_get folds number) e
   where
@@ -146,7 +146,7 @@ name_of names folds one (typed.Zip left right slots) shape is = cc
 abbrev pub groups_of : List (List ℕ) → List TypedFold → List TypedStream → List GroupShape
 groups_of names folds streams = filter_map (λ one. shape_made names folds one one.op) streams
 
-group_from : (names : List (List ℕ)) (folds : List TypedFold) (streams : List TypedStream) (i : ℕ) (shape : GroupShape) → slice_get (groups_of names folds streams) i ≡ Some shape
+pub group_from : (names : List (List ℕ)) (folds : List TypedFold) (streams : List TypedStream) (i : ℕ) (shape : GroupShape) → slice_get (groups_of names folds streams) i ≡ Some shape
     → (j : ℕ) × (one : TypedStream) × (slice_get streams j ≡ Some one) × (shape_made names folds one one.op ≡ Some shape)
 group_from names folds [] i shape h = cc
 group_from names folds (one ∷ rest) i shape h = by (shape_made names folds one one.op) refl i h (λ k. group_from names folds rest k shape)
@@ -160,7 +160,7 @@ group_from names folds (one ∷ rest) i shape h = by (shape_made names folds one
     by (Some s) e (suc i) h more = let r = more i h in (suc r.0, r.1, r.2, r.3)
 
 -- the numbers of a stream's name and columns are below that of the names
-stream_below : (names : ℕ) (folds : List TypedFold) (before streams : List TypedStream) (j : ℕ) (one : TypedStream) → AreValidStreams names folds before streams
+pub stream_below : (names : ℕ) (folds : List TypedFold) (before streams : List TypedStream) (j : ℕ) (one : TypedStream) → AreValidStreams names folds before streams
     → slice_get streams j ≡ Some one → (one.name.id < names) × valid.AreNames names one.columns
 stream_below names folds before [] j one v h = cc
 stream_below names folds before (s ∷ rest) zero one v h =

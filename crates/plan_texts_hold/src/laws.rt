@@ -5,13 +5,13 @@ ghost use Rattle.accepted_query.specs.Accepted.{accepted};
 ghost use Rattle.stage_plan.specs.Planned.{IsPlanOf};
 ghost use Rattle.plan_writer.specs.PlanText.{final_fault};
 ghost use Rattle.written_plan.specs.RunLaws.{LoadsAsTheQuery};
-ghost use Rattle.plan_texts_hold.specs.HoldLaws.{AcceptedHavePlanTexts, IsShort};
+ghost use Rattle.plan_texts_hold.specs.HoldLaws.{AcceptedHavePlanTexts};
 
 use query_lang::TypedQuery;
 use stage_plan::Plan;
 
-/// The query of each accepted text has a plan's text if it has no finals and that text is not too long: its groupbys are named
-/// well and differ in their names, its folds begin with words, and it prints something and nothing twice.
+/// The query of each accepted text without finals has a plan's text: its groupbys are named well and differ in their names, its
+/// folds begin with words, it prints something and nothing twice, and the text has at most 2,097,152 bytes.
 pub fn accepted_have_plan_texts()
     ensures { AcceptedHavePlanTexts }
 {}
@@ -20,7 +20,6 @@ pub fn accepted_have_plan_texts()
 pub fn accepted_compile_and_run(text: &[u8], q: &TypedQuery, p: &Plan)
     requires accepted { accepted text.now ≡ Ok q.now }
     requires no_finals { final_fault q.now ≡ None }
-    requires short { IsShort q.now }
     requires plan { IsPlanOf q.now p.now }
     ensures { LoadsAsTheQuery q.now }
 {

@@ -6,5 +6,5 @@ use Rattle.plan_texts_hold.proofs.laws.accepted_compile_and_run.Goals as goal
 pub returns : goal.returns
 returns c =
     let valid = accepted_valid c.args.text.now c.args.q.now c.requires.accepted in
-    let text = plan_texts c.args.text.now c.args.q.now c.requires.accepted c.requires.no_finals c.requires.short in
+    let text = plan_texts c.args.text.now c.args.q.now c.requires.accepted c.requires.no_finals in
     loads c.args.q.now c.args.p.now valid text c.requires.plan c.known.ensures c.requires.no_finals
