@@ -1,8 +1,8 @@
 -- How long the lines of a plan's groupbys are at most.
-use Rattle.std.proofs.Common.{◌≡◌, ℕ, zero, suc, ◌+◌, ◌*◌, ◌^◌, ◌<◌, ◌≤◌, Bool, true, false, List, [], ◌∷◌, ◌++◌, length, Option, Some, None, refl, sym, ap, subst, ◌∙◌, arith}
+use Rattle.std.proofs.Common.{◌≡◌, ℕ, zero, suc, ◌+◌, ◌*◌, ◌≤◌, Bool, true, false, List, [], ◌∷◌, ◌++◌, length, Option, Some, None, refl, subst, arith}
 use Rattle.std.specs.Prelude.{All, codes, decimal, flat_map, map, option_map, slice_get, if◌then◌else◌}
 use Rattle.std.specs.List.{cons_option, range_with_len}
-use Rattle.std.proofs.lemmas.List.{length-append, length-map}
+use Rattle.std.proofs.lemmas.List.{length-append}
 use Rattle.std.proofs.lemmas.Option.{same_Some}
 use Rattle.query_lang.specs.declared.fold.TypedFold.{TypedFold}
 use Rattle.query_lang.specs.declared.typed.Class.{Class}
@@ -18,7 +18,7 @@ use Rattle.stage_plan.specs.declared.group.GroupWiring.{GroupWiring}
 use Rattle.stage_plan.specs.declared.op.Operand.{Operand}
 use Rattle.stage_plan.specs.Shape.{GroupShape, class_word}
 use Rattle.plan_writer.specs.PlanText.{group_lines, named_lines}
-use Rattle.plan_writer.specs.Words.{behind, block_words, line, operand_word}
+use Rattle.plan_writer.specs.Words.{block_words, line, operand_word}
 use Rattle.written_plan.specs.WellNamed.{AllWords}
 use Rattle.written_plan.proofs.OpLines.{Fits}
 use Rattle.plan_texts_hold.proofs.LineSizes.{behind_size, block_size, decimal_size, line_size, operand_size}
@@ -138,7 +138,7 @@ group_size shape wiring f l =
     let c = length-append arg_lines (state_lines ++ (body_line ++ fold_line)) in
     let d = length-append key_lines (arg_lines ++ (state_lines ++ (body_line ++ fold_line))) in
     let e : length (group_lines shape wiring f) ≡ length head_line + length (key_lines ++ (arg_lines ++ (state_lines ++ (body_line ++ fold_line)))) =
-        length-append head_line (key_lines ++ (arg_lines ++ (state_lines ++ (body_line ++ fold_line)))) in
+    length-append head_line (key_lines ++ (arg_lines ++ (state_lines ++ (body_line ++ fold_line)))) in
     let mk = l.most_keys in
     let ma = l.most_args in
     let ms = l.most_states in
@@ -210,6 +210,6 @@ groups_size f [] k (suc n) each none =
 groups_size f (s ∷ shapes) k (suc n) each none =
     let first : length (f k) ≤ 79690 + length s.name = subst (λ m. length (f m) ≤ 79690 + length s.name) (omega arith) (each 0 s refl) in
     let rest = groups_size f shapes (k + 1) n (λ i shape e. subst (λ m. length (f m) ≤ 79690 + length shape.name) (omega arith) (each (suc i) shape e))
-        (λ i e. subst (λ m. length (f m) ≡ 0) (omega arith) (none (suc i) e)) in
+    (λ i e. subst (λ m. length (f m) ≡ 0) (omega arith) (none (suc i) e)) in
     let a = length-append (f k) (flat_map f (range_with_len (k + 1) n)) in
     omega (arith, first, rest, a)

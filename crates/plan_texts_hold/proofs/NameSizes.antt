@@ -1,5 +1,5 @@
 -- How long the names of a text are together.
-use Rattle.std.proofs.Common.{◌≡◌, ℕ, zero, suc, ◌+◌, ◌*◌, ◌<◌, ◌≤◌, Bool, true, false, cond, List, [], ◌∷◌, ◌++◌, length, take, drop, Option, Some, None, Ok, Err, refl, sym, ap, subst, ◌∙◌, inl, inr, ◌⊎◌, arith}
+use Rattle.std.proofs.Common.{◌≡◌, ℕ, zero, suc, ◌+◌, ◌*◌, ◌<◌, ◌≤◌, Bool, true, false, cond, List, [], ◌∷◌, ◌++◌, length, take, drop, Option, Some, None, Ok, Err, refl, sym, ap, subst, ◌∙◌, inl, inr, arith}
 use Rattle.std.specs.Prelude.{All, map, slice_get}
 use Rattle.std.specs.List.{cons_option, list_any}
 use Rattle.std.specs.Str.{bytes_eq}
@@ -19,7 +19,7 @@ use Rattle.query_lang.specs.Typing.{typed_names, with_fields}
 use Rattle.query_lang.specs.TypedQueries.{AreValidStreams}
 use Rattle.stage_plan.specs.Shape.{GroupShape, shape_made, text_at}
 use Rattle.written_plan.specs.WellNamed.{AreNew, AreNoKeys, IsNamedWell}
-use Rattle.plan_texts_hold.proofs.Items.{IsIn, contains_in, in_at}
+use Rattle.plan_texts_hold.proofs.Items.{IsIn, in_at}
 use Rattle.plan_texts_hold.proofs.Queries.{in_last}
 use Rattle.plan_texts_hold.proofs.Texts.{covers_all, groups_of, in_contains, name_of, new_apart, text_there}
 
@@ -72,7 +72,7 @@ taken f [] ys before new inside = record { left = ys; sum = omega arith; keeps =
 taken f (x ∷ xs) ys before new inside =
     let w = without f ys x (inside x (inl refl)) in
     let r = taken f xs w.left (before ++ x ∷ []) new.1
-        (λ z i. w.keeps z (inside z (inr i)) (λ e. new_apart (before ++ x ∷ []) xs z new.1 (subst (λ u. IsIn u (before ++ x ∷ [])) (sym e) (in_last before x)) i)) in
+    (λ z i. w.keeps z (inside z (inr i)) (λ e. new_apart (before ++ x ∷ []) xs z new.1 (subst (λ u. IsIn u (before ++ x ∷ [])) (sym e) (in_last before x)) i)) in
     let s = w.sum in
     let t = r.sum in
     record {
@@ -93,7 +93,7 @@ pub columns_total : (names : List (List ℕ)) (shape : GroupShape) → IsNamedWe
 columns_total names shape well keys states =
     let k = taken length shape.key_names names [] well.keys_differ keys in
     let s = taken length shape.state_names k.left [] well.states_differ
-        (λ t i. k.keeps t (states t i) (λ j. no_key shape.key_names shape.state_names t well.states_apart i j)) in
+    (λ t i. k.keeps t (states t i) (λ j. no_key shape.key_names shape.state_names t well.states_apart i j)) in
     let a = k.sum in
     let b = s.sum in
     omega (arith, a, b)

@@ -1,7 +1,7 @@
 -- The text of a query's plan is not too long.
-use Rattle.std.proofs.Common.{◌≡◌, ℕ, zero, suc, ◌+◌, ◌-◌, ◌*◌, ◌^◌, ◌<◌, ◌≤◌, Bool, true, false, cond, List, [], ◌∷◌, ◌++◌, length, Option, Some, None, refl, sym, ap, subst, ◌∙◌, inl, inr, ◌⊎◌, arith}
-use Rattle.std.specs.Prelude.{All, codes, decimal, filter, flat_map, map, nat_eq, nat_lt, not, option_and_then, option_map, slice_get, unwrap_or, ◌==◌, if◌then◌else◌}
-use Rattle.std.specs.List.{position_or_len, range_with_len}
+use Rattle.std.proofs.Common.{◌≡◌, ℕ, zero, suc, ◌+◌, ◌-◌, ◌*◌, ◌^◌, ◌<◌, ◌≤◌, Bool, true, false, cond, List, [], ◌∷◌, ◌++◌, length, Option, Some, None, refl, sym, ap, subst, ◌∙◌, inl, inr, arith}
+use Rattle.std.specs.Prelude.{All, codes, decimal, filter, flat_map, map, nat_eq, nat_lt, not, option_and_then, option_map, slice_get, ◌==◌, if◌then◌else◌}
+use Rattle.std.specs.List.{range_with_len}
 use Rattle.std.proofs.lemmas.Bool.{eqb-false}
 use Rattle.std.proofs.lemmas.Bool.Decides.{nat_tests}
 use Rattle.std.proofs.lemmas.List.{length-append, length-map}
@@ -22,7 +22,6 @@ use Rattle.query_lang.specs.Folds.{IsValidFold}
 use Rattle.query_lang.specs.Streams.{Taking, takings}
 use Rattle.query_lang.specs.TypedQueries.{AreValidStreams, HasNames, IsTable, IsValidOp, IsValidQuery}
 use Rattle.fold_class.specs.Depth.{depth_of}
-use Rattle.stage_plan.specs.declared.group.GroupWiring.{GroupWiring}
 use Rattle.stage_plan.specs.declared.op.Operand.{Operand}
 use Rattle.stage_plan.specs.declared.op.Operand.TheVariants.{Register, Number}
 use Rattle.stage_plan.specs.declared.op.PlanOp.{PlanOp}
@@ -290,8 +289,8 @@ module _ (q : TypedQuery) (v : IsValidQuery q) (staged : stage_fault q ≡ None)
       let below = stream_below (length q.names) q.folds [] q.streams j one v.streams here in
       let states = (all_at (HasNames (length q.names)) q.folds made.number made.f v.fold_names made.at).states in
       let n = columns_total q.names shape (well i shape e)
-          (λ t k. texts_in q.names one.columns below.1 t (subst (λ (s : GroupShape). IsIn t s.key_names) made.is k))
-          (λ t k. texts_in q.names made.f.state_names states t (subst (λ (s : GroupShape). IsIn t s.state_names) made.is k)) in
+      (λ t k. texts_in q.names one.columns below.1 t (subst (λ (s : GroupShape). IsIn t s.key_names) made.is k))
+      (λ t k. texts_in q.names made.f.state_names states t (subst (λ (s : GroupShape). IsIn t s.state_names) made.is k)) in
       omega (arith, n, short)
 
   each_group : (i : ℕ) (shape : GroupShape) → slice_get (query_groups q) i ≡ Some shape → length (group_text q i) ≤ 79690 + length shape.name
@@ -329,12 +328,12 @@ module _ (q : TypedQuery) (v : IsValidQuery q) (staged : stage_fault q ≡ None)
   unfolding compiled_text
   text_size names are new =
       let first : length (line (codes "marple-plan") (codes "1" ∷ [])) ≤ 14 =
-          (let n = line_size (codes "marple-plan") (codes "1" ∷ []) in let b = behind_size (codes "1") [] in omega (arith, n, b)) in
+      (let n = line_size (codes "marple-plan") (codes "1" ∷ []) in let b = behind_size (codes "1") [] in omega (arith, n, b)) in
       let reads = reads_size (reads_of q) in
       let ops = ops_size (query_ops q) each_op in
       let groups = groups_size (group_text q) (query_groups q) 0 (length (takings q.streams))
-          (λ i shape e. subst (λ m. length (group_text q m) ≤ 79690 + length shape.name) (omega arith) (each_group i shape e))
-          (λ i e. subst (λ m. length (group_text q m) ≡ 0) (omega arith) (no_group i e)) in
+      (λ i shape e. subst (λ m. length (group_text q m) ≤ 79690 + length shape.name) (omega arith) (each_group i shape e))
+      (λ i e. subst (λ m. length (group_text q m) ≡ 0) (omega arith) (no_group i e)) in
       let prints = prints_size q v.most_groupbys q.prints v.prints in
       let first_line : List ℕ = line (codes "marple-plan") (codes "1" ∷ []) in
       let op_lines : List ℕ = flat_map op_line (query_ops q) in
@@ -344,7 +343,7 @@ module _ (q : TypedQuery) (v : IsValidQuery q) (staged : stage_fault q ≡ None)
       let b = length-append op_lines (group_texts ++ print_lines) in
       let c = length-append (reads_line (reads_of q)) (op_lines ++ (group_texts ++ print_lines)) in
       let d : length (compiled_text q) ≡ length first_line + length (reads_line (reads_of q) ++ (op_lines ++ (group_texts ++ print_lines))) =
-          length-append first_line (reads_line (reads_of q) ++ (op_lines ++ (group_texts ++ print_lines))) in
+      length-append first_line (reads_line (reads_of q) ++ (op_lines ++ (group_texts ++ print_lines))) in
       let few = few_ops q v staged in
       let most = v.most_groupbys in
       let printed = few_prints q v are new in
