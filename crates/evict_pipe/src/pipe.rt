@@ -1,6 +1,7 @@
 //! The pipe of evicted records.
 
-ghost use Rattle.std.specs.Prelude.{◌≡◌, ◌+◌, ◌<◌, ◌≤◌, ◌==◌, ◌++◌, ◌∷◌, [], Bool, not, nat_lt, length, drop, slice_index_or, if◌then◌else◌, IfOk};
+ghost use Rattle.std.specs.Prelude.{◌≡◌, ◌+◌, ◌<◌, ◌≤◌, ◌==◌, ◌++◌, ◌∷◌, [], Bool, not, nat_lt, length};
+ghost use Rattle.std.specs.Prelude.{drop, slice_index_or, if◌then◌else◌, IfOk};
 ghost use Rattle.evict_pipe.specs.Pipes.{Pipe, with_records, IsSoundPipe};
 
 use crate::copying::{copy_row, write_record};
@@ -28,7 +29,8 @@ impl Model for EvictPipe {
 
     ghost view = { λ p. record { record_words = p.record_words; places = p.places; records = map (λ row. row.items) p.held.items } };
 
-    ghost invariant = { λ p. IsPipe p.record_words p.places (map (λ row. row.items) p.held.items) p.held.capacity (map (λ row. row.items) p.free.items) p.free.capacity };
+    ghost invariant = { λ p. IsPipe p.record_words p.places (map (λ row. row.items) p.held.items) p.held.capacity
+        (map (λ row. row.items) p.free.items) p.free.capacity };
 }
 
 impl EvictPipe {
