@@ -9,7 +9,7 @@ ghost use Rattle.bucket_cache.specs.Touches.{Touches, IsLeast, with_front, touch
 
 use crate::bucket::Touch;
 use crate::slices;
-use marple_base::Steps;
+use marple_base::{Steps, copy_words};
 use std::sync::ledger::Ledger;
 
 /// Where the key stands among the ways in use.
@@ -61,7 +61,7 @@ fn put<L: Ledger>(
     let way = order[at];
     slices::move_to_front(order, at, steps);
     let start = way * key.len();
-    slices::copy_words(&mut words[start..start + key.len()], key, steps);
+    copy_words(key, &mut words[start..start + key.len()], steps);
     way
 }
 

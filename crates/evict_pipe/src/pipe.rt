@@ -4,9 +4,9 @@ ghost use Rattle.std.specs.Prelude.{◌≡◌, ◌+◌, ◌<◌, ◌≤◌, ◌=
 ghost use Rattle.std.specs.Prelude.{drop, slice_index_or, if◌then◌else◌, IfOk};
 ghost use Rattle.evict_pipe.specs.Pipes.{Pipe, with_records, IsSoundPipe};
 
-use crate::copying::{copy_row, write_record};
+use crate::copying::write_record;
 use circular_buffer::HeapCircularBuffer;
-use marple_base::Steps;
+use marple_base::{Steps, copy_words};
 use std::alloc::{AllocError, Global};
 use std::marker::Model;
 use std::sync::ledger::Ledger;
@@ -91,7 +91,7 @@ impl EvictPipe {
     {
         match self.held.front() {
             Some(row) => {
-                copy_row(into, row, steps);
+                copy_words(row, into, steps);
                 true
             }
             None => false,
