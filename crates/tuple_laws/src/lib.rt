@@ -1,0 +1,6 @@
+//! What holds of the tuples of each stream: of which packets there are tuples, and which values their rows have.
+#![tactic(auto)]
+
+mod laws;
+
+pub use laws::{packets_are_of_the_trace, packets_ascend};
