@@ -27,7 +27,8 @@ pub fn first_fault()
 
 /// A fault that stands at a token is what parsing gives, whatever follows the token.
 pub fn fault_is_found()
-    ensures { (k : Stop) (front : List Token) (t : Token) (more : List Token) → StandsAt k front t → parsed (front ++ t ∷ more) ≡ Stopped k (t ∷ more) }
+    ensures { (k : Stop) (front : List Token) (t : Token) (more : List Token) → StandsAt k front t
+        → parsed (front ++ t ∷ more) ≡ Stopped k (t ∷ more) }
 {}
 
 /// A query that tokens derive within all limits is what parsing gives.

@@ -46,7 +46,8 @@ IsNumberedFinal names _ = Unit {0}
 
 -- the names that an item gives are among so many
 abbrev pub IsNumbered : ℕ → Item → Type 0
-IsNumbered names (item.Fold d) = (d.name.id < names) × All (λ state. state.name.id < names) d.states × All (λ arg. arg.id < names) d.args
+IsNumbered names (item.Fold d) = (d.name.id < names) × All (λ state. state.name.id < names) d.states
+    × All (λ arg. arg.id < names) d.args
 IsNumbered names (item.Stream d) = (d.name.id < names) × IsNumberedStream names d.op
 IsNumbered names (item.Final d) = (d.name.id < names) × IsNumberedFinal names d.op
 IsNumbered names (item.Print name) = Unit {0}
