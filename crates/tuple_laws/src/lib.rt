@@ -3,4 +3,7 @@
 
 mod laws;
 
-pub use laws::{packets_are_of_the_trace, packets_ascend};
+pub use laws::{
+    packets_are_of_the_trace, packets_ascend, rows_fill_their_columns, zipped_columns_agree,
+    zips_keep_columns,
+};
