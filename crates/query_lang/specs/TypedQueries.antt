@@ -35,6 +35,7 @@ AreSlots slots list = All (λ slot. slot < slots) list
 -- the keys and the fold's arguments of a groupby over a row of so many slots
 pub record IsValidGroup (folds : List TypedFold) (slots : ℕ) (keys : List ℕ) (fold_number : ℕ) (args : List ℕ) : Type 0 where
   pub keys_are_slots : AreSlots slots keys
+  pub some_keys : 0 < length keys
   pub most_keys : length keys ≤ 8
   pub is_fold : fold_number < length folds
   pub args_are_slots : AreSlots slots args
