@@ -25,8 +25,8 @@ use Rattle.query_rules.specs.Context.{StandsFor}
 use Rattle.query_rules.specs.StreamRules.{HasColumns, new_names, OfFilter, OfMap, OfZip, OfGroup, HasStream, key_ids}
 use Rattle.stage_plan.proofs.StreamRows.{Row, row_at, row_made, at_earlier}
 use Rattle.net_wide.specs.Combining.{is_switch, names_switch, columns_made}
-use Rattle.net_order.proofs.Tells.{AreBelow}
-use Rattle.net_order.proofs.Columns.{picked_names, names_long, names_of_both, others_below, slots_below, behind}
+use Rattle.tuple_laws.proofs.Views.{AreBelow, others_below}
+use Rattle.net_order.proofs.Columns.{picked_names, names_long, names_of_both, slots_below, behind}
 use Rattle.net_order.proofs.Rows.{RowTells, SlotTells, filter_tells, map_tells, zip_tells, group_tells, slot_tells}
 
 -- the keys of a groupby that are named `switch` are the switch, in the row of its input

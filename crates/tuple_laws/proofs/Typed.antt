@@ -122,7 +122,7 @@ new_distinct columns hidden (c ∷ new) made all d long e =
 
 -- ---- the slots of keys
 
-stands_below : (columns : List ℕ) (slot id : ℕ) → StandsAt columns slot id → slot < length columns
+pub stands_below : (columns : List ℕ) (slot id : ℕ) → StandsAt columns slot id → slot < length columns
 stands_below [] slot id h = absurd h
 stands_below (name ∷ columns) zero id h = omega arith
 stands_below (name ∷ columns) (suc slot) id h = omega (arith, stands_below columns slot id h.1)
