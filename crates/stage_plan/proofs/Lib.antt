@@ -1,4 +1,6 @@
 pub mod Lists
+pub mod Counts
+pub mod NextStream
 pub mod Runs
 pub mod Wirings
 pub mod Groupings

@@ -8,3 +8,4 @@ pub mod Making
 pub mod Ordering
 pub mod Grouping
 pub mod Marking
+pub mod Counting
