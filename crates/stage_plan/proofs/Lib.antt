@@ -15,3 +15,4 @@ pub mod PlanParts
 pub mod Putting
 pub mod Texts
 pub mod Chains
+pub mod Fewest

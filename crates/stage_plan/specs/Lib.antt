@@ -9,3 +9,4 @@ pub mod Ordering
 pub mod Grouping
 pub mod Marking
 pub mod Counting
+pub mod Placements
