@@ -8,7 +8,7 @@ use Rattle.std.proofs.lemmas.Option.{same_Some}
 use Rattle.query_lang.specs.declared.fold.TypedFold.{TypedFold}
 use Rattle.query_lang.specs.declared.typed.TypedQuery.{TypedQuery}
 use Rattle.query_lang.specs.declared.typed.TypedStream.{TypedStream}
-use Rattle.query_lang.specs.Folds.{fold_states}
+use Rattle.query_lang.specs.Folds.{fold_args, fold_states}
 use Rattle.query_lang.specs.Streams.{Taking, taking_of, takings}
 use Rattle.fold_class.specs.Depth.{IsDepth, is_enough, least_from, depth_of}
 use Rattle.fold_class.specs.Program.{IsProgramOf}
@@ -48,6 +48,10 @@ shape_is names one args f group is name keys states count =
     let nodes = is.layout.nodes in
     let statements = is.layout.statements in
     cc
+
+-- a fold that takes so many arguments
+pub args_are : (folds : List TypedFold) (number args : ℕ) (f : TypedFold) → slice_get folds number ≡ Some f → option_map fold_args (slice_get folds number) ≡ Some args → length f.arg_names ≡ args
+args_are folds number args f found all = same_Some (fold_args f) args (sym (ap (option_map fold_args) found) ∙ all)
 
 pub fitting_shape : (q : TypedQuery) (one : TypedStream) (number args : ℕ) (f : TypedFold) (group : GroupPlan) → slice_get q.folds number ≡ Some f → IsProgramOf f group.program →
     group.name ≡ text_at q.names one.name.id → group.key_names ≡ map (text_at q.names) one.columns → group.state_names ≡ map (text_at q.names) f.state_names →

@@ -1,4 +1,6 @@
 pub mod Lists
+pub mod Counts
+pub mod NextStream
 pub mod Runs
 pub mod Wirings
 pub mod Groupings
@@ -13,3 +15,4 @@ pub mod PlanParts
 pub mod Putting
 pub mod Texts
 pub mod Chains
+pub mod Fewest

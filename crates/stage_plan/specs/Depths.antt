@@ -1,5 +1,6 @@
 -- The depths of what a typed query computes while packets pass, and where they pass the greatest number of stages.
-use Rattle.std.specs.Prelude.{ℕ, ◌+◌, max, nat_lt, Bool, if◌then◌else◌, List, [], ◌∷◌, ◌++◌, length, map, fold, flat_map, drop, replicate, slice_get, slice_index, Option, Some, None, unwrap_or}
+use Rattle.std.specs.Prelude.{ℕ, ◌+◌, max, nat_lt, Bool, if◌then◌else◌, List, [], ◌∷◌, ◌++◌, length, map, fold, flat_map, drop, replicate}
+use Rattle.std.specs.Prelude.{slice_get, slice_index, Option, Some, None, unwrap_or}
 use Rattle.std.specs.List.{list_any}
 use Rattle.query_lang.specs.declared.fault.FaultKind.TheVariants.{OverLimit}
 use Rattle.query_lang.specs.declared.fault.Limit.TheVariants.{Stages}
@@ -26,7 +27,8 @@ abbrev pub term_depths : List ℕ → Term → List ℕ
 term_depths columns (Literal n) = []
 term_depths columns (Read s) = []
 term_depths columns (Negation e) = term_depths columns e ++ (1 + term_depth columns e) ∷ []
-term_depths columns (Operation op a b) = term_depths columns a ++ (term_depths columns b ++ (1 + max (term_depth columns a) (term_depth columns b)) ∷ [])
+term_depths columns (Operation op a b) =
+    term_depths columns a ++ (term_depths columns b ++ (1 + max (term_depth columns a) (term_depth columns b)) ∷ [])
 
 -- the depths that belong to a stream: those of its operations in order, of its presence, and of its columns
 pub record StreamDepths : Type 0 where
@@ -54,7 +56,8 @@ emit_depths (Some condition) states args present columns = joined_depths (replic
 
 abbrev pub group_depths : Option TypedFold → StreamDepths → List ℕ → List ℕ → StreamDepths
 group_depths None input keys args = record { operations = []; present = 0; columns = values_at input.columns keys }
-group_depths (Some f) input keys args = emit_depths f.emit (length f.initial) (values_at input.columns args) input.present (values_at input.columns keys)
+group_depths (Some f) input keys args =
+    emit_depths f.emit (length f.initial) (values_at input.columns args) input.present (values_at input.columns keys)
 
 abbrev pub depths_made : List TypedFold → List StreamDepths → TypedOp → StreamDepths
 depths_made folds streams (Filter input condition) =

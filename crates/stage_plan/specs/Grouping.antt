@@ -2,11 +2,33 @@
 use Rattle.std.specs.Prelude.{◌≡◌, ℕ, ◌<◌, ◌≤◌, List, length, option_map, slice_get, Option, Some, None}
 use Rattle.fold_class.specs.Program.{IsProgram, IsProgramOf}
 use Rattle.query_lang.specs.declared.fold.TypedFold.{TypedFold}
+use Rattle.query_lang.specs.declared.typed.TypedOp.{TypedOp}
+use Rattle.query_lang.specs.declared.typed.TypedOp.TheVariants.{Filter, Map, Zip, Group}
 use Rattle.query_lang.specs.declared.typed.TypedQuery.{TypedQuery}
 use Rattle.query_lang.specs.declared.typed.TypedStream.{TypedStream}
+use Rattle.query_lang.specs.Folds.{fold_args}
 use Rattle.query_lang.specs.Streams.{Taking}
+use Rattle.query_lang.specs.TypedQueries.{AreNames}
 use Rattle.stage_plan.specs.declared.group.GroupPlan.{GroupPlan}
 use Rattle.stage_plan.specs.Shape.{group_shape, shape_with}
+
+-- a groupby of a fold with so many keys and arguments: its name and those of its keys are there, there are 1 to 8 keys, and the fold
+-- takes as many arguments
+pub record FitsFold (q : TypedQuery) (one : TypedStream) (number keys args : ℕ) : Type 0 where
+  pub name : one.name.id < length q.names
+  pub key_names : AreNames (length q.names) one.columns
+  pub some_keys : 0 < length one.columns
+  pub most_keys : length one.columns ≤ 8
+  pub all_keys : length one.columns ≡ keys
+  pub is_fold : number < length q.folds
+  pub all_args : option_map fold_args (slice_get q.folds number) ≡ Some args
+
+-- the same of a stream's operator, where it is a groupby
+abbrev pub FitsGroup : TypedQuery → TypedStream → TypedOp → Type 0
+FitsGroup q one (Filter input condition) = Unit {0}
+FitsGroup q one (Map input values) = Unit {0}
+FitsGroup q one (Zip left right slots) = Unit {0}
+FitsGroup q one (Group input keys f args) = FitsFold q one f (length keys) (length args)
 
 -- the groupby's shape is that of the stream
 abbrev pub IsGroupShape : TypedQuery → TypedStream → ℕ → ℕ → GroupPlan → Type 0

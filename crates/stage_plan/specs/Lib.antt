@@ -8,3 +8,5 @@ pub mod Making
 pub mod Ordering
 pub mod Grouping
 pub mod Marking
+pub mod Counting
+pub mod Placements

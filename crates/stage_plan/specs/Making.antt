@@ -1,5 +1,6 @@
 -- The operations of a query in the order in which they are made: by binding, the operands before their node, and a presence last.
-use Rattle.std.specs.Prelude.{◌≡◌, ℕ, suc, ◌+◌, max, min, nat_lt, Bool, if◌then◌else◌, List, [], ◌∷◌, ◌++◌, length, map, slice_get, Option, Some, None, unwrap_or}
+use Rattle.std.specs.Prelude.{◌≡◌, ℕ, suc, ◌+◌, max, min, nat_lt, Bool, if◌then◌else◌, List, [], ◌∷◌, ◌++◌, length, map, slice_get}
+use Rattle.std.specs.Prelude.{Option, Some, None, unwrap_or}
 use Rattle.std.specs.List.{list_any}
 use Rattle.query_lang.specs.declared.fault.FaultKind.TheVariants.{OverLimit}
 use Rattle.query_lang.specs.declared.fault.Limit.TheVariants.{Stages}
@@ -35,7 +36,12 @@ stage_behind a b = min 65 (suc (max a b))
 
 -- one more operation
 abbrev pub op_on : List PlanOp → operation.Operation → Operand → Operand → PlanOp
-op_on ops op left right = record { stage = stage_behind (operand_stage ops left) (operand_stage ops right); op = op; left = left; right = right }
+op_on ops op left right = record {
+  stage = stage_behind (operand_stage ops left) (operand_stage ops right);
+  op = op;
+  left = left;
+  right = right;
+}
 
 abbrev pub with_op : operation.Operation → List PlanOp → Operand → Operand → Compiled
 with_op op ops left right = record { ops = ops ++ op_on ops op left right ∷ []; value = Register (14 + length ops) }
@@ -49,7 +55,8 @@ compiled columns (Literal n) ops = record { ops = ops; value = Number n }
 compiled columns (Read s) ops = record { ops = ops; value = operand_at columns s }
 compiled columns (Negation e) ops = compiled_then (compiled columns e ops) (λ more value. with_op Not more value (Number 0))
 compiled columns (Operation op a b) ops =
-    compiled_then (compiled columns a ops) (λ more left. compiled_then (compiled columns b more) (λ most right. with_op (Two op) most left right))
+    compiled_then (compiled columns a ops) (λ more left.
+    compiled_then (compiled columns b more) (λ most right. with_op (Two op) most left right))
 
 -- the operations so far, and operands
 pub record AllCompiled : Type 0 where
@@ -59,7 +66,8 @@ pub record AllCompiled : Type 0 where
 -- expressions in order, whose operands go behind these
 abbrev pub compiled_all : List Operand → List Operand → List Term → List PlanOp → AllCompiled
 compiled_all columns found [] ops = record { ops = ops; values = found }
-compiled_all columns found (e ∷ rest) ops = compiled_then (compiled columns e ops) (λ more value. compiled_all columns (found ++ value ∷ []) rest more)
+compiled_all columns found (e ∷ rest) ops =
+    compiled_then (compiled columns e ops) (λ more value. compiled_all columns (found ++ value ∷ []) rest more)
 
 -- the operations so far, and a stream's operands
 pub record Made : Type 0 where
@@ -76,20 +84,29 @@ wires_at streams number = unwrap_or (slice_get streams number) (record { present
 abbrev pub packet_wires : StreamWires
 packet_wires = record {
   present = Number 1;
-  columns = Register 0 ∷ Register 1 ∷ Register 2 ∷ Register 3 ∷ Register 4 ∷ Register 5 ∷ Register 6 ∷ Register 7 ∷ Register 8 ∷ Register 9 ∷ Register 10 ∷ Register 11 ∷ Register 12 ∷ Register 13 ∷ [];
+  columns = Register 0 ∷ Register 1 ∷ Register 2 ∷ Register 3 ∷ Register 4 ∷ Register 5 ∷ Register 6 ∷ Register 7
+      ∷ Register 8 ∷ Register 9 ∷ Register 10 ∷ Register 11 ∷ Register 12 ∷ Register 13 ∷ [];
 }
 
 -- one operation that joins a presence with another condition
 abbrev pub joined : List PlanOp → Operand → Operand → List Operand → Made
-joined ops present condition columns = compiled_then (with_op (Two Both) ops present condition) (λ more value. record { ops = more; wires = record { present = value; columns = columns } })
+joined ops present condition columns =
+    compiled_then (with_op (Two Both) ops present condition) (λ more value.
+    record { ops = more; wires = record { present = value; columns = columns } })
 
 -- a condition over columns, joined with a presence
 abbrev pub conditioned : List Operand → Term → List PlanOp → Operand → List Operand → Made
-conditioned over condition ops present columns = compiled_then (compiled over condition ops) (λ more value. joined more present value columns)
+conditioned over condition ops present columns =
+    compiled_then (compiled over condition ops) (λ more value. joined more present value columns)
+
+-- `filter`: the input's columns, where a condition over them holds
+abbrev pub filtered : StreamWires → Term → List PlanOp → Made
+filtered input condition ops = conditioned input.columns condition ops input.present input.columns
 
 abbrev pub mapped : StreamWires → List TypedExpr → List PlanOp → Made
 mapped input values ops =
-    let all = compiled_all input.columns input.columns (map term_of values) ops in record { ops = all.ops; wires = record { present = input.present; columns = all.values } }
+    let all = compiled_all input.columns input.columns (map term_of values) ops in
+    record { ops = all.ops; wires = record { present = input.present; columns = all.values } }
 
 abbrev pub zipped : StreamWires → StreamWires → List ℕ → List PlanOp → Made
 zipped left right slots ops = joined ops left.present right.present (left.columns ++ map (operand_at right.columns) slots)
@@ -103,12 +120,13 @@ emitted None over input keys ops = record { ops = ops; wires = record { present 
 emitted (Some condition) over input keys ops = conditioned over (term_of condition) ops input.present keys
 
 abbrev pub grouped : Option TypedFold → StreamWires → List ℕ → List ℕ → List PlanOp → Made
-grouped None input keys args ops = record { ops = ops; wires = record { present = Number 0; columns = map (operand_at input.columns) keys } }
-grouped (Some f) input keys args ops = emitted f.emit (emit_columns f.initial input.columns args) input (map (operand_at input.columns) keys) ops
+grouped None input keys args ops =
+    record { ops = ops; wires = record { present = Number 0; columns = map (operand_at input.columns) keys } }
+grouped (Some f) input keys args ops =
+    emitted f.emit (emit_columns f.initial input.columns args) input (map (operand_at input.columns) keys) ops
 
 abbrev pub made_by : List TypedFold → List StreamWires → TypedOp → List PlanOp → Made
-made_by folds streams (Filter input condition) ops =
-    let source = wires_at streams input in conditioned source.columns (term_of condition) ops source.present source.columns
+made_by folds streams (Filter input condition) ops = filtered (wires_at streams input) (term_of condition) ops
 made_by folds streams (Map input values) ops = mapped (wires_at streams input) values ops
 made_by folds streams (Zip left right slots) ops = zipped (wires_at streams left) (wires_at streams right) slots ops
 made_by folds streams (Group input keys f args) ops = grouped (slice_get folds f) (wires_at streams input) keys args ops
@@ -121,7 +139,8 @@ pub record AllMade : Type 0 where
 -- what streams add to those before them
 abbrev pub all_made : List TypedFold → List PlanOp → List StreamWires → List TypedStream → AllMade
 all_made folds ops streams [] = record { ops = ops; streams = streams }
-all_made folds ops streams (one ∷ rest) = made_then (made_by folds streams one.op ops) (λ more wires. all_made folds more (streams ++ wires ∷ []) rest)
+all_made folds ops streams (one ∷ rest) =
+    made_then (made_by folds streams one.op ops) (λ more wires. all_made folds more (streams ++ wires ∷ []) rest)
 
 abbrev pub are_deep : List PlanOp → Bool
 are_deep ops = list_any (λ one. nat_lt 64 one.stage) ops
@@ -131,7 +150,8 @@ abbrev pub made_fault : List TypedFold → List PlanOp → List StreamWires → 
 made_fault folds ops streams [] = None
 made_fault folds ops streams (one ∷ rest) =
     made_then (made_by folds streams one.op ops) (λ more wires.
-    if are_deep more then Some (record { kind = OverLimit Stages; span = one.name.span }) else made_fault folds more (streams ++ wires ∷ []) rest)
+    if are_deep more then Some (record { kind = OverLimit Stages; span = one.name.span })
+    else made_fault folds more (streams ++ wires ∷ []) rest)
 
 -- what is told of a fault
 abbrev pub IsTold : Option QueryFault → PlanAnswer → Type 0

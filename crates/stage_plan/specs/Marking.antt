@@ -24,4 +24,5 @@ abbrev pub marked_op : List (List Source) → ℕ → TypedOp → ℕ
 marked_op streams bits (Filter input condition) = marked_term (sources_at streams input) bits (term_of condition)
 marked_op streams bits (Map input values) = fold (λ b e. marked_term (sources_at streams input) b (term_of e)) bits values
 marked_op streams bits (Zip left right slots) = bits
-marked_op streams bits (Group input keys f args) = marked_slots (sources_at streams input) (marked_slots (sources_at streams input) bits keys) args
+marked_op streams bits (Group input keys f args) =
+    marked_slots (sources_at streams input) (marked_slots (sources_at streams input) bits keys) args

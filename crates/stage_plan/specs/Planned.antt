@@ -55,7 +55,8 @@ pub record IsPlanOf (q : TypedQuery) (plan : PlanParts) : Type 0 where
   pub groups : length plan.groups ≡ length (takings q.streams)
   pub takes : (i : ℕ) (packets : List (List ℕ)) → i < length plan.groups → All (λ words. length words ≡ 14) packets
       → uses q i packets ≡ uses_taken 1 (map (taken plan i) packets)
-  pub programs : (i : ℕ) (f : TypedFold) (group : GroupPlan) → fold_at q i ≡ Some f → slice_get plan.groups i ≡ Some group → IsProgramOf f group.program
+  pub programs : (i : ℕ) (f : TypedFold) (group : GroupPlan) → fold_at q i ≡ Some f → slice_get plan.groups i ≡ Some group
+      → IsProgramOf f group.program
   pub reads : plan.reads ≡ reads_of q
   pub staged : IsStaged (query_made q).ops (query_made q).streams (takings q.streams) plan.ops plan.wiring
   pub shape : shape_of plan ≡ query_shape q

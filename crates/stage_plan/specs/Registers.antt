@@ -1,5 +1,6 @@
 -- The operations of a plan, and the registers that they fill for one packet.
-use Rattle.std.specs.Prelude.{ℕ, zero, suc, ◌-◌, ◌==◌, nat_lt, not, max, if◌then◌else◌, List, [], ◌∷◌, ◌++◌, length, take, drop, map, replicate, slice_get, slice_index, Option, Some, None, option_map, unwrap_or}
+use Rattle.std.specs.Prelude.{ℕ, zero, suc, ◌-◌, ◌==◌, nat_lt, not, max, if◌then◌else◌, List, [], ◌∷◌, ◌++◌, length, take, drop, map}
+use Rattle.std.specs.Prelude.{replicate, slice_get, slice_index, Option, Some, None, option_map, unwrap_or}
 use Rattle.epoch_model.specs.Driving.{Taken}
 use Rattle.query_lang.specs.Words.{flag, holds, op_value}
 use Rattle.stage_plan.specs.declared.op.Operand.{Operand}
@@ -25,7 +26,8 @@ result_of registers one = operation_value one.op (operand_value registers one.le
 -- The registers of these operations after a stage, where `registers` are all as they stood before it: each operation of the stage
 -- writes its own, and the others stay.
 abbrev pub stage_results : ℕ → List ℕ → List PlanOp → List ℕ → List ℕ
-stage_results stage registers (one ∷ ops) (old ∷ olds) = (if one.stage == stage then result_of registers one else old) ∷ stage_results stage registers ops olds
+stage_results stage registers (one ∷ ops) (old ∷ olds) =
+    (if one.stage == stage then result_of registers one else old) ∷ stage_results stage registers ops olds
 stage_results stage registers _ _ = []
 
 -- The registers after a stage: first the packet's 14 words, and then one for each operation in order. After stage 0 the operations'

@@ -1,5 +1,6 @@
 -- The sizes of a plan: what its text says, and the bound on the steps of one packet.
-use Rattle.std.specs.Prelude.{ℕ, zero, suc, ◌+◌, ◌*◌, ◌==◌, max, List, [], ◌∷◌, ◌++◌, length, map, sum, count_by, filter_map, flat_map, codes, decimal, slice_get, Option, None, option_map, unwrap_or}
+use Rattle.std.specs.Prelude.{ℕ, zero, suc, ◌+◌, ◌*◌, ◌==◌, max, List, [], ◌∷◌, ◌++◌, length, map, sum, count_by, filter_map, flat_map}
+use Rattle.std.specs.Prelude.{codes, decimal, slice_get, Option, None, option_map, unwrap_or}
 use Rattle.query_lang.specs.declared.fold.TypedFold.{TypedFold}
 use Rattle.query_lang.specs.declared.typed.Class.{Class}
 use Rattle.query_lang.specs.declared.typed.Class.TheVariants.{Linear, Other}
@@ -16,8 +17,8 @@ use Rattle.stage_plan.specs.declared.group.GroupPlan.{GroupPlan}
 use Rattle.stage_plan.specs.Depths.{query_depths}
 use Rattle.stage_plan.specs.Registers.{stages_of}
 
--- a groupby: the texts of its name and of its table's columns, the class, algebra and depth of its fold, how many arguments the fold has, and
--- its nodes and statements
+-- a groupby: the texts of its name and of its table's columns, the class, algebra and depth of its fold, how many arguments the
+-- fold has, and its nodes and statements
 pub record GroupShape : Type 0 where
   pub name : List ℕ
   pub key_names : List (List ℕ)
@@ -70,7 +71,8 @@ abbrev pub shape_made : List (List ℕ) → List TypedFold → TypedStream → T
 shape_made names folds one (Filter input condition) = None
 shape_made names folds one (Map input values) = None
 shape_made names folds one (Zip left right slots) = None
-shape_made names folds one (Group input keys f args) = option_map (shape_with names one.name.id one.columns (length args)) (slice_get folds f)
+shape_made names folds one (Group input keys f args) =
+    option_map (shape_with names one.name.id one.columns (length args)) (slice_get folds f)
 
 -- the groupbys of a query
 abbrev pub query_groups : TypedQuery → List GroupShape
@@ -78,7 +80,11 @@ query_groups q = filter_map (λ one. shape_made q.names q.folds one one.op) q.st
 
 -- the shape of a query's plan: each operation stands in the stage of its depth
 abbrev pub query_shape : TypedQuery → PlanShape
-query_shape q = record { operations = length (query_depths q); stage_sizes = sizes_of (greatest (query_depths q)) (query_depths q); groups = query_groups q }
+query_shape q = record {
+  operations = length (query_depths q);
+  stage_sizes = sizes_of (greatest (query_depths q)) (query_depths q);
+  groups = query_groups q;
+}
 
 abbrev pub group_shape : GroupPlan → GroupShape
 group_shape group = record {
@@ -94,7 +100,11 @@ group_shape group = record {
 }
 
 abbrev pub parts_shape : List PlanOp → List GroupPlan → PlanShape
-parts_shape ops groups = record { operations = length ops; stage_sizes = sizes_of (stages_of ops) (map (λ one. one.stage) ops); groups = map group_shape groups }
+parts_shape ops groups = record {
+  operations = length ops;
+  stage_sizes = sizes_of (stages_of ops) (map (λ one. one.stage) ops);
+  groups = map group_shape groups;
+}
 
 -- the words of an element of an algebra's maps
 abbrev pub element_words : Algebra → ℕ
@@ -112,7 +122,8 @@ abbrev pub group_bound : ℕ → GroupShape → ℕ
 group_bound ways g =
     let keys = length g.key_names in
     let states = length g.state_names in
-    2 * ways * (keys + 1) + (states + 1) * (g.nodes + 4 * g.statements + 1) + states * states * (states + 1) + 6 * entry_words g + 2 * (keys + g.args)
+    2 * ways * (keys + 1) + (states + 1) * (g.nodes + 4 * g.statements + 1) + states * states * (states + 1)
+    + 6 * entry_words g + 2 * (keys + g.args)
 
 -- the most steps of one packet
 abbrev pub bound_of : ℕ → PlanShape → ℕ
@@ -139,9 +150,13 @@ stage_lines stage (size ∷ sizes) = line (counted (counted (codes "stage") stag
 
 abbrev pub group_line : GroupShape → List ℕ
 group_line g =
-    line (codes "groupby " ++ (g.name ++ (32 ∷ counted (class_word g.class) g.depth ++ (counted (codes " keys") (length g.key_names) ++ (counted (codes " args") g.args ++ counted (codes " states") (length g.state_names))))))
+    line (codes "groupby " ++ (g.name ++ (32 ∷ counted (class_word g.class) g.depth
+    ++ (counted (codes " keys") (length g.key_names)
+    ++ (counted (codes " args") g.args
+    ++ counted (codes " states") (length g.state_names))))))
 
--- The lines of a plan: how many stages and operations there are, the operations of each stage, each groupby, and the bound for so many ways.
+-- The lines of a plan: how many stages and operations there are, the operations of each stage, each groupby, and the bound for so
+-- many ways.
 abbrev pub plan_text_of : PlanShape → ℕ → List ℕ
 plan_text_of shape ways =
     line (counted (codes "stages") (length shape.stage_sizes))

@@ -9,8 +9,8 @@ use Rattle.stage_plan.specs.declared.group.GroupPlan.{GroupPlan}
 use Rattle.stage_plan.specs.declared.group.GroupWiring.{GroupWiring}
 use Rattle.stage_plan.specs.Registers.{operand_stage, stages_of}
 
--- a plan, as contracts see it: the fields that it reads, its operations, which write registers 14, 15 and so on in order, its groupbys, and what
--- each of them takes
+-- a plan, as contracts see it: the fields that it reads, its operations, which write registers 14, 15 and so on in order, its
+-- groupbys, and what each of them takes
 pub record PlanParts : Type 0 where
   pub reads : FieldSet
   pub ops : List PlanOp
@@ -35,8 +35,8 @@ pub record AreSoundOps (ops : List PlanOp) : Type 0 where
   pub ordered : (i j : ℕ) (one other : PlanOp) → i < j → slice_get ops i ≡ Some one → slice_get ops j ≡ Some other → one.stage ≤ other.stage
   pub most : length ops ≤ 32768
 
--- a groupby and what it takes, of so many registers: it has a fold's program, a name for each of the fold's state variables, and as many words as
--- names of keys and as arguments
+-- a groupby and what it takes, of so many registers: it has a fold's program, a name for each of the fold's state variables, and
+-- as many words as names of keys and as arguments
 pub record IsSoundGroup (registers : ℕ) (group : GroupPlan) (wiring : GroupWiring) : Type 0 where
   pub program : IsProgram group.program
   pub some_keys : 0 < length group.key_names
@@ -54,7 +54,8 @@ pub record IsSoundPlan (plan : PlanParts) : Type 0 where
   pub ops : AreSoundOps plan.ops
   pub most_groups : length plan.groups ≤ 8
   pub wired : length plan.wiring ≡ length plan.groups
-  pub each : (i : ℕ) (group : GroupPlan) (wiring : GroupWiring) → slice_get plan.groups i ≡ Some group → slice_get plan.wiring i ≡ Some wiring
+  pub each : (i : ℕ) (group : GroupPlan) (wiring : GroupWiring) → slice_get plan.groups i ≡ Some group
+      → slice_get plan.wiring i ≡ Some wiring
       → IsSoundGroup (14 + length plan.ops) group wiring
 
 -- the operation with this number reads the register of the other

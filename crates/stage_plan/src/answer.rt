@@ -8,8 +8,7 @@ use std::alloc::AllocError;
 pub enum PlanAnswer {
     /// More than 64 stages would be needed.
     Refused(QueryFault),
-    /// There was no memory, or the query passes a limit that no text passes: a groupby has no key, or there are more than
-    /// 32,768 operations.
+    /// There was no memory.
     Memory,
 }
 

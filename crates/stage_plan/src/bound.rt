@@ -40,7 +40,8 @@ fn most_steps(
     requires args { args < 256 }
     requires nodes { nodes < 2 ^ 32 }
     requires statements { statements < 2 ^ 32 }
-    ensures steps { result ≡ 2 * ways * (keys + 1) + (states + 1) * (nodes + 4 * statements + 1) + states * states * (states + 1) + 6 * words + 2 * (keys + args) }
+    ensures steps { result ≡ 2 * ways * (keys + 1) + (states + 1) * (nodes + 4 * statements + 1) + states * states * (states + 1)
+        + 6 * words + 2 * (keys + args) }
     ensures most { result < 2 ^ 40 }
 {
     2 * ways * (keys + 1)

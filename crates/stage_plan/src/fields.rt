@@ -31,13 +31,13 @@ fn source_of(columns: &[Option<Field>], slot: u16) -> Option<Field>
     }
 }
 
-// The columns of the stream with a number, which a valid query has.
-fn columns_of(streams: &[Seq<Option<Field>>], number: u16) -> Result<&[Option<Field>], AllocError>
-    ensures { IfOk result (λ columns. columns.now ≡ sources_at streams.now number) }
+// The columns of the stream with a number.
+fn columns_of(streams: &[Seq<Option<Field>>], number: u16) -> &[Option<Field>]
+    ensures { result.now ≡ sources_at streams.now number }
 {
     match streams.get(number as usize) {
-        Some(columns) => Ok(columns.as_slice()),
-        None => Err(AllocError),
+        Some(columns) => columns.as_slice(),
+        None => &[],
     }
 }
 
@@ -81,20 +81,20 @@ fn make_columns(
     ensures { IfOk result (λ columns. columns ≡ sources_made streams.now op.now) }
 {
     match op {
-        TypedOp::Filter(input, _) => copy(alloc, columns_of(streams, *input)?),
+        TypedOp::Filter(input, _) => copy(alloc, columns_of(streams, *input)),
         TypedOp::Map(input, values) => {
-            let mut columns = copy(alloc, columns_of(streams, *input)?)?;
+            let mut columns = copy(alloc, columns_of(streams, *input))?;
             push_made(&mut columns, values.as_slice())?;
             Ok(columns)
         }
         TypedOp::Zip(left, right, slots) => {
-            let mut columns = copy(alloc, columns_of(streams, *left)?)?;
-            push_sources(&mut columns, columns_of(streams, *right)?, slots.as_slice())?;
+            let mut columns = copy(alloc, columns_of(streams, *left))?;
+            push_sources(&mut columns, columns_of(streams, *right), slots.as_slice())?;
             Ok(columns)
         }
         TypedOp::Group(input, keys, _, _) => {
             let mut columns = Seq::new(alloc);
-            push_sources(&mut columns, columns_of(streams, *input)?, keys.as_slice())?;
+            push_sources(&mut columns, columns_of(streams, *input), keys.as_slice())?;
             Ok(columns)
         }
     }
@@ -161,36 +161,34 @@ fn mark_exprs(bits: u16, columns: &[Option<Field>], values: &[TypedExpr]) -> u16
 }
 
 // What an operator names.
-fn mark_op(bits: u16, streams: &[Seq<Option<Field>>], op: &TypedOp) -> Result<u16, AllocError>
-    ensures { IfOk result (λ all. all ≡ marked_op streams.now bits op.now) }
+fn mark_op(bits: u16, streams: &[Seq<Option<Field>>], op: &TypedOp) -> u16
+    ensures { result ≡ marked_op streams.now bits op.now }
 {
     match op {
         TypedOp::Filter(input, condition) => {
-            let columns = columns_of(streams, *input)?;
-            Ok(mark_expr(bits, columns, condition))
+            mark_expr(bits, columns_of(streams, *input), condition)
         }
         TypedOp::Map(input, values) => {
-            let columns = columns_of(streams, *input)?;
-            Ok(mark_exprs(bits, columns, values.as_slice()))
+            mark_exprs(bits, columns_of(streams, *input), values.as_slice())
         }
-        TypedOp::Zip(_, _, _) => Ok(bits),
+        TypedOp::Zip(_, _, _) => bits,
         TypedOp::Group(input, keys, _, args) => {
-            let columns = columns_of(streams, *input)?;
+            let columns = columns_of(streams, *input);
             let marked = mark_slots(bits, columns, keys.as_slice());
-            Ok(mark_slots(marked, columns, args.as_slice()))
+            mark_slots(marked, columns, args.as_slice())
         }
     }
 }
 
 // What all streams name.
-fn mark_all(columns: &[Seq<Option<Field>>], streams: &[TypedStream]) -> Result<u16, AllocError>
-    ensures { IfOk result (λ bits. bits ≡ fold (λ b one. marked_op columns.now b one.op) 0 streams.now) }
+fn mark_all(columns: &[Seq<Option<Field>>], streams: &[TypedStream]) -> u16
+    ensures { result ≡ fold (λ b one. marked_op columns.now b one.op) 0 streams.now }
 {
     let mut bits = 0;
     for one in streams {
-        bits = mark_op(bits, columns, &one.op)?;
+        bits = mark_op(bits, columns, &one.op);
     }
-    Ok(bits)
+    bits
 }
 
 /// The fields that a query names while packets pass.
@@ -198,6 +196,6 @@ pub(crate) fn read_fields(alloc: Global, q: &TypedQuery) -> Result<FieldSet, All
     ensures { IfOk result (λ fields. fields ≡ reads_of q.now) }
 {
     let columns = make_all_columns(alloc, q)?;
-    let bits = mark_all(columns.as_slice(), q.streams.as_slice())?;
+    let bits = mark_all(columns.as_slice(), q.streams.as_slice());
     Ok(FieldSet { bits })
 }

@@ -1,13 +1,15 @@
 // The groupbys of a plan.
 
-ghost use Rattle.std.specs.Prelude.{◌≡◌, ℕ, ◌<◌, ◌≤◌, ◌++◌, true, Some, map, length, slice_get, option_map, option_to_list, All, IfOk, OnOk};
+ghost use Rattle.std.specs.Prelude.{◌≡◌, ℕ, ◌<◌, ◌++◌, map, length, option_map, option_to_list, All, IfOk, OnOk};
 ghost use Rattle.query_lang.specs.Folds.{IsValidFold};
-ghost use Rattle.query_lang.specs.Streams.{Taking, taking_of, takings};
+ghost use Rattle.query_lang.specs.Streams.{taking_of, takings};
+ghost use Rattle.query_lang.specs.TypedQueries.{AreNames, HasNames};
 ghost use Rattle.fold_class.specs.Program.{IsProgramOf};
+ghost use Rattle.stage_plan.specs.Counting.{HasInputs};
 ghost use Rattle.stage_plan.specs.Making.{operand_at};
 ghost use Rattle.stage_plan.specs.Ordering.{moved, wired, wiring_of};
 ghost use Rattle.stage_plan.specs.Shape.{text_at, shape_made, group_shape, query_groups};
-ghost use Rattle.stage_plan.specs.Grouping.{IsGroupFor, IsGroupOf, AreGroupsOf, IsGroupShape};
+ghost use Rattle.stage_plan.specs.Grouping.{FitsFold, FitsGroup, IsGroupFor, IsGroupOf, AreGroupsOf, IsGroupShape};
 
 use crate::group::{GroupPlan, GroupWiring};
 use crate::making::column_at;
@@ -72,11 +74,12 @@ fn wiring_for(
     registers: &[u32],
     op: &TypedOp,
 ) -> Result<Option<GroupWiring>, AllocError>
+    requires { HasInputs (length wires.now) op.now }
     ensures { IfOk result (λ wiring. wiring ≡ option_map (wiring_of registers.now wires.now) (taking_of op.now)) }
 {
     match op {
         TypedOp::Group(input, keys, _, args) => {
-            let source = stream_at(wires, *input)?;
+            let source = stream_at(wires, *input);
             let wiring = wire_group(alloc, registers, source, keys.as_slice(), args.as_slice())?;
             Ok(Some(wiring))
         }
@@ -91,6 +94,7 @@ pub(crate) fn wire_groups(
     wires: &[StreamWires],
     registers: &[u32],
 ) -> Result<Seq<GroupWiring>, AllocError>
+    requires { All (λ one. HasInputs (length wires.now) one.op) streams.now }
     ensures { IfOk result (λ all. all ≡ map (wiring_of registers.now wires.now) (takings streams.now)) }
 {
     let mut all = Seq::new(alloc);
@@ -100,18 +104,17 @@ pub(crate) fn wire_groups(
     Ok(all)
 }
 
-// The text of a name, which a valid query has.
+// The text of a name.
 fn text_of(alloc: Global, names: &Names, id: u32) -> Result<Text, AllocError>
+    requires { id < length names.now }
     ensures { IfOk result (λ text. text ≡ text_at names.now id) }
 {
-    if id as usize >= names.len() {
-        return Err(AllocError);
-    }
     Text::from_slice(alloc, names.text(id))
 }
 
 // The texts of names.
 fn texts_of(alloc: Global, names: &Names, ids: &[u32]) -> Result<Seq<Text>, AllocError>
+    requires { AreNames (length names.now) ids.now }
     ensures { IfOk result (λ texts. texts ≡ map (text_at names.now) ids.now) }
 {
     let mut texts = Seq::new(alloc);
@@ -121,17 +124,6 @@ fn texts_of(alloc: Global, names: &Names, ids: &[u32]) -> Result<Seq<Text>, Allo
     Ok(texts)
 }
 
-// Whether a groupby has 1 to 8 keys and as many names of them, and its fold as many arguments as it takes.
-fn fits(one: &TypedStream, f: &TypedFold, keys: usize, args: usize) -> bool
-    ensures some { result ≡ true → 0 < length one.now.columns }
-    ensures most { result ≡ true → length one.now.columns ≤ 8 }
-    ensures keys { result ≡ true → length one.now.columns ≡ keys }
-    ensures args { result ≡ true → length f.now.arg_names ≡ args }
-{
-    let names = one.columns.len();
-    0 < names && names <= 8 && names == keys && f.arg_names.len() == args
-}
-
 // A groupby with the program of its fold.
 fn plan_group(
     alloc: Global,
@@ -139,7 +131,10 @@ fn plan_group(
     one: &TypedStream,
     f: &TypedFold,
 ) -> Result<GroupPlan, AllocError>
-    requires { IsValidFold f.now }
+    requires fold { IsValidFold f.now }
+    requires name { one.now.name.id < length names.now }
+    requires key_names { AreNames (length names.now) one.now.columns }
+    requires state_names { AreNames (length names.now) f.now.state_names }
     ensures program { IfOk result (λ group. IsProgramOf f.now group.program) }
     ensures name { IfOk result (λ group. group.name ≡ text_at names.now one.now.name.id) }
     ensures key_names { IfOk result (λ group. group.key_names ≡ map (text_at names.now) one.now.columns) }
@@ -157,7 +152,7 @@ fn plan_group(
     })
 }
 
-// A groupby that fits its fold.
+// A groupby with its fold.
 fn plan_fitting(
     alloc: Global,
     q: &TypedQuery,
@@ -166,14 +161,13 @@ fn plan_fitting(
     keys: usize,
     args: usize,
 ) -> Result<GroupPlan, AllocError>
-    requires { All IsValidFold q.now.folds }
+    requires folds { All IsValidFold q.now.folds }
+    requires names { All (HasNames (length q.now.names)) q.now.folds }
+    requires fits { FitsFold q.now one.now number keys args }
     ensures shape { IfOk result (λ group. IsGroupShape q.now one.now number args group) }
     ensures sound { IfOk result (λ group. IsGroupFor q.now.folds number keys args group) }
 {
-    let f = fold_of(q.folds.as_slice(), number)?;
-    if !fits(one, f, keys, args) {
-        return Err(AllocError);
-    }
+    let f = fold_of(q.folds.as_slice(), number);
     let group = plan_group(alloc, &q.names, one, f)?;
     Ok(group)
 }
@@ -184,7 +178,9 @@ fn group_of(
     q: &TypedQuery,
     one: &TypedStream,
 ) -> Result<Option<GroupPlan>, AllocError>
-    requires { All IsValidFold q.now.folds }
+    requires folds { All IsValidFold q.now.folds }
+    requires names { All (HasNames (length q.now.names)) q.now.folds }
+    requires fits { FitsGroup q.now one.now one.now.op }
     ensures shape { IfOk result (λ group. option_map group_shape group ≡ shape_made q.now.names q.now.folds one.now one.now.op) }
     ensures sound { IfOk result (λ group. IsGroupOf q.now.folds (taking_of one.now.op) group) }
 {
@@ -199,7 +195,9 @@ fn group_of(
 
 /// The groupbys, with the programs of their folds.
 pub(crate) fn plan_groups(alloc: Global, q: &TypedQuery) -> Result<Seq<GroupPlan>, AllocError>
-    requires { All IsValidFold q.now.folds }
+    requires folds { All IsValidFold q.now.folds }
+    requires names { All (HasNames (length q.now.names)) q.now.folds }
+    requires fits { All (λ one. FitsGroup q.now one one.op) q.now.streams }
     ensures shapes { IfOk result (λ groups. map group_shape groups ≡ query_groups q.now) }
     ensures sound { IfOk result (λ groups. AreGroupsOf q.now.folds (takings q.now.streams) groups) }
     ensures all { IfOk result (λ groups. length groups ≡ length (takings q.now.streams)) }

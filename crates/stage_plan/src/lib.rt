@@ -7,6 +7,7 @@ mod chain;
 mod fields;
 mod group;
 mod groups;
+mod laws;
 mod making;
 mod op;
 mod order;
@@ -19,6 +20,7 @@ mod wires;
 
 pub use answer::PlanAnswer;
 pub use group::{GroupPlan, GroupWiring};
+pub use laws::stages_are_fewest;
 pub use op::{Operand, Operation, PlanOp};
 pub use planner::plan;
 pub use plans::Plan;

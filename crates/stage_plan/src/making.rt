@@ -1,10 +1,13 @@
 // The operations of a query, one after another.
 
-ghost use Rattle.std.specs.Prelude.{◌≡◌, ◌+◌, ◌≤◌, max, min, suc, length, map, ◌++◌, Some, IfOk, OnOk};
+ghost use Rattle.std.specs.Prelude.{◌≡◌, ◌+◌, ◌<◌, ◌≤◌, max, min, suc, length, map, ◌++◌, Some, IfOk, OnOk};
+ghost use Rattle.query_lang.specs.Folds.{term_nodes};
 ghost use Rattle.query_lang.specs.Terms.{term_of};
 ghost use Rattle.stage_plan.specs.declared.op.Operand.TheVariants.{Number};
 ghost use Rattle.stage_plan.specs.Registers.{operand_stage};
-ghost use Rattle.stage_plan.specs.Making.{stage_behind, with_op, operand_at, compiled, compiled_all, joined, conditioned, mapped, zipped, emit_columns, emitted, grouped};
+ghost use Rattle.stage_plan.specs.Making.{stage_behind, with_op, operand_at, compiled, joined, conditioned, filtered, mapped};
+ghost use Rattle.stage_plan.specs.Making.{zipped, emit_columns, grouped};
+ghost use Rattle.stage_plan.specs.Counting.{condition_most, values_most, emit_most};
 
 use crate::op::{Operand, Operation, PlanOp};
 use crate::wires::StreamWires;
@@ -41,21 +44,19 @@ fn behind(left: u32, right: u32) -> u32
     }
 }
 
-// One more operation, and its register. A query within its limits has at most 32,768 of them.
+// One more operation, and its register.
 fn make_op(
     ops: &mut Seq<PlanOp>,
     op: Operation,
     left: Operand,
     right: Operand,
 ) -> Result<Operand, AllocError>
+    requires room { length ops.old < 32768 }
     ensures ops { OnOk result (ops.new ≡ (with_op op ops.old left right).ops) }
     ensures value { IfOk result (λ value. value ≡ (with_op op ops.old left right).value) }
-    ensures few { OnOk result (length ops.new ≤ 32768) }
+    ensures more { OnOk result (length ops.new ≡ length ops.old + 1) }
 {
     let at = ops.len();
-    if at >= 32768 {
-        return Err(AllocError);
-    }
     let stage = behind(
         stage_of(ops.as_slice(), left),
         stage_of(ops.as_slice(), right),
@@ -81,10 +82,10 @@ pub(crate) fn column_at(columns: &[Operand], slot: u16) -> Operand
 
 // The operations of an expression over columns, and its operand.
 fn compile(ops: &mut Seq<PlanOp>, columns: &[Operand], e: &TypedExpr) -> Result<Operand, AllocError>
-    requires { length ops.old ≤ 32768 }
+    requires room { length ops.old + term_nodes (term_of e.now) ≤ 32768 }
     ensures ops { OnOk result (ops.new ≡ (compiled columns.now (term_of e.now) ops.old).ops) }
     ensures value { IfOk result (λ value. value ≡ (compiled columns.now (term_of e.now) ops.old).value) }
-    ensures few { OnOk result (length ops.new ≤ 32768) }
+    ensures few { OnOk result (length ops.new ≤ length ops.old + term_nodes (term_of e.now)) }
 {
     match e {
         TypedExpr::Number(n) => Ok(Operand::Number(*n)),
@@ -142,9 +143,10 @@ fn join(
     condition: Operand,
     columns: Seq<Operand>,
 ) -> Result<StreamWires, AllocError>
+    requires room { length ops.old < 32768 }
     ensures ops { OnOk result (ops.new ≡ (joined ops.old present condition columns).ops) }
     ensures wires { IfOk result (λ wires. wires ≡ (joined ops.old present condition columns).wires) }
-    ensures few { OnOk result (length ops.new ≤ 32768) }
+    ensures more { OnOk result (length ops.new ≡ length ops.old + 1) }
 {
     let present = make_op(ops, Operation::Two(Op::Both), present, condition)?;
     Ok(StreamWires { present, columns })
@@ -158,10 +160,10 @@ pub(crate) fn make_condition(
     present: Operand,
     columns: Seq<Operand>,
 ) -> Result<StreamWires, AllocError>
-    requires { length ops.old ≤ 32768 }
+    requires room { length ops.old + condition_most (term_of condition.now) ≤ 32768 }
     ensures ops { OnOk result (ops.new ≡ (conditioned over.now (term_of condition.now) ops.old present columns).ops) }
     ensures wires { IfOk result (λ wires. wires ≡ (conditioned over.now (term_of condition.now) ops.old present columns).wires) }
-    ensures few { OnOk result (length ops.new ≤ 32768) }
+    ensures few { OnOk result (length ops.new ≤ length ops.old + condition_most (term_of condition.now)) }
 {
     let value = compile(ops, over, condition)?;
     join(ops, present, value, columns)
@@ -174,10 +176,10 @@ pub(crate) fn make_filter(
     input: &StreamWires,
     condition: &TypedExpr,
 ) -> Result<StreamWires, AllocError>
-    requires { length ops.old ≤ 32768 }
-    ensures ops { OnOk result (ops.new ≡ (conditioned input.now.columns (term_of condition.now) ops.old input.now.present input.now.columns).ops) }
-    ensures wires { IfOk result (λ wires. wires ≡ (conditioned input.now.columns (term_of condition.now) ops.old input.now.present input.now.columns).wires) }
-    ensures few { OnOk result (length ops.new ≤ 32768) }
+    requires room { length ops.old + condition_most (term_of condition.now) ≤ 32768 }
+    ensures ops { OnOk result (ops.new ≡ (filtered input.now (term_of condition.now) ops.old).ops) }
+    ensures wires { IfOk result (λ wires. wires ≡ (filtered input.now (term_of condition.now) ops.old).wires) }
+    ensures few { OnOk result (length ops.new ≤ length ops.old + condition_most (term_of condition.now)) }
 {
     let columns = copy(alloc, input.columns.as_slice())?;
     make_condition(
@@ -196,10 +198,10 @@ pub(crate) fn make_map(
     input: &StreamWires,
     values: &[TypedExpr],
 ) -> Result<StreamWires, AllocError>
-    requires { length ops.old ≤ 32768 }
+    requires room { length ops.old + values_most values.now ≤ 32768 }
     ensures ops { OnOk result (ops.new ≡ (mapped input.now values.now ops.old).ops) }
     ensures wires { IfOk result (λ wires. wires ≡ (mapped input.now values.now ops.old).wires) }
-    ensures few { OnOk result (length ops.new ≤ 32768) }
+    ensures few { OnOk result (length ops.new ≤ length ops.old + values_most values.now) }
 {
     let mut columns = copy(alloc, input.columns.as_slice())?;
     for e in values {
@@ -220,9 +222,10 @@ pub(crate) fn make_zip(
     right: &StreamWires,
     slots: &[u16],
 ) -> Result<StreamWires, AllocError>
+    requires room { length ops.old < 32768 }
     ensures ops { OnOk result (ops.new ≡ (zipped left.now right.now slots.now ops.old).ops) }
     ensures wires { IfOk result (λ wires. wires ≡ (zipped left.now right.now slots.now ops.old).wires) }
-    ensures few { OnOk result (length ops.new ≤ 32768) }
+    ensures more { OnOk result (length ops.new ≡ length ops.old + 1) }
 {
     let mut columns = copy(alloc, left.columns.as_slice())?;
     push_columns(&mut columns, right.columns.as_slice(), slots)?;
@@ -255,10 +258,10 @@ pub(crate) fn make_group(
     keys: &[u16],
     args: &[u16],
 ) -> Result<StreamWires, AllocError>
-    requires { length ops.old ≤ 32768 }
+    requires room { length ops.old + emit_most f.now.emit ≤ 32768 }
     ensures ops { OnOk result (ops.new ≡ (grouped (Some f.now) input.now keys.now args.now ops.old).ops) }
     ensures wires { IfOk result (λ wires. wires ≡ (grouped (Some f.now) input.now keys.now args.now ops.old).wires) }
-    ensures few { OnOk result (length ops.new ≤ 32768) }
+    ensures few { OnOk result (length ops.new ≤ length ops.old + emit_most f.now.emit) }
 {
     let columns = pick(alloc, input.columns.as_slice(), keys)?;
     match &f.emit {

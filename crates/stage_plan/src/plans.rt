@@ -31,7 +31,8 @@ impl Model for Plan {
 
     ghost view = { λ p. record { reads = p.reads; ops = p.ops; groups = p.groups; wiring = p.wiring } };
 
-    ghost invariant = { λ p. IsSoundPlan (record { reads = p.reads; ops = p.ops; groups = p.groups; wiring = p.wiring }) × IsChain p.ops p.chain };
+    ghost invariant = { λ p. IsSoundPlan (record { reads = p.reads; ops = p.ops; groups = p.groups; wiring = p.wiring })
+        × IsChain p.ops p.chain };
 }
 
 impl Plan {
@@ -159,7 +160,8 @@ impl Plan {
         14 + self.ops.len() as u64 + most_of_groups(self.groups.as_slice(), ways)
     }
 
-    /// The registers of a packet: its words, and what each operation gives. All operations of a stage read the registers as they stood before it.
+    /// The registers of a packet: its words, and what each operation gives. All operations of a stage read the registers as they
+    /// stood before it.
     pub fn row<L: Ledger>(&self, p: &Packet, registers: &mut [u64], steps: &mut Steps<L>)
         requires { length registers.old ≡ registers_of self.now }
         ensures row { registers.new ≡ row_of self.now p.now.words }

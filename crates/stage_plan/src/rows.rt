@@ -59,7 +59,8 @@ fn fill_results<L: Ledger>(ops: &[PlanOp], registers: &mut [u64], steps: &mut St
     requires sound { AreSoundOps ops.now }
     requires room { length registers.old ≡ 14 + length ops.now }
     ensures fields { take 14 registers.new ≡ take 14 registers.old }
-    ensures results { (i : ℕ) (one : PlanOp) → slice_get ops.now i ≡ Some one → slice_index registers.new (14 + i) ≡ result_of registers.new one }
+    ensures results { (i : ℕ) (one : PlanOp) → slice_get ops.now i ≡ Some one
+        → slice_index registers.new (14 + i) ≡ result_of registers.new one }
     ensures steps { steps.new ≡ steps.old + length ops.now }
 {
     for at in 0..ops.len() {

@@ -1,7 +1,9 @@
 // The operations of all streams of a query.
 
-ghost use Rattle.std.specs.Prelude.{◌≡◌, ◌≤◌, ◌∷◌, [], None, Some, length, slice_get, nat_lt, IfOk, OnOk, IfErr};
+ghost use Rattle.std.specs.Prelude.{◌≡◌, ◌+◌, ◌<◌, ◌≤◌, ◌∷◌, [], None, Some, length, slice_get, nat_lt, IfOk, OnOk, IfErr};
 ghost use Rattle.std.specs.List.{list_any};
+ghost use Rattle.query_lang.specs.TypedQueries.{IsValidQuery};
+ghost use Rattle.stage_plan.specs.Counting.{HasInputs, HasFold, op_most};
 ghost use Rattle.stage_plan.specs.Making.{packet_wires, wires_at, made_by, are_deep, all_made, made_fault, IsTold};
 
 use crate::answer::PlanAnswer;
@@ -45,24 +47,20 @@ fn packets(alloc: Global) -> Result<StreamWires, AllocError>
     })
 }
 
-// The stream with a number, which a valid query has.
-pub(crate) fn stream_at(streams: &[StreamWires], number: u16) -> Result<&StreamWires, AllocError>
-    ensures { IfOk result (λ wires. wires.now ≡ wires_at streams.now number) }
+// The stream with a number.
+pub(crate) fn stream_at(streams: &[StreamWires], number: u16) -> &StreamWires
+    requires { number < length streams.now }
+    ensures { result.now ≡ wires_at streams.now number }
 {
-    match streams.get(number as usize) {
-        Some(wires) => Ok(wires),
-        None => Err(AllocError),
-    }
+    &streams[number as usize]
 }
 
-// The fold with a number, which a valid query has.
-pub(crate) fn fold_of(folds: &[TypedFold], number: u16) -> Result<&TypedFold, AllocError>
-    ensures { IfOk result (λ f. slice_get folds.now number ≡ Some f.now) }
+// The fold with a number.
+pub(crate) fn fold_of(folds: &[TypedFold], number: u16) -> &TypedFold
+    requires { number < length folds.now }
+    ensures { slice_get folds.now number ≡ Some result.now }
 {
-    match folds.get(number as usize) {
-        Some(f) => Ok(f),
-        None => Err(AllocError),
-    }
+    &folds[number as usize]
 }
 
 // What an operator makes of the streams before it.
@@ -73,28 +71,28 @@ fn make_stream(
     streams: &[StreamWires],
     op: &TypedOp,
 ) -> Result<StreamWires, AllocError>
-    requires { length ops.old ≤ 32768 }
+    requires inputs { HasInputs (length streams.now) op.now }
+    requires fold { HasFold (length folds.now) op.now }
+    requires room { length ops.old + op_most folds.now op.now ≤ 32768 }
     ensures ops { OnOk result (ops.new ≡ (made_by folds.now streams.now op.now ops.old).ops) }
     ensures wires { IfOk result (λ wires. wires ≡ (made_by folds.now streams.now op.now ops.old).wires) }
-    ensures few { OnOk result (length ops.new ≤ 32768) }
+    ensures few { OnOk result (length ops.new ≤ length ops.old + op_most folds.now op.now) }
 {
     match op {
         TypedOp::Filter(input, condition) => {
-            let source = stream_at(streams, *input)?;
-            make_filter(alloc, ops, source, condition)
+            make_filter(alloc, ops, stream_at(streams, *input), condition)
         }
         TypedOp::Map(input, values) => {
-            let source = stream_at(streams, *input)?;
-            make_map(alloc, ops, source, values.as_slice())
+            make_map(alloc, ops, stream_at(streams, *input), values.as_slice())
         }
         TypedOp::Zip(first, second, slots) => {
-            let left = stream_at(streams, *first)?;
-            let right = stream_at(streams, *second)?;
+            let left = stream_at(streams, *first);
+            let right = stream_at(streams, *second);
             make_zip(alloc, ops, left, right, slots.as_slice())
         }
         TypedOp::Group(input, keys, number, args) => {
-            let source = stream_at(streams, *input)?;
-            let f = fold_of(folds, *number)?;
+            let source = stream_at(streams, *input);
+            let f = fold_of(folds, *number);
             make_group(alloc, ops, f, source, keys.as_slice(), args.as_slice())
         }
     }
@@ -109,6 +107,7 @@ fn has_deep(ops: &[PlanOp]) -> bool
 
 // The operations of all streams, or the first stream that is too deep.
 pub(crate) fn make_streams(alloc: Global, q: &TypedQuery) -> Result<MadeStreams, PlanAnswer>
+    requires { IsValidQuery q.now }
     ensures ops { IfOk result (λ made. made.ops ≡ (all_made q.now.folds [] (packet_wires ∷ []) q.now.streams).ops) }
     ensures streams { IfOk result (λ made. made.streams ≡ (all_made q.now.folds [] (packet_wires ∷ []) q.now.streams).streams) }
     ensures fits { OnOk result (made_fault q.now.folds [] (packet_wires ∷ []) q.now.streams ≡ None) }

@@ -1,4 +1,6 @@
 use Rattle.std.proofs.Common.{ap, length}
+use Rattle.stage_plan.specs.Making.{packet_wires}
+use Rattle.stage_plan.proofs.Counts.{all_inputs, all_fit}
 use Rattle.stage_plan.proofs.Putting.{IsPut, numbers_within, few_numbers, order_from, put_from}
 use Rattle.stage_plan.proofs.planner.put_plan.Goals as goal
 
@@ -13,6 +15,14 @@ registers_in-requires-clause-few c =
     few_numbers c.args.q.now c.args.made.now.ops c.args.made.now.streams c.as_slice.result.now
     (record { valid = c.requires.valid; ops_are = c.requires.ops; streams_are = c.requires.streams; fits = c.requires.fits; few = c.requires.few })
     (order_from c.args.made.now.ops c.as_slice-ops.result.now c.greatest_stage.result c.in_ok-order.order c.as_slice.result.now c.as_slice-ops.ensures c.greatest_stage.ensures c.in_ok-order.ensures c.as_slice.ensures)
+
+pub wire_groups-requires : goal.wire_groups-requires
+wire_groups-requires c =
+    all_inputs c.args.q.now c.args.made.now.streams c.as_slice-5.result.now packet_wires c.as_slice-4.result.now c.requires.valid c.requires.streams
+    c.as_slice-5.ensures c.as_slice-4.ensures
+
+pub plan_groups-requires : goal.plan_groups-requires
+plan_groups-requires c = record { folds = c.requires.valid.folds; names = c.requires.valid.fold_names; fits = all_fit c.args.q.now c.requires.valid }
 
 pub of_parts-requires : goal.of_parts-requires
 of_parts-requires c =

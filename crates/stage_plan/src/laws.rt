@@ -1,0 +1,15 @@
+// Laws about the stages of plans.
+
+ghost use Rattle.std.specs.Prelude.{◌≡◌, ℕ, ◌≤◌, List, map};
+ghost use Rattle.stage_plan.specs.Placements.{IsPlacement};
+ghost use Rattle.stage_plan.specs.Registers.{stages_of};
+ghost use Rattle.stage_plan.specs.Shape.{greatest};
+ghost use Rattle.stage_plan.specs.Sound.{PlanParts, IsSoundPlan};
+
+/// A plan's operations stand in a placement, and no placement of them, each behind those that it reads, has fewer stages.
+pub fn stages_are_fewest()
+    ensures placed { (plan : PlanParts) → IsSoundPlan plan → IsPlacement plan.ops (map (λ one. one.stage) plan.ops) }
+    ensures highest { (plan : PlanParts) → greatest (map (λ one. one.stage) plan.ops) ≡ stages_of plan.ops }
+    ensures fewest { (plan : PlanParts) (stages : List ℕ) → IsSoundPlan plan → IsPlacement plan.ops stages
+        → stages_of plan.ops ≤ greatest stages }
+{}
