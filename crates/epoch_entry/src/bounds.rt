@@ -6,9 +6,8 @@ ghost use Rattle.fold_class.specs.Program.{IsProgram, IsProgramOf};
 use crate::kind::EpochKind;
 use crate::known::shape_known;
 use crate::triple::{run_three, start_three, write_three};
-use crate::words::copy_words;
 use fold_class::FoldProgram;
-use marple_base::Steps;
+use marple_base::{Steps, copy_words};
 use std::sync::ledger::Ledger;
 
 /// Entries that are three states of the fold one after another, run side by side: from the initial state, from zeros and

@@ -5,9 +5,8 @@ ghost use Rattle.coeff_algebra.specs.Maps.{stored_at};
 ghost use Rattle.fold_code.specs.Meaning.{Code, code_step, code_scratch};
 ghost use Rattle.epoch_entry.specs.Entries.{logged_rows};
 
-use crate::words::copy_words;
 use fold_code::FoldCode;
-use marple_base::Steps;
+use marple_base::{Steps, copy_words};
 use std::sync::ledger::Ledger;
 
 // Writes a row into the log, at its number.

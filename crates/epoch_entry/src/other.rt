@@ -5,9 +5,8 @@ ghost use Rattle.fold_class.specs.Program.{IsProgram, IsProgramOf};
 
 use crate::kind::EpochKind;
 use crate::known::shape_known;
-use crate::words::copy_words;
 use fold_class::FoldProgram;
-use marple_base::Steps;
+use marple_base::{Steps, copy_words};
 use std::sync::ledger::Ledger;
 
 /// Entries that are the fold's state, from the initial state on. Where such an epoch is merged, its state becomes a row

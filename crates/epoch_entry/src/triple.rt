@@ -4,9 +4,8 @@ ghost use Rattle.std.specs.Prelude.{◌≡◌, ◌+◌, ◌*◌, length, replica
 ghost use Rattle.fold_code.specs.Meaning.{code_step, code_steps, code_scratch};
 ghost use Rattle.epoch_entry.specs.Triples.{step_beside, start_beside};
 
-use crate::words::copy_words;
 use fold_code::FoldCode;
-use marple_base::Steps;
+use marple_base::{Steps, copy_words};
 use std::sync::ledger::Ledger;
 
 // The same word everywhere.

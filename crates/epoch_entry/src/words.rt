@@ -1,4 +1,4 @@
-// Words at places of a state, and words that are copied, with a step for each that is written.
+// Words at places of a state, with a step for each that is written.
 
 ghost use Rattle.std.specs.Prelude.{◌≡◌, ◌≢◌, ℕ, ◌+◌, ◌<◌, length, map, slice_index, All};
 ghost use Rattle.fold_class.specs.Step.{words_at};
@@ -11,21 +11,7 @@ use std::sync::ledger::Ledger;
 pub(crate) fn tick_words<L: Ledger>(words: usize, steps: &mut Steps<L>)
     ensures { steps.new ≡ steps.old + words }
 {
-    for _word in 0..words {
-        steps.tick();
-    }
-}
-
-// All words of a slice.
-pub(crate) fn copy_words<L: Ledger>(from: &[u64], to: &mut [u64], steps: &mut Steps<L>)
-    requires { length to.old ≡ length from.now }
-    ensures words { to.new ≡ from.now }
-    ensures steps { steps.new ≡ steps.old + length from.now }
-{
-    for (at, word) in from.iter().enumerate() {
-        to[at] = *word;
-        steps.tick();
-    }
+    steps.tick_many(words as u64);
 }
 
 // The words of a state at some places, in this order.
