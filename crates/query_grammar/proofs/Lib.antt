@@ -14,4 +14,5 @@ pub mod Whole
 pub mod TextFaults
 pub mod Weights
 pub mod ItemWeights
+pub mod FoldTokens
 pub mod Numbered
