@@ -1,5 +1,6 @@
 -- What contracts see of a store.
-use Rattle.std.specs.Prelude.{⊤, ℕ, ◌+◌, ◌-◌, ◌^◌, ◌<◌, ◌≡◌, ◌≢◌, ◌||◌, Bool, ◌==◌, if◌then◌else◌, List, [], ◌∷◌, ◌++◌, length, map, min, slice_get, Some}
+use Rattle.std.specs.Prelude.{⊤, ℕ, ◌+◌, ◌-◌, ◌^◌, ◌<◌, ◌≡◌, ◌≢◌, ◌||◌, Bool, ◌==◌, if◌then◌else◌}
+use Rattle.std.specs.Prelude.{List, [], ◌∷◌, ◌++◌, length, map, min, slice_get, Some}
 use Rattle.epoch_model.specs.Keys.{Key, key_eq}
 
 -- a key, and how many epochs of it were counted
@@ -46,7 +47,10 @@ makes_row store key row_per_epoch = row_per_epoch || (number_of store.keys key =
 abbrev pub counted : Store → Key → List ℕ → Bool → Store
 counted store key initial row_per_epoch = record {
   keys = with_epoch store.keys key;
-  rows = if makes_row store key row_per_epoch then store.rows ++ record { key = number_of store.keys key; words = initial } ∷ [] else store.rows;
+  rows =
+      if makes_row store key row_per_epoch
+      then store.rows ++ record { key = number_of store.keys key; words = initial } ∷ []
+      else store.rows;
   key_words = store.key_words;
   state_words = store.state_words;
 }

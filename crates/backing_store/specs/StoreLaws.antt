@@ -1,7 +1,8 @@
 -- What an epoch of a key, and what is written into its last row, mean for each key.
 use Rattle.std.specs.Prelude.{ℕ, ◌≡◌, ◌||◌, ◌&&◌, Bool, List, [], ◌∷◌, ◌++◌, if◌then◌else◌, length, map}
 use Rattle.epoch_model.specs.Keys.{Key, has, key_eq}
-use Rattle.backing_store.specs.Store.{IsLastRowOf, IsStore, Store, StoredKey, counted, epochs_of, makes_row, one_more, states_of, with_epoch}
+use Rattle.backing_store.specs.Store.{IsLastRowOf, IsStore, Store, StoredKey}
+use Rattle.backing_store.specs.Store.{counted, epochs_of, makes_row, one_more, states_of, with_epoch}
 use Rattle.backing_store.specs.StoreLending.{with_words_at}
 
 -- the keys of a store
@@ -10,7 +11,8 @@ keys_of keys = map (λ stored. stored.key) keys
 
 -- a store gets no key but the one that has an epoch
 abbrev pub KeysAreKept : Type 0
-KeysAreKept = (keys : List StoredKey) (key other : Key) → has other (keys_of (with_epoch keys key)) ≡ (key_eq key other || has other (keys_of keys))
+KeysAreKept = (keys : List StoredKey) (key other : Key)
+    → has other (keys_of (with_epoch keys key)) ≡ (key_eq key other || has other (keys_of keys))
 
 -- that key has one epoch more, and every other as many as before
 abbrev pub EpochsAreCounted : Type 0

@@ -16,7 +16,8 @@ store_of a = record {
 
 -- each key has a row, and keeps the place of its last one
 abbrev pub KeepsLast : Inside → Type 0
-KeepsLast a = (number : ℕ) (merged : Merged) → slice_get (values a.keys) number ≡ Some merged → IsLastIn (row_keys (store_of a).rows) number merged.last
+KeepsLast a = (number : ℕ) (merged : Merged) → slice_get (values a.keys) number ≡ Some merged
+    → IsLastIn (row_keys (store_of a).rows) number merged.last
 
 abbrev pub IsSound : Inside → Type 0
 IsSound a = IsStore (store_of a) × KeepsLast a

@@ -99,6 +99,35 @@ fn made_rows(
     Ok(made)
 }
 
+// The same rows, moved: each gives its words away.
+fn moved_rows(
+    alloc: Global,
+    keys: &IndexMap<Vec<u64>, Merged>,
+    rows: Vec<Row>,
+) -> Result<Vec<StoreRow>, AllocError>
+    requires once { AreOnce (stored_keys keys.now.entries) }
+    requires rows { (words : ℕ) × AreRowsOf (length (stored_keys keys.now.entries)) words (lines rows.items) }
+    ensures { IfOk result (λ made. IsMade (stored_keys keys.now.entries) made.items (lines rows.items)) }
+{
+    let mut given = vec![in alloc; 0u64; keys.len()]?;
+    let mut made = Vec::with_capacity(alloc, rows.len())?;
+    for row in rows {
+        let Row { of, words } = row;
+        if let Some((key, merged)) = keys.get_index(of) {
+            let epoch = given[of] + 1;
+            let key = Seq::from_vec(Vec::from_slice(alloc, key.as_slice())?);
+            made.push(StoreRow {
+                key,
+                epoch,
+                epochs: merged.epochs,
+                state: Seq::from_vec(words),
+            })?;
+            given[of] = epoch;
+        }
+    }
+    Ok(made)
+}
+
 // A copy of the map.
 fn copied_keys(
     alloc: Global,
@@ -107,7 +136,7 @@ fn copied_keys(
     requires { AreOnce (stored_keys keys.now.entries) }
     ensures { IfOk result (λ copy. shown copy.entries ≡ shown keys.now.entries) }
 {
-    let mut copy = IndexMap::new(alloc);
+    let mut copy = IndexMap::with_capacity(alloc, keys.len())?;
     for place in 0..keys.len() {
         if let Some((key, merged)) = keys.get_index(place) {
             let owned = Vec::from_slice(alloc, key.as_slice())?;
@@ -192,13 +221,11 @@ impl BackingStore {
             }
             None => {
                 let owned = Vec::from_slice(self.alloc, key)?;
+                self.keys.reserve(1)?;
                 let number = self.keys.len();
                 let last = add_row(self.alloc, &mut self.rows, number, initial)?;
-                if let Ok(_) = self.keys.insert(owned, Merged { epochs: 1, last }) {
-                    return Ok(last);
-                }
-                self.rows.truncate(last);
-                Err(AllocError)
+                self.keys.insert(owned, Merged { epochs: 1, last })?;
+                Ok(last)
             }
         }
     }
@@ -221,6 +248,21 @@ impl BackingStore {
         ensures { IfOk result (λ rows. rows ≡ sorted_rows self.now) }
     {
         let mut rows = made_rows(self.alloc, &self.keys, self.rows.as_slice())?;
+        sort_rows(&mut rows)?;
+        Ok(Seq::from_vec(rows))
+    }
+
+    /// The rows that `sorted` gives. The store is given away for them: their states are its own.
+    pub fn into_sorted(self) -> Result<Seq<StoreRow>, AllocError>
+        ensures { IfOk result (λ rows. rows ≡ sorted_rows self) }
+    {
+        let BackingStore {
+            alloc,
+            keys,
+            rows,
+            ..
+        } = self;
+        let mut rows = moved_rows(alloc, &keys, rows)?;
         sort_rows(&mut rows)?;
         Ok(Seq::from_vec(rows))
     }

@@ -1,5 +1,6 @@
 -- A cache: for each bucket its pairs, and the entry words by place.
-use Rattle.std.specs.Prelude.{◌≡◌, ℕ, List, [], Some, ◌+◌, ◌*◌, ◌<◌, ◌≤◌, length, slice_get, slice_index_or, slice_set, replicate, All}
+use Rattle.std.specs.Prelude.{◌≡◌, ℕ, List, [], Some, ◌+◌, ◌*◌, ◌<◌, ◌≤◌, length, slice_get, slice_index_or}
+use Rattle.std.specs.Prelude.{slice_set, replicate, All}
 use Rattle.bucket_cache.specs.Buckets.{Pair, AreOnce}
 
 pub record Cache : Type 0 where
@@ -17,15 +18,17 @@ entry_at cache place = slice_index_or cache.entries place []
 abbrev pub with_list : Cache → ℕ → List Pair → Cache
 with_list cache bucket pairs = record cache { lists = slice_set cache.lists bucket pairs }
 
--- Each bucket has distinct keys of the cache's number of words, no more of them than ways, at places of its own; a place is that of one pair at most; and each
--- place of a bucket has an entry of the cache's number of words.
+-- Each bucket has distinct keys of the cache's number of words, no more of them than ways, at places of its own; a
+-- place is that of one pair at most; and each place of a bucket has an entry of the cache's number of words.
 pub record IsSoundCache (ways : ℕ) (cache : Cache) : Type 0 where
   pub few : (bucket : ℕ) → length (list_at cache bucket) ≤ ways
   pub once : (bucket : ℕ) → AreOnce (list_at cache bucket)
   pub words : (bucket : ℕ) → All (λ pair. length pair.key ≡ cache.key_words) (list_at cache bucket)
-  pub places : (bucket : ℕ) → All (λ pair. (bucket * ways ≤ pair.place) × (pair.place < bucket * ways + ways)) (list_at cache bucket)
+  pub places : (bucket : ℕ) → All (λ pair. (bucket * ways ≤ pair.place)
+      × (pair.place < bucket * ways + ways)) (list_at cache bucket)
   pub within : (bucket : ℕ) → All (λ pair. pair.place < length cache.entries) (list_at cache bucket)
-  pub apart : (one two i j : ℕ) (p q : Pair) → slice_get (list_at cache one) i ≡ Some p → slice_get (list_at cache two) j ≡ Some q → p.place ≡ q.place → (one ≡ two) × (i ≡ j)
+  pub apart : (one two i j : ℕ) (p q : Pair) → slice_get (list_at cache one) i ≡ Some p
+      → slice_get (list_at cache two) j ≡ Some q → p.place ≡ q.place → (one ≡ two) × (i ≡ j)
   pub entries : length cache.entries ≡ length cache.lists * ways
   pub entry_words : All (λ entry. length entry ≡ cache.entry_words) cache.entries
 

@@ -12,7 +12,8 @@ pub record IsHome (ways key_words first : ℕ) (r : Recency) : Type 0 where
 -- the buckets have their places one after another, with an entry for each
 pub record IsShaped (ways key_words entry_words : ℕ) (buckets : List Recency) (entries : List (List ℕ)) : Type 0 where
   pub some : 0 < ways
-  pub each : (bucket : ℕ) (d : Recency) → bucket < length buckets → IsHome ways key_words (bucket * ways) (slice_index_or buckets bucket d)
+  pub each : (bucket : ℕ) (d : Recency) → bucket < length buckets
+      → IsHome ways key_words (bucket * ways) (slice_index_or buckets bucket d)
   pub room : length buckets * ways ≤ 65536
   pub places : length entries ≡ length buckets * ways
   pub words : All (λ entry. length entry ≡ entry_words) entries

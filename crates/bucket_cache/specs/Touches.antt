@@ -1,5 +1,6 @@
 -- What a touch answers, and what it leaves.
-use Rattle.std.specs.Prelude.{◌≡◌, ℕ, true, false, List, ◌∷◌, ◌+◌, ◌*◌, ◌<◌, ◌-◌, length, slice_get, Option, Some}
+use Rattle.std.specs.Prelude.{◌≡◌, ℕ, true, false, List, ◌∷◌, ◌+◌, ◌*◌, ◌<◌, ◌-◌, length, slice_get}
+use Rattle.std.specs.Prelude.{Option, Some}
 use Rattle.epoch_model.specs.Keys.{Key}
 use Rattle.bucket_cache.specs.Buckets.{Pair, has_key, place_of, places_of, without_key}
 use Rattle.bucket_cache.specs.declared.bucket.Touch.{Touch}

@@ -1,6 +1,7 @@
 //! One bucket.
 
-ghost use Rattle.std.specs.Prelude.{◌≡◌, ℕ, ◌+◌, ◌-◌, ◌*◌, ◌<◌, ◌≤◌, ◌^◌, length, take, false, IfOk, Some, [], slice_get};
+ghost use Rattle.std.specs.Prelude.{◌≡◌, ℕ, ◌+◌, ◌-◌, ◌*◌, ◌<◌, ◌≤◌, ◌^◌, length, take, false, IfOk};
+ghost use Rattle.std.specs.Prelude.{Some, [], slice_get};
 ghost use Rattle.bucket_cache.specs.Buckets.{Pair, Recency, with_pairs, has_key, places_of, IsSound};
 ghost use Rattle.bucket_cache.specs.Touches.{Touches, IsLeast, least_place, with_front, touch_cost, replace_cost};
 
@@ -39,9 +40,15 @@ impl Model for Bucket {
 
     ghost Value = { Recency };
 
-    ghost view = { λ b. record { first = b.first; ways = length b.order.items; key_words = b.key_words; pairs = pairs_at b.first (rows_of b.key_words (length b.order.items) b.words.items) (take b.used b.order.items) } };
+    ghost view = { λ b. record {
+      first = b.first;
+      ways = length b.order.items;
+      key_words = b.key_words;
+      pairs = pairs_at b.first (rows_of b.key_words (length b.order.items) b.words.items) (take b.used b.order.items);
+    } };
 
-    ghost invariant = { λ b. IsBucket b.first b.key_words b.used b.order.items (rows_of b.key_words (length b.order.items) b.words.items) × (length b.words.items ≡ length b.order.items * b.key_words) };
+    ghost invariant = { λ b. IsBucket b.first b.key_words b.used b.order.items
+        (rows_of b.key_words (length b.order.items) b.words.items) × (length b.words.items ≡ length b.order.items * b.key_words) };
 }
 
 impl Bucket {
@@ -134,7 +141,8 @@ impl Bucket {
     pub fn key(&self, way: usize) -> &[u64]
         requires { way < self.now.ways }
         ensures length { length result.now ≡ self.now.key_words }
-        ensures key { (i : ℕ) (pair : Pair) → slice_get self.now.pairs i ≡ Some pair → pair.place ≡ self.now.first + way → result.now ≡ pair.key }
+        ensures key { (i : ℕ) (pair : Pair) → slice_get self.now.pairs i ≡ Some pair → pair.place ≡ self.now.first + way
+            → result.now ≡ pair.key }
     {
         slices::row(&self.words, self.key_words, way)
     }

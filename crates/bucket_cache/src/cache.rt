@@ -1,6 +1,7 @@
 //! The buckets of a cache.
 
-ghost use Rattle.std.specs.Prelude.{◌≡◌, ℕ, List, ◌+◌, ◌-◌, ◌*◌, ◌<◌, ◌≤◌, length, take, false, IfOk, Some, slice_get, sum_by};
+ghost use Rattle.std.specs.Prelude.{◌≡◌, ℕ, List, ◌+◌, ◌-◌, ◌*◌, ◌<◌, ◌≤◌, length, take, false, IfOk, Some};
+ghost use Rattle.std.specs.Prelude.{slice_get, sum_by};
 ghost use Rattle.std.specs.Borrow.{sem};
 ghost use Rattle.bucket_cache.specs.Buckets.{Pair, has_key, places_of};
 ghost use Rattle.bucket_cache.specs.Touches.{Touches, IsLeast, least_place, with_front, touch_cost, replace_cost};
@@ -31,7 +32,12 @@ impl<const WAYS: usize> Model for BucketCache<WAYS> {
 
     ghost Value = { Cache };
 
-    ghost view = { λ c. record { key_words = c.key_words; entry_words = c.entry_words; lists = map (λ r. r.pairs) c.buckets.items; entries = c.entries } };
+    ghost view = { λ c. record {
+      key_words = c.key_words;
+      entry_words = c.entry_words;
+      lists = map (λ r. r.pairs) c.buckets.items;
+      entries = c.entries;
+    } };
 
     ghost invariant = { λ c. IsShaped WAYS c.key_words c.entry_words c.buckets.items c.entries };
 }
@@ -99,7 +105,8 @@ impl<const WAYS: usize> BucketCache<WAYS> {
         requires full { length (list_at self.old bucket) ≡ WAYS }
         requires absent { has_key key.now (list_at self.old bucket) ≡ false }
         ensures place { IsLeast (list_at self.old bucket) result }
-        ensures pairs { let old = list_at self.old bucket in self.new ≡ with_list self.old bucket (with_front key.now result (take (length old - 1) old)) }
+        ensures pairs { let old = list_at self.old bucket in self.new
+            ≡ with_list self.old bucket (with_front key.now result (take (length old - 1) old)) }
         ensures sound { IsSoundCache WAYS self.new }
         ensures cost { steps.new ≡ steps.old + replace_cost WAYS self.old.key_words }
     {
@@ -146,7 +153,8 @@ impl<const WAYS: usize> BucketCache<WAYS> {
     pub fn key(&self, at: usize) -> &[u64]
         requires { at < length self.now.entries }
         ensures length { length result.now ≡ self.now.key_words }
-        ensures key { (bucket i : ℕ) (pair : Pair) → slice_get (list_at self.now bucket) i ≡ Some pair → pair.place ≡ at → result.now ≡ pair.key }
+        ensures key { (bucket i : ℕ) (pair : Pair) → slice_get (list_at self.now bucket) i ≡ Some pair → pair.place ≡ at
+            → result.now ≡ pair.key }
     {
         let bucket = &self.buckets[at / WAYS];
         bucket.key(at % WAYS)
@@ -167,7 +175,8 @@ impl<const WAYS: usize> BucketCache<WAYS> {
         ensures* writes_back { sem 𝓛 (LendsCacheEntry WAYS.row self.entry at result) }
         ensures value { result.now ≡ entry_at self.old at }
         ensures length { length result.now ≡ self.old.entry_words }
-        ensures whole { (words : List ℕ) → length words ≡ self.old.entry_words → written_over (entry_at self.old at) words ≡ words }
+        ensures whole { (words : List ℕ) → length words ≡ self.old.entry_words
+            → written_over (entry_at self.old at) words ≡ words }
     {
         self.entries.entry_mut(at)
     }

@@ -23,18 +23,6 @@ pub fn same_words<L: Ledger>(a: &[u64], b: &[u64], steps: &mut Steps<L>) -> bool
     true
 }
 
-/// Copies words over a slice of their length.
-pub fn copy_words<L: Ledger>(to: &mut [u64], from: &[u64], steps: &mut Steps<L>)
-    requires { length from.now ≡ length to.old }
-    ensures copied { to.new ≡ from.now }
-    ensures cost { steps.new ≡ steps.old + length from.now }
-{
-    for i in 0..from.len() {
-        to[i] = from[i];
-        steps.tick();
-    }
-}
-
 /// Moves an element to the front, and those before it one place back.
 pub fn move_to_front<L: Ledger>(order: &mut [usize], at: usize, steps: &mut Steps<L>)
     requires { at < length order.old }

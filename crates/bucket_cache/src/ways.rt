@@ -1,6 +1,7 @@
 //! The ways of one bucket: their order by recent use, with free ways at the end, and the words of their keys.
 
-ghost use Rattle.std.specs.Prelude.{◌≡◌, ℕ, ◌+◌, ◌-◌, ◌*◌, ◌<◌, ◌≤◌, length, take, slice_index, slice_index_or, slice_set, IfSome, IfNone, true, false, All, []};
+ghost use Rattle.std.specs.Prelude.{◌≡◌, ℕ, ◌+◌, ◌-◌, ◌*◌, ◌<◌, ◌≤◌, length, take, slice_index};
+ghost use Rattle.std.specs.Prelude.{slice_index_or, slice_set, IfSome, IfNone, true, false, All, []};
 ghost use Rattle.epoch_model.specs.Keys.{key_eq};
 ghost use Rattle.bucket_cache.specs.Slices.{at_front, rows_of};
 ghost use Rattle.bucket_cache.specs.Buckets.{pairs_at, has_key, IsBucket};
@@ -8,7 +9,7 @@ ghost use Rattle.bucket_cache.specs.Touches.{Touches, IsLeast, with_front, touch
 
 use crate::bucket::Touch;
 use crate::slices;
-use marple_base::Steps;
+use marple_base::{Steps, copy_words};
 use std::sync::ledger::Ledger;
 
 /// Where the key stands among the ways in use.
@@ -23,8 +24,11 @@ fn find_key<L: Ledger>(
     requires ways { All (λ way. way < length order.now) order.now }
     requires flat { length words.now ≡ length order.now * length key.now }
     ensures found { IfSome result (λ at. at < used) }
-    ensures same { IfSome result (λ at. key_eq (slice_index_or (rows_of (length key.now) (length order.now) words.now) (slice_index order.now at) []) key.now ≡ true) }
-    ensures none { IfNone result ((at : ℕ) → at < used → key_eq (slice_index_or (rows_of (length key.now) (length order.now) words.now) (slice_index order.now at) []) key.now ≡ false) }
+    ensures same { IfSome result (λ at. key_eq
+        (slice_index_or (rows_of (length key.now) (length order.now) words.now) (slice_index order.now at) []) key.now ≡ true) }
+    ensures none { IfNone result ((at : ℕ) → at < used
+        → key_eq (slice_index_or (rows_of (length key.now) (length order.now) words.now)
+        (slice_index order.now at) []) key.now ≡ false) }
     ensures at_least { steps.old ≤ steps.new }
     ensures cost { steps.new ≤ steps.old + used * length key.now }
 {
@@ -50,13 +54,14 @@ fn put<L: Ledger>(
     requires flat { length words.old ≡ length order.old * length key.now }
     ensures way { result ≡ slice_index order.old at }
     ensures moved { order.new ≡ at_front at order.old }
-    ensures keys { rows_of (length key.now) (length order.old) words.new ≡ slice_set (rows_of (length key.now) (length order.old) words.old) result key.now }
+    ensures keys { rows_of (length key.now) (length order.old) words.new
+        ≡ slice_set (rows_of (length key.now) (length order.old) words.old) result key.now }
     ensures cost { steps.new ≡ steps.old + (at + 1) + length key.now }
 {
     let way = order[at];
     slices::move_to_front(order, at, steps);
     let start = way * key.len();
-    slices::copy_words(&mut words[start..start + key.len()], key, steps);
+    copy_words(key, &mut words[start..start + key.len()], steps);
     way
 }
 
@@ -106,11 +111,14 @@ pub fn replace_way<L: Ledger>(
 ) -> usize
     requires bucket { IsBucket first (length key.now) (length order.old) order.old (rows_of (length key.now) (length order.old) words.old) }
     requires flat { length words.old ≡ length order.old * length key.now }
-    requires absent { has_key key.now (pairs_at first (rows_of (length key.now) (length order.old) words.old) (take (length order.old) order.old)) ≡ false }
+    requires absent { has_key key.now
+        (pairs_at first (rows_of (length key.now) (length order.old) words.old) (take (length order.old) order.old)) ≡ false }
     ensures bucket { IsBucket first (length key.now) (length order.old) order.new (rows_of (length key.now) (length order.old) words.new) }
-    ensures place { IsLeast (pairs_at first (rows_of (length key.now) (length order.old) words.old) (take (length order.old) order.old)) result }
+    ensures place { IsLeast (pairs_at first (rows_of (length key.now) (length order.old) words.old)
+        (take (length order.old) order.old)) result }
     ensures pairs { let old = pairs_at first (rows_of (length key.now) (length order.old) words.old) (take (length order.old) order.old) in
-        pairs_at first (rows_of (length key.now) (length order.old) words.new) (take (length order.old) order.new) ≡ with_front key.now result (take (length old - 1) old) }
+        pairs_at first (rows_of (length key.now) (length order.old) words.new) (take (length order.old) order.new)
+        ≡ with_front key.now result (take (length old - 1) old) }
     ensures cost { steps.new ≡ steps.old + replace_cost (length order.old) (length key.now) }
 {
     let last = order.len() - 1;

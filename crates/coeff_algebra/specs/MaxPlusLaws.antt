@@ -63,7 +63,8 @@ add_word Absent y p = cc
 add_word (Word a) Absent p = refl
 add_word (Word a) (Word b) p = refl
 
-mul_word : (x y : MaxPlus64) → IsWordOf max_plus_elements x → IsWordOf max_plus_elements y → IsWordOf max_plus_elements (max_plus_mul x y)
+mul_word : (x y : MaxPlus64) → IsWordOf max_plus_elements x → IsWordOf max_plus_elements y
+    → IsWordOf max_plus_elements (max_plus_mul x y)
 mul_word Absent y p q = cc
 mul_word (Word a) Absent p q = cc
 mul_word (Word a) (Word b) p q = refl

@@ -4,7 +4,7 @@ ghost use Rattle.std.specs.Prelude.{◌≡◌, ◌≢◌, ℕ, ◌+◌, ◌*◌,
 ghost use Rattle.coeff_algebra.specs.Maps.{stored_at, stored_entry, element_at, table_of, sum_below, map_compose, map_apply};
 
 use crate::coeff::Coeff;
-use marple_base::Steps;
+use marple_base::{Steps, copy_words};
 use std::sync::ledger::Ledger;
 
 /// The element at a place.
@@ -39,7 +39,8 @@ fn dot<C: Coeff, L: Ledger>(
     requires earlier { length earlier.now ≡ n * (n + 1) * C.WORDS }
     requires row { row < n }
     requires column { column ≤ n }
-    ensures value { result ≡ sum_below C.elements n (λ k. C.elements.mul (table_of C.from_words C.WORDS n later.now row k) (table_of C.from_words C.WORDS n earlier.now k column)) }
+    ensures value { result ≡ sum_below C.elements n
+        (λ k. C.elements.mul (table_of C.from_words C.WORDS n later.now row k) (table_of C.from_words C.WORDS n earlier.now k column)) }
     ensures steps { steps.new ≡ steps.old + n }
 {
     let mut sum = C::zero();
@@ -65,7 +66,10 @@ fn compose_row<C: Coeff, L: Ledger>(
     requires earlier { length earlier.now ≡ n * (n + 1) * C.WORDS }
     requires room { length scratch.old ≡ n * (n + 1) * C.WORDS }
     requires row { row < n }
-    ensures entries { (j : ℕ) → j ≤ n → stored_entry C.WORDS n scratch.new row j ≡ C.words (map_compose C.elements n (table_of C.from_words C.WORDS n later.now) (table_of C.from_words C.WORDS n earlier.now) row j) }
+    ensures entries { (j : ℕ) → j ≤ n
+        → stored_entry C.WORDS n scratch.new row j
+        ≡ C.words (map_compose C.elements n (table_of C.from_words C.WORDS n later.now)
+        (table_of C.from_words C.WORDS n earlier.now) row j) }
     ensures before { (p : ℕ) → p < row * (n + 1) → stored_at C.WORDS scratch.new p ≡ stored_at C.WORDS scratch.old p }
     ensures steps { steps.new ≡ steps.old + (n + 1) * n }
 {
@@ -81,18 +85,6 @@ fn compose_row<C: Coeff, L: Ledger>(
     }
 }
 
-// All words of a slice, one step each.
-fn copy_words<L: Ledger>(from: &[u64], to: &mut [u64], steps: &mut Steps<L>)
-    requires { length from.now ≡ length to.old }
-    ensures words { to.new ≡ from.now }
-    ensures steps { steps.new ≡ steps.old + length from.now }
-{
-    for (at, word) in from.iter().enumerate() {
-        to[at] = *word;
-        steps.tick();
-    }
-}
-
 /// `earlier` becomes the map that applies the old `earlier` first and `later` after it. `scratch` may hold anything.
 pub fn compose_into<C: Coeff, L: Ledger>(
     n: usize,
@@ -104,8 +96,13 @@ pub fn compose_into<C: Coeff, L: Ledger>(
     requires later { length later.now ≡ n * (n + 1) * C.WORDS }
     requires earlier { length earlier.old ≡ n * (n + 1) * C.WORDS }
     requires room { length scratch.old ≡ n * (n + 1) * C.WORDS }
-    ensures words { (i j : ℕ) → i < n → j ≤ n → stored_entry C.WORDS n earlier.new i j ≡ C.words (map_compose C.elements n (table_of C.from_words C.WORDS n later.now) (table_of C.from_words C.WORDS n earlier.old) i j) }
-    ensures composed { (i j : ℕ) → i < n → j ≤ n → table_of C.from_words C.WORDS n earlier.new i j ≡ map_compose C.elements n (table_of C.from_words C.WORDS n later.now) (table_of C.from_words C.WORDS n earlier.old) i j }
+    ensures words { (i j : ℕ) → i < n → j ≤ n
+        → stored_entry C.WORDS n earlier.new i j
+        ≡ C.words (map_compose C.elements n (table_of C.from_words C.WORDS n later.now)
+        (table_of C.from_words C.WORDS n earlier.old) i j) }
+    ensures composed { (i j : ℕ) → i < n → j ≤ n
+        → table_of C.from_words C.WORDS n earlier.new i j
+        ≡ map_compose C.elements n (table_of C.from_words C.WORDS n later.now) (table_of C.from_words C.WORDS n earlier.old) i j }
     ensures steps { steps.new ≡ steps.old + n * ((n + 1) * n) + n * (n + 1) * C.WORDS }
 {
     for row in 0..n {
@@ -125,7 +122,8 @@ fn dot_words<C: Coeff, L: Ledger>(
     requires map { length map.now ≡ n * (n + 1) * C.WORDS }
     requires state { length state.now ≡ n }
     requires row { row < n }
-    ensures value { result ≡ sum_below C.elements n (λ j. C.elements.mul (table_of C.from_words C.WORDS n map.now row j) (C.elements.embed (slice_index state.now j))) }
+    ensures value { result ≡ sum_below C.elements n
+        (λ j. C.elements.mul (table_of C.from_words C.WORDS n map.now row j) (C.elements.embed (slice_index state.now j))) }
     ensures steps { steps.new ≡ steps.old + n }
 {
     let mut sum = C::zero();
@@ -148,7 +146,8 @@ fn row_word<C: Coeff, L: Ledger>(
     requires map { length map.now ≡ n * (n + 1) * C.WORDS }
     requires state { length state.now ≡ n }
     requires row { row < n }
-    ensures value { result ≡ C.elements.to_word (map_apply C.elements n (table_of C.from_words C.WORDS n map.now) (λ j. C.elements.embed (slice_index state.now j)) row) }
+    ensures value { result ≡ C.elements.to_word
+        (map_apply C.elements n (table_of C.from_words C.WORDS n map.now) (λ j. C.elements.embed (slice_index state.now j)) row) }
     ensures steps { steps.new ≡ steps.old + n }
 {
     let products: C = dot_words(n, map, row, state, steps);
@@ -167,7 +166,9 @@ pub fn apply_into<C: Coeff, L: Ledger>(
     requires map { length map.now ≡ n * (n + 1) * C.WORDS }
     requires state { length state.old ≡ n }
     requires room { length scratch.old ≡ n * (n + 1) * C.WORDS }
-    ensures applied { (i : ℕ) → i < n → slice_index state.new i ≡ C.elements.to_word (map_apply C.elements n (table_of C.from_words C.WORDS n map.now) (λ j. C.elements.embed (slice_index state.old j)) i) }
+    ensures applied { (i : ℕ) → i < n
+        → slice_index state.new i ≡ C.elements.to_word
+        (map_apply C.elements n (table_of C.from_words C.WORDS n map.now) (λ j. C.elements.embed (slice_index state.old j)) i) }
     ensures steps { steps.new ≡ steps.old + n * n + n }
 {
     'rows: for row in 0..n {

@@ -1,5 +1,6 @@
 -- What the words of a command line ask for.
-use Rattle.std.specs.Prelude.{ℕ, ◌*◌, ◌≤◌, Bool, ◌&&◌, ◌==◌, nat_le, List, [], ◌∷◌, Option, None, Some, is_none, unwrap_or, bytes_eq, codes, if◌then◌else◌}
+use Rattle.std.specs.Prelude.{ℕ, ◌*◌, ◌≤◌, Bool, ◌&&◌, ◌==◌, nat_le, List, [], ◌∷◌, Option, None, Some}
+use Rattle.std.specs.Prelude.{is_none, unwrap_or, bytes_eq, codes, if◌then◌else◌}
 use Rattle.std.specs.Option.{option_and_then, option_map}
 use Rattle.command_line.specs.Number.{number_within}
 use Rattle.command_line.specs.declared.command.Command.{Command}
@@ -56,12 +57,17 @@ is_new option name value = bytes_eq name option && is_none value
 -- the options with one more; each is named at most once
 abbrev pub with_option : Options → List ℕ → List ℕ → Option Options
 with_option options name value =
-    if is_new (codes "--buckets") name options.buckets then option_map (λ n. record options { buckets = Some n }) (number_within 1 65536 value)
+    if is_new (codes "--buckets") name options.buckets
+    then option_map (λ n. record options { buckets = Some n }) (number_within 1 65536 value)
     else if is_new (codes "--ways") name options.ways then option_map (λ ways. record options { ways = Some ways }) (ways_of value)
-    else if is_new (codes "--pipe") name options.pipe then option_map (λ n. record options { pipe = Some n }) (number_within 1 65536 value)
-    else if is_new (codes "--lag") name options.lag then option_map (λ n. record options { lag = Some n }) (number_within 1 1000000 value)
-    else if is_new (codes "--refresh") name options.refresh then option_map (λ n. record options { refresh = Some n }) (number_within 0 4194304 value)
-    else if is_new (codes "--every") name options.every then option_map (λ n. record options { every = Some n }) (number_within 0 4194304 value)
+    else if is_new (codes "--pipe") name options.pipe
+    then option_map (λ n. record options { pipe = Some n }) (number_within 1 65536 value)
+    else if is_new (codes "--lag") name options.lag
+    then option_map (λ n. record options { lag = Some n }) (number_within 1 1000000 value)
+    else if is_new (codes "--refresh") name options.refresh
+    then option_map (λ n. record options { refresh = Some n }) (number_within 0 4194304 value)
+    else if is_new (codes "--every") name options.every
+    then option_map (λ n. record options { every = Some n }) (number_within 0 4194304 value)
     else None
 
 -- the options with those that pairs of words name, in any order
@@ -77,7 +83,13 @@ setting_of options =
     let buckets = unwrap_or options.buckets 1024 in
     let ways = unwrap_or options.ways Eight in
     if nat_le (buckets * ways_number ways) 65536
-    then Some (record { buckets = buckets; ways = ways; pipe = unwrap_or options.pipe 64; lag = unwrap_or options.lag 1; refresh = unwrap_or options.refresh 0 })
+    then Some (record {
+      buckets = buckets;
+      ways = ways;
+      pipe = unwrap_or options.pipe 64;
+      lag = unwrap_or options.lag 1;
+      refresh = unwrap_or options.refresh 0;
+    })
     else None
 
 -- the setting of a command that gives no views
@@ -87,8 +99,9 @@ plain_setting_of options = if is_none options.every then setting_of options else
 abbrev pub setting_from : List (List ℕ) → Option Setting
 setting_from words = option_and_then plain_setting_of (options_from no_options words)
 
--- The setting of each of several switches: 64 buckets of 8 ways, 64 records of a pipe and a merge after each packet where the options don't say otherwise.
--- A cache has at most 1,024 places and a pipe at most 1,024 records; no caches are emptied before the end, and there are no views
+-- The setting of each of several switches: 64 buckets of 8 ways, 64 records of a pipe and a merge after each packet
+-- where the options don't say otherwise. A cache has at most 1,024 places and a pipe at most 1,024 records; no caches
+-- are emptied before the end, and there are no views
 abbrev pub net_setting_of : Options → Option NetSetting
 net_setting_of options =
     let buckets = unwrap_or options.buckets 64 in
@@ -104,7 +117,8 @@ net_setting_from words = option_and_then net_setting_of (options_from no_options
 -- 1 to 1,000,000 packets, from a start of at most 2,147,483,647
 abbrev pub generation_of : List ℕ → List ℕ → Option Generation
 generation_of packets start =
-    option_and_then (λ n. option_map (λ s. record { packets = n; start = s }) (number_within 0 2147483647 start)) (number_within 1 1000000 packets)
+    option_and_then (λ n. option_map (λ s. record { packets = n; start = s }) (number_within 0 2147483647 start))
+    (number_within 1 1000000 packets)
 
 -- a run with these options: without views where they don't say otherwise
 abbrev pub run_with : Options → Option Command
@@ -128,7 +142,8 @@ asked_gen words = None
 
 -- trial PACKETS START [options]
 abbrev pub asked_trial : List (List ℕ) → Option Command
-asked_trial (packets ∷ start ∷ options) = option_and_then (λ generation. option_map (Trial generation) (setting_from options)) (generation_of packets start)
+asked_trial (packets ∷ start ∷ options) = option_and_then
+    (λ generation. option_map (Trial generation) (setting_from options)) (generation_of packets start)
 asked_trial words = None
 
 -- net QUERY TRACE [options]
@@ -146,7 +161,8 @@ abbrev pub asked_compile : List (List ℕ) → Option Command
 asked_compile (query ∷ []) = Some Compile
 asked_compile words = None
 
--- The command that the words ask for. `enclose QUERY TRACE [options]` and `run-plan PLAN TRACE [options]` take the options of a run but for its views.
+-- The command that the words ask for. `enclose QUERY TRACE [options]` and `run-plan PLAN TRACE [options]` take the
+-- options of a run but for its views.
 abbrev pub asked : List (List ℕ) → Option Command
 asked [] = None
 asked (name ∷ words) =

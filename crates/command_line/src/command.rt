@@ -1,7 +1,8 @@
 // Commands.
 
 ghost use Rattle.std.specs.Prelude.{◌≡◌, ◌≤◌, map, string_bytes, IfSome};
-ghost use Rattle.command_line.specs.Command.{IsCommand, IsGeneration, IsSetting, asked, asked_compile, asked_gen, asked_net, asked_plan, asked_run, asked_trial, generation_of, setting_behind};
+ghost use Rattle.command_line.specs.Command.{IsCommand, IsGeneration, IsSetting, asked, asked_compile, asked_gen, asked_net, asked_plan};
+ghost use Rattle.command_line.specs.Command.{asked_run, asked_trial, generation_of, setting_behind};
 
 use crate::number::number_within;
 use crate::options::{net_setting_from, options_of, setting_from};

@@ -44,8 +44,10 @@ pub fn enclose_over_trace<O: Sink, L: Ledger>(
     requires bounded { enclose_fault query.typed ≡ None }
     ensures holds { ShownHolds query.typed (geometry_of setting) (words_of (packets bytes.now (reads_of query.typed))) }
     ensures accepted { OnOk result (trace_fault bytes.now (reads_of query.typed) ≡ None) }
-    ensures written { OnOk result (Appends (O.taken out.old) (O.taken out.new) (enclose_text query.typed (geometry_of setting) (words_of (packets bytes.now (reads_of query.typed))))) }
-    ensures breaks_off { IfErr result (BreaksOff O.taken O.faults (enclose_text query.typed (geometry_of setting) (words_of (packets bytes.now (reads_of query.typed))))
+    ensures written { OnOk result (Appends (O.taken out.old) (O.taken out.new)
+        (enclose_text query.typed (geometry_of setting) (words_of (packets bytes.now (reads_of query.typed))))) }
+    ensures breaks_off { IfErr result
+        (BreaksOff O.taken O.faults (enclose_text query.typed (geometry_of setting) (words_of (packets bytes.now (reads_of query.typed))))
         (trace_fault bytes.now (reads_of query.typed)) out.old out.new) }
     ensures out_later { O.faults out.old ≤ O.faults out.new }
     ensures steps { steps.old ≤ steps.new }

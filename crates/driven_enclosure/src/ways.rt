@@ -34,8 +34,10 @@ pub(crate) fn enclose_with_its_ways<O: Sink, L: Ledger>(
     requires plan { IsPlanOf query.typed query.plan }
     requires whole { AreWhole (words_of (coming packets)) }
     ensures accepted { OnOk result (fault_of packets.entry ≡ None) }
-    ensures written { OnOk result (Appends (O.taken out.old) (O.taken out.new) (enclose_text query.typed (geometry_of setting) (words_of (coming packets.entry)))) }
-    ensures breaks_off { IfErr result (BreaksOff O.taken O.faults (enclose_text query.typed (geometry_of setting) (words_of (coming packets.entry)))
+    ensures written { OnOk result (Appends (O.taken out.old) (O.taken out.new)
+        (enclose_text query.typed (geometry_of setting) (words_of (coming packets.entry)))) }
+    ensures breaks_off { IfErr result
+        (BreaksOff O.taken O.faults (enclose_text query.typed (geometry_of setting) (words_of (coming packets.entry)))
         (fault_of packets.entry) out.old out.new) }
     ensures out_later { O.faults out.old ≤ O.faults out.new }
     ensures steps { steps.old ≤ steps.new }

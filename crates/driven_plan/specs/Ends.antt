@@ -16,8 +16,8 @@ use Rattle.trace_drive.specs.Drives.{end_machines}
 abbrev pub HasKeys : Table → Type 0
 HasKeys table = table.keys ≤ length table.columns
 
--- The pipeline is of a plan of what these lines make, and stands for its machines at the end of packets; the numbers are those of the groups that
--- the lines print.
+-- The pipeline is of a plan of what these lines make, and stands for its machines at the end of packets; the numbers
+-- are those of the groups that the lines print.
 pub record EndsAt (made : Made) (numbers : List ℕ) (g : Geometry) (packets : List (List ℕ)) (pipeline : PipelineView) : Type 0 where
   pub sound : IsSoundMade made
   pub plan : IsPlanFrom made pipeline.plan
@@ -27,5 +27,7 @@ pub record EndsAt (made : Made) (numbers : List ℕ) (g : Geometry) (packets : L
 
 -- The tables of a plan's machines at the end of packets are those that its text means.
 abbrev pub EndsAreTheTexts : Type 0
-EndsAreTheTexts = (made : Made) (plan : PlanParts) (buckets : ℕ) (lanes : List LaneView) (g : Geometry) (packets : List (List ℕ)) → IsSoundMade made → IsPlanFrom made plan
-    → AreLanesOf Folds plan buckets lanes → HasRoom g → tables_of plan.groups (map folding_at lanes) (end_machines plan g packets) ≡ plan_tables made g packets
+EndsAreTheTexts = (made : Made) (plan : PlanParts) (buckets : ℕ) (lanes : List LaneView) (g : Geometry)
+    (packets : List (List ℕ)) → IsSoundMade made → IsPlanFrom made plan
+    → AreLanesOf Folds plan buckets lanes → HasRoom g
+    → tables_of plan.groups (map folding_at lanes) (end_machines plan g packets) ≡ plan_tables made g packets

@@ -40,7 +40,8 @@ pub(crate) fn end_text<const WAYS: usize>(
     requires entries { pipeline.now.entries ≡ Folds }
     requires drained { list_all lane_is_drained pipeline.now.lanes ≡ true }
     requires ends { (made : Made) × (g : Geometry) × (packets : List (List ℕ)) × EndsAt made prints.now g packets pipeline.now }
-    ensures { IfOk result (λ text. (made : Made) (g : Geometry) (packets : List (List ℕ)) → EndsAt made prints.now g packets pipeline.now → text ≡ plan_output made g packets) }
+    ensures { IfOk result (λ text. (made : Made) (g : Geometry) (packets : List (List ℕ))
+        → EndsAt made prints.now g packets pipeline.now → text ≡ plan_output made g packets) }
 {
     ends_are_the_texts();
     pipeline.known();

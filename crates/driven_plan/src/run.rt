@@ -41,12 +41,14 @@ pub(crate) fn run_plan<const WAYS: usize, O: Sink, L: Ledger>(
         → Appends (O.taken out.old) (O.taken out.new) (plan_output made (geometry_for WAYS schedule) (words_of (coming packets.entry)))) }
     ensures plan { IfOk result (λ pipeline. pipeline.plan ≡ loaded.plan) }
     ensures entries { IfOk result (λ pipeline. pipeline.entries ≡ Folds) }
-    ensures machines { IfOk result (λ pipeline. PipelineStands pipeline (end_machines loaded.plan (geometry_for WAYS schedule) (words_of (coming packets.entry)))) }
+    ensures machines { IfOk result
+        (λ pipeline. PipelineStands pipeline (end_machines loaded.plan (geometry_for WAYS schedule) (words_of (coming packets.entry)))) }
     ensures drained { IfOk result (λ pipeline. list_all lane_is_drained pipeline.lanes ≡ true) }
     ensures buckets { IfOk result (λ pipeline. pipeline.buckets ≡ schedule.buckets) }
     ensures pipe_places { IfOk result (λ pipeline. HavePlaces schedule.pipe pipeline.lanes) }
     ensures breaks_off { IfErr result (λ answer. (made : Made) → IsLoadedFrom made loaded
-        → BreaksOff O.taken O.faults (plan_output made (geometry_for WAYS schedule) (words_of (coming packets.entry))) (fault_of packets.entry) out.old out.new answer) }
+        → BreaksOff O.taken O.faults (plan_output made (geometry_for WAYS schedule) (words_of (coming packets.entry)))
+        (fault_of packets.entry) out.old out.new answer) }
     ensures out_later { O.faults out.old ≤ O.faults out.new }
     ensures steps { steps.old ≤ steps.new }
 {

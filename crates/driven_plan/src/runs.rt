@@ -38,10 +38,12 @@ pub fn run_plan_over_trace<O: Sink, L: Ledger>(
     requires loaded { (made : Made) × IsLoadedFrom made loaded }
     ensures accepted { IfOk result (λ driven. trace_fault bytes.now loaded.plan.reads ≡ None) }
     ensures written { IfOk result (λ driven. (made : Made) → IsLoadedFrom made loaded
-        → Appends (O.taken out.old) (O.taken out.new) (plan_output made (geometry_of setting) (words_of (packets bytes.now loaded.plan.reads)))) }
+        → Appends (O.taken out.old) (O.taken out.new)
+        (plan_output made (geometry_of setting) (words_of (packets bytes.now loaded.plan.reads)))) }
     ensures plan { IfOk result (λ driven. (pipeline_in driven).plan ≡ loaded.plan) }
     ensures left { IfOk result (IsLeftBy setting) }
-    ensures stands { IfOk result (λ driven. PipelineStands (pipeline_in driven) (end_machines loaded.plan (geometry_of setting) (words_of (packets bytes.now loaded.plan.reads)))) }
+    ensures stands { IfOk result (λ driven. PipelineStands (pipeline_in driven)
+        (end_machines loaded.plan (geometry_of setting) (words_of (packets bytes.now loaded.plan.reads)))) }
     ensures breaks_off { IfErr result (λ answer. (made : Made) → IsLoadedFrom made loaded
         → BreaksOff O.taken O.faults (plan_output made (geometry_of setting) (words_of (packets bytes.now loaded.plan.reads)))
         (trace_fault bytes.now loaded.plan.reads) out.old out.new answer) }

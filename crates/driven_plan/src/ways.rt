@@ -37,9 +37,11 @@ pub(crate) fn run_plan_with_its_ways<O: Sink, L: Ledger>(
         → Appends (O.taken out.old) (O.taken out.new) (plan_output made (geometry_of setting) (words_of (coming packets.entry)))) }
     ensures plan { IfOk result (λ driven. (pipeline_in driven).plan ≡ loaded.plan) }
     ensures left { IfOk result (IsLeftBy setting) }
-    ensures stands { IfOk result (λ driven. PipelineStands (pipeline_in driven) (end_machines loaded.plan (geometry_of setting) (words_of (coming packets.entry)))) }
+    ensures stands { IfOk result (λ driven. PipelineStands (pipeline_in driven)
+        (end_machines loaded.plan (geometry_of setting) (words_of (coming packets.entry)))) }
     ensures breaks_off { IfErr result (λ answer. (made : Made) → IsLoadedFrom made loaded
-        → BreaksOff O.taken O.faults (plan_output made (geometry_of setting) (words_of (coming packets.entry))) (fault_of packets.entry) out.old out.new answer) }
+        → BreaksOff O.taken O.faults (plan_output made (geometry_of setting) (words_of (coming packets.entry)))
+        (fault_of packets.entry) out.old out.new answer) }
     ensures out_later { O.faults out.old ≤ O.faults out.new }
     ensures steps { steps.old ≤ steps.new }
 {

@@ -47,8 +47,11 @@ pub fn run_over_trace<O: Sink, L: Ledger>(
         (views_text query.typed (geometry_of setting) every (words_of (packets bytes.now (reads_of query.typed))))) }
     ensures plan { IfOk result (λ driven. IsPlanOf query.typed (pipeline_in driven).plan) }
     ensures left { IfOk result (IsLeftBy setting) }
-    ensures stands { IfOk result (λ driven. PipelineStands (pipeline_in driven) (query_ends query.typed (geometry_of setting) (words_of (packets bytes.now (reads_of query.typed))))) }
-    ensures breaks_off { IfErr result (BreaksOff O.taken O.faults (views_text query.typed (geometry_of setting) every (words_of (packets bytes.now (reads_of query.typed))))
+    ensures stands { IfOk result (λ driven. PipelineStands (pipeline_in driven)
+        (query_ends query.typed (geometry_of setting) (words_of (packets bytes.now (reads_of query.typed))))) }
+    ensures breaks_off { IfErr result
+        (BreaksOff O.taken O.faults (views_text query.typed (geometry_of setting) every
+        (words_of (packets bytes.now (reads_of query.typed))))
         (trace_fault bytes.now (reads_of query.typed)) out.old out.new) }
     ensures out_later { O.faults out.old ≤ O.faults out.new }
     ensures steps { steps.old ≤ steps.new }
@@ -80,11 +83,14 @@ pub fn run_over_made<O: Sink, L: Ledger>(
     requires valid { IsValidQuery query.typed }
     requires plan { IsPlanOf query.typed query.plan }
     requires whole { AreWhole (words_of made) }
-    ensures written { IfOk result (λ driven. Appends (O.taken out.old) (O.taken out.new) (query_text query.typed (geometry_of setting) (words_of made))) }
+    ensures written { IfOk result (λ driven. Appends (O.taken out.old) (O.taken out.new)
+        (query_text query.typed (geometry_of setting) (words_of made))) }
     ensures plan { IfOk result (λ driven. IsPlanOf query.typed (pipeline_in driven).plan) }
     ensures left { IfOk result (IsLeftBy setting) }
-    ensures stands { IfOk result (λ driven. PipelineStands (pipeline_in driven) (query_ends query.typed (geometry_of setting) (words_of made))) }
-    ensures breaks_off { IfErr result (BreaksOff O.taken O.faults (query_text query.typed (geometry_of setting) (words_of made)) None out.old out.new) }
+    ensures stands { IfOk result (λ driven. PipelineStands (pipeline_in driven)
+        (query_ends query.typed (geometry_of setting) (words_of made))) }
+    ensures breaks_off { IfErr result
+        (BreaksOff O.taken O.faults (query_text query.typed (geometry_of setting) (words_of made)) None out.old out.new) }
     ensures out_later { O.faults out.old ≤ O.faults out.new }
     ensures steps { steps.old ≤ steps.new }
 {

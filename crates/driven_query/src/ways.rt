@@ -50,11 +50,14 @@ pub(crate) fn run_with_its_ways<O: Sink, L: Ledger>(
     requires whole { AreWhole (words_of (coming packets)) }
     requires viewed { 0 < every → CanBeViewed packets }
     ensures accepted { IfOk result (λ driven. fault_of packets.entry ≡ None) }
-    ensures written { IfOk result (λ driven. Appends (O.taken out.old) (O.taken out.new) (views_text query.typed (geometry_of setting) every (words_of (coming packets.entry)))) }
+    ensures written { IfOk result (λ driven. Appends (O.taken out.old) (O.taken out.new)
+        (views_text query.typed (geometry_of setting) every (words_of (coming packets.entry)))) }
     ensures plan { IfOk result (λ driven. IsPlanOf query.typed (pipeline_in driven).plan) }
     ensures left { IfOk result (IsLeftBy setting) }
-    ensures stands { IfOk result (λ driven. PipelineStands (pipeline_in driven) (query_ends query.typed (geometry_of setting) (words_of (coming packets.entry)))) }
-    ensures breaks_off { IfErr result (BreaksOff O.taken O.faults (views_text query.typed (geometry_of setting) every (words_of (coming packets.entry)))
+    ensures stands { IfOk result (λ driven. PipelineStands (pipeline_in driven)
+        (query_ends query.typed (geometry_of setting) (words_of (coming packets.entry)))) }
+    ensures breaks_off { IfErr result
+        (BreaksOff O.taken O.faults (views_text query.typed (geometry_of setting) every (words_of (coming packets.entry)))
         (fault_of packets.entry) out.old out.new) }
     ensures out_later { O.faults out.old ≤ O.faults out.new }
     ensures steps { steps.old ≤ steps.new }

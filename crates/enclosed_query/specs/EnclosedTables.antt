@@ -1,5 +1,6 @@
 -- What is shown of a query where bounds are asked for, and what it prints.
-use Rattle.std.specs.Prelude.{◌≡◌, ℕ, suc, List, [], ◌∷◌, ◌++◌, All, length, map, drop, flat_map, slice_get, Option, Some, None, unwrap_or}
+use Rattle.std.specs.Prelude.{◌≡◌, ℕ, suc, List, [], ◌∷◌, ◌++◌, All, length, map, drop, flat_map, slice_get, Option}
+use Rattle.std.specs.Prelude.{Some, None, unwrap_or}
 use Rattle.query_lang.specs.declared.fold.TypedFold.{TypedFold}
 use Rattle.query_lang.specs.declared.typed.TypedQuery.{TypedQuery}
 use Rattle.query_lang.specs.Streams.{takings}
@@ -62,11 +63,13 @@ shown_text (enclosed.Bounds t) = bounds_text t
 
 -- the texts of what is shown of the groupbys, and of the tables that finals make of what they read of them
 abbrev pub all_texts : TypedQuery → List Enclosed → List (List ℕ)
-all_texts q groups = map shown_text groups ++ map table_text (drop (length groups) (with_finals q.names q.folds (map table_read groups) q.finals))
+all_texts q groups = map shown_text groups
+    ++ map table_text (drop (length groups) (with_finals q.names q.folds (map table_read groups) q.finals))
 
 -- what a query prints of what is shown of its groupbys: the tables that it names, in the order of its prints
 abbrev pub enclosed_print : TypedQuery → List Enclosed → List ℕ
-enclosed_print q groups = flat_map (λ one. unwrap_or (slice_get (all_texts q groups) (table_number (length (takings q.streams)) one)) []) q.prints
+enclosed_print q groups = flat_map
+    (λ one. unwrap_or (slice_get (all_texts q groups) (table_number (length (takings q.streams)) one)) []) q.prints
 
 -- What a query prints over these packets where bounds are asked for.
 unfoldable pub enclose_text : TypedQuery → Geometry → List (List ℕ) → List ℕ
@@ -74,8 +77,11 @@ enclose_text q g packets = enclosed_print q (enclosed_tables q g packets)
 
 -- The tables of a plan's lanes for bounds at the end of a trace may be shown, and give what is shown of the query's groupbys.
 pub record EndsGiveEnclosedTables : Type 0 where
-  pub may : (q : TypedQuery) (plan : PlanParts) (buckets : ℕ) (lanes : List LaneView) (g : Geometry) (packets : List (List ℕ)) → IsValidQuery q → IsPlanOf q plan → IsSoundPlan plan
-      → AreLanesOf Bounds plan buckets lanes → HasRoom g → AreWhole packets → All MayBeShown (tables_of plan.groups (map folding_at lanes) (end_machines plan g packets))
-  pub tables : (q : TypedQuery) (plan : PlanParts) (buckets : ℕ) (lanes : List LaneView) (g : Geometry) (packets : List (List ℕ)) → IsValidQuery q → IsPlanOf q plan → IsSoundPlan plan
+  pub may : (q : TypedQuery) (plan : PlanParts) (buckets : ℕ) (lanes : List LaneView) (g : Geometry)
+      (packets : List (List ℕ)) → IsValidQuery q → IsPlanOf q plan → IsSoundPlan plan
+      → AreLanesOf Bounds plan buckets lanes → HasRoom g → AreWhole packets
+      → All MayBeShown (tables_of plan.groups (map folding_at lanes) (end_machines plan g packets))
+  pub tables : (q : TypedQuery) (plan : PlanParts) (buckets : ℕ) (lanes : List LaneView) (g : Geometry)
+      (packets : List (List ℕ)) → IsValidQuery q → IsPlanOf q plan → IsSoundPlan plan
       → AreLanesOf Bounds plan buckets lanes → HasRoom g → AreWhole packets
       → map shown (tables_of plan.groups (map folding_at lanes) (end_machines plan g packets)) ≡ enclosed_tables q g packets

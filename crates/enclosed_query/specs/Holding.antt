@@ -25,8 +25,8 @@ abbrev pub keys_shown : Enclosed → List Key
 keys_shown (enclosed.Linear t) = map (λ row. row.key) t.rows
 keys_shown (enclosed.Bounds t) = map (λ row. row.key) t.rows
 
--- The values of a linear fold are the fold over all packets of the key. Bounds contain it word by word, low ≤ fold ≤ high, and where a row is
--- marked exact both are the fold.
+-- The values of a linear fold are the fold over all packets of the key. Bounds contain it word by word, low ≤ fold ≤
+-- high, and where a row is marked exact both are the fold.
 abbrev pub RowsHold : TypedFold → List Use → Enclosed → Type 0
 RowsHold f given (enclosed.Linear t) = All (λ row. row.values ≡ key_fold f given row.key) t.rows
 RowsHold f given (enclosed.Bounds t) = All (λ row. Encloses row.low row.high (key_fold f given row.key)) t.rows
@@ -38,7 +38,8 @@ pub record HoldsOver (f : TypedFold) (given : List Use) (t : Enclosed) : Type 0 
 
 -- What is shown of each groupby of the query holds over all of these packets.
 abbrev pub ShownHolds : TypedQuery → Geometry → List (List ℕ) → Type 0
-ShownHolds q g packets = (i : ℕ) (f : TypedFold) (t : Enclosed) → fold_at q i ≡ Some f → slice_get (enclosed_tables q g packets) i ≡ Some t → HoldsOver f (uses q i packets) t
+ShownHolds q g packets = (i : ℕ) (f : TypedFold) (t : Enclosed) → fold_at q i ≡ Some f
+    → slice_get (enclosed_tables q g packets) i ≡ Some t → HoldsOver f (uses q i packets) t
 
 -- the variables of the query's folds start from words
 abbrev pub StartFromWords : List TypedFold → Type 0
@@ -46,5 +47,6 @@ StartFromWords folds = All (λ f. AreWords (initial_state f)) folds
 
 -- For a valid query each of whose folds is linear or monotone, what is shown holds over all packets, with caches of every size.
 abbrev pub ShownTablesHold : Type 0
-ShownTablesHold = (q : TypedQuery) (g : Geometry) (packets : List (List ℕ)) → IsValidQuery q → enclose_fault q ≡ None → StartFromWords q.folds → All AreWords packets
+ShownTablesHold = (q : TypedQuery) (g : Geometry) (packets : List (List ℕ)) → IsValidQuery q → enclose_fault q ≡ None
+    → StartFromWords q.folds → All AreWords packets
     → ShownHolds q g packets

@@ -1,6 +1,7 @@
 // What a query prints where bounds are asked for.
 
-ghost use Rattle.std.specs.Prelude.{◌≡◌, ◌++◌, ◌<◌, ◌≤◌, ℕ, All, List, [], ◌∷◌, length, map, flat_map, true, IfOk, OnOk};
+ghost use Rattle.std.specs.Prelude.{◌≡◌, ◌++◌, ◌<◌, ◌≤◌, ℕ, All, List, [], ◌∷◌, length, map, flat_map, true};
+ghost use Rattle.std.specs.Prelude.{IfOk, OnOk};
 ghost use Rattle.std.specs.List.{list_all};
 ghost use Rattle.query_lang.specs.TypedQueries.{IsValidQuery, group_shape};
 ghost use Rattle.query_lang.specs.Streams.{takings};
@@ -141,7 +142,8 @@ pub fn enclosed_text<const WAYS: usize, L: Ledger>(
     requires entries { pipeline.now.entries ≡ Bounds }
     requires drained { list_all lane_is_drained pipeline.now.lanes ≡ true }
     requires ends { (g : Geometry) × (packets : List (List ℕ)) × EndsAt typed.now g packets pipeline.now }
-    ensures text { IfOk result (λ text. (g : Geometry) (packets : List (List ℕ)) → EndsAt typed.now g packets pipeline.now → text ≡ enclose_text typed.now g packets) }
+    ensures text { IfOk result (λ text. (g : Geometry) (packets : List (List ℕ)) → EndsAt typed.now g packets pipeline.now
+        → text ≡ enclose_text typed.now g packets) }
     ensures steps { steps.old ≤ steps.new }
 {
     enclosed_tables_are_read();

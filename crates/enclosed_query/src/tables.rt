@@ -50,7 +50,8 @@ pub fn enclosed<const WAYS: usize>(
     requires entries { pipeline.now.entries ≡ Bounds }
     requires drained { list_all lane_is_drained pipeline.now.lanes ≡ true }
     requires ends { (q : AnyQuery) × (g : Geometry) × (packets : List (List ℕ)) × EndsAt q g packets pipeline.now }
-    ensures tables { IfOk result (λ tables. (q : AnyQuery) (g : Geometry) (packets : List (List ℕ)) → EndsAt q g packets pipeline.now → tables ≡ enclosed_tables q g packets) }
+    ensures tables { IfOk result (λ tables. (q : AnyQuery) (g : Geometry) (packets : List (List ℕ))
+        → EndsAt q g packets pipeline.now → tables ≡ enclosed_tables q g packets) }
     ensures whole { IfOk result (All IsWhole) }
 {
     ends_give_enclosed_tables();

@@ -1,5 +1,6 @@
 -- Which queries have bounds, and the fault of one that has none.
-use Rattle.std.specs.Prelude.{◌≡◌, ℕ, Bool, true, List, [], ◌∷◌, slice_get, Option, Some, None, option_and_then, if◌then◌else◌}
+use Rattle.std.specs.Prelude.{◌≡◌, ℕ, Bool, true, List, [], ◌∷◌, slice_get, Option, Some, None, option_and_then}
+use Rattle.std.specs.Prelude.{if◌then◌else◌}
 use Rattle.query_lang.specs.declared.fault.FaultKind.TheVariants.{NotMonotone}
 use Rattle.query_lang.specs.declared.fault.QueryFault.{QueryFault}
 use Rattle.query_lang.specs.declared.fold.TypedFold.{TypedFold}
@@ -42,4 +43,5 @@ enclose_fault q = first_fault q.folds q.streams
 
 -- Each groupby of a query without this fault has its value or bounds.
 abbrev pub NoFaultMeansBounds : Type 0
-NoFaultMeansBounds = (q : TypedQuery) (i : ℕ) (f : TypedFold) → enclose_fault q ≡ None → fold_at q i ≡ Some f → is_bounded (class_of f) f ≡ true
+NoFaultMeansBounds = (q : TypedQuery) (i : ℕ) (f : TypedFold) → enclose_fault q ≡ None → fold_at q i ≡ Some f
+    → is_bounded (class_of f) f ≡ true

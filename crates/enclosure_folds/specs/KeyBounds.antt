@@ -1,5 +1,6 @@
 -- The table of bounds of a groupby: by the uses of the whole trace, and by the rows that a table of three states has for its epochs.
-use Rattle.std.specs.Prelude.{◌≡◌, ℕ, ◌-◌, ◌*◌, ◌<◌, ◌≤◌, Bool, true, false, List, [], ◌∷◌, All, length, map, filter, take, drop, if◌then◌else◌}
+use Rattle.std.specs.Prelude.{◌≡◌, ℕ, ◌-◌, ◌*◌, ◌<◌, ◌≤◌, Bool, true, false, List, [], ◌∷◌, All, length}
+use Rattle.std.specs.Prelude.{map, filter, take, drop, if◌then◌else◌}
 use Rattle.query_lang.specs.declared.fold.TypedFold.{TypedFold}
 use Rattle.query_lang.specs.declared.typed.Class.{Class}
 use Rattle.query_lang.specs.declared.typed.Class.TheVariants as class
@@ -115,7 +116,8 @@ pub record HasTriples (t : Table) : Type 0 where
 
 -- The rows of a groupby's epochs, by entries for a fold's bounds, give its table of bounds.
 abbrev pub EpochRowsGiveBounds : Type 0
-EpochRowsGiveBounds = (heading : Heading) (f : TypedFold) (sizes : Sizes) (folding : Folding) (opening absorbing : ℕ) (g : Geometry) (uses : List Use)
+EpochRowsGiveBounds = (heading : Heading) (f : TypedFold) (sizes : Sizes) (folding : Folding) (opening absorbing : ℕ)
+    (g : Geometry) (uses : List Use)
     → IsBoundsKindOf f sizes folding opening absorbing → length heading.state_names ≡ fold_states f
     → table_bounds (group_table heading folding g uses) ≡ bounds_table heading f g uses
 
@@ -123,10 +125,11 @@ EpochRowsGiveBounds = (heading : Heading) (f : TypedFold) (sizes : Sizes) (foldi
 abbrev pub rows_of : List Use → Key → List ArgRow
 rows_of uses key = map (λ u. u.row) (filter (is_use_of key) uses)
 
--- For each key that has a use, the bounds of a monotone fold enclose the fold over the rows of all uses of the key, word by word. Where they are equal, both are
--- that fold.
+-- For each key that has a use, the bounds of a monotone fold enclose the fold over the rows of all uses of the key,
+-- word by word. Where they are equal, both are that fold.
 abbrev pub KeyBoundsEnclose : Type 0
-KeyBoundsEnclose = (f : TypedFold) (g : Geometry) (uses : List Use) (key : Key) → IsValidFold f → is_monotone f ≡ true → AreWords (initial_state f) → All AreWords (rows_of uses key)
+KeyBoundsEnclose = (f : TypedFold) (g : Geometry) (uses : List Use) (key : Key) → IsValidFold f → is_monotone f ≡ true
+    → AreWords (initial_state f) → All AreWords (rows_of uses key)
     → 0 < length (rows_of uses key)
     → Encloses (key_bounds f g uses key).low (key_bounds f g uses key).high (folded f (initial_state f) (rows_of uses key))
 

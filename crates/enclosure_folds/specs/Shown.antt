@@ -47,8 +47,12 @@ pub record IsHeadingOf (f : TypedFold) (heading : Heading) : Type 0 where
 
 -- The table of a groupby's uses by entries for bounds gives what is shown of the groupby by its fold.
 pub record TablesGiveBounds : Type 0 where
-  pub shown : (heading : Heading) (f : TypedFold) (sizes : Sizes) (folding : Folding) (opening absorbing : ℕ) (g : Geometry) (uses : List Use)
-      → IsKindFor Bounds f sizes folding opening absorbing → IsHeadingOf f heading → shown (group_table heading folding g uses) ≡ enclosed_table heading f g uses
-  pub may : (heading : Heading) (f : TypedFold) (sizes : Sizes) (folding : Folding) (opening absorbing : ℕ) (g : Geometry) (uses : List Use)
-      → IsKindFor Bounds f sizes folding opening absorbing → IsHeadingOf f heading → IsValidFold f → All (λ u. length u.key ≡ length heading.key_names) uses
+  pub shown : (heading : Heading) (f : TypedFold) (sizes : Sizes) (folding : Folding) (opening absorbing : ℕ)
+      (g : Geometry) (uses : List Use)
+      → IsKindFor Bounds f sizes folding opening absorbing → IsHeadingOf f heading
+      → shown (group_table heading folding g uses) ≡ enclosed_table heading f g uses
+  pub may : (heading : Heading) (f : TypedFold) (sizes : Sizes) (folding : Folding) (opening absorbing : ℕ) (g : Geometry)
+      (uses : List Use)
+      → IsKindFor Bounds f sizes folding opening absorbing → IsHeadingOf f heading → IsValidFold f
+      → All (λ u. length u.key ≡ length heading.key_names) uses
       → MayBeShown (group_table heading folding g uses)

@@ -22,17 +22,28 @@ use final_queries::{alike_foldings_make_one_table, group_tables_are_read};
 
 /// By the row lists of a key's epochs: the bounds of a monotone fold enclose its fold over all rows of the key.
 pub fn epochs_enclose()
-    ensures { (f : TypedFold) (lists : List (List ArgRow)) → IsValidFold f → is_monotone f ≡ true → AreWords (initial_state f) → All AreWords (all_rows lists) → 0 < length lists → Encloses (low_bound (fold_states f) (map (bounds_after f) lists)) (high_bound (fold_states f) (map (bounds_after f) lists)) (folded f (initial_state f) (all_rows lists)) }
+    ensures { (f : TypedFold) (lists : List (List ArgRow)) → IsValidFold f → is_monotone f ≡ true
+        → AreWords (initial_state f) → All AreWords (all_rows lists) → 0 < length lists
+        → Encloses (low_bound (fold_states f) (map (bounds_after f) lists))
+        (high_bound (fold_states f) (map (bounds_after f) lists)) (folded f (initial_state f) (all_rows lists)) }
 {}
 
 /// By the table rows that a kind of entries of the fold's bounds gives for these lists.
 pub fn rows_enclose()
-    ensures { (f : TypedFold) (sizes : Sizes) (folding : Folding) (opening absorbing : ℕ) (key : Key) (count number : ℕ) (lists : List (List ArgRow)) → IsValidFold f → IsBoundsKindOf f sizes folding opening absorbing → is_monotone f ≡ true → AreWords (initial_state f) → All AreWords (all_rows lists) → 0 < length lists → RowsEnclose (fold_states f) (epoch_rows folding key count number lists) (folded f (initial_state f) (all_rows lists)) }
+    ensures { (f : TypedFold) (sizes : Sizes) (folding : Folding) (opening absorbing : ℕ) (key : Key) (count number : ℕ)
+        (lists : List (List ArgRow)) → IsValidFold f → IsBoundsKindOf f sizes folding opening absorbing
+        → is_monotone f ≡ true → AreWords (initial_state f) → All AreWords (all_rows lists) → 0 < length lists
+        → RowsEnclose (fold_states f) (epoch_rows folding key count number lists) (folded f (initial_state f) (all_rows lists)) }
 {}
 
 /// By the table of a trace: the rows of a key that has a use bound the fold over the rows of all its uses.
 pub fn table_rows_enclose()
-    ensures { (f : TypedFold) (sizes : Sizes) (folding : Folding) (opening absorbing : ℕ) (g : Geometry) (uses : List Use) (key : Key) → IsValidFold f → IsBoundsKindOf f sizes folding opening absorbing → is_monotone f ≡ true → AreWords (initial_state f) → All AreWords (map (λ u. u.row) (filter (is_use_of key) uses)) → 0 < length (filter (is_use_of key) uses) → RowsEnclose (fold_states f) (key_rows folding g uses key) (folded f (initial_state f) (map (λ u. u.row) (filter (is_use_of key) uses))) }
+    ensures { (f : TypedFold) (sizes : Sizes) (folding : Folding) (opening absorbing : ℕ) (g : Geometry) (uses : List Use)
+        (key : Key) → IsValidFold f → IsBoundsKindOf f sizes folding opening absorbing → is_monotone f ≡ true
+        → AreWords (initial_state f) → All AreWords (map (λ u. u.row) (filter (is_use_of key) uses))
+        → 0 < length (filter (is_use_of key) uses)
+        → RowsEnclose (fold_states f) (key_rows folding g uses key)
+        (folded f (initial_state f) (map (λ u. u.row) (filter (is_use_of key) uses))) }
 {}
 
 /// Bounds are marked exact exactly where they are equal.
@@ -54,8 +65,8 @@ pub fn epoch_rows_give_bounds()
     ensures { EpochRowsGiveBounds }
 {}
 
-/// The bounds of each key of a groupby's table enclose the fold of a monotone fold over the rows of all uses of the key, word by word, and where
-/// they are equal both are that fold.
+/// The bounds of each key of a groupby's table enclose the fold of a monotone fold over the rows of all uses of the
+/// key, word by word, and where they are equal both are that fold.
 pub fn key_bounds_enclose()
     ensures { KeyBoundsEnclose }
 {}
@@ -65,7 +76,8 @@ pub fn triples_give_whole_tables()
     ensures { TriplesGiveWholeTables }
 {}
 
-/// The table of a groupby's uses by entries for bounds gives what is shown of the groupby: the table of a linear fold, or the table of bounds of any other.
+/// The table of a groupby's uses by entries for bounds gives what is shown of the groupby: the table of a linear fold,
+/// or the table of bounds of any other.
 pub fn tables_give_bounds()
     ensures { TablesGiveBounds }
 {

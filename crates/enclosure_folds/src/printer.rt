@@ -2,7 +2,8 @@
 
 ghost use Rattle.std.specs.Prelude.{◌≡◌, ◌<◌, ◌++◌, ◌∷◌, [], length, flat_map, codes, decimal, IfOk, OnOk};
 ghost use Rattle.table_printer.specs.TableText.{continued, joined, line, numbers};
-ghost use Rattle.enclosure_folds.specs.BoundsTables.{IsBoundsTable, row_is_exact, mark_text, in_turn, bound_names, bounds_title, bounds_heading, bounds_parts, bounds_text};
+ghost use Rattle.enclosure_folds.specs.BoundsTables.{IsBoundsTable, row_is_exact, mark_text, in_turn, bound_names, bounds_title};
+ghost use Rattle.enclosure_folds.specs.BoundsTables.{bounds_heading, bounds_parts, bounds_text};
 
 use crate::rows::is_exact;
 use crate::table::{BoundsRow, BoundsTable};
@@ -130,7 +131,8 @@ fn push_own_names(text: &mut Text) -> Result<(), AllocError>
 // Writes the names of all columns.
 fn push_columns(text: &mut Text, keys: &[Text], states: &[Text]) -> Result<(), AllocError>
     requires { 0 < length keys.now }
-    ensures { OnOk result (text.new ≡ text.old ++ joined (keys.now ++ (codes "mark" ∷ codes "epochs" ∷ []) ++ flat_map bound_names states.now)) }
+    ensures { OnOk result (text.new
+        ≡ text.old ++ joined (keys.now ++ (codes "mark" ∷ codes "epochs" ∷ []) ++ flat_map bound_names states.now)) }
 {
     push_names(text, keys)?;
     push_own_names(text)?;

@@ -10,7 +10,7 @@ use Rattle.query_lang.specs.declared.typed.Class.TheVariants.{Linear}
 use Rattle.query_lang.specs.Folds.{fold_states, fold_args, initial_state, IsValidFold}
 use Rattle.coeff_algebra.specs.WrappingModel.{wrapping_from_words}
 use Rattle.coeff_algebra.specs.MaxPlusModel.{max_plus_from_words}
-use Rattle.fold_code.specs.Meaning.{code_step}
+use Rattle.fold_code.specs.Meaning.{code_step, code_steps}
 use Rattle.fold_class.specs.declared.class.Algebra.{Algebra}
 use Rattle.fold_class.specs.declared.class.Algebra.TheVariants.{Sums, Maxima}
 use Rattle.fold_class.specs.declared.program.FoldProgram.{FoldProgram}
@@ -18,7 +18,9 @@ use Rattle.fold_class.specs.Algebras.{sums, maxima}
 use Rattle.fold_class.specs.Depth.{is_history, IsDepth, depth_of}
 use Rattle.fold_class.specs.Kinds.{algebra_of}
 use Rattle.fold_class.specs.Rows.{element_size, rows_steps}
+use Rattle.fold_class.specs.Parts.{IsAlgebraOf}
 use Rattle.fold_class.specs.Program.{IsProgram, IsProgramOf, WritesAlgebra}
+use Rattle.fold_class.proofs.AlgebraLaws.{sums_are, maxima_are}
 use Rattle.fold_class.proofs.DepthLemmas.{history_rounds}
 use Rattle.fold_class.proofs.LawLemmas.{depth_is, depth_found_is, maxima_depth}
 use Rattle.fold_class.proofs.PlaceLemmas.{both_sorts}
@@ -52,10 +54,15 @@ map_fits : (a : Algebra) (n d size : ℕ) → size ≡ element_size a → d ≤ 
 map_fits Sums n d size e h = omega (arith, ap (λ s. d * (d + 1) * s) e, square d n h)
 map_fits Maxima n d size e h = omega (arith, ap (λ s. d * (d + 1) * s) e, square d n h)
 
-steps_fit : (a : Algebra) (n d x kf size rows : ℕ) → size ≡ element_size a → d ≤ n → rows ≤ (n + 1) * x + 2 * element_size a * (n + 1) * (n + 1) →
-    rows + (1 + kf) + (d * ((d + 1) * d) + d * (d + 1) * size) ≤ (n + 1) * x + n * n * (n + 1) + 4 * (element_size a * n * (n + 1) + n + kf + 2)
-steps_fit Sums n d x kf size rows e h le = omega (arith, le, cube d n h, map_fits Sums n d size e h)
-steps_fit Maxima n d x kf size rows e h le = omega (arith, le, cube d n h, map_fits Maxima n d size e h)
+composed_fit : (a : Algebra) (n d x kf size rows : ℕ) → size ≡ element_size a → d ≤ n → rows ≤ (n + 1) * x + 2 * element_size a * (n + 1) * (n + 1) →
+    rows + (d * ((d + 1) * d) + d * (d + 1) * size) ≤ (n + 1) * x + n * n * (n + 1) + 4 * (element_size a * n * (n + 1) + n + kf + 2)
+composed_fit Sums n d x kf size rows e h le = omega (arith, le, cube d n h, map_fits Sums n d size e h)
+composed_fit Maxima n d x kf size rows e h le = omega (arith, le, cube d n h, map_fits Maxima n d size e h)
+
+run_fit : (a : Algebra) (n d h x kf size code : ℕ) → size ≡ element_size a → d + h ≡ n → code ≤ x →
+    2 * h + code + (d + d * size) + (1 + kf) ≤ (n + 1) * x + n * n * (n + 1) + 4 * (element_size a * n * (n + 1) + n + kf + 2)
+run_fit Sums n d h x kf size code e sorts le = omega (arith, ap (λ s. d * s) e, sorts, le)
+run_fit Maxima n d h x kf size code e sorts le = omega (arith, ap (λ s. d * s) e, sorts, le)
 
 pub linear_kind : (f : TypedFold) (p : FoldProgram) (size : ℕ) → IsProgramOf f p → p.class ≡ Linear → element_size p.rows.algebra ≡ size → IsKindOf f (linear_sizes size p) (linear_folding p) (linear_open size p) (linear_absorb size p)
 linear_kind f p size h e sized =
@@ -74,7 +81,12 @@ linear_kind f p size h e sized =
       folded = λ rows. ap (λ s. fold (code_step p.code) s rows) h.layout.initial ∙ code_folds f p.code h.code (initial_state f) rows h.valid.starts;
       «open» = omega (arith, log, sorts, fits);
       absorb =
-          omega (arith, log, steps_fit (algebra_of f) (fold_states f) (linear_rank p) (f.nodes + 4 * f.statements + 1) (p.depth * p.layout.args) size (rows_steps p.rows) own few h.rows.steps);
+          omega (
+            arith,
+            log,
+            composed_fit (algebra_of f) (fold_states f) (linear_rank p) (f.nodes + 4 * f.statements + 1) (p.depth * p.layout.args) size (rows_steps p.rows) own few h.rows.steps,
+            run_fit (algebra_of f) (fold_states f) (linear_rank p) (history_words p) (f.nodes + 4 * f.statements + 1) (p.depth * p.layout.args) size (code_steps p.code) own sorts h.code.steps,
+          );
     }
 
 -- the rows of a linear program write elements of its algebra
@@ -85,10 +97,10 @@ sized_by : (p : FoldProgram) (a : Algebra) → IsProgram p → p.algebra ≡ a �
 sized_by p a sound e = ∥∥₁_elim sound (ℕ_set _ _) (λ (f, h). ap element_size (h.rows.algebra ∙ sym h.algebra ∙ e))
 
 pub writes_sums : (p : FoldProgram) → IsProgram p → p.class ≡ Linear → p.algebra ≡ Sums → WritesInto sums wrapping_from_words 1 p
-writes_sums p sound linear e = record { sized = sized_by p Sums sound e; writes = λ f h. writes_algebra f p Sums h linear e }
+writes_sums p sound linear e = record { algebra = subst (λ a. IsAlgebraOf a sums) (sym e) sums_are; zero_word = refl; sized = sized_by p Sums sound e; writes = λ f h. writes_algebra f p Sums h linear e }
 
 pub writes_maxima : (p : FoldProgram) → IsProgram p → p.class ≡ Linear → p.algebra ≡ Maxima → WritesInto maxima max_plus_from_words 2 p
-writes_maxima p sound linear e = record { sized = sized_by p Maxima sound e; writes = λ f h. writes_algebra f p Maxima h linear e }
+writes_maxima p sound linear e = record { algebra = subst (λ a. IsAlgebraOf a maxima) (sym e) maxima_are; zero_word = refl; sized = sized_by p Maxima sound e; writes = λ f h. writes_algebra f p Maxima h linear e }
 
 -- an entry with its key has few words
 words_fit : (a : Algebra) (n k args key : ℕ) → n ≤ 8 → k ≤ n → args ≤ 16 → (a ≡ Maxima → k < n) → key ≤ 8 → key + (element_size a * n * (n + 1) + n + k * args + 2) ≤ 274

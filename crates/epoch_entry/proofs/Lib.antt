@@ -1,6 +1,10 @@
 pub mod FoldLemmas
 pub mod ShapeLemmas
 pub mod MapFacts
+pub mod PlacedWords
+pub mod StepCosts
+pub mod StepWords
+pub mod MoverLemmas
 pub mod EntryLemmas
 pub mod PartWords
 pub mod MergeLemmas

@@ -1,5 +1,5 @@
 -- The words of an entry, by the program of a fold, and what they stand for.
-use Rattle.std.specs.Prelude.{◌≡◌, ℕ, ◌+◌, ◌*◌, ◌<◌, ◌≤◌, false, true, List, length, take, drop, slice_index, All}
+use Rattle.std.specs.Prelude.{◌≡◌, ℕ, ◌+◌, ◌*◌, ◌<◌, ◌≤◌, max, false, true, List, length, take, drop, slice_index, All}
 use Rattle.query_lang.specs.declared.fold.TypedFold.{TypedFold}
 use Rattle.query_lang.specs.Words.{IsWord, AreWords}
 use Rattle.epoch_model.specs.Keys.{ArgRow}
@@ -11,8 +11,10 @@ use Rattle.fold_class.specs.declared.program.FoldProgram.{FoldProgram}
 use Rattle.fold_class.specs.Entries.{LinearEntry, LinearStandsFor, OtherStandsFor}
 use Rattle.fold_class.specs.Program.{IsProgramOf, WritesElements}
 use Rattle.fold_class.specs.Rows.{element_size, rows_steps, rows_scratch}
+use Rattle.fold_class.specs.Parts.{IsAlgebraOf}
 use Rattle.fold_class.specs.Step.{list_of, dimension}
 use Rattle.epoch_entry.specs.Kinds.{Sizes}
+use Rattle.epoch_entry.specs.Identity.{unit_at}
 
 -- an argument row of so many words
 pub record IsRow (args : ℕ) (row : ArgRow) : Type 0 where
@@ -54,9 +56,9 @@ map_words size p = linear_rank p * (linear_rank p + 1) * size
 abbrev pub entry_words : ℕ → FoldProgram → ℕ
 entry_words size p = 1 + log_words p + history_words p + map_words size p
 
--- room for two maps, for a run of the rows, for a run of the code, and for the linear variables
+-- room for two maps, for a run of the rows, for a run of the code, and for a state
 abbrev pub scratch_words : ℕ → FoldProgram → ℕ
-scratch_words size p = map_words size p + map_words size p + rows_scratch p.rows + code_scratch p.code + linear_rank p
+scratch_words size p = map_words size p + map_words size p + rows_scratch p.rows + code_scratch p.code + length p.layout.initial
 
 abbrev pub linear_sizes : ℕ → FoldProgram → Sizes
 linear_sizes size p = record { args = p.layout.args; entry = entry_words size p; state = length p.layout.initial; scratch = scratch_words size p }
@@ -85,19 +87,23 @@ module _ {C : Type 0} (k : Elements C) (from_words : List ℕ → C) (size : ℕ
   abbrev pub linear_entry : FoldProgram → ℕ → List ℕ → List ℕ → List ℕ → LinearEntry C
   linear_entry p count log history map' = record { log = logged_rows p.layout.args count log; history = history; table = table_of from_words size (linear_rank p) map' }
 
-  -- the parts stand for a list of argument rows. Where all of these are logged, the map keeps each word
+  -- the parts stand for a list of argument rows. Where all of these are logged, the map keeps each word; and that of a translation has
+  -- the identity beside its last column
   pub record PartsStand (p : FoldProgram) (count : ℕ) (log history map' : List ℕ) (rows : List ArgRow) : Type 0 where
     pub fit : All (IsRow p.layout.args) rows
     pub stands : (f : TypedFold) → IsProgramOf f p → LinearStandsFor k f p.depth (linear_entry p count log history map') rows
     pub kept : (f : TypedFold) → IsProgramOf f p → length rows ≤ p.depth → (x : ℕ → ℕ) → ((j : ℕ) → IsWord (x j)) → (i : ℕ) → i < dimension f →
         k.to_word (map_apply k (dimension f) (table_of from_words size (linear_rank p) map') (λ j. k.embed (x j)) i) ≡ x i
+    pub unit : p.moves ≡ true → (i j : ℕ) → i < linear_rank p → j < linear_rank p → table_of from_words size (linear_rank p) map' i j ≡ unit_at k i j
 
   -- the words of an entry do
   abbrev pub LinearStands : FoldProgram → List ℕ → List ArgRow → Type 0
   LinearStands p words rows = ∥ PartsStand p (count_of words) (log_of p words) (history_of p words) (map_of p words) rows ∥₁
 
-  -- the rows of the program write elements of these
+  -- the sums and products of these are those of the program's algebra, and the program's rows write them
   pub record WritesInto (p : FoldProgram) : Type 0 where
+    pub algebra : IsAlgebraOf p.algebra k
+    pub zero_word : k.to_word k.zero ≡ 0
     pub sized : element_size p.rows.algebra ≡ size
     pub writes : (f : TypedFold) → IsProgramOf f p → WritesElements k from_words size f p.rows
 
@@ -105,6 +111,13 @@ module _ {C : Type 0} (k : Elements C) (from_words : List ℕ → C) (size : ℕ
 abbrev pub linear_open : ℕ → FoldProgram → ℕ
 linear_open size p = 1 + history_words p + map_words size p
 
--- the map of one step, the logging of a row, and the composition
+-- a row by the map of its step, which is composed
+abbrev pub composed_steps : ℕ → FoldProgram → ℕ
+composed_steps size p = rows_steps p.rows + (linear_rank p * ((linear_rank p + 1) * linear_rank p) + map_words size p)
+
+-- a row by a run of the code on a state, whose words come from the history and a column and go there, or into the log
+abbrev pub run_steps : ℕ → FoldProgram → ℕ
+run_steps size p = 2 * history_words p + code_steps p.code + (linear_rank p + linear_rank p * size) + (1 + log_words p)
+
 abbrev pub linear_absorb : ℕ → FoldProgram → ℕ
-linear_absorb size p = rows_steps p.rows + (1 + p.depth * p.layout.args) + (linear_rank p * ((linear_rank p + 1) * linear_rank p) + map_words size p)
+linear_absorb size p = max (composed_steps size p) (run_steps size p)

@@ -1,9 +1,9 @@
 pub mod Kinds
 pub mod Foldings
+pub mod Identity
 pub mod Entries
 pub mod Absorbing
 pub mod Shape
-pub mod Identity
 pub mod Triples
 pub mod Bounds
 pub mod Purposes

@@ -4,18 +4,10 @@ ghost use Rattle.std.specs.Prelude.{◌≡◌, ◌≢◌, ℕ, ◌+◌, ◌*◌,
 ghost use Rattle.coeff_algebra.specs.Maps.{stored_entry, table_of, stored_at};
 ghost use Rattle.epoch_entry.specs.Identity.{unit_at};
 
+use crate::words::tick_words;
 use coeff_algebra::{Coeff, store_at};
 use marple_base::Steps;
 use std::sync::ledger::Ledger;
-
-// A step for each word of an element.
-fn tick_words<L: Ledger>(words: usize, steps: &mut Steps<L>)
-    ensures { steps.new ≡ steps.old + words }
-{
-    for _word in 0..words {
-        steps.tick();
-    }
-}
 
 // One row of it.
 fn identity_row<C: Coeff, L: Ledger>(n: usize, row: usize, map: &mut [u64], steps: &mut Steps<L>)

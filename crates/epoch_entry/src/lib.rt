@@ -3,6 +3,7 @@
 
 mod any;
 mod bounds;
+mod column;
 mod identity;
 mod kind;
 mod known;
@@ -11,6 +12,7 @@ mod linear;
 mod log;
 mod other;
 mod purpose;
+mod step;
 mod triple;
 mod words;
 

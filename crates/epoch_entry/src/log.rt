@@ -11,7 +11,7 @@ use marple_base::Steps;
 use std::sync::ledger::Ledger;
 
 // Writes a row into the log, at its number.
-pub(crate) fn log_row<L: Ledger>(row: usize, args: &[u64], log: &mut [u64], steps: &mut Steps<L>)
+pub(crate) fn log_args<L: Ledger>(row: usize, args: &[u64], log: &mut [u64], steps: &mut Steps<L>)
     requires { row * length args.now + length args.now ≤ length log.old }
     ensures here { stored_at (length args.now) log.new row ≡ args.now }
     ensures others { (other : ℕ) → other ≢ row → stored_at (length args.now) log.new other ≡ stored_at (length args.now) log.old other }

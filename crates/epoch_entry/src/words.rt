@@ -7,6 +7,15 @@ ghost use Rattle.epoch_entry.specs.Shape.{IsAscending};
 use marple_base::Steps;
 use std::sync::ledger::Ledger;
 
+// A step for each word of an element.
+pub(crate) fn tick_words<L: Ledger>(words: usize, steps: &mut Steps<L>)
+    ensures { steps.new ≡ steps.old + words }
+{
+    for _word in 0..words {
+        steps.tick();
+    }
+}
+
 // All words of a slice.
 pub(crate) fn copy_words<L: Ledger>(from: &[u64], to: &mut [u64], steps: &mut Steps<L>)
     requires { length to.old ≡ length from.now }

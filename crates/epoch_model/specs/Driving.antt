@@ -1,15 +1,18 @@
 -- What a program needs that makes the events of a trace one after another, with merges where it likes.
-use Rattle.std.specs.Prelude.{◌≡◌, ℕ, suc, ◌<◌, List, [], ◌∷◌, ◌++◌, length, Option, Some, None, slice_index_or, if◌then◌else◌}
+use Rattle.std.specs.Prelude.{◌≡◌, ℕ, suc, ◌<◌, List, [], ◌∷◌, ◌++◌, length, Option, Some, None, slice_index_or}
+use Rattle.std.specs.Prelude.{if◌then◌else◌}
 use Rattle.epoch_model.specs.Keys.{Key, ArgRow}
 use Rattle.epoch_model.specs.Epochs.{Use, Geometry, is_refresh}
-use Rattle.epoch_model.specs.Machine.{Machine, Event, Packet, open_in, packet, evict, merge, empty_bucket, empty_buckets, run, packets_of, after_packets, end_of, empty_machine}
+use Rattle.epoch_model.specs.Machine.{Machine, Event, Packet, open_in, packet, evict, merge, empty_bucket, empty_buckets, run}
+use Rattle.epoch_model.specs.Machine.{packets_of, after_packets, end_of, empty_machine}
 use Rattle.epoch_model.specs.Timeline.{IsSwept}
 use Rattle.epoch_model.specs.Laws.{IsInTrace, SameEpochs}
 
 -- Each event keeps two machines alike but for the number of merged epochs, and one of them may merge alone.
 pub record EventsKeepAlike : Type 0 where
   pub start : (m : Machine) → SameEpochs m m
-  pub on_packet : (g : Geometry) (m n : Machine) (key : Key) (row : ArgRow) → SameEpochs m n → SameEpochs (packet g m key row) (packet g n key row)
+  pub on_packet : (g : Geometry) (m n : Machine) (key : Key) (row : ArgRow) → SameEpochs m n
+      → SameEpochs (packet g m key row) (packet g n key row)
   pub on_evict : (m n : Machine) (bucket : ℕ) → SameEpochs m n → SameEpochs (evict m bucket) (evict n bucket)
   pub on_merge : (m n : Machine) → SameEpochs m n → SameEpochs (merge m) n
   pub on_bucket : (m n : Machine) (bucket : ℕ) → SameEpochs m n → SameEpochs (empty_bucket m bucket) (empty_bucket n bucket)
@@ -30,14 +33,18 @@ after_packet g number events m = if is_refresh g.refresh number then empty_bucke
 -- Packet by packet the machine of the trace is reached.
 pub record PacketsFollowTheTrace : Type 0 where
   pub start : (g : Geometry) (uses : List Use) → after_packets g uses 0 ≡ empty_machine g
-  pub next : (g : Geometry) (uses : List Use) (number : ℕ) → after_packets g uses (suc number) ≡ after_packet g (suc number) (packets_of (suc number) uses) (after_packets g uses number)
+  pub next : (g : Geometry) (uses : List Use) (number : ℕ)
+      → after_packets g uses (suc number) ≡ after_packet g (suc number) (packets_of (suc number) uses) (after_packets g uses number)
   pub buckets : (g : Geometry) (uses : List Use) (number : ℕ) → length (after_packets g uses number).recent ≡ g.buckets
 
--- A machine that was swept after the last packet has the closed epochs of the trace's end, and once all of them are merged it is the machine of the trace's end.
+-- A machine that was swept after the last packet has the closed epochs of the trace's end, and once all of them are
+-- merged it is the machine of the trace's end.
 pub record SweepsReachTheEnd : Type 0 where
-  pub closed : (g : Geometry) (uses : List Use) (packets : ℕ) (m : Machine) → SameEpochs m (empty_buckets g.buckets (after_packets g uses packets))
+  pub closed : (g : Geometry) (uses : List Use) (packets : ℕ) (m : Machine)
+      → SameEpochs m (empty_buckets g.buckets (after_packets g uses packets))
       → m.closed ≡ (end_of g uses packets).closed
-  pub whole : (g : Geometry) (uses : List Use) (packets : ℕ) (m : Machine) → SameEpochs m (empty_buckets g.buckets (after_packets g uses packets))
+  pub whole : (g : Geometry) (uses : List Use) (packets : ℕ) (m : Machine)
+      → SameEpochs m (empty_buckets g.buckets (after_packets g uses packets))
       → m.merged ≡ length m.closed → m ≡ end_of g uses packets
   pub swept : (g : Geometry) (uses : List Use) (packets : ℕ) → IsSwept (end_of g uses packets)
   pub merged : (g : Geometry) (uses : List Use) (packets : ℕ) → (end_of g uses packets).merged ≡ length (end_of g uses packets).closed
@@ -63,4 +70,5 @@ event_of (Some t) = Packet t.key t.row ∷ []
 -- Uses that are taken packet by packet are a trace's, and each packet has the event of what is taken of it.
 pub record TakenUsesAreInTrace : Type 0 where
   pub order : (packets : List (Option Taken)) → IsInTrace (length packets) (uses_taken 1 packets)
-  pub event : (packets : List (Option Taken)) (i : ℕ) → i < length packets → packets_of (suc i) (uses_taken 1 packets) ≡ event_of (slice_index_or packets i None)
+  pub event : (packets : List (Option Taken)) (i : ℕ) → i < length packets
+      → packets_of (suc i) (uses_taken 1 packets) ≡ event_of (slice_index_or packets i None)

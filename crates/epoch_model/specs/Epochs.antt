@@ -1,5 +1,6 @@
 -- The epochs of a key: how its uses are cut, by counting the distinct other keys between two uses.
-use Rattle.std.specs.Prelude.{ℕ, zero, suc, Bool, false, List, [], ◌∷◌, ◌++◌, Option, Some, None, filter, find, map, length, reverse, not, ◌&&◌, ◌||◌, ◌==◌, ◌%◌, nat_lt, nat_le, if◌then◌else◌}
+use Rattle.std.specs.Prelude.{ℕ, zero, suc, Bool, false, List, [], ◌∷◌, ◌++◌, Option, Some, None, filter, find, map, length}
+use Rattle.std.specs.Prelude.{reverse, not, ◌&&◌, ◌||◌, ◌==◌, ◌%◌, nat_lt, nat_le, if◌then◌else◌}
 use Rattle.epoch_model.specs.Keys.{Key, ArgRow, key_eq, bucket_of, distinct}
 
 -- what a groupby takes of one packet: the packet's number in the trace, the key and the argument row
@@ -33,7 +34,8 @@ rivals g key uses = distinct (filter (is_rival g key) (map (λ u. u.key) uses))
 
 -- Two consecutive uses of a key, and the uses strictly between them, are in one epoch.
 abbrev pub in_one_epoch : Geometry → Use → List Use → Use → Bool
-in_one_epoch g first between second = nat_lt (length (rivals g second.key between)) g.ways && not (refresh_between g.refresh first.packet second.packet)
+in_one_epoch g first between second = nat_lt (length (rivals g second.key between)) g.ways && not
+    (refresh_between g.refresh first.packet second.packet)
 
 -- From here on uses are given from the latest one back.
 

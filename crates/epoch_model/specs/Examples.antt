@@ -45,21 +45,29 @@ pub record AreWorkedExamples : Type 0 where
   -- only what lies between two consecutive uses counts
   pub consecutive : epoch_count (one_bucket 2) (1 ∷ 2 ∷ 1 ∷ 3 ∷ 1 ∷ []) 1 ≡ 1
   -- keys of other buckets don't count
-  pub two_buckets : map (epoch_count (record { buckets = 2; ways = 1; refresh = 0 }) (1 ∷ 2 ∷ 3 ∷ 1 ∷ 2 ∷ [])) (1 ∷ 2 ∷ 3 ∷ []) ≡ 1 ∷ 2 ∷ 1 ∷ []
+  pub two_buckets : map (epoch_count (record { buckets = 2; ways = 1; refresh = 0 }) (1 ∷ 2 ∷ 3 ∷ 1 ∷ 2 ∷ []))
+      (1 ∷ 2 ∷ 3 ∷ []) ≡ 1 ∷ 2 ∷ 1 ∷ []
   -- a refresh after each second packet
-  pub refreshed : epochs (record { buckets = 1; ways = 8; refresh = 2 }) (uses_from 1 (1 ∷ 1 ∷ 2 ∷ 1 ∷ [])) (1 ∷ []) ≡ ((1 ∷ []) ∷ (2 ∷ []) ∷ []) ∷ ((4 ∷ []) ∷ []) ∷ []
+  pub refreshed : epochs (record { buckets = 1; ways = 8; refresh = 2 }) (uses_from 1 (1 ∷ 1 ∷ 2 ∷ 1 ∷ [])) (1 ∷ [])
+      ≡ ((1 ∷ []) ∷ (2 ∷ []) ∷ []) ∷ ((4 ∷ []) ∷ []) ∷ []
   pub refreshed_other : epoch_count (record { buckets = 1; ways = 8; refresh = 2 }) (1 ∷ 1 ∷ 2 ∷ 1 ∷ []) 2 ≡ 1
   pub never_refreshed : map (epoch_count (one_bucket 8) (1 ∷ 1 ∷ 2 ∷ 1 ∷ [])) (1 ∷ 2 ∷ []) ≡ 1 ∷ 1 ∷ []
   pub refreshed_always : epoch_count (record { buckets = 1; ways = 8; refresh = 1 }) (1 ∷ 1 ∷ []) 1 ≡ 2
   -- the machine's closed epochs at the end of the trace
   pub closed : (end_of (record { buckets = 1; ways = 2; refresh = 0 }) (uses_from 1 (1 ∷ 2 ∷ 1 ∷ 3 ∷ 1 ∷ [])) 5).closed
-      ≡ record { key = 2 ∷ []; rows = (2 ∷ []) ∷ [] } ∷ record { key = 3 ∷ []; rows = (4 ∷ []) ∷ [] } ∷ record { key = 1 ∷ []; rows = (1 ∷ []) ∷ (3 ∷ []) ∷ (5 ∷ []) ∷ [] } ∷ []
+      ≡ record { key = 2 ∷ []; rows = (2 ∷ []) ∷ [] } ∷ record {
+        key = 3 ∷ [];
+        rows = (4 ∷ []) ∷ [];
+      } ∷ record { key = 1 ∷ []; rows = (1 ∷ []) ∷ (3 ∷ []) ∷ (5 ∷ []) ∷ [] } ∷ []
   -- one row a key, by ascending keys
-  pub counted : group_rows (counting false) (one_bucket 1) (uses_from 1 (2 ∷ 1 ∷ 2 ∷ [])) ≡ row_of 1 Exact 0 1 1 ∷ row_of 2 Exact 0 2 2 ∷ []
+  pub counted : group_rows (counting false) (one_bucket 1) (uses_from 1 (2 ∷ 1 ∷ 2 ∷ []))
+      ≡ row_of 1 Exact 0 1 1 ∷ row_of 2 Exact 0 2 2 ∷ []
   pub counted_epochs : group_epochs (one_bucket 1) (uses_from 1 (2 ∷ 1 ∷ 2 ∷ [])) ≡ 3
   -- no uses, no rows
   pub nothing_counted : group_rows (counting false) (one_bucket 1) (uses_from 1 []) ≡ []
   pub no_epochs : group_epochs (one_bucket 1) (uses_from 1 []) ≡ 0
   -- one row an epoch: valid where the key has no other epoch
-  pub summed : group_rows (summing true) (record { buckets = 1; ways = 8; refresh = 1 }) (uses_from 1 (1 ∷ 1 ∷ 2 ∷ [])) ≡ row_of 1 Invalid 1 2 1 ∷ row_of 1 Invalid 2 2 2 ∷ row_of 2 Valid 1 1 3 ∷ []
-  pub never_cut : group_rows (summing true) (one_bucket 8) (uses_from 1 (1 ∷ 1 ∷ 2 ∷ [])) ≡ row_of 1 Valid 1 1 3 ∷ row_of 2 Valid 1 1 3 ∷ []
+  pub summed : group_rows (summing true) (record { buckets = 1; ways = 8; refresh = 1 }) (uses_from 1 (1 ∷ 1 ∷ 2 ∷ []))
+      ≡ row_of 1 Invalid 1 2 1 ∷ row_of 1 Invalid 2 2 2 ∷ row_of 2 Valid 1 1 3 ∷ []
+  pub never_cut : group_rows (summing true) (one_bucket 8) (uses_from 1 (1 ∷ 1 ∷ 2 ∷ []))
+      ≡ row_of 1 Valid 1 1 3 ∷ row_of 2 Valid 1 1 3 ∷ []

@@ -1,5 +1,6 @@
 -- The laws of the machine and of epochs.
-use Rattle.std.specs.Prelude.{◌≡◌, true, false, ℕ, List, [], ◌∷◌, ◌++◌, ◌<◌, ◌≤◌, if◌then◌else◌, flat_map, map, filter, length, All}
+use Rattle.std.specs.Prelude.{◌≡◌, true, false, ℕ, List, [], ◌∷◌, ◌++◌, ◌<◌, ◌≤◌, if◌then◌else◌}
+use Rattle.std.specs.Prelude.{flat_map, map, filter, length, All}
 use Rattle.epoch_model.specs.Keys.{Key, ArgRow, key_eq, bucket_of, distinct}
 use Rattle.epoch_model.specs.Epochs.{Use, Geometry, is_use_of, in_one_epoch, onto_last, epochs}
 use Rattle.epoch_model.specs.Machine.{Machine, Event, Packet, Evict, Merge, run, merge, empty_machine, open_in, row_lists, lists_of, end_of}
@@ -22,11 +23,13 @@ rows_given key (Merge ∷ events) = rows_given key events
 
 -- After any events a key's closed rows and then its open ones are the rows of its packets.
 abbrev pub NoRowIsLost : Type 0
-NoRowIsLost = (g : Geometry) (events : List Event) (key : Key) → HasRoom g → flat_map (λ rows. rows) (row_lists g (run g events (empty_machine g)) key) ≡ rows_given key events
+NoRowIsLost = (g : Geometry) (events : List Event) (key : Key) → HasRoom g
+    → flat_map (λ rows. rows) (row_lists g (run g events (empty_machine g)) key) ≡ rows_given key events
 
 -- After one turn for each packet of the trace, and then no packet, a key's row lists are its epochs.
 abbrev pub RowListsAreEpochs : Type 0
-RowListsAreEpochs = (g : Geometry) (turns : List Turn) (rest : List Event) (key : Key) → HasRoom g → AreTurns g 1 (empty_machine g) turns → NoPacket rest
+RowListsAreEpochs = (g : Geometry) (turns : List Turn) (rest : List Event) (key : Key) → HasRoom g
+    → AreTurns g 1 (empty_machine g) turns → NoPacket rest
     → row_lists g (run g (all_events turns ++ rest) (empty_machine g)) key ≡ epochs g (all_uses 1 turns) key
 
 -- The packets have numbers from 1 up to this one, in order.
@@ -44,7 +47,8 @@ pub record IsInTrace (packets : ℕ) (uses : List Use) : Type 0 where
 
 -- At the end of the trace a key's closed row lists are its epochs.
 abbrev pub ClosedAreEpochs : Type 0
-ClosedAreEpochs = (g : Geometry) (uses : List Use) (packets : ℕ) (key : Key) → HasRoom g → IsInTrace packets uses → lists_of key (end_of g uses packets).closed ≡ epochs g uses key
+ClosedAreEpochs = (g : Geometry) (uses : List Use) (packets : ℕ) (key : Key) → HasRoom g → IsInTrace packets uses
+    → lists_of key (end_of g uses packets).closed ≡ epochs g uses key
 
 -- Each bucket's list has distinct keys of that bucket, and at most as many as there are ways.
 pub record IsWellFormed (g : Geometry) (m : Machine) : Type 0 where
@@ -60,7 +64,8 @@ MachinesAreWellFormed = (g : Geometry) (events : List Event) → HasRoom g → I
 -- The pieces of a key's rows, joined, are its rows, and none is empty.
 abbrev pub EpochsCutTheRows : Type 0
 EpochsCutTheRows = (g : Geometry) (uses : List Use) (key : Key) →
-    (flat_map (λ rows. rows) (epochs g uses key) ≡ map (λ u. u.row) (filter (is_use_of key) uses)) × All (λ rows. 0 < length rows) (epochs g uses key)
+    (flat_map (λ rows. rows) (epochs g uses key) ≡ map (λ u. u.row) (filter (is_use_of key) uses))
+    × All (λ rows. 0 < length rows) (epochs g uses key)
 
 -- Without its merges a list of events leads to the same open and closed epochs.
 abbrev pub unmerged : List Event → List Event
@@ -74,7 +79,8 @@ pub record SameEpochs (m n : Machine) : Type 0 where
   pub closed : m.closed ≡ n.closed
 
 abbrev pub MergesDecideNothing : Type 0
-MergesDecideNothing = (g : Geometry) (events : List Event) (m n : Machine) → SameEpochs m n → SameEpochs (run g events m) (run g (unmerged events) n)
+MergesDecideNothing = (g : Geometry) (events : List Event) (m n : Machine) → SameEpochs m n
+    → SameEpochs (run g events m) (run g (unmerged events) n)
 
 -- none of the uses is of the key
 abbrev pub NotUsed : Key → List Use → Type 0
@@ -85,9 +91,11 @@ NotUsed key (u ∷ uses) = (is_use_of key u ≡ false) × NotUsed key uses
 pub record EpochsAreCut (g : Geometry) : Type 0 where
   pub start : (key : Key) → epochs g [] key ≡ []
   -- a use of another key cuts nothing
-  pub other : (uses : List Use) (u : Use) (key : Key) → is_use_of key u ≡ false → epochs g (uses ++ u ∷ []) key ≡ epochs g uses key
+  pub other : (uses : List Use) (u : Use) (key : Key) → is_use_of key u ≡ false
+      → epochs g (uses ++ u ∷ []) key ≡ epochs g uses key
   -- the first use of a key begins its first epoch
-  pub first : (uses : List Use) (u : Use) → NotUsed u.key uses → epochs g (uses ++ u ∷ []) u.key ≡ epochs g uses u.key ++ (u.row ∷ []) ∷ []
+  pub first : (uses : List Use) (u : Use) → NotUsed u.key uses
+      → epochs g (uses ++ u ∷ []) u.key ≡ epochs g uses u.key ++ (u.row ∷ []) ∷ []
   -- of two consecutive uses the second goes on with the epoch of the first exactly where they are in one epoch
   pub next : (before between : List Use) (one two : Use) → is_use_of two.key one ≡ true → NotUsed two.key between →
       epochs g ((before ++ one ∷ between) ++ two ∷ []) two.key

@@ -1,5 +1,6 @@
 -- The machine that cache, pipe and store of a groupby stand for, and its events.
-use Rattle.std.specs.Prelude.{ℕ, zero, suc, Bool, List, [], ◌∷◌, ◌++◌, filter, map, length, replicate, take, drop, not, ◌==◌, ◌+◌, ◌-◌, nat_lt, slice_index_or, slice_set, if◌then◌else◌}
+use Rattle.std.specs.Prelude.{ℕ, zero, suc, Bool, List, [], ◌∷◌, ◌++◌, filter, map, length, replicate, take, drop, not}
+use Rattle.std.specs.Prelude.{◌==◌, ◌+◌, ◌-◌, nat_lt, slice_index_or, slice_set, if◌then◌else◌}
 use Rattle.std.specs.List.{list_any}
 use Rattle.epoch_model.specs.Keys.{Key, ArgRow, key_eq, bucket_of}
 use Rattle.epoch_model.specs.Epochs.{Use, Geometry, is_refresh}
@@ -62,7 +63,11 @@ set_open m bucket epochs = record { recent = slice_set m.recent bucket epochs; c
 abbrev pub evict : Machine → ℕ → Machine
 evict m bucket =
     if nat_lt 0 (length (open_in m bucket))
-    then record { recent = slice_set m.recent bucket (all_but_last (open_in m bucket)); closed = m.closed ++ last_alone (open_in m bucket); merged = m.merged }
+    then record {
+      recent = slice_set m.recent bucket (all_but_last (open_in m bucket));
+      closed = m.closed ++ last_alone (open_in m bucket);
+      merged = m.merged;
+    }
     else m
 
 abbrev pub packet : Geometry → Machine → Key → ArgRow → Machine

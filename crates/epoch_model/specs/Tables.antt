@@ -1,5 +1,6 @@
 -- The rows of a groupby's table, for any way of folding: by the uses of the whole trace, and by closed epochs.
-use Rattle.std.specs.Prelude.{ℕ, suc, ◌-◌, ◌^◌, Bool, List, [], ◌∷◌, ◌==◌, min, fold, length, map, filter, flat_map, sum_by, if◌then◌else◌}
+use Rattle.std.specs.Prelude.{ℕ, suc, ◌-◌, ◌^◌, Bool, List, [], ◌∷◌, ◌==◌, min, fold, length, map, filter, flat_map}
+use Rattle.std.specs.Prelude.{sum_by, if◌then◌else◌}
 use Rattle.epoch_model.specs.declared.tables.Mark.{Mark}
 use Rattle.epoch_model.specs.declared.tables.Mark.TheVariants.{Exact, Valid, Invalid}
 use Rattle.epoch_model.specs.declared.tables.Row.{Row}
@@ -33,7 +34,13 @@ mark_of count = if count == 1 then Valid else Invalid
 abbrev pub epoch_rows : Folding → Key → ℕ → ℕ → List (List ArgRow) → List Row
 epoch_rows f key count number [] = []
 epoch_rows f key count number (rows ∷ lists) =
-    record { key = key; mark = mark_of count; epoch = number; epochs = epochs_shown count; values = folded f rows } ∷ epoch_rows f key count (suc number) lists
+    record {
+      key = key;
+      mark = mark_of count;
+      epoch = number;
+      epochs = epochs_shown count;
+      values = folded f rows;
+    } ∷ epoch_rows f key count (suc number) lists
 
 -- The key's table rows, by the uses of the whole trace: one for each epoch, or one for all of the key's argument rows.
 abbrev pub key_rows : Folding → Geometry → List Use → Key → List Row

@@ -2,10 +2,12 @@
 //! with its events, the rows of tables, and the laws between them. Each law is the contract of a function without a body.
 #![tactic(auto)]
 
-ghost use Rattle.epoch_model.specs.Laws.{MergeKeepsEpochs, NoRowIsLost, RowListsAreEpochs, ClosedAreEpochs, MachinesAreWellFormed, EpochsCutTheRows, EpochsAreCutBetweenUses, MergesDecideNothing};
+ghost use Rattle.epoch_model.specs.Laws.{MergeKeepsEpochs, NoRowIsLost, RowListsAreEpochs, ClosedAreEpochs, MachinesAreWellFormed};
+ghost use Rattle.epoch_model.specs.Laws.{EpochsCutTheRows, EpochsAreCutBetweenUses, MergesDecideNothing};
 ghost use Rattle.epoch_model.specs.Examples.{AreWorkedExamples};
 ghost use Rattle.epoch_model.specs.TableLaws.{KeysAscend, ClosedGiveTheTable, ExactRowsFoldAllPackets};
-ghost use Rattle.epoch_model.specs.Driving.{EventsKeepAlike, BucketsEmptyByEvictions, PacketsFollowTheTrace, SweepsReachTheEnd, TakenUsesAreInTrace};
+ghost use Rattle.epoch_model.specs.Driving.{EventsKeepAlike, BucketsEmptyByEvictions, PacketsFollowTheTrace, SweepsReachTheEnd};
+ghost use Rattle.epoch_model.specs.Driving.{TakenUsesAreInTrace};
 
 mod tables;
 

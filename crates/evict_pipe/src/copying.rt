@@ -1,8 +1,8 @@
-//! Words copied one by one, a step for each.
+//! A record, written a step for each word.
 
 ghost use Rattle.std.specs.Prelude.{◌≡◌, ◌+◌, ◌++◌, length};
 
-use marple_base::Steps;
+use marple_base::{Steps, copy_words};
 use std::sync::ledger::Ledger;
 
 /// Writes the words of a key and then those of its entry over a row.
@@ -11,24 +11,7 @@ pub fn write_record<L: Ledger>(row: &mut [u64], key: &[u64], entry: &[u64], step
     ensures written { row.new ≡ key.now ++ entry.now }
     ensures cost { steps.new ≡ steps.old + length row.old }
 {
-    for i in 0..key.len() {
-        row[i] = key[i];
-        steps.tick();
-    }
-    for i in 0..entry.len() {
-        row[key.len() + i] = entry[i];
-        steps.tick();
-    }
-}
-
-/// Copies a row over another one of its length.
-pub fn copy_row<L: Ledger>(into: &mut [u64], row: &[u64], steps: &mut Steps<L>)
-    requires { length into.old ≡ length row.now }
-    ensures copied { into.new ≡ row.now }
-    ensures cost { steps.new ≡ steps.old + length row.now }
-{
-    for i in 0..row.len() {
-        into[i] = row[i];
-        steps.tick();
-    }
+    let (front, behind) = row.split_at_mut(key.len());
+    copy_words(key, front, steps);
+    copy_words(entry, behind, steps);
 }

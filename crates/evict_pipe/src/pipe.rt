@@ -1,11 +1,12 @@
 //! The pipe of evicted records.
 
-ghost use Rattle.std.specs.Prelude.{◌≡◌, ◌+◌, ◌<◌, ◌≤◌, ◌==◌, ◌++◌, ◌∷◌, [], Bool, not, nat_lt, length, drop, slice_index_or, if◌then◌else◌, IfOk};
+ghost use Rattle.std.specs.Prelude.{◌≡◌, ◌+◌, ◌<◌, ◌≤◌, ◌==◌, ◌++◌, ◌∷◌, [], Bool, not, nat_lt, length};
+ghost use Rattle.std.specs.Prelude.{drop, slice_index_or, if◌then◌else◌, IfOk};
 ghost use Rattle.evict_pipe.specs.Pipes.{Pipe, with_records, IsSoundPipe};
 
-use crate::copying::{copy_row, write_record};
+use crate::copying::write_record;
 use circular_buffer::HeapCircularBuffer;
-use marple_base::Steps;
+use marple_base::{Steps, copy_words};
 use std::alloc::{AllocError, Global};
 use std::marker::Model;
 use std::sync::ledger::Ledger;
@@ -28,7 +29,8 @@ impl Model for EvictPipe {
 
     ghost view = { λ p. record { record_words = p.record_words; places = p.places; records = map (λ row. row.items) p.held.items } };
 
-    ghost invariant = { λ p. IsPipe p.record_words p.places (map (λ row. row.items) p.held.items) p.held.capacity (map (λ row. row.items) p.free.items) p.free.capacity };
+    ghost invariant = { λ p. IsPipe p.record_words p.places (map (λ row. row.items) p.held.items) p.held.capacity
+        (map (λ row. row.items) p.free.items) p.free.capacity };
 }
 
 impl EvictPipe {
@@ -89,7 +91,7 @@ impl EvictPipe {
     {
         match self.held.front() {
             Some(row) => {
-                copy_row(into, row, steps);
+                copy_words(row, into, steps);
                 true
             }
             None => false,

@@ -152,11 +152,11 @@ fn plain_stored(stored: StoreRow) -> Row
 fn plain_rows(alloc: Global, stored: Seq<StoreRow>) -> Result<Seq<Row>, AllocError>
     ensures { IfOk result (λ rows. rows ≡ map plain_stored stored) }
 {
-    let mut rows = Seq::new(alloc);
+    let mut rows = Vec::with_capacity(alloc, stored.len())?;
     for row in stored.into_vec() {
         rows.push(plain_stored(row))?;
     }
-    Ok(rows)
+    Ok(Seq::from_vec(rows))
 }
 
 /// A row for each key among the rows that are read, in ascending order of the keys, with the fold over the arguments of
@@ -183,7 +183,7 @@ pub fn grouped<L: Ledger>(
     let initial = f.initial.as_slice();
     let store = fold_rows(alloc, &code, initial, keys, args, rows, width, steps)?;
     store.known();
-    let stored = store.sorted()?;
+    let stored = store.into_sorted()?;
     let made = plain_rows(alloc, stored)?;
     Ok(made)
 }

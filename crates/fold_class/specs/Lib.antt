@@ -11,3 +11,5 @@ pub mod Entries
 pub mod Rows
 pub mod Walk
 pub mod Program
+pub mod Translations
+pub mod TranslationExamples

@@ -1,4 +1,4 @@
--- What a fold's program is: its class, its depth, its code, and for a linear fold the affine map of one step.
+-- What a fold's program is: its class, whether it is a translation, its depth, its code, and for a linear fold the affine map of one step.
 use Rattle.std.specs.Prelude.{◌≡◌, ℕ, ◌+◌, ◌*◌, ◌<◌, ◌≤◌, not, if◌then◌else◌, List, length, slice_index}
 use Rattle.query_lang.specs.declared.fold.TypedFold.{TypedFold}
 use Rattle.query_lang.specs.declared.typed.Class.TheVariants.{Linear}
@@ -16,6 +16,7 @@ use Rattle.fold_class.specs.declared.program.FoldProgram.{FoldProgram}
 use Rattle.fold_class.specs.Depth.{is_history, IsDepth}
 use Rattle.fold_class.specs.Kinds.{class_of, algebra_of}
 use Rattle.fold_class.specs.Algebras.{sums, maxima}
+use Rattle.fold_class.specs.Translations.{is_translation}
 use Rattle.fold_class.specs.Step.{dimension, places, linear_places, history_places, words_at, list_of}
 use Rattle.fold_class.specs.Rows.{Rows, Origin, Remembered, Carried, rows_steps, element_size, LeavesRows}
 
@@ -76,6 +77,7 @@ pub record IsProgramOf (f : TypedFold) (program : FoldProgram) : Type 0 where
   pub valid : IsValidFold f
   pub class : program.class ≡ class_of f
   pub algebra : program.algebra ≡ algebra_of f
+  pub moves : program.moves ≡ is_translation f
   pub depth : IsDepth f program.depth
   pub code : IsCodeOf f program.code
   pub rows : IsRowsOf f program.rows

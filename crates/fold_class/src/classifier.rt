@@ -14,6 +14,7 @@ use crate::depth::{depth_of, history_of};
 use crate::layout::{Layout, Places, places_of};
 use crate::program::FoldProgram;
 use crate::rows::AffineRows;
+use crate::translation::is_translation;
 use crate::walk::walk_block;
 use fold_code::{FoldCode, compile};
 use marple_base::Seq;
@@ -131,8 +132,8 @@ fn layout_of(alloc: Global, f: &TypedFold, history: &[bool]) -> Result<Layout, A
     })
 }
 
-/// The program of a fold: its class, the algebra of its maps, its depth, its code and its layout, and for a linear fold the
-/// rows of one step.
+/// The program of a fold: its class, the algebra of its maps, whether it is a translation, its depth, its code and its layout,
+/// and for a linear fold the rows of one step.
 pub fn classify(alloc: Global, f: &TypedFold, code: FoldCode) -> Result<FoldProgram, AllocError>
     requires valid { IsValidFold f.now }
     requires code { IsCodeOf f.now code }
@@ -143,9 +144,11 @@ pub fn classify(alloc: Global, f: &TypedFold, code: FoldCode) -> Result<FoldProg
     let (class, algebra) = class_and_algebra(f, &history);
     let rows = rows_of(alloc, f, algebra, &history)?;
     let layout = layout_of(alloc, f, &history)?;
+    let moves = is_translation(f, algebra, layout.history.as_slice());
     Ok(FoldProgram {
         class,
         algebra,
+        moves,
         depth,
         code,
         rows,

@@ -1,12 +1,15 @@
-// Laws of depth and class.
+// Laws of depth and class, and of translations.
 
-ghost use Rattle.std.specs.Prelude.{◌≡◌, ◌≤◌, ◌<◌, ◌↔◌, ℕ, true, List, length};
+ghost use Rattle.std.specs.Prelude.{◌≡◌, ◌≤◌, ◌<◌, ◌↔◌, ℕ, ◌+◌, ◌%◌, ◌^◌, max, true, false, List, length, slice_index};
+ghost use Rattle.query_lang.specs.Words.{AreWords};
 ghost use Rattle.query_lang.specs.declared.fold.TypedFold.{TypedFold};
-ghost use Rattle.query_lang.specs.Folds.{IsValidFold, fold_states, folded};
+ghost use Rattle.query_lang.specs.Folds.{IsValidFold, fold_states, body, folded};
 ghost use Rattle.fold_code.specs.Additive.{is_additive};
 ghost use Rattle.fold_class.specs.Depth.{IsHistory, is_history, IsDepth, depth_of};
 ghost use Rattle.fold_class.specs.Kinds.{class_of, algebra_of};
+ghost use Rattle.fold_class.specs.declared.class.Algebra.{Algebra as AlgebraOf};
 ghost use Rattle.fold_class.specs.Step.{history_places, words_at};
+ghost use Rattle.fold_class.specs.Translations.{SameHistory, AreAlike, AreMoved, HasZeros};
 
 use crate::class::Algebra;
 use query_lang::Class;
@@ -36,4 +39,33 @@ pub fn additive_is_linear()
     ensures class { (f : TypedFold) → IsValidFold f → is_additive f ≡ true → class_of f ≡ Class.Linear }
     ensures algebra { (f : TypedFold) → IsValidFold f → is_additive f ≡ true → algebra_of f ≡ Algebra.Sums }
     ensures depth { (f : TypedFold) → IsValidFold f → is_additive f ≡ true → IsDepth f 0 }
+{}
+
+/// What one step makes of the history depends on the history and the arguments alone.
+pub fn history_steps_alone()
+    ensures { (f : TypedFold) (args xs ys : List ℕ) → IsValidFold f → length xs ≡ fold_states f → length ys ≡ fold_states f
+        → SameHistory f xs ys → SameHistory f (body f xs args) (body f ys args) }
+{}
+
+/// Where the linear variables of one of two states are those of the other, moved by words of a table, they are after one step of
+/// a translation too. One by sums adds the same to both, and one by maxima takes the greater of each and the same word.
+pub fn step_translates()
+    ensures moves { (algebra : AlgebraOf) (f : TypedFold) (table : ℕ → ℕ) (args xs ys : List ℕ) → AreAlike algebra f xs ys
+        → AreMoved algebra f table xs ys → AreMoved algebra f table (body f xs args) (body f ys args) }
+    ensures sums { (f : TypedFold) (args xs ys : List ℕ) (v : ℕ) → AreAlike Algebra.Sums f xs ys → v < fold_states f
+        → is_history f v ≡ false
+        → (slice_index (body f xs args) v + slice_index ys v) % 2 ^ 64 ≡ (slice_index (body f ys args) v + slice_index xs v) % 2 ^ 64 }
+    ensures maxima { (f : TypedFold) (args xs ys : List ℕ) (v : ℕ) → AreAlike Algebra.Maxima f xs ys → v < fold_states f
+        → is_history f v ≡ false
+        → (b : ℕ) × (slice_index (body f xs args) v ≡ max (slice_index xs v) b) × (slice_index (body f ys args) v ≡ max (slice_index ys v) b) }
+{}
+
+/// The same of rows, one by one. So the fold over rows from a state is that state, moved by the fold over them from zeros with
+/// the state's history.
+pub fn rows_translate()
+    ensures moves { (algebra : AlgebraOf) (f : TypedFold) (table : ℕ → ℕ) (rows : List (List ℕ)) (xs ys : List ℕ)
+        → AreAlike algebra f xs ys → AreMoved algebra f table xs ys → AreMoved algebra f table (folded f xs rows) (folded f ys rows) }
+    ensures from_zeros { (algebra : AlgebraOf) (f : TypedFold) (rows : List (List ℕ)) (zeros state : List ℕ)
+        → AreAlike algebra f zeros state → AreWords state → HasZeros f zeros
+        → AreMoved algebra f (slice_index state) (folded f zeros rows) (folded f state rows) }
 {}

@@ -10,11 +10,14 @@ use marple_base::Seq;
 use query_lang::Class;
 use std::alloc::{AllocError, Global};
 
-/// A fold's class, the algebra of its maps, its depth, its code, and for a linear fold the rows of one step.
+/// A fold's class, the algebra of its maps, whether it is a translation by that, its depth, its code, and for a linear fold the
+/// rows of one step. Where `moves` holds, each step adds to each linear variable what history and arguments alone give, or takes
+/// the greater of both.
 #[derive(Drop)]
 pub struct FoldProgram {
     pub class: Class,
     pub algebra: Algebra,
+    pub moves: bool,
     pub depth: u8,
     pub code: FoldCode,
     pub rows: AffineRows,
@@ -29,6 +32,7 @@ impl FoldProgram {
         Ok(FoldProgram {
             class: self.class,
             algebra: self.algebra,
+            moves: self.moves,
             depth: self.depth,
             code: self.code.copy(alloc)?,
             rows: self.rows.copy(alloc)?,

@@ -34,7 +34,8 @@ abbrev pub is_additive_block : ℕ → Bool → Block → Bool
 is_additive_block states free End = true
 is_additive_block states free (Set v e rest) = (free && is_increment states v e) && is_additive_block states free rest
 is_additive_block states free (Fork c a b rest) =
-    (is_additive_block states (free && names_no_state states c) a && is_additive_block states (free && names_no_state states c) b) && is_additive_block states free rest
+    (is_additive_block states (free && names_no_state states c) a && is_additive_block states
+    (free && names_no_state states c) b) && is_additive_block states free rest
 
 -- whether a fold is additive
 abbrev pub is_additive : TypedFold → Bool

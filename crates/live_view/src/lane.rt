@@ -24,7 +24,8 @@ pub fn full_store<K: EpochKind, const WAYS: usize, L: Ledger>(
 ) -> Result<BackingStore, AllocError>
     requires key_words { key_words ≡ lane.now.cache.key_words }
     requires entry { key_words + (K.sizes lane.now.kind).entry ≤ 512 }
-    ensures holds { IfOk result (λ store. (m : Machine) → LaneStands (K.stands lane.now.kind) (K.folding lane.now.kind) lane.now.cache lane.now.pipe lane.now.store m
+    ensures holds { IfOk result (λ store. (m : Machine)
+        → LaneStands (K.stands lane.now.kind) (K.folding lane.now.kind) lane.now.cache lane.now.pipe lane.now.store m
         → StoreHolds (K.folding lane.now.kind) store (all_epochs m)) }
     ensures at_least { steps.old ≤ steps.new }
 {

@@ -30,7 +30,8 @@ pub fn merge_pipe<K: EpochKind, L: Ledger>(
     requires fits { FitsKind (K.sizes kind.now) (K.folding kind.now) store.old initial.now scratch.old }
     requires records { pipe.now.record_words ≡ store.old.key_words + (K.sizes kind.now).entry }
     requires room { length room.old ≡ pipe.now.record_words }
-    ensures held { OnOk result ((waiting epochs : List Epoch) → RecordsStand (K.stands kind.now) store.old.key_words pipe.now.records waiting
+    ensures held { OnOk result ((waiting epochs : List Epoch)
+        → RecordsStand (K.stands kind.now) store.old.key_words pipe.now.records waiting
         → StoreHolds (K.folding kind.now) store.old epochs → StoreHolds (K.folding kind.now) store.new (epochs ++ waiting)) }
     ensures key_words { store.new.key_words ≡ store.old.key_words }
     ensures state_words { store.new.state_words ≡ store.old.state_words }
@@ -59,7 +60,8 @@ fn merge_bucket<K: EpochKind, const WAYS: usize, L: Ledger>(
     requires entry { cache.now.entry_words ≡ (K.sizes kind.now).entry }
     requires sound { IsSoundCache WAYS cache.now }
     requires range { bucket < length cache.now.lists }
-    ensures held { OnOk result ((opened epochs : List Epoch) → PairsStand (PairStands (K.stands kind.now) cache.now) (list_at cache.now bucket) opened
+    ensures held { OnOk result ((opened epochs : List Epoch)
+        → PairsStand (PairStands (K.stands kind.now) cache.now) (list_at cache.now bucket) opened
         → StoreHolds (K.folding kind.now) store.old epochs → StoreHolds (K.folding kind.now) store.new (epochs ++ reverse opened)) }
     ensures key_words { store.new.key_words ≡ store.old.key_words }
     ensures state_words { store.new.state_words ≡ store.old.state_words }

@@ -39,11 +39,12 @@ fn columns(alloc: Global, group: &GroupPlan) -> Result<Seq<Text>, AllocError>
 fn store_table(
     alloc: Global,
     group: &GroupPlan,
-    store: &BackingStore,
+    store: BackingStore,
     row_per_epoch: bool,
 ) -> Result<Table, AllocError>
     requires { length group.now.key_names ≤ 8 }
-    ensures { IfOk result (λ table. (f : Folding) (epochs : List Epoch) → f.row_per_epoch ≡ row_per_epoch → StoreHolds f store.now epochs → table ≡ closed_table (heading_of group.now) f epochs) }
+    ensures { IfOk result (λ table. (f : Folding) (epochs : List Epoch)
+        → f.row_per_epoch ≡ row_per_epoch → StoreHolds f store epochs → table ≡ closed_table (heading_of group.now) f epochs) }
 {
     held_rows_are_the_tables();
     store.known();
@@ -51,7 +52,7 @@ fn store_table(
     let columns = columns(alloc, group)?;
     let keys = group.key_names.len() as u8;
     let (class, depth) = (group.program.class, group.program.depth);
-    let stored = store.sorted()?;
+    let stored = store.into_sorted()?;
     let shown = shown_rows(alloc, stored, row_per_epoch)?;
     Ok(Table {
         name,
@@ -72,14 +73,15 @@ pub fn view_lane<K: EpochKind, const WAYS: usize, L: Ledger>(
 ) -> Result<Table, AllocError>
     requires keys { length group.now.key_names ≡ lane.now.cache.key_words }
     requires entry { lane.now.cache.key_words + (K.sizes lane.now.kind).entry ≤ 512 }
-    ensures table { IfOk result (λ table. (m : Machine) → LaneStands (K.stands lane.now.kind) (K.folding lane.now.kind) lane.now.cache lane.now.pipe lane.now.store m
+    ensures table { IfOk result (λ table. (m : Machine)
+        → LaneStands (K.stands lane.now.kind) (K.folding lane.now.kind) lane.now.cache lane.now.pipe lane.now.store m
         → table ≡ closed_table (heading_of group.now) (K.folding lane.now.kind) (all_epochs m)) }
     ensures at_least { steps.old ≤ steps.new }
 {
     lane.known();
     let store = full_store(alloc, lane, group.key_names.len(), steps)?;
     let row_per_epoch = lane.kind().row_per_epoch();
-    store_table(alloc, group, &store, row_per_epoch)
+    store_table(alloc, group, store, row_per_epoch)
 }
 
 /// One table for each groupby, in order: those that the pipeline would give if the trace ended here. It may be anywhere in
@@ -89,7 +91,8 @@ pub fn view<const WAYS: usize, L: Ledger>(
     p: &Pipeline<WAYS>,
     steps: &mut Steps<L>,
 ) -> Result<Seq<Table>, AllocError>
-    ensures tables { IfOk result (λ tables. (machines : List Machine) → PipelineStands p.now machines → tables ≡ tables_seen p.now.plan.groups (map folding_at p.now.lanes) machines) }
+    ensures tables { IfOk result (λ tables. (machines : List Machine)
+        → PipelineStands p.now machines → tables ≡ tables_seen p.now.plan.groups (map folding_at p.now.lanes) machines) }
     ensures at_least { steps.old ≤ steps.new }
 {
     entries_are_small();

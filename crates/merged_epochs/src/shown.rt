@@ -56,11 +56,14 @@ pub fn shown_rows(
     ensures rows { IfOk result (λ shown. shown.rows ≡ map (shown_row row_per_epoch) stored) }
     ensures epochs { IfOk result (λ shown. shown.epochs ≡ epochs_shown (sum_by (epochs_in row_per_epoch) stored)) }
 {
-    let mut rows = Seq::new(alloc);
+    let mut rows = Vec::with_capacity(alloc, stored.len())?;
     let mut epochs = 0u64;
     for row in stored.into_vec() {
         epochs = epochs.saturating_add(epochs_in(&row, row_per_epoch));
         rows.push(shown_row(row, row_per_epoch))?;
     }
-    Ok(ShownRows { rows, epochs })
+    Ok(ShownRows {
+        rows: Seq::from_vec(rows),
+        epochs,
+    })
 }

@@ -45,4 +45,5 @@ overwritten = Set 0 (Operation Add (Read 0) (Read 1)) (Set 0 (Read 1) End)
 
 -- what the last row of a key makes of the least and of the greatest state
 abbrev pub AreBounds : Block → List ℕ → List ℕ → List ℕ → Type 0
-AreBounds block row low high = (f : TypedFold) → HasBody f 1 block → (folded f (least_state f) (row ∷ []) ≡ low) × (folded f (greatest_state f) (row ∷ []) ≡ high)
+AreBounds block row low high = (f : TypedFold) → HasBody f 1 block → (folded f (least_state f) (row ∷ []) ≡ low)
+    × (folded f (greatest_state f) (row ∷ []) ≡ high)

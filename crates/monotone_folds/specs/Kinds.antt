@@ -61,7 +61,8 @@ chosen_kinds _ a b other = other
 abbrev pub kinds_after : Block → (ℕ → Kind) → ℕ → Kind
 kinds_after End kinds = kinds
 kinds_after (Set v e rest) kinds = kinds_after rest (update kinds v (expr_kind e kinds))
-kinds_after (Fork c a b rest) kinds = kinds_after rest (chosen_kinds (expr_kind c kinds) (kinds_after a kinds) (kinds_after b kinds) (marked b (marked a kinds)))
+kinds_after (Fork c a b rest) kinds = kinds_after rest
+    (chosen_kinds (expr_kind c kinds) (kinds_after a kinds) (kinds_after b kinds) (marked b (marked a kinds)))
 
 -- at the start variables are Rising, and arguments Free
 abbrev pub kinds_first : TypedFold → ℕ → Kind

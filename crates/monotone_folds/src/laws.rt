@@ -7,27 +7,36 @@ ghost use Rattle.query_lang.specs.Folds.{IsValidFold, fold_states, body, folded,
 ghost use Rattle.monotone_folds.specs.Kinds.{is_monotone};
 ghost use Rattle.monotone_folds.specs.States.{IsAtMost};
 ghost use Rattle.epoch_entry.specs.Bounds.{least_state, greatest_state};
-ghost use Rattle.monotone_folds.specs.Examples.{decayed_sum, clamped, wrapping_sum, shifted_left, choice_by_argument, choice_by_state, overwritten, IsFound, AreBounds};
+ghost use Rattle.monotone_folds.specs.Examples.{decayed_sum, clamped, wrapping_sum, shifted_left, choice_by_argument, choice_by_state};
+ghost use Rattle.monotone_folds.specs.Examples.{overwritten, IsFound, AreBounds};
 
 /// One step of a monotone fold keeps the order of states, word by word.
 pub fn step_keeps_order()
-    ensures { (f : TypedFold) (low high args : List ℕ) → IsValidFold f → is_monotone f ≡ true → length low ≡ fold_states f → IsAtMost low high → IsAtMost (body f low args) (body f high args) }
+    ensures { (f : TypedFold) (low high args : List ℕ) → IsValidFold f → is_monotone f ≡ true → length low ≡ fold_states f
+        → IsAtMost low high → IsAtMost (body f low args) (body f high args) }
 {}
 
 /// So do any number of steps.
 pub fn rows_keep_order()
-    ensures { (f : TypedFold) (low high : List ℕ) (rows : List (List ℕ)) → IsValidFold f → is_monotone f ≡ true → length low ≡ fold_states f → IsAtMost low high → IsAtMost (folded f low rows) (folded f high rows) }
+    ensures { (f : TypedFold) (low high : List ℕ) (rows : List (List ℕ)) → IsValidFold f → is_monotone f ≡ true
+        → length low ≡ fold_states f → IsAtMost low high → IsAtMost (folded f low rows) (folded f high rows) }
 {}
 
 /// A monotone fold of all rows lies between its folds of the last rows from the least state and from the greatest.
 pub fn last_rows_enclose()
-    ensures low { (f : TypedFold) (earlier last : List (List ℕ)) → IsValidFold f → is_monotone f ≡ true → IsAtMost (folded f (least_state f) last) (folded f (initial_state f) (earlier ++ last)) }
-    ensures high { (f : TypedFold) (earlier last : List (List ℕ)) → IsValidFold f → is_monotone f ≡ true → AreWords (initial_state f) → All AreWords earlier → IsAtMost (folded f (initial_state f) (earlier ++ last)) (folded f (greatest_state f) last) }
+    ensures low { (f : TypedFold) (earlier last : List (List ℕ)) → IsValidFold f → is_monotone f ≡ true
+        → IsAtMost (folded f (least_state f) last) (folded f (initial_state f) (earlier ++ last)) }
+    ensures high { (f : TypedFold) (earlier last : List (List ℕ)) → IsValidFold f → is_monotone f ≡ true
+        → AreWords (initial_state f) → All AreWords earlier
+        → IsAtMost (folded f (initial_state f) (earlier ++ last)) (folded f (greatest_state f) last) }
 {}
 
 /// Where the two are equal, they are the fold of all rows.
 pub fn equal_bounds_are_exact()
-    ensures { (f : TypedFold) (earlier last : List (List ℕ)) → IsValidFold f → is_monotone f ≡ true → AreWords (initial_state f) → All AreWords earlier → folded f (least_state f) last ≡ folded f (greatest_state f) last → folded f (initial_state f) (earlier ++ last) ≡ folded f (least_state f) last }
+    ensures { (f : TypedFold) (earlier last : List (List ℕ)) → IsValidFold f → is_monotone f ≡ true
+        → AreWords (initial_state f) → All AreWords earlier
+        → folded f (least_state f) last ≡ folded f (greatest_state f) last
+        → folded f (initial_state f) (earlier ++ last) ≡ folded f (least_state f) last }
 {}
 
 /// Small folds, computed from the definitions.

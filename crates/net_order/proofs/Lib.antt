@@ -1,5 +1,4 @@
 pub mod Tells
-pub mod FieldNames
 pub mod Columns
 pub mod Rows
 pub mod Made

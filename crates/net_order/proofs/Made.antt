@@ -23,10 +23,11 @@ use Rattle.query_lang.specs.Streams.{values_at}
 use Rattle.query_lang.specs.TypedStreams.{column_names, others_from, columns_at}
 use Rattle.query_rules.specs.Context.{StandsFor}
 use Rattle.query_rules.specs.StreamRules.{HasColumns, new_names, OfFilter, OfMap, OfZip, OfGroup, HasStream, key_ids}
+use Rattle.query_rules.proofs.StreamLaws.{zip_is, group_is}
 use Rattle.stage_plan.proofs.StreamRows.{Row, row_at, row_made, at_earlier}
 use Rattle.net_wide.specs.Combining.{is_switch, names_switch, columns_made}
-use Rattle.net_order.proofs.Tells.{AreBelow}
-use Rattle.net_order.proofs.Columns.{picked_names, names_long, names_of_both, others_below, slots_below, behind}
+use Rattle.tuple_laws.proofs.Views.{AreBelow, others_below}
+use Rattle.net_order.proofs.Columns.{picked_names, names_long, names_of_both, slots_below, behind}
 use Rattle.net_order.proofs.Rows.{RowTells, SlotTells, filter_tells, map_tells, zip_tells, group_tells, slot_tells}
 
 -- the keys of a groupby that are named `switch` are the switch, in the row of its input
@@ -168,7 +169,7 @@ module _ (names : List (List ℕ)) (switch : ℕ) where
         names_of_both h.left.columns (columns_at h.right.columns slots)
         ∙ ap (λ l. before ++ l) (picked_names h.right.columns slots below) in
         let within : AreBelow (length others) slots = subst (λ n. AreBelow n slots) (sym (names_long h.right.columns)) below in
-        subst MadeTells (sym h.is) (
+        subst MadeTells (sym (zip_is first second made h)) (
           subst (λ l. RowTells names switch l (row_made folds rows (typed.Zip h.left.number h.right.number slots))) (sym same)
               (zip_tells names switch slots before others (row_at rows h.left.number) (row_at rows h.right.number) within left.1 right.1),
           tt,
@@ -185,7 +186,7 @@ module _ (names : List (List ℕ)) (switch : ℕ) where
         let below : AreBelow (length h.source.columns) h.slots = subst (λ n. AreBelow n h.slots) (names_long h.source.columns) within in
         let same : column_names (columns_at h.source.columns h.slots) ≡ values_at before h.slots =
         picked_names h.source.columns h.slots below in
-        subst MadeTells (sym h.is) (
+        subst MadeTells (sym (group_is input keys fold_name made h)) (
           subst (λ l. RowTells names switch l (row_made folds rows (typed.Group h.source.number h.slots h.f.number h.arguments))) (sym same)
               (group_tells names switch (slice_get folds h.f.number) h.slots h.arguments before row within source.1),
           (

@@ -1,6 +1,6 @@
 -- Which words of a row are the switch, by the names of its columns.
-use Rattle.std.proofs.Common.{◌≡◌, ℕ, zero, suc, ◌<◌, Bool, true, false, ◌||◌, List, [], ◌∷◌, ◌++◌, length, map, slice_index, Some, refl, ap, ◌∙◌, arith}
-use Rattle.std.specs.Prelude.{slice_get, unwrap_or}
+use Rattle.std.proofs.Common.{◌≡◌, ℕ, zero, suc, ◌<◌, Bool, true, false, ◌||◌, List, [], ◌∷◌, ◌++◌, length, map, slice_index, refl, ap, ◌∙◌, arith}
+use Rattle.std.specs.Prelude.{unwrap_or}
 use Rattle.std.specs.List.{list_any}
 use Rattle.std.specs.Str.{bytes_eq}
 use Rattle.marple_base.specs.declared.field.Field.{Field}
@@ -10,6 +10,8 @@ use Rattle.query_lang.specs.Names.{number_in}
 use Rattle.query_lang.specs.Streams.{values_at}
 use Rattle.query_lang.specs.Typing.{field_numbers}
 use Rattle.net_wide.specs.Combining.{is_switch, names_switch}
+use Rattle.tuple_laws.proofs.FieldColumns.{AreKnown}
+use Rattle.tuple_laws.proofs.Views.{AreBelow}
 use Rattle.net_wide.specs.NetTables.{switch_in}
 
 -- a row has a word for each of these columns, and where the column is named `switch`, this one
@@ -49,11 +51,6 @@ tells_at names switch (id ∷ columns) [] slot h lt e = absurd h
 tells_at names switch (id ∷ columns) (w ∷ row) zero h lt e = h.0 e
 tells_at names switch (id ∷ columns) (w ∷ row) (suc slot) h lt e = tells_at names switch columns row slot h.1 (omega (arith, lt)) e
 
--- these slots are below so many
-abbrev pub AreBelow : ℕ → List ℕ → Type 0
-AreBelow n [] = Unit {0}
-AreBelow n (slot ∷ slots) = (slot < n) × AreBelow n slots
-
 pub picked_tell : (names : List (List ℕ)) (switch : ℕ) (columns row slots : List ℕ) → Tells names switch columns row
     → AreBelow (length columns) slots
     → Tells names switch (values_at columns slots) (values_at row slots)
@@ -62,11 +59,6 @@ picked_tell names switch columns row (slot ∷ slots) h w =
     (tells_at names switch columns row slot h w.0, picked_tell names switch columns row slots h w.1)
 
 -- ---- a packet's fields
-
--- each field's name stands at its number
-abbrev pub AreKnown : List (List ℕ) → List Field → Type 0
-AreKnown names [] = Unit {0}
-AreKnown names (f ∷ fields) = (slice_get names (number_in names (field_name f)) ≡ Some (field_name f)) × AreKnown names fields
 
 abbrev named_switch : Field → Bool
 named_switch f = bytes_eq (field_name Switch) (field_name f)

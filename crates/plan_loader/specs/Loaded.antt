@@ -26,7 +26,8 @@ pub record IsLoaded (text : List ℕ) (loaded : LoadedPlan) : Type 0 where
 
 -- The tokens of a body write its statements, and these are made again of them.
 pub record BodiesAreRead : Type 0 where
-  pub written : (states args : ℕ) (words : List Lexeme) (body : Block) → IsBody states args words body → block_written states words ≡ body
+  pub written : (states args : ℕ) (words : List Lexeme) (body : Block) → IsBody states args words body
+      → block_written states words ≡ body
   pub stated : (body : Block) → block_of (stmts_for body) ≡ body
 
 -- A text says at most one thing.

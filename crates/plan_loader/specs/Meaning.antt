@@ -1,5 +1,5 @@
--- What the text of a plan means, by what its lines make: the fields that it reads, what its groups take of packets, their folds and tables, and
--- what it prints.
+-- What the text of a plan means, by what its lines make: the fields that it reads, what its groups take of packets,
+-- their folds and tables, and what it prints.
 use Rattle.std.specs.Prelude.{ℕ, List, [], length, map, replicate, flat_map, Option, None, unwrap_or}
 use Rattle.marple_base.specs.declared.field.FieldSet.{FieldSet}
 use Rattle.query_lang.specs.Blocks.{Block}
@@ -28,8 +28,8 @@ reads_in made = field_set (unwrap_or made.reads [])
 abbrev pub block_in : Group → Block
 block_in group = block_written (length group.initial) (unwrap_or group.body [])
 
--- The fold of a group: its body over its state variables and arguments, from the numbers of its `state` lines. A plan has no names of arguments,
--- and the fold's own name and those of its variables say nothing here.
+-- The fold of a group: its body over its state variables and arguments, from the numbers of its `state` lines. A plan
+-- has no names of arguments, and the fold's own name and those of its variables say nothing here.
 abbrev pub fold_in : Folded → TypedFold
 fold_in one = record {
   name = record { id = 0; span = record { start = 0; end = 0 } };

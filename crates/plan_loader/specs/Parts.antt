@@ -31,7 +31,8 @@ pub record IsGroupFrom (one : Folded) (group : GroupPlan) : Type 0 where
 abbrev pub AreGroupsFrom : List Folded → List GroupPlan → Type 0
 AreGroupsFrom groups plans = AllZip IsGroupFrom groups plans
 
--- The plan of what a text's lines make: it reads the fields that they name, has their operations and groups, and takes what the groups take.
+-- The plan of what a text's lines make: it reads the fields that they name, has their operations and groups, and takes
+-- what the groups take.
 pub record IsPlanFrom (made : Made) (plan : PlanParts) : Type 0 where
   pub reads : plan.reads ≡ reads_in made
   pub ops : plan.ops ≡ made.ops

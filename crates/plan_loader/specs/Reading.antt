@@ -1,4 +1,5 @@
--- The statements that the tokens of a body write, read from the front. A count bounds how far is read; as many as there are tokens are enough.
+-- The statements that the tokens of a body write, read from the front. A count bounds how far is read; as many as there
+-- are tokens are enough.
 use Rattle.std.specs.Prelude.{ℕ, zero, suc, ◌+◌, List, [], ◌∷◌, drop, length}
 use Rattle.query_lang.specs.declared.fold.TypedExpr.{TypedExpr, Number, Slot, Not, Binary}
 use Rattle.query_lang.specs.declared.fold.TypedStmt.{TypedStmt, Assign, If}

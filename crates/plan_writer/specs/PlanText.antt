@@ -1,5 +1,6 @@
 -- The text of a query's plan.
-use Rattle.std.specs.Prelude.{ℕ, List, [], ◌∷◌, ◌++◌, length, map, flat_map, filter, codes, decimal, slice_get, Option, Some, None}
+use Rattle.std.specs.Prelude.{ℕ, List, [], ◌∷◌, ◌++◌, length, map, flat_map, filter, codes, decimal, slice_get, Option, Some}
+use Rattle.std.specs.Prelude.{None}
 use Rattle.std.specs.List.{range_with_len}
 use Rattle.marple_base.specs.declared.field.Field.{Field}
 use Rattle.marple_base.specs.declared.field.FieldSet.{FieldSet}
@@ -37,8 +38,8 @@ abbrev pub named_lines : List ℕ → List (List ℕ) → List (List ℕ) → Li
 named_lines word (name ∷ names) (last ∷ lasts) = line word (name ∷ last ∷ []) ++ named_lines word names lasts
 named_lines word _ _ = []
 
--- The lines of a groupby: its name and its presence, its keys, its fold's arguments, the state variables, the fold's statements, and its class
--- and depth with the bounds on its nodes and statements.
+-- The lines of a groupby: its name and its presence, its keys, its fold's arguments, the state variables, the fold's
+-- statements, and its class and depth with the bounds on its nodes and statements.
 abbrev pub group_lines : GroupShape → GroupWiring → TypedFold → List ℕ
 group_lines shape wiring f =
     line (codes "group") (shape.name ∷ operand_word wiring.present ∷ [])

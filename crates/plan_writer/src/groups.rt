@@ -1,6 +1,7 @@
 // The groupbys of a plan.
 
-ghost use Rattle.std.specs.Prelude.{◌≡◌, ℕ, ◌<◌, ◌≤◌, ◌∷◌, ◌++◌, [], Some, length, map, flat_map, codes, decimal, option_to_list, IfOk, OnOk};
+ghost use Rattle.std.specs.Prelude.{◌≡◌, ℕ, ◌<◌, ◌≤◌, ◌∷◌, ◌++◌, [], Some, length, map, flat_map, codes};
+ghost use Rattle.std.specs.Prelude.{decimal, option_to_list, IfOk, OnOk};
 ghost use Rattle.std.specs.List.{range_with_len};
 ghost use Rattle.query_lang.specs.Folds.{fold_block};
 ghost use Rattle.query_lang.specs.Streams.{taking_of, takings};
@@ -108,7 +109,8 @@ fn push_bounds(
     nodes: u32,
     statements: u32,
 ) -> Result<(), AllocError>
-    ensures { OnOk result (text.new ≡ text.old ++ line (codes "fold") (class_word class ∷ decimal depth ∷ decimal nodes ∷ decimal statements ∷ [])) }
+    ensures { OnOk result (text.new
+        ≡ text.old ++ line (codes "fold") (class_word class ∷ decimal depth ∷ decimal nodes ∷ decimal statements ∷ [])) }
 {
     text.push_slice(b"fold")?;
     push_word(text, class_name(class))?;

@@ -15,4 +15,5 @@ pub mod TextFaults
 pub mod Weights
 pub mod ItemWeights
 pub mod FoldTokens
+pub mod FewNames
 pub mod Numbered

@@ -1,4 +1,4 @@
--- The names of a query that is read from a text have numbers below the count of its names.
+-- The names of a query that is read from a text have numbers below the count of its names, and its groupbys have keys.
 use Rattle.std.proofs.Common.{◌≡◌, ℕ, zero, suc, ◌+◌, ◌<◌, ◌≤◌, Bool, true, false, cond, List, [], ◌∷◌, ◌++◌, length, take, drop, Option, Some, None, Ok, Err, refl, sym, ap, subst, arith, inl, inr, ◌⊎◌}
 use Rattle.std.specs.Prelude.{All, nat_eq, codes}
 use Rattle.std.specs.List.{list_any, prefix_len}
@@ -23,13 +23,14 @@ use Rattle.query_lang.specs.declared.token.TokenKind.TheVariants as kinds
 use Rattle.query_lang.specs.declared.token.Word.{Word}
 use Rattle.query_lang.specs.declared.token.Word.TheVariants as words
 use Rattle.query_lang.specs.Lexis.{Cut, below_limit, cut, cut_piece, is_blank, is_digit, is_word_byte, mark_at, name_piece, number_piece, one_mark, piece, piece_of_mark, reserved, token_at, two_mark, with_front, word_piece}
-use Rattle.query_lang.specs.Limits.{AreNumbered, IsNumbered, IsNumberedFinal, IsNumberedStream, IsReadable}
+use Rattle.query_lang.specs.Limits.{AreNumbered, HasFinalKeys, HasKeys, HasStreamKeys, IsNumbered, IsNumberedFinal, IsNumberedStream, IsReadable}
 use Rattle.query_lang.specs.Names.{number_in, with_name}
-use Rattle.query_grammar.specs.Grammar.{After, Before, Between, Expression, Final, Fold, ItemOf, Listed, Mapping, Parameters, Query as Whole, Separated, Stream, listed}
+use Rattle.query_grammar.specs.Grammar.{After, Before, Between, Expression, Final, Fold, Group, ItemOf, KeyOf, Listed, Mapping, Parameters, Query as Whole, Separated, Stream, listed}
 use Rattle.query_grammar.specs.Kinds.{keyword, name, name_of, sign}
 use Rattle.query_grammar.specs.Language as language
 use Rattle.query_grammar.specs.Language.{AtMostOnce, Either, Language, Leaf, Meaning, Repeated, Role, Then}
 use Rattle.query_grammar.specs.Texts.{IsQueryOf}
+use Rattle.query_grammar.proofs.FewNames.{few_names}
 use Rattle.query_grammar.proofs.ItemWeights.{accepted_keeps, all_cons, all_none}
 
 -- ---- the tokens of a text
@@ -239,13 +240,48 @@ item_names most d = either_names (fold_names most d) (either_names (stream_names
 query_names : (most d : ℕ) → Names most (Whole d) (λ q. All (IsNumbered most) q.0)
 query_names most d = record { is = λ w q h b. let r = below_both most h.0 h.1 (subst (LeavesBelow most) h.2 b) in repeats most (ItemOf d) (IsNumbered most) (item_names most d) h.0 q.0 h.3 r.0 }
 
+-- ---- the keys of groupbys
+
+abbrev SomeOf : {A : Type 0} → List A → Type 0
+SomeOf xs = 0 < length xs
+
+separated_some : {A : Type 0} {most : ℕ} (L : Language A) → Names most (Separated L) SomeOf
+separated_some L = meaning_names SomeOf any_names (λ a h. omega arith)
+
+first_names : {A B : Type 0} {most : ℕ} {L : Language (A × B)} (P : A → Type 0) → Names most L (λ v. P v.0 × any v.1) → Names most L (λ v. P v.0)
+first_names P p = record { is = λ w v h b. (p.is w v h b).0 }
+
+group_keys : {most : ℕ} → Names most Group (λ v. SomeOf v.1.0)
+group_keys = after_names (λ v. SomeOf v.1.0) (keyword words.Groupby) (between_names (λ v. SomeOf v.1.0) (sign marks.OpenParen) (sign marks.CloseParen)
+    (second_names (λ v. SomeOf v.0) (then_names any_names (after_names (λ v. SomeOf v.0) (sign marks.Comma)
+    (first_names SomeOf (then_names (between_names SomeOf (sign marks.OpenBracket) (sign marks.CloseBracket) (separated_some KeyOf)) any_names))))))
+
+stream_keys : (E : Language Expr) (most : ℕ) → Names most (Stream E E) HasKeys
+stream_keys E most = meaning_names HasKeys (then_names any_names (between_names HasStreamKeys (sign marks.Assign) (sign marks.Semicolon)
+    (either_names (meaning_names HasStreamKeys any_names (λ a h. tt)) (either_names (meaning_names HasStreamKeys any_names (λ a h. tt))
+    (either_names (meaning_names HasStreamKeys any_names (λ a h. tt)) (meaning_names HasStreamKeys group_keys (λ a h. h))))))) (λ a h. h.1)
+
+final_keys : (E : Language Expr) (most : ℕ) → Names most (Final E E) HasKeys
+final_keys E most = meaning_names HasKeys (then_names any_names (then_names any_names (between_names HasFinalKeys (sign marks.Assign) (sign marks.Semicolon)
+    (either_names (meaning_names HasFinalKeys any_names (λ a h. tt)) (either_names (meaning_names HasFinalKeys any_names (λ a h. tt))
+    (either_names (meaning_names HasFinalKeys group_keys (λ a h. h)) (either_names (meaning_names HasFinalKeys any_names (λ a h. tt)) (meaning_names HasFinalKeys any_names (λ a h. tt))))))))) (λ a h. h.1.1)
+
+item_keys : (most d : ℕ) → Names most (ItemOf d) HasKeys
+item_keys most d = either_names (meaning_names HasKeys any_names (λ a h. tt)) (either_names (stream_keys (Expression d) most) (either_names (final_keys (Expression d) most) (meaning_names HasKeys any_names (λ a h. tt))))
+
+query_keys : (most d : ℕ) → Names most (Whole d) (λ q. All HasKeys q.0)
+query_keys most d = record { is = λ w q h b. let r = below_both most h.0 h.1 (subst (LeavesBelow most) h.2 b) in repeats most (ItemOf d) HasKeys (item_keys most d) h.0 q.0 h.3 r.0 }
+
 -- ---- what is read can be checked
 
 pub readable : (text : List ℕ) (q : Query) → IsQueryOf text q → IsReadable q
 readable text q h =
-    let b : TokensBelow (length q.names) h.tokens = (cut_numbers (length text) 0 [] text (h.tokens, q.names) h.cut).1 in
+    let most = length q.names in
+    let b : TokensBelow most h.tokens = (cut_numbers (length text) 0 [] text (h.tokens, q.names) h.cut).1 in
+    let below = leaves_below most h.accepted.leaves (subst (TokensBelow most) (sym h.accepted.tokens) b) in
     record {
       limits = accepted_keeps h.tokens (q.items, q.end) h.accepted;
-      names = (query_names (length q.names) h.accepted.depth).is h.accepted.leaves (q.items, q.end) h.accepted.means
-          (leaves_below (length q.names) h.accepted.leaves (subst (TokensBelow (length q.names)) (sym h.accepted.tokens) b));
+      names = (query_names most h.accepted.depth).is h.accepted.leaves (q.items, q.end) h.accepted.means below;
+      keys = (query_keys most h.accepted.depth).is h.accepted.leaves (q.items, q.end) h.accepted.means below;
+      few = few_names text h.tokens q.names h.short h.cut;
     }

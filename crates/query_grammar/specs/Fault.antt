@@ -1,5 +1,6 @@
 -- Which fault stands at which token: the first at which no query goes on, or at which a limit is passed.
-use Rattle.std.specs.Prelude.{◌≡◌, ℕ, ◌+◌, ◌<◌, ◌≤◌, List, [], ◌∷◌, ◌++◌, Option, Some, option_and_then, if◌then◌else◌}
+use Rattle.std.specs.Prelude.{◌≡◌, ℕ, ◌+◌, ◌<◌, ◌≤◌, List, [], ◌∷◌, ◌++◌, Option, Some, option_and_then}
+use Rattle.std.specs.Prelude.{if◌then◌else◌}
 use Rattle.query_lang.specs.declared.fault.Span.{Span}
 use Rattle.query_lang.specs.declared.query.Item.{Item}
 use Rattle.query_lang.specs.declared.token.Mark.TheVariants as marks
@@ -39,7 +40,8 @@ closed (t ∷ ts) = closes (kind t) + closed ts
 
 -- no bracket would be the 65th that is open at once
 abbrev pub IsShallow : List Token → Type 0
-IsShallow ts = (front more : List Token) (t : Token) → ts ≡ front ++ t ∷ more → opens (kind t) ≡ 1 → opened front < closed front + 64
+IsShallow ts = (front more : List Token) (t : Token) → ts ≡ front ++ t ∷ more → opens (kind t) ≡ 1
+    → opened front < closed front + 64
 
 -- ---- beginnings of queries
 
@@ -80,9 +82,11 @@ StandsAt Unexpected front t = (c : Counts) × IsSound front c × (BeginsQuery (f
 -- t is grammatical there, and is a node behind 512 of its item
 StandsAt Nodes front t = (c : Counts) × (leaf : Leaf) × IsGrammatical front t leaf c × (leaf.role ≡ Node) × (512 ≤ c.nodes)
 -- t is grammatical there, and begins a statement behind 64 of its fold
-StandsAt Statements front t = (c : Counts) × (leaf : Leaf) × IsGrammatical front t leaf c × (leaf.role ≡ Statement) × (64 ≤ c.statements)
+StandsAt Statements front t = (c : Counts) × (leaf : Leaf) × IsGrammatical front t leaf c × (leaf.role ≡ Statement)
+    × (64 ≤ c.statements)
 -- t is grammatical there, and is a bracket that would be the 65th open at once
-StandsAt Nesting front t = (c : Counts) × (leaf : Leaf) × IsGrammatical front t leaf c × (leaf.role ≡ Plain) × (opens (kind t) ≡ 1) × (opened front ≡ closed front + 64)
+StandsAt Nesting front t = (c : Counts) × (leaf : Leaf) × IsGrammatical front t leaf c × (leaf.role ≡ Plain)
+    × (opens (kind t) ≡ 1) × (opened front ≡ closed front + 64)
 
 -- ---- what parsing says
 

@@ -24,7 +24,8 @@ use Rattle.query_lang.specs.declared.token.Mark.TheVariants as marks
 use Rattle.query_lang.specs.declared.token.TokenKind.{TokenKind}
 use Rattle.query_lang.specs.declared.token.TokenKind.TheVariants as kinds
 use Rattle.query_lang.specs.declared.token.Token.{Token}
-use Rattle.query_grammar.specs.Language.{Plain, Node, Statement, Opening, Leaf, Language, tokens_of, Word, Then, Repeated, AtMostOnce, Either, Meaning, Chained}
+use Rattle.query_grammar.specs.Language.{Plain, Node, Statement, Opening, Leaf, Language, tokens_of, Word, Then, Repeated, AtMostOnce}
+use Rattle.query_grammar.specs.Language.{Either, Meaning, Chained}
 use Rattle.query_grammar.specs.Kinds.{is, name, number, operator, sign, keyword}
 
 -- ---- what the words mean
@@ -111,7 +112,8 @@ abbrev pub both_ops : Operators
 both_ops = (sign marks.Both, ops.Both) ∷ []
 
 abbrev pub comparing_ops : Operators
-comparing_ops = (sign marks.Equal, ops.Eq) ∷ (sign marks.NotEqual, ops.Ne) ∷ (sign marks.Less, ops.Lt) ∷ (sign marks.LessOrEqual, ops.Le)
+comparing_ops = (sign marks.Equal, ops.Eq) ∷ (sign marks.NotEqual, ops.Ne) ∷ (sign marks.Less, ops.Lt)
+    ∷ (sign marks.LessOrEqual, ops.Le)
     ∷ (sign marks.Greater, ops.Gt) ∷ (sign marks.GreaterOrEqual, ops.Ge) ∷ []
 
 abbrev pub or_ops : Operators
@@ -133,7 +135,8 @@ abbrev pub product_ops : Operators
 product_ops = (sign marks.Times, ops.Mul) ∷ (sign marks.Slash, ops.Div) ∷ (sign marks.Percent, ops.Rem) ∷ []
 
 abbrev pub functions : Operators
-functions = (keyword words.Max, ops.Max) ∷ (keyword words.Min, ops.Min) ∷ (keyword words.Sadd, ops.Sadd) ∷ (keyword words.Decay, ops.Decay) ∷ []
+functions = (keyword words.Max, ops.Max) ∷ (keyword words.Min, ops.Min) ∷ (keyword words.Sadd, ops.Sadd)
+    ∷ (keyword words.Decay, ops.Decay) ∷ []
 
 -- L { operator L }
 abbrev pub Level : Operators → Language Expr → Language Expr
@@ -207,7 +210,8 @@ Assignment E = Meaning (λ v. stmts.Assign v.0 v.1) (Then (Word Statement name) 
 -- "emit" "(" ")" ";"
 abbrev pub Emission : Language Stmt
 Emission = Meaning (λ v. stmts.Emit v.0)
-    (Then (Word Statement (is (keyword words.Emit))) (After (sign marks.OpenParen) (Then (Token_of (sign marks.CloseParen)) (Token_of (sign marks.Semicolon)))))
+    (Then (Word Statement (is (keyword words.Emit)))
+    (After (sign marks.OpenParen) (Then (Token_of (sign marks.CloseParen)) (Token_of (sign marks.Semicolon)))))
 
 -- block = "{" { stmt } "}"
 abbrev pub Block : Language Stmt → Language (List Stmt)
@@ -234,7 +238,10 @@ Statement_at (suc d) = Either (Assignment (Expression (suc d))) (Either (IfState
 
 -- svar = name [ "=" number ]
 abbrev pub StateVariable : Language StateVar
-StateVariable = Meaning (λ v. record { name = v.0; initial = initial_of v.1 }) (Then Plain_name (AtMostOnce (After (sign marks.Assign) (Word Plain number))))
+StateVariable = Meaning (λ v. record {
+  name = v.0;
+  initial = initial_of v.1;
+}) (Then Plain_name (AtMostOnce (After (sign marks.Assign) (Word Plain number))))
 
 -- "(" "[" [ svar { "," svar } ] "]" "," "[" [ name { "," name } ] "]" ")"
 abbrev pub Parameters : Language (List StateVar × List Name)
@@ -267,11 +274,13 @@ KeyOf = Either (Meaning keys.Named Plain_name) (Meaning keys.FiveTuple (Token_of
 
 -- group = "groupby" "(" name "," "[" key { "," key } "]" "," name ")"
 abbrev pub Group : Language (Name × (List Key × Name))
-Group = After (keyword words.Groupby) (Parens (Then Plain_name (After (sign marks.Comma) (Then (Brackets (Separated KeyOf)) (After (sign marks.Comma) Plain_name)))))
+Group = After (keyword words.Groupby)
+    (Parens (Then Plain_name (After (sign marks.Comma) (Then (Brackets (Separated KeyOf)) (After (sign marks.Comma) Plain_name)))))
 
 -- best = "top" "(" name "," name "," number ")"
 abbrev pub Best : Language (Name × (Name × (ℕ × Span)))
-Best = After (keyword words.Top) (Parens (Then Plain_name (After (sign marks.Comma) (Then Plain_name (After (sign marks.Comma) (Word Plain number))))))
+Best = After (keyword words.Top)
+    (Parens (Then Plain_name (After (sign marks.Comma) (Then Plain_name (After (sign marks.Comma) (Word Plain number))))))
 
 -- filter | mapping | zipping | group, of expressions in one bracket and in two
 abbrev pub Streaming : Language Expr → Language Expr → Language StreamOp
@@ -286,7 +295,8 @@ Stream E F = Meaning (λ v. items.Stream (record { name = v.0; op = v.1 }))
 -- filter | mapping | group | joining | best
 abbrev pub Finishing : Language Expr → Language Expr → Language FinalOp
 Finishing E F = Either (Meaning (λ v. finals.Filter v.0 v.1) (Filter E)) (Either (Meaning (λ v. finals.Map v.0 v.1) (Mapping F))
-    (Either (Meaning (λ v. finals.Group v.0 v.1.0 v.1.1) Group) (Either (Meaning (λ v. finals.Join v.0 v.1) (Pairing (keyword words.Join)))
+    (Either (Meaning (λ v. finals.Group v.0 v.1.0 v.1.1) Group)
+    (Either (Meaning (λ v. finals.Join v.0 v.1) (Pairing (keyword words.Join)))
     (Meaning (λ v. finals.Top v.0 v.1.0 v.1.1.0 v.1.1.1) Best))))
 
 -- final = "final" name "=" ( filter | mapping | group | joining | best ) ";"

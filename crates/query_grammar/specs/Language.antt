@@ -34,7 +34,8 @@ Then L M word v = (front : List Leaf) × (back : List Leaf) × (word ≡ front +
 -- any number of times
 abbrev pub Repeated : {A : Type 0} → (List Leaf → A → Type 0) → List Leaf → List A → Type 0
 Repeated L word [] = word ≡ []
-Repeated L word (a ∷ others) = (front : List Leaf) × (back : List Leaf) × (word ≡ front ++ back) × L front a × Repeated L back others
+Repeated L word (a ∷ others) = (front : List Leaf) × (back : List Leaf) × (word ≡ front ++ back) × L front a
+    × Repeated L back others
 
 -- at most once
 abbrev pub AtMostOnce : {A : Type 0} → (List Leaf → A → Type 0) → List Leaf → Option A → Type 0
@@ -53,7 +54,8 @@ Meaning {A} f L word b = (a : A) × L word a × (f a ≡ b)
 abbrev pub Chain : {A B : Type 0} → (List Leaf → A ⊎ B → Type 0) → List Leaf → List A → Option B → Type 0
 Chain T word [] None = word ≡ []
 Chain T word [] (Some b) = T word (inr b)
-Chain T word (a ∷ others) last = (front : List Leaf) × (back : List Leaf) × (word ≡ front ++ back) × T front (inl a) × Chain T back others last
+Chain T word (a ∷ others) last = (front : List Leaf) × (back : List Leaf) × (word ≡ front ++ back) × T front (inl a)
+    × Chain T back others last
 
 abbrev pub Chained : {A B : Type 0} → (List Leaf → A ⊎ B → Type 0) → List Leaf → List A × Option B → Type 0
 Chained T word v = Chain T word v.0 v.1

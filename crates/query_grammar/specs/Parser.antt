@@ -1,5 +1,6 @@
 -- Parsers that go by the next token, as functions on lists of tokens.
-use Rattle.std.specs.Prelude.{ℕ, zero, suc, ◌+◌, Bool, false, List, [], ◌∷◌, length, Option, Some, None, nat_lt, if◌then◌else◌, ◌⊎◌}
+use Rattle.std.specs.Prelude.{ℕ, zero, suc, ◌+◌, Bool, false, List, [], ◌∷◌, length, Option, Some, None, nat_lt}
+use Rattle.std.specs.Prelude.{if◌then◌else◌, ◌⊎◌}
 use Rattle.std.proofs.Common.{inl, inr}
 use Rattle.query_lang.specs.declared.token.Token.{Token}
 use Rattle.query_grammar.specs.declared.stop.Counts.{Counts}
@@ -73,7 +74,8 @@ either starts p q c ts = if next_is starts ts then p c ts else q c ts
 -- at most n times
 abbrev pub turns : {A : Type 0} → ℕ → (Token → Bool) → Parser A → Parser (List A)
 turns zero starts p c ts = Done [] c ts
-turns (suc n) starts p c ts = if next_is starts ts then and_then (p c ts) (λ a c' rest. and_then (turns n starts p c' rest) (λ others c'' rest'. Done (a ∷ others) c'' rest')) else Done [] c ts
+turns (suc n) starts p c ts = if next_is starts ts then and_then (p c ts)
+    (λ a c' rest. and_then (turns n starts p c' rest) (λ others c'' rest'. Done (a ∷ others) c'' rest')) else Done [] c ts
 
 -- as often as the next token starts one
 abbrev pub repeated : {A : Type 0} → (Token → Bool) → Parser A → Parser (List A)
@@ -84,13 +86,15 @@ abbrev pub linked : {A B : Type 0} → A → Outcome (List A × Option B) → Ou
 linked a o = and_then o (λ v c rest. Done (a ∷ v.0, v.1) c rest)
 
 -- goes on after a turn, unless it is the last
-abbrev pub next_turn : {A B : Type 0} → (Counts → List Token → Outcome (List A × Option B)) → A ⊎ B → Counts → List Token → Outcome (List A × Option B)
+abbrev pub next_turn : {A B : Type 0} → (Counts → List Token → Outcome (List A × Option B)) → A ⊎ B → Counts → List Token
+    → Outcome (List A × Option B)
 next_turn after (inl a) c rest = linked a (after c rest)
 next_turn after (inr b) c rest = Done ([], Some b) c rest
 
 abbrev pub chain_turns : {A B : Type 0} → ℕ → (Token → Bool) → Parser (A ⊎ B) → Parser (List A × Option B)
 chain_turns zero starts p c ts = Done ([], None) c ts
-chain_turns (suc n) starts p c ts = if next_is starts ts then and_then (p c ts) (next_turn (chain_turns n starts p)) else Done ([], None) c ts
+chain_turns (suc n) starts p c ts = if next_is starts ts then and_then (p c ts)
+    (next_turn (chain_turns n starts p)) else Done ([], None) c ts
 
 abbrev pub chained : {A B : Type 0} → (Token → Bool) → Parser (A ⊎ B) → Parser (List A × Option B)
 chained starts p c ts = chain_turns (length ts) starts p c ts

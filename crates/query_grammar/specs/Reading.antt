@@ -24,8 +24,11 @@ use Rattle.query_lang.specs.declared.token.Token.{Token}
 use Rattle.query_grammar.specs.declared.stop.Stop.TheVariants.{Unexpected, Nesting}
 use Rattle.query_grammar.specs.Language.{Plain, Node, Statement, Opening}
 use Rattle.query_grammar.specs.Kinds.{among, is, name, number, operator, kinds_of, sign, keyword}
-use Rattle.query_grammar.specs.Parser.{no_counts, Limits, Limited, Unlimited, Outcome, Done, Stopped, Parser, word, followed_by, mapped, at_most_once, either, repeated, chained}
-use Rattle.query_grammar.specs.Grammar.{grouped, compared, negated, list_of, listed, is_last, is_another, else_of, initial_of, Operators, either_ops, both_ops, comparing_ops, or_ops, xor_ops, and_ops, shift_ops, sum_ops, product_ops, functions}
+use Rattle.query_grammar.specs.Parser.{no_counts, Limits, Limited, Unlimited, Outcome, Done, Stopped, Parser, word, followed_by, mapped}
+use Rattle.query_grammar.specs.Parser.{at_most_once, either, repeated, chained}
+use Rattle.query_grammar.specs.Grammar.{grouped, compared, negated, list_of, listed, is_last, is_another, else_of, initial_of, Operators}
+use Rattle.query_grammar.specs.Grammar.{either_ops, both_ops, comparing_ops, or_ops, xor_ops, and_ops, shift_ops, sum_ops, product_ops}
+use Rattle.query_grammar.specs.Grammar.{functions}
 
 -- ---- signs and words around
 
@@ -78,7 +81,8 @@ abbrev pub expr_starts : List ℕ
 expr_starts = 51 ∷ 1 ∷ 20 ∷ 0 ∷ 24 ∷ 16 ∷ 17 ∷ 18 ∷ 19 ∷ []
 
 abbrev pub level : Limits → Operators → Parser Expr → Parser Expr
-level m ops p = mapped (λ v. grouped v.0 v.1) (followed_by p (repeated (among (kinds_of ops)) (followed_by (word m Node (operator ops)) p)))
+level m ops p = mapped (λ v. grouped v.0 v.1)
+    (followed_by p (repeated (among (kinds_of ops)) (followed_by (word m Node (operator ops)) p)))
 
 abbrev pub atom : Limits → Parser Expr
 atom m = either (among (1 ∷ [])) (mapped (λ v. exprs.Number v.0 v.1) (word m Node number))
@@ -113,7 +117,9 @@ abbrev pub bit_or : Limits → Parser Expr → Parser Expr
 bit_or m p = level m or_ops (bit_xor m p)
 
 abbrev pub comparison : Limits → Parser Expr → Parser Expr
-comparison m p = mapped (λ v. compared v.0 v.1) (followed_by (bit_or m p) (at_most_once (among (kinds_of comparing_ops)) (followed_by (word m Node (operator comparing_ops)) (bit_or m p))))
+comparison m p = mapped (λ v. compared v.0 v.1)
+    (followed_by (bit_or m p) (at_most_once (among (kinds_of comparing_ops))
+    (followed_by (word m Node (operator comparing_ops)) (bit_or m p))))
 
 abbrev pub conjunction : Limits → Parser Expr → Parser Expr
 conjunction m p = level m both_ops (comparison m p)
@@ -130,7 +136,8 @@ expr_at m (suc e) = disjunction m (primary m (parens m (expr_at m e)) (parens m 
 -- ---- statements
 
 abbrev pub assignment : Limits → Parser Expr → Parser Stmt
-assignment m p = mapped (λ v. stmts.Assign v.0 v.1) (followed_by (word m Statement name) (between m (sign marks.Assign) p (sign marks.Semicolon)))
+assignment m p = mapped (λ v. stmts.Assign v.0 v.1)
+    (followed_by (word m Statement name) (between m (sign marks.Assign) p (sign marks.Semicolon)))
 
 abbrev pub emission : Limits → Parser (Span × Span) → Parser Stmt
 emission m empty = mapped (λ v. stmts.Emit v.0) (followed_by (word m Statement (is (keyword words.Emit))) empty)
@@ -150,28 +157,37 @@ abbrev pub if_part : Limits → Parser Expr → Parser (List Stmt) → Parser (S
 if_part m condition b = followed_by (word m Statement (is (keyword words.If))) (followed_by condition b)
 
 abbrev pub else_part : Limits → Parser Expr → Parser (List Stmt) → Parser ((Expr × List Stmt) ⊎ List Stmt)
-else_part m condition b = after m (keyword words.Else) (either (among (28 ∷ [])) (mapped is_last b) (mapped is_another (if_part m condition b)))
+else_part m condition b = after m (keyword words.Else)
+    (either (among (28 ∷ [])) (mapped is_last b) (mapped is_another (if_part m condition b)))
 
 abbrev pub if_statement : Limits → Parser Expr → Parser (List Stmt) → Parser Stmt
-if_statement m condition b = mapped (λ v. stmts.If v.0.1.0 v.0.1.1 (else_of v.1.0 v.1.1)) (followed_by (if_part m condition b) (chained (among (6 ∷ [])) (else_part m condition b)))
+if_statement m condition b = mapped (λ v. stmts.If v.0.1.0 v.0.1.1 (else_of v.1.0 v.1.1))
+    (followed_by (if_part m condition b) (chained (among (6 ∷ [])) (else_part m condition b)))
 
 -- a statement, of an expression, a condition in its bracket, a block in its brace, and an emit's brackets
 abbrev pub statement : Limits → Parser Expr → Parser Expr → Parser (List Stmt) → Parser (Span × Span) → Parser Stmt
-statement m value condition b empty = either (among (0 ∷ [])) (assignment m value) (either (among (5 ∷ [])) (if_statement m condition b) (emission m empty))
+statement m value condition b empty = either (among (0 ∷ [])) (assignment m value)
+    (either (among (5 ∷ [])) (if_statement m condition b) (emission m empty))
 
 -- a statement in which at most so many brackets may be opened
 unfoldable pub stmt_at : Limits → ℕ → Parser Stmt
-stmt_at Limited zero = statement Limited (expr_at Limited zero) (blocked (sign marks.OpenParen)) (blocked (sign marks.OpenBrace)) (blocked (sign marks.OpenParen))
+stmt_at Limited zero = statement Limited (expr_at Limited zero) (blocked (sign marks.OpenParen))
+    (blocked (sign marks.OpenBrace)) (blocked (sign marks.OpenParen))
 stmt_at Unlimited zero = assignment Unlimited (expr_at Unlimited zero)
 stmt_at m (suc e) = statement m (expr_at m (suc e)) (parens m (expr_at m e)) (block m (stmt_at m e)) (empty_parens m)
 
 -- ---- items
 
 abbrev pub state_variable : Limits → Parser StateVar
-state_variable m = mapped (λ v. record { name = v.0; initial = initial_of v.1 }) (followed_by (plain_name m) (at_most_once (among (32 ∷ [])) (after m (sign marks.Assign) (word m Plain number))))
+state_variable m = mapped (λ v. record {
+  name = v.0;
+  initial = initial_of v.1;
+}) (followed_by (plain_name m)
+    (at_most_once (among (32 ∷ [])) (after m (sign marks.Assign) (word m Plain number))))
 
 abbrev pub parameters : Limits → Parser (List StateVar × List Name)
-parameters m = parens m (followed_by (brackets m (listed_by m (0 ∷ []) (state_variable m))) (after m (sign marks.Comma) (brackets m (listed_by m (0 ∷ []) (plain_name m)))))
+parameters m = parens m (followed_by (brackets m (listed_by m (0 ∷ []) (state_variable m)))
+    (after m (sign marks.Comma) (brackets m (listed_by m (0 ∷ []) (plain_name m)))))
 
 abbrev pub fold_def : Limits → Parser Stmt → Parser Item
 fold_def m s = mapped (λ v. items.Fold (record { name = v.1.0; states = v.1.1.0.0; args = v.1.1.0.1; body = v.1.1.1 }))
@@ -184,7 +200,8 @@ abbrev pub column_of : Limits → Parser Expr → Parser Column
 column_of m p = mapped (λ v. record { name = v.0; value = v.1 }) (followed_by (plain_name m) (after m (sign marks.Assign) p))
 
 abbrev pub mapping : Limits → Parser Expr → Parser (Name × List Column)
-mapping m p = after m (keyword words.Map) (parens m (followed_by (plain_name m) (after m (sign marks.Comma) (brackets m (separated m (column_of m p))))))
+mapping m p = after m (keyword words.Map)
+    (parens m (followed_by (plain_name m) (after m (sign marks.Comma) (brackets m (separated m (column_of m p))))))
 
 abbrev pub pairing : Limits → TokenKind → Parser (Name × Name)
 pairing m w = after m w (parens m (followed_by (plain_name m) (after m (sign marks.Comma) (plain_name m))))
@@ -193,32 +210,44 @@ abbrev pub key_of : Limits → Parser Key
 key_of m = either (among (0 ∷ [])) (mapped keys.Named (plain_name m)) (mapped keys.FiveTuple (token_of m kinds.FiveTuple))
 
 abbrev pub group : Limits → Parser (Name × (List Key × Name))
-group m = after m (keyword words.Groupby) (parens m (followed_by (plain_name m) (after m (sign marks.Comma) (followed_by (brackets m (separated m (key_of m))) (after m (sign marks.Comma) (plain_name m))))))
+group m = after m (keyword words.Groupby)
+    (parens m (followed_by (plain_name m)
+    (after m (sign marks.Comma) (followed_by (brackets m (separated m (key_of m))) (after m (sign marks.Comma) (plain_name m))))))
 
 abbrev pub best : Limits → Parser (Name × (Name × (ℕ × Span)))
-best m = after m (keyword words.Top) (parens m (followed_by (plain_name m) (after m (sign marks.Comma) (followed_by (plain_name m) (after m (sign marks.Comma) (word m Plain number))))))
+best m = after m (keyword words.Top)
+    (parens m (followed_by (plain_name m)
+    (after m (sign marks.Comma) (followed_by (plain_name m) (after m (sign marks.Comma) (word m Plain number))))))
 
 abbrev pub streaming : Limits → Parser Expr → Parser Expr → Parser StreamOp
-streaming m p q = either (among (8 ∷ [])) (mapped (λ v. streams.Filter v.0 v.1) (filter_of m p)) (either (among (9 ∷ [])) (mapped (λ v. streams.Map v.0 v.1) (mapping m q))
-    (either (among (10 ∷ [])) (mapped (λ v. streams.Zip v.0 v.1) (pairing m (keyword words.Zip))) (mapped (λ v. streams.Group v.0 v.1.0 v.1.1) (group m))))
+streaming m p q = either (among (8 ∷ [])) (mapped (λ v. streams.Filter v.0 v.1) (filter_of m p))
+    (either (among (9 ∷ [])) (mapped (λ v. streams.Map v.0 v.1) (mapping m q))
+    (either (among (10 ∷ [])) (mapped (λ v. streams.Zip v.0 v.1) (pairing m (keyword words.Zip)))
+    (mapped (λ v. streams.Group v.0 v.1.0 v.1.1) (group m))))
 
 abbrev pub stream : Limits → Parser Expr → Parser Expr → Parser Item
-stream m p q = mapped (λ v. items.Stream (record { name = v.0; op = v.1 })) (followed_by (word m Opening name) (between m (sign marks.Assign) (streaming m p q) (sign marks.Semicolon)))
+stream m p q = mapped (λ v. items.Stream (record { name = v.0; op = v.1 }))
+    (followed_by (word m Opening name) (between m (sign marks.Assign) (streaming m p q) (sign marks.Semicolon)))
 
 abbrev pub finishing : Limits → Parser Expr → Parser Expr → Parser FinalOp
-finishing m p q = either (among (8 ∷ [])) (mapped (λ v. finals.Filter v.0 v.1) (filter_of m p)) (either (among (9 ∷ [])) (mapped (λ v. finals.Map v.0 v.1) (mapping m q))
-    (either (among (11 ∷ [])) (mapped (λ v. finals.Group v.0 v.1.0 v.1.1) (group m)) (either (among (14 ∷ [])) (mapped (λ v. finals.Join v.0 v.1) (pairing m (keyword words.Join)))
+finishing m p q = either (among (8 ∷ [])) (mapped (λ v. finals.Filter v.0 v.1) (filter_of m p))
+    (either (among (9 ∷ [])) (mapped (λ v. finals.Map v.0 v.1) (mapping m q))
+    (either (among (11 ∷ [])) (mapped (λ v. finals.Group v.0 v.1.0 v.1.1) (group m))
+    (either (among (14 ∷ [])) (mapped (λ v. finals.Join v.0 v.1) (pairing m (keyword words.Join)))
     (mapped (λ v. finals.Top v.0 v.1.0 v.1.1.0 v.1.1.1) (best m)))))
 
 abbrev pub final : Limits → Parser Expr → Parser Expr → Parser Item
 final m p q = mapped (λ v. items.Final (record { name = v.1.0; op = v.1.1 }))
-    (followed_by (word m Opening (is (keyword words.Final))) (followed_by (plain_name m) (between m (sign marks.Assign) (finishing m p q) (sign marks.Semicolon))))
+    (followed_by (word m Opening (is (keyword words.Final)))
+    (followed_by (plain_name m) (between m (sign marks.Assign) (finishing m p q) (sign marks.Semicolon))))
 
 abbrev pub print : Limits → Parser Item
-print m = mapped (λ v. items.Print v.1) (followed_by (word m Opening (is (keyword words.Print))) (before m (plain_name m) (sign marks.Semicolon)))
+print m = mapped (λ v. items.Print v.1)
+    (followed_by (word m Opening (is (keyword words.Print))) (before m (plain_name m) (sign marks.Semicolon)))
 
 abbrev pub item : Limits → Parser Stmt → Parser Expr → Parser Expr → Parser Item
-item m s p q = either (among (4 ∷ [])) (fold_def m s) (either (among (0 ∷ [])) (stream m p q) (either (among (12 ∷ [])) (final m p q) (print m)))
+item m s p q = either (among (4 ∷ [])) (fold_def m s)
+    (either (among (0 ∷ [])) (stream m p q) (either (among (12 ∷ [])) (final m p q) (print m)))
 
 -- what begins an item
 abbrev pub item_starts : List ℕ

@@ -1,5 +1,6 @@
 -- What a text means, or which fault is its first.
-use Rattle.std.specs.Prelude.{◌≡◌, ℕ, ◌<◌, ◌≤◌, List, [], ◌∷◌, ◌++◌, length, Result, Ok, Err, nat_lt, if◌then◌else◌}
+use Rattle.std.specs.Prelude.{◌≡◌, ℕ, ◌<◌, ◌≤◌, List, [], ◌∷◌, ◌++◌, length, Result, Ok, Err, nat_lt}
+use Rattle.std.specs.Prelude.{if◌then◌else◌}
 use Rattle.query_lang.specs.declared.fault.FaultKind.{FaultKind}
 use Rattle.query_lang.specs.declared.fault.FaultKind.TheVariants.{QueryTooLong, UnexpectedToken, OverLimit}
 use Rattle.query_lang.specs.declared.fault.Limit.TheVariants as limits
@@ -36,7 +37,9 @@ pub record IsQueryOf (text : List ℕ) (q : Query) : Type 0 where
 pub data IsFaultOf (text : List ℕ) (fault : QueryFault) : Type 0 where
   too_long : 65536 < length text → fault ≡ fault_at QueryTooLong 65536 → IsFaultOf text fault
   in_lexis : length text ≤ 65536 → tokens_of text ≡ Err fault → IsFaultOf text fault
-  in_grammar : length text ≤ 65536 → (names : List (List ℕ)) (front : List Token) (t : Token) (more : List Token) (k : Stop) → tokens_of text ≡ Ok (front ++ t ∷ more, names) → StandsAt k front t
+  in_grammar : length text ≤ 65536
+      → (names : List (List ℕ)) (front : List Token) (t : Token) (more : List Token) (k : Stop)
+      → tokens_of text ≡ Ok (front ++ t ∷ more, names) → StandsAt k front t
       → fault ≡ fault_of k t → IsFaultOf text fault
 
 -- ---- by functions

@@ -32,7 +32,8 @@ pub fn first_fault()
 
 /// A fault that stands at a token is what parsing gives, whatever follows the token.
 pub fn fault_is_found()
-    ensures { (k : Stop) (front : List Token) (t : Token) (more : List Token) → StandsAt k front t → parsed (front ++ t ∷ more) ≡ Stopped k (t ∷ more) }
+    ensures { (k : Stop) (front : List Token) (t : Token) (more : List Token) → StandsAt k front t
+        → parsed (front ++ t ∷ more) ≡ Stopped k (t ∷ more) }
 {}
 
 /// A query that tokens derive within all limits is what parsing gives.
@@ -50,8 +51,8 @@ pub fn fault_of_text()
     ensures { (text : List ℕ) (fault : QueryFault) → (parsed_text text ≡ Err fault) ↔ IsFaultOf text fault }
 {}
 
-/// The query of a text keeps the limits of the grammar as they are counted on its trees, and each name that it gives has a
-/// number below the count of its names.
+/// The query of a text keeps the limits of the grammar as they are counted on its trees, each of its groupbys has a key, and
+/// each name that it gives has a number below the count of its names, which are at most 32,768.
 pub fn query_is_readable()
     ensures { (text : List ℕ) (q : Query) → IsQueryOf text q → IsReadable q }
 {}

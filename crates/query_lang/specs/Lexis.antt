@@ -1,5 +1,6 @@
 -- How a text is cut into tokens.
-use Rattle.std.specs.Prelude.{ℕ, zero, suc, ◌+◌, ◌^◌, ◌<◌, ◌≤◌, Bool, true, false, List, [], ◌∷◌, length, take, drop, codes, Option, Some, None, Result, Ok, Err, nat_eq, nat_lt, if◌then◌else◌, ◌&&◌, ◌||◌}
+use Rattle.std.specs.Prelude.{ℕ, zero, suc, ◌+◌, ◌^◌, ◌<◌, ◌≤◌, Bool, true, false, List, [], ◌∷◌, length, take}
+use Rattle.std.specs.Prelude.{drop, codes, Option, Some, None, Result, Ok, Err, nat_eq, nat_lt, if◌then◌else◌, ◌&&◌, ◌||◌}
 use Rattle.std.specs.List.{prefix_len}
 use Rattle.std.specs.Str.{bytes_eq}
 use Rattle.std.specs.Str.Parse.{digits_value}
@@ -163,7 +164,8 @@ cut_piece (pieces.Fault kind n) at names bytes next = Err (fault_at kind (at + n
 unfoldable pub cut : ℕ → ℕ → List (List ℕ) → List ℕ → Cut
 cut zero at names bytes = Ok (token_at kinds.End at at ∷ [], names)
 cut (suc n) at names [] = Ok (token_at kinds.End at at ∷ [], names)
-cut (suc n) at names (b ∷ bytes) = cut_piece (piece (b ∷ bytes)) at names (b ∷ bytes) (λ k known. cut n (at + k) known (drop k (b ∷ bytes)))
+cut (suc n) at names (b ∷ bytes) = cut_piece (piece (b ∷ bytes)) at names (b ∷ bytes)
+    (λ k known. cut n (at + k) known (drop k (b ∷ bytes)))
 
 -- the tokens of a text
 abbrev pub tokens_of : List ℕ → Cut

@@ -1,4 +1,5 @@
--- What holds of each query that is read from a text: its items keep the limits of the grammar, and its names have numbers.
+-- What holds of each query that is read from a text: its items keep the limits of the grammar, groupbys have keys, and its names have
+-- numbers, of which there are so few that each number of a column or a fold fits 16 bits.
 use Rattle.std.specs.Prelude.{ℕ, ◌<◌, ◌≤◌, List, length, sum_by, All}
 use Rattle.query_lang.specs.declared.query.Column.{Column}
 use Rattle.query_lang.specs.declared.query.FinalOp.{FinalOp}
@@ -46,11 +47,31 @@ IsNumberedFinal names _ = Unit {0}
 
 -- the names that an item gives are among so many
 abbrev pub IsNumbered : ℕ → Item → Type 0
-IsNumbered names (item.Fold d) = (d.name.id < names) × All (λ state. state.name.id < names) d.states × All (λ arg. arg.id < names) d.args
+IsNumbered names (item.Fold d) = (d.name.id < names) × All (λ state. state.name.id < names) d.states
+    × All (λ arg. arg.id < names) d.args
 IsNumbered names (item.Stream d) = (d.name.id < names) × IsNumberedStream names d.op
 IsNumbered names (item.Final d) = (d.name.id < names) × IsNumberedFinal names d.op
 IsNumbered names (item.Print name) = Unit {0}
 
+-- a groupby on a stream has a key
+abbrev pub HasStreamKeys : StreamOp → Type 0
+HasStreamKeys (stream.Group input keys f) = 0 < length keys
+HasStreamKeys _ = Unit {0}
+
+-- a groupby on a table has a key
+abbrev pub HasFinalKeys : FinalOp → Type 0
+HasFinalKeys (final.Group input keys f) = 0 < length keys
+HasFinalKeys _ = Unit {0}
+
+-- where an item is a groupby it has a key
+abbrev pub HasKeys : Item → Type 0
+HasKeys (item.Stream d) = HasStreamKeys d.op
+HasKeys (item.Final d) = HasFinalKeys d.op
+HasKeys _ = Unit {0}
+
 pub record IsReadable (q : Query) : Type 0 where
   pub limits : All KeepsLimits q.items
   pub names : All (IsNumbered (length q.names)) q.items
+  -- between two names of a text stands a byte at least, and a text has at most 65,536
+  pub few : length q.names ≤ 32768
+  pub keys : All HasKeys q.items

@@ -23,12 +23,14 @@ FilterExample = (condition : TypedExpr) → term_of condition ≡ Operation Lt (
 -- a map that adds the sum of both words
 abbrev pub MapExample : Type 0
 MapExample = (sum : TypedExpr) → term_of sum ≡ Operation Add (Read 0) (Read 1)
-    → map_stream (sum ∷ []) (numbered 1 three_packets) ≡ tuple 1 (5 ∷ 1 ∷ 6 ∷ []) ∷ tuple 2 (7 ∷ 0 ∷ 7 ∷ []) ∷ tuple 3 (5 ∷ 3 ∷ 8 ∷ []) ∷ []
+    → map_stream (sum ∷ []) (numbered 1 three_packets) ≡ tuple 1 (5 ∷ 1 ∷ 6 ∷ []) ∷ tuple 2 (7 ∷ 0 ∷ 7 ∷ [])
+    ∷ tuple 3 (5 ∷ 3 ∷ 8 ∷ []) ∷ []
 
 -- a zip of streams that have packets 1 and 3, and 2 and 3; it takes the third value from the right
 abbrev pub ZipExample : Type 0
 ZipExample =
-    zip_stream (2 ∷ []) (tuple 1 (5 ∷ 1 ∷ []) ∷ tuple 3 (5 ∷ 3 ∷ []) ∷ []) (tuple 2 (7 ∷ 0 ∷ 7 ∷ []) ∷ tuple 3 (5 ∷ 3 ∷ 8 ∷ []) ∷ [])
+    zip_stream (2 ∷ []) (tuple 1 (5 ∷ 1 ∷ []) ∷ tuple 3 (5 ∷ 3 ∷ []) ∷ [])
+    (tuple 2 (7 ∷ 0 ∷ 7 ∷ []) ∷ tuple 3 (5 ∷ 3 ∷ 8 ∷ []) ∷ [])
     ≡ tuple 3 (5 ∷ 3 ∷ 8 ∷ []) ∷ []
 
 -- a query of one fold and two streams

@@ -1,5 +1,6 @@
 -- What the streams of a typed query are, over the list of all packets.
-use Rattle.std.specs.Prelude.{ℕ, suc, Bool, false, ◌==◌, List, [], ◌∷◌, ◌++◌, map, filter, filter_map, find, fold, slice_get, slice_index, Option, Some, None, option_map, unwrap_or}
+use Rattle.std.specs.Prelude.{ℕ, suc, Bool, false, ◌==◌, List, [], ◌∷◌, ◌++◌, map, filter, filter_map, find, fold}
+use Rattle.std.specs.Prelude.{slice_get, slice_index, Option, Some, None, option_map, unwrap_or}
 use Rattle.query_lang.specs.declared.fold.TypedExpr.{TypedExpr}
 use Rattle.query_lang.specs.declared.fold.TypedFold.{TypedFold}
 use Rattle.query_lang.specs.declared.typed.TypedOp.{TypedOp}
@@ -38,7 +39,8 @@ map_stream values input = map (λ t. record { packet = t.packet; row = t.row ++ 
 -- `zip`: a tuple for each packet that both have, the left row and then these values of the right one
 abbrev pub zip_stream : List ℕ → List Tuple → List Tuple → List Tuple
 zip_stream slots left right =
-    filter_map (λ t. option_map (λ other. record { packet = t.packet; row = t.row ++ values_at other.row slots }) (find (λ other. other.packet == t.packet) right)) left
+    filter_map (λ t. option_map (λ other. record { packet = t.packet; row = t.row ++ values_at other.row slots })
+    (find (λ other. other.packet == t.packet) right)) left
 
 -- a fold emits for these arguments where it has an `emit` and its condition holds; the condition reads no state
 abbrev pub holds_at : Option TypedExpr → List ℕ → Bool

@@ -86,8 +86,10 @@ expr_checked columns hidden = fold-Expr (Checked Found) (expr_step columns hidde
 
 -- an expression that has to be a condition
 abbrev pub condition_of : List ℕ → List ℕ → Expr → Checked TypedExpr
-condition_of columns hidden e = and_then (expr_checked columns hidden e) (λ found. must (is_condition_sort found.sort) WrongKind found.at (Ok found.tree))
+condition_of columns hidden e = and_then (expr_checked columns hidden e)
+    (λ found. must (is_condition_sort found.sort) WrongKind found.at (Ok found.tree))
 
 -- an expression that has to be a word
 abbrev pub word_of : List ℕ → List ℕ → Expr → Checked TypedExpr
-word_of columns hidden e = and_then (expr_checked columns hidden e) (λ found. must (not (is_condition_sort found.sort)) WrongKind found.at (Ok found.tree))
+word_of columns hidden e = and_then (expr_checked columns hidden e)
+    (λ found. must (not (is_condition_sort found.sort)) WrongKind found.at (Ok found.tree))

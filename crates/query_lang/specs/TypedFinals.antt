@@ -1,5 +1,6 @@
 -- The typing of finals.
-use Rattle.std.specs.Prelude.{ℕ, ◌+◌, Bool, ◌&&◌, nat_eq, nat_lt, nat_le, List, [], ◌∷◌, ◌++◌, length, take, drop, Option, Some, None, Ok}
+use Rattle.std.specs.Prelude.{ℕ, ◌+◌, Bool, ◌&&◌, nat_eq, nat_lt, nat_le, List, [], ◌∷◌, ◌++◌, length, take, drop}
+use Rattle.std.specs.Prelude.{Option, Some, None, Ok}
 use Rattle.std.specs.Cmp.Lexicographic.{pointwise}
 use Rattle.std.specs.List.{list_any}
 use Rattle.query_lang.specs.declared.fault.FaultKind.TheVariants.{UnknownName, NameTaken, WrongKind, BadConstant}
@@ -59,7 +60,11 @@ abbrev pub final_map : ℕ → Earlier → Name → List Column → Checked Made
 final_map groups earlier input columns =
     and_then (table_named earlier.known input) (λ source.
     and_then (new_columns source.columns [] no_new_columns columns) (λ made.
-    Ok (record { op = typed.Map (table_number groups source.place) made.values; columns = source.columns ++ made.names; keys = source.keys })))
+    Ok (record {
+      op = typed.Map (table_number groups source.place) made.values;
+      columns = source.columns ++ made.names;
+      keys = source.keys;
+    })))
 
 -- the fold of a final's groupby has no `emit`
 abbrev pub quiet_fold : List Known → Name → Checked FoldView

@@ -1,5 +1,6 @@
 -- The typing of folds.
-use Rattle.std.specs.Prelude.{ℕ, ◌+◌, Bool, true, false, nat_lt, is_some, List, [], ◌∷◌, ◌++◌, length, map, sum, sum_by, Option, Some, None, Ok, ◌||◌, if◌then◌else◌}
+use Rattle.std.specs.Prelude.{ℕ, ◌+◌, Bool, true, false, nat_lt, is_some, List, [], ◌∷◌, ◌++◌, length, map, sum, sum_by}
+use Rattle.std.specs.Prelude.{Option, Some, None, Ok, ◌||◌, if◌then◌else◌}
 use Rattle.query_lang.specs.declared.fault.FaultKind.TheVariants.{UnknownName, NameTaken, WrongKind, WrongArity, StateOnLine, OverLimit}
 use Rattle.query_lang.specs.declared.fault.Limit.TheVariants.{States, Args}
 use Rattle.query_lang.specs.declared.fault.Span.{Span}
@@ -88,7 +89,8 @@ no_state (Some state) next = refused StateOnLine state
 -- the one `emit` of a fold
 abbrev pub emitted : Span → Enclosing → Body → Checked Body
 emitted span outer found =
-    must_not (is_some found.emit) WrongArity span (no_state outer.state (Ok (record { statements = found.statements; emit = Some (emit_condition outer.condition) })))
+    must_not (is_some found.emit) WrongArity span
+    (no_state outer.state (Ok (record { statements = found.statements; emit = Some (emit_condition outer.condition) })))
 
 -- What a statement adds to those before it in its block, from the conditions that enclose it.
 abbrev pub Adding : Type 0

@@ -1,5 +1,6 @@
 -- Which typed queries are valid: what they name is there, conditions, words and constants stand where they may, and the limits are kept.
-use Rattle.std.specs.Prelude.{◌≡◌, ℕ, zero, suc, ◌+◌, ◌-◌, ◌<◌, ◌≤◌, true, false, List, [], ◌∷◌, ◌++◌, length, map, sum_by, All, slice_get, Option, Some, None, option_map, unwrap_or}
+use Rattle.std.specs.Prelude.{◌≡◌, ℕ, zero, suc, ◌+◌, ◌-◌, ◌<◌, ◌≤◌, true, false, List, [], ◌∷◌}
+use Rattle.std.specs.Prelude.{◌++◌, length, map, sum_by, All, slice_get, Option, Some, None, option_map, unwrap_or}
 use Rattle.query_lang.specs.declared.fold.TypedExpr.{TypedExpr}
 use Rattle.query_lang.specs.declared.fold.TypedFold.{TypedFold}
 use Rattle.query_lang.specs.declared.typed.PrintOf.{PrintOf}
@@ -35,6 +36,7 @@ AreSlots slots list = All (λ slot. slot < slots) list
 -- the keys and the fold's arguments of a groupby over a row of so many slots
 pub record IsValidGroup (folds : List TypedFold) (slots : ℕ) (keys : List ℕ) (fold_number : ℕ) (args : List ℕ) : Type 0 where
   pub keys_are_slots : AreSlots slots keys
+  pub some_keys : 0 < length keys
   pub most_keys : length keys ≤ 8
   pub is_fold : fold_number < length folds
   pub args_are_slots : AreSlots slots args
@@ -52,7 +54,8 @@ IsValidOp folds before width (op.Filter input condition) =
 IsValidOp folds before width (op.Map input values) =
     (input ≤ length before) × AreValidWords (stream_width before input) values × (width ≡ stream_width before input + length values)
 IsValidOp folds before width (op.Zip left right slots) =
-    (left ≤ length before) × (right ≤ length before) × AreSlots (stream_width before right) slots × (width ≡ stream_width before left + length slots)
+    (left ≤ length before) × (right ≤ length before) × AreSlots (stream_width before right) slots
+    × (width ≡ stream_width before left + length slots)
 IsValidOp folds before width (op.Group input keys f args) =
     (input ≤ length before) × IsValidGroup folds (stream_width before input) keys f args × (width ≡ length keys)
 
@@ -68,7 +71,8 @@ pub record IsValidStream (names : ℕ) (folds : List TypedFold) (before : List T
 
 abbrev pub AreValidStreams : ℕ → List TypedFold → List TypedStream → List TypedStream → Type 0
 AreValidStreams names folds before [] = Unit {0}
-AreValidStreams names folds before (one ∷ rest) = IsValidStream names folds before one × AreValidStreams names folds (before ++ one ∷ []) rest
+AreValidStreams names folds before (one ∷ rest) = IsValidStream names folds before one
+    × AreValidStreams names folds (before ++ one ∷ []) rest
 
 -- how many columns a table has, and how many of them are keys
 pub record Shape : Type 0 where
@@ -77,7 +81,11 @@ pub record Shape : Type 0 where
 
 -- the table of a groupby has its keys and the fold's state variables
 abbrev pub group_shape : List TypedFold → Taking → Shape
-group_shape folds t = record { width = length t.keys + unwrap_or (option_map fold_states (slice_get folds t.fold_number)) 0; keys = length t.keys }
+group_shape folds t = record {
+  width = length t.keys
+      + unwrap_or (option_map fold_states (slice_get folds t.fold_number)) 0;
+  keys = length t.keys;
+}
 
 abbrev pub final_shape : TypedFinal → Shape
 final_shape one = record { width = length one.columns; keys = one.keys }
@@ -106,9 +114,11 @@ IsValidFinalOp folds tables made (final.Group input keys f args) =
     × (made ≡ group_shape folds (record { input = input; keys = keys; fold_number = f; args = args }))
 IsValidFinalOp folds tables made (final.Join left right) =
     (left < length tables) × (right < length tables) × ((shape_at tables left).keys ≡ (shape_at tables right).keys)
-    × (made.width ≡ (shape_at tables left).width + ((shape_at tables right).width - (shape_at tables right).keys)) × (made.keys ≡ (shape_at tables left).keys)
+    × (made.width ≡ (shape_at tables left).width + ((shape_at tables right).width - (shape_at tables right).keys))
+    × (made.keys ≡ (shape_at tables left).keys)
 IsValidFinalOp folds tables made (final.Top input column kept) =
-    (input < length tables) × (column < (shape_at tables input).width) × (0 < kept) × (kept ≤ 65536) × (made ≡ shape_at tables input)
+    (input < length tables) × (column < (shape_at tables input).width) × (0 < kept) × (kept ≤ 65536)
+    × (made ≡ shape_at tables input)
 
 -- a final behind the groupbys and other finals
 pub record IsValidFinal (names : ℕ) (folds : List TypedFold) (tables : List Shape) (one : TypedFinal) : Type 0 where
@@ -119,7 +129,8 @@ pub record IsValidFinal (names : ℕ) (folds : List TypedFold) (tables : List Sh
 
 abbrev pub AreValidFinals : ℕ → List TypedFold → List Shape → List TypedFinal → Type 0
 AreValidFinals names folds tables [] = Unit {0}
-AreValidFinals names folds tables (one ∷ rest) = IsValidFinal names folds tables one × AreValidFinals names folds (tables ++ final_shape one ∷ []) rest
+AreValidFinals names folds tables (one ∷ rest) = IsValidFinal names folds tables one
+    × AreValidFinals names folds (tables ++ final_shape one ∷ []) rest
 
 abbrev pub IsTable : TypedQuery → PrintOf → Type 0
 IsTable q (printed.Group number) = number < length (takings q.streams)

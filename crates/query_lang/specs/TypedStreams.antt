@@ -1,5 +1,6 @@
 -- The typing of streams.
-use Rattle.std.specs.Prelude.{ℕ, ◌+◌, Bool, true, false, not, ◌&&◌, ◌||◌, nat_eq, nat_lt, is_some, List, [], ◌∷◌, ◌++◌, length, map, flat_map, filter_map, slice_get, Option, Some, None, Ok, if◌then◌else◌}
+use Rattle.std.specs.Prelude.{ℕ, ◌+◌, Bool, true, false, not, ◌&&◌, ◌||◌, nat_eq, nat_lt, is_some, List, [], ◌∷◌}
+use Rattle.std.specs.Prelude.{◌++◌, length, map, flat_map, filter_map, slice_get, Option, Some, None, Ok, if◌then◌else◌}
 use Rattle.std.specs.List.{list_any}
 use Rattle.query_lang.specs.declared.fault.FaultKind.TheVariants.{UnknownName, NameTaken, WrongKind, OverLimit}
 use Rattle.query_lang.specs.declared.fault.Limit.TheVariants.{Groupbys, Keys, Bindings}
@@ -67,14 +68,16 @@ column_names columns = map (λ column. column.name) columns
 abbrev pub new_columns : List ℕ → List ℕ → NewColumns → List Column → Checked NewColumns
 new_columns columns hidden made [] = Ok made
 new_columns columns hidden made (column ∷ rest) =
-    must_not (is_among column.name.id columns || (is_among column.name.id hidden || is_among column.name.id made.names)) NameTaken column.name.span (
+    must_not (is_among column.name.id columns ||
+    (is_among column.name.id hidden || is_among column.name.id made.names)) NameTaken column.name.span (
     and_then (word_of columns hidden column.value) (λ value.
     new_columns columns hidden (record { names = made.names ++ column.name.id ∷ []; values = made.values ++ value ∷ [] }) rest))
 
 abbrev pub no_new_columns : NewColumns
 no_new_columns = record { names = []; values = [] }
 
--- two columns of one name have the same values where both are the packet's field, or both were made by one `map`
+-- two columns of one name are the same one where both are the packet's field, or both were made by one `map`: then they have the
+-- same values, as tuple_laws proves (`zipped_columns_agree`)
 abbrev pub same_origin : Origin → Origin → Bool
 same_origin origin.Field origin.Field = true
 same_origin (origin.Map a) (origin.Map b) = nat_eq a b

@@ -1,5 +1,6 @@
 -- The typing of queries: the typed query, or the first fault.
-use Rattle.std.specs.Prelude.{ℕ, Bool, true, false, nat_lt, min, is_some, List, [], ◌∷◌, ◌++◌, length, map, count_by, fold, codes, None, Ok}
+use Rattle.std.specs.Prelude.{ℕ, Bool, true, false, nat_lt, min, is_some, List, [], ◌∷◌, ◌++◌, length, map, count_by, fold}
+use Rattle.std.specs.Prelude.{codes, None, Ok}
 use Rattle.marple_base.specs.declared.field.Field.{Field}
 use Rattle.marple_base.specs.Field.{all_fields, field_name}
 use Rattle.query_lang.specs.declared.fault.FaultKind.TheVariants.{NameTaken, NothingPrinted}

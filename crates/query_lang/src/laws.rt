@@ -10,5 +10,6 @@ pub fn pieces_take_bytes()
 
 /// As many pieces as there are bytes are enough: a greater bound gives the same tokens.
 pub fn bytes_bound_pieces()
-    ensures { (bound at : ℕ) (names : List (List ℕ)) (bytes : List ℕ) → length bytes ≤ bound → cut bound at names bytes ≡ cut (length bytes) at names bytes }
+    ensures { (bound at : ℕ) (names : List (List ℕ)) (bytes : List ℕ) → length bytes ≤ bound
+        → cut bound at names bytes ≡ cut (length bytes) at names bytes }
 {}

@@ -4,4 +4,7 @@ pub mod Context
 pub mod StreamRules
 pub mod FinalRules
 pub mod QueryRules
+pub mod Demands
+pub mod Asked
+pub mod FaultLaws
 pub mod Laws

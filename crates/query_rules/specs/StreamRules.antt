@@ -1,5 +1,5 @@
 -- The rules of streams.
-use Rattle.std.specs.Prelude.{◌≡◌, ℕ, ◌<◌, ◌≤◌, List, [], ◌∷◌, ◌++◌, length, map, flat_map, Some, None}
+use Rattle.std.specs.Prelude.{◌≡◌, ℕ, ◌+◌, ◌<◌, ◌≤◌, List, [], ◌∷◌, ◌++◌, length, map, flat_map, slice_get, Some, None}
 use Rattle.query_lang.specs.declared.fold.TypedExpr.{TypedExpr}
 use Rattle.query_lang.specs.declared.query.Name.{Name}
 use Rattle.query_lang.specs.declared.query.Key.{Key}
@@ -15,7 +15,7 @@ use Rattle.query_lang.specs.declared.typing.Known.{Known}
 use Rattle.query_lang.specs.declared.typing.MadeStream.{MadeStream}
 use Rattle.query_lang.specs.declared.typing.Origin.TheVariants as origin
 use Rattle.query_lang.specs.declared.typing.StreamColumn.{StreamColumn}
-use Rattle.query_lang.specs.TypedStreams.{column_names, key_names, others_from, columns_at}
+use Rattle.query_lang.specs.TypedStreams.{column_names, key_names}
 use Rattle.query_rules.specs.ExprRules.{Word, Condition, StandsAt, HasKind}
 use Rattle.query_rules.specs.FoldRules.{IsNew, AreNew}
 use Rattle.query_rules.specs.Context.{IsStream, IsFold}
@@ -69,6 +69,21 @@ abbrev pub AreSame : List StreamColumn → List StreamColumn → Type 0
 AreSame left [] = Unit {0}
 AreSame left (column ∷ rest) = IsSame left column × AreSame left rest
 
+-- the columns at these slots
+abbrev pub AreAt : List StreamColumn → List ℕ → List StreamColumn → Type 0
+AreAt columns [] [] = Unit {0}
+AreAt columns [] (one ∷ others) = ⊥
+AreAt columns (slot ∷ slots) [] = ⊥
+AreAt columns (slot ∷ slots) (one ∷ others) = (slice_get columns slot ≡ Some one) × AreAt columns slots others
+
+-- the slots of the columns that have none of these names, in order, where the first column stands at this slot
+pub data AreOthers (names : List ℕ) : ℕ → List StreamColumn → List ℕ → Type 0 where
+  of_none : (slot : ℕ) → AreOthers names slot [] []
+  of_named : (slot : ℕ) (column : StreamColumn) (rest : List StreamColumn) (slots : List ℕ)
+      → (IsNew column.name names → ⊥) → AreOthers names (slot + 1) rest slots → AreOthers names slot (column ∷ rest) slots
+  of_other : (slot : ℕ) (column : StreamColumn) (rest : List StreamColumn) (slots : List ℕ)
+      → IsNew column.name names → AreOthers names (slot + 1) rest slots → AreOthers names slot (column ∷ rest) (slot ∷ slots)
+
 pub record OfFilter (known : List Known) (input : Name) (e : Expr) (made : MadeStream) : Type 0 where
   pub source : StreamView
   pub condition : TypedExpr
@@ -88,33 +103,41 @@ pub record OfMap (known : List Known) (number : ℕ) (input : Name) (columns : L
     table = None;
   }
 
+-- the columns of the first, and then those of the second whose names the first hasn't
 pub record OfZip (known : List Known) (first second : Name) (made : MadeStream) : Type 0 where
   pub left : StreamView
   pub right : StreamView
+  pub slots : List ℕ
+  pub others : List StreamColumn
   pub one : IsStream known first.id left
   pub other : IsStream known second.id right
   pub same : AreSame left.columns right.columns
+  pub new : AreOthers (column_names left.columns) 0 right.columns slots
+  pub taken : AreAt right.columns slots others
   pub is : made ≡ record {
-    op = made_by.Zip left.number right.number (others_from 0 (column_names left.columns) right.columns);
-    columns = left.columns ++ columns_at right.columns (others_from 0 (column_names left.columns) right.columns);
+    op = made_by.Zip left.number right.number slots;
+    columns = left.columns ++ others;
     hidden = left.hidden ++ right.hidden;
     table = None;
   }
 
+-- the columns of the input that are keys
 pub record OfGroup (five : List ℕ) (known : List Known) (groups : ℕ) (input : Name) (keys : List Key)
     (fold_name : Name) (made : MadeStream) : Type 0 where
   pub few : groups < 8
   pub source : StreamView
   pub slots : List ℕ
+  pub columns : List StreamColumn
   pub f : FoldView
   pub arguments : List ℕ
   pub stream : IsStream known input.id source
   pub picked : HasKeys (column_names source.columns) (key_ids five keys) slots
+  pub there : AreAt source.columns slots columns
   pub fold : IsFold known fold_name.id f
   pub taken : HasArguments (column_names source.columns) (key_ids five keys) f arguments
   pub is : made ≡ record {
     op = made_by.Group source.number slots f.number arguments;
-    columns = columns_at source.columns slots;
+    columns = columns;
     hidden = f.states;
     table = Some (record { place = place.Group groups; columns = key_ids five keys ++ f.states; keys = length (key_ids five keys) });
   }

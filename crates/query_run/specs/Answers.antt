@@ -19,7 +19,8 @@ text_unless None text = text
 text_unless (Some fault) text = []
 
 -- A run that would write this text over a trace with this first fault, if it has one, broke off with an answer.
-module _ {O : Type 0} (taken : O → Option (List ℕ)) (faults : O → ℕ) (text : List ℕ) (fault : Option TraceFault) (old new : O) where
+module _ {O : Type 0} (taken : O → Option (List ℕ)) (faults : O
+    → ℕ) (text : List ℕ) (fault : Option TraceFault) (old new : O) where
   abbrev pub BreaksOff : RunAnswer → Type 0
   BreaksOff (Refused found) = (fault ≡ Some found) × (new ≡ old)
   BreaksOff Memory = TakesFront (taken old) (taken new) (text_unless fault text)

@@ -32,9 +32,12 @@ query_ends q g packets = ends_of q g packets 0 (takings q.streams)
 
 -- The plan's machines at the end of a trace are the query's, and their closed epochs give the tables of the query's groupbys.
 pub record EndsAreTheQuerys : Type 0 where
-  pub machines : (q : TypedQuery) (plan : PlanParts) (g : Geometry) (packets : List (List ℕ)) → IsPlanOf q plan → AreWhole packets → end_machines plan g packets ≡ query_ends q g packets
-  pub tables : (q : TypedQuery) (plan : PlanParts) (buckets : ℕ) (lanes : List LaneView) (g : Geometry) (packets : List (List ℕ)) → IsValidQuery q → IsPlanOf q plan
-      → AreLanesOf Folds plan buckets lanes → HasRoom g → AreWhole packets → tables_of plan.groups (map folding_at lanes) (end_machines plan g packets) ≡ group_tables q g packets
+  pub machines : (q : TypedQuery) (plan : PlanParts) (g : Geometry) (packets : List (List ℕ)) → IsPlanOf q plan
+      → AreWhole packets → end_machines plan g packets ≡ query_ends q g packets
+  pub tables : (q : TypedQuery) (plan : PlanParts) (buckets : ℕ) (lanes : List LaneView) (g : Geometry)
+      (packets : List (List ℕ)) → IsValidQuery q → IsPlanOf q plan
+      → AreLanesOf Folds plan buckets lanes → HasRoom g → AreWhole packets
+      → tables_of plan.groups (map folding_at lanes) (end_machines plan g packets) ≡ group_tables q g packets
 
 -- The packets of a trace have the words of all fields.
 abbrev pub ReadPacketsAreWhole : Type 0

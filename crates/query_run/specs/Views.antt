@@ -1,5 +1,6 @@
 -- What a run with views writes.
-use Rattle.std.specs.Prelude.{◌≡◌, ◌==◌, ◌&&◌, ◌%◌, ◌≤◌, ℕ, zero, suc, Bool, nat_lt, List, [], ◌∷◌, ◌++◌, length, take, None, codes, decimal, if◌then◌else◌}
+use Rattle.std.specs.Prelude.{◌≡◌, ◌==◌, ◌&&◌, ◌%◌, ◌≤◌, ℕ, zero, suc, Bool, nat_lt, List, [], ◌∷◌}
+use Rattle.std.specs.Prelude.{◌++◌, length, take, None, codes, decimal, if◌then◌else◌}
 use Rattle.query_lang.specs.declared.typed.TypedQuery.{TypedQuery}
 use Rattle.epoch_model.specs.Epochs.{Geometry}
 use Rattle.epoch_model.specs.Laws.{HasRoom}

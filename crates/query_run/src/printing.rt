@@ -32,7 +32,8 @@ fn text_of<L: Ledger>(
 ) -> Result<Text, AllocError>
     requires valid { IsValidQuery typed.now }
     requires groups { (g : Geometry) × (packets : List (List ℕ)) × (groups ≡ group_tables typed.now g packets) }
-    ensures text { IfOk result (λ text. (g : Geometry) (packets : List (List ℕ)) → groups ≡ group_tables typed.now g packets → text ≡ query_text typed.now g packets) }
+    ensures text { IfOk result (λ text. (g : Geometry) (packets : List (List ℕ))
+        → groups ≡ group_tables typed.now g packets → text ≡ query_text typed.now g packets) }
     ensures steps { steps.old ≤ steps.new }
 {
     query_tables_are_read();
@@ -51,8 +52,10 @@ pub(crate) fn end_text<const WAYS: usize, L: Ledger>(
     requires plan { IsPlanOf typed.now pipeline.now.plan }
     requires entries { pipeline.now.entries ≡ Folds }
     requires drained { list_all lane_is_drained pipeline.now.lanes ≡ true }
-    requires ends { (g : Geometry) × (packets : List (List ℕ)) × HasRoom g × AreWhole packets × PipelineStands pipeline.now (end_machines pipeline.now.plan g packets) }
-    ensures text { IfOk result (λ text. (g : Geometry) (packets : List (List ℕ)) → HasRoom g → AreWhole packets → PipelineStands pipeline.now (end_machines pipeline.now.plan g packets) → text ≡ query_text typed.now g packets) }
+    requires ends { (g : Geometry) × (packets : List (List ℕ)) × HasRoom g × AreWhole packets
+        × PipelineStands pipeline.now (end_machines pipeline.now.plan g packets) }
+    ensures text { IfOk result (λ text. (g : Geometry) (packets : List (List ℕ)) → HasRoom g → AreWhole packets
+        → PipelineStands pipeline.now (end_machines pipeline.now.plan g packets) → text ≡ query_text typed.now g packets) }
     ensures steps { steps.old ≤ steps.new }
 {
     ends_are_the_querys();
@@ -74,7 +77,8 @@ pub fn view_query<const WAYS: usize, L: Ledger>(
     requires plan { IsPlanOf typed.now pipeline.now.plan }
     requires entries { pipeline.now.entries ≡ Folds }
     requires seen { (g : Geometry) × (packets : List (List ℕ)) × (number : ℕ) × IsAsFarAs g packets number pipeline.now }
-    ensures text { IfOk result (λ text. (g : Geometry) (packets : List (List ℕ)) (number : ℕ) → IsAsFarAs g packets number pipeline.now → text ≡ query_text typed.now g (take number packets)) }
+    ensures text { IfOk result (λ text. (g : Geometry) (packets : List (List ℕ)) (number : ℕ)
+        → IsAsFarAs g packets number pipeline.now → text ≡ query_text typed.now g (take number packets)) }
     ensures steps { steps.old ≤ steps.new }
 {
     ends_are_the_querys();

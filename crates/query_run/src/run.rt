@@ -47,14 +47,17 @@ pub fn run_query<const WAYS: usize, O: Sink, L: Ledger>(
     requires whole { AreWhole (words_of (coming packets)) }
     requires viewed { 0 < every → CanBeViewed packets }
     ensures accepted { IfOk result (λ pipeline. fault_of packets.entry ≡ None) }
-    ensures written { IfOk result (λ pipeline. Appends (O.taken out.old) (O.taken out.new) (views_text typed.now (geometry_for WAYS schedule) every (words_of (coming packets.entry)))) }
+    ensures written { IfOk result (λ pipeline. Appends (O.taken out.old) (O.taken out.new)
+        (views_text typed.now (geometry_for WAYS schedule) every (words_of (coming packets.entry)))) }
     ensures plan { IfOk result (λ pipeline. IsPlanOf typed.now pipeline.plan) }
     ensures entries { IfOk result (λ pipeline. pipeline.entries ≡ Folds) }
-    ensures machines { IfOk result (λ pipeline. PipelineStands pipeline (query_ends typed.now (geometry_for WAYS schedule) (words_of (coming packets.entry)))) }
+    ensures machines { IfOk result
+        (λ pipeline. PipelineStands pipeline (query_ends typed.now (geometry_for WAYS schedule) (words_of (coming packets.entry)))) }
     ensures drained { IfOk result (λ pipeline. list_all lane_is_drained pipeline.lanes ≡ true) }
     ensures buckets { IfOk result (λ pipeline. pipeline.buckets ≡ schedule.buckets) }
     ensures pipe_places { IfOk result (λ pipeline. HavePlaces schedule.pipe pipeline.lanes) }
-    ensures breaks_off { IfErr result (BreaksOff O.taken O.faults (views_text typed.now (geometry_for WAYS schedule) every (words_of (coming packets.entry)))
+    ensures breaks_off { IfErr result
+        (BreaksOff O.taken O.faults (views_text typed.now (geometry_for WAYS schedule) every (words_of (coming packets.entry)))
         (fault_of packets.entry) out.old out.new) }
     ensures out_later { O.faults out.old ≤ O.faults out.new }
     ensures steps { steps.old ≤ steps.new }

@@ -89,7 +89,8 @@ pub(crate) fn write_views<'a, const WAYS: usize, O: Sink, L: Ledger>(
     ensures fault { IfOk result (λ replay. fault_in replay ≡ fault_of packets.entry) }
     ensures keeps { IfOk result (λ replay. Keeps pipeline.entry (pipeline_in replay)) }
     ensures untouched { every ≡ 0 → out.new ≡ out.old }
-    ensures breaks_off { IfErr result (BreaksOff O.taken O.faults (views_text typed.now (geometry_for WAYS schedule) every (words_of (coming packets.entry)))
+    ensures breaks_off { IfErr result
+        (BreaksOff O.taken O.faults (views_text typed.now (geometry_for WAYS schedule) every (words_of (coming packets.entry)))
         (fault_of packets.entry) out.old out.new) }
     ensures out_later { O.faults out.old ≤ O.faults out.new }
     ensures steps { steps.old ≤ steps.new }

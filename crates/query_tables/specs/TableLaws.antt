@@ -10,4 +10,5 @@ use Rattle.query_tables.specs.Tables.{group_tables}
 -- The tables of a valid query's groupbys may be read, and have the shapes of what the groupbys take.
 abbrev pub QueryTablesAreRead : Type 0
 QueryTablesAreRead = (q : TypedQuery) (g : Geometry) (packets : List (List ℕ)) → IsValidQuery q
-    → All IsTable (group_tables q g packets) × (map table_shape (group_tables q g packets) ≡ map (group_shape q.folds) (takings q.streams))
+    → All IsTable (group_tables q g packets)
+    × (map table_shape (group_tables q g packets) ≡ map (group_shape q.folds) (takings q.streams))

@@ -1,5 +1,6 @@
 -- The tables of a typed query over the packets of a trace, and what it prints.
-use Rattle.std.specs.Prelude.{ℕ, suc, List, [], ◌∷◌, ◌++◌, length, flat_map, slice_get, Option, Some, None, option_map, unwrap_or}
+use Rattle.std.specs.Prelude.{ℕ, suc, List, [], ◌∷◌, ◌++◌, length, flat_map, slice_get, Option, Some, None, option_map}
+use Rattle.std.specs.Prelude.{unwrap_or}
 use Rattle.query_lang.specs.declared.fold.TypedFold.{TypedFold}
 use Rattle.query_lang.specs.declared.typed.TypedQuery.{TypedQuery}
 use Rattle.query_lang.specs.Streams.{takings}
@@ -16,10 +17,17 @@ use Rattle.table_printer.specs.TableText.{table_text}
 
 -- what a groupby's table says beside its rows
 abbrev pub heading_of : GroupShape → Heading
-heading_of shape = record { name = shape.name; key_names = shape.key_names; state_names = shape.state_names; class = shape.class; depth = shape.depth }
+heading_of shape = record {
+  name = shape.name;
+  key_names = shape.key_names;
+  state_names = shape.state_names;
+  class = shape.class;
+  depth = shape.depth;
+}
 
--- The table of the groupby with this number: its uses of the trace's packets, folded by its fold. A fold that is linear in its state has a row for each key,
--- over all packets of the key; any other fold has a row for each epoch, over the packets of that epoch.
+-- The table of the groupby with this number: its uses of the trace's packets, folded by its fold. A fold that is linear
+-- in its state has a row for each key, over all packets of the key; any other fold has a row for each epoch, over the
+-- packets of that epoch.
 abbrev pub query_table : TypedQuery → Geometry → List (List ℕ) → ℕ → GroupShape → TypedFold → Table
 query_table q g packets i shape f = group_table (heading_of shape) (folding_of f) g (uses q i packets)
 

@@ -13,7 +13,7 @@ use marple_base::{Seq, Steps, Text};
 use query_lang::{PrintOf, TypedQuery};
 use std::alloc::{AllocError, Global};
 use std::sync::ledger::Ledger;
-use table_printer::table_text;
+use table_printer::push_table;
 
 /// The tables of the groupbys, and behind them those of the finals, each made of the tables before it.
 pub fn add_finals<L: Ledger>(
@@ -50,18 +50,12 @@ pub fn table_number(groups: usize, one: PrintOf) -> usize
 }
 
 // Writes the text of the table with this number behind the others.
-fn push_table(
-    alloc: Global,
-    text: &mut Text,
-    tables: &Seq<Table>,
-    number: usize,
-) -> Result<(), AllocError>
+fn push_table_at(text: &mut Text, tables: &Seq<Table>, number: usize) -> Result<(), AllocError>
     requires number { number < length tables.now }
     requires tables { All IsTable tables.now }
     ensures { OnOk result (text.new ≡ text.old ++ text_at tables.now number) }
 {
-    let table = table_text(alloc, tables.get(number))?;
-    text.push_slice(table.as_slice())
+    push_table(text, tables.get(number))
 }
 
 // The texts of the printed tables, in the order of the prints.
@@ -78,7 +72,7 @@ fn printed_texts(
 {
     let mut text = Text::new(alloc);
     for one in prints {
-        push_table(alloc, &mut text, tables, table_number(groups, *one))?;
+        push_table_at(&mut text, tables, table_number(groups, *one))?;
     }
     Ok(text)
 }

@@ -18,7 +18,8 @@ pub record Follows (g : Generator) : Type 0 where
   pub size : length g.flows ≡ 64
   pub switches : length g.queues.items ≡ 4
   pub flows : (flow : ℕ) → flow < 64 → slice_index_or g.flows flow 0 ≡ next_number flow (arrivals g.start g.capacity g.number)
-  pub queues : (switch : ℕ) (queue : Queue) → slice_get g.queues.items switch ≡ Some queue → Holds queue (touts_at switch (arrivals g.start g.capacity g.number)) g.time
+  pub queues : (switch : ℕ) (queue : Queue) → slice_get g.queues.items switch ≡ Some queue
+      → Holds queue (touts_at switch (arrivals g.start g.capacity g.number)) g.time
 
 -- the packet after the first n
 abbrev pub nth_packet : ℕ → ℕ → ℕ → Packet

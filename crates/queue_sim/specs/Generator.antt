@@ -1,5 +1,6 @@
 -- The packets of the generator: each is decided by its draws and by the packets before it.
-use Rattle.std.specs.Prelude.{ℕ, suc, zero, ◌+◌, ◌-◌, ◌*◌, ◌/◌, ◌%◌, ◌^◌, ◌==◌, nat_lt, if◌then◌else◌, List, [], ◌∷◌, ◌++◌, filter, length, max, Option, Some, None, unwrap_or}
+use Rattle.std.specs.Prelude.{ℕ, suc, zero, ◌+◌, ◌-◌, ◌*◌, ◌/◌, ◌%◌, ◌^◌, ◌==◌, nat_lt}
+use Rattle.std.specs.Prelude.{if◌then◌else◌, List, [], ◌∷◌, ◌++◌, filter, length, max, Option, Some, None, unwrap_or}
 use Rattle.marple_base.specs.declared.field.Packet.{Packet}
 
 -- the state of the draws after so many of them
@@ -64,7 +65,8 @@ with_some (Some x) xs = x ∷ xs
 -- when the accepted packets of a switch leave, the last one first
 abbrev pub touts_at : ℕ → List Arrival → List ℕ
 touts_at switch [] = []
-touts_at switch (arrival ∷ earlier) = if switch_of arrival.flow == switch then with_some arrival.tout (touts_at switch earlier) else touts_at switch earlier
+touts_at switch (arrival ∷ earlier) = if switch_of arrival.flow == switch then with_some arrival.tout
+    (touts_at switch earlier) else touts_at switch earlier
 
 -- the first number, or 0
 abbrev pub first_or_0 : List ℕ → ℕ

@@ -42,7 +42,8 @@ impl Draws {
     /// Four draws, of which those before them were `draws`.
     #[tactic(auto, unfolding(crate::specs::Generator::state_after))]
     pub fn next_packet(&mut self) -> Drawn
-        ensures drawn { (start draws : ℕ) → self.old.state ≡ state_after start draws → (self.new.state ≡ state_after start (draws + 4)) × IsDrawn result (drawn_after start draws) }
+        ensures drawn { (start draws : ℕ) → self.old.state ≡ state_after start draws
+            → (self.new.state ≡ state_after start (draws + 4)) × IsDrawn result (drawn_after start draws) }
         ensures small { (result.gap < 50) × (result.flow < 64) × (result.payload < 1461) × (result.skipped < 2) }
     {
         let gap = self.next() % 50;

@@ -25,7 +25,14 @@ struct Generator {
 // The words of a packet.
 fn packet_of(number: u64, time: u64, seq: u64, drawn: Drawn, place: Place) -> Packet
     requires small { (number < 2 ^ 32) × (time < 2 ^ 32) × (seq < 2 ^ 32) × (drawn.flow < 64) × (drawn.payload < 1461) }
-    ensures { result ≡ packet_of number (record { time = time; flow = drawn.flow; payload = drawn.payload; seq = seq; qsize = place.qsize; tout = place.tout }) }
+    ensures { result ≡ packet_of number (record {
+      time = time;
+      flow = drawn.flow;
+      payload = drawn.payload;
+      seq = seq;
+      qsize = place.qsize;
+      tout = place.tout;
+    }) }
 {
     Packet {
         words: [

@@ -1,6 +1,7 @@
 //! The output queue of a switch.
 
-ghost use Rattle.std.specs.Prelude.{◌≡◌, ℕ, ◌+◌, ◌≤◌, ◌<◌, ◌^◌, [], IfOk, OnOk, List, None, Some, length, max, nat_lt, if◌then◌else◌};
+ghost use Rattle.std.specs.Prelude.{◌≡◌, ℕ, ◌+◌, ◌≤◌, ◌<◌, ◌^◌, [], IfOk, OnOk, List, None, Some, length, max};
+ghost use Rattle.std.specs.Prelude.{nat_lt, if◌then◌else◌};
 ghost use Rattle.queue_sim.specs.Generator.{still_there, with_some};
 ghost use Rattle.queue_sim.specs.Queue.{Climbs, Holds};
 
@@ -36,9 +37,12 @@ impl Queue {
     pub fn arrive(&mut self, now: u64, length: u64, capacity: usize) -> Result<Place, AllocError>
         requires fits { max now self.old.last + length < 2 ^ 64 }
         requires climbs { Climbs self.old.waiting.items self.old.last }
-        ensures qsize { IfOk result (λ place. (before : ℕ) (touts : List ℕ) → Holds self.old touts before → before ≤ now → place.qsize ≡ still_there now touts) }
-        ensures tout { IfOk result (λ place. place.tout ≡ (if nat_lt place.qsize capacity then Some (max now self.old.last + length) else None)) }
-        ensures holds { IfOk result (λ place. (before : ℕ) (touts : List ℕ) → Holds self.old touts before → before ≤ now → Holds self.new (with_some place.tout touts) now) }
+        ensures qsize { IfOk result (λ place. (before : ℕ) (touts : List ℕ) → Holds self.old touts before → before ≤ now
+            → place.qsize ≡ still_there now touts) }
+        ensures tout { IfOk result (λ place. place.tout
+            ≡ (if nat_lt place.qsize capacity then Some (max now self.old.last + length) else None)) }
+        ensures holds { IfOk result (λ place. (before : ℕ) (touts : List ℕ) → Holds self.old touts before → before ≤ now
+            → Holds self.new (with_some place.tout touts) now) }
     {
         drop_left(&mut self.waiting, now);
         let qsize = self.waiting.len();

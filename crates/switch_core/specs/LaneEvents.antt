@@ -19,7 +19,8 @@ parts cache pipe store = record { cache = cache; pipe = pipe; store = store }
 abbrev pub PartsStand : Standing → Folding → Parts → Machine → Type 0
 PartsStand means f lane m = LaneStands means f lane.cache lane.pipe lane.store m
 
--- The event leads a lane from old parts to new ones: for every machine that it stood for it stands for the machine after the event. Its sizes stay.
+-- The event leads a lane from old parts to new ones: for every machine that it stood for it stands for the machine
+-- after the event. Its sizes stay.
 pub record Makes (means : Standing) (f : Folding) (ways : ℕ) (event : Event) (old new : Parts) : Type 0 where
   pub stands : (m : Machine) → PartsStand means f old m → PartsStand means f new (step (geometry ways old.cache) m event)
   pub buckets : length new.cache.lists ≡ length old.cache.lists
@@ -29,9 +30,11 @@ pub record Makes (means : Standing) (f : Folding) (ways : ℕ) (event : Event) (
 -- these events, one after another
 abbrev pub MakesAll : Standing → Folding → ℕ → List Event → Parts → Parts → Type 0
 MakesAll means f ways [] old new = new ≡ old
-MakesAll means f ways (event ∷ events) old new = (middle : Parts) × Makes means f ways event old middle × MakesAll means f ways events middle new
+MakesAll means f ways (event ∷ events) old new = (middle : Parts) × Makes means f ways event old middle
+    × MakesAll means f ways events middle new
 
 -- After any events, in whatever order packets, evictions and merges come, a lane stands for the machine after them.
 abbrev pub EventsAreFollowed : Standing → Folding → ℕ → Type 0
 EventsAreFollowed means f ways = (events : List Event) (old new : Parts) (m : Machine)
-    → PartsStand means f old m → MakesAll means f ways events old new → PartsStand means f new (run (geometry ways old.cache) events m)
+    → PartsStand means f old m → MakesAll means f ways events old new
+    → PartsStand means f new (run (geometry ways old.cache) events m)

@@ -38,7 +38,8 @@ abbrev pub RecordsStand : Standing → ℕ → List (List ℕ) → List Epoch �
 RecordsStand stands key_words [] [] = Unit {0}
 RecordsStand stands key_words [] (epoch ∷ epochs) = ⊥
 RecordsStand stands key_words (words ∷ records) [] = ⊥
-RecordsStand stands key_words (words ∷ records) (epoch ∷ epochs) = RecordStands stands key_words words epoch × RecordsStand stands key_words records epochs
+RecordsStand stands key_words (words ∷ records) (epoch ∷ epochs) = RecordStands stands key_words words epoch
+    × RecordsStand stands key_words records epochs
 
 -- the pipe's records, from the oldest, stand for the closed epochs that aren't merged
 abbrev pub PipeStands : Standing → ℕ → List (List ℕ) → Machine → Type 0

@@ -21,7 +21,8 @@ use Rattle.stage_plan.specs.Sound.{PlanParts}
 
 -- what a lane has of its groupby: as many buckets as all lanes, the words of the groupby's keys and arguments, and the kind of its program
 -- for what the entries are for
-pub record IsLaneOf (entries : Entries) (buckets : ℕ) (cache : Cache) (sizes : Sizes) (folding : Folding) (opening absorbing : ℕ) (group : GroupPlan) (wiring : GroupWiring) : Type 0 where
+pub record IsLaneOf (entries : Entries) (buckets : ℕ) (cache : Cache) (sizes : Sizes) (folding : Folding)
+    (opening absorbing : ℕ) (group : GroupPlan) (wiring : GroupWiring) : Type 0 where
   pub many : length cache.lists ≡ buckets
   pub keys : cache.key_words ≡ length group.key_names
   pub args : sizes.args ≡ length wiring.args
@@ -72,5 +73,6 @@ heading_of group = record {
 
 -- the tables of the machines' closed epochs, folded by the foldings of their lanes
 abbrev pub tables_of : List GroupPlan → List Folding → List Machine → List Table
-tables_of (group ∷ groups) (f ∷ foldings) (m ∷ machines) = closed_table (heading_of group) f m.closed ∷ tables_of groups foldings machines
+tables_of (group ∷ groups) (f ∷ foldings) (m ∷ machines) = closed_table (heading_of group) f m.closed
+    ∷ tables_of groups foldings machines
 tables_of _ _ _ = []

@@ -1,5 +1,6 @@
 -- What contracts see of a pipeline.
-use Rattle.std.specs.Prelude.{◌≡◌, ℕ, ◌+◌, ◌*◌, ◌<◌, ◌≤◌, Bool, List, [], length, map, nat_lt, slice_get, sum_by, Some, true, ◌==◌}
+use Rattle.std.specs.Prelude.{◌≡◌, ℕ, ◌+◌, ◌*◌, ◌<◌, ◌≤◌, Bool, List, [], length, map, nat_lt, slice_get}
+use Rattle.std.specs.Prelude.{sum_by, Some, true, ◌==◌}
 use Rattle.std.specs.List.{All, list_all}
 use Rattle.epoch_model.specs.Machine.{Machine, Event, empty_buckets, run}
 use Rattle.epoch_model.specs.Timeline.{NoPacket}
@@ -72,7 +73,8 @@ AtLane P lanes n = (lane : LaneView) → slice_get lanes n ≡ Some lane → P l
 -- the lanes are those of the plan's groupbys, in order, with entries for this
 abbrev pub AreLanesOf : Entries → PlanParts → ℕ → List LaneView → Type 0
 AreLanesOf entries plan buckets lanes =
-    EachFrom (λ n lane group. IsLaneOf entries buckets lane.cache (ghosts.sizes lane.kind) (ghosts.folding lane.kind) (ghosts.open_bound lane.kind) (ghosts.absorb_bound lane.kind) group (wiring_at plan n)) 0 lanes plan.groups
+    EachFrom (λ n lane group. IsLaneOf entries buckets lane.cache (ghosts.sizes lane.kind) (ghosts.folding lane.kind)
+    (ghosts.open_bound lane.kind) (ghosts.absorb_bound lane.kind) group (wiring_at plan n)) 0 lanes plan.groups
 
 -- a lane for each groupby of the plan, and room for what is taken of a packet
 pub record IsPipeline (ways : ℕ) (p : PipelineView) (registers key args : List ℕ) : Type 0 where
@@ -89,9 +91,11 @@ pub record LaneMakes (ways : ℕ) (events : List Event) (old new : LaneView) : T
 abbrev pub LanesMake : ℕ → (ℕ → List Event) → List LaneView → List LaneView → Type 0
 LanesMake ways events old new = EachFrom (λ n. LaneMakes ways (events n)) 0 old new
 
--- The events lead a pipeline from old parts to new ones: for all machines that it stood for it stands for the machines after them. A lane that has none is as it was.
+-- The events lead a pipeline from old parts to new ones: for all machines that it stood for it stands for the machines
+-- after them. A lane that has none is as it was.
 pub record PipelineMakes (ways : ℕ) (events : ℕ → List Event) (old new : PipelineView) : Type 0 where
-  pub stands : (machines : List Machine) → PipelineStands old machines → PipelineStands new (after_events (geometry_of ways old.buckets) events 0 machines)
+  pub stands : (machines : List Machine) → PipelineStands old machines
+      → PipelineStands new (after_events (geometry_of ways old.buckets) events 0 machines)
   pub others : (n : ℕ) → events n ≡ [] → slice_get new.lanes n ≡ slice_get old.lanes n
   pub kinds : map (λ lane. lane.kind) new.lanes ≡ map (λ lane. lane.kind) old.lanes
   pub plan : new.plan ≡ old.plan
@@ -104,7 +108,8 @@ abbrev pub lane_cost : ℕ → LaneView → ℕ
 lane_cost ways lane =
     let key_words = lane.cache.key_words in
     let sizes = ghosts.sizes lane.kind in
-    (key_words + sizes.args) + (key_words + 2 * ways * (key_words + 1) + (key_words + sizes.entry) + ghosts.open_bound lane.kind + ghosts.absorb_bound lane.kind)
+    (key_words + sizes.args) + (key_words + 2 * ways * (key_words + 1) + (key_words + sizes.entry)
+    + ghosts.open_bound lane.kind + ghosts.absorb_bound lane.kind)
 
 -- a lane makes evictions and merges, and nothing else
 pub record LaneSweeps (ways : ℕ) (old new : LaneView) : Type 0 where
@@ -113,21 +118,25 @@ pub record LaneSweeps (ways : ℕ) (old new : LaneView) : Type 0 where
 
 -- they empty all buckets, in ascending order
 pub record LaneIsSwept (old new : LaneView) : Type 0 where
-  pub leads : Leads (ghosts.stands old.kind) (ghosts.folding old.kind) (λ m. empty_buckets (length old.cache.lists) m) (parts_of old) (parts_of new)
+  pub leads : Leads (ghosts.stands old.kind) (ghosts.folding old.kind) (λ m. empty_buckets (length old.cache.lists) m)
+      (parts_of old) (parts_of new)
   pub held : held_in new.cache ≡ 0
 
 -- the lane made the events of its sweep
 abbrev pub LaneRunsSweep : ℕ → LaneView → LaneView → Type 0
-LaneRunsSweep ways old new = RunsAll (ghosts.stands old.kind) (ghosts.folding old.kind) ways (lane_sweep ways (parts_of old)) (parts_of old) (parts_of new)
+LaneRunsSweep ways old new = RunsAll (ghosts.stands old.kind) (ghosts.folding old.kind) ways
+    (lane_sweep ways (parts_of old)) (parts_of old) (parts_of new)
 
 -- the lane made the first events of its sweep
 abbrev pub LaneBeginsSweep : ℕ → LaneView → LaneView → Type 0
-LaneBeginsSweep ways old new = RunsFirst (ghosts.stands old.kind) (ghosts.folding old.kind) ways (lane_sweep ways (parts_of old)) (parts_of old) (parts_of new)
+LaneBeginsSweep ways old new = RunsFirst (ghosts.stands old.kind) (ghosts.folding old.kind) ways
+    (lane_sweep ways (parts_of old)) (parts_of old) (parts_of new)
 
--- Sweeps of lanes one after another, up to one that broke off: the lanes below its number made the events of their sweep, it made the first events of its own,
--- and those above it are as they were.
+-- Sweeps of lanes one after another, up to one that broke off: the lanes below its number made the events of their
+-- sweep, it made the first events of its own, and those above it are as they were.
 abbrev pub SweepBreaksOff : ℕ → List LaneView → List LaneView → Type 0
-SweepBreaksOff ways old new = (at : ℕ) × (at < length old) × EachFrom (λ n a b. (n < at → LaneRunsSweep ways a b) × (n ≡ at → LaneBeginsSweep ways a b) × (at < n → b ≡ a)) 0 old new
+SweepBreaksOff ways old new = (at : ℕ) × (at < length old)
+    × EachFrom (λ n a b. (n < at → LaneRunsSweep ways a b) × (n ≡ at → LaneBeginsSweep ways a b) × (at < n → b ≡ a)) 0 old new
 
 -- the most steps that a packet takes: its registers, and what each lane takes
 abbrev pub pipeline_cost : ℕ → PipelineView → ℕ
@@ -137,12 +146,15 @@ pipeline_cost ways p = registers_of p.plan + sum_by (lane_cost ways) p.lanes
 abbrev pub lane_is_drained : LaneView → Bool
 lane_is_drained lane = is_drained lane.cache lane.pipe
 
--- A pipeline as it is after a sweep: for all machines that it stood for it stands for ones that have the epochs of these with all buckets emptied, and all caches are empty.
+-- A pipeline as it is after a sweep: for all machines that it stood for it stands for ones that have the epochs of
+-- these with all buckets emptied, and all caches are empty.
 pub record PipelineIsSwept (old new : PipelineView) : Type 0 where
-  pub stands : (machines : List Machine) → PipelineStands old machines → (swept : List Machine) × PipelineStands new swept × Each (λ m n. SameEpochs n (empty_buckets old.buckets m)) machines swept
+  pub stands : (machines : List Machine) → PipelineStands old machines → (swept : List Machine) × PipelineStands new swept
+      × Each (λ m n. SameEpochs n (empty_buckets old.buckets m)) machines swept
   pub held : list_all (λ lane. held_in lane.cache == 0) new.lanes ≡ true
 
--- Evictions and merges lead a pipeline from old parts to new ones, and nothing else: for all machines that it stood for it stands for the machines after such events.
+-- Evictions and merges lead a pipeline from old parts to new ones, and nothing else: for all machines that it stood for
+-- it stands for the machines after such events.
 pub record PipelineSweeps (ways : ℕ) (old new : PipelineView) : Type 0 where
   pub stands : (machines : List Machine) → PipelineStands old machines → (later : List Machine) × PipelineStands new later
       × Each (λ m n. (events : List Event) × NoPacket events × (n ≡ run (geometry_of ways old.buckets) events m)) machines later

@@ -14,7 +14,8 @@ MakesSweep means f ways old new = (events : List Event) × NoPacket events × Ma
 
 -- For every machine that the lane stood for it stands for one with the epochs that the machine has after this.
 abbrev pub Leads : Standing → Folding → (Machine → Machine) → Parts → Parts → Type 0
-Leads means f after old new = (m : Machine) → PartsStand means f old m → (n : Machine) × PartsStand means f new n × SameEpochs n (after m)
+Leads means f after old new = (m : Machine) → PartsStand means f old m → (n : Machine) × PartsStand means f new n
+    × SameEpochs n (after m)
 
 -- one merge, where the closed epochs that aren't merged fill a pipe of so many places
 abbrev pub room_events : ℕ → Machine → List Event
@@ -46,9 +47,11 @@ AreFirst first events = (rest : List Event) × (first ++ rest ≡ events)
 
 -- For every machine that the lane stood for it stands for the machine after its events.
 abbrev pub RunsAll : Standing → Folding → ℕ → (Machine → List Event) → Parts → Parts → Type 0
-RunsAll means f ways events old new = (m : Machine) → PartsStand means f old m → PartsStand means f new (run (geometry ways old.cache) (events m) m)
+RunsAll means f ways events old new = (m : Machine) → PartsStand means f old m
+    → PartsStand means f new (run (geometry ways old.cache) (events m) m)
 
 -- For every machine that the lane stood for it stands for the machine after the first of its events.
 abbrev pub RunsFirst : Standing → Folding → ℕ → (Machine → List Event) → Parts → Parts → Type 0
 RunsFirst means f ways events old new =
-    (m : Machine) → PartsStand means f old m → (first : List Event) × AreFirst first (events m) × PartsStand means f new (run (geometry ways old.cache) first m)
+    (m : Machine) → PartsStand means f old m → (first : List Event) × AreFirst first (events m)
+    × PartsStand means f new (run (geometry ways old.cache) first m)

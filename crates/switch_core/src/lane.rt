@@ -1,6 +1,7 @@
 //! A lane: what is kept for one groupby.
 
-ghost use Rattle.std.specs.Prelude.{◌≡◌, ◌+◌, ◌-◌, ◌*◌, ◌<◌, ◌≤◌, ◌==◌, ◌↔◌, take, drop, not, true, false, length, nat_lt};
+ghost use Rattle.std.specs.Prelude.{◌≡◌, ◌+◌, ◌-◌, ◌*◌, ◌<◌, ◌≤◌, ◌==◌, ◌↔◌, take, drop, not, true};
+ghost use Rattle.std.specs.Prelude.{false, length, nat_lt};
 ghost use Rattle.std.specs.Prelude.{IfOk, OnOk, OnErr};
 ghost use Rattle.epoch_model.specs.Machine.{Machine, Packet, Evict, Merge, empty_machine};
 ghost use Rattle.epoch_model.specs.Timeline.{IsSwept};
@@ -59,7 +60,8 @@ impl<K: EpochKind, const WAYS: usize> Lane<K, WAYS> {
         requires key { (0 < key_words) × (key_words ≤ 8) }
         requires entry { key_words + (K.sizes kind).entry ≤ 512 }
         requires pipe { (0 < pipe_records) × (pipe_records ≤ 65536) }
-        ensures stands { IfOk result (λ lane. LaneStands (K.stands lane.kind) (K.folding lane.kind) lane.cache lane.pipe lane.store (empty_machine (geometry WAYS lane.cache))) }
+        ensures stands { IfOk result (λ lane. LaneStands (K.stands lane.kind)
+            (K.folding lane.kind) lane.cache lane.pipe lane.store (empty_machine (geometry WAYS lane.cache))) }
         ensures kind { IfOk result (λ lane. lane.kind ≡ kind) }
         ensures buckets { IfOk result (λ lane. length lane.cache.lists ≡ buckets) }
         ensures places { IfOk result (λ lane. lane.pipe.places ≡ pipe_records) }
@@ -94,11 +96,13 @@ impl<K: EpochKind, const WAYS: usize> Lane<K, WAYS> {
         requires ready { length self.old.pipe.records < self.old.pipe.places }
         requires key { length key.now ≡ self.old.cache.key_words }
         requires args { length args.now ≡ (K.sizes self.old.kind).args }
-        ensures stands { Makes (K.stands self.old.kind) (K.folding self.old.kind) WAYS (Packet key.now args.now) (parts self.old.cache self.old.pipe self.old.store) (parts self.new.cache self.new.pipe self.new.store) }
+        ensures stands { Makes (K.stands self.old.kind) (K.folding self.old.kind) WAYS (Packet key.now args.now)
+            (parts self.old.cache self.old.pipe self.old.store) (parts self.new.cache self.new.pipe self.new.store) }
         ensures kind { self.new.kind ≡ self.old.kind }
         ensures at_least { steps.old ≤ steps.new }
         ensures cost { let key_words = self.old.cache.key_words in
-            steps.new ≤ steps.old + (key_words + 2 * WAYS * (key_words + 1) + (key_words + (K.sizes self.old.kind).entry) + K.open_bound self.old.kind + K.absorb_bound self.old.kind) }
+            steps.new ≤ steps.old + (key_words + 2 * WAYS * (key_words + 1) + (key_words + (K.sizes self.old.kind).entry)
+            + K.open_bound self.old.kind + K.absorb_bound self.old.kind) }
     {
         self.front.packet(key, args, steps);
     }
@@ -108,9 +112,11 @@ impl<K: EpochKind, const WAYS: usize> Lane<K, WAYS> {
     pub fn evict<L: Ledger>(&mut self, bucket: u32, steps: &mut Steps<L>) -> bool
         requires ready { length self.old.pipe.records < self.old.pipe.places }
         requires range { bucket < length self.old.cache.lists }
-        ensures stands { Makes (K.stands self.old.kind) (K.folding self.old.kind) WAYS (Evict bucket) (parts self.old.cache self.old.pipe self.old.store) (parts self.new.cache self.new.pipe self.new.store) }
+        ensures stands { Makes (K.stands self.old.kind) (K.folding self.old.kind) WAYS (Evict bucket)
+            (parts self.old.cache self.old.pipe self.old.store) (parts self.new.cache self.new.pipe self.new.store) }
         ensures some { result ≡ not (length (list_at self.old.cache bucket) == 0) }
-        ensures cache { let list = list_at self.old.cache bucket in self.new.cache ≡ with_list self.old.cache bucket (take (length list - 1) list) }
+        ensures cache { let list = list_at self.old.cache bucket in self.new.cache
+            ≡ with_list self.old.cache bucket (take (length list - 1) list) }
         ensures same { result ≡ false → (self.new.cache ≡ self.old.cache) × (self.new.pipe ≡ self.old.pipe) }
         ensures kind { self.new.kind ≡ self.old.kind }
         ensures store { self.new.store ≡ self.old.store }
@@ -122,7 +128,8 @@ impl<K: EpochKind, const WAYS: usize> Lane<K, WAYS> {
     /// Merges the oldest record of the pipe into the store. Empty exactly where the pipe is empty, and then nothing
     /// changes; after a refusal of memory the lane is as it was.
     pub fn merge<L: Ledger>(&mut self, steps: &mut Steps<L>) -> Result<Merged, AllocError>
-        ensures stands { OnOk result (Makes (K.stands self.old.kind) (K.folding self.old.kind) WAYS Merge (parts self.old.cache self.old.pipe self.old.store) (parts self.new.cache self.new.pipe self.new.store)) }
+        ensures stands { OnOk result (Makes (K.stands self.old.kind) (K.folding self.old.kind) WAYS Merge
+            (parts self.old.cache self.old.pipe self.old.store) (parts self.new.cache self.new.pipe self.new.store)) }
         ensures empty { (result ≡ Ok Merged.Empty) ↔ (length self.old.pipe.records ≡ 0) }
         ensures same { result ≡ Ok Merged.Empty → (self.new.pipe ≡ self.old.pipe) × (self.new.store ≡ self.old.store) }
         ensures err { OnErr result ((self.new.pipe ≡ self.old.pipe) × (self.new.store ≡ self.old.store)) }
@@ -154,7 +161,9 @@ impl<K: EpochKind, const WAYS: usize> Lane<K, WAYS> {
     /// Whether cache and pipe are empty. Then no epoch is open, and all closed ones are merged.
     pub fn drained(&self) -> bool
         ensures value { result ≡ is_drained self.now.cache self.now.pipe }
-        ensures done { result ≡ true → (m : Machine) → LaneStands (K.stands self.now.kind) (K.folding self.now.kind) self.now.cache self.now.pipe self.now.store m → IsSwept m × (m.merged ≡ length m.closed) }
+        ensures done { result ≡ true → (m : Machine)
+            → LaneStands (K.stands self.now.kind) (K.folding self.now.kind) self.now.cache self.now.pipe self.now.store m
+            → IsSwept m × (m.merged ≡ length m.closed) }
     {
         self.front.drained()
     }
@@ -171,8 +180,15 @@ impl<K: EpochKind, const WAYS: usize> Lane<K, WAYS> {
         requires drained { is_drained self.now.cache self.now.pipe ≡ true }
         requires keys { length key_names ≡ self.now.cache.key_words }
         requires class { (class ≡ Class.Linear) ↔ ((K.folding self.now.kind).row_per_epoch ≡ false) }
-        ensures { IfOk result (λ table. (m : Machine) → LaneStands (K.stands self.now.kind) (K.folding self.now.kind) self.now.cache self.now.pipe self.now.store m
-            → table ≡ closed_table (record { name = name; key_names = key_names; state_names = state_names; class = class; depth = depth }) (K.folding self.now.kind) m.closed) }
+        ensures { IfOk result (λ table. (m : Machine)
+            → LaneStands (K.stands self.now.kind) (K.folding self.now.kind) self.now.cache self.now.pipe self.now.store m
+            → table ≡ closed_table (record {
+              name = name;
+              key_names = key_names;
+              state_names = state_names;
+              class = class;
+              depth = depth;
+            }) (K.folding self.now.kind) m.closed) }
     {
         held_rows_are_the_tables();
         self.known();

@@ -1,6 +1,7 @@
 //! Lanes side by side.
 
-ghost use Rattle.std.specs.Prelude.{◌≡◌, ◌+◌, ◌<◌, ◌≤◌, ◌==◌, ◌↔◌, ℕ, true, not, length, map, slice_get, sum_by, OnOk, OnErr};
+ghost use Rattle.std.specs.Prelude.{◌≡◌, ◌+◌, ◌<◌, ◌≤◌, ◌==◌, ◌↔◌, ℕ, true, not, length, map, slice_get};
+ghost use Rattle.std.specs.Prelude.{sum_by, OnOk, OnErr};
 ghost use Rattle.std.specs.List.{list_all};
 ghost use Rattle.epoch_model.specs.Machine.{Evict, Merge};
 ghost use Rattle.epoch_model.specs.Driving.{event_of};
@@ -11,7 +12,8 @@ ghost use Rattle.bucket_cache.specs.Caches.{list_at};
 ghost use Rattle.switch_core.specs.Closing.{is_drained};
 ghost use Rattle.switch_core.specs.Rows.{Each};
 ghost use Rattle.switch_core.specs.Pipelines.{event_at};
-ghost use Rattle.switch_core.specs.PlanLanes.{AreLanesOf, AtLane, LaneMakes, LanesMake, LaneView, LaneIsSwept, LaneRunsSweep, LaneSweeps, SweepBreaksOff, lane_cost, lane_is_ready, lane_view};
+ghost use Rattle.switch_core.specs.PlanLanes.{AreLanesOf, AtLane, LaneMakes, LanesMake, LaneView, LaneIsSwept, LaneRunsSweep, LaneSweeps};
+ghost use Rattle.switch_core.specs.PlanLanes.{SweepBreaksOff, lane_cost, lane_is_ready, lane_view};
 
 use crate::front::Merged;
 use crate::lane::Lane;
@@ -51,7 +53,8 @@ fn take_packet<const WAYS: usize, L: Ledger>(
     requires args { (⟦<AnyEpochs as EpochKind>⟧.sizes lane.old.kind).args ≡ length (wiring_at plan.now group).args }
     requires key_room { length (wiring_at plan.now group).keys ≤ length key.old }
     requires args_room { length (wiring_at plan.now group).args ≤ length args.old }
-    ensures makes { LaneMakes WAYS (event_of (taken_at (wiring_at plan.now group) registers.now)) (lane_view lane.old) (lane_view lane.new) }
+    ensures makes { LaneMakes WAYS (event_of (taken_at (wiring_at plan.now group) registers.now)) (lane_view lane.old)
+        (lane_view lane.new) }
     ensures at_least { steps.old ≤ steps.new }
     ensures cost { steps.new ≤ steps.old + lane_cost WAYS (lane_view lane.old) }
 {
@@ -79,7 +82,8 @@ pub fn packet_lanes<const WAYS: usize, L: Ledger>(
     requires ready { list_all lane_is_ready (map lane_view lanes.old) ≡ true }
     requires key { length key.old ≡ 8 }
     requires args { length args.old ≡ 16 }
-    ensures makes { LanesMake WAYS (λ n. event_of (taken_at (wiring_at plan.now n) registers.now)) (map lane_view lanes.old) (map lane_view lanes.new) }
+    ensures makes { LanesMake WAYS (λ n. event_of (taken_at (wiring_at plan.now n) registers.now))
+        (map lane_view lanes.old) (map lane_view lanes.new) }
     ensures at_least { steps.old ≤ steps.new }
     ensures cost { steps.new ≤ steps.old + sum_by (lane_cost WAYS) (map lane_view lanes.old) }
 {

@@ -33,7 +33,8 @@ fn made_lane<const WAYS: usize>(
     ensures pipe_places { IfOk result (λ lane. lane.pipe.places ≡ pipe_records) }
     ensures keys { IfOk result (λ lane. lane.cache.key_words ≡ length group.now.key_names) }
     ensures kind { IfOk result (λ lane. (f : TypedFold) → IsProgramOf f group.now.program
-        → IsKindFor entries f (⟦<AnyEpochs as EpochKind>⟧.sizes lane.kind) (⟦<AnyEpochs as EpochKind>⟧.folding lane.kind) (⟦<AnyEpochs as EpochKind>⟧.open_bound lane.kind) (⟦<AnyEpochs as EpochKind>⟧.absorb_bound lane.kind)) }
+        → IsKindFor entries f (⟦<AnyEpochs as EpochKind>⟧.sizes lane.kind) (⟦<AnyEpochs as EpochKind>⟧.folding lane.kind)
+        (⟦<AnyEpochs as EpochKind>⟧.open_bound lane.kind) (⟦<AnyEpochs as EpochKind>⟧.absorb_bound lane.kind)) }
 {
     entries_are_small();
     let kind = AnyEpochs::for_entries(entries, group.program.copy(alloc)?);
@@ -54,7 +55,8 @@ pub fn made_lanes<const WAYS: usize>(
     requires pipe { (0 < pipe_records) × (pipe_records ≤ 65536) }
     ensures lanes { IfOk result (λ lanes. AreLanesOf entries plan.now buckets (map lane_view lanes.items)) }
     ensures pipe_places { IfOk result (λ lanes. HavePlaces pipe_records (map lane_view lanes.items)) }
-    ensures stands { IfOk result (λ lanes. Each StandsFor (map lane_view lanes.items) (empty_machines (geometry_of WAYS buckets) plan.now.groups)) }
+    ensures stands { IfOk result (λ lanes. Each StandsFor (map lane_view lanes.items)
+        (empty_machines (geometry_of WAYS buckets) plan.now.groups)) }
 {
     entries_suit_folds();
     plan.known();

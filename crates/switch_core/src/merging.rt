@@ -32,7 +32,8 @@ pub fn merge_entry<K: EpochKind, L: Ledger>(
     requires initial_words { length initial.now ≡ store.old.state_words }
     requires scratch { length scratch.old ≡ (K.sizes kind.now).scratch }
     ensures ok { OnOk result ((rows : List ArgRow) (epochs : List Epoch) → K.stands kind.now entry.now rows
-        → StoreHolds (K.folding kind.now) store.old epochs → StoreHolds (K.folding kind.now) store.new (epochs ++ record { key = key.now; rows = rows } ∷ [])) }
+        → StoreHolds (K.folding kind.now) store.old epochs
+        → StoreHolds (K.folding kind.now) store.new (epochs ++ record { key = key.now; rows = rows } ∷ [])) }
     ensures err { OnErr result (store.new ≡ store.old) }
     ensures key_words { store.new.key_words ≡ store.old.key_words }
     ensures state_words { store.new.state_words ≡ store.old.state_words }

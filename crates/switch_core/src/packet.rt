@@ -1,6 +1,7 @@
 //! A packet at the cache and the pipe.
 
-ghost use Rattle.std.specs.Prelude.{◌≡◌, ◌+◌, ◌*◌, ◌<◌, ◌≤◌, ℕ, List, [], ◌∷◌, ◌++◌, Some, length, slice_get};
+ghost use Rattle.std.specs.Prelude.{◌≡◌, ◌+◌, ◌*◌, ◌<◌, ◌≤◌, ℕ, List, [], ◌∷◌, ◌++◌, Some, length};
+ghost use Rattle.std.specs.Prelude.{slice_get};
 ghost use Rattle.epoch_model.specs.Machine.{Machine, packet};
 ghost use Rattle.bucket_cache.specs.Buckets.{Pair};
 ghost use Rattle.bucket_cache.specs.Caches.{Cache, list_at, entry_at};
@@ -25,7 +26,8 @@ pub fn push_pair<const WAYS: usize, L: Ledger>(
     requires place { place < length cache.now.entries }
     requires room { length pipe.old.records < pipe.old.places }
     requires words { pipe.old.record_words ≡ cache.now.key_words + cache.now.entry_words }
-    ensures pushed { (bucket i : ℕ) (pair : Pair) → slice_get (list_at cache.now bucket) i ≡ Some pair → pair.place ≡ place → pipe.new.records ≡ pipe.old.records ++ (pair.key ++ entry_at cache.now place) ∷ [] }
+    ensures pushed { (bucket i : ℕ) (pair : Pair) → slice_get (list_at cache.now bucket) i ≡ Some pair → pair.place ≡ place
+        → pipe.new.records ≡ pipe.old.records ++ (pair.key ++ entry_at cache.now place) ∷ [] }
     ensures rest { pipe.new ≡ with_records pipe.old pipe.new.records }
     ensures cost { steps.new ≡ steps.old + pipe.old.record_words }
 {
@@ -50,13 +52,16 @@ pub fn packet_at<K: EpochKind, const WAYS: usize, L: Ledger>(
     requires scratch { length scratch.old ≡ (K.sizes kind.now).scratch }
     requires room { length pipe.old.records < pipe.old.places }
     requires record { pipe.old.record_words ≡ cache.old.key_words + cache.old.entry_words }
-    ensures cache { (m : Machine) → CacheStands (K.stands kind.now) cache.old m → CacheStands (K.stands kind.now) cache.new (packet (geometry WAYS cache.old) m key.now args.now) }
-    ensures pipe { (m : Machine) → CacheStands (K.stands kind.now) cache.old m → m.merged ≤ length m.closed → PipeStands (K.stands kind.now) cache.old.key_words pipe.old.records m
+    ensures cache { (m : Machine) → CacheStands (K.stands kind.now) cache.old m
+        → CacheStands (K.stands kind.now) cache.new (packet (geometry WAYS cache.old) m key.now args.now) }
+    ensures pipe { (m : Machine) → CacheStands (K.stands kind.now) cache.old m → m.merged ≤ length m.closed
+        → PipeStands (K.stands kind.now) cache.old.key_words pipe.old.records m
         → PipeStands (K.stands kind.now) cache.old.key_words pipe.new.records (packet (geometry WAYS cache.old) m key.now args.now) }
     ensures shape { HasShapeOf cache.old cache.new }
     ensures rest { pipe.new ≡ with_records pipe.old pipe.new.records }
     ensures at_least { steps.old ≤ steps.new }
-    ensures cost { let key_words = cache.old.key_words in steps.new ≤ steps.old + (key_words + 2 * WAYS * (key_words + 1) + (key_words + cache.old.entry_words) + K.open_bound kind.now + K.absorb_bound kind.now) }
+    ensures cost { let key_words = cache.old.key_words in steps.new ≤ steps.old
+        + (key_words + 2 * WAYS * (key_words + 1) + (key_words + cache.old.entry_words) + K.open_bound kind.now + K.absorb_bound kind.now) }
 {
     uses_are_bounded();
     let bucket = bucket_of(key, cache.buckets(), steps);

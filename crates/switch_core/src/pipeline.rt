@@ -1,6 +1,7 @@
 //! The lanes of a plan.
 
-ghost use Rattle.std.specs.Prelude.{◌≡◌, ◌+◌, ◌*◌, ◌<◌, ◌≤◌, ◌==◌, ◌↔◌, not, true, List, length, map, slice_get, IfOk, OnOk, OnErr, Some};
+ghost use Rattle.std.specs.Prelude.{◌≡◌, ◌+◌, ◌*◌, ◌<◌, ◌≤◌, ◌==◌, ◌↔◌, not, true, List, length, map};
+ghost use Rattle.std.specs.Prelude.{slice_get, IfOk, OnOk, OnErr, Some};
 ghost use Rattle.std.specs.List.{list_all};
 ghost use Rattle.epoch_model.specs.Machine.{Machine, Evict, Merge};
 ghost use Rattle.epoch_model.specs.Timeline.{IsSwept};
@@ -10,7 +11,9 @@ ghost use Rattle.epoch_entry.specs.Purposes.{runs_of};
 ghost use Rattle.stage_plan.specs.Planned.{plan_bound};
 ghost use Rattle.switch_core.specs.Closing.{held_in};
 ghost use Rattle.switch_core.specs.Pipelines.{empty_machines, event_at, geometry_of, packet_events, tables_of};
-ghost use Rattle.switch_core.specs.PlanLanes.{AreLanesOf, AtLane, HavePlaces, LaneRunsSweep, PipelineIsSwept, PipelineMakes, PipelineStands, PipelineSweeps, SweepBreaksOff, folding_at, lane_is_drained, lane_is_ready, lane_view, pipeline_cost};
+ghost use Rattle.switch_core.specs.PlanLanes.{AreLanesOf, AtLane, HavePlaces, LaneRunsSweep, PipelineIsSwept, PipelineMakes};
+ghost use Rattle.switch_core.specs.PlanLanes.{PipelineStands, PipelineSweeps, SweepBreaksOff, folding_at, lane_is_drained, lane_is_ready};
+ghost use Rattle.switch_core.specs.PlanLanes.{lane_view, pipeline_cost};
 
 use crate::front::Merged;
 use crate::lane::Lane;
@@ -26,7 +29,8 @@ use std::alloc::{AllocError, Global};
 use std::marker::Model;
 use std::sync::ledger::Ledger;
 
-/// A plan with a lane for each groupby, whose entries give the folds or bounds of them. Only `merge`, `sweep` and `close` take memory once it is made.
+/// A plan with a lane for each groupby, whose entries give the folds or bounds of them. Only `merge`, `sweep` and
+/// `close` take memory once it is made.
 #[derive(Drop)]
 pub struct Pipeline<const WAYS: usize> {
     alloc: Global,
@@ -47,7 +51,12 @@ impl<const WAYS: usize> Model for Pipeline<WAYS> {
 
     ghost view = { λ p. record { plan = p.plan; entries = p.entries; buckets = p.buckets; lanes = map lane_view p.lanes.items } };
 
-    ghost invariant = { λ p. IsPipeline WAYS (record { plan = p.plan; entries = p.entries; buckets = p.buckets; lanes = map lane_view p.lanes.items }) p.registers.items p.key.items p.args.items };
+    ghost invariant = { λ p. IsPipeline WAYS (record {
+      plan = p.plan;
+      entries = p.entries;
+      buckets = p.buckets;
+      lanes = map lane_view p.lanes.items;
+    }) p.registers.items p.key.items p.args.items };
 }
 
 impl<const WAYS: usize> Pipeline<WAYS> {
@@ -193,7 +202,8 @@ impl<const WAYS: usize> Pipeline<WAYS> {
     /// Whether all caches and pipes are empty. Then no epoch is open, and all closed ones are merged.
     pub fn drained(&self) -> bool
         ensures value { result ≡ list_all lane_is_drained self.now.lanes }
-        ensures done { result ≡ true → (machines : List Machine) → PipelineStands self.now machines → Each (λ lane m. IsSwept m × (m.merged ≡ length m.closed)) self.now.lanes machines }
+        ensures done { result ≡ true → (machines : List Machine) → PipelineStands self.now machines
+            → Each (λ lane m. IsSwept m × (m.merged ≡ length m.closed)) self.now.lanes machines }
     {
         all_drained(&self.lanes)
     }
@@ -208,7 +218,8 @@ impl<const WAYS: usize> Pipeline<WAYS> {
     /// The tables of the closed epochs, one for each groupby in order. The pipeline stays as it is.
     pub fn close(&self) -> Result<Seq<Table>, AllocError>
         requires { list_all lane_is_drained self.now.lanes ≡ true }
-        ensures { IfOk result (λ tables. (machines : List Machine) → PipelineStands self.now machines → tables ≡ tables_of self.now.plan.groups (map folding_at self.now.lanes) machines) }
+        ensures { IfOk result (λ tables. (machines : List Machine) → PipelineStands self.now machines
+            → tables ≡ tables_of self.now.plan.groups (map folding_at self.now.lanes) machines) }
     {
         lane_tables(self.alloc, &self.plan, &self.lanes)
     }

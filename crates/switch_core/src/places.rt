@@ -24,7 +24,8 @@ pub fn absorb_at<K: EpochKind, const WAYS: usize, L: Ledger>(
     requires args { length args.now ≡ (K.sizes kind.now).args }
     requires scratch { length scratch.old ≡ (K.sizes kind.now).scratch }
     ensures rest { cache.new ≡ with_words cache.old place (entry_at cache.new place) }
-    ensures absorbed { (rows : List ArgRow) → K.stands kind.now (entry_at cache.old place) rows → K.stands kind.now (entry_at cache.new place) (rows ++ args.now ∷ []) }
+    ensures absorbed { (rows : List ArgRow) → K.stands kind.now (entry_at cache.old place) rows
+        → K.stands kind.now (entry_at cache.new place) (rows ++ args.now ∷ []) }
     ensures at_least { steps.old ≤ steps.new }
     ensures cost { steps.new ≤ steps.old + K.absorb_bound kind.now }
 {

@@ -21,9 +21,13 @@ fn make_ready<K: EpochKind, const WAYS: usize, L: Ledger>(
     steps: &mut Steps<L>,
 ) -> Result<(), AllocError>
     ensures ready { OnOk result (length lane.new.pipe.records < lane.new.pipe.places) }
-    ensures leads { Leads (K.stands lane.old.kind) (K.folding lane.old.kind) (λ m. m) (parts lane.old.cache lane.old.pipe lane.old.store) (parts lane.new.cache lane.new.pipe lane.new.store) }
-    ensures makes { MakesSweep (K.stands lane.old.kind) (K.folding lane.old.kind) WAYS (parts lane.old.cache lane.old.pipe lane.old.store) (parts lane.new.cache lane.new.pipe lane.new.store) }
-    ensures runs { OnOk result (RunsAll (K.stands lane.old.kind) (K.folding lane.old.kind) WAYS (room_events lane.old.pipe.places) (parts lane.old.cache lane.old.pipe lane.old.store) (parts lane.new.cache lane.new.pipe lane.new.store)) }
+    ensures leads { Leads (K.stands lane.old.kind) (K.folding lane.old.kind) (λ m. m)
+        (parts lane.old.cache lane.old.pipe lane.old.store) (parts lane.new.cache lane.new.pipe lane.new.store) }
+    ensures makes { MakesSweep (K.stands lane.old.kind) (K.folding lane.old.kind) WAYS
+        (parts lane.old.cache lane.old.pipe lane.old.store) (parts lane.new.cache lane.new.pipe lane.new.store) }
+    ensures runs { OnOk result (RunsAll (K.stands lane.old.kind) (K.folding lane.old.kind) WAYS
+        (room_events lane.old.pipe.places) (parts lane.old.cache lane.old.pipe lane.old.store)
+        (parts lane.new.cache lane.new.pipe lane.new.store)) }
     ensures cache { lane.new.cache ≡ lane.old.cache }
     ensures err { OnErr result ((lane.new.pipe ≡ lane.old.pipe) × (lane.new.store ≡ lane.old.store)) }
     ensures kind { lane.new.kind ≡ lane.old.kind }
@@ -44,12 +48,18 @@ fn sweep_bucket<K: EpochKind, const WAYS: usize, L: Ledger>(
     steps: &mut Steps<L>,
 ) -> Result<(), AllocError>
     requires { bucket < length lane.old.cache.lists }
-    ensures leads { OnOk result (Leads (K.stands lane.old.kind) (K.folding lane.old.kind) (λ m. empty_bucket m bucket) (parts lane.old.cache lane.old.pipe lane.old.store) (parts lane.new.cache lane.new.pipe lane.new.store)) }
-    ensures runs { OnOk result (RunsAll (K.stands lane.old.kind) (K.folding lane.old.kind) WAYS (bucket_events (geometry WAYS lane.old.cache) lane.old.pipe.places bucket) (parts lane.old.cache lane.old.pipe lane.old.store) (parts lane.new.cache lane.new.pipe lane.new.store)) }
-    ensures begun { OnErr result (RunsFirst (K.stands lane.old.kind) (K.folding lane.old.kind) WAYS (bucket_events (geometry WAYS lane.old.cache) lane.old.pipe.places bucket) (parts lane.old.cache lane.old.pipe lane.old.store) (parts lane.new.cache lane.new.pipe lane.new.store)) }
+    ensures leads { OnOk result (Leads (K.stands lane.old.kind) (K.folding lane.old.kind) (λ m. empty_bucket m bucket)
+        (parts lane.old.cache lane.old.pipe lane.old.store) (parts lane.new.cache lane.new.pipe lane.new.store)) }
+    ensures runs { OnOk result (RunsAll (K.stands lane.old.kind) (K.folding lane.old.kind) WAYS
+        (bucket_events (geometry WAYS lane.old.cache) lane.old.pipe.places bucket)
+        (parts lane.old.cache lane.old.pipe lane.old.store) (parts lane.new.cache lane.new.pipe lane.new.store)) }
+    ensures begun { OnErr result (RunsFirst (K.stands lane.old.kind) (K.folding lane.old.kind) WAYS
+        (bucket_events (geometry WAYS lane.old.cache) lane.old.pipe.places bucket)
+        (parts lane.old.cache lane.old.pipe lane.old.store) (parts lane.new.cache lane.new.pipe lane.new.store)) }
     ensures empty { OnOk result (length (list_at lane.new.cache bucket) ≡ 0) }
     ensures others { (other : ℕ) → other ≢ bucket → list_at lane.new.cache other ≡ list_at lane.old.cache other }
-    ensures makes { MakesSweep (K.stands lane.old.kind) (K.folding lane.old.kind) WAYS (parts lane.old.cache lane.old.pipe lane.old.store) (parts lane.new.cache lane.new.pipe lane.new.store) }
+    ensures makes { MakesSweep (K.stands lane.old.kind) (K.folding lane.old.kind) WAYS
+        (parts lane.old.cache lane.old.pipe lane.old.store) (parts lane.new.cache lane.new.pipe lane.new.store) }
     ensures buckets { length lane.new.cache.lists ≡ length lane.old.cache.lists }
     ensures kind { lane.new.kind ≡ lane.old.kind }
     ensures at_least { steps.old ≤ steps.new }
@@ -69,11 +79,18 @@ pub fn sweep_lane<K: EpochKind, const WAYS: usize, L: Ledger>(
     lane: &mut Lane<K, WAYS>,
     steps: &mut Steps<L>,
 ) -> Result<(), AllocError>
-    ensures leads { OnOk result (Leads (K.stands lane.old.kind) (K.folding lane.old.kind) (λ m. empty_buckets (length lane.old.cache.lists) m) (parts lane.old.cache lane.old.pipe lane.old.store) (parts lane.new.cache lane.new.pipe lane.new.store)) }
-    ensures runs { OnOk result (RunsAll (K.stands lane.old.kind) (K.folding lane.old.kind) WAYS (lane_sweep WAYS (parts lane.old.cache lane.old.pipe lane.old.store)) (parts lane.old.cache lane.old.pipe lane.old.store) (parts lane.new.cache lane.new.pipe lane.new.store)) }
-    ensures begun { OnErr result (RunsFirst (K.stands lane.old.kind) (K.folding lane.old.kind) WAYS (lane_sweep WAYS (parts lane.old.cache lane.old.pipe lane.old.store)) (parts lane.old.cache lane.old.pipe lane.old.store) (parts lane.new.cache lane.new.pipe lane.new.store)) }
+    ensures leads { OnOk result (Leads (K.stands lane.old.kind) (K.folding lane.old.kind)
+        (λ m. empty_buckets (length lane.old.cache.lists) m) (parts lane.old.cache lane.old.pipe lane.old.store)
+        (parts lane.new.cache lane.new.pipe lane.new.store)) }
+    ensures runs { OnOk result (RunsAll (K.stands lane.old.kind) (K.folding lane.old.kind) WAYS
+        (lane_sweep WAYS (parts lane.old.cache lane.old.pipe lane.old.store))
+        (parts lane.old.cache lane.old.pipe lane.old.store) (parts lane.new.cache lane.new.pipe lane.new.store)) }
+    ensures begun { OnErr result (RunsFirst (K.stands lane.old.kind) (K.folding lane.old.kind) WAYS
+        (lane_sweep WAYS (parts lane.old.cache lane.old.pipe lane.old.store))
+        (parts lane.old.cache lane.old.pipe lane.old.store) (parts lane.new.cache lane.new.pipe lane.new.store)) }
     ensures held { OnOk result (held_in lane.new.cache ≡ 0) }
-    ensures makes { MakesSweep (K.stands lane.old.kind) (K.folding lane.old.kind) WAYS (parts lane.old.cache lane.old.pipe lane.old.store) (parts lane.new.cache lane.new.pipe lane.new.store) }
+    ensures makes { MakesSweep (K.stands lane.old.kind) (K.folding lane.old.kind) WAYS
+        (parts lane.old.cache lane.old.pipe lane.old.store) (parts lane.new.cache lane.new.pipe lane.new.store) }
     ensures kind { lane.new.kind ≡ lane.old.kind }
     ensures at_least { steps.old ≤ steps.new }
 {

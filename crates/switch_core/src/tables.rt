@@ -37,7 +37,8 @@ fn lane_table<const WAYS: usize>(
     requires drained { lane_is_drained (lane_view lane.now) ≡ true }
     requires keys { lane.now.cache.key_words ≡ length group.now.key_names }
     requires class { (⟦<AnyEpochs as EpochKind>⟧.folding lane.now.kind).row_per_epoch ≡ per_epoch group.now.program.class }
-    ensures { IfOk result (λ table. (m : Machine) → StandsFor (lane_view lane.now) m → table ≡ closed_table (heading_of group.now) (folding_at (lane_view lane.now)) m.closed) }
+    ensures { IfOk result (λ table. (m : Machine) → StandsFor (lane_view lane.now) m
+        → table ≡ closed_table (heading_of group.now) (folding_at (lane_view lane.now)) m.closed) }
 {
     let name = Text::from_slice(alloc, group.name.as_slice())?;
     let key_names = copied_texts(alloc, group.key_names.as_slice())?;

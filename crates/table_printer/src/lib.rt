@@ -4,4 +4,4 @@
 mod parts;
 mod printer;
 
-pub use printer::table_text;
+pub use printer::{push_table, table_text};

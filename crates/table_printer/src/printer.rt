@@ -120,16 +120,25 @@ fn push_row(text: &mut Text, kind: TableKind, row: &Row) -> Result<(), AllocErro
     text.push(b'\n')
 }
 
-/// The text of the table: a line that says what it is, a heading, and a line for each row.
+/// Writes the text of a table: a line that says what it is, a heading, and a line for each row.
+pub fn push_table(text: &mut Text, table: &Table) -> Result<(), AllocError>
+    requires keys { table.now.keys ≤ length table.now.columns }
+    ensures { OnOk result (text.new ≡ text.old ++ table_text table.now) }
+{
+    push_title(text, table)?;
+    push_heading(text, table)?;
+    'rows: for row in table.rows.as_slice() {
+        push_row(text, table.kind, row)?;
+    }
+    Ok(())
+}
+
+/// The text of a table, as `push_table` writes it.
 pub fn table_text(alloc: Global, table: &Table) -> Result<Text, AllocError>
     requires keys { table.now.keys ≤ length table.now.columns }
     ensures { IfOk result (λ text. text ≡ table_text table.now) }
 {
     let mut text = Text::new(alloc);
-    push_title(&mut text, table)?;
-    push_heading(&mut text, table)?;
-    'rows: for row in table.rows.as_slice() {
-        push_row(&mut text, table.kind, row)?;
-    }
+    push_table(&mut text, table)?;
     Ok(text)
 }

@@ -18,12 +18,14 @@ pipeline_in replay = replay.pipeline
 abbrev pub fault_in : {ways : ℕ} → Replay ways → Option TraceFault
 fault_in replay = fault_of replay.packets
 
--- Of all packets of a trace so many were taken: the lanes are as far as the machines behind them, the clocks have counted them, and the others are still to come.
+-- Of all packets of a trace so many were taken: the lanes are as far as the machines behind them, the clocks have
+-- counted them, and the others are still to come.
 pub record IsUnderWay {ways : ℕ} (schedule : Schedule) (all : List Packet) (count : ℕ) (replay : Replay ways) : Type 0 where
   pub within : count ≤ length all
   pub rest : coming replay.packets ≡ drop count all
   pub buckets : replay.pipeline.buckets ≡ schedule.buckets
-  pub follows : FollowsBy (λ i. after_packets (geometry_for ways schedule) (uses_by replay.pipeline.plan i (words_of all)) count) replay.pipeline
+  pub follows : FollowsBy (λ i. after_packets (geometry_for ways schedule)
+      (uses_by replay.pipeline.plan i (words_of all)) count) replay.pipeline
   pub refreshes : HasCounted count replay.refreshes
   pub lags : HasCounted count replay.lags
   pub refresh : replay.refreshes.every ≡ schedule.refresh
@@ -35,18 +37,22 @@ IsOnItsWay replay = (schedule : Schedule) × (all : List Packet) × (count : ℕ
 
 -- So many packets more were taken.
 abbrev pub Advances : {ways : ℕ} → ℕ → Replay ways → Replay ways → Type 0
-Advances more old new = (schedule : Schedule) (all : List Packet) (count : ℕ) → IsUnderWay schedule all count old → IsUnderWay schedule all (count + more) new
+Advances more old new = (schedule : Schedule) (all : List Packet) (count : ℕ) → IsUnderWay schedule all count old
+    → IsUnderWay schedule all (count + more) new
 
 -- All packets that were left were taken, which were fewer than this number.
 abbrev pub TakesTheRest : {ways : ℕ} → ℕ → Replay ways → Replay ways → Type 0
 TakesTheRest most old new =
-    (schedule : Schedule) (all : List Packet) (count : ℕ) → IsUnderWay schedule all count old → (length all < count + most) × IsUnderWay schedule all (length all) new
+    (schedule : Schedule) (all : List Packet) (count : ℕ) → IsUnderWay schedule all count old
+    → (length all < count + most) × IsUnderWay schedule all (length all) new
 
 -- All packets that were left were taken.
 abbrev pub TakesAll : {ways : ℕ} → Replay ways → Replay ways → Type 0
-TakesAll old new = (schedule : Schedule) (all : List Packet) (count : ℕ) → IsUnderWay schedule all count old → IsUnderWay schedule all (length all) new
+TakesAll old new = (schedule : Schedule) (all : List Packet) (count : ℕ) → IsUnderWay schedule all count old
+    → IsUnderWay schedule all (length all) new
 
 -- The pipeline stands for the machines at the end of all packets of the trace.
 abbrev pub ReachesTheEnd : {ways : ℕ} → Replay ways → PipelineView → Type 0
 ReachesTheEnd {ways} replay pipeline =
-    (schedule : Schedule) (all : List Packet) (count : ℕ) → IsUnderWay schedule all count replay → PipelineStands pipeline (end_machines pipeline.plan (geometry_for ways schedule) (words_of all))
+    (schedule : Schedule) (all : List Packet) (count : ℕ) → IsUnderWay schedule all count replay
+    → PipelineStands pipeline (end_machines pipeline.plan (geometry_for ways schedule) (words_of all))

@@ -22,9 +22,11 @@ fn merge_one<const WAYS: usize, L: Ledger>(
     ensures follows { OnOk result ((after : ℕ → Machine) → FollowsBy after pipeline.old → FollowsBy after pipeline.new) }
     ensures keeps { OnOk result (Keeps pipeline.old pipeline.new) }
     ensures ready { OnOk result (AtLane (λ at. lane_is_ready at ≡ true) pipeline.new.lanes lane) }
-    ensures others { OnOk result ((other : ℕ) → (other ≡ lane → ⊥) → slice_get pipeline.new.lanes other ≡ slice_get pipeline.old.lanes other) }
+    ensures others { OnOk result ((other : ℕ) → (other ≡ lane → ⊥)
+        → slice_get pipeline.new.lanes other ≡ slice_get pipeline.old.lanes other) }
     ensures empty { (result ≡ Ok Merged.Empty) ↔ (waiting pipeline.old.lanes lane ≡ 0) }
-    ensures fewer { OnOk result ((machines : List Machine) → PipelineStands pipeline.old machines → waiting pipeline.new.lanes lane ≡ waiting pipeline.old.lanes lane - 1) }
+    ensures fewer { OnOk result ((machines : List Machine) → PipelineStands pipeline.old machines
+        → waiting pipeline.new.lanes lane ≡ waiting pipeline.old.lanes lane - 1) }
     ensures steps { steps.old ≤ steps.new }
 {
     events_keep_alike();
@@ -75,7 +77,8 @@ fn empty_pipe<const WAYS: usize, L: Ledger>(
     requires stands { (after : ℕ → Machine) × FollowsBy after pipeline.old }
     ensures follows { OnOk result ((after : ℕ → Machine) → FollowsBy after pipeline.old → FollowsBy after pipeline.new) }
     ensures keeps { OnOk result (Keeps pipeline.old pipeline.new) }
-    ensures others { OnOk result ((other : ℕ) → (other ≡ lane → ⊥) → slice_get pipeline.new.lanes other ≡ slice_get pipeline.old.lanes other) }
+    ensures others { OnOk result ((other : ℕ) → (other ≡ lane → ⊥)
+        → slice_get pipeline.new.lanes other ≡ slice_get pipeline.old.lanes other) }
     ensures empty { OnOk result (waiting pipeline.new.lanes lane ≡ 0) }
     ensures steps { steps.old ≤ steps.new }
 {

@@ -19,7 +19,8 @@ impl<'a> Packets<'a> {
     pub fn next_into(&mut self, packet: &mut Packet) -> Result<bool, TraceAnswer>
         ensures packet { result ≡ Ok true → coming self.old ≡ packet.new ∷ coming self.new }
         ensures fault { result ≡ Ok true → fault_of self.new ≡ fault_of self.old }
-        ensures end { result ≡ Ok false → (coming self.old ≡ []) × (coming self.new ≡ []) × (fault_of self.old ≡ None) × (fault_of self.new ≡ None) }
+        ensures end { result ≡ Ok false → (coming self.old ≡ []) × (coming self.new ≡ []) × (fault_of self.old ≡ None)
+            × (fault_of self.new ≡ None) }
         ensures refused { IfErr result (λ answer. IfRefused answer (λ fault. fault_of self.old ≡ Some fault)) }
     {
         match self {

@@ -40,7 +40,8 @@ fn drain<const WAYS: usize, L: Ledger>(
     steps: &mut Steps<L>,
 ) -> Result<(), AllocError>
     requires { (after : ℕ → Machine) × FollowsBy after pipeline.old }
-    ensures follows { OnOk result ((after : ℕ → Machine) → FollowsBy after pipeline.old → FollowsBy (λ i. empty_buckets pipeline.old.buckets (after i)) pipeline.new) }
+    ensures follows { OnOk result ((after : ℕ → Machine) → FollowsBy after pipeline.old
+        → FollowsBy (λ i. empty_buckets pipeline.old.buckets (after i)) pipeline.new) }
     ensures empty { OnOk result ((lane : ℕ) → waiting pipeline.new.lanes lane ≡ 0) }
     ensures keeps { OnOk result (Keeps pipeline.old pipeline.new) }
     ensures steps { steps.old ≤ steps.new }
@@ -162,7 +163,8 @@ impl<'a, const WAYS: usize> Replay<'a, WAYS> {
         ensures machines { IfOk result (ReachesTheEnd self.entry) }
         ensures drained { IfOk result (λ pipeline. list_all lane_is_drained pipeline.lanes ≡ true) }
         ensures keeps { IfOk result (Keeps (pipeline_in self.entry)) }
-        ensures pipe_places { IfOk result (λ pipeline. (places : ℕ) → HavePlaces places (pipeline_in self.entry).lanes → HavePlaces places pipeline.lanes) }
+        ensures pipe_places { IfOk result (λ pipeline. (places : ℕ) → HavePlaces places (pipeline_in self.entry).lanes
+            → HavePlaces places pipeline.lanes) }
         ensures refused { IfErr result (λ answer. IfRefused answer (λ fault. fault_in self.entry ≡ Some fault)) }
         ensures steps { steps.old ≤ steps.new }
     {
@@ -191,10 +193,12 @@ pub fn drive<const WAYS: usize, L: Ledger>(
     requires fresh { PipelineStands pipeline (empty_machines (geometry_of WAYS pipeline.buckets) pipeline.plan.groups) }
     requires buckets { pipeline.buckets ≡ schedule.buckets }
     ensures accepted { IfOk result (λ found. fault_of packets.entry ≡ None) }
-    ensures machines { IfOk result (λ found. PipelineStands found (end_machines pipeline.entry.plan (geometry_for WAYS schedule) (words_of (coming packets.entry)))) }
+    ensures machines { IfOk result
+        (λ found. PipelineStands found (end_machines pipeline.entry.plan (geometry_for WAYS schedule) (words_of (coming packets.entry)))) }
     ensures drained { IfOk result (λ found. list_all lane_is_drained found.lanes ≡ true) }
     ensures keeps { IfOk result (Keeps pipeline.entry) }
-    ensures pipe_places { IfOk result (λ found. (places : ℕ) → HavePlaces places pipeline.entry.lanes → HavePlaces places found.lanes) }
+    ensures pipe_places { IfOk result (λ found. (places : ℕ) → HavePlaces places pipeline.entry.lanes
+        → HavePlaces places found.lanes) }
     ensures refused { IfErr result (λ answer. IfRefused answer (λ fault. fault_of packets.entry ≡ Some fault)) }
     ensures steps { steps.old ≤ steps.new }
 {

@@ -26,7 +26,8 @@ fn take_packet<const WAYS: usize, L: Ledger>(
     steps: &mut Steps<L>,
 ) -> Result<(), AllocError>
     ensures follows { OnOk result ((after : ℕ → Machine) → FollowsBy after pipeline.old
-        → FollowsBy (λ i. run (geometry_of WAYS pipeline.old.buckets) (event_of (taken pipeline.old.plan i packet.now.words)) (after i)) pipeline.new) }
+        → FollowsBy (λ i. run (geometry_of WAYS pipeline.old.buckets)
+        (event_of (taken pipeline.old.plan i packet.now.words)) (after i)) pipeline.new) }
     ensures keeps { OnOk result (Keeps pipeline.old pipeline.new) }
     ensures steps { steps.old ≤ steps.new }
 {
@@ -41,7 +42,8 @@ pub fn sweep<const WAYS: usize, L: Ledger>(
     pipeline: &mut Pipeline<WAYS>,
     steps: &mut Steps<L>,
 ) -> Result<(), AllocError>
-    ensures follows { OnOk result ((after : ℕ → Machine) → FollowsBy after pipeline.old → FollowsBy (λ i. empty_buckets pipeline.old.buckets (after i)) pipeline.new) }
+    ensures follows { OnOk result ((after : ℕ → Machine) → FollowsBy after pipeline.old
+        → FollowsBy (λ i. empty_buckets pipeline.old.buckets (after i)) pipeline.new) }
     ensures keeps { OnOk result (Keeps pipeline.old pipeline.new) }
     ensures steps { steps.old ≤ steps.new }
 {
@@ -95,10 +97,16 @@ pub fn turn<const WAYS: usize, L: Ledger>(
 ) -> Result<(), AllocError>
     requires refreshes { (number : ℕ) × HasCounted number refreshes.old }
     requires lags { (number : ℕ) × HasCounted number lags.old }
-    ensures follows { OnOk result ((number : ℕ) (after : ℕ → Machine) → HasCounted number refreshes.old → FollowsBy after pipeline.old
-        → FollowsBy (λ i. after_packet (record { buckets = pipeline.old.buckets; ways = WAYS; refresh = refreshes.old.every }) (suc number) (event_of (taken pipeline.old.plan i packet.now.words)) (after i)) pipeline.new) }
+    ensures follows { OnOk result ((number : ℕ) (after : ℕ → Machine) → HasCounted number refreshes.old
+        → FollowsBy after pipeline.old
+        → FollowsBy (λ i. after_packet (record {
+          buckets = pipeline.old.buckets;
+          ways = WAYS;
+          refresh = refreshes.old.every;
+        }) (suc number) (event_of (taken pipeline.old.plan i packet.now.words)) (after i)) pipeline.new) }
     ensures keeps { OnOk result (Keeps pipeline.old pipeline.new) }
-    ensures merged { OnOk result ((number : ℕ) → HasCounted number lags.old → is_refresh lags.old.every (suc number) ≡ true → list_all lane_is_ready pipeline.new.lanes ≡ true) }
+    ensures merged { OnOk result ((number : ℕ) → HasCounted number lags.old → is_refresh lags.old.every (suc number) ≡ true
+        → list_all lane_is_ready pipeline.new.lanes ≡ true) }
     ensures refreshes { (number : ℕ) → HasCounted number refreshes.old → HasCounted (suc number) refreshes.new }
     ensures lags { (number : ℕ) → HasCounted number lags.old → HasCounted (suc number) lags.new }
     ensures every { (refreshes.new.every ≡ refreshes.old.every) × (lags.new.every ≡ lags.old.every) }

@@ -1,5 +1,6 @@
 -- Names and numbers as they stand in a trace.
-use Rattle.std.specs.Prelude.{ℕ, Bool, ◌+◌, ◌-◌, ◌*◌, ◌^◌, ◌==◌, ◌&&◌, ◌||◌, nat_lt, nat_le, if◌then◌else◌, List, [], ◌∷◌, length, codes, Option, Some, None}
+use Rattle.std.specs.Prelude.{ℕ, Bool, ◌+◌, ◌-◌, ◌*◌, ◌^◌, ◌==◌, ◌&&◌, ◌||◌, nat_lt, nat_le}
+use Rattle.std.specs.Prelude.{if◌then◌else◌, List, [], ◌∷◌, length, codes, Option, Some, None}
 use Rattle.std.specs.Char.{is_ascii_digit}
 use Rattle.std.specs.List.{list_all, slice_split}
 use Rattle.std.specs.Option.{option_and_then, option_map}
@@ -53,7 +54,9 @@ quad_of (a ∷ []) = None
 quad_of (a ∷ b ∷ []) = None
 quad_of (a ∷ b ∷ c ∷ []) = None
 quad_of (a ∷ b ∷ c ∷ d ∷ []) =
-    option_and_then (λ w. option_and_then (λ x. option_and_then (λ y. option_map (λ z. ((w * 256 + x) * 256 + y) * 256 + z) (octet_word d)) (octet_word c)) (octet_word b)) (octet_word a)
+    option_and_then (λ w. option_and_then
+    (λ x. option_and_then (λ y. option_map (λ z. ((w * 256 + x) * 256 + y) * 256 + z) (octet_word d)) (octet_word c))
+    (octet_word b)) (octet_word a)
 quad_of (a ∷ b ∷ c ∷ d ∷ e ∷ rest) = None
 
 -- four octets parted by dots

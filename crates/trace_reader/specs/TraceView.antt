@@ -12,12 +12,17 @@ use Rattle.trace_reader.specs.declared.trace.Trace.TheInside.{Inside}
 abbrev pub upcoming_by : Progress → Contents → Upcoming
 upcoming_by progress.Reading rest = record { packets = rest.packets; fault = rest.fault; stopped = None }
 upcoming_by progress.Ended rest = record { packets = []; fault = None; stopped = None }
-upcoming_by (progress.Stopped (answer.Refused found)) rest = record { packets = []; fault = Some found; stopped = Some (answer.Refused found) }
+upcoming_by (progress.Stopped (answer.Refused found)) rest = record {
+  packets = [];
+  fault = Some found;
+  stopped = Some (answer.Refused found);
+}
 upcoming_by (progress.Stopped answer.Memory) rest = record { packets = []; fault = None; stopped = Some answer.Memory }
 
 abbrev pub upcoming_in : Inside → Upcoming
 upcoming_in trace =
-    upcoming_by trace.progress (contents_from (record { width = trace.width; columns = trace.columns }) (trace.given + 1) (records_left trace.reader))
+    upcoming_by trace.progress (contents_from (record { width = trace.width; columns = trace.columns }) (trace.given + 1)
+    (records_left trace.reader))
 
 -- while a trace is read, its reader stands between two records, and no more were given than a trace may have;
 -- where a fault stopped it, a data record has that fault

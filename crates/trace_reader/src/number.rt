@@ -1,9 +1,11 @@
 //! Numbers in the fields of a trace.
 
-ghost use Rattle.std.specs.Prelude.{◌≡◌, ◌+◌, ◌*◌, ◌^◌, ◌==◌, ◌<◌, ◌≤◌, ◌∷◌, [], drop, length, take, IfNone, IfSome, MatchOption};
+ghost use Rattle.std.specs.Prelude.{◌≡◌, ◌+◌, ◌*◌, ◌^◌, ◌==◌, ◌<◌, ◌≤◌, ◌∷◌, [], drop, length};
+ghost use Rattle.std.specs.Prelude.{take, IfNone, IfSome, MatchOption};
 ghost use Rattle.std.specs.List.{slice_split};
 ghost use Rattle.trace_reader.specs.Numbers as Numbers;
-ghost use Rattle.trace_reader.specs.Numbers.{decimal_word, is_dot, number_in, octet_word, quad_word, without_blanks, without_first_blanks, without_last_blanks, word_of};
+ghost use Rattle.trace_reader.specs.Numbers.{decimal_word, is_dot, number_in, octet_word, quad_word, without_blanks};
+ghost use Rattle.trace_reader.specs.Numbers.{without_first_blanks, without_last_blanks, word_of};
 
 use marple_base::Field;
 
@@ -109,7 +111,8 @@ fn octet(text: &[u8]) -> Option<u64>
 
 // What stands before the first dot, and what stands after it.
 fn cut_at_dot(text: &[u8]) -> Option<(&[u8], &[u8])>
-    ensures { MatchOption result (slice_split is_dot text.now ≡ text.now ∷ []) (λ parts. slice_split is_dot text.now ≡ parts.0.now ∷ slice_split is_dot parts.1.now) }
+    ensures { MatchOption result (slice_split is_dot text.now ≡ text.now ∷ []) (λ parts. slice_split is_dot text.now
+        ≡ parts.0.now ∷ slice_split is_dot parts.1.now) }
 {
     for (i, byte) in text.iter().enumerate() {
         if *byte == b'.' {

@@ -12,12 +12,14 @@ use Rattle.written_plan.specs.MadeOf.{made_of}
 
 -- Over packets of 14 words each, what the plan prints is what the query prints.
 abbrev pub RunsAsTheQuery : TypedQuery → Type 0
-RunsAsTheQuery q = (g : Geometry) (packets : List (List ℕ)) → All (λ words. length words ≡ 14) packets → plan_output (made_of q) g packets ≡ query_text q g packets
+RunsAsTheQuery q = (g : Geometry) (packets : List (List ℕ)) → All (λ words. length words ≡ 14) packets
+    → plan_output (made_of q) g packets ≡ query_text q g packets
 
 -- Whatever the text of the query's plan says reads the fields that the query reads, and prints over packets what the query prints.
 pub record IsAsTheQuery (q : TypedQuery) (made : Made) : Type 0 where
   pub reads : reads_in made ≡ reads_of q
-  pub prints : (g : Geometry) (packets : List (List ℕ)) → All (λ words. length words ≡ 14) packets → plan_output made g packets ≡ query_text q g packets
+  pub prints : (g : Geometry) (packets : List (List ℕ)) → All (λ words. length words ≡ 14) packets
+      → plan_output made g packets ≡ query_text q g packets
 
 -- The text of the query's plan is valid, and all that it says is as the query.
 pub record LoadsAsTheQuery (q : TypedQuery) : Type 0 where

@@ -4,4 +4,4 @@ use Rattle.final_queries.proofs.grouped.plain_rows.Given as goal
 
 -- the rows so far
 abbrev pub invariant-loop-row : goal.invariant-loop-row
-invariant-loop-row l = l.rows ≡ map plain_stored l.yielded
+invariant-loop-row l = l.rows.items ≡ map plain_stored l.yielded

@@ -10,7 +10,7 @@ pub invariant_of-self : goal.invariant_of-self
 invariant_of-self c = rw c.in_err-last-in-Some.ensures.err c.self.invariant
 
 pub invariant_of-self-in_err-last-in-None : goal.invariant_of-self-in_err-last-in-None
-invariant_of-self-in_err-last-in-None c = rw c.in_err-last-in-None.ensures.err c.self.invariant
+invariant_of-self-in_err-last-in-None c = rw (c.in_err-last-in-None.ensures.err, c.in_ok-reserve-in-None.ensures.entries) c.self.invariant
 
 pub invariant_of-self-in-Some-2 : goal.invariant_of-self-in-Some-2
 invariant_of-self-in-Some-2 c =
@@ -63,41 +63,37 @@ returns-in_ok-last-in-Some-clause-place c =
     let now : Merged = record { epochs = c.saturating_add.result; last = c.in_ok-last-in-Some.last } in
     place_kept c.args.key.now a.keys.entries (lines c.add_row.new.rows.items) c.in-Some.at now first (invariant_of-self-then-row_per_epoch c).1
 
-pub invariant_of-self-in-Ok : goal.invariant_of-self-in-Ok
-invariant_of-self-in-Ok c =
+pub invariant_of-self-in_err-reserve-in-None : goal.invariant_of-self-in_err-reserve-in-None
+invariant_of-self-in_err-reserve-in-None c = rw c.in_err-reserve-in-None.ensures.entries c.self.invariant
+
+pub invariant_of-self-in-None : goal.invariant_of-self-in-None
+invariant_of-self-in-None c =
     let a = c.self.inside in
     let none = by_key_eq (λ eq. lookup (λ k. eq c.args.key.now k.items) a.keys.entries ≡ None) (no_value _ c.in-None.ensures.found) in
     let items = c.in_ok-owned-in-None.ensures.items in
-    let entries = c.in-Ok.ensures.entries ∙ entries_pushed c.args.key.now a.keys.entries c.in_ok-owned-in-None.owned _ none items in
-    rw (entries, c.in_ok-last-in-None.ensures.ok, c.len-number.ensures.len) (
+    let kept = c.in_ok-reserve-in-None.ensures.entries in
+    let entries = rw kept at c.in_ok-insert-in-None.ensures.entries ∙ entries_pushed c.args.key.now a.keys.entries c.in_ok-owned-in-None.owned _ none items in
+    rw (entries, c.in_ok-last-in-None.ensures.ok, c.len-number.ensures.len, kept) (
     whole_first c.args.key.now c.args.initial.now a.keys.entries (lines a.rows.items) a.key_words a.state_words c.in_ok-owned-in-None.owned c.in_ok-last-in-None.last none items
     (c.in_ok-last-in-None.ensures.place ∙ length-lines a.rows.items)
     (c.requires.key ∙ sym (ap (λ s. s.key_words) c.self.view_is)) (c.requires.initial ∙ sym (ap (λ s. s.state_words) c.self.view_is)) c.self.invariant)
 
-pub returns-in-Ok-clause-ok : goal.returns-in-Ok-clause-ok
-returns-in-Ok-clause-ok c =
+pub returns-in_ok-insert-in-None-clause-ok : goal.returns-in_ok-insert-in-None-clause-ok
+returns-in_ok-insert-in-None-clause-ok c =
     let a = c.self.inside in
     let none = by_key_eq (λ eq. lookup (λ k. eq c.args.key.now k.items) a.keys.entries ≡ None) (no_value _ c.in-None.ensures.found) in
     let items = c.in_ok-owned-in-None.ensures.items in
-    let entries = c.in-Ok.ensures.entries ∙ entries_pushed c.args.key.now a.keys.entries c.in_ok-owned-in-None.owned _ none items in
-    rw (← c.self.view_is, entries, c.in_ok-last-in-None.ensures.ok, c.len-number.ensures.len) (
+    let kept = c.in_ok-reserve-in-None.ensures.entries in
+    let entries = rw kept at c.in_ok-insert-in-None.ensures.entries ∙ entries_pushed c.args.key.now a.keys.entries c.in_ok-owned-in-None.owned _ none items in
+    rw (← c.self.view_is, entries, c.in_ok-last-in-None.ensures.ok, c.len-number.ensures.len, kept) (
     counted_first c.args.key.now c.args.initial.now a.keys.entries (lines a.rows.items) a.key_words a.state_words c.args.row_per_epoch c.in_ok-owned-in-None.owned c.in_ok-last-in-None.last none items)
 
-pub returns-in-Ok-clause-place : goal.returns-in-Ok-clause-place
-returns-in-Ok-clause-place c =
+pub returns-in_ok-insert-in-None-clause-place : goal.returns-in_ok-insert-in-None-clause-place
+returns-in_ok-insert-in-None-clause-place c =
     let a = c.self.inside in
     let none = by_key_eq (λ eq. lookup (λ k. eq c.args.key.now k.items) a.keys.entries ≡ None) (no_value _ c.in-None.ensures.found) in
     let items = c.in_ok-owned-in-None.ensures.items in
-    let entries = c.in-Ok.ensures.entries ∙ entries_pushed c.args.key.now a.keys.entries c.in_ok-owned-in-None.owned _ none items in
+    let kept = c.in_ok-reserve-in-None.ensures.entries in
+    let entries = rw kept at c.in_ok-insert-in-None.ensures.entries ∙ entries_pushed c.args.key.now a.keys.entries c.in_ok-owned-in-None.owned _ none items in
     let now : Merged = record { epochs = 1; last = c.in_ok-last-in-None.last } in
-    rw entries (place_pushed c.args.key.now a.keys.entries (lines c.add_row-in-None.new.rows.items) c.in_ok-owned-in-None.owned now none items (rw entries at (invariant_of-self-in-Ok c).1))
-
-pub invariant_of-self-in-None : goal.invariant_of-self-in-None
-invariant_of-self-in-None c =
-    let back = lines_truncated c.self.inside.rows.items c.add_row-in-None.new.rows.items _ c.in_ok-last-in-None.last c.in_ok-last-in-None.ensures.place c.in_ok-last-in-None.ensures.ok in
-    rw (c.in_default.ensures.err, c.truncate.ensures.items, back) c.self.invariant
-
-pub returns-in_default-clause-err : goal.returns-in_default-clause-err
-returns-in_default-clause-err c =
-    let back = lines_truncated c.self.inside.rows.items c.add_row-in-None.new.rows.items _ c.in_ok-last-in-None.last c.in_ok-last-in-None.ensures.place c.in_ok-last-in-None.ensures.ok in
-    rw (c.in_default.ensures.err, c.truncate.ensures.items, back) c.self.view_is
+    rw entries (place_pushed c.args.key.now a.keys.entries (lines c.add_row-in-None.new.rows.items) c.in_ok-owned-in-None.owned now none items (rw entries at (invariant_of-self-in-None c).1))

@@ -1,0 +1,15 @@
+use Rattle.std.proofs.Common.{◌≡◌, ℕ, ◌<◌, List, length, slice_index, ap, ◌∙◌, subst}
+use Rattle.fold_class.specs.Step.{words_at}
+use Rattle.epoch_entry.proofs.StepWords.{history_written}
+use Rattle.epoch_entry.proofs.step.step_history.Goals as goal
+
+pub returns-clause-remembers : goal.returns-clause-remembers
+returns-clause-remembers g c =
+    let p = c.args.program.now in
+    let state = c.scatter.new.state in
+    let eh = c.as_slice-places.ensures in (
+      state,
+      history_written p c.args.history.now state c.requires.history (c.scatter.auto.state ∙ c.requires.state)
+          (subst (λ (l : List ℕ). (i : ℕ) → i < length l → slice_index state (slice_index l i) ≡ slice_index c.args.history.now i) eh c.scatter.ensures.written),
+      c.gather.ensures.words ∙ ap (words_at c.exec.new.state) eh ∙ ap (λ s. words_at s p.layout.history) c.exec.ensures.step,
+    )

@@ -1,0 +1,62 @@
+-- The places of the history variables are those of the history variables.
+use Rattle.std.proofs.Common.{◌≡◌, ℕ, zero, suc, Bool, true, false, ◌&&◌, ◌||◌, ◌==◌, nat_lt, if◌then◌else◌, List, [], ◌∷◌, ◌++◌, refl, sym, ap, ◌∙◌, arith}
+use Rattle.std.proofs.lemmas.Bool.Decides.{nat_tests}
+use mathlib.Core.Path.{fun_ext}
+use Rattle.query_lang.specs.declared.fold.TypedFold.{TypedFold}
+use Rattle.query_lang.specs.declared.fold.TypedStmt.{TypedStmt}
+use Rattle.query_lang.specs.Blocks.{block_of}
+use Rattle.query_lang.specs.Folds.{fold_states, fold_block}
+use Rattle.fold_class.specs.declared.class.Algebra.{Algebra}
+use Rattle.fold_class.specs.Depth.{is_history}
+use Rattle.fold_class.specs.Step.{places, history_places}
+use Rattle.fold_class.specs.Translations.{is_in, is_moving, is_translation_by}
+
+or_false : (b : Bool) → (b || false) ≡ b
+or_false true = refl
+or_false false = refl
+
+in_pushed : (xs : List ℕ) (n v : ℕ) → is_in (xs ++ n ∷ []) v ≡ (is_in xs v || (v == n))
+in_pushed [] n v = or_false (v == n)
+in_pushed (x ∷ xs) n v = ap (λ z. (v == x) || z) (in_pushed xs n v) ∙ three (v == x) (is_in xs v) (v == n)
+  where
+    three : (a b c : Bool) → (a || (b || c)) ≡ ((a || b) || c)
+    three true b c = refl
+    three false b c = refl
+
+in_places : (p : ℕ → Bool) (n v : ℕ) → is_in (places p n) v ≡ (nat_lt v n && p v)
+in_places p zero v = let off : nat_lt v 0 ≡ false = grind (arith, nat_tests) in sym (ap (λ b. b && p v) off)
+in_places p (suc n) v = at (in_places p n v) (p n) refl ∙ last (nat_lt v n) refl (v == n) refl
+  where
+    at : is_in (places p n) v ≡ (nat_lt v n && p v) → (b : Bool) → p n ≡ b → is_in (if b then places p n ++ n ∷ [] else places p n) v ≡ ((nat_lt v n && p v) || ((v == n) && b))
+    at before true e = in_pushed (places p n) n v ∙ ap (λ z. z || (v == n)) before ∙ ap (λ z. (nat_lt v n && p v) || z) (sym (and_true (v == n)))
+      where
+        and_true : (b : Bool) → (b && true) ≡ b
+        and_true true = refl
+        and_true false = refl
+    at before false e = before ∙ sym (or_false (nat_lt v n && p v)) ∙ ap (λ z. (nat_lt v n && p v) || z) (sym (and_off (v == n)))
+      where
+        and_off : (b : Bool) → (b && false) ≡ false
+        and_off true = refl
+        and_off false = refl
+
+    last : (l : Bool) → nat_lt v n ≡ l → (k : Bool) → (v == n) ≡ k → ((nat_lt v n && p v) || ((v == n) && p n)) ≡ (nat_lt v (suc n) && p v)
+    last true t k u =
+        let on : nat_lt v (suc n) ≡ true = grind (arith, nat_tests) in
+        let off : (v == n) ≡ false = grind (arith, nat_tests) in
+        ap (λ z. (z && p v) || ((v == n) && p n)) t ∙ ap (λ z. p v || (z && p n)) off ∙ or_false (p v) ∙ sym (ap (λ z. z && p v) on)
+    last false t true u =
+        let same : n ≡ v = grind (arith, nat_tests) in
+        let on : nat_lt v (suc n) ≡ true = grind (arith, nat_tests) in
+        ap (λ z. (z && p v) || ((v == n) && p n)) t ∙ ap (λ z. z && p n) u ∙ ap p same ∙ sym (ap (λ z. z && p v) on)
+    last false t false u =
+        let off : nat_lt v (suc n) ≡ false = grind (arith, nat_tests) in
+        ap (λ z. (z && p v) || ((v == n) && p n)) t ∙ ap (λ z. z && p n) u ∙ sym (ap (λ z. z && p v) off)
+
+-- the walk over a fold by the list of its history variables
+pub walked : (f : TypedFold) (algebra : Algebra) (states : ℕ) (list : List ℕ) (items : List TypedStmt) (r : Bool) → states ≡ fold_states f → list ≡ history_places f → items ≡ f.body →
+    is_moving algebra states (is_in list) true (block_of items) ≡ r → r ≡ is_translation_by algebra f
+walked f algebra states list items r es el ei er =
+    sym er
+    ∙ ap (λ z. is_moving algebra states (is_in list) true (block_of z)) ei
+    ∙ ap (λ z. is_moving algebra z (is_in list) true (fold_block f)) es
+    ∙ ap (λ z. is_moving algebra (fold_states f) z true (fold_block f)) (ap is_in el ∙ fun_ext (λ v. in_places (is_history f) (fold_states f) v))
