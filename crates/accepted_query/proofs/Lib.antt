@@ -1,0 +1,3 @@
+pub mod TrialSteps
+pub mod TrialParts
+pub mod TrialTyped

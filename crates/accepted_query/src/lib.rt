@@ -3,6 +3,8 @@
 
 mod answer;
 mod steps;
+mod trial;
 
 pub use answer::QueryAnswer;
 pub use steps::{AcceptedQuery, accept};
+pub use trial::{trial_is_accepted, trial_query};

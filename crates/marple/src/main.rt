@@ -54,7 +54,7 @@ fn run<L: Ledger>(rt: HostRuntime, alloc: Global, words: &[String], blank: Blank
 fn main(rt: HostRuntime) -> ExitCode {
     let status = match words_of(&rt) {
         Ok(words) => run::<Brand>(rt, rt.alloc(), words.as_slice(), Blank::new(1)),
-        Err(_) => Status::Memory.number(),
+        Err(AllocError) => Status::Memory.number(),
     };
     ExitCode::from(status)
 }

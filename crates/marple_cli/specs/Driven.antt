@@ -23,7 +23,7 @@ use Rattle.marple_cli.specs.declared.status.Status.{Status}
 use Rattle.marple_cli.specs.declared.status.Status.TheVariants as statuses
 use Rattle.marple_cli.specs.Call.{ToldOf}
 use Rattle.marple_cli.specs.Output.{read_packets, made_packets}
-use Rattle.marple_cli.specs.TrialQuery.{trial_query}
+use Rattle.accepted_query.specs.TrialQuery.{trial_query}
 
 -- the pipeline is of a plan of the query, and stands for the machines of the query's groupbys at the end of these packets
 abbrev pub StandsForEnd : Setting → Checked TypedQuery → (TypedQuery → List Packet) → PipelineView → Type 0

@@ -4,4 +4,3 @@ pub mod Driven
 pub mod Ends
 pub mod Output
 pub mod Piece
-pub mod TrialQuery

@@ -34,7 +34,7 @@ use Rattle.plan_file.specs.Texts.{IsRefused, Says}
 use Rattle.plan_file.specs.declared.answer.PlanFileAnswer.TheVariants.{Refused}
 use Rattle.plan_file.specs.declared.made.Made.{Made}
 use Rattle.plan_loader.specs.Meaning.{plan_output, reads_in}
-use Rattle.marple_cli.specs.TrialQuery.{trial_query}
+use Rattle.accepted_query.specs.TrialQuery.{trial_query}
 
 -- The text of the first operand; and where it is run as a plan, what its lines make, or the fault for which it is refused.
 pub record Source : Type 0 where

@@ -14,7 +14,6 @@ mod staging;
 mod status;
 mod switches;
 mod top;
-mod trial_query;
 
 pub use driven_query::Driven;
 pub use status::Status;

@@ -8,6 +8,7 @@ ghost use Rattle.stage_plan.specs.Planned.{IsPlanOf};
 ghost use Rattle.switch_core.specs.PlanLanes.{PipelineStands};
 ghost use Rattle.trace_reader.specs.Traces.{trace_fault, packets};
 ghost use Rattle.accepted_query.specs.Accepted.{accepted};
+ghost use Rattle.accepted_query.specs.TrialQuery.{trial_query};
 ghost use Rattle.query_run.specs.Runs.{query_ends};
 ghost use Rattle.query_run.specs.Views.{views_text};
 ghost use Rattle.trace_drive.specs.Drives.{words_of};
@@ -16,13 +17,11 @@ ghost use Rattle.driven_query.specs.Driven.{IsLeftBy, geometry_of, pipeline_in};
 ghost use Rattle.marple_cli.specs.Driven.{StandsForEnd};
 ghost use Rattle.marple_cli.specs.Ends.{TraceEnds, WriteEnds};
 ghost use Rattle.marple_cli.specs.Output.{made_packets, tables_text};
-ghost use Rattle.marple_cli.specs.TrialQuery.{trial_query};
 
 use crate::generate::CAPACITY;
 use crate::operands::read_trace;
 use crate::status::Status;
-use crate::trial_query::trial_query;
-use accepted_query::{AcceptedQuery, accept};
+use accepted_query::{AcceptedQuery, QueryAnswer, accept, trial_is_accepted, trial_query};
 use command_line::{Generation, Setting};
 use driven_query::{Driven, made_packets_are_whole, run_over_made, run_over_trace};
 use marple_base::{Inputs, Sink, Steps, Which};
@@ -82,8 +81,11 @@ pub fn run_made<O: Sink, L: Ledger>(
     ensures steps { steps.old ≤ steps.new }
 {
     made_packets_are_whole();
-    let Ok(query) = accept(alloc, trial_query()) else {
-        return Err(Status::Memory);
+    trial_is_accepted();
+    let query = match accept(alloc, trial_query()) {
+        Ok(query) => query,
+        Err(QueryAnswer::Refused(fault)) => return Err(Status::QueryRefused(fault)),
+        Err(QueryAnswer::Memory) => return Err(Status::Memory),
     };
     let made = simulate(alloc, generation.packets, generation.start, CAPACITY)?;
     let driven = run_over_made(alloc, setting, query, made, out, steps)?;

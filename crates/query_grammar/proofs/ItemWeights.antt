@@ -130,7 +130,7 @@ item_count (items.Stream d) = 0
 item_count (items.Final d) = 0
 item_count (items.Print table) = 0
 
-opens_fold : (d : ℕ) → Opens (Fold d) item_nodes item_count
+pub opens_fold : (d : ℕ) → Opens (Fold d) item_nodes item_count
 opens_fold d = opens_meaning (λ v. 0 + total stmt_nodes v.1.1.1) (λ v. 0 + total stmt_count v.1.1.1) item_nodes item_count
     (opens_then (λ v. 0 + total stmt_nodes v.1.1) (λ v. 0 + total stmt_count v.1.1)
     (named (λ v. 0 + total stmt_nodes v.1) (λ v. 0 + total stmt_count v.1) (weigh_then none none (total stmt_nodes) (total stmt_count) weigh_parameters (weigh_block (weigh_stmt d)))))

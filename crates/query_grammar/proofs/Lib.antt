@@ -14,5 +14,6 @@ pub mod Whole
 pub mod TextFaults
 pub mod Weights
 pub mod ItemWeights
+pub mod FoldTokens
 pub mod FewNames
 pub mod Numbered

@@ -5,3 +5,4 @@ pub mod Parser
 pub mod Reading
 pub mod Fault
 pub mod Texts
+pub mod FoldTokens

@@ -3,14 +3,19 @@
 ghost use Rattle.std.specs.Prelude.{◌≡◌, ◌↔◌, ℕ, List, [], ◌∷◌, ◌++◌};
 ghost use Rattle.query_lang.specs.declared.fault.QueryFault.{QueryFault};
 ghost use Rattle.query_lang.specs.declared.fault.Span.{Span};
+ghost use Rattle.query_lang.specs.declared.query.FoldDef.{FoldDef};
 ghost use Rattle.query_lang.specs.declared.query.Item.{Item};
+ghost use Rattle.query_lang.specs.declared.query.Item.TheVariants as items;
 ghost use Rattle.query_lang.specs.declared.query.Query.{Query};
 ghost use Rattle.query_lang.specs.declared.token.Token.{Token};
 ghost use Rattle.query_grammar.specs.declared.stop.Counts.{Counts};
 ghost use Rattle.query_grammar.specs.declared.stop.Stop.{Stop};
 ghost use Rattle.query_lang.specs.Limits.{IsReadable};
+ghost use Rattle.query_lang.specs.TypedFolds.{fold_nodes, fold_statements};
+ghost use Rattle.query_grammar.specs.FoldTokens.{nodes_among, statements_among};
+ghost use Rattle.query_grammar.specs.Language.{Leaf};
 ghost use Rattle.query_grammar.specs.Parser.{Done, Stopped};
-ghost use Rattle.query_grammar.specs.Grammar.{Derives};
+ghost use Rattle.query_grammar.specs.Grammar.{Derives, Fold};
 ghost use Rattle.query_grammar.specs.Reading.{parsed};
 ghost use Rattle.query_grammar.specs.Fault.{StandsAt, IsAccepted, HasEnd, Says};
 ghost use Rattle.query_grammar.specs.Texts.{IsFaultOf, IsQueryOf, parsed_text};
@@ -50,4 +55,12 @@ pub fn fault_of_text()
 /// each name that it gives has a number below the count of its names, which are at most 32,768.
 pub fn query_is_readable()
     ensures { (text : List ℕ) (q : Query) → IsQueryOf text q → IsReadable q }
+{}
+
+/// The tokens of a fold that the limits count, those that are nodes and those that begin a statement, are the nodes and the
+/// statements of its tree.
+pub fn fold_tokens_are_counted()
+    ensures nodes { (d : ℕ) (leaves : List Leaf) (f : FoldDef) → Fold d leaves (items.Fold f) → nodes_among leaves ≡ fold_nodes f }
+    ensures statements { (d : ℕ) (leaves : List Leaf) (f : FoldDef) → Fold d leaves (items.Fold f)
+        → statements_among leaves ≡ fold_statements f }
 {}

@@ -1,5 +1,11 @@
-use Rattle.std.proofs.Common.{◌≡◌, Ok, None, ap, sym, ◌∙◌, subst}
+use Rattle.std.proofs.Common.{◌≡◌, ℕ, List, Ok, Err, None, ap, sym, ◌∙◌, subst}
+use Rattle.query_lang.specs.declared.fault.QueryFault.{QueryFault}
+use Rattle.query_lang.specs.declared.typed.TypedQuery.{TypedQuery}
 use Rattle.accepted_query.specs.Accepted.{accepted}
+use Rattle.accepted_query.specs.Answers.{IsAnswerTo}
+use Rattle.accepted_query.specs.TrialQuery.{trial_query}
+use Rattle.accepted_query.specs.declared.answer.QueryAnswer.{QueryAnswer}
+use Rattle.accepted_query.specs.declared.answer.QueryAnswer.TheVariants.{Refused}
 use Rattle.query_run.specs.Answers.{BreaksOff}
 use Rattle.query_tables.specs.Tables.{query_text}
 use Rattle.trace_drive.specs.Drives.{words_of}
@@ -7,10 +13,21 @@ use Rattle.driven_query.specs.Driven.{geometry_of}
 use Rattle.query_run.proofs.Breaking.{nothing_taken}
 use Rattle.marple_cli.specs.Ends.{WriteEnds, status_for}
 use Rattle.marple_cli.specs.Output.{made_packets, tables_text}
-use Rattle.marple_cli.specs.TrialQuery.{trial_query}
 use Rattle.marple_cli.specs.declared.status.Status.TheVariants.{Memory}
 use Rattle.marple_cli.proofs.Limits.{err_told, made_ends}
 use Rattle.marple_cli.proofs.packets.run_made.Goals as goal
+
+-- the trial's query isn't refused
+never : (text : List ℕ) (answer : QueryAnswer) (fault : QueryFault) → text ≡ trial_query → (q : TypedQuery) × (accepted trial_query ≡ Ok q) → answer ≡ Refused fault → IsAnswerTo text answer → ⊥
+never text answer fault same trial is told =
+    let refused : accepted text ≡ Err fault = subst (IsAnswerTo text) is told in
+    let both : Ok trial.0 ≡ Err fault = sym trial.1 ∙ ap accepted (sym same) ∙ refused in
+    cc
+
+pub returns-in-Err-Refused-clause-err : goal.returns-in-Err-Refused-clause-err
+returns-in-Err-Refused-clause-err g c =
+    never c.trial_query.result.now c.in-Err-Refused.field-0 c.in-Err-Refused.fault c.trial_query.ensures c.trial_is_accepted.ensures
+    c.in-Err-Refused.field-0-is c.in-Err-Refused.ensures.err
 
 pub returns-in_err-made-clause-err : goal.returns-in_err-made-clause-err
 returns-in_err-made-clause-err g c =

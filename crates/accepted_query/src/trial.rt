@@ -1,7 +1,9 @@
-//! The query of a trial.
+// The query of a trial.
 
-ghost use Rattle.std.specs.Prelude.{◌≡◌};
-ghost use Rattle.marple_cli.specs.TrialQuery.{trial_query};
+ghost use Rattle.std.specs.Prelude.{◌≡◌, Ok};
+ghost use Rattle.query_lang.specs.declared.typed.TypedQuery.{TypedQuery};
+ghost use Rattle.accepted_query.specs.Accepted.{accepted};
+ghost use Rattle.accepted_query.specs.TrialQuery.{trial_query};
 
 const TRIAL_QUERY: &[u8] = b"def count([c], []) { c = c + 1; }\n\
 def lost([d], [tout]) { if (tout == infinity) { d = d + 1; } }\n\
@@ -27,3 +29,8 @@ pub fn trial_query() -> &'static [u8]
 {
     TRIAL_QUERY
 }
+
+/// The trial's query has no fault: read, typed and staged by the definitions.
+pub fn trial_is_accepted()
+    ensures { (q : TypedQuery) × (accepted trial_query ≡ Ok q) }
+{}
