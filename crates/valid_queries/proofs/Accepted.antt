@@ -1,8 +1,7 @@
 -- Where a text is accepted, its typed form is valid, and its folds start as words.
-use Rattle.std.proofs.Common.{◌≡◌, ℕ, List, [], ◌∷◌, Option, Some, None, Ok, sym, subst}
+use Rattle.std.proofs.Common.{◌≡◌, ℕ, List, [], ◌∷◌, Ok, sym, subst}
 use Rattle.std.specs.Prelude.{All}
 use Rattle.std.proofs.lemmas.List.Elements.{All-nil, All-head, All-tail, All-push, All-map}
-use Rattle.query_lang.specs.declared.fault.QueryFault.{QueryFault}
 use Rattle.query_lang.specs.declared.fold.TypedFold.{TypedFold}
 use Rattle.query_lang.specs.declared.query.FoldDef.{FoldDef}
 use Rattle.query_lang.specs.declared.query.Item.{Item}
@@ -11,36 +10,23 @@ use Rattle.query_lang.specs.declared.query.Query.{Query}
 use Rattle.query_lang.specs.declared.query.StateVar.{StateVar}
 use Rattle.query_lang.specs.declared.typed.TypedQuery.{TypedQuery}
 use Rattle.query_lang.specs.declared.typing.Given.{Given}
-use Rattle.query_lang.specs.Checks.{and_then}
 use Rattle.query_lang.specs.Typing.{checked, typed_names, given_of}
 use Rattle.query_lang.specs.Words.{IsWord, AreWords}
-use Rattle.query_grammar.specs.Texts.{IsQueryOf, parsed_text}
+use Rattle.query_grammar.specs.Texts.{IsQueryOf}
 use Rattle.query_grammar.proofs.Numbered.{readable}
-use Rattle.query_grammar.proofs.TextFaults.{query_of_text}
 use Rattle.query_types.proofs.ValidLaws.{query_valid}
 use Rattle.query_rules.specs.Context.{Entry, folds_in}
 use Rattle.query_rules.specs.FoldRules.{HasFold}
-use Rattle.query_rules.specs.QueryRules.{HasItem, HasItems, of_none, of_more, IsTyped}
-use Rattle.query_rules.proofs.QueryLaws.{query_sound}
-use Rattle.query_rules.proofs.Steps.{found_first, same_ok}
-use Rattle.accepted_query.specs.Accepted.{accepted, staged, unless_fault}
+use Rattle.query_rules.specs.QueryRules.{HasItem, HasItems, of_none, of_more}
+use Rattle.query_rules.proofs.QueryLaws.{query_complete}
+use Rattle.accepted_query.specs.Accepted.{accepted}
+use Rattle.accepted_rules.proofs.Accepted.{accepted_sound}
 use Rattle.valid_queries.specs.ValidLaws.{StartsAsWords, AcceptedAreValid, AcceptedStartAsWords}
 use Rattle.valid_queries.proofs.Items.{numbers}
 
-stage_same : (o : Option QueryFault) (p q : TypedQuery) → unless_fault o p ≡ Ok q → p ≡ q
-stage_same None p q e = same_ok p q e
-stage_same (Some fault) p q e = cc e
-
 -- an accepted text has a query, whose check gives the typed form
 pub parts : (text : List ℕ) (q : TypedQuery) → accepted text ≡ Ok q → (query : Query) × IsQueryOf text query × (checked query ≡ Ok q)
-unfolding accepted
-parts text q e =
-    let first = found_first (parsed_text text) (λ (z : Query). and_then (checked z) staged) q e in
-    let second = found_first (checked first.0) staged q first.2 in (
-      first.0,
-      query_of_text text first.0 first.1,
-      subst (λ (z : TypedQuery). checked first.0 ≡ Ok z) (stage_same _ second.0 q second.2) second.1,
-    )
+parts text q e = let p = accepted_sound text q e in (p.query, p.derives, query_complete p.query q p.typed)
 
 pub accepted_valid : AcceptedAreValid
 accepted_valid text q e = let p = parts text q e in query_valid p.0 q (readable text p.0 p.1) (numbers text p.0 p.1).0 p.2
@@ -76,10 +62,9 @@ all_start given names _ _ _ (of_more before i one rest all h more) words start =
 
 pub accepted_starts : AcceptedStartAsWords
 accepted_starts text q e =
-    let p = parts text q e in
-    let typed : IsTyped p.0 q = query_sound p.0 q p.2 in
-    let words : All StartsAsWords p.0.items = (numbers text p.0 p.1).1 in
-    let start : Starts typed.items =
-    all_start (given_of (typed_names p.0.names) p.0.items) (typed_names p.0.names) [] p.0.items typed.items typed.typed words
-    (All-nil start_words) in
-    subst (λ (z : TypedQuery). All start_words z.folds) (sym typed.is) start
+    let p = accepted_sound text q e in
+    let names : List (List ℕ) = typed_names p.query.names in
+    let words : All StartsAsWords p.query.items = (numbers text p.query p.derives).1 in
+    let start : Starts p.typed.items =
+    all_start (given_of names p.query.items) names [] p.query.items p.typed.items p.typed.typed words (All-nil start_words) in
+    subst (λ (z : TypedQuery). All start_words z.folds) (sym p.typed.is) start

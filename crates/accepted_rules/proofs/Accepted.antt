@@ -1,0 +1,67 @@
+-- The steps of acceptance, one after another, are the rules.
+use Rattle.std.proofs.Common.{◌≡◌, ℕ, List, Option, Some, None, Ok, Err, refl, sym, ap, subst, ◌∙◌}
+use Rattle.query_lang.specs.declared.fault.QueryFault.{QueryFault}
+use Rattle.query_lang.specs.declared.query.Query.{Query}
+use Rattle.query_lang.specs.declared.typed.TypedQuery.{TypedQuery}
+use Rattle.query_lang.specs.Checks.{and_then}
+use Rattle.query_lang.specs.Typing.{checked}
+use Rattle.query_grammar.specs.Texts.{parsed_text}
+use Rattle.query_grammar.proofs.TextFaults.{query_of_text, text_of_query, fault_of_text}
+use Rattle.query_rules.specs.QueryRules.{IsTyped}
+use Rattle.query_rules.proofs.FaultSteps.{by_next, no_fault}
+use Rattle.query_rules.proofs.QueryLaws.{query_sound, query_complete, no_form}
+use Rattle.query_rules.proofs.Steps.{found_first, then_next, same_ok}
+use Rattle.stage_plan.specs.Depths.{stage_fault}
+use Rattle.accepted_query.specs.Accepted.{accepted, staged, unless_fault}
+use Rattle.accepted_rules.specs.ByRules.{FitsStages, IsAcceptedAs, IsRefusedFor, by_grammar, by_typing, by_stages}
+use Rattle.accepted_rules.proofs.Stages.{fits_stages, no_stage_fault}
+
+stage_same : (o : Option QueryFault) (p q : TypedQuery) → unless_fault o p ≡ Ok q → (o ≡ None) × (p ≡ q)
+stage_same None p q e = (refl, same_ok p q e)
+stage_same (Some fault) p q e = cc e
+
+-- a text that is accepted
+pub accepted_sound : (text : List ℕ) (t : TypedQuery) → accepted text ≡ Ok t → IsAcceptedAs text t
+unfolding accepted
+accepted_sound text t e =
+    let first = found_first (parsed_text text) (λ (z : Query). and_then (checked z) staged) t e in
+    let second = found_first (checked first.0) staged t first.2 in
+    let stages = stage_same (stage_fault second.0) second.0 t second.2 in
+    let T : TypedQuery → Type 0 = λ z. IsTyped first.0 z in
+    let F : TypedQuery → Type 0 = λ z. FitsStages z in
+    record {
+      query = first.0;
+      derives = query_of_text text first.0 first.1;
+      typed = subst T stages.1 (query_sound first.0 second.0 second.1);
+      fits = subst F stages.1 (fits_stages second.0 stages.0);
+    }
+
+pub accepted_complete : (text : List ℕ) (t : TypedQuery) → IsAcceptedAs text t → accepted text ≡ Ok t
+unfolding accepted
+accepted_complete text t h =
+    then_next (parsed_text text) (λ (z : Query). and_then (checked z) staged) h.query (text_of_query text h.query h.derives)
+    ∙ then_next (checked h.query) staged t (query_complete h.query t h.typed)
+    ∙ ap (λ (o : Option QueryFault). unless_fault o t) (no_stage_fault t h.fits)
+
+pub accepted_once : (text : List ℕ) (t u : TypedQuery) → IsAcceptedAs text t → IsAcceptedAs text u → t ≡ u
+accepted_once text t u h k = same_ok t u (sym (accepted_complete text t h) ∙ accepted_complete text u k)
+
+-- a text that is refused
+
+too_deep : (o : Option QueryFault) (t : TypedQuery) (fault : QueryFault) → unless_fault o t ≡ Err fault → o ≡ Some fault
+too_deep None t fault e = cc e
+too_deep (Some found) t fault e = let same : found ≡ fault = cc e in ap Some same
+
+not_fit : (t : TypedQuery) (fault : QueryFault) → stage_fault t ≡ Some fault → FitsStages t → ⊥
+not_fit t fault e h = let both : (let o : Option QueryFault = Some fault in o) ≡ None = sym e ∙ no_stage_fault t h in cc both
+
+cause : (text : List ℕ) (fault : QueryFault) → accepted text ≡ Err fault → IsRefusedFor text fault
+unfolding accepted
+cause text fault e =
+    by_next (parsed_text text) (λ (z : Query). and_then (checked z) staged) fault e (λ is. by_grammar (fault_of_text text fault is)) (λ q p e.
+    by_next (checked q) staged fault e (λ is. by_typing q (query_of_text text q p) is (λ t h. no_form q fault t is h)) (λ t r e.
+    let deep = too_deep (stage_fault t) t fault e in
+    by_stages q t (query_of_text text q p) (query_sound q t r) deep (not_fit t fault deep)))
+
+pub refused : (text : List ℕ) (fault : QueryFault) → accepted text ≡ Err fault → IsRefusedFor text fault × ((t : TypedQuery) → IsAcceptedAs text t → ⊥)
+refused text fault e = (cause text fault e, λ t h. no_fault t fault (sym (accepted_complete text t h) ∙ e))

@@ -1,0 +1,40 @@
+-- Which texts are accepted: by the grammar, the rules and the depths of operations.
+use Rattle.std.specs.Prelude.{◌≡◌, ◌↔◌, ℕ, ◌≤◌, List, All, Some, Ok, Err}
+use Rattle.query_lang.specs.declared.fault.QueryFault.{QueryFault}
+use Rattle.query_lang.specs.declared.query.Query.{Query}
+use Rattle.query_lang.specs.declared.typed.TypedQuery.{TypedQuery}
+use Rattle.query_lang.specs.Typing.{checked}
+use Rattle.query_grammar.specs.Texts.{IsQueryOf, IsFaultOf}
+use Rattle.query_rules.specs.QueryRules.{IsTyped}
+use Rattle.stage_plan.specs.Depths.{query_depths, stage_fault}
+use Rattle.accepted_query.specs.Accepted.{accepted}
+
+-- no operation needs a stage past the 64th
+abbrev pub FitsStages : TypedQuery → Type 0
+FitsStages t = All (λ depth. depth ≤ 64) (query_depths t)
+
+-- The text is accepted with this typed form: a query derives from it, has this form by the rules, and fits the stages.
+pub record IsAcceptedAs (text : List ℕ) (t : TypedQuery) : Type 0 where
+  pub query : Query
+  pub derives : IsQueryOf text query
+  pub typed : IsTyped query t
+  pub fits : FitsStages t
+
+abbrev pub AcceptedByRules : Type 0
+AcceptedByRules = (text : List ℕ) (t : TypedQuery) → (accepted text ≡ Ok t) ↔ IsAcceptedAs text t
+
+abbrev pub AcceptedOnce : Type 0
+AcceptedOnce = (text : List ℕ) (t u : TypedQuery) → IsAcceptedAs text t → IsAcceptedAs text u → t ≡ u
+
+-- Why a text is refused: the fault is the first of the grammar; or a query derives that no form is typed of; or its form has a stream
+-- that is too deep.
+pub data IsRefusedFor (text : List ℕ) (fault : QueryFault) : Type 0 where
+  by_grammar : IsFaultOf text fault → IsRefusedFor text fault
+  by_typing : (q : Query) → IsQueryOf text q → checked q ≡ Err fault → ((t : TypedQuery) → IsTyped q t → ⊥) → IsRefusedFor text fault
+  by_stages : (q : Query) (t : TypedQuery) → IsQueryOf text q → IsTyped q t → stage_fault t ≡ Some fault → (FitsStages t → ⊥)
+      → IsRefusedFor text fault
+
+-- A text is refused for such a cause, and isn't accepted by the rules.
+abbrev pub RefusedByRules : Type 0
+RefusedByRules = (text : List ℕ) (fault : QueryFault) → accepted text ≡ Err fault
+    → IsRefusedFor text fault × ((t : TypedQuery) → IsAcceptedAs text t → ⊥)

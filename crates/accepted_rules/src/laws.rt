@@ -1,0 +1,20 @@
+// Laws that say which texts are accepted and why a text is refused, in the words of the grammar, the rules and the depths.
+
+ghost use Rattle.accepted_rules.specs.ByRules.{AcceptedByRules, AcceptedOnce, RefusedByRules};
+
+/// A text is accepted with a typed form exactly where a query derives from it, the rules give the query that form, and no
+/// operation of the form needs a stage past the 64th.
+pub fn accepted_by_rules()
+    ensures { AcceptedByRules }
+{}
+
+/// A text is accepted with one typed form at most.
+pub fn accepted_once()
+    ensures { AcceptedOnce }
+{}
+
+/// A text is refused with a fault that is the first of the grammar, or breaks a rule, or stands at a stream that is too deep;
+/// and with none where it is accepted.
+pub fn refused_by_rules()
+    ensures { RefusedByRules }
+{}
