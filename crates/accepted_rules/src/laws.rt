@@ -1,6 +1,7 @@
 // Laws that say which texts are accepted and why a text is refused, in the words of the grammar, the rules and the depths.
 
 ghost use Rattle.accepted_rules.specs.ByRules.{AcceptedByRules, AcceptedOnce, RefusedByRules};
+ghost use Rattle.accepted_rules.specs.TypingExamples.{ExpressionExamples, StreamExamples};
 
 /// A text is accepted with a typed form exactly where a query derives from it, the rules give the query that form, and no
 /// operation of the form needs a stage past the 64th.
@@ -17,4 +18,11 @@ pub fn accepted_once()
 /// and with none where it is accepted.
 pub fn refused_by_rules()
     ensures { RefusedByRules }
+{}
+
+/// Small expressions and streams, typed and refused: a filter on a fold's state, a mapped column beside the packet's field of
+/// its name, a key that stands twice, and a row for each kind of node.
+pub fn small_forms()
+    ensures expressions { ExpressionExamples }
+    ensures streams { StreamExamples }
 {}

@@ -4,4 +4,4 @@
 
 mod laws;
 
-pub use laws::{accepted_by_rules, accepted_once, refused_by_rules};
+pub use laws::{accepted_by_rules, accepted_once, refused_by_rules, small_forms};
