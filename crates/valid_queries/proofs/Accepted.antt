@@ -1,30 +1,35 @@
 -- Where a text is accepted, its typed form is valid, and its folds start as words.
-use Rattle.std.proofs.Common.{ℕ, List, [], ◌∷◌, sym, subst}
+use Rattle.std.proofs.Common.{◌≡◌, ℕ, List, [], ◌∷◌, Ok, sym, subst}
 use Rattle.std.specs.Prelude.{All}
 use Rattle.std.proofs.lemmas.List.Elements.{All-nil, All-head, All-tail, All-push, All-map}
 use Rattle.query_lang.specs.declared.fold.TypedFold.{TypedFold}
 use Rattle.query_lang.specs.declared.query.FoldDef.{FoldDef}
 use Rattle.query_lang.specs.declared.query.Item.{Item}
 use Rattle.query_lang.specs.declared.query.Item.TheVariants as item
+use Rattle.query_lang.specs.declared.query.Query.{Query}
 use Rattle.query_lang.specs.declared.query.StateVar.{StateVar}
 use Rattle.query_lang.specs.declared.typed.TypedQuery.{TypedQuery}
 use Rattle.query_lang.specs.declared.typing.Given.{Given}
-use Rattle.query_lang.specs.Typing.{typed_names, given_of}
+use Rattle.query_lang.specs.Typing.{checked, typed_names, given_of}
 use Rattle.query_lang.specs.Words.{IsWord, AreWords}
+use Rattle.query_grammar.specs.Texts.{IsQueryOf}
 use Rattle.query_grammar.proofs.Numbered.{readable}
 use Rattle.query_types.proofs.ValidLaws.{query_valid}
 use Rattle.query_rules.specs.Context.{Entry, folds_in}
 use Rattle.query_rules.specs.FoldRules.{HasFold}
 use Rattle.query_rules.specs.QueryRules.{HasItem, HasItems, of_none, of_more}
 use Rattle.query_rules.proofs.QueryLaws.{query_complete}
+use Rattle.accepted_query.specs.Accepted.{accepted}
 use Rattle.accepted_rules.proofs.Accepted.{accepted_sound}
 use Rattle.valid_queries.specs.ValidLaws.{StartsAsWords, AcceptedAreValid, AcceptedStartAsWords}
 use Rattle.valid_queries.proofs.Items.{numbers}
 
+-- an accepted text has a query, whose check gives the typed form
+pub parts : (text : List ℕ) (q : TypedQuery) → accepted text ≡ Ok q → (query : Query) × IsQueryOf text query × (checked query ≡ Ok q)
+parts text q e = let p = accepted_sound text q e in (p.query, p.derives, query_complete p.query q p.typed)
+
 pub accepted_valid : AcceptedAreValid
-accepted_valid text q e =
-    let p = accepted_sound text q e in
-    query_valid p.query q (readable text p.query p.derives) (numbers text p.query p.derives).0 (query_complete p.query q p.typed)
+accepted_valid text q e = let p = parts text q e in query_valid p.0 q (readable text p.0 p.1) (numbers text p.0 p.1).0 p.2
 
 -- ---- what folds start as
 
