@@ -1,10 +1,7 @@
 // Laws that say which texts are accepted and why a text is refused, in the words of the grammar, the rules and the depths.
 
 ghost use Rattle.accepted_rules.specs.ByRules.{AcceptedByRules, AcceptedOnce, RefusedByRules};
-<<<<<<< HEAD
-=======
 ghost use Rattle.accepted_rules.specs.TypingExamples.{ExpressionExamples, StreamExamples};
->>>>>>> 9a09d94fee3fb56c1b4979fcb431e658a35474f8
 
 /// A text is accepted with a typed form exactly where a query derives from it, the rules give the query that form, and no
 /// operation of the form needs a stage past the 64th.
@@ -22,8 +19,6 @@ pub fn accepted_once()
 pub fn refused_by_rules()
     ensures { RefusedByRules }
 {}
-<<<<<<< HEAD
-=======
 
 /// Small expressions and streams, typed and refused: a filter on a fold's state, a mapped column beside the packet's field of
 /// its name, a key that stands twice, and a row for each kind of node.
@@ -31,4 +26,3 @@ pub fn small_forms()
     ensures expressions { ExpressionExamples }
     ensures streams { StreamExamples }
 {}
->>>>>>> 9a09d94fee3fb56c1b4979fcb431e658a35474f8

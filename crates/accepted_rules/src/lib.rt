@@ -4,8 +4,4 @@
 
 mod laws;
 
-<<<<<<< HEAD
-pub use laws::{accepted_by_rules, accepted_once, refused_by_rules};
-=======
 pub use laws::{accepted_by_rules, accepted_once, refused_by_rules, small_forms};
->>>>>>> 9a09d94fee3fb56c1b4979fcb431e658a35474f8
