@@ -1,4 +1,4 @@
-//! A query of three tables over five packets, and what is printed of each prefix of its trace.
+//! A query of three tables over five packets, and what is printed of it.
 
 /// Counts packets, times of those that weren't dropped, and bytes out of sequence, by flow.
 pub const QUERY: &[u8] = b"def count([c], []) { c = c + 1; }\n\
@@ -25,23 +25,6 @@ pub const TRACE: &[u8] =
 /// The tables of the whole trace.
 pub const TABLES: &[u8] = AFTER_FIVE;
 
-const AFTER_NONE: &[u8] = b"table w final 0\n\
-srcip,dstip,srcport,dstport,proto,c\n\
-table u linear 0 0\n\
-srcip,dstip,srcport,dstport,proto,mark,epoch,epochs,t\n\
-table v linear 1 0\n\
-srcip,dstip,srcport,dstport,proto,mark,epoch,epochs,last,n\n";
-
-const AFTER_ONE: &[u8] = b"table w final 1\n\
-srcip,dstip,srcport,dstport,proto,c\n\
-167772161,167772417,1000,80,6,1\n\
-table u linear 0 1\n\
-srcip,dstip,srcport,dstport,proto,mark,epoch,epochs,t\n\
-167772161,167772417,1000,80,6,exact,*,1,15\n\
-table v linear 1 1\n\
-srcip,dstip,srcport,dstport,proto,mark,epoch,epochs,last,n\n\
-167772161,167772417,1000,80,6,exact,*,1,100,0\n";
-
 const AFTER_TWO: &[u8] = b"table w final 2\n\
 srcip,dstip,srcport,dstport,proto,c\n\
 167772161,167772417,1000,80,6,1\n\
@@ -53,19 +36,6 @@ srcip,dstip,srcport,dstport,proto,mark,epoch,epochs,t\n\
 table v linear 1 2\n\
 srcip,dstip,srcport,dstport,proto,mark,epoch,epochs,last,n\n\
 167772161,167772417,1000,80,6,exact,*,1,100,0\n\
-167772162,167772417,1001,80,6,exact,*,1,107,1\n";
-
-const AFTER_THREE: &[u8] = b"table w final 2\n\
-srcip,dstip,srcport,dstport,proto,c\n\
-167772161,167772417,1000,80,6,2\n\
-167772162,167772417,1001,80,6,1\n\
-table u linear 0 2\n\
-srcip,dstip,srcport,dstport,proto,mark,epoch,epochs,t\n\
-167772161,167772417,1000,80,6,exact,*,1,50\n\
-167772162,167772417,1001,80,6,exact,*,1,28\n\
-table v linear 1 2\n\
-srcip,dstip,srcport,dstport,proto,mark,epoch,epochs,last,n\n\
-167772161,167772417,1000,80,6,exact,*,1,200,0\n\
 167772162,167772417,1001,80,6,exact,*,1,107,1\n";
 
 const AFTER_FOUR: &[u8] = b"table w final 3\n\
@@ -102,29 +72,3 @@ srcip,dstip,srcport,dstport,proto,mark,epoch,epochs,last,n\n\
 
 /// What a run with a view behind every second packet writes, piece by piece.
 pub const VIEWS: [&[u8]; 5] = [b"view 2\n", AFTER_TWO, b"view 4\n", AFTER_FOUR, AFTER_FIVE];
-
-/// What prefixes of the trace give that have at least so many bytes, and fewer than the next line says: the text, or the
-/// complaint.
-pub const PREFIXES: [(usize, &[u8], &[u8]); 21] = [
-    (0, b"", b"marple: trace: NoHeader\n"),
-    (1, b"", b"marple: trace: FieldMissing(srcip)\n"),
-    (20, b"", b"marple: trace: FieldMissing(dstip)\n"),
-    (26, b"", b"marple: trace: FieldMissing(srcport)\n"),
-    (34, b"", b"marple: trace: FieldMissing(dstport)\n"),
-    (42, b"", b"marple: trace: FieldMissing(proto)\n"),
-    (48, b"", b"marple: trace: FieldMissing(payload_len)\n"),
-    (68, b"", b"marple: trace: FieldMissing(tcpseq)\n"),
-    (75, b"", b"marple: trace: FieldMissing(tin)\n"),
-    (79, b"", b"marple: trace: FieldMissing(tout)\n"),
-    (84, AFTER_NONE, b""),
-    (92, b"", b"marple: trace: FieldCount(1)\n"),
-    (141, AFTER_ONE, b""),
-    (144, b"", b"marple: trace: FieldCount(2)\n"),
-    (193, AFTER_TWO, b""),
-    (196, b"", b"marple: trace: FieldCount(3)\n"),
-    (247, AFTER_THREE, b""),
-    (250, b"", b"marple: trace: FieldCount(4)\n"),
-    (300, AFTER_FOUR, b""),
-    (303, b"", b"marple: trace: FieldCount(5)\n"),
-    (352, AFTER_FIVE, b""),
-];

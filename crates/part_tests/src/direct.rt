@@ -12,14 +12,14 @@ pub const QUERY: &[u8] = b"def all([last, changes, hash],[pkt_len]) {\n\
     r = groupby(pktstream, [srcip], all);\n\
     print r;\n";
 
-#[derive(Clone, Copy, Debug, PartialEq, Eq)]
+#[derive(Clone, Copy)]
 pub enum Key {
     First,
     Second,
 }
 
 /// An event of a lane.
-#[derive(Clone, Copy, Debug, PartialEq, Eq)]
+#[derive(Clone, Copy)]
 pub enum Event {
     Packet(Key),
     Evict,
@@ -88,8 +88,8 @@ impl TwoKeys {
         }
     }
 
-    /// A packet. A key that has no open epoch begins one, and in a bucket of one way that ends the other key's.
-    pub fn packet(&mut self, key: Key, length: u64, ways: usize) {
+    // A packet. A key that has no open epoch begins one, and in a bucket of one way that ends the other key's.
+    fn packet(&mut self, key: Key, length: u64, ways: usize) {
         self.latest = key;
         let (used, other) = self.by_use();
         if !used.is_open {
@@ -102,13 +102,25 @@ impl TwoKeys {
         used.fold(length);
     }
 
-    /// Ends the epoch of the key that was used longest ago, and says whether there was one.
-    pub fn evict(&mut self) -> bool {
+    // Ends the epoch of the key that was used longest ago, and says whether there was one.
+    fn evict(&mut self) -> bool {
         let (latest, other) = self.by_use();
         let least = if other.is_open { other } else { latest };
         let was_open = least.is_open;
         least.is_open = false;
         was_open
+    }
+
+    /// An event in a bucket of so many ways, whose packet has this length: whether it is an eviction that ended an epoch.
+    pub fn make(&mut self, event: Event, length: u64, ways: usize) -> bool {
+        match event {
+            Event::Packet(key) => {
+                self.packet(key, length, ways);
+                false
+            }
+            Event::Evict => self.evict(),
+            Event::Merge => false,
+        }
     }
 
     /// How many epochs are open.

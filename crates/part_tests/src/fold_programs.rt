@@ -22,9 +22,6 @@ pub(crate) const ACCUMULATE: &[u8] = b"def acc([s, t],[pkt_len]) { t = t + s; s 
 pub(crate) const MIX: &[u8] =
     b"def mix([s = 1, t = 1],[proto]) { if (proto == 1) { t = t + s; } else { s = s + t; } }";
 
-pub(crate) const IN_OR_OUT: &[u8] =
-    b"def io([a, b],[qsize, pkt_len]) { if (qsize > 2) { a = a + pkt_len; } else { b = b - 1; } }";
-
 pub(crate) const HASH: &[u8] = b"def h31([h],[pkt_len]) { h = h * 31 + pkt_len; }";
 
 pub(crate) const AVERAGE: &[u8] = b"def avg([e],[qsize]) { e = decay(e, 3) + qsize; }";

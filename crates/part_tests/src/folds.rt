@@ -1,11 +1,10 @@
-//! Folds from their text: runs of their bodies, the maps of one step, and products of maps.
+//! Folds from their text: the maps of one step, and products of maps.
 ghost use Rattle.std.specs.Prelude.{◌≡◌, ◌+◌, ◌*◌, ◌<◌, ◌≤◌, length};
 ghost use Rattle.fold_class.specs.Program.{IsProgram};
 ghost use Rattle.fold_class.specs.Rows.{element_size};
 
 use crate::fold_programs::{
-    ACCUMULATE, AVERAGE, DEEPEST, DOUBLE, FULL, HASH, IN_OR_OUT, MIX, OUT_OF_SEQUENCE, PEAK,
-    TWO_STEPS, program_of,
+    ACCUMULATE, DEEPEST, DOUBLE, FULL, HASH, MIX, OUT_OF_SEQUENCE, PEAK, TWO_STEPS, program_of,
 };
 use coeff_algebra::{Coeff, MaxPlus64, Wrapping64, apply_into, compose_into};
 use fold_class::{Algebra, FoldProgram};
@@ -16,67 +15,6 @@ use std::marker::Brand;
 use std::process::Abort;
 use std::sync::ledger::{Blank, Ledger};
 use std::test::Fail;
-
-/// What one run of a fold's body makes of a state.
-fn state_after<L: Ledger>(
-    rt: &impl Abort,
-    alloc: Global,
-    program: &FoldProgram,
-    state: &[u64],
-    args: &[u64],
-    blank: Blank,
-) -> Result<Vec<u64>, Fail>
-    requires name { blank.name ≡ L.name }
-    requires parts { blank.parts ≡ L.parts }
-    requires whole { 0 < blank.parts }
-{
-    let code = &program.code;
-    let mut after = state.to_vec(alloc)?;
-    let mut scratch = vec![in alloc; 7; code.scratch_words()]?;
-    let mut steps = Steps::<L>::new(blank);
-    assert_eq!(rt; after.len(), code.states());
-    assert_eq!(rt; args.len(), code.args());
-    code.exec(
-        after.as_mut_slice(),
-        args,
-        scratch.as_mut_slice(),
-        &mut steps,
-    );
-    Ok(after)
-}
-
-#[test]
-fn bodies(rt: HostRuntime) -> Result<(), Fail> {
-    // (the fold, a state, arguments, the state after them)
-    for (fold, state, args, after) in [
-        (
-            OUT_OF_SEQUENCE,
-            [15, 1].as_slice(),
-            [15, 5].as_slice(),
-            [20, 1].as_slice(),
-        ),
-        (OUT_OF_SEQUENCE, &[15, 1], &[16, 5], &[21, 2]),
-        (TWO_STEPS, &[3, 1, 2], &[3], &[5, 2, 3]),
-        (TWO_STEPS, &[0, 5, 2], &[3], &[u64::MAX - 1, 2, 3]),
-        (ACCUMULATE, &[3, 1], &[3], &[6, 4]),
-        (MIX, &[1, 1], &[1], &[1, 2]),
-        (MIX, &[1, 2], &[2], &[3, 2]),
-        (IN_OR_OUT, &[0, 0], &[3, 10], &[10, 0]),
-        (IN_OR_OUT, &[10, 0], &[0, 7], &[10, u64::MAX]),
-        (HASH, &[1], &[2], &[33]),
-        (AVERAGE, &[8], &[8], &[15]),
-        (DEEPEST, &[5], &[3], &[5]),
-        (PEAK, &[10], &[4], &[13]),
-        (FULL, &[5], &[], &[u64::MAX]),
-        (DOUBLE, &[1], &[], &[9223372036854775809]),
-        (DOUBLE, &[9223372036854775809], &[], &[9223372036854775809]),
-    ] {
-        let program = program_of(rt.alloc(), fold)?;
-        let made = state_after::<Brand>(&rt, rt.alloc(), &program, state, args, Blank::new(1))?;
-        assert_eq!(rt; made.as_slice(), after);
-    }
-    Ok(())
-}
 
 /// The rows of a program are over the variables and arguments of its layout.
 fn rows_known(program: &FoldProgram)

@@ -1,4 +1,4 @@
-//! Tests over the public contracts of the parts: folds, entries, stages, lanes, tables and views. They stand apart from the
+//! Tests over the public contracts of the parts: folds, entries and lanes. They stand apart from the
 //! parts, so that no crate is proved twice for its tests.
 #![tactic(auto)]
 
@@ -14,7 +14,3 @@ mod folds;
 mod kinds;
 #[cfg(test)]
 mod lanes;
-#[cfg(test)]
-mod stages;
-#[cfg(test)]
-mod views;
