@@ -1,4 +1,5 @@
-ghost use Rattle.std.specs.Prelude.{◌≡◌, ◌<◌, ◌↔◌, ℕ, Some, option_map, slice_get, ◌++◌, ◌∷◌, [], IfOk, OnErr, OnOk, length};
+ghost use Rattle.std.specs.Prelude.{◌≡◌, ◌<◌, ◌↔◌, ℕ, Some, option_map, slice_get, ◌++◌, ◌∷◌, [], IfOk};
+ghost use Rattle.std.specs.Prelude.{OnErr, OnOk, length};
 ghost use Rattle.backing_store.specs.SortedRows.{IsMade, sorted_rows};
 ghost use Rattle.backing_store.specs.Store.{AreOnce, AreRowsOf, IsLastRowOf, IsStore, counted, epochs_of, number_of};
 ghost use Rattle.backing_store.specs.StoreLines.{lines, shown, stored_keys};

@@ -20,7 +20,8 @@ Remembers p args history history' =
     (state : List ℕ) × HasHistory p history state × (history' ≡ words_at (code_step p.code state args) p.layout.history)
 
 -- the row is logged, the history takes it, and the map stays
-pub record IsLogged (p : FoldProgram) (args : ArgRow) (count : ℕ) (log history map' : List ℕ) (count' : ℕ) (log' history' map'' : List ℕ) : Type 0 where
+pub record IsLogged (p : FoldProgram) (args : ArgRow) (count : ℕ) (log history map' : List ℕ) (count' : ℕ)
+    (log' history' map'' : List ℕ) : Type 0 where
   pub counted : count' ≡ count + 1
   pub here : stored_at p.layout.args log' count ≡ args
   pub others : (other : ℕ) → other ≢ count → stored_at p.layout.args log' other ≡ stored_at p.layout.args log other
@@ -32,7 +33,9 @@ module _ {C : Type 0} (k : Elements C) (from_words : List ℕ → C) (size : ℕ
   pub record IsComposed (args : ArgRow) (history map' history' map'' step : List ℕ) : Type 0 where
     pub leaves : LeavesRows p.rows history args step history'
     pub composed : (i j : ℕ) → i < linear_rank p → j ≤ linear_rank p →
-        table_of from_words size (linear_rank p) map'' i j ≡ map_compose k (linear_rank p) (table_of from_words size (linear_rank p) step) (table_of from_words size (linear_rank p) map') i j
+        table_of from_words size (linear_rank p) map'' i j
+        ≡ map_compose k (linear_rank p) (table_of from_words size (linear_rank p) step)
+        (table_of from_words size (linear_rank p) map') i j
 
   abbrev pub Composes : ArgRow → List ℕ → List ℕ → List ℕ → List ℕ → Type 0
   Composes args history map' history' map'' = (step : List ℕ) × IsComposed args history map' history' map'' step
@@ -58,5 +61,7 @@ module _ {C : Type 0} (k : Elements C) (from_words : List ℕ → C) (size : ℕ
   -- the map is applied to the linear variables of a state, and the history is written
   pub record IsCarried (history map' state state' : List ℕ) : Type 0 where
     pub linear : (i : ℕ) → i < linear_rank p → slice_index state' (slice_index p.layout.linear i) ≡
-        k.to_word (map_apply k (linear_rank p) (table_of from_words size (linear_rank p) map') (λ j. k.embed (slice_index (words_at state p.layout.linear) j)) i)
-    pub remembered : (i : ℕ) → i < length p.layout.history → slice_index state' (slice_index p.layout.history i) ≡ slice_index history i
+        k.to_word (map_apply k (linear_rank p) (table_of from_words size (linear_rank p) map')
+        (λ j. k.embed (slice_index (words_at state p.layout.linear) j)) i)
+    pub remembered : (i : ℕ) → i < length p.layout.history
+        → slice_index state' (slice_index p.layout.history i) ≡ slice_index history i

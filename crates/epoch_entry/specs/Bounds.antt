@@ -21,7 +21,11 @@ greatest_state f = replicate (fold_states f) (2 ^ 64 - 1)
 
 -- the folding of a fold's bounds: the fold over three states side by side, with a row for each epoch
 abbrev pub bounds_folding_of : TypedFold → Folding
-bounds_folding_of f = record { step = step_beside (body f) (fold_states f); initial = beside (initial_state f) (least_state f) (greatest_state f); row_per_epoch = true }
+bounds_folding_of f = record {
+  step = step_beside (body f) (fold_states f);
+  initial = beside (initial_state f) (least_state f) (greatest_state f);
+  row_per_epoch = true;
+}
 
 -- what rows are folded to from the three states
 abbrev pub bounds_after : TypedFold → List ArgRow → List ℕ
@@ -36,7 +40,11 @@ abbrev pub bounds_sizes : FoldProgram → Sizes
 bounds_sizes p = record { args = p.layout.args; entry = bounds_words p; state = bounds_words p; scratch = code_scratch p.code }
 
 abbrev pub bounds_folding : FoldProgram → Folding
-bounds_folding p = record { step = step_beside (code_step p.code) (length p.layout.initial); initial = start_beside (length p.layout.initial) p.layout.initial; row_per_epoch = true }
+bounds_folding p = record {
+  step = step_beside (code_step p.code) (length p.layout.initial);
+  initial = start_beside (length p.layout.initial) p.layout.initial;
+  row_per_epoch = true;
+}
 
 -- the entry is what its rows are folded to
 abbrev pub BoundsStand : FoldProgram → List ℕ → List ArgRow → Type 0
@@ -55,7 +63,8 @@ pub record IsBoundsKindOf (f : TypedFold) (sizes : Sizes) (folding : Folding) (o
   pub entry : sizes.entry ≡ 3 * fold_states f
   pub initial : folding.initial ≡ (bounds_folding_of f).initial
   pub row_per_epoch : folding.row_per_epoch ≡ true
-  pub step : (state row : List ℕ) → length state ≡ 3 * fold_states f → folding.step state row ≡ (bounds_folding_of f).step state row
+  pub step : (state row : List ℕ) → length state ≡ 3 * fold_states f
+      → folding.step state row ≡ (bounds_folding_of f).step state row
   pub folded : (rows : List ArgRow) → fold folding.step folding.initial rows ≡ bounds_after f rows
   pub «open» : opening ≤ 3 * fold_states f
   pub absorb : absorbing ≤ 3 * (f.nodes + 4 * f.statements + 1)

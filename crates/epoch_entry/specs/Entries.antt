@@ -1,5 +1,6 @@
 -- The words of an entry, by the program of a fold, and what they stand for.
-use Rattle.std.specs.Prelude.{◌≡◌, ℕ, ◌+◌, ◌*◌, ◌<◌, ◌≤◌, max, false, true, List, length, take, drop, slice_index, All}
+use Rattle.std.specs.Prelude.{◌≡◌, ℕ, ◌+◌, ◌*◌, ◌<◌, ◌≤◌, max, false, true, List, length, take, drop}
+use Rattle.std.specs.Prelude.{slice_index, All}
 use Rattle.query_lang.specs.declared.fold.TypedFold.{TypedFold}
 use Rattle.query_lang.specs.Words.{IsWord, AreWords}
 use Rattle.epoch_model.specs.Keys.{ArgRow}
@@ -24,7 +25,12 @@ pub record IsRow (args : ℕ) (row : ArgRow) : Type 0 where
 -- Of any fold: the entry is the state.
 
 abbrev pub other_sizes : FoldProgram → Sizes
-other_sizes p = record { args = p.layout.args; entry = length p.layout.initial; state = length p.layout.initial; scratch = code_scratch p.code }
+other_sizes p = record {
+  args = p.layout.args;
+  entry = length p.layout.initial;
+  state = length p.layout.initial;
+  scratch = code_scratch p.code;
+}
 
 abbrev pub other_folding : FoldProgram → Folding
 other_folding p = record { step = code_step p.code; initial = p.layout.initial; row_per_epoch = true }
@@ -38,7 +44,8 @@ other_open p = length p.layout.initial
 abbrev pub other_absorb : FoldProgram → ℕ
 other_absorb p = code_steps p.code
 
--- Of a linear fold: the number of logged rows, a log, the history, and the map of the rows after the log, whose elements have so many words.
+-- Of a linear fold: the number of logged rows, a log, the history, and the map of the rows after the log, whose
+-- elements have so many words.
 
 -- how many linear variables there are
 abbrev pub linear_rank : FoldProgram → ℕ
@@ -61,7 +68,12 @@ abbrev pub scratch_words : ℕ → FoldProgram → ℕ
 scratch_words size p = map_words size p + map_words size p + rows_scratch p.rows + code_scratch p.code + length p.layout.initial
 
 abbrev pub linear_sizes : ℕ → FoldProgram → Sizes
-linear_sizes size p = record { args = p.layout.args; entry = entry_words size p; state = length p.layout.initial; scratch = scratch_words size p }
+linear_sizes size p = record {
+  args = p.layout.args;
+  entry = entry_words size p;
+  state = length p.layout.initial;
+  scratch = scratch_words size p;
+}
 
 abbrev pub linear_folding : FoldProgram → Folding
 linear_folding p = record { step = code_step p.code; initial = p.layout.initial; row_per_epoch = false }
@@ -85,16 +97,23 @@ logged_rows args count log = list_of count (stored_at args log)
 
 module _ {C : Type 0} (k : Elements C) (from_words : List ℕ → C) (size : ℕ) where
   abbrev pub linear_entry : FoldProgram → ℕ → List ℕ → List ℕ → List ℕ → LinearEntry C
-  linear_entry p count log history map' = record { log = logged_rows p.layout.args count log; history = history; table = table_of from_words size (linear_rank p) map' }
+  linear_entry p count log history map' = record {
+    log = logged_rows p.layout.args count log;
+    history = history;
+    table = table_of from_words size (linear_rank p) map';
+  }
 
   -- the parts stand for a list of argument rows. Where all of these are logged, the map keeps each word; and that of a translation has
   -- the identity beside its last column
   pub record PartsStand (p : FoldProgram) (count : ℕ) (log history map' : List ℕ) (rows : List ArgRow) : Type 0 where
     pub fit : All (IsRow p.layout.args) rows
     pub stands : (f : TypedFold) → IsProgramOf f p → LinearStandsFor k f p.depth (linear_entry p count log history map') rows
-    pub kept : (f : TypedFold) → IsProgramOf f p → length rows ≤ p.depth → (x : ℕ → ℕ) → ((j : ℕ) → IsWord (x j)) → (i : ℕ) → i < dimension f →
+    pub kept : (f : TypedFold) → IsProgramOf f p → length rows ≤ p.depth → (x : ℕ → ℕ)
+        → ((j : ℕ) → IsWord (x j)) → (i : ℕ)
+        → i < dimension f →
         k.to_word (map_apply k (dimension f) (table_of from_words size (linear_rank p) map') (λ j. k.embed (x j)) i) ≡ x i
-    pub unit : p.moves ≡ true → (i j : ℕ) → i < linear_rank p → j < linear_rank p → table_of from_words size (linear_rank p) map' i j ≡ unit_at k i j
+    pub unit : p.moves ≡ true → (i j : ℕ) → i < linear_rank p → j < linear_rank p
+        → table_of from_words size (linear_rank p) map' i j ≡ unit_at k i j
 
   -- the words of an entry do
   abbrev pub LinearStands : FoldProgram → List ℕ → List ArgRow → Type 0

@@ -20,4 +20,5 @@ pub record IsShaped (p : FoldProgram) : Type 0 where
   pub history_inside : All (λ v. v < length p.layout.initial) p.layout.history
   pub linear_ascends : IsAscending p.layout.linear
   pub history_ascends : IsAscending p.layout.history
-  pub apart : (i j : ℕ) → i < length p.layout.history → j < length p.layout.linear → slice_index p.layout.history i ≢ slice_index p.layout.linear j
+  pub apart : (i j : ℕ) → i < length p.layout.history → j < length p.layout.linear
+      → slice_index p.layout.history i ≢ slice_index p.layout.linear j

@@ -30,7 +30,9 @@ impl AnyEpochs {
     /// The entries of a program's fold: their sizes, what they are folded to and their bounds on steps are the fold's.
     pub fn of(program: FoldProgram) -> AnyEpochs
         requires { IsProgram program }
-        ensures kind { (f : TypedFold) → IsProgramOf f program → IsKindOf f (⟦<AnyEpochs as EpochKind>⟧.sizes result) (⟦<AnyEpochs as EpochKind>⟧.folding result) (⟦<AnyEpochs as EpochKind>⟧.open_bound result) (⟦<AnyEpochs as EpochKind>⟧.absorb_bound result) }
+        ensures kind { (f : TypedFold) → IsProgramOf f program
+            → IsKindOf f (⟦<AnyEpochs as EpochKind>⟧.sizes result) (⟦<AnyEpochs as EpochKind>⟧.folding result)
+            (⟦<AnyEpochs as EpochKind>⟧.open_bound result) (⟦<AnyEpochs as EpochKind>⟧.absorb_bound result) }
     {
         match program.class {
             Class::Linear => match program.algebra {
@@ -45,7 +47,9 @@ impl AnyEpochs {
     /// its bounds.
     pub fn for_entries(entries: Entries, program: FoldProgram) -> AnyEpochs
         requires { IsProgram program }
-        ensures kind { (f : TypedFold) → IsProgramOf f program → IsKindFor entries f (⟦<AnyEpochs as EpochKind>⟧.sizes result) (⟦<AnyEpochs as EpochKind>⟧.folding result) (⟦<AnyEpochs as EpochKind>⟧.open_bound result) (⟦<AnyEpochs as EpochKind>⟧.absorb_bound result) }
+        ensures kind { (f : TypedFold) → IsProgramOf f program
+            → IsKindFor entries f (⟦<AnyEpochs as EpochKind>⟧.sizes result) (⟦<AnyEpochs as EpochKind>⟧.folding result)
+            (⟦<AnyEpochs as EpochKind>⟧.open_bound result) (⟦<AnyEpochs as EpochKind>⟧.absorb_bound result) }
     {
         match entries {
             Entries::Folds => AnyEpochs::of(program),
@@ -60,15 +64,40 @@ impl AnyEpochs {
 impl EpochKind for AnyEpochs {
     ghost use Rattle.epoch_entry.specs.declared.any.AnyEpochs.TheVariants.{Linear, Maxima, Other, Bounds};
 
-    ghost sizes = { elim [ Linear k ↦ ⟦<LinearEpochs<Wrapping64> as EpochKind>⟧.sizes k | Maxima k ↦ ⟦<LinearEpochs<MaxPlus64> as EpochKind>⟧.sizes k | Other k ↦ ⟦<OtherEpochs as EpochKind>⟧.sizes k | Bounds k ↦ ⟦<BoundsEpochs as EpochKind>⟧.sizes k ] };
+    ghost sizes = { elim [
+      | Linear k ↦ ⟦<LinearEpochs<Wrapping64> as EpochKind>⟧.sizes k
+      | Maxima k ↦ ⟦<LinearEpochs<MaxPlus64> as EpochKind>⟧.sizes k
+      | Other k ↦ ⟦<OtherEpochs as EpochKind>⟧.sizes k
+      | Bounds k ↦ ⟦<BoundsEpochs as EpochKind>⟧.sizes k
+    ] };
 
-    ghost folding = { elim [ Linear k ↦ ⟦<LinearEpochs<Wrapping64> as EpochKind>⟧.folding k | Maxima k ↦ ⟦<LinearEpochs<MaxPlus64> as EpochKind>⟧.folding k | Other k ↦ ⟦<OtherEpochs as EpochKind>⟧.folding k | Bounds k ↦ ⟦<BoundsEpochs as EpochKind>⟧.folding k ] };
+    ghost folding = { elim [
+      | Linear k ↦ ⟦<LinearEpochs<Wrapping64> as EpochKind>⟧.folding k
+      | Maxima k ↦ ⟦<LinearEpochs<MaxPlus64> as EpochKind>⟧.folding k
+      | Other k ↦ ⟦<OtherEpochs as EpochKind>⟧.folding k
+      | Bounds k ↦ ⟦<BoundsEpochs as EpochKind>⟧.folding k
+    ] };
 
-    ghost stands = { elim [ Linear k ↦ ⟦<LinearEpochs<Wrapping64> as EpochKind>⟧.stands k | Maxima k ↦ ⟦<LinearEpochs<MaxPlus64> as EpochKind>⟧.stands k | Other k ↦ ⟦<OtherEpochs as EpochKind>⟧.stands k | Bounds k ↦ ⟦<BoundsEpochs as EpochKind>⟧.stands k ] };
+    ghost stands = { elim [
+      | Linear k ↦ ⟦<LinearEpochs<Wrapping64> as EpochKind>⟧.stands k
+      | Maxima k ↦ ⟦<LinearEpochs<MaxPlus64> as EpochKind>⟧.stands k
+      | Other k ↦ ⟦<OtherEpochs as EpochKind>⟧.stands k
+      | Bounds k ↦ ⟦<BoundsEpochs as EpochKind>⟧.stands k
+    ] };
 
-    ghost open_bound = { elim [ Linear k ↦ ⟦<LinearEpochs<Wrapping64> as EpochKind>⟧.open_bound k | Maxima k ↦ ⟦<LinearEpochs<MaxPlus64> as EpochKind>⟧.open_bound k | Other k ↦ ⟦<OtherEpochs as EpochKind>⟧.open_bound k | Bounds k ↦ ⟦<BoundsEpochs as EpochKind>⟧.open_bound k ] };
+    ghost open_bound = { elim [
+      | Linear k ↦ ⟦<LinearEpochs<Wrapping64> as EpochKind>⟧.open_bound k
+      | Maxima k ↦ ⟦<LinearEpochs<MaxPlus64> as EpochKind>⟧.open_bound k
+      | Other k ↦ ⟦<OtherEpochs as EpochKind>⟧.open_bound k
+      | Bounds k ↦ ⟦<BoundsEpochs as EpochKind>⟧.open_bound k
+    ] };
 
-    ghost absorb_bound = { elim [ Linear k ↦ ⟦<LinearEpochs<Wrapping64> as EpochKind>⟧.absorb_bound k | Maxima k ↦ ⟦<LinearEpochs<MaxPlus64> as EpochKind>⟧.absorb_bound k | Other k ↦ ⟦<OtherEpochs as EpochKind>⟧.absorb_bound k | Bounds k ↦ ⟦<BoundsEpochs as EpochKind>⟧.absorb_bound k ] };
+    ghost absorb_bound = { elim [
+      | Linear k ↦ ⟦<LinearEpochs<Wrapping64> as EpochKind>⟧.absorb_bound k
+      | Maxima k ↦ ⟦<LinearEpochs<MaxPlus64> as EpochKind>⟧.absorb_bound k
+      | Other k ↦ ⟦<OtherEpochs as EpochKind>⟧.absorb_bound k
+      | Bounds k ↦ ⟦<BoundsEpochs as EpochKind>⟧.absorb_bound k
+    ] };
 
     fn args_words(&self) -> usize {
         match self {

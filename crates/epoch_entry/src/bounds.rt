@@ -26,7 +26,9 @@ impl BoundsEpochs {
     pub fn of(program: FoldProgram) -> BoundsEpochs
         requires { IsProgram program }
         ensures program { result.program ≡ program }
-        ensures kind { (f : TypedFold) → IsProgramOf f program → IsBoundsKindOf f (⟦<BoundsEpochs as EpochKind>⟧.sizes result) (⟦<BoundsEpochs as EpochKind>⟧.folding result) (⟦<BoundsEpochs as EpochKind>⟧.open_bound result) (⟦<BoundsEpochs as EpochKind>⟧.absorb_bound result) }
+        ensures kind { (f : TypedFold) → IsProgramOf f program
+            → IsBoundsKindOf f (⟦<BoundsEpochs as EpochKind>⟧.sizes result) (⟦<BoundsEpochs as EpochKind>⟧.folding result)
+            (⟦<BoundsEpochs as EpochKind>⟧.open_bound result) (⟦<BoundsEpochs as EpochKind>⟧.absorb_bound result) }
     {
         BoundsEpochs { program }
     }

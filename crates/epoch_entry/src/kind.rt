@@ -80,6 +80,7 @@ pub trait EpochKind: Drop {
         requires entry { length entry.now ≡ (sizes self.now).entry }
         requires state { length state.old ≡ (sizes self.now).state }
         requires scratch { length scratch.old ≡ (sizes self.now).scratch }
-        ensures merged { (rows : List ArgRow) → stands self.now entry.now rows → MayTake (folding self.now) state.old → state.new ≡ fold (folding self.now).step state.old rows }
+        ensures merged { (rows : List ArgRow) → stands self.now entry.now rows → MayTake (folding self.now) state.old
+            → state.new ≡ fold (folding self.now).step state.old rows }
         ensures at_least { steps.old ≤ steps.new };
 }

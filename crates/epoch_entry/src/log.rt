@@ -13,7 +13,8 @@ use std::sync::ledger::Ledger;
 pub(crate) fn log_args<L: Ledger>(row: usize, args: &[u64], log: &mut [u64], steps: &mut Steps<L>)
     requires { row * length args.now + length args.now ≤ length log.old }
     ensures here { stored_at (length args.now) log.new row ≡ args.now }
-    ensures others { (other : ℕ) → other ≢ row → stored_at (length args.now) log.new other ≡ stored_at (length args.now) log.old other }
+    ensures others { (other : ℕ) → other ≢ row
+        → stored_at (length args.now) log.new other ≡ stored_at (length args.now) log.old other }
     ensures steps { steps.new ≡ steps.old + length args.now }
 {
     let start = row * args.len();

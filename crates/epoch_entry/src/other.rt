@@ -26,7 +26,9 @@ impl OtherEpochs {
     pub fn of(program: FoldProgram) -> OtherEpochs
         requires { IsProgram program }
         ensures program { result.program ≡ program }
-        ensures kind { (f : TypedFold) → IsProgramOf f program → program.class ≡ Class.Other → IsKindOf f (⟦<OtherEpochs as EpochKind>⟧.sizes result) (⟦<OtherEpochs as EpochKind>⟧.folding result) (⟦<OtherEpochs as EpochKind>⟧.open_bound result) (⟦<OtherEpochs as EpochKind>⟧.absorb_bound result) }
+        ensures kind { (f : TypedFold) → IsProgramOf f program → program.class ≡ Class.Other
+            → IsKindOf f (⟦<OtherEpochs as EpochKind>⟧.sizes result) (⟦<OtherEpochs as EpochKind>⟧.folding result)
+            (⟦<OtherEpochs as EpochKind>⟧.open_bound result) (⟦<OtherEpochs as EpochKind>⟧.absorb_bound result) }
     {
         OtherEpochs { program }
     }

@@ -38,7 +38,8 @@ pub(crate) fn scatter<L: Ledger>(
     requires ascending { IsAscending places.now }
     requires words { length words.now ≡ length places.now }
     ensures written { (i : ℕ) → i < length places.now → slice_index state.new (slice_index places.now i) ≡ slice_index words.now i }
-    ensures others { (v : ℕ) → ((i : ℕ) → i < length places.now → slice_index places.now i ≢ v) → slice_index state.new v ≡ slice_index state.old v }
+    ensures others { (v : ℕ) → ((i : ℕ) → i < length places.now → slice_index places.now i ≢ v)
+        → slice_index state.new v ≡ slice_index state.old v }
     ensures steps { steps.new ≡ steps.old + length places.now }
 {
     for (at, v) in places.iter().enumerate() {

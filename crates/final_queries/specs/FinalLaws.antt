@@ -15,7 +15,8 @@ use Rattle.final_queries.specs.Finals.{IsTable, table_shape, final_table}
 -- The table of a groupby may be read, where the keys of its uses have the heading's key columns and its states the other columns.
 abbrev pub GroupTablesAreRead : Type 0
 GroupTablesAreRead = (heading : Heading) (f : Folding) (g : Geometry) (uses : List Use)
-    → All (λ u. length u.key ≡ length heading.key_names) uses → ((rows : List ArgRow) → length (folded f rows) ≡ length heading.state_names)
+    → All (λ u. length u.key ≡ length heading.key_names) uses
+    → ((rows : List ArgRow) → length (folded f rows) ≡ length heading.state_names)
     → IsTable (group_table heading f g uses)
 
 -- The table of a valid final over tables that may be read may be read too, and has the final's shape.
@@ -31,5 +32,7 @@ pub record AreAlike (f g : Folding) : Type 0 where
 
 -- They make the same tables.
 pub record AlikeFoldingsMakeOneTable : Type 0 where
-  pub by_uses : (heading : Heading) (f g : Folding) (geometry : Geometry) (uses : List Use) → AreAlike f g → group_table heading f geometry uses ≡ group_table heading g geometry uses
-  pub by_closed : (heading : Heading) (f g : Folding) (closed : List Epoch) → AreAlike f g → closed_table heading f closed ≡ closed_table heading g closed
+  pub by_uses : (heading : Heading) (f g : Folding) (geometry : Geometry) (uses : List Use) → AreAlike f g
+      → group_table heading f geometry uses ≡ group_table heading g geometry uses
+  pub by_closed : (heading : Heading) (f g : Folding) (closed : List Epoch) → AreAlike f g
+      → closed_table heading f closed ≡ closed_table heading g closed

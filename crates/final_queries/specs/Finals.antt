@@ -1,5 +1,7 @@
 -- Tables made of tables, as functions on lists of rows.
-use Rattle.std.specs.Prelude.{◌≡◌, ℕ, ◌-◌, ◌≤◌, Bool, true, false, ◌&&◌, ◌||◌, ◌==◌, nat_lt, List, [], ◌∷◌, ◌++◌, length, map, filter, filter_map, find, fold, count_by, All, slice_get, Option, Some, None, option_map, unwrap_or}
+use Rattle.std.specs.Prelude.{◌≡◌, ℕ, ◌-◌, ◌≤◌, Bool, true, false, ◌&&◌, ◌||◌, ◌==◌, nat_lt, List, []}
+use Rattle.std.specs.Prelude.{◌∷◌, ◌++◌, length, map, filter, filter_map, find, fold, count_by, All, slice_get, Option, Some}
+use Rattle.std.specs.Prelude.{None, option_map, unwrap_or}
 use Rattle.std.specs.Ordering.{is_lt}
 use Rattle.query_lang.specs.declared.fold.TypedExpr.{TypedExpr}
 use Rattle.query_lang.specs.declared.fold.TypedFold.{TypedFold}
@@ -40,7 +42,8 @@ is_of_key key row = key_eq row.key key
 
 -- `filter`: the rows where the condition holds
 abbrev pub filtered_rows : TypedExpr → List Row → List Row
-filtered_rows condition rows = map (λ row. plain_row row.key row.values) (filter (λ row. holds (expr_value condition (columns_of row))) rows)
+filtered_rows condition rows = map (λ row. plain_row row.key row.values)
+    (filter (λ row. holds (expr_value condition (columns_of row))) rows)
 
 -- `map`: each row with the new values behind its own
 unfoldable pub mapped_row : List TypedExpr → Row → Row

@@ -39,5 +39,6 @@ closed_table heading f closed = record {
 
 -- The epochs that are closed at the end of the trace give the groupby's table.
 abbrev pub ClosedGiveTheGroupTable : Type 0
-ClosedGiveTheGroupTable = (heading : Heading) (f : Folding) (g : Geometry) (uses : List Use) (packets : ℕ) → HasRoom g → IsInTrace packets uses
+ClosedGiveTheGroupTable = (heading : Heading) (f : Folding) (g : Geometry) (uses : List Use) (packets : ℕ) → HasRoom g
+    → IsInTrace packets uses
     → closed_table heading f (end_of g uses packets).closed ≡ group_table heading f g uses

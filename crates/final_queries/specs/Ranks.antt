@@ -12,7 +12,8 @@ rank_of column place row = record { word = record { 0 = column_at column row }; 
 -- the ranks of the rows that are read, where the first row has this place
 abbrev pub ranks_from : ℕ → ℕ → List Row → List Rank
 ranks_from column place [] = []
-ranks_from column place (row ∷ rows) = if is_read row.mark then rank_of column place row ∷ ranks_from column (suc place) rows else ranks_from column (suc place) rows
+ranks_from column place (row ∷ rows) = if is_read row.mark then rank_of column place row
+    ∷ ranks_from column (suc place) rows else ranks_from column (suc place) rows
 
 -- the one rank goes before the other
 abbrev pub is_before : Rank → Rank → Bool

@@ -37,7 +37,8 @@ fn fold_args_in<L: Ledger>(
     requires states { code.now.states ≡ store.old.state_words }
     requires args { length args.now ≡ code.now.args }
     requires scratch { length scratch.old ≡ code_scratch code.now }
-    ensures ok { OnOk result ((f : AnyFold) (epochs : List Epoch) → IsCodeOf f code.now → initial_state f ≡ initial.now → StoreHolds (whole_folding f) store.old epochs
+    ensures ok { OnOk result ((f : AnyFold) (epochs : List Epoch) → IsCodeOf f code.now → initial_state f ≡ initial.now
+        → StoreHolds (whole_folding f) store.old epochs
         → StoreHolds (whole_folding f) store.new (epochs ++ record { key = key.now; rows = args.now ∷ [] } ∷ [])) }
     ensures key_words { store.new.key_words ≡ store.old.key_words }
     ensures state_words { store.new.state_words ≡ store.old.state_words }
@@ -72,7 +73,8 @@ fn fold_row<L: Ledger>(
     requires states { code.now.states ≡ store.old.state_words }
     requires all_args { length args.now ≡ code.now.args }
     requires scratch { length scratch.old ≡ code_scratch code.now }
-    ensures ok { OnOk result ((f : AnyFold) (epochs : List Epoch) → IsCodeOf f code.now → initial_state f ≡ start.now → StoreHolds (whole_folding f) store.old epochs
+    ensures ok { OnOk result ((f : AnyFold) (epochs : List Epoch) → IsCodeOf f code.now → initial_state f ≡ start.now
+        → StoreHolds (whole_folding f) store.old epochs
         → StoreHolds (whole_folding f) store.new (epochs ++ row_epochs keys.now args.now (reads (row.now ∷ [])))) }
     ensures key_words { store.new.key_words ≡ store.old.key_words }
     ensures state_words { store.new.state_words ≡ store.old.state_words }
@@ -111,7 +113,8 @@ fn fold_rows<L: Ledger>(
     requires states { code.now.states ≡ length start.now }
     requires all_args { length args.now ≡ code.now.args }
     requires rows { All (λ row. length (columns_of row) ≡ width) rows.now }
-    ensures holds { IfOk result (λ store. (f : AnyFold) → IsCodeOf f code.now → initial_state f ≡ start.now → StoreHolds (whole_folding f) store (row_epochs keys.now args.now (reads rows.now))) }
+    ensures holds { IfOk result (λ store. (f : AnyFold) → IsCodeOf f code.now → initial_state f ≡ start.now
+        → StoreHolds (whole_folding f) store (row_epochs keys.now args.now (reads rows.now))) }
     ensures steps { steps.old ≤ steps.new }
 {
     let mut store = BackingStore::new(alloc, keys.len(), start.len());

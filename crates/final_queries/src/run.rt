@@ -5,7 +5,8 @@ ghost use Rattle.query_lang.specs.declared.fold.TypedFold.{TypedFold as AnyFold}
 ghost use Rattle.query_lang.specs.Folds.{IsValidFold, IsValidTerm, fold_args};
 ghost use Rattle.query_lang.specs.Terms.{term_of};
 ghost use Rattle.query_lang.specs.TypedQueries.{AreNames, AreSlots, IsValidFinal, final_shape};
-ghost use Rattle.final_queries.specs.Finals.{IsTable, table_shape, rows_read, name_text, filtered_rows, mapped_rows, grouped_rows, joined_rows, top_rows, final_rows, final_table};
+ghost use Rattle.final_queries.specs.Finals.{IsTable, table_shape, rows_read, name_text, filtered_rows, mapped_rows, grouped_rows};
+ghost use Rattle.final_queries.specs.Finals.{joined_rows, top_rows, final_rows, final_table};
 
 use crate::grouped::grouped;
 use crate::joined::joined;

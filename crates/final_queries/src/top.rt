@@ -1,6 +1,7 @@
 // The rows of a table that are greatest in one column.
 
-ghost use Rattle.std.specs.Prelude.{◌≡◌, ◌+◌, ◌-◌, ◌^◌, ◌<◌, All, Some, length, map, nat_lt, count_by, slice_get, IfOk};
+ghost use Rattle.std.specs.Prelude.{◌≡◌, ◌+◌, ◌-◌, ◌^◌, ◌<◌, All, Some, length, map, nat_lt, count_by, slice_get};
+ghost use Rattle.std.specs.Prelude.{IfOk};
 ghost use Rattle.epoch_model.specs.Keys.{IsAscending};
 ghost use Rattle.final_queries.specs.Finals.{HasColumns, column_at, columns_of, top_rows};
 ghost use Rattle.final_queries.specs.Joining.{reads};

@@ -14,12 +14,14 @@ pub record LinearEntry (C : Type 0) : Type 0 where
   pub table : ℕ → ℕ → C
 
 -- it stands for a list of argument rows, where the fold has depth k
-pub record LinearStandsFor {C : Type 0} (e : Elements C) (f : TypedFold) (k : ℕ) (entry : LinearEntry C) (rows : List (List ℕ)) : Type 0 where
+pub record LinearStandsFor {C : Type 0} (e : Elements C) (f : TypedFold) (k : ℕ) (entry : LinearEntry C)
+    (rows : List (List ℕ)) : Type 0 where
   pub logged : entry.log ≡ take k rows
   pub history : entry.history ≡ words_at (folded f (initial_state f) rows) (history_places f)
   pub has_word : (i : ℕ) → i < dimension f → (j : ℕ) × (j ≤ dimension f) × IsWordOf e (entry.table i j)
   pub carries : (state : List ℕ) → length state ≡ fold_states f → AreWords state → (i : ℕ) → i < dimension f →
-      e.to_word (map_apply e (dimension f) entry.table (λ j. e.embed (slice_index (words_at (folded f state (take k rows)) (linear_places f)) j)) i)
+      e.to_word (map_apply e (dimension f) entry.table
+      (λ j. e.embed (slice_index (words_at (folded f state (take k rows)) (linear_places f)) j)) i)
       ≡ slice_index (words_at (folded f state rows) (linear_places f)) i
 
 -- an entry of any other fold is its state

@@ -70,7 +70,8 @@ abbrev pub kinds_after : (Op → Role) → Block → (ℕ → Kind) → ℕ → 
 kinds_after roles End kinds = kinds
 kinds_after roles (Set v e rest) kinds = kinds_after roles rest (update kinds v (expr_kind roles e kinds))
 kinds_after roles (Fork c a b rest) kinds =
-    kinds_after roles rest (chosen_kinds (expr_kind roles c kinds) (kinds_after roles a kinds) (kinds_after roles b kinds) (marked b (marked a kinds)))
+    kinds_after roles rest (chosen_kinds (expr_kind roles c kinds) (kinds_after roles a kinds) (kinds_after roles b kinds)
+    (marked b (marked a kinds)))
 
 -- at the start history variables and arguments are Pure, and linear variables Affine
 abbrev pub kinds_first : TypedFold → ℕ → Kind

@@ -91,6 +91,8 @@ module _ {C : Type 0} (k : Elements C) (dimension : ℕ) where
 -- the operators of an algebra are the sums and products of its elements
 pub record IsAlgebraOf (algebra : Algebra) {C : Type 0} (k : Elements C) : Type 0 where
   pub sum_value : (op : Op) → role algebra op ≡ Sum → (a b : C) → k.to_word (k.add a b) ≡ op_value op (k.to_word a) (k.to_word b)
-  pub difference_value : (op : Op) → role algebra op ≡ Difference → (a b : C) → IsWord (k.to_word b) → k.to_word (k.add a (k.mul (k.embed minus_one) b)) ≡ op_value op (k.to_word a) (k.to_word b)
-  pub product_value : (op : Op) → role algebra op ≡ Product → (a b : C) → IsWordOf k a → IsWordOf k b → k.to_word (k.mul a b) ≡ op_value op (k.to_word a) (k.to_word b)
+  pub difference_value : (op : Op) → role algebra op ≡ Difference → (a b : C) → IsWord (k.to_word b)
+      → k.to_word (k.add a (k.mul (k.embed minus_one) b)) ≡ op_value op (k.to_word a) (k.to_word b)
+  pub product_value : (op : Op) → role algebra op ≡ Product → (a b : C) → IsWordOf k a → IsWordOf k b
+      → k.to_word (k.mul a b) ≡ op_value op (k.to_word a) (k.to_word b)
   pub product_comm : (op : Op) → role algebra op ≡ Product → (x y : ℕ) → op_value op x y ≡ op_value op y x

@@ -28,9 +28,11 @@ pub record IsStateWith (f : TypedFold) (history state : List ℕ) : Type 0 where
 
 -- what a map and a history are after one step from a state: the map takes the linear variables to their words after the body,
 -- each row of it has an element that is a word, and the history has its words after the body
-pub record IsStepFrom {C : Type 0} (k : Elements C) (from_words : List ℕ → C) (size : ℕ) (f : TypedFold) (state args map' history' : List ℕ) : Type 0 where
+pub record IsStepFrom {C : Type 0} (k : Elements C) (from_words : List ℕ
+    → C) (size : ℕ) (f : TypedFold) (state args map' history' : List ℕ) : Type 0 where
   pub linear : (i : ℕ) → i < dimension f →
-      k.to_word (map_apply k (dimension f) (table_of from_words size (dimension f) map') (λ j. k.embed (slice_index (words_at state (linear_places f)) j)) i)
+      k.to_word (map_apply k (dimension f) (table_of from_words size (dimension f) map')
+      (λ j. k.embed (slice_index (words_at state (linear_places f)) j)) i)
       ≡ slice_index (words_at (body f state args) (linear_places f)) i
   pub has_word : (i : ℕ) → i < dimension f → HasWord k (dimension f) (table_of from_words size (dimension f) map' i)
   pub history : words_at (body f state args) (history_places f) ≡ history'
@@ -39,7 +41,8 @@ pub record IsStepFrom {C : Type 0} (k : Elements C) (from_words : List ℕ → C
 -- that history
 abbrev pub WritesElements : {C : Type 0} → Elements C → (List ℕ → C) → ℕ → TypedFold → Rows → Type 0
 WritesElements k from_words size f rows =
-    (history args map' history' state : List ℕ) → IsStateWith f history state → length args ≡ fold_args f → AreWords args → LeavesRows rows history args map' history' →
+    (history args map' history' state : List ℕ) → IsStateWith f history state → length args ≡ fold_args f → AreWords args
+    → LeavesRows rows history args map' history' →
     IsStepFrom k from_words size f state args map' history'
 
 -- the same over the elements of an algebra
@@ -54,11 +57,13 @@ pub record IsRowsOf (f : TypedFold) (rows : Rows) : Type 0 where
   pub linear : rows.linear ≡ linear_places f
   pub history : rows.history ≡ history_places f
   pub writes : class_of f ≡ Linear → WritesAlgebra (algebra_of f) f rows
-  pub steps : rows_steps rows ≤ (fold_states f + 1) * (f.nodes + 4 * f.statements + 1) + 2 * element_size (algebra_of f) * (fold_states f + 1) * (fold_states f + 1)
+  pub steps : rows_steps rows ≤ (fold_states f + 1) * (f.nodes + 4 * f.statements + 1)
+      + 2 * element_size (algebra_of f) * (fold_states f + 1) * (fold_states f + 1)
 
 -- the number of each variable among the history or the linear variables
 abbrev pub origin_of : TypedFold → ℕ → Origin
-origin_of f v = if is_history f v then Remembered (length (places (is_history f) v)) else Carried (length (places (λ v. not (is_history f v)) v))
+origin_of f v = if is_history f v then Remembered (length (places (is_history f) v)) else Carried
+    (length (places (λ v. not (is_history f v)) v))
 
 abbrev pub origins_of : TypedFold → List Origin
 origins_of f = list_of (fold_states f) (origin_of f)

@@ -1,5 +1,6 @@
 -- The rows of one step of a fold, as code computes them: one run for each column, over the parts of the variables.
-use Rattle.std.specs.Prelude.{◌≡◌, ℕ, ◌+◌, ◌*◌, ◌<◌, ◌≤◌, ◌==◌, if◌then◌else◌, List, [], map, length, slice_index, All}
+use Rattle.std.specs.Prelude.{◌≡◌, ℕ, ◌+◌, ◌*◌, ◌<◌, ◌≤◌, ◌==◌, if◌then◌else◌, List, [], map, length}
+use Rattle.std.specs.Prelude.{slice_index, All}
 use Rattle.fold_code.specs.Machine.{run, at, steps_of}
 use Rattle.fold_code.specs.Meaning.{Code}
 use Rattle.coeff_algebra.specs.Elements.{Elements}
@@ -39,8 +40,8 @@ rows_words rows = rows_dimension rows * (rows_dimension rows + 1) * element_size
 abbrev pub rows_scratch : Rows → ℕ
 rows_scratch rows = (length rows.origins + length rows.code.instrs) * 3
 
--- the steps of a run with elements of so many words: each column begins with the parts of the variables, runs the code and writes one element for each row;
--- in the end the history is written
+-- the steps of a run with elements of so many words: each column begins with the parts of the variables, runs the code
+-- and writes one element for each row; in the end the history is written
 abbrev pub steps_with : ℕ → Rows → ℕ
 steps_with size rows =
     let d = rows_dimension rows in
@@ -58,7 +59,8 @@ module _ {C : Type 0} (k : Elements C) where
   -- the parts of the variables at the end of a column
   abbrev pub column_after : Rows → ℕ → List ℕ → List ℕ → List (Part C)
   column_after rows column history args =
-      run (parts (column_shares k (rows_dimension rows) column) rows.algebra) rows.code.instrs (map (λ w. Fixed w) args) (map (first_part column history) rows.origins) []
+      run (parts (column_shares k (rows_dimension rows) column) rows.algebra) rows.code.instrs (map (λ w. Fixed w) args)
+      (map (first_part column history) rows.origins) []
 
   -- the element of the map in this row and column
   abbrev pub entry_of : Rows → List ℕ → List ℕ → ℕ → ℕ → C
@@ -72,12 +74,15 @@ fixed_word (Fixed w) = w
 fixed_word _ = 0
 
 -- the map's words are those of its elements, and the history's words are those that the last column ends with
-pub record Leaves {C : Type 0} (k : Elements C) (words : C → List ℕ) (size : ℕ) (rows : Rows) (history args map' history' : List ℕ) : Type 0 where
+pub record Leaves {C : Type 0} (k : Elements C) (words : C
+    → List ℕ) (size : ℕ) (rows : Rows) (history args map' history' : List ℕ) : Type 0 where
   pub entries : (i c : ℕ) → i < rows_dimension rows → c ≤ rows_dimension rows →
       stored_entry size (rows_dimension rows) map' i c ≡ words (entry_of k rows history args i c)
   pub long : length history' ≡ length rows.history
   pub kept : (i : ℕ) → i < length rows.history →
-      slice_index history' i ≡ fixed_word (at (parts (column_shares k (rows_dimension rows) (rows_dimension rows)) rows.algebra) (column_after k rows (rows_dimension rows) history args) (slice_index rows.history i))
+      slice_index history' i ≡ fixed_word
+      (at (parts (column_shares k (rows_dimension rows) (rows_dimension rows)) rows.algebra)
+      (column_after k rows (rows_dimension rows) history args) (slice_index rows.history i))
 
 -- the same over the algebra of the rows
 abbrev pub leaves_in : Algebra → Rows → List ℕ → List ℕ → List ℕ → List ℕ → Type 0

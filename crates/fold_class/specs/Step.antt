@@ -1,5 +1,6 @@
 -- The affine map of one run of a fold's body on its linear variables.
-use Rattle.std.specs.Prelude.{ℕ, zero, suc, ◌+◌, Bool, not, ◌==◌, if◌then◌else◌, List, [], ◌∷◌, ◌++◌, map, slice_index}
+use Rattle.std.specs.Prelude.{ℕ, zero, suc, ◌+◌, Bool, not, ◌==◌, if◌then◌else◌, List, [], ◌∷◌, ◌++◌, map}
+use Rattle.std.specs.Prelude.{slice_index}
 use Rattle.query_lang.specs.declared.fold.TypedFold.{TypedFold}
 use Rattle.query_lang.specs.Folds.{fold_states, fold_block}
 use Rattle.fold_code.specs.Tree.{after_in}
@@ -39,12 +40,14 @@ words_at state places = map (slice_index state) places
 module _ {C : Type 0} (k : Elements C) (algebra : Algebra) (f : TypedFold) where
   -- at the start a history variable is its word, and a linear variable its own share
   abbrev pub first_row : List ℕ → ℕ → Part (ℕ → C)
-  first_row state v = if is_history f v then Fixed (slice_index state v) else Share (λ column. if column == rank f v then k.one else k.zero)
+  first_row state v = if is_history f v then Fixed (slice_index state v) else Share
+      (λ column. if column == rank f v then k.one else k.zero)
 
   -- the rows of the variables after one run of the body
   abbrev pub step_rows : List ℕ → List ℕ → List (Part (ℕ → C))
   step_rows state args =
-      after_in (parts (row_shares k (dimension f)) algebra) (Fixed 1) (fold_block f) (map (λ w. Fixed w) args) (list_of (fold_states f) (first_row state))
+      after_in (parts (row_shares k (dimension f)) algebra) (Fixed 1) (fold_block f) (map (λ w. Fixed w) args)
+      (list_of (fold_states f) (first_row state))
 
   -- one column of them
   abbrev pub first_column : ℕ → List ℕ → ℕ → Part C
@@ -52,7 +55,8 @@ module _ {C : Type 0} (k : Elements C) (algebra : Algebra) (f : TypedFold) where
 
   abbrev pub step_column : ℕ → List ℕ → List ℕ → List (Part C)
   step_column column state args =
-      after_in (parts (column_shares k (dimension f) column) algebra) (Fixed 1) (fold_block f) (map (λ w. Fixed w) args) (list_of (fold_states f) (first_column column state))
+      after_in (parts (column_shares k (dimension f) column) algebra) (Fixed 1) (fold_block f) (map (λ w. Fixed w) args)
+      (list_of (fold_states f) (first_column column state))
 
 -- a part as a share
 abbrev pub share_of : {A : Type 0} → Shares A → Part A → A

@@ -21,10 +21,13 @@ pub record Fitting (f : TypedFold) (state args : List ℕ) (x : ℕ → ℕ) : T
   pub linear : (v : ℕ) → v < fold_states f → is_history f v ≡ false → x (rank f v) ≡ slice_index state v
 
 -- the row of each variable gives its word after the body, and some element of it is a word; a history variable is fixed
-pub record IsStepOf {C : Type 0} (k : Elements C) (algebra : Algebra) (f : TypedFold) (state args : List ℕ) (x : ℕ → ℕ) : Type 0 where
+pub record IsStepOf {C : Type 0} (k : Elements C) (algebra : Algebra) (f : TypedFold) (state args : List ℕ) (x : ℕ
+    → ℕ) : Type 0 where
   pub value : (v : ℕ) → v < fold_states f →
-      row_value k (dimension f) x (share_of (row_shares k (dimension f)) (at (parts (row_shares k (dimension f)) algebra) (step_rows k algebra f state args) v)) ≡ slice_index (body f state args) v
+      row_value k (dimension f) x (share_of (row_shares k (dimension f))
+      (at (parts (row_shares k (dimension f)) algebra) (step_rows k algebra f state args) v)) ≡ slice_index (body f state args) v
   pub has_word : (v : ℕ) → v < fold_states f →
-      HasWord k (dimension f) (share_of (row_shares k (dimension f)) (at (parts (row_shares k (dimension f)) algebra) (step_rows k algebra f state args) v))
+      HasWord k (dimension f) (share_of (row_shares k (dimension f))
+      (at (parts (row_shares k (dimension f)) algebra) (step_rows k algebra f state args) v))
   pub history : (v : ℕ) → v < fold_states f → is_history f v ≡ true →
       at (parts (row_shares k (dimension f)) algebra) (step_rows k algebra f state args) v ≡ Fixed (slice_index (body f state args) v)

@@ -8,7 +8,8 @@ use Rattle.fold_class.specs.Parts.{Part, Fixed, Share, Lost}
 -- the part that three words hold, where an element has this many words
 abbrev pub part_of : {C : Type 0} → (List ℕ → C) → ℕ → List ℕ → Part C
 part_of from_words size ws =
-    if slice_index ws 0 == 0 then Fixed (slice_index ws 1) else (if slice_index ws 0 == 1 then Share (from_words (take size (drop 1 ws))) else Lost)
+    if slice_index ws 0 == 0 then Fixed (slice_index ws 1) else
+    (if slice_index ws 0 == 1 then Share (from_words (take size (drop 1 ws))) else Lost)
 
 abbrev pub part_at : {C : Type 0} → (List ℕ → C) → ℕ → List ℕ → ℕ → Part C
 part_at from_words size ws place = element_at (part_of from_words size) 3 ws place

@@ -12,7 +12,8 @@ abbrev first : ℕ → Bool
 first v = v == 0
 
 abbrev out_of_order : Block
-out_of_order = Fork (Operation Ne (Read 0) (Read 2)) (Set 1 (Operation Add (Read 1) (Literal 1)) End) End (Set 0 (Operation Add (Read 2) (Read 3)) End)
+out_of_order = Fork (Operation Ne (Read 0) (Read 2)) (Set 1 (Operation Add (Read 1) (Literal 1)) End) End
+    (Set 0 (Operation Add (Read 2) (Read 3)) End)
 
 pub out_of_order_moves : is_moving Sums 2 first true out_of_order ≡ true
 out_of_order_moves = refl
@@ -35,5 +36,6 @@ turned_is_none = refl
 pub product_is_none : is_moving Sums 1 none true (Set 0 (Operation Mul (Literal 2) (Read 0)) End) ≡ false
 product_is_none = refl
 
-pub guarded_is_none : is_moving Sums 1 none true (Fork (Operation Gt (Read 0) (Literal 5)) (Set 0 (Operation Add (Read 0) (Literal 1)) End) End End) ≡ false
+pub guarded_is_none : is_moving Sums 1 none true
+    (Fork (Operation Gt (Read 0) (Literal 5)) (Set 0 (Operation Add (Read 0) (Literal 1)) End) End End) ≡ false
 guarded_is_none = refl

@@ -1,5 +1,6 @@
 -- Folds that move each linear variable by what the history and the arguments alone give.
-use Rattle.std.specs.Prelude.{◌≡◌, ℕ, ◌+◌, ◌%◌, ◌^◌, ◌<◌, max, Bool, true, false, not, ◌&&◌, ◌||◌, ◌==◌, nat_lt, if◌then◌else◌, List, [], ◌∷◌, length, slice_index}
+use Rattle.std.specs.Prelude.{◌≡◌, ℕ, ◌+◌, ◌%◌, ◌^◌, ◌<◌, max, Bool, true, false, not, ◌&&◌, ◌||◌}
+use Rattle.std.specs.Prelude.{◌==◌, nat_lt, if◌then◌else◌, List, [], ◌∷◌, length, slice_index}
 use Rattle.query_lang.specs.declared.fold.Op.{Op}
 use Rattle.query_lang.specs.declared.fold.Op.TheVariants.{Add, Sub, Max}
 use Rattle.query_lang.specs.Terms.{Term, Literal, Read, Negation, Operation}
@@ -42,7 +43,8 @@ module _ (algebra : Algebra) (states : ℕ) (known : ℕ → Bool) where
   is_move v (Read s) = s == v
   is_move v (Negation e) = false
   is_move v (Operation op a b) =
-      (moves_left algebra op && (is_move v a && names_known states known b)) || (moves_right algebra op && (names_known states known a && is_move v b))
+      (moves_left algebra op && (is_move v a && names_known states known b)) ||
+      (moves_right algebra op && (names_known states known a && is_move v b))
 
   -- whether each assignment gives a known variable what is known, or moves another one, under conditions that are known; `free`
   -- says so of those around the block

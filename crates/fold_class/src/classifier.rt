@@ -32,7 +32,8 @@ fn start_kind(has_depth: bool) -> Kind
 fn first_kinds(states: usize, history: &[bool]) -> [Kind; 8]
     requires size { length history.now ≡ 8 }
     requires few { states ≤ 8 }
-    ensures { (s : ℕ) → kinds_in result s ≡ (if nat_lt s states then (if flag_in history.now s then Kind.Pure else Kind.Affine) else Kind.Pure) }
+    ensures { (s : ℕ) → kinds_in result s
+        ≡ (if nat_lt s states then (if flag_in history.now s then Kind.Pure else Kind.Affine) else Kind.Pure) }
 {
     let mut kinds = [Kind::Pure; 8];
     for v in 0..states {

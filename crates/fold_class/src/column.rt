@@ -63,7 +63,8 @@ pub(crate) fn load_part<C: Coeff>(words: &[u64], place: usize) -> Part<C>
 pub(crate) fn store_part<C: Coeff>(words: &mut [u64], place: usize, part: Part<C>)
     requires { place * 3 + 3 ≤ length words.old }
     ensures here { part_at C.from_words C.WORDS words.new place ≡ part }
-    ensures others { (other : ℕ) → other ≢ place → part_at C.from_words C.WORDS words.new other ≡ part_at C.from_words C.WORDS words.old other }
+    ensures others { (other : ℕ) → other ≢ place
+        → part_at C.from_words C.WORDS words.new other ≡ part_at C.from_words C.WORDS words.old other }
 {
     put_part(part, &mut words[place * 3..place * 3 + 3]);
 }
@@ -83,7 +84,8 @@ fn copy_part<C: Coeff>(words: &mut [u64], from: usize, to: usize)
     requires from { from * 3 + 3 ≤ length words.old }
     requires to { to * 3 + 3 ≤ length words.old }
     ensures here { part_at C.from_words C.WORDS words.new to ≡ part_at C.from_words C.WORDS words.old from }
-    ensures others { (other : ℕ) → other ≢ to → part_at C.from_words C.WORDS words.new other ≡ part_at C.from_words C.WORDS words.old other }
+    ensures others { (other : ℕ) → other ≢ to
+        → part_at C.from_words C.WORDS words.new other ≡ part_at C.from_words C.WORDS words.old other }
 {
     let start = from * 3;
     let mark = words[start];
@@ -192,8 +194,11 @@ fn copy_choice<C: Coeff>(words: &mut [u64], mask: usize, new: usize, old: usize,
     requires new { new < place }
     requires old { old < place }
     requires room { place * 3 + 3 ≤ length words.old }
-    ensures here { part_at C.from_words C.WORDS words.new place ≡ part_choice (part_at C.from_words C.WORDS words.old mask) (part_at C.from_words C.WORDS words.old new) (part_at C.from_words C.WORDS words.old old) }
-    ensures others { (other : ℕ) → other ≢ place → part_at C.from_words C.WORDS words.new other ≡ part_at C.from_words C.WORDS words.old other }
+    ensures here { part_at C.from_words C.WORDS words.new place
+        ≡ part_choice (part_at C.from_words C.WORDS words.old mask) (part_at C.from_words C.WORDS words.old new)
+        (part_at C.from_words C.WORDS words.old old) }
+    ensures others { (other : ℕ) → other ≢ place
+        → part_at C.from_words C.WORDS words.new other ≡ part_at C.from_words C.WORDS words.old other }
 {
     let mask: Part<C> = load_part(words, mask);
     match mask {
@@ -224,8 +229,12 @@ fn write_value<C: Coeff>(
 )
     requires fits { Fits states (length args.now) number instr }
     requires room { (states + number) * 3 + 3 ≤ length scratch.old }
-    ensures here { part_at C.from_words C.WORDS scratch.new (states + number) ≡ instr_value (parts (column_shares C.elements dimension column) algebra) instr (list_of states (part_at C.from_words C.WORDS scratch.old)) (map (λ w. Part.Fixed w) args.now) (list_of number (λ i. part_at C.from_words C.WORDS scratch.old (states + i))) }
-    ensures others { (other : ℕ) → other ≢ states + number → part_at C.from_words C.WORDS scratch.new other ≡ part_at C.from_words C.WORDS scratch.old other }
+    ensures here { part_at C.from_words C.WORDS scratch.new (states + number)
+        ≡ instr_value (parts (column_shares C.elements dimension column) algebra) instr
+        (list_of states (part_at C.from_words C.WORDS scratch.old)) (map (λ w. Part.Fixed w) args.now)
+        (list_of number (λ i. part_at C.from_words C.WORDS scratch.old (states + i))) }
+    ensures others { (other : ℕ) → other ≢ states + number
+        → part_at C.from_words C.WORDS scratch.new other ≡ part_at C.from_words C.WORDS scratch.old other }
 {
     let place = states + number;
     match instr {
@@ -273,8 +282,11 @@ fn store_variable<C: Coeff, L: Ledger>(
 )
     requires variable { IfKeeps instr states }
     requires room { (states + number) * 3 + 3 ≤ length scratch.old }
-    ensures vars { list_of states (part_at C.from_words C.WORDS scratch.new) ≡ vars_after instr (part_at C.from_words C.WORDS scratch.old (states + number)) (list_of states (part_at C.from_words C.WORDS scratch.old)) }
-    ensures others { (other : ℕ) → states ≤ other → part_at C.from_words C.WORDS scratch.new other ≡ part_at C.from_words C.WORDS scratch.old other }
+    ensures vars { list_of states (part_at C.from_words C.WORDS scratch.new)
+        ≡ vars_after instr (part_at C.from_words C.WORDS scratch.old (states + number))
+        (list_of states (part_at C.from_words C.WORDS scratch.old)) }
+    ensures others { (other : ℕ) → states ≤ other
+        → part_at C.from_words C.WORDS scratch.new other ≡ part_at C.from_words C.WORDS scratch.old other }
     ensures steps { steps.new ≡ steps.old + instr_steps instr }
 {
     if let Instr::Keep(v, _, _) = instr {
@@ -299,8 +311,16 @@ fn run_instr<C: Coeff, L: Ledger>(
     requires fits { Fits states (length args.now) number instr }
     requires variable { IfKeeps instr states }
     requires room { (states + number) * 3 + 3 ≤ length scratch.old }
-    ensures vars { list_of states (part_at C.from_words C.WORDS scratch.new) ≡ vars_after instr (instr_value (parts (column_shares C.elements dimension column) algebra) instr (list_of states (part_at C.from_words C.WORDS scratch.old)) (map (λ w. Part.Fixed w) args.now) (list_of number (λ i. part_at C.from_words C.WORDS scratch.old (states + i)))) (list_of states (part_at C.from_words C.WORDS scratch.old)) }
-    ensures values { list_of (number + 1) (λ i. part_at C.from_words C.WORDS scratch.new (states + i)) ≡ list_of number (λ i. part_at C.from_words C.WORDS scratch.old (states + i)) ++ instr_value (parts (column_shares C.elements dimension column) algebra) instr (list_of states (part_at C.from_words C.WORDS scratch.old)) (map (λ w. Part.Fixed w) args.now) (list_of number (λ i. part_at C.from_words C.WORDS scratch.old (states + i))) ∷ [] }
+    ensures vars { list_of states (part_at C.from_words C.WORDS scratch.new)
+        ≡ vars_after instr (instr_value (parts (column_shares C.elements dimension column) algebra) instr
+        (list_of states (part_at C.from_words C.WORDS scratch.old)) (map (λ w. Part.Fixed w) args.now)
+        (list_of number (λ i. part_at C.from_words C.WORDS scratch.old (states + i))))
+        (list_of states (part_at C.from_words C.WORDS scratch.old)) }
+    ensures values { list_of (number + 1) (λ i. part_at C.from_words C.WORDS scratch.new (states + i))
+        ≡ list_of number (λ i. part_at C.from_words C.WORDS scratch.old (states + i))
+        ++ instr_value (parts (column_shares C.elements dimension column) algebra) instr
+        (list_of states (part_at C.from_words C.WORDS scratch.old)) (map (λ w. Part.Fixed w) args.now)
+        (list_of number (λ i. part_at C.from_words C.WORDS scratch.old (states + i))) ∷ [] }
     ensures steps { steps.new ≡ steps.old + instr_steps instr }
 {
     write_value::<C>(
@@ -322,7 +342,9 @@ pub(crate) fn run_column<C: Coeff, L: Ledger>(
 )
     requires fits { AllFit states (length args.now) 0 instrs.now }
     requires room { (states + length instrs.now) * 3 ≤ length scratch.old }
-    ensures vars { list_of states (part_at C.from_words C.WORDS scratch.new) ≡ run (parts (column_shares C.elements dimension column) algebra) instrs.now (map (λ w. Part.Fixed w) args.now) (list_of states (part_at C.from_words C.WORDS scratch.old)) [] }
+    ensures vars { list_of states (part_at C.from_words C.WORDS scratch.new)
+        ≡ run (parts (column_shares C.elements dimension column) algebra) instrs.now (map (λ w. Part.Fixed w) args.now)
+        (list_of states (part_at C.from_words C.WORDS scratch.old)) [] }
     ensures steps { steps.new ≡ steps.old + steps_of instrs.now }
 {
     for (number, instr) in instrs.iter().enumerate() {

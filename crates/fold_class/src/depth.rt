@@ -25,7 +25,8 @@ fn readers_of(f: &TypedFold, u: usize) -> [Kind; 8]
 // Takes the flag from each variable that is Other.
 fn strike(flags: &mut [bool], kinds: &[Kind])
     requires { length flags.old ≡ length kinds.now }
-    ensures { (v : ℕ) → v < length flags.old → flag_in flags.new v ≡ (flag_in flags.old v && not (is_other (kinds_in kinds.now v))) }
+    ensures { (v : ℕ) → v < length flags.old
+        → flag_in flags.new v ≡ (flag_in flags.old v && not (is_other (kinds_in kinds.now v))) }
 {
     for (v, kind) in kinds.iter().enumerate() {
         if let Kind::Other = kind {
@@ -38,7 +39,8 @@ fn strike(flags: &mut [bool], kinds: &[Kind])
 fn next_round(f: &TypedFold, within: &[bool]) -> [bool; 8]
     requires valid { IsValidFold f.now }
     requires size { length within.now ≡ 8 }
-    ensures { (v : ℕ) → v < fold_states f.now → flag_in result v ≡ all_below (fold_states f.now) (λ u. not (fold_reads f.now v u) || flag_in within.now u) }
+    ensures { (v : ℕ) → v < fold_states f.now
+        → flag_in result v ≡ all_below (fold_states f.now) (λ u. not (fold_reads f.now v u) || flag_in within.now u) }
 {
     let mut next = [true; 8];
     for u in 0..f.state_names.len() {
@@ -54,7 +56,8 @@ fn next_round(f: &TypedFold, within: &[bool]) -> [bool; 8]
 fn advance(f: &TypedFold, within: &mut [bool])
     requires valid { IsValidFold f.now }
     requires size { length within.old ≡ 8 }
-    ensures { (v : ℕ) → v < fold_states f.now → flag_in within.new v ≡ all_below (fold_states f.now) (λ u. not (fold_reads f.now v u) || flag_in within.old u) }
+    ensures { (v : ℕ) → v < fold_states f.now
+        → flag_in within.new v ≡ all_below (fold_states f.now) (λ u. not (fold_reads f.now v u) || flag_in within.old u) }
 {
     let next = next_round(f, within);
     within.copy_from_slice(&next);

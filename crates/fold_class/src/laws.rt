@@ -1,6 +1,7 @@
 // Laws of depth and class, and of translations.
 
-ghost use Rattle.std.specs.Prelude.{◌≡◌, ◌≤◌, ◌<◌, ◌↔◌, ℕ, ◌+◌, ◌%◌, ◌^◌, max, true, false, List, length, slice_index};
+ghost use Rattle.std.specs.Prelude.{◌≡◌, ◌≤◌, ◌<◌, ◌↔◌, ℕ, ◌+◌, ◌%◌, ◌^◌, max, true, false, List};
+ghost use Rattle.std.specs.Prelude.{length, slice_index};
 ghost use Rattle.query_lang.specs.Words.{AreWords};
 ghost use Rattle.query_lang.specs.declared.fold.TypedFold.{TypedFold};
 ghost use Rattle.query_lang.specs.Folds.{IsValidFold, fold_states, body, folded};
@@ -16,7 +17,9 @@ use query_lang::Class;
 
 /// Once as many rows were taken as the fold is deep, its history is the same from every two states.
 pub fn history_forgets()
-    ensures { (f : TypedFold) (depth : ℕ) (xs ys : List ℕ) (rows : List (List ℕ)) → IsValidFold f → IsDepth f depth → length xs ≡ fold_states f → length ys ≡ fold_states f → depth ≤ length rows → words_at (folded f xs rows) (history_places f) ≡ words_at (folded f ys rows) (history_places f) }
+    ensures { (f : TypedFold) (depth : ℕ) (xs ys : List ℕ) (rows : List (List ℕ)) → IsValidFold f → IsDepth f depth
+        → length xs ≡ fold_states f → length ys ≡ fold_states f → depth ≤ length rows
+        → words_at (folded f xs rows) (history_places f) ≡ words_at (folded f ys rows) (history_places f) }
 {}
 
 /// A variable has a depth exactly where it has one of at most the number of variables.
@@ -57,7 +60,8 @@ pub fn step_translates()
         → (slice_index (body f xs args) v + slice_index ys v) % 2 ^ 64 ≡ (slice_index (body f ys args) v + slice_index xs v) % 2 ^ 64 }
     ensures maxima { (f : TypedFold) (args xs ys : List ℕ) (v : ℕ) → AreAlike Algebra.Maxima f xs ys → v < fold_states f
         → is_history f v ≡ false
-        → (b : ℕ) × (slice_index (body f xs args) v ≡ max (slice_index xs v) b) × (slice_index (body f ys args) v ≡ max (slice_index ys v) b) }
+        → (b : ℕ) × (slice_index (body f xs args) v ≡ max (slice_index xs v) b)
+        × (slice_index (body f ys args) v ≡ max (slice_index ys v) b) }
 {}
 
 /// The same of rows, one by one. So the fold over rows from a state is that state, moved by the fold over them from zeros with

@@ -6,7 +6,8 @@ ghost use Rattle.fold_code.specs.Machine.{at, steps_of};
 ghost use Rattle.fold_class.specs.Parts.{parts, column_shares};
 ghost use Rattle.fold_class.specs.Step.{list_of, share_of};
 ghost use Rattle.fold_class.specs.Stored.{part_at};
-ghost use Rattle.fold_class.specs.Rows.{Rows, rows_dimension, rows_words, rows_scratch, steps_with, rows_steps, first_part, column_after, entry_of, fixed_word, Leaves, LeavesRows, IsWithin, AreSoundRows};
+ghost use Rattle.fold_class.specs.Rows.{Rows, rows_dimension, rows_words, rows_scratch, steps_with, rows_steps, first_part, column_after};
+ghost use Rattle.fold_class.specs.Rows.{entry_of, fixed_word, Leaves, LeavesRows, IsWithin, AreSoundRows};
 
 use crate::class::Algebra;
 use crate::column::{lift, load_part, run_column, store_part};
@@ -34,7 +35,13 @@ impl Model for AffineRows {
 
     ghost view = { λ r. record { code = r.code; algebra = r.algebra; origins = r.origins; linear = r.linear; history = r.history } };
 
-    ghost invariant = { λ r. AreSoundRows (record { code = r.code; algebra = r.algebra; origins = r.origins; linear = r.linear; history = r.history }) };
+    ghost invariant = { λ r. AreSoundRows (record {
+      code = r.code;
+      algebra = r.algebra;
+      origins = r.origins;
+      linear = r.linear;
+      history = r.history;
+    }) };
 }
 
 // The part of a variable as a column begins.
@@ -64,7 +71,8 @@ fn start_column<C: Coeff, L: Ledger>(
 )
     requires within { All (IsWithin (length history.now)) origins.now }
     requires room { length origins.now * 3 ≤ length scratch.old }
-    ensures vars { list_of (length origins.now) (part_at C.from_words C.WORDS scratch.new) ≡ map (first_part C.elements column history.now) origins.now }
+    ensures vars { list_of (length origins.now) (part_at C.from_words C.WORDS scratch.new)
+        ≡ map (first_part C.elements column history.now) origins.now }
     ensures steps { steps.new ≡ steps.old + length origins.now }
 {
     for (v, origin) in origins.iter().enumerate() {
@@ -118,8 +126,12 @@ fn write_column<C: Coeff, L: Ledger>(
     requires room { states * 3 ≤ length scratch.now }
     requires map { length map.old ≡ length linear.now * (length linear.now + 1) * C.WORDS }
     requires column { column ≤ length linear.now }
-    ensures entries { (i : ℕ) → i < length linear.now → stored_entry C.WORDS (length linear.now) map.new i column ≡ C.words (share_of (column_shares C.elements (length linear.now) column) (part_at C.from_words C.WORDS scratch.now (slice_index linear.now i))) }
-    ensures others { (i c : ℕ) → i < length linear.now → c ≤ length linear.now → c ≢ column → stored_entry C.WORDS (length linear.now) map.new i c ≡ stored_entry C.WORDS (length linear.now) map.old i c }
+    ensures entries { (i : ℕ) → i < length linear.now
+        → stored_entry C.WORDS (length linear.now) map.new i column
+        ≡ C.words (share_of (column_shares C.elements (length linear.now) column)
+        (part_at C.from_words C.WORDS scratch.now (slice_index linear.now i))) }
+    ensures others { (i c : ℕ) → i < length linear.now → c ≤ length linear.now → c ≢ column
+        → stored_entry C.WORDS (length linear.now) map.new i c ≡ stored_entry C.WORDS (length linear.now) map.old i c }
     ensures steps { steps.new ≡ steps.old + length linear.now * C.WORDS }
 {
     let dimension = linear.len();
@@ -145,7 +157,8 @@ fn write_history<C: Coeff, L: Ledger>(
     requires places { All (λ v. v < states) places.now }
     requires room { states * 3 ≤ length scratch.now }
     requires history { length history.old ≡ length places.now }
-    ensures words { (i : ℕ) → i < length places.now → slice_index history.new i ≡ fixed_word (part_at C.from_words C.WORDS scratch.now (slice_index places.now i)) }
+    ensures words { (i : ℕ) → i < length places.now
+        → slice_index history.new i ≡ fixed_word (part_at C.from_words C.WORDS scratch.now (slice_index places.now i)) }
     ensures steps { steps.new ≡ steps.old + length places.now }
 {
     for (i, v) in places.iter().enumerate() {
@@ -187,7 +200,8 @@ impl AffineRows {
         requires history { length history.now ≡ length self.now.history }
         requires arguments { length args.now ≡ self.now.code.args }
         requires room { length scratch.old ≡ rows_scratch self.now }
-        ensures vars { list_of (length self.now.origins) (part_at C.from_words C.WORDS scratch.new) ≡ column_after C.elements self.now column history.now args.now }
+        ensures vars { list_of (length self.now.origins) (part_at C.from_words C.WORDS scratch.new)
+            ≡ column_after C.elements self.now column history.now args.now }
         ensures steps { steps.new ≡ steps.old + (length self.now.origins + steps_of self.now.code.instrs) }
     {
         start_column::<C, L>(self.origins.as_slice(), column, history, scratch, steps);
@@ -218,10 +232,15 @@ impl AffineRows {
         requires map { length map.old ≡ rows_dimension self.now * (rows_dimension self.now + 1) * C.WORDS }
         requires room { length scratch.old ≡ rows_scratch self.now }
         requires column { column ≤ rows_dimension self.now }
-        ensures entries { (i : ℕ) → i < rows_dimension self.now → stored_entry C.WORDS (rows_dimension self.now) map.new i column ≡ C.words (entry_of C.elements self.now history.now args.now i column) }
-        ensures others { (i c : ℕ) → i < rows_dimension self.now → c ≤ rows_dimension self.now → c ≢ column → stored_entry C.WORDS (rows_dimension self.now) map.new i c ≡ stored_entry C.WORDS (rows_dimension self.now) map.old i c }
-        ensures vars { list_of (length self.now.origins) (part_at C.from_words C.WORDS scratch.new) ≡ column_after C.elements self.now column history.now args.now }
-        ensures steps { steps.new ≡ steps.old + (length self.now.origins + steps_of self.now.code.instrs + rows_dimension self.now * C.WORDS) }
+        ensures entries { (i : ℕ) → i < rows_dimension self.now
+            → stored_entry C.WORDS (rows_dimension self.now) map.new i column
+            ≡ C.words (entry_of C.elements self.now history.now args.now i column) }
+        ensures others { (i c : ℕ) → i < rows_dimension self.now → c ≤ rows_dimension self.now → c ≢ column
+            → stored_entry C.WORDS (rows_dimension self.now) map.new i c ≡ stored_entry C.WORDS (rows_dimension self.now) map.old i c }
+        ensures vars { list_of (length self.now.origins) (part_at C.from_words C.WORDS scratch.new)
+            ≡ column_after C.elements self.now column history.now args.now }
+        ensures steps { steps.new ≡ steps.old
+            + (length self.now.origins + steps_of self.now.code.instrs + rows_dimension self.now * C.WORDS) }
     {
         let states = self.origins.len();
         self.parts_into::<C, L>(column, history, args, scratch, steps);

@@ -12,7 +12,9 @@ abbrev pub RowListsAreSeen : Type 0
 RowListsAreSeen = (g : Geometry) (events : List Event) (key : Key) → HasRoom g
     → lists_of key (all_epochs (run g events (empty_machine g))) ≡ row_lists g (run g events (empty_machine g)) key
 
--- Where a machine has the epochs of a trace after its first packets, in a view it is the machine at the end of a trace that has these packets alone.
+-- Where a machine has the epochs of a trace after its first packets, in a view it is the machine at the end of a trace
+-- that has these packets alone.
 abbrev pub ViewsEndTheTrace : Type 0
 ViewsEndTheTrace = (g : Geometry) (packets : List (Option Taken)) (number : ℕ) (m : Machine) → number ≤ length packets
-    → SameEpochs m (after_packets g (uses_taken 1 packets) number) → all_closed m ≡ end_of g (uses_taken 1 (take number packets)) number
+    → SameEpochs m (after_packets g (uses_taken 1 packets) number)
+    → all_closed m ≡ end_of g (uses_taken 1 (take number packets)) number

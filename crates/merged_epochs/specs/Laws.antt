@@ -20,6 +20,7 @@ MergedEpochsAreHeld = (f : Folding) (old middle new : Store) (key : Key) (place 
 
 -- The rows of a store that holds these epochs are those of their table, and so is the number of epochs.
 pub record HeldRowsAreTheTables : Type 0 where
-  pub rows : (f : Folding) (store : Store) (closed : List Epoch) → IsStore store → StoreHolds f store closed → map (shown_row f.row_per_epoch) (sorted_rows store) ≡ closed_rows f closed
+  pub rows : (f : Folding) (store : Store) (closed : List Epoch) → IsStore store → StoreHolds f store closed
+      → map (shown_row f.row_per_epoch) (sorted_rows store) ≡ closed_rows f closed
   pub epochs : (f : Folding) (store : Store) (closed : List Epoch) → IsStore store → StoreHolds f store closed
       → epochs_shown (sum_by (epochs_in f.row_per_epoch) (sorted_rows store)) ≡ closed_epochs closed

@@ -1,5 +1,6 @@
 -- The depths of what a typed query computes while packets pass, and where they pass the greatest number of stages.
-use Rattle.std.specs.Prelude.{ℕ, ◌+◌, max, nat_lt, Bool, if◌then◌else◌, List, [], ◌∷◌, ◌++◌, length, map, fold, flat_map, drop, replicate}
+use Rattle.std.specs.Prelude.{ℕ, ◌+◌, max, nat_lt, Bool, if◌then◌else◌, List, [], ◌∷◌, ◌++◌, length, map, fold}
+use Rattle.std.specs.Prelude.{flat_map, drop, replicate}
 use Rattle.std.specs.Prelude.{slice_get, slice_index, Option, Some, None, unwrap_or}
 use Rattle.std.specs.List.{list_any}
 use Rattle.query_lang.specs.declared.fault.FaultKind.TheVariants.{OverLimit}

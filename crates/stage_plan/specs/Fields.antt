@@ -1,5 +1,6 @@
 -- The fields of packets that a typed query reads while packets pass.
-use Rattle.std.specs.Prelude.{ℕ, ◌^◌, bit_or, List, [], ◌∷◌, ◌++◌, map, fold, flat_map, filter_map, slice_get, Option, Some, None}
+use Rattle.std.specs.Prelude.{ℕ, ◌^◌, bit_or, List, [], ◌∷◌, ◌++◌, map, fold, flat_map, filter_map, slice_get, Option}
+use Rattle.std.specs.Prelude.{Some, None}
 use Rattle.std.specs.Prelude.{unwrap_or}
 use Rattle.marple_base.specs.declared.field.Field.{Field}
 use Rattle.marple_base.specs.declared.field.FieldSet.{FieldSet}

@@ -49,7 +49,8 @@ pub record IsGroupFor (folds : List TypedFold) (number words row_words : ℕ) (g
 
 -- the groupbys of these takings, in order
 abbrev pub AreGroupsOf : List TypedFold → List Taking → List GroupPlan → Type 0
-AreGroupsOf folds takings groups = (i : ℕ) (t : Taking) (group : GroupPlan) → slice_get takings i ≡ Some t → slice_get groups i ≡ Some group
+AreGroupsOf folds takings groups = (i : ℕ) (t : Taking) (group : GroupPlan) → slice_get takings i ≡ Some t
+    → slice_get groups i ≡ Some group
     → IsGroupFor folds t.fold_number (length t.keys) (length t.args) group
 
 -- the groupby of a stream, where it is one

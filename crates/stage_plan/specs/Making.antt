@@ -1,5 +1,6 @@
 -- The operations of a query in the order in which they are made: by binding, the operands before their node, and a presence last.
-use Rattle.std.specs.Prelude.{◌≡◌, ℕ, suc, ◌+◌, max, min, nat_lt, Bool, if◌then◌else◌, List, [], ◌∷◌, ◌++◌, length, map, slice_get}
+use Rattle.std.specs.Prelude.{◌≡◌, ℕ, suc, ◌+◌, max, min, nat_lt, Bool, if◌then◌else◌, List, [], ◌∷◌, ◌++◌}
+use Rattle.std.specs.Prelude.{length, map, slice_get}
 use Rattle.std.specs.Prelude.{Option, Some, None, unwrap_or}
 use Rattle.std.specs.List.{list_any}
 use Rattle.query_lang.specs.declared.fault.FaultKind.TheVariants.{OverLimit}

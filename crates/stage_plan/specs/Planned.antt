@@ -1,5 +1,6 @@
 -- Which plan is a query's.
-use Rattle.std.specs.Prelude.{◌≡◌, ℕ, ◌+◌, ◌<◌, List, [], ◌∷◌, length, map, All, slice_get, Option, Some, option_and_then, unwrap_or}
+use Rattle.std.specs.Prelude.{◌≡◌, ℕ, ◌+◌, ◌<◌, List, [], ◌∷◌, length, map, All, slice_get, Option, Some}
+use Rattle.std.specs.Prelude.{option_and_then, unwrap_or}
 use Rattle.epoch_model.specs.Driving.{Taken, uses_taken}
 use Rattle.fold_class.specs.Program.{IsProgramOf}
 use Rattle.query_lang.specs.declared.fold.TypedFold.{TypedFold}

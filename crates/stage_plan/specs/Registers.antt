@@ -1,5 +1,6 @@
 -- The operations of a plan, and the registers that they fill for one packet.
-use Rattle.std.specs.Prelude.{ℕ, zero, suc, ◌-◌, ◌==◌, nat_lt, not, max, if◌then◌else◌, List, [], ◌∷◌, ◌++◌, length, take, drop, map}
+use Rattle.std.specs.Prelude.{ℕ, zero, suc, ◌-◌, ◌==◌, nat_lt, not, max, if◌then◌else◌, List, [], ◌∷◌, ◌++◌}
+use Rattle.std.specs.Prelude.{length, take, drop, map}
 use Rattle.std.specs.Prelude.{replicate, slice_get, slice_index, Option, Some, None, option_map, unwrap_or}
 use Rattle.epoch_model.specs.Driving.{Taken}
 use Rattle.query_lang.specs.Words.{flag, holds, op_value}

@@ -1,5 +1,6 @@
 -- The sizes of a plan: what its text says, and the bound on the steps of one packet.
-use Rattle.std.specs.Prelude.{ℕ, zero, suc, ◌+◌, ◌*◌, ◌==◌, max, List, [], ◌∷◌, ◌++◌, length, map, sum, count_by, filter_map, flat_map}
+use Rattle.std.specs.Prelude.{ℕ, zero, suc, ◌+◌, ◌*◌, ◌==◌, max, List, [], ◌∷◌, ◌++◌, length, map, sum, count_by}
+use Rattle.std.specs.Prelude.{filter_map, flat_map}
 use Rattle.std.specs.Prelude.{codes, decimal, slice_get, Option, None, option_map, unwrap_or}
 use Rattle.query_lang.specs.declared.fold.TypedFold.{TypedFold}
 use Rattle.query_lang.specs.declared.typed.Class.{Class}

@@ -1,5 +1,6 @@
 -- What holds of the parts of each plan.
-use Rattle.std.specs.Prelude.{◌≡◌, ℕ, suc, ◌+◌, ◌-◌, ◌<◌, ◌≤◌, max, List, length, All, slice_get, slice_index, Option, Some, None, ◌⊎◌}
+use Rattle.std.specs.Prelude.{◌≡◌, ℕ, suc, ◌+◌, ◌-◌, ◌<◌, ◌≤◌, max, List, length, All, slice_get, slice_index}
+use Rattle.std.specs.Prelude.{Option, Some, None, ◌⊎◌}
 use Rattle.fold_class.specs.Program.{IsProgram}
 use Rattle.marple_base.specs.declared.field.FieldSet.{FieldSet}
 use Rattle.stage_plan.specs.declared.op.Operand.{Operand}
@@ -32,7 +33,8 @@ pub record IsSoundOp (ops : List PlanOp) (i : ℕ) (one : PlanOp) : Type 0 where
 -- the operations stand in the order of their stages
 pub record AreSoundOps (ops : List PlanOp) : Type 0 where
   pub each : (i : ℕ) (one : PlanOp) → slice_get ops i ≡ Some one → IsSoundOp ops i one
-  pub ordered : (i j : ℕ) (one other : PlanOp) → i < j → slice_get ops i ≡ Some one → slice_get ops j ≡ Some other → one.stage ≤ other.stage
+  pub ordered : (i j : ℕ) (one other : PlanOp) → i < j → slice_get ops i ≡ Some one → slice_get ops j ≡ Some other
+      → one.stage ≤ other.stage
   pub most : length ops ≤ 32768
 
 -- a groupby and what it takes, of so many registers: it has a fold's program, a name for each of the fold's state variables, and

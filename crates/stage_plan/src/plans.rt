@@ -1,6 +1,7 @@
 // A plan, and what it does with a packet.
 
-ghost use Rattle.std.specs.Prelude.{◌≡◌, ℕ, ◌+◌, ◌*◌, ◌^◌, ◌<◌, ◌≤◌, ◌==◌, map, length, slice_get, count_by, Some, IfOk};
+ghost use Rattle.std.specs.Prelude.{◌≡◌, ℕ, ◌+◌, ◌*◌, ◌^◌, ◌<◌, ◌≤◌, ◌==◌, map, length, slice_get};
+ghost use Rattle.std.specs.Prelude.{count_by, Some, IfOk};
 ghost use Rattle.query_lang.specs.Words.{holds};
 ghost use Rattle.stage_plan.specs.Registers.{operand_value, stages_of};
 ghost use Rattle.stage_plan.specs.Planned.{registers_of, row_of, wiring_at, plan_bound};

@@ -42,7 +42,8 @@ numbers words = map decimal words
 
 -- a groupby's row: its key, what it stands for, and the state
 abbrev pub group_parts : Row → List (List ℕ)
-group_parts row = numbers row.key ++ (mark_text row.mark ∷ epoch_text row.mark row.epoch ∷ decimal row.epochs ∷ []) ++ numbers row.values
+group_parts row = numbers row.key ++ (mark_text row.mark ∷ epoch_text row.mark row.epoch ∷ decimal row.epochs ∷ [])
+    ++ numbers row.values
 
 -- a final's row: its key and its values
 abbrev pub final_parts : Row → List (List ℕ)

@@ -1,6 +1,7 @@
 //! Titles, headings and rows.
 ghost use Rattle.std.specs.Prelude.{◌≡◌, ◌≤◌, ◌++◌, ◌∷◌, [], length, map, flat_map, codes, decimal, IfOk, OnOk};
-ghost use Rattle.table_printer.specs.TableText.{joined, mark_text, class_text, epoch_text, numbers, line, group_parts, final_parts, row_parts, heading, kind_text, title, table_text};
+ghost use Rattle.table_printer.specs.TableText.{joined, mark_text, class_text, epoch_text, numbers, line, group_parts, final_parts};
+ghost use Rattle.table_printer.specs.TableText.{row_parts, heading, kind_text, title, table_text};
 ghost use Rattle.table_printer.specs.Parts.{parts_from};
 
 use crate::parts::{push_names, push_number, push_part, push_word, push_words};
@@ -69,7 +70,8 @@ fn push_epoch_names(text: &mut Text, begins: bool) -> Result<(), AllocError>
 
 /// Writes the heading of a groupby's table.
 fn push_group_names(text: &mut Text, keys: &[Text], others: &[Text]) -> Result<(), AllocError>
-    ensures { OnOk result (text.new ≡ text.old ++ joined (keys.now ++ (codes "mark" ∷ codes "epoch" ∷ codes "epochs" ∷ []) ++ others.now)) }
+    ensures { OnOk result (text.new
+        ≡ text.old ++ joined (keys.now ++ (codes "mark" ∷ codes "epoch" ∷ codes "epochs" ∷ []) ++ others.now)) }
 {
     push_names(text, true, keys)?;
     push_epoch_names(text, keys.is_empty())?;
@@ -95,7 +97,9 @@ fn push_heading(text: &mut Text, table: &Table) -> Result<(), AllocError>
 
 /// Writes what a groupby's row says of its key's epochs.
 fn push_epoch(text: &mut Text, begins: bool, row: &Row) -> Result<(), AllocError>
-    ensures { OnOk result (text.new ≡ text.old ++ parts_from begins (mark_text row.now.mark ∷ epoch_text row.now.mark row.now.epoch ∷ decimal row.now.epochs ∷ [])) }
+    ensures { OnOk result (text.new
+        ≡ text.old ++ parts_from begins (mark_text row.now.mark ∷ epoch_text row.now.mark row.now.epoch
+        ∷ decimal row.now.epochs ∷ [])) }
 {
     push_part(text, begins, mark_word(row.mark))?;
     if row.mark == Mark::Exact {
