@@ -9,6 +9,7 @@ use Rattle.query_lang.specs.declared.fold.TypedExpr.{TypedExpr}
 use Rattle.query_lang.specs.declared.query.Column.{Column}
 use Rattle.query_lang.specs.declared.query.Expr.{Expr}
 use Rattle.query_lang.specs.declared.query.Item.{Item}
+use Rattle.query_lang.specs.declared.query.Item.TheVariants as item
 use Rattle.query_lang.specs.declared.query.Name.{Name}
 use Rattle.query_lang.specs.declared.query.Query.{Query}
 use Rattle.query_lang.specs.declared.typing.FoldView.{FoldView}
@@ -119,3 +120,12 @@ KeysMeet = (known : List Known) (columns hidden : List ℕ) (keys : List Name) (
 abbrev pub ArgumentsMeet : Type 0
 ArgumentsMeet = (known : List Known) (columns hidden keys : List ℕ) (f : FoldView) (at : Span) (slots : List ℕ) (demand : Demand)
     → HasArguments columns keys f slots → ArgumentsAsk columns hidden keys f at demand → Holds known demand
+
+abbrev pub IsNoFold : Item → Type 0
+IsNoFold (item.Fold d) = ⊥
+IsNoFold _ = Unit {0}
+
+-- Of a stream, a final and a print that are typed all is so that they ask.
+abbrev pub ItemsMeet : Type 0
+ItemsMeet = (given : Given) (names : List (List ℕ)) (items : List Entry) (i : Item) (one : Entry) (demand : Demand) → IsNoFold i
+    → HasItem given names items i one → ItemAsks (five_fields given.fields) names items i demand → Holds (known_in names items) demand
