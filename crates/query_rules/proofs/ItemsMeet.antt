@@ -1,4 +1,4 @@
--- What streams, finals and prints ask is so where they are typed.
+-- What items ask is so where they are typed.
 use Rattle.std.proofs.Common.{◌≡◌, ℕ, ◌+◌, List, [], ◌++◌, length, sym, subst, ◌∙◌, append-nil}
 use Rattle.std.specs.Prelude.{flat_map}
 use Rattle.query_lang.specs.declared.query.FinalOp.{FinalOp}
@@ -19,10 +19,10 @@ use Rattle.query_rules.specs.Asked as asks
 use Rattle.query_rules.specs.Context.{Entry, streams_in, groups_in, known_in, IsStream, IsFold, IsTable}
 use Rattle.query_rules.specs.Demands.{Demand, Holds}
 use Rattle.query_rules.specs.ExprRules.{Condition, StandsAt, HasKind}
-use Rattle.query_rules.specs.FaultLaws.{IsNoFold}
 use Rattle.query_rules.specs.FinalRules.{HasFinal}
 use Rattle.query_rules.specs.QueryRules.{HasItem}
 use Rattle.query_rules.specs.StreamRules.{HasColumns, HasKeys, HasArguments, AreApart, AreSame, key_ids, HasStream}
+use Rattle.query_rules.proofs.FoldsMeet.{fold_meets}
 use Rattle.query_rules.proofs.Meets.{expr_meets, columns_meet, keys_meet, arguments_meet}
 use Rattle.query_rules.proofs.NameLaws.{stream_complete, fold_name_complete, table_complete}
 use Rattle.query_rules.proofs.Steps.{same_ok}
@@ -108,16 +108,16 @@ final_meets given known _ made _ h (asks.of_column input column rows span source
     (h.slot, subst S (one_table known input h.source source h.table is) h.stands)
 final_meets given known _ made _ h (asks.of_rows input column rows span) = (h.some, h.few)
 
-pub item_meets : (given : Given) (names : List (List ℕ)) (items : List Entry) (i : Item) (one : Entry) (d : Demand) → IsNoFold i
+pub item_meets : (given : Given) (names : List (List ℕ)) (items : List Entry) (i : Item) (one : Entry) (d : Demand)
     → HasItem given names items i one → ItemAsks (five_fields given.fields) names items i d → Holds (known_in names items) d
-item_meets given names items _ one _ other h (asks.of_fold_name d) = absurd other
-item_meets given names items _ one _ other h (asks.of_fold d q asked) = absurd other
-item_meets given names items _ one _ other h (asks.of_stream_name d) = h.binding.free
-item_meets given names items _ one _ other h (asks.of_one_stream d) = h.binding.few
-item_meets given names items _ one _ other h (asks.of_stream d q asked) =
+item_meets given names items _ one _ h (asks.of_fold_name d) = h.free
+item_meets given names items _ one _ h (asks.of_fold d q asked) = fold_meets (known_in names items) d h.f q h.typed asked
+item_meets given names items _ one _ h (asks.of_stream_name d) = h.binding.free
+item_meets given names items _ one _ h (asks.of_one_stream d) = h.binding.few
+item_meets given names items _ one _ h (asks.of_stream d q asked) =
     stream_meets (five_fields given.fields) (known_in names items) (length (streams_in items) + 1) (groups_in items) d.name d.op h.made q h.typed asked
-item_meets given names items _ one _ other h (asks.of_final_name d) = h.binding.free
-item_meets given names items _ one _ other h (asks.of_one_final d) = h.binding.few
-item_meets given names items _ one _ other h (asks.of_final d q asked) = final_meets given (known_in names items) d.op h.made q h.typed asked
-item_meets given names items _ one _ other h (asks.of_print x) = (h.table, h.stands)
-item_meets given names items _ one _ other h (asks.of_once x) = h.once
+item_meets given names items _ one _ h (asks.of_final_name d) = h.binding.free
+item_meets given names items _ one _ h (asks.of_one_final d) = h.binding.few
+item_meets given names items _ one _ h (asks.of_final d q asked) = final_meets given (known_in names items) d.op h.made q h.typed asked
+item_meets given names items _ one _ h (asks.of_print x) = (h.table, h.stands)
+item_meets given names items _ one _ h (asks.of_once x) = h.once

@@ -131,7 +131,7 @@ expr_meets known columns hidden k e _ h (of_second l op span a b p) =
 
 -- ---- names that are new
 
-new_at : (before front : List ℕ) (id : ℕ) (back : List ℕ) → AreNew before (front ++ id ∷ back) → IsNew id (before ++ front)
+pub new_at : (before front : List ℕ) (id : ℕ) (back : List ℕ) → AreNew before (front ++ id ∷ back) → IsNew id (before ++ front)
 new_at before [] id back h = let N : List ℕ → Type 0 = λ z. IsNew id z in subst N (sym (append-nil before)) h.0
 new_at before (x ∷ front) id back h =
     let N : List ℕ → Type 0 = λ z. IsNew id z in

@@ -1,29 +1,21 @@
 -- Where a query's fault stands, and what it says, in the words of the rules.
-use Rattle.std.specs.Prelude.{◌≡◌, ℕ, List, [], ◌∷◌, ◌++◌, Err}
+use Rattle.std.specs.Prelude.{◌≡◌, ◌↔◌, ℕ, List, [], ◌∷◌, ◌++◌, Err}
 use Rattle.query_lang.specs.declared.fault.FaultKind.{FaultKind}
 use Rattle.query_lang.specs.declared.fault.FaultKind.TheVariants as kinds
 use Rattle.query_lang.specs.declared.fault.Limit.{Limit}
 use Rattle.query_lang.specs.declared.fault.QueryFault.{QueryFault}
 use Rattle.query_lang.specs.declared.fault.Span.{Span}
-use Rattle.query_lang.specs.declared.fold.TypedExpr.{TypedExpr}
-use Rattle.query_lang.specs.declared.query.Column.{Column}
-use Rattle.query_lang.specs.declared.query.Expr.{Expr}
 use Rattle.query_lang.specs.declared.query.Item.{Item}
-use Rattle.query_lang.specs.declared.query.Item.TheVariants as item
-use Rattle.query_lang.specs.declared.query.Name.{Name}
 use Rattle.query_lang.specs.declared.query.Query.{Query}
-use Rattle.query_lang.specs.declared.typing.FoldView.{FoldView}
 use Rattle.query_lang.specs.declared.typing.Given.{Given}
 use Rattle.query_lang.specs.declared.typing.Known.{Known}
 use Rattle.query_lang.specs.TypedFinals.{five_fields}
 use Rattle.query_lang.specs.Typing.{checked, typed_names, given_of}
-use Rattle.query_rules.specs.Asked.{ids_of, ExprAsks, ColumnsAsk, KeysAsk, ArgumentsAsk, ItemAsks}
+use Rattle.query_rules.specs.Asked.{ItemAsks}
 use Rattle.query_rules.specs.Context.{Entry, prints_in, known_in}
 use Rattle.query_rules.specs.Demands.{Demand, Holds, IsUnknown, IsHiddenState, IsTaken, IsOtherKind, IsOtherArity, IsBadConstant}
 use Rattle.query_rules.specs.Demands.{IsOneTooMany}
-use Rattle.query_rules.specs.ExprRules.{Kind, HasKind}
 use Rattle.query_rules.specs.QueryRules.{HasItem, HasItems}
-use Rattle.query_rules.specs.StreamRules.{HasColumns, HasKeys, HasArguments}
 
 abbrev pub given_in : Query → Given
 given_in q = given_of (typed_names q.names) q.items
@@ -98,34 +90,8 @@ IsOfTyping _ = ⊥
 abbrev pub OnlyTheseKinds : Type 0
 OnlyTheseKinds = (q : Query) (fault : QueryFault) → checked q ≡ Err fault → IsOfTyping fault.kind
 
--- An item has a typed form behind others where all is so that it asks.
-abbrev pub DemandsAreEnough : Type 0
-DemandsAreEnough = (given : Given) (names : List (List ℕ)) (items : List Entry) (i : Item)
-    → ((demand : Demand) → ItemAsks (five_fields given.fields) names items i demand → Holds (known_in names items) demand)
-    → (one : Entry) × HasItem given names items i one
-
--- Of a typed expression, of the new columns of a `map`, of keys and of a fold's arguments all is so that they ask.
-abbrev pub ExpressionsMeet : Type 0
-ExpressionsMeet = (known : List Known) (columns hidden : List ℕ) (kind : Kind) (e : Expr) (t : TypedExpr) (demand : Demand)
-    → HasKind columns kind e t → ExprAsks columns hidden kind e demand → Holds known demand
-
-abbrev pub ColumnsMeet : Type 0
-ColumnsMeet = (known : List Known) (columns hidden : List ℕ) (new : List Column) (values : List TypedExpr) (demand : Demand)
-    → HasColumns columns (columns ++ hidden) new values → ColumnsAsk columns hidden new demand → Holds known demand
-
-abbrev pub KeysMeet : Type 0
-KeysMeet = (known : List Known) (columns hidden : List ℕ) (keys : List Name) (slots : List ℕ) (demand : Demand)
-    → HasKeys columns (ids_of keys) slots → KeysAsk columns hidden keys demand → Holds known demand
-
-abbrev pub ArgumentsMeet : Type 0
-ArgumentsMeet = (known : List Known) (columns hidden keys : List ℕ) (f : FoldView) (at : Span) (slots : List ℕ) (demand : Demand)
-    → HasArguments columns keys f slots → ArgumentsAsk columns hidden keys f at demand → Holds known demand
-
-abbrev pub IsNoFold : Item → Type 0
-IsNoFold (item.Fold d) = ⊥
-IsNoFold _ = Unit {0}
-
--- Of a stream, a final and a print that are typed all is so that they ask.
-abbrev pub ItemsMeet : Type 0
-ItemsMeet = (given : Given) (names : List (List ℕ)) (items : List Entry) (i : Item) (one : Entry) (demand : Demand) → IsNoFold i
-    → HasItem given names items i one → ItemAsks (five_fields given.fields) names items i demand → Holds (known_in names items) demand
+-- An item has a typed form behind others exactly where all is so that it asks.
+abbrev pub DemandsAreRules : Type 0
+DemandsAreRules = (given : Given) (names : List (List ℕ)) (items : List Entry) (i : Item)
+    → ((one : Entry) × HasItem given names items i one)
+    ↔ ((demand : Demand) → ItemAsks (five_fields given.fields) names items i demand → Holds (known_in names items) demand)

@@ -1,8 +1,7 @@
 // Laws of faults: where a query's fault stands and what it says, in the words of the rules.
 
 ghost use Rattle.query_rules.specs.FaultLaws.{UnknownNames, StatesOnLine, NamesTaken, WrongKinds, WrongArities, BadConstants};
-ghost use Rattle.query_rules.specs.FaultLaws.{OverLimits, NothingsPrinted, OnlyTheseKinds, DemandsAreEnough};
-ghost use Rattle.query_rules.specs.FaultLaws.{ExpressionsMeet, ColumnsMeet, KeysMeet, ArgumentsMeet, ItemsMeet};
+ghost use Rattle.query_rules.specs.FaultLaws.{OverLimits, NothingsPrinted, OnlyTheseKinds, DemandsAreRules};
 
 /// What a fault of each kind says. But for *NothingPrinted*, it stands in the first item that has no typed form behind those
 /// before it, and says what is asked there and isn't so.
@@ -18,17 +17,8 @@ pub fn faults_break_rules()
     ensures no_other { OnlyTheseKinds }
 {}
 
-/// An item has a typed form behind others where all is so that it asks: nothing else is asked.
-pub fn demands_are_enough()
-    ensures { DemandsAreEnough }
-{}
-
-/// Where an expression, the new columns of a `map`, keys or a fold's arguments are typed, all is so that they ask, and so it is
-/// of a stream, a final and a print: one that reads a hidden state has no typed form, say, unless a column has its name.
-pub fn typed_parts_meet_demands()
-    ensures expressions { ExpressionsMeet }
-    ensures columns { ColumnsMeet }
-    ensures keys { KeysMeet }
-    ensures arguments { ArgumentsMeet }
-    ensures items { ItemsMeet }
+/// An item has a typed form behind others exactly where all is so that it asks. So whatever a fault says that isn't so leaves the
+/// item without a form, and nothing else does: a filter on a fold's state, say, or a key that stands twice.
+pub fn demands_are_rules()
+    ensures { DemandsAreRules }
 {}

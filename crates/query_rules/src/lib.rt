@@ -5,7 +5,7 @@
 mod fault_laws;
 mod laws;
 
-pub use fault_laws::{demands_are_enough, faults_break_rules, typed_parts_meet_demands};
+pub use fault_laws::{demands_are_rules, faults_break_rules};
 pub use laws::{
     conditions_agree, faults_have_no_form, finals_agree, folds_agree, one_typed_form,
     queries_agree, streams_agree, words_agree,
