@@ -30,7 +30,8 @@ AcceptedOnce = (text : List ℕ) (t u : TypedQuery) → IsAcceptedAs text t → 
 -- that is too deep.
 pub data IsRefusedFor (text : List ℕ) (fault : QueryFault) : Type 0 where
   by_grammar : IsFaultOf text fault → IsRefusedFor text fault
-  by_typing : (q : Query) → IsQueryOf text q → checked q ≡ Err fault → ((t : TypedQuery) → IsTyped q t → ⊥) → IsRefusedFor text fault
+  by_typing : (q : Query) → IsQueryOf text q → checked q ≡ Err fault → ((t : TypedQuery) → IsTyped q t → ⊥)
+      → IsRefusedFor text fault
   by_stages : (q : Query) (t : TypedQuery) → IsQueryOf text q → IsTyped q t → stage_fault t ≡ Some fault → (FitsStages t → ⊥)
       → IsRefusedFor text fault
 

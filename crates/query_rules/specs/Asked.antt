@@ -129,7 +129,8 @@ pub data FinalAsks (five : List ℕ) (known : List Known) : FinalOp → Demand �
   of_grouped : (input : Name) (keys : List Key) (fold_name : Name)
       → FinalAsks five known (final.Group input keys fold_name) (Stands ATable input)
   of_keys : (input : Name) (keys : List Key) (fold_name : Name) (source : TableView) (demand : Demand) → IsTable known input.id source
-      → KeysAsk source.columns [] (flat_map (key_names five) keys) demand → FinalAsks five known (final.Group input keys fold_name) demand
+      → KeysAsk source.columns [] (flat_map (key_names five) keys) demand
+      → FinalAsks five known (final.Group input keys fold_name) demand
   of_fold : (input : Name) (keys : List Key) (fold_name : Name)
       → FinalAsks five known (final.Group input keys fold_name) (Stands AQuietFold fold_name)
   of_arguments : (input : Name) (keys : List Key) (fold_name : Name) (source : TableView) (f : FoldView) (demand : Demand)
@@ -142,7 +143,8 @@ pub data FinalAsks (five : List ℕ) (known : List Known) : FinalOp → Demand �
       → FinalAsks five known (final.Join first second) (SameKeys left right second.span)
   of_others : (first second : Name) (left right : TableView) → IsTable known first.id left → IsTable known second.id right
       → FinalAsks five known (final.Join first second) (Apart (other_columns right) left.columns second.span)
-  of_ranked : (input column : Name) (rows : ℕ) (span : Span) → FinalAsks five known (final.Top input column rows span) (Stands ATable input)
+  of_ranked : (input column : Name) (rows : ℕ) (span : Span)
+      → FinalAsks five known (final.Top input column rows span) (Stands ATable input)
   of_column : (input column : Name) (rows : ℕ) (span : Span) (source : TableView) → IsTable known input.id source
       → FinalAsks five known (final.Top input column rows span) (AColumn source.columns [] column.id column.span)
   of_rows : (input column : Name) (rows : ℕ) (span : Span) → FinalAsks five known (final.Top input column rows span) (Kept rows span)
@@ -153,12 +155,14 @@ pub data ItemAsks (five : List ℕ) (names : List (List ℕ)) (items : List Entr
   of_fold : (d : FoldDef) (demand : Demand) → FoldAsks d demand → ItemAsks five names items (item.Fold d) demand
   of_stream_name : (d : StreamDef) → ItemAsks five names items (item.Stream d) (Free d.name)
   of_one_stream : (d : StreamDef)
-      → ItemAsks five names items (item.Stream d) (Fewer limits.Bindings (length (streams_in items) + length (finals_in items)) d.name.span)
+      → ItemAsks five names items (item.Stream d)
+      (Fewer limits.Bindings (length (streams_in items) + length (finals_in items)) d.name.span)
   of_stream : (d : StreamDef) (demand : Demand) → StreamAsks five (known_in names items) (groups_in items) d.name d.op demand
       → ItemAsks five names items (item.Stream d) demand
   of_final_name : (d : FinalDef) → ItemAsks five names items (item.Final d) (Free d.name)
   of_one_final : (d : FinalDef)
-      → ItemAsks five names items (item.Final d) (Fewer limits.Bindings (length (streams_in items) + length (finals_in items)) d.name.span)
+      → ItemAsks five names items (item.Final d)
+      (Fewer limits.Bindings (length (streams_in items) + length (finals_in items)) d.name.span)
   of_final : (d : FinalDef) (demand : Demand) → FinalAsks five (known_in names items) d.op demand
       → ItemAsks five names items (item.Final d) demand
   of_print : (name : Name) → ItemAsks five names items (item.Print name) (Stands ATable name)

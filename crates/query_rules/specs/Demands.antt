@@ -45,7 +45,8 @@ pub data IsOneOf (e : Expr) : List Expr → Type 0 where
 -- Where an expression has to be of some kind, each part of it has to be of its own.
 pub data HasPart : Kind → Expr → Kind → Expr → Type 0 where
   whole : (k : Kind) (e : Expr) → HasPart k e k e
-  of_not : (k : Kind) (span : Span) (e : Expr) (l : Kind) (part : Expr) → HasPart Condition e l part → HasPart k (expr.Not span e) l part
+  of_not : (k : Kind) (span : Span) (e : Expr) (l : Kind) (part : Expr) → HasPart Condition e l part
+      → HasPart k (expr.Not span e) l part
   of_left : (k : Kind) (op : Op) (span : Span) (a b : Expr) (l : Kind) (part : Expr)
       → HasPart (operand_kind op) a l part → HasPart k (expr.Binary op span a b) l part
   of_right : (k : Kind) (op : Op) (span : Span) (a b : Expr) (l : Kind) (part : Expr)

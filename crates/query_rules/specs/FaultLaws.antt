@@ -69,7 +69,8 @@ abbrev pub BadConstants : Type 0
 BadConstants = (q : Query) (at : Span) → HasFault kinds.BadConstant at q → Breaks (λ known d. IsBadConstant at d) q
 
 abbrev pub OverLimits : Type 0
-OverLimits = (limit : Limit) (q : Query) (at : Span) → HasFault (kinds.OverLimit limit) at q → Breaks (λ known d. IsOneTooMany limit at d) q
+OverLimits = (limit : Limit) (q : Query) (at : Span) → HasFault (kinds.OverLimit limit) at q
+    → Breaks (λ known d. IsOneTooMany limit at d) q
 
 -- *NothingPrinted* stands at the end.
 abbrev pub NothingsPrinted : Type 0

@@ -23,7 +23,11 @@ pub record OfFilter (groups : ℕ) (known : List Known) (input : Name) (e : Expr
   pub condition : TypedExpr
   pub table : IsTable known input.id source
   pub typed : HasKind source.columns Condition e condition
-  pub is : made ≡ record { op = made_by.Filter (table_number groups source.place) condition; columns = source.columns; keys = source.keys }
+  pub is : made ≡ record {
+    op = made_by.Filter (table_number groups source.place) condition;
+    columns = source.columns;
+    keys = source.keys;
+  }
 
 pub record OfMap (groups : ℕ) (known : List Known) (input : Name) (columns : List Column) (made : MadeFinal) : Type 0 where
   pub source : TableView

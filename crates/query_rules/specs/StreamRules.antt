@@ -1,5 +1,6 @@
 -- The rules of streams.
-use Rattle.std.specs.Prelude.{◌≡◌, ℕ, ◌+◌, ◌<◌, ◌≤◌, List, [], ◌∷◌, ◌++◌, length, map, flat_map, slice_get, Some, None}
+use Rattle.std.specs.Prelude.{◌≡◌, ℕ, ◌+◌, ◌<◌, ◌≤◌, List, [], ◌∷◌, ◌++◌, length, map, flat_map}
+use Rattle.std.specs.Prelude.{slice_get, Some, None}
 use Rattle.query_lang.specs.declared.fold.TypedExpr.{TypedExpr}
 use Rattle.query_lang.specs.declared.query.Name.{Name}
 use Rattle.query_lang.specs.declared.query.Key.{Key}

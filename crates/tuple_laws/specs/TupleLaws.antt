@@ -13,7 +13,8 @@ packet_numbers tuples = map (λ t. t.packet) tuples
 
 -- A stream has one tuple at most for each packet, and its tuples stand in the order of the packets.
 abbrev pub PacketsAscend : Type 0
-PacketsAscend = (q : TypedQuery) (number : ℕ) (packets : List (List ℕ)) → IsStrictlyIncreasing (packet_numbers (stream q number packets))
+PacketsAscend = (q : TypedQuery) (number : ℕ) (packets : List (List ℕ))
+    → IsStrictlyIncreasing (packet_numbers (stream q number packets))
 
 -- Each tuple of a stream is that of a packet of the trace, which are numbered from 1.
 abbrev pub PacketsAreOfTheTrace : Type 0
