@@ -18,7 +18,7 @@ use Rattle.query_lang.specs.declared.typing.Earlier.{Earlier}
 use Rattle.query_lang.specs.declared.typing.Given.{Given}
 use Rattle.query_lang.specs.declared.typing.MadeFinal.{MadeFinal}
 use Rattle.query_lang.specs.declared.typing.TableView.{TableView}
-use Rattle.query_lang.specs.Limits.{final_nodes, IsNumberedFinal}
+use Rattle.query_lang.specs.Limits.{final_nodes, HasFinalKeys, IsNumberedFinal}
 use Rattle.query_lang.specs.Streams.{takings}
 use Rattle.query_lang.specs.Checks.{is_among}
 use Rattle.query_lang.specs.TypedExprs.{slot_of, condition_of}
@@ -30,7 +30,7 @@ use Rattle.query_types.specs.Numbers.{final_number}
 use Rattle.query_types.proofs.ExprLaws.{same_ok, found_first, must_ok, slot_bound, condition_valid}
 use Rattle.query_types.proofs.BodyLaws.{must_not_ok}
 use Rattle.query_types.proofs.ViewLaws.{Whole, IsTable, IsBelow, AreKnown, table_shape, table_known, fold_known, quiet_known, get_front}
-use Rattle.query_types.proofs.StreamLaws.{condition_fits, AreNew, new_valid, ArePicked, keys_valid, arguments_valid, group_valid, group_is}
+use Rattle.query_types.proofs.StreamLaws.{condition_fits, AreNew, new_valid, ArePicked, keys_valid, picked_some, arguments_valid, group_valid, group_is}
 use Rattle.query_types.proofs.MadeLaws.{IsPart, IsName}
 
 -- the tables before a final
@@ -98,8 +98,8 @@ drop_names names (suc n) [] v = v
 drop_names names (suc n) (x ∷ rest) v = drop_names names n rest (All-tail (IsName names) x rest v)
 
 pub final_valid : (w : Whole) (given : Given) (e : Earlier) (op : FinalOp) (made : MadeFinal) → IsPart w e → length (takings w.streams) ≡ w.groups → given.groups ≡ w.groups
-    → AreKnown w (length e.streams) (length e.finals) e.known → final_nodes op ≤ 512 → IsNumberedFinal w.names op → final_number op < 2 ^ 64 → made_final given e op ≡ Ok made → IsMadeFinal w e made
-final_valid w given e (ops.Filter input c) made part count same known nodes numbered words h =
+    → AreKnown w (length e.streams) (length e.finals) e.known → final_nodes op ≤ 512 → IsNumberedFinal w.names op → (0 < length (five_fields given.fields)) × HasFinalKeys op → final_number op < 2 ^ 64 → made_final given e op ≡ Ok made → IsMadeFinal w e made
+final_valid w given e (ops.Filter input c) made part count same known nodes numbered some words h =
     let source = found_first (table_named e.known input) _ made h in
     let condition = found_first (condition_of source.0.columns [] c) _ made source.2 in
     let v = table_known w (length e.streams) (length e.finals) e.known input source.0 known source.1 in
@@ -109,7 +109,7 @@ final_valid w given e (ops.Filter input c) made part count same known nodes numb
     let M : MadeFinal → Type 0 = λ m. IsMadeFinal w e m in
     let P : ℕ → Type 0 = λ g. IsMadeFinal w e (record { op = typed.Filter (table_number g source.0.place) condition.0; columns = source.0.columns; keys = source.0.keys }) in
     subst M (same_ok _ made condition.2) (subst P (sym same) (record { operator = (t.within, subst C (sym t.shape) fits, sym t.shape); names = v.names; keys = v.keys }))
-final_valid w given e (ops.Map input columns) made part count same known nodes numbered words h =
+final_valid w given e (ops.Map input columns) made part count same known nodes numbered some words h =
     let source = found_first (table_named e.known input) _ made h in
     let ids = source.0.columns in
     let new = found_first (new_columns ids [] no_new_columns columns) _ made source.2 in
@@ -125,7 +125,7 @@ final_valid w given e (ops.Map input columns) made part count same known nodes n
       names = All-append (IsName w.names) ids new.0.names v.names fits.0.ids;
       keys = omega (arith, v.keys, length-append ids new.0.names);
     }))
-final_valid w given e (ops.Group input keys fold_name) made part count same known nodes numbered words h =
+final_valid w given e (ops.Group input keys fold_name) made part count same known nodes numbered some words h =
     let source = found_first (table_named e.known input) _ made h in
     let ids = source.0.columns in
     let five = five_fields given.fields in
@@ -139,7 +139,8 @@ final_valid w given e (ops.Group input keys fold_name) made part count same know
     let none : ArePicked w.names (length ids) (record { names = []; slots = [] }) = record { ids = All-nil (IsName w.names); slots_in = All-nil (IsName (length ids)); same = refl; most = omega arith } in
     let vp = keys_valid ids [] w.names (record { names = []; slots = [] }) picked.0 (flat_map (key_names five) keys) v.names none picked.1 in
     let va = arguments_valid ids [] picked.0.names f.0 fold_name.span arguments.0 arguments.1 in
-    let group = group_valid w ids arguments.0 picked.0 f.0 vf vp va.0 va.1 in
+    let one_key = picked_some five ids [] picked.0 keys some.0 some.1 picked.1 in
+    let group = group_valid w ids arguments.0 picked.0 f.0 vf vp one_key va.0 va.1 in
     let G : Shape → Type 0 = λ s. IsValidGroup w.folds s.width picked.0.slots f.0.number arguments.0 in
     let Q : Option TypedFold → Type 0 = λ o. IsQuiet o in
     let emits : IsQuiet (Some vf.one) = no_emit vf.one.emit (vf.emits ∙ quiet.1) in
@@ -150,7 +151,7 @@ final_valid w given e (ops.Group input keys fold_name) made part count same know
       names = All-append (IsName w.names) picked.0.names f.0.states vp.ids vf.names;
       keys = omega (arith, length-append picked.0.names f.0.states);
     }))
-final_valid w given e (ops.Join first second) made part count same known nodes numbered words h =
+final_valid w given e (ops.Join first second) made part count same known nodes numbered some words h =
     let left = found_first (table_named e.known first) _ made h in
     let right = found_first (table_named e.known second) _ made left.2 in
     let equal = must_ok (same_names (key_columns left.0) (key_columns right.0)) WrongKind second.span _ made right.2 in
@@ -172,7 +173,7 @@ final_valid w given e (ops.Join first second) made part count same known nodes n
       names = All-append (IsName w.names) left.0.columns (other_columns right.0) vl.names (drop_names w.names right.0.keys right.0.columns vr.names);
       keys = omega (arith, vl.keys, length-append left.0.columns (other_columns right.0));
     }))
-final_valid w given e (ops.Top input column kept span) made part count same known nodes numbered words h =
+final_valid w given e (ops.Top input column kept span) made part count same known nodes numbered some words h =
     let source = found_first (table_named e.known input) _ made h in
     let slot = found_first (slot_of source.0.columns [] column) _ made source.2 in
     let test = must_ok (nat_lt 0 kept && nat_le kept 65536) BadConstant span _ made slot.2 in

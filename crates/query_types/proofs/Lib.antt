@@ -1,12 +1,16 @@
+pub mod ApartLaws
 pub mod BodyLaws
 pub mod CheckLemmas
 pub mod ExprLaws
 pub mod FinalLaws
+pub mod FitLaws
 pub mod ItemLaws
 pub mod MadeLaws
 pub mod NameLemmas
 pub mod QueryLaws
 pub mod ReadLaws
+pub mod ScopeLaws
+pub mod StartLaws
 pub mod StmtLaws
 pub mod StreamLaws
 pub mod UseFacts

@@ -19,7 +19,7 @@ use Rattle.query_lang.specs.declared.typing.Origin.TheVariants as origins
 use Rattle.query_lang.specs.declared.typing.StreamColumn.{StreamColumn}
 use Rattle.query_lang.specs.declared.typing.StreamView.{StreamView}
 use Rattle.query_lang.specs.declared.typing.TableView.{TableView}
-use Rattle.query_lang.specs.Limits.{stream_nodes, IsNumberedStream}
+use Rattle.query_lang.specs.Limits.{stream_nodes, HasStreamKeys, IsNumberedStream}
 use Rattle.query_lang.specs.Streams.{Taking, taking_of}
 use Rattle.query_lang.specs.TypedExprs.{condition_of}
 use Rattle.query_lang.specs.TypedFolds.{expr_nodes}
@@ -29,7 +29,7 @@ use Rattle.query_types.specs.Numbers.{stream_number}
 use Rattle.query_types.proofs.ExprLaws.{same_ok, found_first, must_ok, condition_valid}
 use Rattle.query_types.proofs.BodyLaws.{must_not_ok}
 use Rattle.query_types.proofs.ViewLaws.{Whole, IsStream, AreKnown, stream_known, fold_known, width_front}
-use Rattle.query_types.proofs.StreamLaws.{condition_fits, AreNew, new_valid, ArePicked, keys_valid, arguments_valid, group_valid, group_is, others_valid, picked_valid}
+use Rattle.query_types.proofs.StreamLaws.{condition_fits, AreNew, new_valid, ArePicked, keys_valid, picked_some, arguments_valid, group_valid, group_is, others_valid, picked_valid}
 
 abbrev pub IsName : ℕ → ℕ → Type 0
 IsName names id = id < names
@@ -61,15 +61,15 @@ pub names_of_made : (origin : Origin) (names : List ℕ) → column_names (map (
 names_of_made origin [] = refl
 names_of_made origin (name ∷ rest) = ap (λ l. name ∷ l) (names_of_made origin rest)
 
-names_append : (a b : List StreamColumn) → column_names (a ++ b) ≡ column_names a ++ column_names b
+pub names_append : (a b : List StreamColumn) → column_names (a ++ b) ≡ column_names a ++ column_names b
 names_append a b = map-append (λ (column : StreamColumn). column.name) a b
 
 columns_length : (columns : List StreamColumn) → length (column_names columns) ≡ length columns
 columns_length columns = simp length-map
 
 pub made_valid : (w : Whole) (five : List ℕ) (e : Earlier) (name : Name) (op : StreamOp) (made : MadeStream) → IsPart w e → AreKnown w (length e.streams) (length e.finals) e.known
-    → stream_nodes op ≤ 512 → IsNumberedStream w.names op → stream_number op < 2 ^ 64 → made_stream five e name op ≡ Ok made → IsMade w e made
-made_valid w five e name (ops.Filter input c) made part known nodes numbered words h =
+    → stream_nodes op ≤ 512 → IsNumberedStream w.names op → (0 < length five) × HasStreamKeys op → stream_number op < 2 ^ 64 → made_stream five e name op ≡ Ok made → IsMade w e made
+made_valid w five e name (ops.Filter input c) made part known nodes numbered some words h =
     let source = found_first (stream_named e.known input) _ made h in
     let condition = found_first (condition_of (column_names source.0.columns) source.0.hidden c) _ made source.2 in
     let v = stream_known w (length e.streams) (length e.finals) e.known input source.0 known source.1 in
@@ -78,7 +78,7 @@ made_valid w five e name (ops.Filter input c) made part known nodes numbered wor
     let C : ℕ → Type 0 = λ k. IsValidCondition k condition.0 in
     let M : MadeStream → Type 0 = λ m. IsMade w e m in
     subst M (same_ok _ made condition.2) (record { operator = (v.number, subst C (sym width) fits, sym width); names = v.names; table = refl })
-made_valid w five e name (ops.Map input columns) made part known nodes numbered words h =
+made_valid w five e name (ops.Map input columns) made part known nodes numbered some words h =
     let source = found_first (stream_named e.known input) _ made h in
     let ids = column_names source.0.columns in
     let new = found_first (new_columns ids source.0.hidden no_new_columns columns) _ made source.2 in
@@ -96,7 +96,7 @@ made_valid w five e name (ops.Map input columns) made part known nodes numbered 
       names = subst N (sym all) (All-append (IsName w.names) ids new.0.names v.names fits.0.ids);
       table = refl;
     })
-made_valid w five e name (ops.Zip first second) made part known nodes numbered words h =
+made_valid w five e name (ops.Zip first second) made part known nodes numbered some words h =
     let left = found_first (stream_named e.known first) _ made h in
     let right = found_first (stream_named e.known second) _ made left.2 in
     let free = must_not_ok (clash left.0.columns right.0.columns) NameTaken second.span _ made right.2 in
@@ -117,7 +117,7 @@ made_valid w five e name (ops.Zip first second) made part known nodes numbered w
       names = subst N (sym all) (All-append (IsName w.names) ids (column_names (columns_at right.0.columns slots)) vl.names picked.1);
       table = refl;
     })
-made_valid w five e name (ops.Group input keys fold_name) made part known nodes numbered words h =
+made_valid w five e name (ops.Group input keys fold_name) made part known nodes numbered some words h =
     let room = must_ok (nat_lt e.groups 8) (OverLimit Groupbys) name.span _ made h in
     let source = found_first (stream_named e.known input) _ made room.1 in
     let ids = column_names source.0.columns in
@@ -130,7 +130,8 @@ made_valid w five e name (ops.Group input keys fold_name) made part known nodes 
     let none : ArePicked w.names (length ids) (record { names = []; slots = [] }) = record { ids = All-nil (IsName w.names); slots_in = All-nil (IsName (length ids)); same = refl; most = omega arith } in
     let vp = keys_valid ids source.0.hidden w.names (record { names = []; slots = [] }) picked.0 (flat_map (key_names five) keys) v.names none picked.1 in
     let va = arguments_valid ids source.0.hidden picked.0.names f.0 fold_name.span arguments.0 arguments.1 in
-    let group = group_valid w ids arguments.0 picked.0 f.0 vf vp va.0 va.1 in
+    let one_key = picked_some five ids source.0.hidden picked.0 keys some.0 some.1 picked.1 in
+    let group = group_valid w ids arguments.0 picked.0 f.0 vf vp one_key va.0 va.1 in
     let G : ℕ → Type 0 = λ k. IsValidGroup w.folds k picked.0.slots f.0.number arguments.0 in
     let A : ℕ → Type 0 = λ k. AreSlots k picked.0.slots in
     let within : AreSlots (length source.0.columns) picked.0.slots = subst A (columns_length source.0.columns) vp.slots_in in

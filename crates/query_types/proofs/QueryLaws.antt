@@ -26,7 +26,7 @@ use Rattle.query_lang.specs.declared.typing.MadeStream.{MadeStream}
 use Rattle.query_lang.specs.declared.typing.Meaning.TheVariants as meaning
 use Rattle.query_lang.specs.declared.typing.StreamView.{StreamView}
 use Rattle.query_lang.specs.declared.typing.TableView.{TableView}
-use Rattle.query_lang.specs.Limits.{KeepsLimits, IsNumbered}
+use Rattle.query_lang.specs.Limits.{HasKeys, KeepsLimits, IsNumbered}
 use Rattle.query_lang.specs.Streams.{takings}
 use Rattle.query_lang.specs.Checks.{is_among}
 use Rattle.query_lang.specs.TypedExprs.{condition_of}
@@ -114,31 +114,31 @@ final_sound w e name made s part base id v =
       prints = s.prints;
     }
 
-item_sound : (w : Whole) (given : Given) (e after : Earlier) (one : Item) → length (takings w.streams) ≡ w.groups → given.groups ≡ w.groups → KeepsLimits one → IsNumbered w.names one → item_number one < 2 ^ 64
+item_sound : (w : Whole) (given : Given) (e after : Earlier) (one : Item) → length (takings w.streams) ≡ w.groups → given.groups ≡ w.groups → KeepsLimits one → IsNumbered w.names one → (0 < length (five_fields given.fields)) × HasKeys one → item_number one < 2 ^ 64
     → Sound w e → item_checked given e one ≡ Ok after → IsPart w after → Sound w after
-item_sound w given e after (item.Fold d) count same limits numbered words s h part =
+item_sound w given e after (item.Fold d) count same limits numbered some words s h part =
     let base = item_stands w.names given e after (item.Fold d) limits numbered words s.base h in
     let free = must_not_ok (is_some (meaning_of e.known d.name.id)) NameTaken d.name.span _ after h in
     let f = found_first (fold_checked d) _ after free.1 in
     let P : Earlier → Type 0 = λ z. IsPart w z → Standing w.names z → Sound w z in
     subst P (same_ok _ after f.2) (λ p b. fold_sound w e f.0 s p b (fold_named_well w.names d f.0 numbered f.1)) part base
-item_sound w given e after (item.Stream d) count same limits numbered words s h part =
+item_sound w given e after (item.Stream d) count same limits numbered some words s h part =
     let base = item_stands w.names given e after (item.Stream d) limits numbered words s.base h in
     let before = item_part w given e after (item.Stream d) h part in
     let begins = found_first (begun e d.name) _ after h in
     let made = found_first (made_stream (five_fields given.fields) e d.name d.op) _ after begins.2 in
-    let v = made_valid w (five_fields given.fields) e d.name d.op made.0 before s.known limits numbered.1 words made.1 in
+    let v = made_valid w (five_fields given.fields) e d.name d.op made.0 before s.known limits numbered.1 some words made.1 in
     let P : Earlier → Type 0 = λ z. IsPart w z → Standing w.names z → Sound w z in
     subst P (same_ok _ after made.2) (λ p b. stream_sound w e d.name made.0 s p b numbered.0 v) part base
-item_sound w given e after (item.Final d) count same limits numbered words s h part =
+item_sound w given e after (item.Final d) count same limits numbered some words s h part =
     let base = item_stands w.names given e after (item.Final d) limits numbered words s.base h in
     let before = item_part w given e after (item.Final d) h part in
     let begins = found_first (begun e d.name) _ after h in
     let made = found_first (made_final given e d.op) _ after begins.2 in
-    let v = final_valid w given e d.op made.0 before count same s.known limits numbered.1 words made.1 in
+    let v = final_valid w given e d.op made.0 before count same s.known limits numbered.1 some words made.1 in
     let P : Earlier → Type 0 = λ z. IsPart w z → Standing w.names z → Sound w z in
     subst P (same_ok _ after made.2) (λ p b. final_sound w e d.name made.0 s p b numbered.0 v) part base
-item_sound w given e after (item.Print name) count same limits numbered words s h part =
+item_sound w given e after (item.Print name) count same limits numbered some words s h part =
     let base = item_stands w.names given e after (item.Print name) limits numbered words s.base h in
     let table = found_first (table_named e.known name) _ after h in
     let new = must_not_ok (is_among name.id e.printed) NameTaken name.span _ after table.2 in
@@ -152,14 +152,14 @@ item_sound w given e after (item.Print name) count same limits numbered words s 
       prints = All-push (IsPrinted w) e.prints table.0.place s.prints (printed w (length e.finals) table.0 v);
     }) base
 
-pub items_sound : (w : Whole) (given : Given) (items : List Item) (e after : Earlier) → length (takings w.streams) ≡ w.groups → given.groups ≡ w.groups → All KeepsLimits items → All (IsNumbered w.names) items
+pub items_sound : (w : Whole) (given : Given) (items : List Item) (e after : Earlier) → length (takings w.streams) ≡ w.groups → given.groups ≡ w.groups → All KeepsLimits items → All (IsNumbered w.names) items → 0 < length (five_fields given.fields) → All HasKeys items
     → greatest_of (map item_number items) < 2 ^ 64 → Sound w e → items_checked given e items ≡ Ok after → IsPart w after → Sound w after
-items_sound w given [] e after count same limits numbered words s h part = let P : Earlier → Type 0 = λ z. Sound w z in subst P (same_ok e after h) s
-items_sound w given (one ∷ rest) e after count same limits numbered words s h part =
+items_sound w given [] e after count same limits numbered five keys words s h part = let P : Earlier → Type 0 = λ z. Sound w z in subst P (same_ok e after h) s
+items_sound w given (one ∷ rest) e after count same limits numbered five keys words s h part =
     let first = found_first (item_checked given e one) _ after h in
     let half = items_part w given rest first.0 after first.2 part in
-    items_sound w given rest first.0 after count same (All-tail KeepsLimits one rest limits) (All-tail (IsNumbered w.names) one rest numbered) (omega arith)
-    (item_sound w given e first.0 one count same (All-head KeepsLimits one rest limits) (All-head (IsNumbered w.names) one rest numbered) (omega arith) s first.1 half) first.2 part
+    items_sound w given rest first.0 after count same (All-tail KeepsLimits one rest limits) (All-tail (IsNumbered w.names) one rest numbered) five (All-tail HasKeys one rest keys) (omega arith)
+    (item_sound w given e first.0 one count same (All-head KeepsLimits one rest limits) (All-head (IsNumbered w.names) one rest numbered) (five, All-head HasKeys one rest keys) (omega arith) s first.1 half) first.2 part
 
 -- the streams with tables are the groupbys
 group_made : (five : List ℕ) (e : Earlier) (name : Name) (op : StreamOp) (made : MadeStream) → made_stream five e name op ≡ Ok made → is_some made.table ≡ is_group op

@@ -1,10 +1,10 @@
 -- What the operators of streams make is valid.
-use Rattle.std.proofs.Common.{◌≡◌, ℕ, zero, suc, ◌+◌, ◌<◌, ◌≤◌, ◌^◌, Bool, true, false, ◌||◌, cond, List, [], ◌∷◌, ◌++◌, length, map, Option, Some, None, Ok, Err, nat_eq, nat_lt, sum_by, refl, sym, ap, subst, ◌∙◌, arith}
+use Rattle.std.proofs.Common.{◌≡◌, ℕ, zero, suc, ◌+◌, ◌<◌, ◌≤◌, ◌^◌, Bool, true, false, ◌||◌, cond, List, [], ◌∷◌, ◌++◌, length, map, flat_map, Option, Some, None, Ok, Err, nat_eq, nat_lt, sum_by, refl, sym, ap, subst, ◌∙◌, arith}
 use Rattle.std.specs.Prelude.{slice_get, option_map, unwrap_or}
 use Rattle.std.specs.List.{All, list_any}
 use Rattle.std.proofs.lemmas.Bool.{ltb-true, eqb-true}
 use Rattle.std.proofs.lemmas.Option.{slice_get_within}
-use Rattle.std.proofs.lemmas.List.{length-append}
+use Rattle.std.proofs.lemmas.List.{length-append, length-map}
 use Rattle.std.proofs.lemmas.List.Sums.{sum_by-cons, sum_by_push}
 use Rattle.std.proofs.lemmas.List.Elements.{All-nil, All-cons, All-push, All-head, All-tail}
 use Rattle.query_lang.specs.declared.fault.Span.{Span}
@@ -12,6 +12,8 @@ use Rattle.query_lang.specs.declared.fault.FaultKind.TheVariants.{NameTaken, Ove
 use Rattle.query_lang.specs.declared.fault.Limit.TheVariants.{Keys}
 use Rattle.query_lang.specs.declared.fold.TypedExpr.{TypedExpr}
 use Rattle.query_lang.specs.declared.query.Column.{Column}
+use Rattle.query_lang.specs.declared.query.Key.{Key}
+use Rattle.query_lang.specs.declared.query.Key.TheVariants.{Named, FiveTuple}
 use Rattle.query_lang.specs.declared.query.Name.{Name}
 use Rattle.query_lang.specs.declared.typing.FoldView.{FoldView}
 use Rattle.query_lang.specs.declared.typing.NewColumns.{NewColumns}
@@ -23,7 +25,7 @@ use Rattle.query_lang.specs.Limits.{columns_nodes, AreNumbered}
 use Rattle.query_lang.specs.Checks.{Checked, collected, is_among, place_from, place_of}
 use Rattle.query_lang.specs.TypedExprs.{slot_at, slot_of, word_of}
 use Rattle.query_lang.specs.TypedFolds.{expr_nodes}
-use Rattle.query_lang.specs.TypedStreams.{column_names, new_columns, others_from, columns_at, keys_from, arguments_of}
+use Rattle.query_lang.specs.TypedStreams.{column_names, new_columns, others_from, columns_at, key_names, keys_from, keys_checked, arguments_of}
 use Rattle.query_lang.specs.TypedQueries.{AreNames, AreSlots, IsValidWord, IsValidCondition, IsValidGroup, Shape, group_shape}
 use Rattle.query_types.specs.Numbers.{columns_number}
 use Rattle.query_types.proofs.ExprLaws.{same_ok, found_first, must_ok, slot_bound, IsConditionIn, word_valid}
@@ -33,7 +35,10 @@ use Rattle.query_types.proofs.ViewLaws.{Whole, IsFold}
 abbrev pub IsSlot : ℕ → ℕ → Type 0
 IsSlot slots slot = slot < slots
 
-abbrev IsName : ℕ → ℕ → Type 0
+abbrev StreamName : Type 0
+StreamName = ℕ → Name
+
+abbrev pub IsName : ℕ → ℕ → Type 0
 IsName names id = id < names
 
 pub condition_fits : (slots n : ℕ) (e : TypedExpr) → n ≤ 512 → IsConditionIn slots n e → IsValidCondition slots e
@@ -79,7 +84,7 @@ place_name names columns (x ∷ rest) at id v all e = go (nat_eq x id) refl (λ 
         omega arith
     go false is more e = more e
 
-slot_name : (names : ℕ) (columns hidden : List ℕ) (name : Name) (v : ℕ) → AreNames names columns → slot_of columns hidden name ≡ Ok v → name.id < names
+pub slot_name : (names : ℕ) (columns hidden : List ℕ) (name : Name) (v : ℕ) → AreNames names columns → slot_of columns hidden name ≡ Ok v → name.id < names
 slot_name names columns hidden name v all e = go (place_of columns name.id) refl (is_among name.id hidden) e
   where
     go : (o : Option ℕ) → place_of columns name.id ≡ o → (b : Bool) → slot_at o b name.span ≡ Ok v → name.id < names
@@ -110,6 +115,28 @@ keys_valid columns hidden names found picked (key ∷ rest) all v e =
       most = omega (arith, length-append found.names (key.id ∷ []));
     }) room.1
 
+-- as many keys are picked as there are names of keys
+keys_count : (columns hidden : List ℕ) (found picked : Picked) (keys : List Name) → keys_from columns hidden found keys ≡ Ok picked → length picked.names ≡ length found.names + length keys
+keys_count columns hidden found picked [] e = let same : length found.names ≡ length picked.names = ap (λ (z : Picked). length z.names) (same_ok found picked e) in omega (arith, same)
+keys_count columns hidden found picked (key ∷ rest) e =
+    let slot = found_first (slot_of columns hidden key) _ picked e in
+    let new = must_not_ok (is_among key.id found.names) NameTaken key.span _ picked slot.2 in
+    let room = must_ok (nat_lt (length found.names) 8) (OverLimit Keys) key.span _ picked new.1 in
+    let more = keys_count columns hidden (record { names = found.names ++ key.id ∷ []; slots = found.slots ++ slot.0 ∷ [] }) picked rest room.1 in
+    omega (arith, more, length-append found.names (key.id ∷ []))
+
+some_names : (five : List ℕ) (keys : List Key) → 0 < length five → 0 < length keys → 0 < length (flat_map (key_names five) keys)
+some_names five [] f h = absurd (omega arith)
+some_names five (Named name ∷ rest) f h = omega (arith, length-append (key_names five (Named name)) (flat_map (key_names five) rest))
+some_names five (FiveTuple span ∷ rest) f h =
+    let one : StreamName = λ id. record { id = id; span = span } in
+    omega (arith, f, length-append (map one five) (flat_map (key_names five) rest), length-map five one)
+
+-- a groupby with keys has a key
+pub picked_some : (five columns hidden : List ℕ) (picked : Picked) (keys : List Key) → 0 < length five → 0 < length keys → keys_checked five columns hidden keys ≡ Ok picked → 0 < length picked.names
+picked_some five columns hidden picked keys f h e =
+    omega (arith, some_names five keys f h, keys_count columns hidden (record { names = []; slots = [] }) picked (flat_map (key_names five) keys) e)
+
 -- the slots of a fold's arguments
 slots_valid : (columns hidden : List ℕ) (span : Span) (before slots args : List ℕ) → AreSlots (length columns) before
     → collected before (map (λ id. slot_of columns hidden (record { id = id; span = span })) args) ≡ Ok slots → AreSlots (length columns) slots × (length slots ≡ length before + length args)
@@ -138,10 +165,11 @@ arguments_valid columns hidden keys f span slots e =
     let P : List ℕ → Type 0 = λ z. AreSlots (length columns) z × (length z ≡ length f.args) in
     subst P (same_ok first.0 slots free.1) (v.0, omega (arith, v.1))
 
-pub group_valid : (w : Whole) (columns args : List ℕ) (picked : Picked) (f : FoldView) → IsFold w f → ArePicked w.names (length columns) picked → AreSlots (length columns) args → length args ≡ length f.args
-    → IsValidGroup w.folds (length columns) picked.slots f.number args
-group_valid w columns args picked f vf vp va same = record {
+pub group_valid : (w : Whole) (columns args : List ℕ) (picked : Picked) (f : FoldView) → IsFold w f → ArePicked w.names (length columns) picked → 0 < length picked.names → AreSlots (length columns) args
+    → length args ≡ length f.args → IsValidGroup w.folds (length columns) picked.slots f.number args
+group_valid w columns args picked f vf vp some va same = record {
   keys_are_slots = vp.slots_in;
+  some_keys = omega (arith, vp.same, some);
   most_keys = omega (arith, vp.same, vp.most);
   is_fold = slice_get_within w.folds f.number vf.one vf.is;
   args_are_slots = va;

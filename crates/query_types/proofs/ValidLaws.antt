@@ -51,7 +51,7 @@ any_last p (y ∷ xs) x e = go (p y) (any_last p xs x e)
     go true h = refl
     go false h = h
 
-abbrev IsAmong : List ℕ → List (List ℕ) → Type 0
+abbrev pub IsAmong : List ℕ → List (List ℕ) → Type 0
 IsAmong text names = list_any (bytes_eq text) names ≡ true
 
 among_more : (text other : List ℕ) (names : List (List ℕ)) → IsAmong text names → IsAmong text (with_name names other)
@@ -61,14 +61,14 @@ among_more text other names h = go (list_any (bytes_eq other) names)
     go true = h
     go false = any_front (bytes_eq text) names (other ∷ []) h
 
-among_self : (text : List ℕ) (names : List (List ℕ)) → IsAmong text (with_name names text)
+pub among_self : (text : List ℕ) (names : List (List ℕ)) → IsAmong text (with_name names text)
 among_self text names = go (list_any (bytes_eq text) names) refl
   where
     go : (b : Bool) → list_any (bytes_eq text) names ≡ b → IsAmong text (cond b names (names ++ text ∷ []))
     go true e = e
     go false e = any_last (bytes_eq text) names text ((bytes_eq-Decides text text).1 refl)
 
-among_fields : (text : List ℕ) (fields : List Field) (names : List (List ℕ)) → IsAmong text names → IsAmong text (with_fields names fields)
+pub among_fields : (text : List ℕ) (fields : List Field) (names : List (List ℕ)) → IsAmong text names → IsAmong text (with_fields names fields)
 among_fields text [] names h = h
 among_fields text (f ∷ rest) names h = among_fields text rest (with_name names (field_name f)) (among_more text (field_name f) names h)
 
@@ -87,7 +87,7 @@ fields_known (f ∷ rest) names =
     let P : Field → Type 0 = λ g. number_in (with_fields after rest) (field_name g) < length (with_fields after rest) in
     All-cons P f rest (number_known (field_name f) (with_fields after rest) (among_fields (field_name f) rest after (among_self (field_name f) names))) (fields_known rest after)
 
-numbers_known : (names : List (List ℕ)) → AreNames (length (typed_names names)) (field_numbers (typed_names names))
+pub numbers_known : (names : List (List ℕ)) → AreNames (length (typed_names names)) (field_numbers (typed_names names))
 numbers_known names = All-map (IsName (length (typed_names names))) (λ f. number_in (typed_names names) (field_name f)) all_fields (fields_known all_fields names)
 
 with_grows : (names : List (List ℕ)) (text : List ℕ) → length names ≤ length (with_name names text)
@@ -114,7 +114,7 @@ final_more n m (final_ops.Group input keys f) h v = tt
 final_more n m (final_ops.Join left right) h v = tt
 final_more n m (final_ops.Top input column kept span) h v = tt
 
-item_more : (n m : ℕ) (one : Item) → n ≤ m → IsNumbered n one → IsNumbered m one
+pub item_more : (n m : ℕ) (one : Item) → n ≤ m → IsNumbered n one → IsNumbered m one
 item_more n m (item.Fold d) h v = (omega (arith, v.0), λ k e i. omega (arith, v.1 k e i), λ k e i. omega (arith, v.2 k e i))
 item_more n m (item.Stream d) h v = (omega (arith, v.0), stream_more n m d.op h v.1)
 item_more n m (item.Final d) h v = (omega (arith, v.0), final_more n m d.op h v.1)
@@ -162,7 +162,7 @@ query_valid q typed readable words e =
     let stands = items_stand (length names) (given_of names q.items) q.items (start_of names) end readable.limits numbered words (start_stands q.names) first.1 in
     let count = items_count (given_of names q.items) q.items (start_of names) end first.1 in
     let same : min (count_by is_groupby q.items) 8 ≡ length (takings end.streams) = omega (arith, count, stands.groups, stands.most) in
-    let s = items_sound w (given_of names q.items) q.items (start_of names) end refl same readable.limits numbered words (start_sound w q.names refl) first.1 part in
+    let s = items_sound w (given_of names q.items) q.items (start_of names) end refl same readable.limits numbered (omega arith) readable.keys words (start_sound w q.names refl) first.1 part in
     let typed_is : TypedQuery = record { names = names; folds = end.folds; streams = end.streams; finals = end.finals; prints = end.prints } in
     let V : TypedQuery → Type 0 = λ z. IsValidQuery z in
     subst V (same_ok typed_is typed last.1) (record {

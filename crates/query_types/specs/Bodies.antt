@@ -1,5 +1,5 @@
--- The parts of a fold's statements: an assignment, and what opens a choice.
-use Rattle.std.specs.Prelude.{ℕ, List, [], ◌∷◌, ◌++◌, map, Ok}
+-- The parts of a fold's statements: its names, an assignment, and what opens a choice.
+use Rattle.std.specs.Prelude.{◌≡◌, ◌≤◌, ℕ, List, [], ◌∷◌, ◌++◌, length, map, Ok}
 use Rattle.query_lang.specs.declared.fold.TypedExpr.TheVariants as typed
 use Rattle.query_lang.specs.declared.fold.TypedStmt.TheVariants as typed_stmt
 use Rattle.query_lang.specs.declared.fold.TypedFold.{TypedFold}
@@ -12,6 +12,13 @@ use Rattle.query_lang.specs.Checks.{Checked, and_then}
 use Rattle.query_lang.specs.TypedExprs.{condition_of, word_of}
 use Rattle.query_lang.specs.TypedFolds.{target_of, inside, fold_nodes, fold_statements}
 use Rattle.query_types.specs.declared.bodies.Choice.{Choice}
+use Rattle.query_types.specs.declared.bodies.Scope.{Scope}
+
+-- the columns are the state variables and then the arguments, and each has a slot
+pub record IsScope (scope : Scope) : Type 0 where
+  pub columns : scope.columns.now ≡ scope.states.now ++ scope.args.now
+  pub width : length scope.columns.now ≤ 65536
+  pub states : length scope.states.now ≤ 65536
 
 -- an assignment behind the statements before it
 abbrev pub assigned : List ℕ → List ℕ → Name → Expr → Body → Checked Body

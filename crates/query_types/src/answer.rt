@@ -8,8 +8,19 @@ use std::alloc::AllocError;
 pub enum CheckAnswer {
     /// The query's first fault.
     Refused(QueryFault),
-    /// There was no memory, or a number of columns or folds has no slot number.
+    /// There was no memory.
     Memory,
+}
+
+impl From<QueryFault> for CheckAnswer {
+    ghost use Rattle.std.specs.Prelude.{◌≡◌};
+    ghost use Rattle.query_types.specs.declared.answer.CheckAnswer.{CheckAnswer};
+
+    ghost from_gives = { λ fault answer. answer ≡ CheckAnswer.Refused fault };
+
+    fn from(fault: QueryFault) -> CheckAnswer {
+        CheckAnswer::Refused(fault)
+    }
 }
 
 impl From<AllocError> for CheckAnswer {
@@ -23,9 +34,16 @@ impl From<AllocError> for CheckAnswer {
     }
 }
 
-// The answer for a fault.
-pub fn fault(kind: FaultKind, span: Span) -> CheckAnswer
+// A fault that stands here.
+pub fn fault(kind: FaultKind, span: Span) -> QueryFault
+    ensures { result ≡ record { kind = kind; span = span } }
+{
+    QueryFault { kind, span }
+}
+
+// The answer for a fault that stands here.
+pub fn refused(kind: FaultKind, span: Span) -> CheckAnswer
     ensures { result ≡ CheckAnswer.Refused (record { kind = kind; span = span }) }
 {
-    CheckAnswer::Refused(QueryFault { kind, span })
+    CheckAnswer::Refused(fault(kind, span))
 }

@@ -1,28 +1,37 @@
 // The statements of a fold.
 
-ghost use Rattle.std.specs.Prelude.{◌≡◌, ◌∷◌, ◌++◌, [], Ok, Some, IfOk, map};
+ghost use Rattle.std.specs.Prelude.{◌≡◌, ◌≤◌, ◌∷◌, ◌++◌, [], Ok, Some, IfOk, length, map};
 ghost use Rattle.query_lang.specs.TypedExprs.{condition_of, word_of};
 ghost use Rattle.query_lang.specs.TypedFolds.{target_of, state_in, joined, inside, in_order, emit_condition, emitted, stmt_checked, body_checked};
 ghost use Rattle.query_types.specs.Answers.{Answers, Leaves};
-ghost use Rattle.query_types.specs.Bodies.{choice_of, assigned};
+ghost use Rattle.query_types.specs.Bodies.{IsScope, choice_of, assigned};
 
-use crate::answer::{CheckAnswer, fault};
+use crate::answer::{CheckAnswer, fault, refused};
 use crate::copies::{copy_expr, names_of_both};
-use crate::exprs::{check_condition, check_word, find_place, has_name, slot_number};
+use crate::exprs::{check_condition, check_word, find_place, has_name};
 use marple_base::{Boxed, Seq};
 use query_lang::typing::{Body, Enclosing};
-use query_lang::{Expr, FaultKind, Name, Op, Span, Stmt, TypedExpr, TypedStmt};
+use query_lang::{Expr, FaultKind, Name, Op, QueryFault, Span, Stmt, TypedExpr, TypedStmt};
 use std::alloc::{AllocError, Global};
 use std::mem;
 
+// The names of a fold: its state variables, its arguments, and the columns of its expressions, which are both.
+#[derive(Clone, Copy)]
+pub struct Scope<'a> {
+    pub states: &'a [u32],
+    pub args: &'a [u32],
+    pub columns: &'a [u32],
+}
+
 // The state variable that an assignment gives a value.
-fn find_target(states: &[u32], args: &[u32], name: Name) -> Result<u16, CheckAnswer>
-    ensures { Answers result (target_of states.now args.now name) }
+fn find_target(scope: Scope<'_>, name: Name) -> Result<u16, QueryFault>
+    requires { IsScope scope }
+    ensures { result ≡ target_of scope.entry.states.now scope.entry.args.now name }
 {
-    match find_place(states, name.id) {
-        Some(at) => slot_number(at),
+    match find_place(scope.states, name.id) {
+        Some(at) => Ok(at as u16),
         None => {
-            if has_name(args, name.id) {
+            if has_name(scope.args, name.id) {
                 Err(fault(FaultKind::WrongKind, name.span))
             } else {
                 Err(fault(FaultKind::UnknownName, name.span))
@@ -65,31 +74,19 @@ fn find_state(states: &[u32], e: &Expr) -> Option<Span>
 }
 
 // An expression over a fold's columns that has to be a word.
-fn fold_word(
-    alloc: Global,
-    columns: &[u32],
-    states: &[u32],
-    args: &[u32],
-    e: &Expr,
-) -> Result<TypedExpr, CheckAnswer>
-    requires { columns.now ≡ states.now ++ args.now }
-    ensures { Answers result (word_of (states.now ++ args.now) [] e.now) }
+fn fold_word(alloc: Global, scope: Scope<'_>, e: &Expr) -> Result<TypedExpr, CheckAnswer>
+    requires { IsScope scope }
+    ensures { Answers result (word_of (scope.entry.states.now ++ scope.entry.args.now) [] e.now) }
 {
-    check_word(alloc, columns, &[], e)
+    check_word(alloc, scope.columns, &[], e)
 }
 
 // An expression over a fold's columns that has to be a condition.
-fn fold_condition(
-    alloc: Global,
-    columns: &[u32],
-    states: &[u32],
-    args: &[u32],
-    e: &Expr,
-) -> Result<TypedExpr, CheckAnswer>
-    requires { columns.now ≡ states.now ++ args.now }
-    ensures { Answers result (condition_of (states.now ++ args.now) [] e.now) }
+fn fold_condition(alloc: Global, scope: Scope<'_>, e: &Expr) -> Result<TypedExpr, CheckAnswer>
+    requires { IsScope scope }
+    ensures { Answers result (condition_of (scope.entry.states.now ++ scope.entry.args.now) [] e.now) }
 {
-    check_condition(alloc, columns, &[], e)
+    check_condition(alloc, scope.columns, &[], e)
 }
 
 // The conditions that enclose a statement, and one more.
@@ -163,20 +160,18 @@ pub struct Choice {
 // The choice with this condition.
 fn open_choice(
     alloc: Global,
-    columns: &[u32],
-    states: &[u32],
-    args: &[u32],
+    scope: Scope<'_>,
     outer: &Enclosing,
     written: &Expr,
 ) -> Result<Boxed<Choice>, CheckAnswer>
-    requires { columns.now ≡ states.now ++ args.now }
-    ensures { Answers result (choice_of states.now args.now outer.now written.now) }
+    requires { IsScope scope }
+    ensures { Answers result (choice_of scope.entry.states.now scope.entry.args.now outer.now written.now) }
 {
-    let condition = fold_condition(alloc, columns, states, args, written)?;
+    let condition = fold_condition(alloc, scope, written)?;
     let copy = copy_expr(alloc, &condition)?;
-    let holding = enclose(alloc, states, outer, written, copy)?;
+    let holding = enclose(alloc, scope.states, outer, written, copy)?;
     let opposite = negation(alloc, &condition)?;
-    let failing = enclose(alloc, states, outer, written, opposite)?;
+    let failing = enclose(alloc, scope.states, outer, written, opposite)?;
     let choice = Choice {
         condition,
         holding,
@@ -224,10 +219,10 @@ fn add_emit(
     ensures { Leaves result found.new (emitted span outer.now found.old) }
 {
     if found.emit.is_some() {
-        return Err(fault(FaultKind::WrongArity, span));
+        return Err(refused(FaultKind::WrongArity, span));
     }
     if let Some(state) = outer.state {
-        return Err(fault(FaultKind::StateOnLine, state));
+        return Err(refused(FaultKind::StateOnLine, state));
     }
     let condition = emit_under(alloc, &outer.condition)?;
     found.emit = Some(condition);
@@ -237,66 +232,45 @@ fn add_emit(
 // One more assignment.
 fn add_assignment(
     alloc: Global,
-    columns: &[u32],
-    states: &[u32],
-    args: &[u32],
+    scope: Scope<'_>,
     found: &mut Body,
     name: Name,
     e: &Expr,
 ) -> Result<(), CheckAnswer>
-    requires { columns.now ≡ states.now ++ args.now }
-    ensures { Leaves result found.new (assigned states.now args.now name e.now found.old) }
+    requires { IsScope scope }
+    ensures { Leaves result found.new (assigned scope.entry.states.now scope.entry.args.now name e.now found.old) }
 {
-    let v = find_target(states, args, name)?;
-    let value = fold_word(alloc, columns, states, args, e)?;
+    let v = find_target(scope, name)?;
+    let value = fold_word(alloc, scope, e)?;
     found.statements.push(TypedStmt::Assign(v, value))?;
     Ok(())
 }
 
-/// One statement behind those before it in its block, under the conditions that enclose it. The columns are the fold's
-/// state variables and then its arguments.
+/// One statement behind those before it in its block, under the conditions that enclose it.
 pub fn check_stmt(
     alloc: Global,
-    columns: &[u32],
-    states: &[u32],
-    args: &[u32],
+    scope: Scope<'_>,
     outer: &Enclosing,
     found: &mut Body,
     s: &Stmt,
 ) -> Result<(), CheckAnswer>
-    requires { columns.now ≡ states.now ++ args.now }
-    ensures { Leaves result found.new (stmt_checked states.now args.now s.now outer.now found.old) }
+    requires { IsScope scope }
+    ensures { Leaves result found.new (stmt_checked scope.entry.states.now scope.entry.args.now s.now outer.now found.old) }
 {
     match s {
         Stmt::Assign(name, e) => {
-            add_assignment(alloc, columns, states, args, found, *name, e)?;
+            add_assignment(alloc, scope, found, *name, e)?;
             Ok(())
         }
         Stmt::If(c, a, b) => {
-            let choice = open_choice(alloc, columns, states, args, outer, c)?;
+            let choice = open_choice(alloc, scope, outer, c)?;
             let before = take_statements(alloc, found);
             'then_block: for inner in a.as_slice() {
-                check_stmt(
-                    alloc,
-                    columns,
-                    states,
-                    args,
-                    &choice.get().holding,
-                    found,
-                    inner,
-                )?;
+                check_stmt(alloc, scope, &choice.get().holding, found, inner)?;
             }
             let then_block = take_statements(alloc, found);
             'else_block: for inner in b.as_slice() {
-                check_stmt(
-                    alloc,
-                    columns,
-                    states,
-                    args,
-                    &choice.get().failing,
-                    found,
-                    inner,
-                )?;
+                check_stmt(alloc, scope, &choice.get().failing, found, inner)?;
             }
             close_choice(found, choice, before, then_block)?;
             Ok(())
@@ -311,32 +285,25 @@ pub fn check_stmt(
 // The statements of a fold behind those before them.
 fn check_all(
     alloc: Global,
-    columns: &[u32],
-    states: &[u32],
-    args: &[u32],
+    scope: Scope<'_>,
     outer: &Enclosing,
     found: &mut Body,
     body: &[Stmt],
 ) -> Result<(), CheckAnswer>
-    requires { columns.now ≡ states.now ++ args.now }
-    ensures { Leaves result found.new (in_order (map (stmt_checked states.now args.now) body.now) outer.now found.old) }
+    requires { IsScope scope }
+    ensures { Leaves result found.new (in_order (map (stmt_checked scope.entry.states.now scope.entry.args.now) body.now) outer.now found.old) }
 {
     for one in body {
-        check_stmt(alloc, columns, states, args, outer, found, one)?;
+        check_stmt(alloc, scope, outer, found, one)?;
     }
     Ok(())
 }
 
-/// The statements of a fold, with no condition around them.
-pub fn check_body(
-    alloc: Global,
-    states: &[u32],
-    args: &[u32],
-    body: &[Stmt],
-) -> Result<Body, CheckAnswer>
-    ensures { Answers result (body_checked states.now args.now body.now) }
+// The statements of a fold in its scope, with no condition around them.
+fn check_within(alloc: Global, scope: Scope<'_>, body: &[Stmt]) -> Result<Body, CheckAnswer>
+    requires { IsScope scope }
+    ensures { Answers result (body_checked scope.entry.states.now scope.entry.args.now body.now) }
 {
-    let columns = names_of_both(alloc, states, args)?;
     let outer = Enclosing {
         condition: None,
         state: None,
@@ -345,14 +312,27 @@ pub fn check_body(
         statements: Seq::new(alloc),
         emit: None,
     };
-    check_all(
-        alloc,
-        columns.as_slice(),
+    check_all(alloc, scope, &outer, &mut found, body)?;
+    Ok(found)
+}
+
+/// The statements of a fold with these state variables and arguments.
+#[tactic(auto, using(crate::proofs::ScopeLaws::scope_is))]
+pub fn check_body(
+    alloc: Global,
+    states: &[u32],
+    args: &[u32],
+    body: &[Stmt],
+) -> Result<Body, CheckAnswer>
+    requires states { length states.now ≤ 8 }
+    requires args { length args.now ≤ 16 }
+    ensures { Answers result (body_checked states.now args.now body.now) }
+{
+    let columns = names_of_both(alloc, states, args)?;
+    let scope = Scope {
         states,
         args,
-        &outer,
-        &mut found,
-        body,
-    )?;
-    Ok(found)
+        columns: columns.as_slice(),
+    };
+    check_within(alloc, scope, body)
 }

@@ -1,14 +1,15 @@
 // Columns: those that a `map` adds, those of a `zip`, keys, and the arguments of a fold.
 
-ghost use Rattle.std.specs.Prelude.{◌≡◌, ◌++◌, [], Ok, IfOk, OnOk, map, flat_map, slice_get};
+ghost use Rattle.std.specs.Prelude.{◌≡◌, ◌≤◌, ◌++◌, [], Ok, IfOk, OnOk, length, map, flat_map, slice_get};
 ghost use Rattle.std.specs.List.{list_any};
 ghost use Rattle.query_lang.specs.Checks.{collected, is_among};
 ghost use Rattle.query_lang.specs.TypedExprs.{slot_of};
 ghost use Rattle.query_lang.specs.TypedStreams.{new_columns, no_new_columns, same_origin, clashes_with, clash, column_names, others_from, columns_at, key_names, keys_from, keys_checked, arguments_of};
 ghost use Rattle.query_types.specs.Answers.{Answers};
+ghost use Rattle.query_types.specs.Fitting.{IsNarrow};
 
-use crate::answer::{CheckAnswer, fault};
-use crate::exprs::{check_word, find_slot, has_name, slot_number};
+use crate::answer::{CheckAnswer, refused};
+use crate::exprs::{check_word, find_slot, has_name};
 use marple_base::Seq;
 use query_lang::typing::{FoldView, NewColumns, Origin, Picked, StreamColumn};
 use query_lang::{Column, FaultKind, Key, Limit, Name, Span};
@@ -21,6 +22,7 @@ pub fn check_columns(
     hidden: &[u32],
     new: &[Column],
 ) -> Result<NewColumns, CheckAnswer>
+    requires { IsNarrow columns.now }
     ensures { Answers result (new_columns columns.now hidden.now no_new_columns new.now) }
 {
     let mut made = NewColumns {
@@ -33,7 +35,7 @@ pub fn check_columns(
         let is_hidden = has_name(hidden, name.id);
         let is_new = has_name(made.names.as_slice(), name.id);
         if is_column || is_hidden || is_new {
-            return Err(fault(FaultKind::NameTaken, name.span));
+            return Err(refused(FaultKind::NameTaken, name.span));
         }
         let value = check_word(alloc, columns, hidden, &column.value)?;
         made.names.push(name.id)?;
@@ -99,14 +101,14 @@ pub fn other_slots(
     alloc: Global,
     names: &[u32],
     columns: &[StreamColumn],
-) -> Result<Seq<u16>, CheckAnswer>
-    ensures { Answers result (Ok (others_from 0 names.now columns.now)) }
+) -> Result<Seq<u16>, AllocError>
+    requires { length columns.now ≤ 65536 }
+    ensures { IfOk result (λ slots. slots ≡ others_from 0 names.now columns.now) }
 {
     let mut slots = Seq::new(alloc);
     for (at, column) in columns.iter().enumerate() {
         if !has_name(names, column.name) {
-            let slot = slot_number(at)?;
-            slots.push(slot)?;
+            slots.push(at as u16)?;
         }
     }
     Ok(slots)
@@ -174,7 +176,9 @@ fn pick_keys(
     hidden: &[u32],
     keys: &[Name],
 ) -> Result<Picked, CheckAnswer>
-    ensures { Answers result (keys_from columns.now hidden.now (record { names = []; slots = [] }) keys.now) }
+    requires { IsNarrow columns.now }
+    ensures given { Answers result (keys_from columns.now hidden.now (record { names = []; slots = [] }) keys.now) }
+    ensures most { IfOk result (λ picked. length picked.names ≤ 8) }
 {
     let mut found = Picked {
         names: Seq::new(alloc),
@@ -183,10 +187,10 @@ fn pick_keys(
     for key in keys {
         let slot = find_slot(columns, hidden, *key)?;
         if has_name(found.names.as_slice(), key.id) {
-            return Err(fault(FaultKind::NameTaken, key.span));
+            return Err(refused(FaultKind::NameTaken, key.span));
         }
         if found.names.len() >= 8 {
-            return Err(fault(FaultKind::OverLimit(Limit::Keys), key.span));
+            return Err(refused(FaultKind::OverLimit(Limit::Keys), key.span));
         }
         found.names.push(key.id)?;
         found.slots.push(slot)?;
@@ -202,7 +206,9 @@ pub fn check_keys(
     hidden: &[u32],
     keys: &[Key],
 ) -> Result<Picked, CheckAnswer>
-    ensures { Answers result (keys_checked five.now columns.now hidden.now keys.now) }
+    requires { IsNarrow columns.now }
+    ensures given { Answers result (keys_checked five.now columns.now hidden.now keys.now) }
+    ensures most { IfOk result (λ picked. length picked.names ≤ 8) }
 {
     let names = list_keys(alloc, five, keys)?;
     pick_keys(alloc, columns, hidden, names.as_slice())
@@ -216,6 +222,7 @@ fn argument_slots(
     f: &FoldView,
     span: Span,
 ) -> Result<Seq<u16>, CheckAnswer>
+    requires { IsNarrow columns.now }
     ensures { Answers result (collected [] (map (λ id. slot_of columns.now hidden.now (record { id = id; span = span })) f.now.args)) }
 {
     let mut slots = Seq::new(alloc);
@@ -247,11 +254,12 @@ pub fn check_arguments(
     f: &FoldView,
     span: Span,
 ) -> Result<Seq<u16>, CheckAnswer>
+    requires { IsNarrow columns.now }
     ensures { Answers result (arguments_of columns.now hidden.now keys.now f.now span) }
 {
     let slots = argument_slots(alloc, columns, hidden, f, span)?;
     if has_key_state(f, keys) {
-        return Err(fault(FaultKind::NameTaken, span));
+        return Err(refused(FaultKind::NameTaken, span));
     }
     Ok(slots)
 }

@@ -1,14 +1,15 @@
 // Expressions over columns.
 
-ghost use Rattle.std.specs.Prelude.{◌≡◌, ◌∷◌, [], Ok};
+ghost use Rattle.std.specs.Prelude.{◌≡◌, ◌<◌, ◌∷◌, [], Ok, IfSome, length};
 ghost use Rattle.query_lang.specs.Checks.{is_among, place_of};
 ghost use Rattle.query_lang.specs.TypedExprs.{slot_of, is_condition_sort, is_operand, is_right_constant, sort_of, of_two, call_of, negated, expr_checked, condition_of, word_of};
 ghost use Rattle.query_types.specs.Answers.{Answers};
+ghost use Rattle.query_types.specs.Fitting.{IsNarrow};
 
-use crate::answer::{CheckAnswer, fault};
+use crate::answer::{CheckAnswer, fault, refused};
 use marple_base::{Boxed, Seq};
 use query_lang::typing::{Found, Sort};
-use query_lang::{Expr, FaultKind, Name, Op, Span, TypedExpr};
+use query_lang::{Expr, FaultKind, Name, Op, QueryFault, Span, TypedExpr};
 use std::alloc::{AllocError, Global};
 
 // Is the name among these?
@@ -20,7 +21,8 @@ pub fn has_name(names: &[u32], id: u32) -> bool
 
 // The name's place among these.
 pub fn find_place(names: &[u32], id: u32) -> Option<usize>
-    ensures { result ≡ place_of names.now id }
+    ensures place { result ≡ place_of names.now id }
+    ensures within { IfSome result (λ at. at < length names.now) }
 {
     for (at, name) in names.iter().enumerate() {
         if *name == id {
@@ -30,23 +32,13 @@ pub fn find_place(names: &[u32], id: u32) -> Option<usize>
     None
 }
 
-// A place as a slot.
-pub fn slot_number(at: usize) -> Result<u16, CheckAnswer>
-    ensures { Answers result (Ok at) }
-{
-    if at < 65536 {
-        Ok(at as u16)
-    } else {
-        Err(CheckAnswer::Memory)
-    }
-}
-
 // The slot of a column.
-pub fn find_slot(columns: &[u32], hidden: &[u32], name: Name) -> Result<u16, CheckAnswer>
-    ensures { Answers result (slot_of columns.now hidden.now name) }
+pub fn find_slot(columns: &[u32], hidden: &[u32], name: Name) -> Result<u16, QueryFault>
+    requires { IsNarrow columns.now }
+    ensures { result ≡ slot_of columns.now hidden.now name }
 {
     match find_place(columns, name.id) {
-        Some(at) => slot_number(at),
+        Some(at) => Ok(at as u16),
         None => {
             if has_name(hidden, name.id) {
                 Err(fault(FaultKind::StateOnLine, name.span))
@@ -121,13 +113,13 @@ fn join(alloc: Global, op: Op, at: Span, left: Found, right: Found) -> Result<Fo
     ensures { Answers result (of_two op at left right) }
 {
     if !fits(op, left.sort) {
-        return Err(fault(FaultKind::WrongKind, left.at));
+        return Err(refused(FaultKind::WrongKind, left.at));
     }
     if !fits(op, right.sort) {
-        return Err(fault(FaultKind::WrongKind, right.at));
+        return Err(refused(FaultKind::WrongKind, right.at));
     }
     if !fits_right(op, right.sort) {
-        return Err(fault(FaultKind::BadConstant, right.at));
+        return Err(refused(FaultKind::BadConstant, right.at));
     }
     let tree = typed_binary(alloc, op, left.tree, right.tree)?;
     Ok(Found {
@@ -149,7 +141,7 @@ fn call(alloc: Global, op: Op, span: Span, operands: Seq<Found>) -> Result<Found
             }
         }
     }
-    Err(fault(FaultKind::WrongArity, span))
+    Err(refused(FaultKind::WrongArity, span))
 }
 
 // `!` before an expression.
@@ -157,7 +149,7 @@ fn negate(alloc: Global, span: Span, inner: Found) -> Result<Found, CheckAnswer>
     ensures { Answers result (negated span inner) }
 {
     if !is_condition(inner.sort) {
-        return Err(fault(FaultKind::WrongKind, inner.at));
+        return Err(refused(FaultKind::WrongKind, inner.at));
     }
     Ok(Found {
         tree: TypedExpr::Not(Boxed::new(alloc, inner.tree)?),
@@ -174,6 +166,7 @@ pub fn check_expr(
     hidden: &[u32],
     e: &Expr,
 ) -> Result<Found, CheckAnswer>
+    requires { IsNarrow columns.now }
     ensures { Answers result (expr_checked columns.now hidden.now e.now) }
 {
     match e {
@@ -221,11 +214,12 @@ pub fn check_condition(
     hidden: &[u32],
     e: &Expr,
 ) -> Result<TypedExpr, CheckAnswer>
+    requires { IsNarrow columns.now }
     ensures { Answers result (condition_of columns.now hidden.now e.now) }
 {
     let found = check_expr(alloc, columns, hidden, e)?;
     if !is_condition(found.sort) {
-        return Err(fault(FaultKind::WrongKind, found.at));
+        return Err(refused(FaultKind::WrongKind, found.at));
     }
     Ok(found.tree)
 }
@@ -237,11 +231,12 @@ pub fn check_word(
     hidden: &[u32],
     e: &Expr,
 ) -> Result<TypedExpr, CheckAnswer>
+    requires { IsNarrow columns.now }
     ensures { Answers result (word_of columns.now hidden.now e.now) }
 {
     let found = check_expr(alloc, columns, hidden, e)?;
     if is_condition(found.sort) {
-        return Err(fault(FaultKind::WrongKind, found.at));
+        return Err(refused(FaultKind::WrongKind, found.at));
     }
     Ok(found.tree)
 }

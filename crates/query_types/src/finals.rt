@@ -1,16 +1,17 @@
 // Finals.
 
-ghost use Rattle.std.specs.Prelude.{◌≡◌, ◌+◌, ◌++◌, [], Ok, IfOk, length};
+ghost use Rattle.std.specs.Prelude.{◌≡◌, ◌+◌, ◌<◌, ◌≤◌, ◌++◌, [], IfOk, OnOk, length};
 ghost use Rattle.query_lang.specs.TypedExprs.{condition_of, slot_of};
 ghost use Rattle.query_lang.specs.TypedStreams.{new_columns, no_new_columns, keys_checked, arguments_of};
 ghost use Rattle.query_lang.specs.TypedFinals.{table_number, five_fields, final_filter, final_map, final_group, final_join, final_top, made_final, with_final, final_checked};
 ghost use Rattle.query_types.specs.Answers.{Answers, Leaves};
+ghost use Rattle.query_types.specs.Fitting.{Fits, IsEarly, IsNarrow};
 ghost use Rattle.query_types.specs.MadeFinals.{with_values, with_table_keys, with_others, with_kept};
 
-use crate::answer::{CheckAnswer, fault};
+use crate::answer::{CheckAnswer, refused};
 use crate::columns::{check_arguments, check_columns, check_keys};
 use crate::copies::{copy_words, names_of_both};
-use crate::exprs::{check_condition, find_slot, slot_number};
+use crate::exprs::{check_condition, find_slot};
 use crate::streams::key_count;
 use crate::tables::{number_of_table, others_clash, others_of, same_keys};
 use crate::views::{check_binding, find_quiet_fold, find_table};
@@ -19,8 +20,8 @@ use query_lang::typing::{
     Earlier, FoldView, Given, Known, MadeFinal, Meaning, NewColumns, Picked, TableView,
 };
 use query_lang::{
-    Column, Expr, FaultKind, FinalDef, FinalOp, Key, Name, PrintOf, Span, TypedExpr, TypedFinal,
-    TypedFinalOp,
+    Column, Expr, FaultKind, FinalDef, FinalOp, Key, Name, PrintOf, QueryFault, Span, TypedExpr,
+    TypedFinal, TypedFinalOp,
 };
 use std::alloc::{AllocError, Global};
 
@@ -30,10 +31,12 @@ fn made_filter(
     groups: u16,
     source: &TableView,
     condition: TypedExpr,
-) -> Result<MadeFinal, CheckAnswer>
-    ensures { Answers result (Ok (record { op = TypedFinalOp.Filter (table_number groups source.now.place) condition; columns = source.now.columns; keys = source.now.keys })) }
+) -> Result<MadeFinal, AllocError>
+    requires groups { groups ≤ 8 }
+    requires early { IsEarly source.now.place }
+    ensures { IfOk result (λ made. made ≡ record { op = TypedFinalOp.Filter (table_number groups source.now.place) condition; columns = source.now.columns; keys = source.now.keys }) }
 {
-    let number = number_of_table(groups, source.place)?;
+    let number = number_of_table(groups, source.place);
     let columns = copy_words(alloc, source.columns.as_slice())?;
     Ok(MadeFinal {
         op: TypedFinalOp::Filter(number, condition),
@@ -42,6 +45,7 @@ fn made_filter(
     })
 }
 
+#[tactic(auto, using(crate::proofs::FitLaws::table_narrow, crate::proofs::FitLaws::table_early))]
 fn check_filter(
     alloc: Global,
     groups: u16,
@@ -49,16 +53,18 @@ fn check_filter(
     input: Name,
     e: &Expr,
 ) -> Result<MadeFinal, CheckAnswer>
+    requires fits { Fits earlier.now }
+    requires groups { groups ≤ 8 }
     ensures { Answers result (final_filter groups earlier.now input e.now) }
 {
     let source = find_table(earlier, input)?;
     let condition = table_condition(alloc, source, e)?;
-    let made = made_filter(alloc, groups, source, condition)?;
-    Ok(made)
+    Ok(made_filter(alloc, groups, source, condition)?)
 }
 
 // The condition of a filter over a table.
 fn table_condition(alloc: Global, source: &TableView, e: &Expr) -> Result<TypedExpr, CheckAnswer>
+    requires { IsNarrow source.now.columns }
     ensures { Answers result (condition_of source.now.columns [] e.now) }
 {
     check_condition(alloc, source.columns.as_slice(), &[], e)
@@ -70,6 +76,7 @@ fn table_columns(
     source: &TableView,
     columns: &[Column],
 ) -> Result<NewColumns, CheckAnswer>
+    requires { IsNarrow source.now.columns }
     ensures { Answers result (new_columns source.now.columns [] no_new_columns columns.now) }
 {
     check_columns(alloc, source.columns.as_slice(), &[], columns)
@@ -81,10 +88,12 @@ fn made_map(
     groups: u16,
     source: &TableView,
     new: NewColumns,
-) -> Result<MadeFinal, CheckAnswer>
-    ensures { Answers result (Ok (with_values groups source.now new)) }
+) -> Result<MadeFinal, AllocError>
+    requires groups { groups ≤ 8 }
+    requires early { IsEarly source.now.place }
+    ensures { IfOk result (λ made. made ≡ with_values groups source.now new) }
 {
-    let number = number_of_table(groups, source.place)?;
+    let number = number_of_table(groups, source.place);
     let columns = names_of_both(alloc, source.columns.as_slice(), new.names.as_slice())?;
     Ok(MadeFinal {
         op: TypedFinalOp::Map(number, new.values),
@@ -93,6 +102,7 @@ fn made_map(
     })
 }
 
+#[tactic(auto, using(crate::proofs::FitLaws::table_narrow, crate::proofs::FitLaws::table_early))]
 fn check_map(
     alloc: Global,
     groups: u16,
@@ -100,12 +110,13 @@ fn check_map(
     input: Name,
     columns: &[Column],
 ) -> Result<MadeFinal, CheckAnswer>
+    requires fits { Fits earlier.now }
+    requires groups { groups ≤ 8 }
     ensures { Answers result (final_map groups earlier.now input columns.now) }
 {
     let source = find_table(earlier, input)?;
     let new = table_columns(alloc, source, columns)?;
-    let made = made_map(alloc, groups, source, new)?;
-    Ok(made)
+    Ok(made_map(alloc, groups, source, new)?)
 }
 
 // `5tuple` stands for the five fields from the fourth on.
@@ -128,7 +139,9 @@ fn table_keys(
     source: &TableView,
     keys: &[Key],
 ) -> Result<Picked, CheckAnswer>
-    ensures { Answers result (keys_checked (five_fields given.now.fields) source.now.columns [] keys.now) }
+    requires { IsNarrow source.now.columns }
+    ensures given { Answers result (keys_checked (five_fields given.now.fields) source.now.columns [] keys.now) }
+    ensures most { IfOk result (λ picked. length picked.names ≤ 8) }
 {
     let five = five_of(&given.fields);
     check_keys(alloc, five, source.columns.as_slice(), &[], keys)
@@ -142,6 +155,7 @@ fn table_arguments(
     f: &FoldView,
     name: Name,
 ) -> Result<Seq<u16>, CheckAnswer>
+    requires { IsNarrow source.now.columns }
     ensures { Answers result (arguments_of source.now.columns [] picked.now.names f.now name.span) }
 {
     check_arguments(
@@ -162,11 +176,14 @@ fn made_group(
     picked: Picked,
     f: &FoldView,
     arguments: Seq<u16>,
-) -> Result<MadeFinal, CheckAnswer>
-    ensures { Answers result (Ok (with_table_keys groups source.now picked f.now arguments)) }
+) -> Result<MadeFinal, AllocError>
+    requires groups { groups ≤ 8 }
+    requires early { IsEarly source.now.place }
+    requires keys { length picked.names ≤ 8 }
+    ensures { IfOk result (λ made. made ≡ with_table_keys groups source.now picked f.now arguments) }
 {
-    let number = number_of_table(groups, source.place)?;
-    let keys = key_count(&picked)?;
+    let number = number_of_table(groups, source.place);
+    let keys = key_count(&picked);
     let columns = names_of_both(alloc, picked.names.as_slice(), f.states.as_slice())?;
     Ok(MadeFinal {
         op: TypedFinalOp::Group(number, picked.slots, f.number, arguments),
@@ -175,6 +192,7 @@ fn made_group(
     })
 }
 
+#[tactic(auto, using(crate::proofs::FitLaws::table_narrow, crate::proofs::FitLaws::table_early))]
 fn check_group(
     alloc: Global,
     given: &Given,
@@ -183,14 +201,15 @@ fn check_group(
     keys: &[Key],
     fold_name: Name,
 ) -> Result<MadeFinal, CheckAnswer>
+    requires fits { Fits earlier.now }
+    requires groups { given.now.groups ≤ 8 }
     ensures { Answers result (final_group given.now earlier.now input keys.now fold_name) }
 {
     let source = find_table(earlier, input)?;
     let picked = table_keys(alloc, given, source, keys)?;
     let f = find_quiet_fold(earlier, fold_name)?;
     let arguments = table_arguments(alloc, source, &picked, f, fold_name)?;
-    let made = made_group(alloc, given.groups, source, picked, f, arguments)?;
-    Ok(made)
+    Ok(made_group(alloc, given.groups, source, picked, f, arguments)?)
 }
 
 // A join: the columns of the left, and then those of the right that aren't keys.
@@ -199,11 +218,14 @@ fn made_join(
     groups: u16,
     left: &TableView,
     right: &TableView,
-) -> Result<MadeFinal, CheckAnswer>
-    ensures { Answers result (Ok (with_others groups left.now right.now)) }
+) -> Result<MadeFinal, AllocError>
+    requires groups { groups ≤ 8 }
+    requires left { IsEarly left.now.place }
+    requires right { IsEarly right.now.place }
+    ensures { IfOk result (λ made. made ≡ with_others groups left.now right.now) }
 {
-    let first = number_of_table(groups, left.place)?;
-    let second = number_of_table(groups, right.place)?;
+    let first = number_of_table(groups, left.place);
+    let second = number_of_table(groups, right.place);
     let columns = names_of_both(alloc, left.columns.as_slice(), others_of(right))?;
     Ok(MadeFinal {
         op: TypedFinalOp::Join(first, second),
@@ -212,6 +234,7 @@ fn made_join(
     })
 }
 
+#[tactic(auto, using(crate::proofs::FitLaws::table_narrow, crate::proofs::FitLaws::table_early))]
 fn check_join(
     alloc: Global,
     groups: u16,
@@ -219,23 +242,25 @@ fn check_join(
     first: Name,
     second: Name,
 ) -> Result<MadeFinal, CheckAnswer>
+    requires fits { Fits earlier.now }
+    requires groups { groups ≤ 8 }
     ensures { Answers result (final_join groups earlier.now first second) }
 {
     let left = find_table(earlier, first)?;
     let right = find_table(earlier, second)?;
     if !same_keys(left, right) {
-        return Err(fault(FaultKind::WrongKind, second.span));
+        return Err(refused(FaultKind::WrongKind, second.span));
     }
     if others_clash(left, right) {
-        return Err(fault(FaultKind::NameTaken, second.span));
+        return Err(refused(FaultKind::NameTaken, second.span));
     }
-    let made = made_join(alloc, groups, left, right)?;
-    Ok(made)
+    Ok(made_join(alloc, groups, left, right)?)
 }
 
 // The slot of a table's column.
-fn table_slot(source: &TableView, column: Name) -> Result<u16, CheckAnswer>
-    ensures { Answers result (slot_of source.now.columns [] column) }
+fn table_slot(source: &TableView, column: Name) -> Result<u16, QueryFault>
+    requires { IsNarrow source.now.columns }
+    ensures { result ≡ slot_of source.now.columns [] column }
 {
     find_slot(source.columns.as_slice(), &[], column)
 }
@@ -247,10 +272,12 @@ fn made_top(
     source: &TableView,
     slot: u16,
     kept: u64,
-) -> Result<MadeFinal, CheckAnswer>
-    ensures { Answers result (Ok (with_kept groups source.now slot kept)) }
+) -> Result<MadeFinal, AllocError>
+    requires groups { groups ≤ 8 }
+    requires early { IsEarly source.now.place }
+    ensures { IfOk result (λ made. made ≡ with_kept groups source.now slot kept) }
 {
-    let number = number_of_table(groups, source.place)?;
+    let number = number_of_table(groups, source.place);
     let columns = copy_words(alloc, source.columns.as_slice())?;
     Ok(MadeFinal {
         op: TypedFinalOp::Top(number, slot, kept),
@@ -259,6 +286,7 @@ fn made_top(
     })
 }
 
+#[tactic(auto, using(crate::proofs::FitLaws::table_narrow, crate::proofs::FitLaws::table_early))]
 fn check_top(
     alloc: Global,
     groups: u16,
@@ -268,15 +296,16 @@ fn check_top(
     kept: u64,
     span: Span,
 ) -> Result<MadeFinal, CheckAnswer>
+    requires fits { Fits earlier.now }
+    requires groups { groups ≤ 8 }
     ensures { Answers result (final_top groups earlier.now input column kept span) }
 {
     let source = find_table(earlier, input)?;
     let slot = table_slot(source, column)?;
     if !(0 < kept && kept <= 65536) {
-        return Err(fault(FaultKind::BadConstant, span));
+        return Err(refused(FaultKind::BadConstant, span));
     }
-    let made = made_top(alloc, groups, source, slot, kept)?;
-    Ok(made)
+    Ok(made_top(alloc, groups, source, slot, kept)?)
 }
 
 // What the final's operator makes.
@@ -286,6 +315,8 @@ fn check_operator(
     earlier: &Earlier,
     op: &FinalOp,
 ) -> Result<MadeFinal, CheckAnswer>
+    requires fits { Fits earlier.now }
+    requires groups { given.now.groups ≤ 8 }
     ensures { Answers result (made_final given.now earlier.now op.now) }
 {
     let groups = given.groups;
@@ -310,10 +341,11 @@ fn add_final(
     earlier: &mut Earlier,
     name: Name,
     made: MadeFinal,
-) -> Result<(), CheckAnswer>
-    ensures { Leaves result earlier.new (Ok (with_final earlier.old name made)) }
+) -> Result<(), AllocError>
+    requires { length earlier.old.streams + length earlier.old.finals < 32 }
+    ensures { OnOk result (earlier.new ≡ with_final earlier.old name made) }
 {
-    let number = slot_number(earlier.finals.len())?;
+    let number = earlier.finals.len() as u16;
     let columns = copy_words(alloc, made.columns.as_slice())?;
     earlier.known.push(Known {
         name: name.id,
@@ -339,6 +371,8 @@ pub fn check_final(
     earlier: &mut Earlier,
     d: &FinalDef,
 ) -> Result<(), CheckAnswer>
+    requires fits { Fits earlier.old }
+    requires groups { given.now.groups ≤ 8 }
     ensures { Leaves result earlier.new (final_checked given.now earlier.old d.now) }
 {
     check_binding(earlier, d.name)?;

@@ -7,7 +7,7 @@ ghost use Rattle.query_types.specs.Numbers.{greatest_of, greatest_in};
 ghost use Rattle.query_types.specs.Answers.{Answers};
 ghost use Rattle.query_types.specs.Bodies.{with_parts};
 
-use crate::answer::{CheckAnswer, fault};
+use crate::answer::{CheckAnswer, refused};
 use crate::bodies::check_body;
 use crate::exprs::has_name;
 use crate::numbers::greatest_in_body;
@@ -18,16 +18,17 @@ use std::alloc::{AllocError, Global};
 
 // The state variables: each is new.
 fn check_states(alloc: Global, states: &[StateVar]) -> Result<Seq<u32>, CheckAnswer>
-    ensures { Answers result (states_from [] states.now) }
+    ensures given { Answers result (states_from [] states.now) }
+    ensures most { IfOk result (λ found. length found ≤ 8) }
 {
     let mut found = Seq::new(alloc);
     for state in states {
         let name = state.name;
         if has_name(found.as_slice(), name.id) {
-            return Err(fault(FaultKind::NameTaken, name.span));
+            return Err(refused(FaultKind::NameTaken, name.span));
         }
         if found.len() >= 8 {
-            return Err(fault(FaultKind::OverLimit(Limit::States), name.span));
+            return Err(refused(FaultKind::OverLimit(Limit::States), name.span));
         }
         found.push(name.id)?;
     }
@@ -36,17 +37,18 @@ fn check_states(alloc: Global, states: &[StateVar]) -> Result<Seq<u32>, CheckAns
 
 // The arguments: each is no state variable and new.
 fn check_args(alloc: Global, states: &[u32], args: &[Name]) -> Result<Seq<u32>, CheckAnswer>
-    ensures { Answers result (args_from states.now [] args.now) }
+    ensures given { Answers result (args_from states.now [] args.now) }
+    ensures most { IfOk result (λ found. length found ≤ 16) }
 {
     let mut found = Seq::new(alloc);
     for arg in args {
         let is_state = has_name(states, arg.id);
         let is_arg = has_name(found.as_slice(), arg.id);
         if is_state || is_arg {
-            return Err(fault(FaultKind::NameTaken, arg.span));
+            return Err(refused(FaultKind::NameTaken, arg.span));
         }
         if found.len() >= 16 {
-            return Err(fault(FaultKind::OverLimit(Limit::Args), arg.span));
+            return Err(refused(FaultKind::OverLimit(Limit::Args), arg.span));
         }
         found.push(arg.id)?;
     }
@@ -152,7 +154,8 @@ fn count_fold_statements(body: &[Stmt]) -> u32
 
 // The fold's arguments, beside its state variables.
 fn fold_args(alloc: Global, states: &Seq<u32>, d: &FoldDef) -> Result<Seq<u32>, CheckAnswer>
-    ensures { Answers result (args_from states.now [] d.now.args) }
+    ensures given { Answers result (args_from states.now [] d.now.args) }
+    ensures most { IfOk result (λ found. length found ≤ 16) }
 {
     check_args(alloc, states.as_slice(), d.args.as_slice())
 }
@@ -164,6 +167,8 @@ fn fold_body(
     args: &Seq<u32>,
     d: &FoldDef,
 ) -> Result<Body, CheckAnswer>
+    requires states { length states.now ≤ 8 }
+    requires args { length args.now ≤ 16 }
     ensures { Answers result (body_checked states.now args.now d.now.body) }
 {
     check_body(alloc, states.as_slice(), args.as_slice(), d.body.as_slice())

@@ -1,25 +1,26 @@
 // The items of a query in order.
 
-ghost use Rattle.std.specs.Prelude.{◌≡◌, ◌≤◌, Ok, is_some, All};
-ghost use Rattle.query_lang.specs.Limits.{KeepsLimits};
+ghost use Rattle.std.specs.Prelude.{◌≡◌, ◌<◌, ◌≤◌, IfOk, OnOk, length, is_some, All};
+ghost use Rattle.query_lang.specs.Limits.{KeepsLimits, IsNumbered};
 ghost use Rattle.query_lang.specs.TypedFolds.{fold_nodes, fold_statements};
 ghost use Rattle.query_lang.specs.Typing.{with_fold, fold_added, print_checked, item_checked, items_checked};
-ghost use Rattle.query_types.specs.Answers.{Answers, Leaves};
+ghost use Rattle.query_types.specs.Answers.{Leaves};
+ghost use Rattle.query_types.specs.Fitting.{Fits};
 
-use crate::answer::{CheckAnswer, fault};
+use crate::answer::{CheckAnswer, refused};
 use crate::copies::copy_words;
-use crate::exprs::{has_name, slot_number};
+use crate::exprs::has_name;
 use crate::finals::{check_final, five_of};
 use crate::folds::check_fold;
 use crate::streams::check_stream;
 use crate::views::{find_table, is_taken};
 use query_lang::typing::{Earlier, FoldView, Given, Known, Meaning};
 use query_lang::{FaultKind, FoldDef, Item, Name, TypedFold};
-use std::alloc::Global;
+use std::alloc::{AllocError, Global};
 
 // What the name of a fold stands for, where the fold has this number.
-fn view_of(alloc: Global, number: u16, f: &TypedFold) -> Result<FoldView, CheckAnswer>
-    ensures { Answers result (Ok (record { number = number; states = f.now.state_names; args = f.now.arg_names; emits = is_some f.now.emit })) }
+fn view_of(alloc: Global, number: u16, f: &TypedFold) -> Result<FoldView, AllocError>
+    ensures { IfOk result (λ view. view ≡ record { number = number; states = f.now.state_names; args = f.now.arg_names; emits = is_some f.now.emit }) }
 {
     let states = copy_words(alloc, f.state_names.as_slice())?;
     let args = copy_words(alloc, f.arg_names.as_slice())?;
@@ -32,10 +33,11 @@ fn view_of(alloc: Global, number: u16, f: &TypedFold) -> Result<FoldView, CheckA
 }
 
 // One more fold.
-fn add_fold(alloc: Global, earlier: &mut Earlier, f: TypedFold) -> Result<(), CheckAnswer>
-    ensures { Leaves result earlier.new (Ok (with_fold earlier.old f)) }
+fn add_fold(alloc: Global, earlier: &mut Earlier, f: TypedFold) -> Result<(), AllocError>
+    requires { length earlier.old.folds < 65536 }
+    ensures { OnOk result (earlier.new ≡ with_fold earlier.old f) }
 {
-    let number = slot_number(earlier.folds.len())?;
+    let number = earlier.folds.len() as u16;
     let view = view_of(alloc, number, &f)?;
     earlier.known.push(Known {
         name: f.name.id,
@@ -46,13 +48,15 @@ fn add_fold(alloc: Global, earlier: &mut Earlier, f: TypedFold) -> Result<(), Ch
 }
 
 // The fold's name is free, and then the fold is checked.
+#[tactic(auto, using(crate::proofs::FitLaws::folds_within))]
 fn check_fold_item(alloc: Global, earlier: &mut Earlier, d: &FoldDef) -> Result<(), CheckAnswer>
+    requires fits { Fits earlier.old }
     requires nodes { fold_nodes d.now ≤ 512 }
     requires statements { fold_statements d.now ≤ 64 }
     ensures { Leaves result earlier.new (fold_added earlier.old d.now) }
 {
     if is_taken(earlier, d.name.id) {
-        return Err(fault(FaultKind::NameTaken, d.name.span));
+        return Err(refused(FaultKind::NameTaken, d.name.span));
     }
     let f = check_fold(alloc, d)?;
     add_fold(alloc, earlier, f)?;
@@ -65,7 +69,7 @@ fn check_print(earlier: &mut Earlier, name: Name) -> Result<(), CheckAnswer>
 {
     let place = find_table(earlier, name)?.place;
     if has_name(earlier.printed.as_slice(), name.id) {
-        return Err(fault(FaultKind::NameTaken, name.span));
+        return Err(refused(FaultKind::NameTaken, name.span));
     }
     earlier.prints.push(place)?;
     earlier.printed.push(name.id)?;
@@ -79,7 +83,9 @@ fn check_item(
     earlier: &mut Earlier,
     item: &Item,
 ) -> Result<(), CheckAnswer>
-    requires { KeepsLimits item.now }
+    requires limits { KeepsLimits item.now }
+    requires groups { given.now.groups ≤ 8 }
+    requires fits { Fits earlier.old }
     ensures { Leaves result earlier.new (item_checked given.now earlier.old item.now) }
 {
     match item {
@@ -93,6 +99,24 @@ fn check_item(
     }
 }
 
+// One item behind those before it, by which each number still fits.
+fn check_next(
+    alloc: Global,
+    given: &Given,
+    earlier: &mut Earlier,
+    item: &Item,
+) -> Result<(), CheckAnswer>
+    requires limits { KeepsLimits item.now }
+    requires names { IsNumbered 65536 item.now }
+    requires groups { given.now.groups ≤ 8 }
+    requires fits { Fits earlier.old }
+    ensures given { Leaves result earlier.new (item_checked given.now earlier.old item.now) }
+    ensures fits { OnOk result (Fits earlier.new) }
+{
+    check_item(alloc, given, earlier, item)?;
+    Ok(())
+}
+
 /// The items in order, each behind those before it.
 pub fn check_items(
     alloc: Global,
@@ -100,11 +124,14 @@ pub fn check_items(
     earlier: &mut Earlier,
     items: &[Item],
 ) -> Result<(), CheckAnswer>
-    requires { All KeepsLimits items.now }
+    requires limits { All KeepsLimits items.now }
+    requires names { All (IsNumbered 65536) items.now }
+    requires groups { given.now.groups ≤ 8 }
+    requires fits { Fits earlier.old }
     ensures { Leaves result earlier.new (items_checked given.now earlier.old items.now) }
 {
     for item in items {
-        check_item(alloc, given, earlier, item)?;
+        check_next(alloc, given, earlier, item)?;
     }
     Ok(())
 }

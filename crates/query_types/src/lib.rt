@@ -19,5 +19,4 @@ mod typing;
 mod views;
 
 pub use answer::CheckAnswer;
-pub use exprs::{check_condition, check_expr, check_word};
 pub use typing::check;

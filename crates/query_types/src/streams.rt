@@ -1,12 +1,13 @@
 // Streams.
 
-ghost use Rattle.std.specs.Prelude.{◌≡◌, ◌+◌, ◌++◌, Ok, None, IfOk, OnOk, length, map, is_some, if◌then◌else◌};
+ghost use Rattle.std.specs.Prelude.{◌≡◌, ◌+◌, ◌<◌, ◌≤◌, ◌++◌, Ok, None, IfOk, OnOk, length, map, is_some, if◌then◌else◌};
 ghost use Rattle.query_lang.specs.TypedExprs.{condition_of};
 ghost use Rattle.query_lang.specs.TypedStreams.{column_names, new_columns, no_new_columns, others_from, keys_checked, arguments_of, filtered, next_stream, mapped, zipped, grouped, made_stream, with_stream, stream_checked};
 ghost use Rattle.query_types.specs.Answers.{Answers, Leaves};
+ghost use Rattle.query_types.specs.Fitting.{Fits, IsNarrow};
 ghost use Rattle.query_types.specs.MadeStreams.{with_columns, with_slots, with_keys};
 
-use crate::answer::{CheckAnswer, fault};
+use crate::answer::{CheckAnswer, refused};
 use crate::columns::{
     check_arguments, check_columns, check_keys, columns_clash, names_of, other_slots, pick_columns,
 };
@@ -45,6 +46,7 @@ fn columns_of_both(
 
 // The condition of a filter over a stream.
 fn stream_condition(alloc: Global, source: &StreamView, e: &Expr) -> Result<TypedExpr, CheckAnswer>
+    requires { IsNarrow (column_names source.now.columns) }
     ensures { Answers result (condition_of (column_names source.now.columns) source.now.hidden e.now) }
 {
     let names = names_of(alloc, source.columns.as_slice())?;
@@ -69,12 +71,14 @@ fn made_filter(
     })
 }
 
+#[tactic(auto, using(crate::proofs::FitLaws::stream_narrow))]
 fn check_filter(
     alloc: Global,
     earlier: &Earlier,
     input: Name,
     e: &Expr,
 ) -> Result<MadeStream, CheckAnswer>
+    requires { Fits earlier.now }
     ensures { Answers result (filtered earlier.now input e.now) }
 {
     let source = find_stream(earlier, input)?;
@@ -88,6 +92,7 @@ fn stream_columns(
     source: &StreamView,
     columns: &[Column],
 ) -> Result<NewColumns, CheckAnswer>
+    requires { IsNarrow (column_names source.now.columns) }
     ensures { Answers result (new_columns (column_names source.now.columns) source.now.hidden no_new_columns columns.now) }
 {
     let names = names_of(alloc, source.columns.as_slice())?;
@@ -132,28 +137,28 @@ fn made_map(
 }
 
 // The number of the stream behind those before it.
-fn next_number(earlier: &Earlier) -> Result<u16, CheckAnswer>
-    ensures { Answers result (Ok (next_stream earlier.now)) }
+fn next_number(earlier: &Earlier) -> u16
+    requires { length earlier.now.streams + length earlier.now.finals < 32 }
+    ensures { result ≡ next_stream earlier.now }
 {
     let count = earlier.streams.len();
-    if count < 65535 {
-        Ok((count + 1) as u16)
-    } else {
-        Err(CheckAnswer::Memory)
-    }
+    (count + 1) as u16
 }
 
+#[tactic(auto, using(crate::proofs::FitLaws::stream_narrow))]
 fn check_map(
     alloc: Global,
     earlier: &Earlier,
     input: Name,
     columns: &[Column],
 ) -> Result<MadeStream, CheckAnswer>
+    requires fits { Fits earlier.now }
+    requires room { length earlier.now.streams + length earlier.now.finals < 32 }
     ensures { Answers result (mapped earlier.now input columns.now) }
 {
     let source = find_stream(earlier, input)?;
     let new = stream_columns(alloc, source, columns)?;
-    let number = next_number(earlier)?;
+    let number = next_number(earlier);
     Ok(made_map(alloc, source, number, new)?)
 }
 
@@ -162,8 +167,9 @@ fn slots_of_right(
     alloc: Global,
     left: &StreamView,
     right: &StreamView,
-) -> Result<Seq<u16>, CheckAnswer>
-    ensures { Answers result (Ok (others_from 0 (column_names left.now.columns) right.now.columns)) }
+) -> Result<Seq<u16>, AllocError>
+    requires { IsNarrow (column_names right.now.columns) }
+    ensures { IfOk result (λ slots. slots ≡ others_from 0 (column_names left.now.columns) right.now.columns) }
 {
     let names = names_of(alloc, left.columns.as_slice())?;
     other_slots(alloc, names.as_slice(), right.columns.as_slice())
@@ -189,18 +195,20 @@ fn made_zip(
     })
 }
 
+#[tactic(auto, using(crate::proofs::FitLaws::stream_narrow))]
 fn check_zip(
     alloc: Global,
     earlier: &Earlier,
     first: Name,
     second: Name,
 ) -> Result<MadeStream, CheckAnswer>
+    requires { Fits earlier.now }
     ensures { Answers result (zipped earlier.now first second) }
 {
     let left = find_stream(earlier, first)?;
     let right = find_stream(earlier, second)?;
     if columns_clash(left.columns.as_slice(), right.columns.as_slice()) {
-        return Err(fault(FaultKind::NameTaken, second.span));
+        return Err(refused(FaultKind::NameTaken, second.span));
     }
     let slots = slots_of_right(alloc, left, right)?;
     Ok(made_zip(alloc, left, right, slots)?)
@@ -213,7 +221,9 @@ fn stream_keys(
     source: &StreamView,
     keys: &[Key],
 ) -> Result<Picked, CheckAnswer>
-    ensures { Answers result (keys_checked five.now (column_names source.now.columns) source.now.hidden keys.now) }
+    requires { IsNarrow (column_names source.now.columns) }
+    ensures given { Answers result (keys_checked five.now (column_names source.now.columns) source.now.hidden keys.now) }
+    ensures most { IfOk result (λ picked. length picked.names ≤ 8) }
 {
     let names = names_of(alloc, source.columns.as_slice())?;
     check_keys(
@@ -233,6 +243,7 @@ fn stream_arguments(
     f: &FoldView,
     name: Name,
 ) -> Result<Seq<u16>, CheckAnswer>
+    requires { IsNarrow (column_names source.now.columns) }
     ensures { Answers result (arguments_of (column_names source.now.columns) source.now.hidden picked.now.names f.now name.span) }
 {
     let names = names_of(alloc, source.columns.as_slice())?;
@@ -247,15 +258,11 @@ fn stream_arguments(
 }
 
 /// How many keys there are.
-pub fn key_count(picked: &Picked) -> Result<u8, CheckAnswer>
-    ensures { Answers result (Ok (length picked.now.names)) }
+pub fn key_count(picked: &Picked) -> u8
+    requires { length picked.now.names ≤ 8 }
+    ensures { result ≡ length picked.now.names }
 {
-    let count = picked.names.len();
-    if count < 256 {
-        Ok(count as u8)
-    } else {
-        Err(CheckAnswer::Memory)
-    }
+    picked.names.len() as u8
 }
 
 // A groupby's table: the keys, and then the fold's variables.
@@ -264,10 +271,11 @@ fn made_table(
     number: u16,
     picked: &Picked,
     f: &FoldView,
-) -> Result<TableView, CheckAnswer>
-    ensures { Answers result (Ok (record { place = PrintOf.Group number; columns = picked.now.names ++ f.now.states; keys = length picked.now.names })) }
+) -> Result<TableView, AllocError>
+    requires { length picked.now.names ≤ 8 }
+    ensures { IfOk result (λ table. table ≡ record { place = PrintOf.Group number; columns = picked.now.names ++ f.now.states; keys = length picked.now.names }) }
 {
-    let keys = key_count(picked)?;
+    let keys = key_count(picked);
     let columns = names_of_both(alloc, picked.names.as_slice(), f.states.as_slice())?;
     Ok(TableView {
         place: PrintOf::Group(number),
@@ -284,8 +292,9 @@ fn made_group(
     picked: Picked,
     f: &FoldView,
     arguments: Seq<u16>,
-) -> Result<MadeStream, CheckAnswer>
-    ensures { Answers result (Ok (with_keys number source.now picked f.now arguments)) }
+) -> Result<MadeStream, AllocError>
+    requires { length picked.names ≤ 8 }
+    ensures { IfOk result (λ made. made ≡ with_keys number source.now picked f.now arguments) }
 {
     let table = made_table(alloc, number, &picked, f)?;
     let columns = pick_columns(alloc, source.columns.as_slice(), picked.slots.as_slice())?;
@@ -298,6 +307,7 @@ fn made_group(
     })
 }
 
+#[tactic(auto, using(crate::proofs::FitLaws::stream_narrow))]
 fn check_group(
     alloc: Global,
     five: &[u32],
@@ -306,14 +316,14 @@ fn check_group(
     keys: &[Key],
     fold_name: Name,
 ) -> Result<MadeStream, CheckAnswer>
+    requires { Fits earlier.now }
     ensures { Answers result (grouped five.now earlier.now input keys.now fold_name) }
 {
     let source = find_stream(earlier, input)?;
     let picked = stream_keys(alloc, five, source, keys)?;
     let f = find_fold(earlier, fold_name)?;
     let arguments = stream_arguments(alloc, source, &picked, f, fold_name)?;
-    let made = made_group(alloc, earlier.groups, source, picked, f, arguments)?;
-    Ok(made)
+    Ok(made_group(alloc, earlier.groups, source, picked, f, arguments)?)
 }
 
 // What the operator of the stream with this name makes. There are at most 8 groupbys.
@@ -324,6 +334,8 @@ fn check_operator(
     name: Name,
     op: &StreamOp,
 ) -> Result<MadeStream, CheckAnswer>
+    requires fits { Fits earlier.now }
+    requires room { length earlier.now.streams + length earlier.now.finals < 32 }
     ensures { Answers result (made_stream five.now earlier.now name op.now) }
 {
     match op {
@@ -332,7 +344,7 @@ fn check_operator(
         StreamOp::Zip(first, second) => check_zip(alloc, earlier, *first, *second),
         StreamOp::Group(input, keys, fold_name) => {
             if earlier.groups >= 8 {
-                return Err(fault(FaultKind::OverLimit(Limit::Groupbys), name.span));
+                return Err(refused(FaultKind::OverLimit(Limit::Groupbys), name.span));
             }
             check_group(alloc, five, earlier, *input, keys.as_slice(), *fold_name)
         }
@@ -340,30 +352,27 @@ fn check_operator(
 }
 
 // The number of groupbys behind a stream, where it has this table.
-fn groups_with(groups: u16, table: &Option<TableView>) -> Result<u16, CheckAnswer>
-    ensures { Answers result (Ok (groups + (if is_some table.now then 1 else 0))) }
+fn groups_with(groups: u16, table: &Option<TableView>) -> u16
+    requires { groups < 32 }
+    ensures { result ≡ groups + (if is_some table.now then 1 else 0) }
 {
-    if table.is_none() {
-        return Ok(groups);
-    }
-    if groups < 65535 {
-        Ok(groups + 1)
-    } else {
-        Err(CheckAnswer::Memory)
-    }
+    if table.is_some() { groups + 1 } else { groups }
 }
 
 // One more stream.
+#[tactic(auto, using(crate::proofs::FitLaws::groups_within))]
 fn add_stream(
     alloc: Global,
     earlier: &mut Earlier,
     name: Name,
     made: MadeStream,
-) -> Result<(), CheckAnswer>
-    ensures { Leaves result earlier.new (Ok (with_stream earlier.old name made)) }
+) -> Result<(), AllocError>
+    requires fits { Fits earlier.old }
+    requires room { length earlier.old.streams + length earlier.old.finals < 32 }
+    ensures { OnOk result (earlier.new ≡ with_stream earlier.old name made) }
 {
-    let number = next_number(earlier)?;
-    let groups = groups_with(earlier.groups, &made.table)?;
+    let number = next_number(earlier);
+    let groups = groups_with(earlier.groups, &made.table);
     let names = names_of(alloc, made.columns.as_slice())?;
     earlier.known.push(Known {
         name: name.id,
@@ -390,6 +399,7 @@ pub fn check_stream(
     earlier: &mut Earlier,
     d: &StreamDef,
 ) -> Result<(), CheckAnswer>
+    requires { Fits earlier.old }
     ensures { Leaves result earlier.new (stream_checked five.now earlier.old d.now) }
 {
     check_binding(earlier, d.name)?;

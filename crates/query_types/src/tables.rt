@@ -1,23 +1,24 @@
 // The numbers, keys and columns of tables.
 
-ghost use Rattle.std.specs.Prelude.{◌≡◌, Ok, drop, take, length};
+ghost use Rattle.std.specs.Prelude.{◌≡◌, ◌≤◌, drop, take, length};
 ghost use Rattle.std.specs.List.{list_any};
 ghost use Rattle.query_lang.specs.Checks.{is_among};
 ghost use Rattle.query_lang.specs.TypedFinals.{table_number, same_names, key_columns, other_columns};
-ghost use Rattle.query_types.specs.Answers.{Answers};
+ghost use Rattle.query_types.specs.Fitting.{IsEarly};
 
-use crate::answer::CheckAnswer;
-use crate::exprs::{has_name, slot_number};
+use crate::exprs::has_name;
 use query_lang::PrintOf;
 use query_lang::typing::TableView;
 
 /// The number of a table, where the query has so many groupbys.
-pub fn number_of_table(groups: u16, place: PrintOf) -> Result<u16, CheckAnswer>
-    ensures { Answers result (Ok (table_number groups place)) }
+pub fn number_of_table(groups: u16, place: PrintOf) -> u16
+    requires groups { groups ≤ 8 }
+    requires place { IsEarly place }
+    ensures { result ≡ table_number groups place }
 {
     match place {
-        PrintOf::Group(number) => Ok(number),
-        PrintOf::Final(number) => slot_number(usize::from(groups) + usize::from(number)),
+        PrintOf::Group(number) => number,
+        PrintOf::Final(number) => groups + number,
     }
 }
 

@@ -1,12 +1,13 @@
 // Whole queries.
 
-ghost use Rattle.std.specs.Prelude.{◌≡◌, ◌<◌, ◌^◌, Ok, None, [], IfOk, All, map, count_by, min};
-ghost use Rattle.query_lang.specs.Limits.{IsReadable, KeepsLimits};
+ghost use Rattle.std.specs.Prelude.{◌≡◌, ◌<◌, ◌≤◌, ◌^◌, Ok, None, [], IfOk, All, length, map, count_by, min};
+ghost use Rattle.query_lang.specs.Limits.{IsReadable, KeepsLimits, IsNumbered};
 ghost use Rattle.query_lang.specs.Typing.{typed_names, field_numbers, is_groupby, given_of, start_of, items_checked, ended, checked};
 ghost use Rattle.query_lang.specs.TypedQueries.{IsValidQuery};
 ghost use Rattle.query_types.specs.Numbers.{greatest_of, item_number};
 ghost use Rattle.query_types.specs.Answers.{Answers};
 ghost use Rattle.query_types.specs.CheckedItems.{checked_with};
+ghost use Rattle.query_types.specs.Fitting.{Fits, AreReady};
 
 use crate::answer::{CheckAnswer, fault};
 use crate::items::check_items;
@@ -14,7 +15,7 @@ use crate::names::{add_fields, find_number, number_fields};
 use crate::numbers::greatest_in_items;
 use marple_base::{Field, Seq};
 use query_lang::typing::{Earlier, Given, Known, Meaning, Origin, StreamColumn, StreamView};
-use query_lang::{FaultKind, Item, Names, Query, Span, StreamOp, TypedQuery};
+use query_lang::{FaultKind, Item, Names, Query, QueryFault, Span, StreamOp, TypedQuery};
 use std::alloc::{AllocError, Global};
 
 // Is it a stream that groups?
@@ -41,15 +42,17 @@ fn count_groups(items: &[Item]) -> u16
 }
 
 // The numbers of the fields' names.
-fn numbers_of_fields(alloc: Global, names: &Names) -> Result<Seq<u32>, CheckAnswer>
-    ensures { Answers result (Ok (field_numbers names.now)) }
+fn numbers_of_fields(alloc: Global, names: &Names) -> Result<Seq<u32>, AllocError>
+    requires { length names.now < 2 ^ 32 }
+    ensures { IfOk result (λ numbers. numbers ≡ field_numbers names.now) }
 {
     number_fields(alloc, names, &Field::ALL)
 }
 
 // What is known of the whole query from the start.
-fn given_from(alloc: Global, names: &Names, items: &Seq<Item>) -> Result<Given, CheckAnswer>
-    ensures { Answers result (Ok (given_of names.now items.now)) }
+fn given_from(alloc: Global, names: &Names, items: &Seq<Item>) -> Result<Given, AllocError>
+    requires { length names.now < 2 ^ 32 }
+    ensures { IfOk result (λ given. given ≡ given_of names.now items.now) }
 {
     let fields = numbers_of_fields(alloc, names)?;
     let groups = count_groups(items.as_slice());
@@ -84,12 +87,13 @@ fn packet_stream(alloc: Global, given: &Given) -> Result<StreamView, AllocError>
 }
 
 // What stands from the start.
-fn start_from(alloc: Global, names: &Names, given: &Given) -> Result<Earlier, CheckAnswer>
-    requires { given.now.fields ≡ field_numbers names.now }
-    ensures { Answers result (Ok (start_of names.now)) }
+fn start_from(alloc: Global, names: &Names, given: &Given) -> Result<Earlier, AllocError>
+    requires names { length names.now < 2 ^ 32 }
+    requires fields { given.now.fields ≡ field_numbers names.now }
+    ensures { IfOk result (λ start. start ≡ start_of names.now) }
 {
     let stream = packet_stream(alloc, given)?;
-    let name = find_number(names, b"pktstream")?;
+    let name = find_number(names, b"pktstream");
     let mut known = Seq::new(alloc);
     known.push(Known {
         name,
@@ -107,8 +111,8 @@ fn start_from(alloc: Global, names: &Names, given: &Given) -> Result<Earlier, Ch
 }
 
 // The typed query, which prints some table.
-fn end_with(names: Names, end: Span, earlier: Earlier) -> Result<TypedQuery, CheckAnswer>
-    ensures { Answers result (ended names end earlier) }
+fn end_with(names: Names, end: Span, earlier: Earlier) -> Result<TypedQuery, QueryFault>
+    ensures { result ≡ ended names end earlier }
 {
     if earlier.prints.is_empty() {
         return Err(fault(FaultKind::NothingPrinted, end));
@@ -129,7 +133,10 @@ fn check_from(
     start: Earlier,
     items: &Seq<Item>,
 ) -> Result<Earlier, CheckAnswer>
-    requires { All KeepsLimits items.now }
+    requires limits { All KeepsLimits items.now }
+    requires names { All (IsNumbered 65536) items.now }
+    requires groups { given.now.groups ≤ 8 }
+    requires fits { Fits start }
     ensures { Answers result (items_checked given.now start items.now) }
 {
     let mut earlier = start;
@@ -138,8 +145,9 @@ fn check_from(
 }
 
 // What all items of a query give, where its names are these and those of all fields.
+#[tactic(auto, using(crate::proofs::StartLaws::given_few, crate::proofs::StartLaws::start_is))]
 fn check_all(alloc: Global, names: &Names, items: &Seq<Item>) -> Result<Earlier, CheckAnswer>
-    requires { All KeepsLimits items.now }
+    requires { AreReady names.now items.now }
     ensures { Answers result (items_checked (given_of names.now items.now) (start_of names.now) items.now) }
 {
     let given = given_from(alloc, names, items)?;
@@ -148,8 +156,9 @@ fn check_all(alloc: Global, names: &Names, items: &Seq<Item>) -> Result<Earlier,
 }
 
 // The names of a query and of all fields.
-fn names_with_fields(names: Names) -> Result<Names, CheckAnswer>
-    ensures { Answers result (Ok (typed_names names)) }
+fn names_with_fields(names: Names) -> Result<Names, AllocError>
+    requires { length names ≤ 32768 }
+    ensures { IfOk result (λ all. all ≡ typed_names names) }
 {
     let mut all = names;
     add_fields(&mut all, &Field::ALL)?;
@@ -163,11 +172,11 @@ fn check_with(
     items: &Seq<Item>,
     end: Span,
 ) -> Result<TypedQuery, CheckAnswer>
-    requires { All KeepsLimits items.now }
+    requires { AreReady names items.now }
     ensures { Answers result (checked_with names items.now end) }
 {
     let earlier = check_all(alloc, &names, items)?;
-    end_with(names, end, earlier)
+    Ok(end_with(names, end, earlier)?)
 }
 
 // The numbers in a query are words.
@@ -190,8 +199,7 @@ fn check_query(alloc: Global, q: Query) -> Result<TypedQuery, CheckAnswer>
 /// The typed query, or the first fault: items in the order of the text, and the checks of an item in their order. A query that
 /// was parsed is readable. What is given is valid: names, slots, streams and folds that it names are there, conditions,
 /// words and constants stand where they may, and the limits are kept. Its names are those of the query and then those of the
-/// fields that the query hasn't got. `Memory` comes for want of memory, and where a number
-/// of folds or columns has no slot number.
+/// fields that the query hasn't got. `Memory` comes for want of memory alone.
 pub fn check(alloc: Global, q: Query) -> Result<TypedQuery, CheckAnswer>
     requires { IsReadable q }
     ensures given { Answers result (checked q) }

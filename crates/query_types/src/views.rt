@@ -1,13 +1,13 @@
 // What the names of a query stand for.
 
-ghost use Rattle.std.specs.Prelude.{◌≡◌, option_map, is_some};
+ghost use Rattle.std.specs.Prelude.{◌≡◌, ◌<◌, ◌+◌, IfOk, length, option_map, is_some};
 ghost use Rattle.query_lang.specs.TypedStreams.{meaning_of, begun, stream_named, fold_named};
 ghost use Rattle.query_lang.specs.TypedFinals.{table_at, table_named, quiet_fold};
-ghost use Rattle.query_types.specs.Answers.{Answers, Finds};
+ghost use Rattle.query_types.specs.Answers.{Finds};
 
-use crate::answer::{CheckAnswer, fault};
+use crate::answer::fault;
 use query_lang::typing::{Earlier, FoldView, Known, Meaning, StreamView, TableView};
-use query_lang::{FaultKind, Limit, Name};
+use query_lang::{FaultKind, Limit, Name, QueryFault};
 
 // What a name stands for.
 fn find_meaning(known: &[Known], id: u32) -> Option<&Meaning>
@@ -29,8 +29,9 @@ pub fn is_taken(earlier: &Earlier, id: u32) -> bool
 }
 
 /// A new stream or final: its name is free, and there are at most 32 of them.
-pub fn check_binding(earlier: &Earlier, name: Name) -> Result<(), CheckAnswer>
-    ensures { Answers result (begun earlier.now name) }
+pub fn check_binding(earlier: &Earlier, name: Name) -> Result<(), QueryFault>
+    ensures given { result ≡ begun earlier.now name }
+    ensures room { IfOk result (λ _. length earlier.now.streams + length earlier.now.finals < 32) }
 {
     if is_taken(earlier, name.id) {
         return Err(fault(FaultKind::NameTaken, name.span));
@@ -44,7 +45,7 @@ pub fn check_binding(earlier: &Earlier, name: Name) -> Result<(), CheckAnswer>
 }
 
 /// The stream that a name has to stand for.
-pub fn find_stream(earlier: &Earlier, name: Name) -> Result<&StreamView, CheckAnswer>
+pub fn find_stream(earlier: &Earlier, name: Name) -> Result<&StreamView, QueryFault>
     ensures { Finds result (stream_named earlier.now.known name) }
 {
     match find_meaning(earlier.known.as_slice(), name.id) {
@@ -55,7 +56,7 @@ pub fn find_stream(earlier: &Earlier, name: Name) -> Result<&StreamView, CheckAn
 }
 
 /// The fold that a name has to stand for.
-pub fn find_fold(earlier: &Earlier, name: Name) -> Result<&FoldView, CheckAnswer>
+pub fn find_fold(earlier: &Earlier, name: Name) -> Result<&FoldView, QueryFault>
     ensures { Finds result (fold_named earlier.now.known name) }
 {
     match find_meaning(earlier.known.as_slice(), name.id) {
@@ -68,7 +69,7 @@ pub fn find_fold(earlier: &Earlier, name: Name) -> Result<&FoldView, CheckAnswer
 }
 
 /// The fold without an `emit` that a name has to stand for.
-pub fn find_quiet_fold(earlier: &Earlier, name: Name) -> Result<&FoldView, CheckAnswer>
+pub fn find_quiet_fold(earlier: &Earlier, name: Name) -> Result<&FoldView, QueryFault>
     ensures { Finds result (quiet_fold earlier.now.known name) }
 {
     let f = find_fold(earlier, name)?;
@@ -79,7 +80,7 @@ pub fn find_quiet_fold(earlier: &Earlier, name: Name) -> Result<&FoldView, Check
 }
 
 // The table of a stream, which is a groupby.
-fn stream_table(stream: &StreamView, name: Name) -> Result<&TableView, CheckAnswer>
+fn stream_table(stream: &StreamView, name: Name) -> Result<&TableView, QueryFault>
     ensures { Finds result (table_at stream.now.table name.span) }
 {
     match &stream.table {
@@ -89,7 +90,7 @@ fn stream_table(stream: &StreamView, name: Name) -> Result<&TableView, CheckAnsw
 }
 
 /// The table that a name has to stand for: a groupby's or a final's.
-pub fn find_table(earlier: &Earlier, name: Name) -> Result<&TableView, CheckAnswer>
+pub fn find_table(earlier: &Earlier, name: Name) -> Result<&TableView, QueryFault>
     ensures { Finds result (table_named earlier.now.known name) }
 {
     match find_meaning(earlier.known.as_slice(), name.id) {

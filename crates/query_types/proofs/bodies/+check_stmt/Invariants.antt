@@ -4,10 +4,10 @@ use Rattle.query_types.proofs.bodies.+check_stmt.Given as goal
 
 abbrev pub invariant-then_block : goal.invariant-then_block
 invariant-then_block l =
-    in_order (map (stmt_checked l.states l.args) (drop l.inner-index l.inner-items)) l.choice-inside.inner.value.holding l.found
-    ≡ in_order (map (stmt_checked l.states l.args) l.inner-items) l.choice-inside.inner.value.holding l.initial.found
+    in_order (map (stmt_checked l.scope.states.now l.scope.args.now) (drop l.inner-index l.inner-items)) l.choice-inside.inner.value.holding l.found
+    ≡ in_order (map (stmt_checked l.scope.states.now l.scope.args.now) l.inner-items) l.choice-inside.inner.value.holding l.initial.found
 
 abbrev pub invariant-else_block : goal.invariant-else_block
 invariant-else_block l =
-    in_order (map (stmt_checked l.states l.args) (drop l.inner-index l.inner-items)) l.choice-inside.inner.value.failing l.found
-    ≡ in_order (map (stmt_checked l.states l.args) l.inner-items) l.choice-inside.inner.value.failing l.initial.found
+    in_order (map (stmt_checked l.scope.states.now l.scope.args.now) (drop l.inner-index l.inner-items)) l.choice-inside.inner.value.failing l.found
+    ≡ in_order (map (stmt_checked l.scope.states.now l.scope.args.now) l.inner-items) l.choice-inside.inner.value.failing l.initial.found

@@ -4,5 +4,5 @@ use Rattle.query_types.proofs.bodies.check_all.Given as goal
 
 abbrev pub invariant-loop-one : goal.invariant-loop-one
 invariant-loop-one l =
-    in_order (map (stmt_checked l.states l.args) (drop l.one-index l.body)) l.outer l.found
-    ≡ in_order (map (stmt_checked l.states l.args) l.body) l.outer l.initial.found
+    in_order (map (stmt_checked l.scope.states.now l.scope.args.now) (drop l.one-index l.body)) l.outer l.found
+    ≡ in_order (map (stmt_checked l.scope.states.now l.scope.args.now) l.body) l.outer l.initial.found

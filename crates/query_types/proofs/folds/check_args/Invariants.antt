@@ -1,6 +1,9 @@
-use Rattle.std.proofs.Common.{◌≡◌, [], drop}
+use Rattle.std.proofs.Common.{◌≡◌, ◌≤◌, [], drop, length}
 use Rattle.query_lang.specs.TypedFolds.{args_from}
 use Rattle.query_types.proofs.folds.check_args.Given as goal
 
 abbrev pub invariant-loop-arg : goal.invariant-loop-arg
-invariant-loop-arg l = args_from l.states l.found (drop l.arg-index l.args) ≡ args_from l.states [] l.args
+invariant-loop-arg l = record {
+  given : args_from l.states l.found (drop l.arg-index l.args) ≡ args_from l.states [] l.args;
+  most : length l.found ≤ 16;
+}

@@ -1,6 +1,9 @@
-use Rattle.std.proofs.Common.{◌≡◌, [], drop}
+use Rattle.std.proofs.Common.{◌≡◌, ◌≤◌, [], drop, length}
 use Rattle.query_lang.specs.TypedFolds.{states_from}
 use Rattle.query_types.proofs.folds.check_states.Given as goal
 
 abbrev pub invariant-loop-state : goal.invariant-loop-state
-invariant-loop-state l = states_from l.found (drop l.state-index l.states) ≡ states_from [] l.states
+invariant-loop-state l = record {
+  given : states_from l.found (drop l.state-index l.states) ≡ states_from [] l.states;
+  most : length l.found ≤ 8;
+}

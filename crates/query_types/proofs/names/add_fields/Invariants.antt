@@ -1,6 +1,9 @@
-use Rattle.std.proofs.Common.{◌≡◌, drop}
+use Rattle.std.proofs.Common.{◌≡◌, ◌+◌, ◌≤◌, drop, length}
 use Rattle.query_lang.specs.Typing.{with_fields}
 use Rattle.query_types.proofs.names.add_fields.Given as goal
 
 abbrev pub invariant-loop-field : goal.invariant-loop-field
-invariant-loop-field l = with_fields l.names (drop l.field-index l.fields) ≡ with_fields l.initial.names l.fields
+invariant-loop-field l = record {
+  named : with_fields l.names (drop l.field-index l.fields) ≡ with_fields l.initial.names l.fields;
+  room : length l.names ≤ length l.initial.names + l.field-index;
+}
