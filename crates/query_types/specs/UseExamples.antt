@@ -26,7 +26,8 @@ abbrev pub MappedUses : Type 0
 MappedUses = (q : TypedQuery) (f : TypedFold) (first second : TypedStream) (sum : TypedExpr)
     → HasParts first second q f → first.op ≡ Map 0 (sum ∷ []) → second.op ≡ Group 1 (0 ∷ []) 0 (2 ∷ [])
     → term_of sum ≡ Operation Add (Read 0) (Read 1)
-    → uses q 0 three_packets ≡ use_at 1 (5 ∷ []) (6 ∷ []) ∷ use_at 2 (7 ∷ []) (7 ∷ []) ∷ use_at 3 (5 ∷ []) (8 ∷ []) ∷ []
+    → uses q 0 three_packets ≡ use_at 1 (5 ∷ []) (6 ∷ []) ∷ use_at 2 (7 ∷ []) (7 ∷ []) ∷ use_at 3 (5 ∷ []) (8 ∷ [])
+    ∷ []
 
 -- a groupby by both words behind a zip of the packets with themselves; it has no argument
 abbrev pub ZippedUses : Type 0

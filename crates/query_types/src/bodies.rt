@@ -2,7 +2,8 @@
 
 ghost use Rattle.std.specs.Prelude.{◌≡◌, ◌≤◌, ◌∷◌, ◌++◌, [], Ok, Some, IfOk, length, map};
 ghost use Rattle.query_lang.specs.TypedExprs.{condition_of, word_of};
-ghost use Rattle.query_lang.specs.TypedFolds.{target_of, state_in, joined, inside, in_order, emit_condition, emitted, stmt_checked, body_checked};
+ghost use Rattle.query_lang.specs.TypedFolds.{target_of, state_in, joined, inside, in_order, emit_condition, emitted, stmt_checked};
+ghost use Rattle.query_lang.specs.TypedFolds.{body_checked};
 ghost use Rattle.query_types.specs.Answers.{Answers, Leaves};
 ghost use Rattle.query_types.specs.Bodies.{IsScope, choice_of, assigned};
 
@@ -195,7 +196,11 @@ fn close_choice(
     before: Seq<TypedStmt>,
     then_block: Seq<TypedStmt>,
 ) -> Result<(), CheckAnswer>
-    ensures { Leaves result found.new (Ok (record { statements = before ++ TypedStmt.If choice.condition then_block found.old.statements ∷ []; emit = found.old.emit })) }
+    ensures { Leaves result found.new
+        (Ok (record {
+          statements = before ++ TypedStmt.If choice.condition then_block found.old.statements ∷ [];
+          emit = found.old.emit;
+        })) }
 {
     let else_block = mem::replace(&mut found.statements, before);
     let Choice {
@@ -291,7 +296,8 @@ fn check_all(
     body: &[Stmt],
 ) -> Result<(), CheckAnswer>
     requires { IsScope scope }
-    ensures { Leaves result found.new (in_order (map (stmt_checked scope.entry.states.now scope.entry.args.now) body.now) outer.now found.old) }
+    ensures { Leaves result found.new
+        (in_order (map (stmt_checked scope.entry.states.now scope.entry.args.now) body.now) outer.now found.old) }
 {
     for one in body {
         check_stmt(alloc, scope, outer, found, one)?;

@@ -4,7 +4,8 @@ ghost use Rattle.std.specs.Prelude.{◌≡◌, ◌≤◌, ◌++◌, [], Ok, IfOk
 ghost use Rattle.std.specs.List.{list_any};
 ghost use Rattle.query_lang.specs.Checks.{collected, is_among};
 ghost use Rattle.query_lang.specs.TypedExprs.{slot_of};
-ghost use Rattle.query_lang.specs.TypedStreams.{new_columns, no_new_columns, same_origin, clashes_with, clash, column_names, others_from, columns_at, key_names, keys_from, keys_checked, arguments_of};
+ghost use Rattle.query_lang.specs.TypedStreams.{new_columns, no_new_columns, same_origin, clashes_with, clash, column_names, others_from};
+ghost use Rattle.query_lang.specs.TypedStreams.{columns_at, key_names, keys_from, keys_checked, arguments_of};
 ghost use Rattle.query_types.specs.Answers.{Answers};
 ghost use Rattle.query_types.specs.Fitting.{IsNarrow};
 

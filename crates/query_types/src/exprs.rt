@@ -2,7 +2,8 @@
 
 ghost use Rattle.std.specs.Prelude.{◌≡◌, ◌<◌, ◌∷◌, [], Ok, IfSome, length};
 ghost use Rattle.query_lang.specs.Checks.{is_among, place_of};
-ghost use Rattle.query_lang.specs.TypedExprs.{slot_of, is_condition_sort, is_operand, is_right_constant, sort_of, of_two, call_of, negated, expr_checked, condition_of, word_of};
+ghost use Rattle.query_lang.specs.TypedExprs.{slot_of, is_condition_sort, is_operand, is_right_constant, sort_of, of_two, call_of};
+ghost use Rattle.query_lang.specs.TypedExprs.{negated, expr_checked, condition_of, word_of};
 ghost use Rattle.query_types.specs.Answers.{Answers};
 ghost use Rattle.query_types.specs.Fitting.{IsNarrow};
 

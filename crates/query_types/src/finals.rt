@@ -3,7 +3,8 @@
 ghost use Rattle.std.specs.Prelude.{◌≡◌, ◌+◌, ◌<◌, ◌≤◌, ◌++◌, [], IfOk, OnOk, length};
 ghost use Rattle.query_lang.specs.TypedExprs.{condition_of, slot_of};
 ghost use Rattle.query_lang.specs.TypedStreams.{new_columns, no_new_columns, keys_checked, arguments_of};
-ghost use Rattle.query_lang.specs.TypedFinals.{table_number, five_fields, final_filter, final_map, final_group, final_join, final_top, made_final, with_final, final_checked};
+ghost use Rattle.query_lang.specs.TypedFinals.{table_number, five_fields, final_filter, final_map, final_group, final_join, final_top};
+ghost use Rattle.query_lang.specs.TypedFinals.{made_final, with_final, final_checked};
 ghost use Rattle.query_types.specs.Answers.{Answers, Leaves};
 ghost use Rattle.query_types.specs.Fitting.{Fits, IsEarly, IsNarrow};
 ghost use Rattle.query_types.specs.MadeFinals.{with_values, with_table_keys, with_others, with_kept};
@@ -34,7 +35,12 @@ fn made_filter(
 ) -> Result<MadeFinal, AllocError>
     requires groups { groups ≤ 8 }
     requires early { IsEarly source.now.place }
-    ensures { IfOk result (λ made. made ≡ record { op = TypedFinalOp.Filter (table_number groups source.now.place) condition; columns = source.now.columns; keys = source.now.keys }) }
+    ensures { IfOk result (λ made. made
+        ≡ record {
+          op = TypedFinalOp.Filter (table_number groups source.now.place) condition;
+          columns = source.now.columns;
+          keys = source.now.keys;
+        }) }
 {
     let number = number_of_table(groups, source.place);
     let columns = copy_words(alloc, source.columns.as_slice())?;

@@ -1,7 +1,8 @@
 // Folds.
 
 ghost use Rattle.std.specs.Prelude.{◌≡◌, ◌+◌, ◌<◌, ◌^◌, ◌≤◌, [], Ok, IfOk, length, map, sum_by};
-ghost use Rattle.query_lang.specs.TypedFolds.{states_from, args_from, expr_nodes, stmt_nodes, stmt_count, body_checked, fold_nodes, fold_statements, fold_checked};
+ghost use Rattle.query_lang.specs.TypedFolds.{states_from, args_from, expr_nodes, stmt_nodes, stmt_count, body_checked, fold_nodes};
+ghost use Rattle.query_lang.specs.TypedFolds.{fold_statements, fold_checked};
 ghost use Rattle.query_lang.specs.Folds.{IsValidFold};
 ghost use Rattle.query_types.specs.Numbers.{greatest_of, greatest_in};
 ghost use Rattle.query_types.specs.Answers.{Answers};

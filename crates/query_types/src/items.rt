@@ -20,7 +20,12 @@ use std::alloc::{AllocError, Global};
 
 // What the name of a fold stands for, where the fold has this number.
 fn view_of(alloc: Global, number: u16, f: &TypedFold) -> Result<FoldView, AllocError>
-    ensures { IfOk result (λ view. view ≡ record { number = number; states = f.now.state_names; args = f.now.arg_names; emits = is_some f.now.emit }) }
+    ensures { IfOk result (λ view. view ≡ record {
+      number = number;
+      states = f.now.state_names;
+      args = f.now.arg_names;
+      emits = is_some f.now.emit;
+    }) }
 {
     let states = copy_words(alloc, f.state_names.as_slice())?;
     let args = copy_words(alloc, f.arg_names.as_slice())?;

@@ -1,8 +1,10 @@
 // Streams.
 
-ghost use Rattle.std.specs.Prelude.{◌≡◌, ◌+◌, ◌<◌, ◌≤◌, ◌++◌, Ok, None, IfOk, OnOk, length, map, is_some, if◌then◌else◌};
+ghost use Rattle.std.specs.Prelude.{◌≡◌, ◌+◌, ◌<◌, ◌≤◌, ◌++◌, Ok, None, IfOk, OnOk, length, map, is_some};
+ghost use Rattle.std.specs.Prelude.{if◌then◌else◌};
 ghost use Rattle.query_lang.specs.TypedExprs.{condition_of};
-ghost use Rattle.query_lang.specs.TypedStreams.{column_names, new_columns, no_new_columns, others_from, keys_checked, arguments_of, filtered, next_stream, mapped, zipped, grouped, made_stream, with_stream, stream_checked};
+ghost use Rattle.query_lang.specs.TypedStreams.{column_names, new_columns, no_new_columns, others_from, keys_checked, arguments_of};
+ghost use Rattle.query_lang.specs.TypedStreams.{filtered, next_stream, mapped, zipped, grouped, made_stream, with_stream, stream_checked};
 ghost use Rattle.query_types.specs.Answers.{Answers, Leaves};
 ghost use Rattle.query_types.specs.Fitting.{Fits, IsNarrow};
 ghost use Rattle.query_types.specs.MadeStreams.{with_columns, with_slots, with_keys};
@@ -59,7 +61,12 @@ fn made_filter(
     source: &StreamView,
     condition: TypedExpr,
 ) -> Result<MadeStream, AllocError>
-    ensures { IfOk result (λ made. made ≡ record { op = TypedOp.Filter source.now.number condition; columns = source.now.columns; hidden = source.now.hidden; table = None }) }
+    ensures { IfOk result (λ made. made ≡ record {
+      op = TypedOp.Filter source.now.number condition;
+      columns = source.now.columns;
+      hidden = source.now.hidden;
+      table = None;
+    }) }
 {
     let columns = copy_columns(alloc, source.columns.as_slice())?;
     let hidden = copy_words(alloc, source.hidden.as_slice())?;
@@ -273,7 +280,11 @@ fn made_table(
     f: &FoldView,
 ) -> Result<TableView, AllocError>
     requires { length picked.now.names ≤ 8 }
-    ensures { IfOk result (λ table. table ≡ record { place = PrintOf.Group number; columns = picked.now.names ++ f.now.states; keys = length picked.now.names }) }
+    ensures { IfOk result (λ table. table ≡ record {
+      place = PrintOf.Group number;
+      columns = picked.now.names ++ f.now.states;
+      keys = length picked.now.names;
+    }) }
 {
     let keys = key_count(picked);
     let columns = names_of_both(alloc, picked.names.as_slice(), f.states.as_slice())?;

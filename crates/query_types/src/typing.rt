@@ -75,7 +75,12 @@ fn packet_columns(alloc: Global, fields: &[u32]) -> Result<Seq<StreamColumn>, Al
 
 // The stream of all packets.
 fn packet_stream(alloc: Global, given: &Given) -> Result<StreamView, AllocError>
-    ensures { IfOk result (λ stream. stream ≡ record { number = 0; columns = map (λ id. record { name = id; origin = Origin.Field }) given.now.fields; hidden = []; table = None }) }
+    ensures { IfOk result (λ stream. stream ≡ record {
+      number = 0;
+      columns = map (λ id. record { name = id; origin = Origin.Field }) given.now.fields;
+      hidden = [];
+      table = None;
+    }) }
 {
     let columns = packet_columns(alloc, given.fields.as_slice())?;
     Ok(StreamView {
