@@ -1,6 +1,7 @@
 // The fronts of several switches at one groupby, side by side.
 
-ghost use Rattle.std.specs.Prelude.{◌≡◌, ◌+◌, ◌*◌, ◌==◌, ◌≤◌, ◌<◌, ◌↔◌, ℕ, List, Ok, true, not, length, OnOk, OnErr};
+ghost use Rattle.std.specs.Prelude.{◌≡◌, ◌+◌, ◌*◌, ◌==◌, ◌≤◌, ◌<◌, ◌↔◌, ℕ, List, Ok, true, not, length};
+ghost use Rattle.std.specs.Prelude.{OnOk, OnErr};
 ghost use Rattle.std.specs.List.{list_all};
 ghost use Rattle.epoch_model.specs.Machine.{Packet, Evict, Merge};
 ghost use Rattle.bucket_cache.specs.Caches.{list_at};
@@ -71,6 +72,7 @@ pub fn merge_at<K: EpochKind, const WAYS: usize, L: Ledger>(
     ensures takes { OnOk result (AtSwitch (λ front.
         StoreTakes (λ kind. K.stands kind) (K.folding front.kind) WAYS at fronts.old store.old store.new) fronts.old at) }
     ensures sizes { (store.new.key_words ≡ store.old.key_words) × (store.new.state_words ≡ store.old.state_words) }
+    ensures ready { OnOk result (AtSwitch (λ front. length front.pipe.records < front.pipe.places) fronts.new at) }
     ensures empty { AtSwitch (λ front. (result ≡ Ok Merged.Empty) ↔ (length front.pipe.records ≡ 0)) fronts.old at }
     ensures err { OnErr result ((fronts.new ≡ fronts.old) × (store.new ≡ store.old)) }
     ensures at_least { steps.old ≤ steps.new }

@@ -1,8 +1,8 @@
-use Rattle.std.proofs.Common.{rules, ◌≡◌, length, get_or, set, sym, ap, subst, ◌∙◌}
+use Rattle.std.proofs.Common.{rules, ◌≡◌, ◌<◌, length, get_or, set, sym, ap, subst, ◌∙◌}
 use Rattle.epoch_model.specs.Machine.{Merge}
 use Rattle.switch_core.specs.FrontEvents.{FrontMakes, MergesNext}
 use Rattle.switch_core.proofs.SideBySide.{same_some}
-use Rattle.switch_core.proofs.LaneFacts.{on_ok, on_err, set_same}
+use Rattle.switch_core.proofs.LaneFacts.{got_set, on_ok, on_err, set_same}
 use Rattle.net_wide.specs.Sharing.{AtSwitch, SwitchMakes, LeadsByMerge, StoreTakes}
 use Rattle.net_wide.proofs.Sharing.{one_makes, got_here, merge_leads, store_takes}
 use Rattle.net_wide.proofs.fronts.merge_at.Goals as goal
@@ -39,6 +39,16 @@ returns-clause-takes g c =
     (λ next x e. subst (λ y. StoreTakes (λ kind. g.K.EpochKind.stands kind) (g.K.EpochKind.folding y.kind) g.row.WAYS at fronts before after) (same_some was x (sym here ∙ e))
     (store_takes (λ kind. g.K.EpochKind.stands kind) (g.K.EpochKind.folding was.kind) g.row.WAYS at fronts was before after here next))
     c.merge_into.ensures.held
+
+pub returns-clause-ready : goal.returns-clause-ready
+returns-clause-ready g c =
+    let fronts = c.args.fronts.now in
+    let at = c.args.at in
+    let new = c.merge_into.new.self in
+    let there = got_set fronts at new c.requires.switch in
+    on_ok (length new.pipe.records < new.pipe.places) (AtSwitch (λ front. length front.pipe.records < front.pipe.places) (set fronts at new) at) c.merge_into.result
+    (λ room x e. subst (λ v. length v.pipe.records < v.pipe.places) (same_some new x (sym there ∙ e)) room)
+    c.merge_into.ensures.ready
 
 pub returns-clause-empty : goal.returns-clause-empty
 returns-clause-empty g c x e =
