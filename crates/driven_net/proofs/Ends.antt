@@ -42,8 +42,8 @@ use Rattle.network.specs.declared.network.Network.{Network}
 use Rattle.network.specs.Networks.{IsNetwork, Keeps, groups_in}
 use Rattle.network.specs.Shared.{NoPackets, SharedStand}
 use Rattle.network.specs.Groups.{AreGroups, GroupRuns, GroupsRun, GroupView, IsGroup, StoresHold, folding_in, group_is_drained, shared_tables}
+use Rattle.network.proofs.SharedSteps.{each_back}
 use Rattle.driven_net.specs.Follows.{NetFollows}
-use Rattle.driven_net.proofs.Following.{each_back}
 use Rattle.driven_net.proofs.Known.{numbered}
 
 -- a groupby at the end: all epochs of its events are merged, and its store holds them

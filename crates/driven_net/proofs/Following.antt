@@ -4,13 +4,12 @@ use Rattle.std.specs.Prelude.{slice_get}
 use Rattle.std.specs.List.{All}
 use Rattle.std.proofs.lemmas.Bool.{true≢false}
 use Rattle.std.proofs.lemmas.List.{map-append}
-use Rattle.epoch_model.specs.Machine.{Event, Packet, Evict, Merge}
 use Rattle.epoch_model.specs.Driving.{Taken, event_of}
 use Rattle.epoch_entry.specs.contracts.any.AnyEpochsEpochKind.TheImpl.{ghosts}
 use Rattle.stage_plan.specs.Planned.{taken}
-use Rattle.switch_core.specs.Rows.{Each, EachFrom}
+use Rattle.switch_core.specs.Rows.{Each}
 use Rattle.additive_folds.specs.Network.{SwitchEvent}
-use Rattle.switch_traces.specs.Traces.{Step, from_switch, given, unless_merge, without_merges}
+use Rattle.switch_traces.specs.Traces.{Step, from_switch, given, without_merges}
 use Rattle.net_wide.specs.NetTables.{switch_in}
 use Rattle.net_wide.specs.Numbering.{place_among}
 use Rattle.net_wide.proofs.SameTexts.{at_place}
@@ -19,26 +18,9 @@ use Rattle.network.specs.declared.network.Network.{Network}
 use Rattle.network.specs.Networks.{IsNetwork, Keeps, groups_in}
 use Rattle.network.specs.Shared.{SharedStand, IsTurnAt}
 use Rattle.network.specs.Groups.{GroupGrows, GroupRuns, GroupStands, GroupsRun, GroupView}
+use Rattle.network.proofs.SharedSteps.{each_back, merges_out}
 use Rattle.driven_net.specs.Follows.{GroupFollows, NetFollows}
 use Rattle.driven_net.proofs.Known.{place_behind, seen_last, steps_same}
-
--- the item before, of which this one was made
-pub each_back : {A B : Type 0} (R : ℕ → A → B → Type 0) (k : ℕ) (olds : List A) (news : List B) (s : ℕ) (now : B) → EachFrom R k olds news → slice_get news s ≡ Some now
-    → (was : A) × (slice_get olds s ≡ Some was) × ((n : ℕ) → n ≡ k + s → R n was now)
-each_back R k [] [] s now p e = cc
-each_back R k [] (y ∷ news) s now p e = absurd p
-each_back R k (x ∷ olds) [] s now p e = absurd p
-each_back R k (x ∷ olds) (y ∷ news) zero now p e = let same : y ≡ now = cc in (x, refl, λ n q. let is : k ≡ n = omega arith in subst (λ m. R m x now) is (subst (R k x) same p.0))
-each_back R k (x ∷ olds) (y ∷ news) (suc s) now p e = let rest = each_back R (suc k) olds news s now p.1 e in (rest.0, rest.1, λ n q. rest.2 n (omega arith))
-
-unless_behind : (k : ℕ) (event : Event) (xs ys : List SwitchEvent) → unless_merge k event (xs ++ ys) ≡ unless_merge k event xs ++ ys
-unless_behind k (Packet key row) xs ys = refl
-unless_behind k (Evict bucket) xs ys = refl
-unless_behind k Merge xs ys = refl
-
-merges_out : (xs ys : List SwitchEvent) → without_merges (xs ++ ys) ≡ without_merges xs ++ without_merges ys
-merges_out [] ys = refl
-merges_out (e ∷ xs) ys = ap (unless_merge e.switch e.event) (merges_out xs ys) ∙ unless_behind e.switch e.event (without_merges xs) (without_merges ys)
 
 given_last : (steps : List Step) (one : Step) → given (steps ++ one ∷ []) ≡ given steps ++ from_switch one.switch (event_of one.taken)
 given_last [] one = append-nil (from_switch one.switch (event_of one.taken))

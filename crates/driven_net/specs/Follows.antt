@@ -16,7 +16,8 @@ pub record GroupFollows (ways buckets : ℕ) (steps : List Step) (group : GroupV
   pub stands : GroupStands ways buckets group events merged
   pub packets : without_merges events ≡ given steps
 
--- The network's switches are these, by their numbers; all switches of the packets are among them; and each groupby is as far as the packets.
+-- The network's switches are these, by their numbers; all switches of the packets are among them; and each groupby is as far as
+-- the packets.
 pub record NetFollows {ways : ℕ} (known : List ℕ) (packets : List (List ℕ)) (net : Network ways) : Type 0 where
   pub is : IsNetwork (length known) net
   pub all_known : (switch : ℕ) → IsSeen switch packets → place_among known switch < length known

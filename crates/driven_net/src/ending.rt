@@ -31,8 +31,8 @@ pub(crate) fn end_text<const WAYS: usize, L: Ledger>(
     requires combines { net_fault typed.now ≡ None }
     requires tells { TellsSwitches typed.now }
     requires follows { (known : List ℕ) × (packets : List (List ℕ)) × AreWhole packets × NetFollows known packets network.old }
-    ensures text { IfOk result (λ text. (known : List ℕ) (packets : List (List ℕ)) → AreWhole packets → NetFollows known packets network.old
-        → text ≡ net_text typed.now network.old.buckets WAYS packets) }
+    ensures text { IfOk result (λ text. (known : List ℕ) (packets : List (List ℕ)) → AreWhole packets
+        → NetFollows known packets network.old → text ≡ net_text typed.now network.old.buckets WAYS packets) }
     ensures steps { steps.old ≤ steps.new }
 {
     ends_are_the_net_tables();

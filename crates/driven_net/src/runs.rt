@@ -51,7 +51,8 @@ pub fn net_over_trace<O: Sink, L: Ledger>(
     ensures accepted { OnOk result (net_trace_fault bytes.now query.typed ≡ None) }
     ensures written { OnOk result (Appends (O.taken out.old) (O.taken out.new)
         (net_text query.typed setting.buckets (ways_number setting.ways) (words_of (net_packets bytes.now query.typed)))) }
-    ensures breaks_off { IfErr result (BreaksOff O.taken O.faults (net_text query.typed setting.buckets (ways_number setting.ways) (words_of (net_packets bytes.now query.typed)))
+    ensures breaks_off { IfErr result (BreaksOff O.taken O.faults
+        (net_text query.typed setting.buckets (ways_number setting.ways) (words_of (net_packets bytes.now query.typed)))
         (net_trace_fault bytes.now query.typed) out.old out.new) }
     ensures out_later { O.faults out.old ≤ O.faults out.new }
     ensures steps { steps.old ≤ steps.new }

@@ -1,6 +1,7 @@
 // The packets of a trace, each at its switch.
 
-ghost use Rattle.std.specs.Prelude.{◌≡◌, ◌+◌, ◌<◌, ◌≤◌, ℕ, List, [], ◌∷◌, ◌++◌, All, None, Some, true, length, IfErr, IfOk, OnOk};
+ghost use Rattle.std.specs.Prelude.{◌≡◌, ◌+◌, ◌<◌, ◌≤◌, ℕ, List, [], ◌∷◌, ◌++◌, All, None, Some, true, length};
+ghost use Rattle.std.specs.Prelude.{IfErr, IfOk, OnOk};
 ghost use Rattle.network.specs.Groups.{GroupStands};
 ghost use Rattle.network.specs.Networks.{IsNetwork, Keeps, groups_in};
 ghost use Rattle.net_wide.specs.NetTables.{switch_in};
@@ -20,22 +21,26 @@ use std::sync::ledger::Ledger;
 use trace_reader::{Trace, TraceAnswer, TraceFault};
 
 // The number of a packet's switch. A switch that is new gets caches and pipes, unless it is the 65th.
-fn switch_at<const WAYS: usize>(
+fn switch_at<const WAYS: usize, L: Ledger>(
     network: &mut Network<WAYS>,
     known: &mut Seq<u64>,
     switch: u64,
     number: u32,
+    steps: &mut Steps<L>,
 ) -> Result<u32, TraceAnswer>
     requires is { IsNetwork (length known.old) network.old }
     ensures at { IfOk result (λ at. switch_number known.old switch ≡ Some at) }
     ensures known { OnOk result (known.new ≡ with_switch known.old switch) }
     ensures is { OnOk result (IsNetwork (length known.new) network.new) }
     ensures keeps { OnOk result (Keeps network.old network.new) }
-    ensures follows { OnOk result ((packets : List (List ℕ)) → NetFollows known.old packets network.old → NetFollows known.new packets network.new) }
-    ensures refused { IfErr result (λ answer. IfRefused answer (λ fault. (fault ≡ SwitchFault number) × (switch_number known.old switch ≡ None))) }
+    ensures follows { OnOk result ((packets : List (List ℕ)) → NetFollows known.old packets network.old
+        → NetFollows known.new packets network.new) }
+    ensures refused { IfErr result (λ answer. IfRefused answer (λ fault.
+        (fault ≡ SwitchFault number) × (switch_number known.old switch ≡ None))) }
+    ensures steps { steps.old ≤ steps.new }
 {
     let before = known.len();
-    let numbered = match number_switch(known, switch) {
+    let numbered = match number_switch(known, switch, steps) {
         Ok(numbered) => numbered,
         Err(AllocError) => return Err(TraceAnswer::Memory),
     };
@@ -78,11 +83,13 @@ fn take_one<const WAYS: usize, L: Ledger>(
     ensures known { OnOk result (known.new ≡ with_switch known.old (switch_in packet.now.words)) }
     ensures numbered { OnOk result ((at : ℕ) × (switch_number known.old (switch_in packet.now.words) ≡ Some at)) }
     ensures keeps { OnOk result (Keeps network.old network.new) }
-    ensures follows { OnOk result ((packets : List (List ℕ)) → NetFollows known.old packets network.old → NetFollows known.new (packets ++ packet.now.words ∷ []) network.new) }
-    ensures refused { IfErr result (λ answer. IfRefused answer (λ fault. (fault ≡ SwitchFault number) × (switch_number known.old (switch_in packet.now.words) ≡ None))) }
+    ensures follows { OnOk result ((packets : List (List ℕ)) → NetFollows known.old packets network.old
+        → NetFollows known.new (packets ++ packet.now.words ∷ []) network.new) }
+    ensures refused { IfErr result (λ answer. IfRefused answer (λ fault.
+        (fault ≡ SwitchFault number) × (switch_number known.old (switch_in packet.now.words) ≡ None))) }
     ensures steps { steps.old ≤ steps.new }
 {
-    let at = switch_at(network, known, packet.get(Field::Switch), number)?;
+    let at = switch_at(network, known, packet.get(Field::Switch), number, steps)?;
     let lag_over = strikes(since, at as usize, lag);
     match network.turn(at, packet, lag_over, steps) {
         Ok(()) => Ok(()),
@@ -105,7 +112,8 @@ pub(crate) fn take_all<const WAYS: usize, L: Ledger>(
     ensures accepted { IfOk result (λ found. first_fault [] 1 (words_of trace.entry.packets) trace.entry.fault ≡ None) }
     ensures follows { IfOk result (λ found. (known : List ℕ) × NetFollows known (words_of trace.entry.packets) found) }
     ensures keeps { IfOk result (Keeps network.entry) }
-    ensures refused { IfErr result (λ answer. IfRefused answer (λ fault. first_fault [] 1 (words_of trace.entry.packets) trace.entry.fault ≡ Some fault)) }
+    ensures refused { IfErr result (λ answer. IfRefused answer (λ fault.
+        first_fault [] 1 (words_of trace.entry.packets) trace.entry.fault ≡ Some fault)) }
     ensures steps { steps.old ≤ steps.new }
 {
     let mut trace = trace;

@@ -43,7 +43,8 @@ fn text_with<const WAYS: usize, L: Ledger>(
     requires few { length trace.packets ≤ most_records }
     ensures accepted { IfOk result (λ text. first_fault [] 1 (words_of trace.entry.packets) trace.entry.fault ≡ None) }
     ensures text { IfOk result (λ text. text ≡ net_text query.typed setting.buckets WAYS (words_of trace.entry.packets)) }
-    ensures refused { IfErr result (λ answer. IfRefused answer (λ fault. first_fault [] 1 (words_of trace.entry.packets) trace.entry.fault ≡ Some fault)) }
+    ensures refused { IfErr result (λ answer. IfRefused answer (λ fault.
+        first_fault [] 1 (words_of trace.entry.packets) trace.entry.fault ≡ Some fault)) }
     ensures steps { steps.old ≤ steps.new }
 {
     let AcceptedQuery { typed, plan } = query;
@@ -74,8 +75,10 @@ pub(crate) fn text_with_its_ways<L: Ledger>(
     requires whole { AreWhole (words_of trace.packets) }
     requires few { length trace.packets ≤ most_records }
     ensures accepted { IfOk result (λ text. first_fault [] 1 (words_of trace.entry.packets) trace.entry.fault ≡ None) }
-    ensures text { IfOk result (λ text. text ≡ net_text query.typed setting.buckets (ways_number setting.ways) (words_of trace.entry.packets)) }
-    ensures refused { IfErr result (λ answer. IfRefused answer (λ fault. first_fault [] 1 (words_of trace.entry.packets) trace.entry.fault ≡ Some fault)) }
+    ensures text { IfOk result (λ text.
+        text ≡ net_text query.typed setting.buckets (ways_number setting.ways) (words_of trace.entry.packets)) }
+    ensures refused { IfErr result (λ answer. IfRefused answer (λ fault.
+        first_fault [] 1 (words_of trace.entry.packets) trace.entry.fault ≡ Some fault)) }
     ensures steps { steps.old ≤ steps.new }
 {
     match setting.ways {

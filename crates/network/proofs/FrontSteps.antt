@@ -1,11 +1,8 @@
 -- Runs of a front and its store, one behind another.
 use Rattle.std.proofs.Common.{◌≡◌, ℕ, ◌≤◌, List, [], ◌∷◌, ◌++◌, length, take, Option, Some, None, refl, sym, ap, ◌∙◌, subst, append-nil, append_assoc}
-use Rattle.epoch_model.specs.Keys.{Key, ArgRow}
 use Rattle.epoch_model.specs.Epochs.{Geometry}
 use Rattle.epoch_model.specs.Machine.{Machine, Event, Packet, Evict, Merge, step, run}
-use Rattle.epoch_model.specs.Laws.{unmerged}
 use Rattle.epoch_model.specs.Timeline.{NoPacket}
-use Rattle.epoch_model.specs.Driving.{Taken, event_of}
 use Rattle.epoch_model.specs.Tables.{Folding}
 use Rattle.epoch_model.proofs.Turns.{run-append}
 use Rattle.epoch_entry.specs.Kinds.{Sizes}
@@ -14,11 +11,10 @@ use Rattle.merged_epochs.specs.Merged.{StoreHolds}
 use Rattle.switch_core.specs.FrontParts.{FrontOf, FitsStore}
 use Rattle.switch_core.specs.FrontEvents.{FrontMakes, MergesNext, next_merged}
 use Rattle.switch_core.specs.Lanes.{Standing, FrontStands}
-use Rattle.switch_core.proofs.LaneSteps.{evict_merged_same, packet_merged_same}
+use Rattle.switch_core.proofs.LaneSteps.{evict_merged_same}
 use Rattle.switch_core.proofs.MergeSteps.{merged_next}
 use Rattle.switch_traces.specs.Traces.{unrefreshed}
-use Rattle.switch_traces.proofs.Runs.{unmerged_append}
-use Rattle.network.specs.FrontRuns.{FrontKept, StoreKept, FrontRuns, AreMerges, AreTurnOf}
+use Rattle.network.specs.FrontRuns.{FrontKept, StoreKept, FrontRuns, AreMerges}
 
 pub kept_on : {K : Type 0} (a b c : FrontOf K) → FrontKept a b → FrontKept b c → FrontKept a c
 kept_on a b c k l = record { kind = l.kind ∙ k.kind; buckets = l.buckets ∙ k.buckets; key_words = l.key_words ∙ k.key_words; places = l.places ∙ k.places }
@@ -93,9 +89,6 @@ module _ {K : Type 0} (means : Standing) (f : Folding) (ways : ℕ) where
     };
   }
 
-  pub runs_packet : (key : Key) (row : ArgRow) (a b : FrontOf K) (s : Store) → FrontMakes means ways (Packet key row) a b → FrontRuns means f ways (AreTurnOf (Some (record { key = key; row = row }))) a b s s
-  runs_packet key row a b s made = runs_event (AreTurnOf (Some (record { key = key; row = row }))) (Packet key row) a b s (λ g m few. (packet_merged_same g m key row few).0) refl made
-
   pub runs_evict : (bucket : ℕ) (a b : FrontOf K) (s : Store) → FrontMakes means ways (Evict bucket) a b → FrontRuns means f ways NoPacket a b s s
   runs_evict bucket a b s made = runs_event NoPacket (Evict bucket) a b s (λ g m few. (evict_merged_same m bucket few).0) tt made
 
@@ -114,15 +107,6 @@ module _ {K : Type 0} (means : Standing) (f : Folding) (ways : ℕ) where
   }
 
 -- lists of events, one behind another
-
-pub merges_on : (xs ys : List Event) → AreMerges xs → AreMerges ys → AreMerges (xs ++ ys)
-merges_on xs ys a b = unmerged_append xs ys ∙ (ap (λ es. es ++ unmerged ys) a ∙ b)
-
-pub merges_before : (taken : Option Taken) (xs ys : List Event) → AreMerges xs → AreTurnOf taken ys → AreTurnOf taken (xs ++ ys)
-merges_before taken xs ys a b = unmerged_append xs ys ∙ (ap (λ es. es ++ unmerged ys) a ∙ b)
-
-pub merges_behind : (taken : Option Taken) (xs ys : List Event) → AreTurnOf taken xs → AreMerges ys → AreTurnOf taken (xs ++ ys)
-merges_behind taken xs ys a b = unmerged_append xs ys ∙ (ap (λ es. unmerged xs ++ es) b ∙ (append-nil (unmerged xs) ∙ a))
 
 pub no_packets_on : (xs ys : List Event) → NoPacket xs → NoPacket ys → NoPacket (xs ++ ys)
 no_packets_on [] ys a b = b

@@ -20,12 +20,13 @@ use Rattle.stage_plan.specs.Planned.{wiring_at}
 use Rattle.stage_plan.specs.Sound.{PlanParts, IsSoundPlan, IsSoundGroup}
 use Rattle.additive_folds.specs.Network.{SwitchEvent}
 use Rattle.switch_core.specs.Pipelines.{heading_of}
-use Rattle.switch_core.specs.Rows.{EachFrom}
+use Rattle.switch_core.specs.Rows.{Each, EachFrom}
 use Rattle.switch_core.proofs.LanesMade.{group_sound}
 use Rattle.switch_core.proofs.SideBySide.{same_some, each_at, each_long, each_map, got_below}
-use Rattle.network.specs.Groups.{GroupView, IsGroup, AreGroups, GroupRuns, GroupsRun, folding_in, shared_tables}
+use Rattle.network.specs.FrontRuns.{FrontKept}
+use Rattle.network.specs.Groups.{AllWide, AreWide, GroupGrows, GroupView, IsGroup, AreGroups, GroupRuns, GroupsRun, folding_in, shared_tables}
 use Rattle.network.specs.Shared.{AllShare, MayShare, SharedRuns}
-use Rattle.network.proofs.SharedSteps.{still_share}
+use Rattle.network.proofs.SharedSteps.{each_back, still_share}
 
 -- what is said of items and parts, and what is made of each item, says something of the new items and the parts
 pub each_made : {A B : Type 0} (R : ℕ → A → B → Type 0) (S : ℕ → A → A → Type 0) (T : ℕ → A → B → Type 0) (k : ℕ) (olds news : List A) (parts : List B)
@@ -183,6 +184,34 @@ module _ (view : GroupView) (part : GroupPlan) (wiring : GroupWiring) (registers
       | inr new ↦ subst (MayShare ghosts.sizes ghosts.folding (folding_in view) (length wiring.args) view.store) new new_share
     ];
   }
+
+pub wide_push : {kind : AnyEpochs} (buckets key_words places : ℕ) (view after : GroupView) → AddsFront kind buckets key_words places view.fronts after.fronts
+    → AreWide buckets view → AreWide buckets after
+wide_push buckets key_words places view after adds wide s front e = elim (got_push view.fronts adds.front front s (ap (λ xs. slice_get xs s) (sym adds.added) ∙ e)) [
+  | inl there ↦ wide s front there
+  | inr new ↦ ap (λ (x : FrontOf AnyEpochs). length x.cache.lists) (sym new) ∙ adds.has_buckets
+]
+
+-- caches are as wide as they were
+pub wide_ran : (ways buckets : ℕ) (are : ℕ → List SwitchEvent → Type 0) (olds news : List GroupView) → GroupsRun ways are olds news → AllWide buckets olds → AllWide buckets news
+wide_ran ways buckets are olds news ran wide n now e s front f =
+    let group = each_back (λ k. GroupRuns ways (are k)) 0 olds news n now ran e in
+    let run = group.2 n (omega arith) in
+    let was = each_back (λ k. FrontKept) 0 group.0.fronts now.fronts s front run.runs.fronts f in
+    (was.2 s (omega arith)).buckets ∙ wide n group.0 group.1 s was.0 was.1
+
+pub wide_grown : (ways buckets : ℕ) (olds news : List GroupView) → Each (GroupGrows ways buckets) olds news → AllWide buckets olds → AllWide buckets news
+wide_grown ways buckets olds news grown wide n now e =
+    let group = each_back (λ k. GroupGrows ways buckets) 0 olds news n now grown e in
+    (group.2 n (omega arith)).wide (wide n group.0 group.1)
+
+-- without a switch there is no cache
+pub wide_start : (plan : PlanParts) (buckets : ℕ) (groups : List GroupView) → AreGroups plan 0 groups → AllWide buckets groups
+wide_start plan buckets groups are n group e s front f =
+    let own = each_at (λ k g part. IsGroup 0 part (wiring_at plan k) g) 0 n groups plan.groups group are e in
+    let none = (own.2 n (omega arith)).count in
+    let some = got_below group.fronts s front f in
+    absurd (omega arith)
 
 pub none_there : {X : Type 0} (s : ℕ) (x : X) → slice_get {X = X} [] s ≡ Some x → ⊥
 none_there s x e = cc

@@ -1,3 +1,5 @@
 pub mod FrontSteps
 pub mod SharedSteps
 pub mod GroupSteps
+pub mod MakeSteps
+pub mod NetworkSteps

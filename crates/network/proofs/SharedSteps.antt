@@ -1,5 +1,5 @@
 -- What a run of one switch's front makes of the fronts of all.
-use Rattle.std.proofs.Common.{◌≡◌, ◌≢◌, ℕ, zero, suc, ◌<◌, Bool, true, false, ◌==◌, List, [], ◌∷◌, ◌++◌, length, filter, take, map, set, Option, Some, None, refl, sym, ap, subst, ◌∙◌, arith, append-nil, append_assoc}
+use Rattle.std.proofs.Common.{◌≡◌, ◌≢◌, ℕ, zero, suc, ◌+◌, ◌<◌, Bool, true, false, ◌==◌, List, [], ◌∷◌, ◌++◌, length, filter, take, map, set, Option, Some, None, refl, sym, ap, subst, ◌∙◌, arith, append-nil, append_assoc}
 use Rattle.std.specs.Prelude.{slice_get, flat_map, if◌then◌else◌}
 use Rattle.std.specs.List.{list_all}
 use Rattle.std.proofs.lemmas.Bool.Decides.{nat_tests}
@@ -8,7 +8,6 @@ use Rattle.std.proofs.lemmas.List.Elements.{filter-append}
 use Rattle.epoch_model.specs.Keys.{ArgRow}
 use Rattle.epoch_model.specs.Epochs.{Geometry}
 use Rattle.epoch_model.specs.Machine.{Epoch, Machine, Event, Packet, Evict, Merge, run, empty_machine}
-use Rattle.epoch_model.specs.Laws.{unmerged}
 use Rattle.epoch_model.specs.Timeline.{NoPacket}
 use Rattle.epoch_model.specs.Driving.{Taken, event_of}
 use Rattle.epoch_model.specs.Tables.{Folding, folded}
@@ -27,8 +26,8 @@ use Rattle.additive_folds.specs.Network.{SwitchEvent, SwitchEpoch, all_events, e
 use Rattle.switch_traces.specs.Traces.{from_switch, without_merges, unless_merge, unrefreshed}
 use Rattle.switch_traces.proofs.Runs.{events_append}
 use Rattle.net_wide.specs.Sharing.{FrontsStand, epochs_from}
-use Rattle.network.specs.FrontRuns.{FrontKept, StoreKept, FrontRuns, RunsTo, AreTurnOf}
-use Rattle.network.specs.Shared.{SharedStand, LedOn, SharedRuns, NoPackets, IsTurnAt, MayShare, AllShare}
+use Rattle.network.specs.FrontRuns.{FrontKept, StoreKept, FrontRuns, RunsTo}
+use Rattle.network.specs.Shared.{SharedStand, LedOn, SharedRuns, NoPackets, MergesAlone, IsTurnAt, MayShare, AllShare}
 use Rattle.network.proofs.FrontSteps.{kept_on, store_on, fits_on, no_packets_on}
 
 -- alike foldings say the same of a store
@@ -192,19 +191,21 @@ module _ {K : Type 0} (means : K → Standing) (folding : K → Folding) (ways k
 
 -- one run behind another
 
-each_kept_on : {K : Type 0} (k : ℕ) (a b c : List (FrontOf K)) → EachFrom (λ n. FrontKept) k a b → EachFrom (λ n. FrontKept) k b c → EachFrom (λ n. FrontKept) k a c
-each_kept_on k [] [] [] p q = tt
-each_kept_on k [] [] (z ∷ c) p q = absurd q
-each_kept_on k [] (y ∷ b) c p q = absurd p
-each_kept_on k (x ∷ a) [] c p q = absurd p
-each_kept_on k (x ∷ a) (y ∷ b) [] p q = absurd q
-each_kept_on k (x ∷ a) (y ∷ b) (z ∷ c) p q = (kept_on x y z p.0 q.0, each_kept_on (suc k) a b c p.1 q.1)
+-- what is said of items and then of what was made of them
+pub each_on : {A : Type 0} (R S T : ℕ → A → A → Type 0) (k : ℕ) (xs ys zs : List A) → ((n : ℕ) (a b c : A) → R n a b → S n b c → T n a c)
+    → EachFrom R k xs ys → EachFrom S k ys zs → EachFrom T k xs zs
+each_on R S T k [] [] [] h p q = tt
+each_on R S T k [] [] (z ∷ zs) h p q = absurd q
+each_on R S T k [] (y ∷ ys) zs h p q = absurd p
+each_on R S T k (x ∷ xs) [] zs h p q = absurd p
+each_on R S T k (x ∷ xs) (y ∷ ys) [] h p q = absurd q
+each_on R S T k (x ∷ xs) (y ∷ ys) (z ∷ zs) h p q = (h k x y z p.0 q.0, each_on R S T (suc k) xs ys zs h p.1 q.1)
 
 module _ {K : Type 0} (means : K → Standing) (f : Folding) (ways : ℕ) where
   pub shared_on : (P Q R : List SwitchEvent → Type 0) (a b c : List (FrontOf K)) (s t u : Store) → ((xs ys : List SwitchEvent) → P xs → Q ys → R (xs ++ ys))
       → SharedRuns means f ways P a b s t → SharedRuns means f ways Q b c t u → SharedRuns means f ways R a c s u
   shared_on P Q R a b c s t u h one two = record {
-    fronts = each_kept_on 0 a b c one.fronts two.fronts;
+    fronts = each_on (λ n. FrontKept) (λ n. FrontKept) (λ n. FrontKept) 0 a b c (λ n x y z. kept_on x y z) one.fronts two.fronts;
     store = store_on s t u one.store two.store;
     runs = λ buckets events merged stand.
         let x = one.runs buckets events merged stand in
@@ -233,16 +234,38 @@ module _ {K : Type 0} (means : K → Standing) (f : Folding) (ways : ℕ) where
     };
   }
 
+  pub shared_as : (P Q : List SwitchEvent → Type 0) (a b : List (FrontOf K)) (s t : Store) → ((xs : List SwitchEvent) → P xs → Q xs)
+      → SharedRuns means f ways P a b s t → SharedRuns means f ways Q a b s t
+  shared_as P Q a b s t h one = record {
+    fronts = one.fronts;
+    store = one.store;
+    runs = λ buckets events merged stand.
+        let x = one.runs buckets events merged stand in
+        record { more = x.more; right = h x.more x.right; later = x.later; stand = x.stand };
+  }
+
 -- events of one switch as those of all
 
-pub turn_at : (k : ℕ) (taken : Option Taken) (es : List Event) → AreTurnOf taken es → IsTurnAt k taken (from_switch k es)
-turn_at k taken es t = merges_out es ∙ ap (from_switch k) t
-  where
-    merges_out : (es : List Event) → without_merges (from_switch k es) ≡ from_switch k (unmerged es)
-    merges_out [] = refl
-    merges_out (Packet key row ∷ es) = ap (λ xs. record { switch = k; event = Packet key row } ∷ xs) (merges_out es)
-    merges_out (Evict bucket ∷ es) = ap (λ xs. record { switch = k; event = Evict bucket } ∷ xs) (merges_out es)
-    merges_out (Merge ∷ es) = merges_out es
+unless_behind : (k : ℕ) (event : Event) (xs ys : List SwitchEvent) → unless_merge k event (xs ++ ys) ≡ unless_merge k event xs ++ ys
+unless_behind k (Packet key row) xs ys = refl
+unless_behind k (Evict bucket) xs ys = refl
+unless_behind k Merge xs ys = refl
+
+pub merges_out : (xs ys : List SwitchEvent) → without_merges (xs ++ ys) ≡ without_merges xs ++ without_merges ys
+merges_out [] ys = refl
+merges_out (e ∷ xs) ys = ap (unless_merge e.switch e.event) (merges_out xs ys) ∙ unless_behind e.switch e.event (without_merges xs) (without_merges ys)
+
+-- what is taken is no merge
+pub taken_stays : (k : ℕ) (taken : Option Taken) → without_merges (from_switch k (event_of taken)) ≡ from_switch k (event_of taken)
+taken_stays k None = refl
+taken_stays k (Some t) = refl
+
+-- a packet between merges
+pub turn_between : (k : ℕ) (taken : Option Taken) (xs ys : List SwitchEvent) → MergesAlone xs → ys ≡ from_switch k (event_of taken) → IsTurnAt k taken (xs ++ ys)
+turn_between k taken xs ys x y = merges_out xs ys ∙ (ap (λ es. es ++ without_merges ys) x ∙ (ap without_merges y ∙ taken_stays k taken))
+
+pub turn_behind : (k : ℕ) (taken : Option Taken) (xs ys : List SwitchEvent) → IsTurnAt k taken xs → MergesAlone ys → IsTurnAt k taken (xs ++ ys)
+turn_behind k taken xs ys x y = merges_out xs ys ∙ (ap (λ es. without_merges xs ++ es) y ∙ (append-nil (without_merges xs) ∙ x))
 
 pub no_packets_at : (k : ℕ) (es : List Event) → NoPacket es → NoPackets (from_switch k es)
 no_packets_at k es n = subst NoPacket (sym (all_of es)) n
@@ -254,29 +277,27 @@ no_packets_at k es n = subst NoPacket (sym (all_of es)) n
 pub no_packets_behind : (xs ys : List SwitchEvent) → NoPackets xs → NoPackets ys → NoPackets (xs ++ ys)
 no_packets_behind xs ys a b = subst NoPacket (sym (map-append (λ (e : SwitchEvent). e.event) xs ys)) (no_packets_on (all_events xs) (all_events ys) a b)
 
+-- the item before, of which this one was made
+pub each_back : {A B : Type 0} (R : ℕ → A → B → Type 0) (k : ℕ) (olds : List A) (news : List B) (s : ℕ) (now : B) → EachFrom R k olds news → slice_get news s ≡ Some now
+    → (was : A) × (slice_get olds s ≡ Some was) × ((n : ℕ) → n ≡ k + s → R n was now)
+each_back R k [] [] s now p e = cc
+each_back R k [] (y ∷ news) s now p e = absurd p
+each_back R k (x ∷ olds) [] s now p e = absurd p
+each_back R k (x ∷ olds) (y ∷ news) zero now p e = let same : y ≡ now = cc in (x, refl, λ n q. let is : k ≡ n = omega arith in subst (λ m. R m x now) is (subst (R k x) same p.0))
+each_back R k (x ∷ olds) (y ∷ news) (suc s) now p e = let rest = each_back R (suc k) olds news s now p.1 e in (rest.0, rest.1, λ n q. rest.2 n (omega arith))
+
 -- fronts that kept their kinds and sizes may still share
 pub still_share : {K : Type 0} (sizes : K → Sizes) (folding : K → Folding) (f : Folding) (args : ℕ) (olds news : List (FrontOf K)) (before after : Store)
     → Each FrontKept olds news → StoreKept before after → AllShare sizes folding f args olds before → AllShare sizes folding f args news after
 still_share {K = K} sizes folding f args olds news before after kept store share s now e =
-    let was = each_back olds news s now kept e in
+    let was = each_back (λ n. FrontKept) 0 olds news s now kept e in
+    let one = was.2 s (omega arith) in
     let old = share s was.0 was.1 in
     record {
-      alike = subst (λ kind. AreAlike (folding kind) f) (sym was.2.kind) old.alike;
-      fits = fits_on sizes was.0 now before after was.2 store old.fits;
-      args = ap (λ kind. (sizes kind).args) was.2.kind ∙ old.args;
+      alike = subst (λ kind. AreAlike (folding kind) f) (sym one.kind) old.alike;
+      fits = fits_on sizes was.0 now before after one store old.fits;
+      args = ap (λ kind. (sizes kind).args) one.kind ∙ old.args;
     }
-  where
-    each_back : (olds news : List (FrontOf K)) (s : ℕ) (now : FrontOf K) → Each FrontKept olds news → slice_get news s ≡ Some now
-        → (was : FrontOf K) × (slice_get olds s ≡ Some was) × FrontKept was now
-    each_back olds news s now kept e = back 0 olds news s now kept e
-      where
-        back : (k : ℕ) (olds news : List (FrontOf K)) (s : ℕ) (now : FrontOf K) → EachFrom (λ n. FrontKept) k olds news → slice_get news s ≡ Some now
-            → (was : FrontOf K) × (slice_get olds s ≡ Some was) × FrontKept was now
-        back k [] [] s now p e = cc
-        back k [] (y ∷ news) s now p e = absurd p
-        back k (x ∷ olds) [] s now p e = absurd p
-        back k (x ∷ olds) (y ∷ news) zero now p e = let same : y ≡ now = cc in (x, refl, subst (FrontKept x) same p.0)
-        back k (x ∷ olds) (y ∷ news) (suc s) now p e = back (suc k) olds news s now p.1 e
 
 -- a test that each item passes
 pub all_pass : {X : Type 0} (p : X → Bool) (xs : List X) → ((s : ℕ) (x : X) → slice_get xs s ≡ Some x → p x ≡ true) → list_all p xs ≡ true

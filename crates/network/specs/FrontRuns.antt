@@ -1,9 +1,8 @@
 -- What several events of a front make of it, and of the store that it is merged into.
-use Rattle.std.specs.Prelude.{◌≡◌, ℕ, List, [], ◌++◌, length, take, Option}
+use Rattle.std.specs.Prelude.{◌≡◌, ℕ, List, [], ◌++◌, length, take}
 use Rattle.epoch_model.specs.Epochs.{Geometry}
 use Rattle.epoch_model.specs.Machine.{Epoch, Machine, Event, run}
 use Rattle.epoch_model.specs.Laws.{unmerged}
-use Rattle.epoch_model.specs.Driving.{Taken, event_of}
 use Rattle.epoch_model.specs.Tables.{Folding}
 use Rattle.backing_store.specs.Store.{Store}
 use Rattle.merged_epochs.specs.Merged.{StoreHolds}
@@ -23,9 +22,10 @@ pub record StoreKept (old new : Store) : Type 0 where
   pub key_words : new.key_words ≡ old.key_words
   pub state_words : new.state_words ≡ old.state_words
 
--- Events of which this holds led from the machine to one that the front stands for, and the store holds what they merged behind these epochs.
-pub record RunsTo {K : Type 0} (means : Standing) (f : Folding) (g : Geometry) (are : List Event → Type 0) (new : FrontOf K) (after : Store)
-    (m : Machine) (epochs : List Epoch) : Type 0 where
+-- Events of which this holds led from the machine to one that the front stands for, and the store holds what they merged behind
+-- these epochs.
+pub record RunsTo {K : Type 0} (means : Standing) (f : Folding) (g : Geometry) (are : List Event → Type 0)
+    (new : FrontOf K) (after : Store) (m : Machine) (epochs : List Epoch) : Type 0 where
   pub events : List Event
   pub right : are events
   pub later : List Epoch
@@ -34,16 +34,14 @@ pub record RunsTo {K : Type 0} (means : Standing) (f : Folding) (g : Geometry) (
   pub holds : StoreHolds f after (epochs ++ later)
 
 -- Such events lead a front and a store from old to new ones, whatever machine the front stood for and whatever epochs the store held.
-pub record FrontRuns {K : Type 0} (means : Standing) (f : Folding) (ways : ℕ) (are : List Event → Type 0) (old new : FrontOf K) (before after : Store) : Type 0 where
+pub record FrontRuns {K : Type 0} (means : Standing) (f : Folding) (ways : ℕ) (are : List Event → Type 0)
+    (old new : FrontOf K) (before after : Store) : Type 0 where
   pub kept : FrontKept old new
   pub store : StoreKept before after
-  pub runs : (buckets : ℕ) (m : Machine) (epochs : List Epoch) → length old.cache.lists ≡ buckets → FrontStands means old.cache old.pipe m
-      → StoreHolds f before epochs → RunsTo means f (unrefreshed buckets ways) are new after m epochs
+  pub runs : (buckets : ℕ) (m : Machine) (epochs : List Epoch) → length old.cache.lists ≡ buckets
+      → FrontStands means old.cache old.pipe m → StoreHolds f before epochs
+      → RunsTo means f (unrefreshed buckets ways) are new after m epochs
 
 -- merges alone
 abbrev pub AreMerges : List Event → Type 0
 AreMerges events = unmerged events ≡ []
-
--- the packet event of what is taken, and merges before and behind it
-abbrev pub AreTurnOf : Option Taken → List Event → Type 0
-AreTurnOf taken events = unmerged events ≡ event_of taken

@@ -1,5 +1,5 @@
 -- The groupbys of a plan over several switches.
-use Rattle.std.specs.Prelude.{◌≡◌, ℕ, Bool, List, [], ◌∷◌, length}
+use Rattle.std.specs.Prelude.{◌≡◌, ℕ, Bool, List, [], ◌∷◌, length, slice_get, Some}
 use Rattle.std.specs.List.{list_all}
 use Rattle.fold_class.specs.Program.{IsProgramOf}
 use Rattle.query_lang.specs.declared.fold.TypedFold.{TypedFold}
@@ -33,6 +33,10 @@ pub record GroupView : Type 0 where
 abbrev pub folding_in : GroupView → Folding
 folding_in group = ghosts.folding group.kind
 
+-- all its fronts, for rows of so many arguments, may share its store
+abbrev pub GroupShares : ℕ → GroupView → Type 0
+GroupShares args group = AllShare ghosts.sizes ghosts.folding (folding_in group) args group.fronts group.store
+
 -- It is that of the plan's groupby, with fronts for so many switches.
 pub record IsGroup (switches : ℕ) (part : GroupPlan) (wiring : GroupWiring) (group : GroupView) : Type 0 where
   pub keys : group.store.key_words ≡ length part.key_names
@@ -41,7 +45,7 @@ pub record IsGroup (switches : ℕ) (part : GroupPlan) (wiring : GroupWiring) (g
   pub kind : (f : TypedFold) → IsProgramOf f part.program
       → IsKindOf f (ghosts.sizes group.kind) (ghosts.folding group.kind) (ghosts.open_bound group.kind) (ghosts.absorb_bound group.kind)
   pub count : length group.fronts ≡ switches
-  pub shares : AllShare ghosts.sizes ghosts.folding (folding_in group) (length wiring.args) group.fronts group.store
+  pub shares : GroupShares (length wiring.args) group
 
 -- one for each groupby of the plan, in order
 abbrev pub AreGroups : PlanParts → ℕ → List GroupView → Type 0
@@ -49,7 +53,8 @@ AreGroups plan switches groups = EachFrom (λ n group part. IsGroup switches par
 
 -- the groupby's fronts and store stand for these events and merged epochs
 abbrev pub GroupStands : ℕ → ℕ → GroupView → List SwitchEvent → List SwitchEpoch → Type 0
-GroupStands ways buckets group events merged = SharedStand ghosts.stands (folding_in group) ways buckets group.fronts group.store events merged
+GroupStands ways buckets group events merged =
+    SharedStand ghosts.stands (folding_in group) ways buckets group.fronts group.store events merged
 
 -- Events of which this holds lead a groupby from old parts to new ones.
 pub record GroupRuns (ways : ℕ) (are : List SwitchEvent → Type 0) (old new : GroupView) : Type 0 where
@@ -60,10 +65,21 @@ pub record GroupRuns (ways : ℕ) (are : List SwitchEvent → Type 0) (old new :
 abbrev pub GroupsRun : ℕ → (ℕ → List SwitchEvent → Type 0) → List GroupView → List GroupView → Type 0
 GroupsRun ways are olds news = EachFrom (λ n. GroupRuns ways (are n)) 0 olds news
 
+-- each of its caches has so many buckets
+abbrev pub AreWide : ℕ → GroupView → Type 0
+AreWide buckets group =
+    (s : ℕ) (front : FrontOf AnyEpochs) → slice_get group.fronts s ≡ Some front → length front.cache.lists ≡ buckets
+
+-- each cache of each groupby has so many buckets
+abbrev pub AllWide : ℕ → List GroupView → Type 0
+AllWide buckets groups = (n : ℕ) (group : GroupView) → slice_get groups n ≡ Some group → AreWide buckets group
+
 -- A groupby has a front more, for the next switch, which had no event.
 pub record GroupGrows (ways buckets : ℕ) (old new : GroupView) : Type 0 where
   pub kind : new.kind ≡ old.kind
-  pub stands : (events : List SwitchEvent) (merged : List SwitchEpoch) → GroupStands ways buckets old events merged → GroupStands ways buckets new events merged
+  pub wide : AreWide buckets old → AreWide buckets new
+  pub stands : (events : List SwitchEvent) (merged : List SwitchEpoch) → GroupStands ways buckets old events merged
+      → GroupStands ways buckets new events merged
 
 -- no cache and no pipe of it has anything
 abbrev pub group_is_drained : GroupView → Bool
@@ -71,7 +87,8 @@ group_is_drained group = list_all (λ front. is_drained front.cache front.pipe) 
 
 -- the tables of these epochs, each by its groupby
 abbrev pub shared_tables : List GroupPlan → List GroupView → List (List Epoch) → List Table
-shared_tables (part ∷ parts) (group ∷ groups) (epochs ∷ more) = closed_table (heading_of part) (folding_in group) epochs ∷ shared_tables parts groups more
+shared_tables (part ∷ parts) (group ∷ groups) (epochs ∷ more) =
+    closed_table (heading_of part) (folding_in group) epochs ∷ shared_tables parts groups more
 shared_tables _ _ _ = []
 
 -- the stores hold these epochs

@@ -1,4 +1,5 @@
 pub mod FrontRuns
 pub mod Shared
 pub mod Groups
+pub mod Events
 pub mod Networks

@@ -1,8 +1,10 @@
 -- A plan over several switches, as contracts see it.
 use Rattle.std.specs.Prelude.{◌≡◌, ℕ, ◌*◌, ◌<◌, ◌≤◌, List}
+use Rattle.epoch_model.specs.Machine.{Event}
 use Rattle.switch_core.specs.Pipelines.{HasRooms}
 use Rattle.network.specs.declared.network.Network.{Network}
-use Rattle.network.specs.Groups.{GroupView, AreGroups}
+use Rattle.network.specs.Events.{GroupsMake}
+use Rattle.network.specs.Groups.{GroupView, AreGroups, AllWide}
 
 -- its groupbys
 abbrev pub groups_in : {ways : ℕ} → Network ways → List GroupView
@@ -14,6 +16,7 @@ pub record IsNetwork {ways : ℕ} (switches : ℕ) (net : Network ways) : Type 0
   pub count : net.switches ≡ switches
   pub few : switches ≤ 64
   pub groups : AreGroups net.plan switches net.groups.items
+  pub wide : AllWide net.buckets net.groups.items
   pub rooms : HasRooms net.plan net.registers.items net.key.items net.args.items
   pub some_ways : 0 < ways
   pub some_buckets : 0 < net.buckets
@@ -25,3 +28,8 @@ pub record IsNetwork {ways : ℕ} (switches : ℕ) (net : Network ways) : Type 0
 pub record Keeps {ways : ℕ} (old new : Network ways) : Type 0 where
   pub plan : new.plan ≡ old.plan
   pub buckets : new.buckets ≡ old.buckets
+
+-- Events of one switch lead a network on: each groupby makes those of its number, and one that has none is as it was.
+pub record NetworkMakes {ways : ℕ} (at : ℕ) (events : ℕ → List Event) (old new : Network ways) : Type 0 where
+  pub groups : GroupsMake ways at events (groups_in old) (groups_in new)
+  pub keeps : Keeps old new

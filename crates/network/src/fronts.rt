@@ -1,19 +1,21 @@
-// One front, and the store that it is merged into.
+// The fronts of a groupby, one by one, and the store that each is merged into.
 
 ghost use Rattle.std.specs.Prelude.{◌≡◌, ◌<◌, ◌≤◌, ◌↔◌, ◌≢◌, ℕ, Ok, true, length, OnOk};
 ghost use Rattle.epoch_model.specs.Timeline.{NoPacket};
-ghost use Rattle.backing_store.specs.Store.{Store};
+ghost use Rattle.epoch_model.specs.Driving.{event_of};
 ghost use Rattle.bucket_cache.specs.Caches.{list_at};
-ghost use Rattle.epoch_model.specs.Tables.{Folding};
 ghost use Rattle.stage_plan.specs.Planned.{registers_of, wiring_at};
 ghost use Rattle.stage_plan.specs.Registers.{taken_at};
 ghost use Rattle.switch_core.specs.FrontParts.{FitsStore};
 ghost use Rattle.switch_core.specs.Closing.{held_in, is_drained};
-ghost use Rattle.network.specs.FrontRuns.{AreMerges, AreTurnOf, FrontRuns};
+ghost use Rattle.net_wide.specs.Sharing.{AtSwitch};
+ghost use Rattle.network.specs.FrontRuns.{AreMerges, FrontRuns};
+ghost use Rattle.network.specs.Events.{FrontsMakeAll};
 
 use backing_store::BackingStore;
 use epoch_entry::EpochKind;
 use marple_base::Steps;
+use net_wide::packet_at;
 use stage_plan::Plan;
 use std::alloc::AllocError;
 use std::sync::ledger::Ledger;
@@ -26,7 +28,8 @@ fn merge_once<K: EpochKind, const WAYS: usize, L: Ledger>(
     steps: &mut Steps<L>,
 ) -> Result<Merged, AllocError>
     requires { FitsStore (K.sizes front.old.kind) front.old.cache store.old }
-    ensures runs { OnOk result (FrontRuns (K.stands front.old.kind) (K.folding front.old.kind) WAYS AreMerges front.old front.new store.old store.new) }
+    ensures runs { OnOk result (FrontRuns (K.stands front.old.kind) (K.folding front.old.kind) WAYS AreMerges
+        front.old front.new store.old store.new) }
     ensures fits { FitsStore (K.sizes front.new.kind) front.new.cache store.new }
     ensures ready { OnOk result (length front.new.pipe.records < front.new.pipe.places) }
     ensures empty { result ≡ Ok Merged.Empty → length front.new.pipe.records ≡ 0 }
@@ -45,7 +48,8 @@ fn make_room<K: EpochKind, const WAYS: usize, L: Ledger>(
     steps: &mut Steps<L>,
 ) -> Result<(), AllocError>
     requires { FitsStore (K.sizes front.old.kind) front.old.cache store.old }
-    ensures runs { OnOk result (FrontRuns (K.stands front.old.kind) (K.folding front.old.kind) WAYS AreMerges front.old front.new store.old store.new) }
+    ensures runs { OnOk result (FrontRuns (K.stands front.old.kind) (K.folding front.old.kind) WAYS AreMerges
+        front.old front.new store.old store.new) }
     ensures fits { FitsStore (K.sizes front.new.kind) front.new.cache store.new }
     ensures ready { OnOk result (length front.new.pipe.records < front.new.pipe.places) }
     ensures cache { front.new.cache ≡ front.old.cache }
@@ -59,25 +63,27 @@ fn make_room<K: EpochKind, const WAYS: usize, L: Ledger>(
     Ok(())
 }
 
-// The packet event of what the groupby takes of these registers, if it takes anything.
-fn take_packet<K: EpochKind, const WAYS: usize, L: Ledger>(
+/// The packet event, at the front of this switch, of what the groupby takes of these registers, if it takes anything.
+pub fn take_packet<K: EpochKind, const WAYS: usize, L: Ledger>(
     plan: &Plan,
     group: u32,
     registers: &[u64],
-    front: &mut Front<K, WAYS>,
+    at: usize,
+    fronts: &mut [Front<K, WAYS>],
     key: &mut [u64],
     args: &mut [u64],
     steps: &mut Steps<L>,
 )
     requires group { group < length plan.now.groups }
     requires registers { length registers.now ≡ registers_of plan.now }
-    requires ready { length front.old.pipe.records < front.old.pipe.places }
-    requires key { front.old.cache.key_words ≡ length (wiring_at plan.now group).keys }
-    requires args { (K.sizes front.old.kind).args ≡ length (wiring_at plan.now group).args }
+    requires switch { at < length fronts.old }
+    requires ready { AtSwitch (λ front. length front.pipe.records < front.pipe.places) fronts.old at }
+    requires key { AtSwitch (λ front. length (wiring_at plan.now group).keys ≡ front.cache.key_words) fronts.old at }
+    requires args { AtSwitch (λ front. length (wiring_at plan.now group).args ≡ (K.sizes front.kind).args) fronts.old at }
     requires key_room { length (wiring_at plan.now group).keys ≤ length key.old }
     requires args_room { length (wiring_at plan.now group).args ≤ length args.old }
-    ensures runs { (f : Folding) (store : Store)
-        → FrontRuns (K.stands front.old.kind) f WAYS (AreTurnOf (taken_at (wiring_at plan.now group) registers.now)) front.old front.new store store }
+    ensures makes { FrontsMakeAll (λ kind. K.stands kind) WAYS at
+        (event_of (taken_at (wiring_at plan.now group) registers.now)) fronts.old fronts.new }
     ensures steps { steps.old ≤ steps.new }
 {
     if plan.present(group, registers) {
@@ -86,54 +92,8 @@ fn take_packet<K: EpochKind, const WAYS: usize, L: Ledger>(
         let args = &mut args[..wiring.args.len()];
         plan.key_into(group, registers, key, steps);
         plan.args_into(group, registers, args, steps);
-        front.packet(key, args, steps);
+        packet_at(fronts, at, key, args, steps);
     }
-}
-
-// Merges once where the lag is over.
-fn catch_up<K: EpochKind, const WAYS: usize, L: Ledger>(
-    front: &mut Front<K, WAYS>,
-    store: &mut BackingStore,
-    lag_over: bool,
-    steps: &mut Steps<L>,
-) -> Result<(), AllocError>
-    requires { FitsStore (K.sizes front.old.kind) front.old.cache store.old }
-    ensures runs { OnOk result (FrontRuns (K.stands front.old.kind) (K.folding front.old.kind) WAYS AreMerges front.old front.new store.old store.new) }
-    ensures steps { steps.old ≤ steps.new }
-{
-    if lag_over {
-        let _merged = merge_once(front, store, steps)?;
-    }
-    Ok(())
-}
-
-/// A packet, with these registers, at the front of its switch: a merge before it where the pipe is full, and one behind it
-/// where the lag is over.
-pub fn turn<K: EpochKind, const WAYS: usize, L: Ledger>(
-    plan: &Plan,
-    group: u32,
-    registers: &[u64],
-    front: &mut Front<K, WAYS>,
-    store: &mut BackingStore,
-    key: &mut [u64],
-    args: &mut [u64],
-    lag_over: bool,
-    steps: &mut Steps<L>,
-) -> Result<(), AllocError>
-    requires group { group < length plan.now.groups }
-    requires registers { length registers.now ≡ registers_of plan.now }
-    requires fits { FitsStore (K.sizes front.old.kind) front.old.cache store.old }
-    requires key { front.old.cache.key_words ≡ length (wiring_at plan.now group).keys }
-    requires args { (K.sizes front.old.kind).args ≡ length (wiring_at plan.now group).args }
-    requires key_room { length (wiring_at plan.now group).keys ≤ length key.old }
-    requires args_room { length (wiring_at plan.now group).args ≤ length args.old }
-    ensures runs { OnOk result (FrontRuns (K.stands front.old.kind) (K.folding front.old.kind) WAYS
-        (AreTurnOf (taken_at (wiring_at plan.now group) registers.now)) front.old front.new store.old store.new) }
-    ensures steps { steps.old ≤ steps.new }
-{
-    make_room(front, store, steps)?;
-    take_packet(plan, group, registers, front, key, args, steps);
-    catch_up(front, store, lag_over, steps)
 }
 
 // Evicts until the bucket is empty, and merges once before an eviction where the pipe is full.
@@ -145,7 +105,8 @@ fn empty_bucket<K: EpochKind, const WAYS: usize, L: Ledger>(
 ) -> Result<(), AllocError>
     requires fits { FitsStore (K.sizes front.old.kind) front.old.cache store.old }
     requires range { bucket < length front.old.cache.lists }
-    ensures runs { OnOk result (FrontRuns (K.stands front.old.kind) (K.folding front.old.kind) WAYS NoPacket front.old front.new store.old store.new) }
+    ensures runs { OnOk result (FrontRuns (K.stands front.old.kind) (K.folding front.old.kind) WAYS NoPacket
+        front.old front.new store.old store.new) }
     ensures empty { OnOk result (length (list_at front.new.cache bucket) ≡ 0) }
     ensures others { (other : ℕ) → other ≢ bucket → list_at front.new.cache other ≡ list_at front.old.cache other }
     ensures steps { steps.old ≤ steps.new }
@@ -165,7 +126,8 @@ fn sweep<K: EpochKind, const WAYS: usize, L: Ledger>(
     steps: &mut Steps<L>,
 ) -> Result<(), AllocError>
     requires fits { FitsStore (K.sizes front.old.kind) front.old.cache store.old }
-    ensures runs { OnOk result (FrontRuns (K.stands front.old.kind) (K.folding front.old.kind) WAYS NoPacket front.old front.new store.old store.new) }
+    ensures runs { OnOk result (FrontRuns (K.stands front.old.kind) (K.folding front.old.kind) WAYS NoPacket
+        front.old front.new store.old store.new) }
     ensures held { OnOk result (held_in front.new.cache ≡ 0) }
     ensures steps { steps.old ≤ steps.new }
 {
@@ -182,7 +144,8 @@ fn empty_pipe<K: EpochKind, const WAYS: usize, L: Ledger>(
     steps: &mut Steps<L>,
 ) -> Result<(), AllocError>
     requires fits { FitsStore (K.sizes front.old.kind) front.old.cache store.old }
-    ensures runs { OnOk result (FrontRuns (K.stands front.old.kind) (K.folding front.old.kind) WAYS NoPacket front.old front.new store.old store.new) }
+    ensures runs { OnOk result (FrontRuns (K.stands front.old.kind) (K.folding front.old.kind) WAYS NoPacket
+        front.old front.new store.old store.new) }
     ensures empty { OnOk result (length front.new.pipe.records ≡ 0) }
     ensures cache { front.new.cache ≡ front.old.cache }
     ensures steps { steps.old ≤ steps.new }
@@ -198,7 +161,8 @@ pub fn drain<K: EpochKind, const WAYS: usize, L: Ledger>(
     steps: &mut Steps<L>,
 ) -> Result<(), AllocError>
     requires fits { FitsStore (K.sizes front.old.kind) front.old.cache store.old }
-    ensures runs { OnOk result (FrontRuns (K.stands front.old.kind) (K.folding front.old.kind) WAYS NoPacket front.old front.new store.old store.new) }
+    ensures runs { OnOk result (FrontRuns (K.stands front.old.kind) (K.folding front.old.kind) WAYS NoPacket
+        front.old front.new store.old store.new) }
     ensures drained { OnOk result (is_drained front.new.cache front.new.pipe ≡ true) }
     ensures steps { steps.old ≤ steps.new }
 {

@@ -1,9 +1,12 @@
 // The fronts of all switches at one groupby, and the store that they share.
 
-ghost use Rattle.std.specs.Prelude.{◌≡◌, ◌+◌, ◌*◌, ◌<◌, ◌≤◌, ℕ, List, [], true, length, IfOk, OnOk};
+ghost use Rattle.std.specs.Prelude.{◌≡◌, ◌+◌, ◌*◌, ◌==◌, ◌<◌, ◌≤◌, ◌↔◌, ℕ, List, [], Ok, true, not, length};
+ghost use Rattle.std.specs.Prelude.{IfOk, OnOk, OnErr};
 ghost use Rattle.std.specs.List.{list_all};
+ghost use Rattle.bucket_cache.specs.Caches.{list_at};
 ghost use Rattle.epoch_entry.specs.Foldings.{per_epoch};
-ghost use Rattle.epoch_model.specs.Machine.{Epoch};
+ghost use Rattle.epoch_model.specs.Driving.{event_of};
+ghost use Rattle.epoch_model.specs.Machine.{Epoch, Evict, Merge};
 ghost use Rattle.epoch_model.specs.Tables.{Folding};
 ghost use Rattle.fold_class.specs.Program.{IsProgram};
 ghost use Rattle.merged_epochs.specs.Merged.{StoreHolds};
@@ -14,20 +17,22 @@ ghost use Rattle.stage_plan.specs.Registers.{taken_at};
 ghost use Rattle.stage_plan.specs.Sound.{IsSoundGroup};
 ghost use Rattle.switch_core.specs.Closing.{is_drained};
 ghost use Rattle.switch_core.specs.Pipelines.{heading_of};
-ghost use Rattle.network.specs.Shared.{AllShare, IsTurnAt, NoPackets, SharedRuns};
-ghost use Rattle.network.specs.Groups.{GroupGrows, GroupRuns, GroupStands, IsGroup, folding_in, group_is_drained};
+ghost use Rattle.net_wide.specs.Sharing.{AtSwitch};
+ghost use Rattle.network.specs.Shared.{AllShare, MergesAlone, NoPackets, SharedRuns};
+ghost use Rattle.network.specs.Groups.{GroupGrows, GroupRuns, GroupShares, GroupStands, IsGroup, folding_in, group_is_drained};
+ghost use Rattle.network.specs.Events.{AreAllMerged, GroupMakes, GroupMakesAll, is_ready_at};
 
-use crate::fronts::{drain, turn};
+use crate::fronts::{drain, take_packet};
 use backing_store::BackingStore;
 use epoch_entry::{AnyEpochs, EpochKind, entries_are_small, entries_suit_folds};
 use final_queries::Table;
 use marple_base::{Seq, Steps, Text};
-use net_wide::{add_front, store_table};
+use net_wide::{add_front, all_drained, evict_at, merge_at, store_table};
 use stage_plan::{GroupPlan, Plan};
 use std::alloc::{AllocError, Global};
 use std::marker::Model;
 use std::sync::ledger::Ledger;
-use switch_core::Front;
+use switch_core::{Front, Merged};
 
 /// What is kept for one groupby of all switches: a cache and a pipe for each switch, and one store.
 #[derive(Drop)]
@@ -45,44 +50,16 @@ impl<const WAYS: usize> Model for Group<WAYS> {
     ghost view = { λ g. record { kind = g.kind; fronts = g.fronts.items; store = g.store } };
 }
 
-// A packet at the front of its switch.
-fn turn_at<K: EpochKind, const WAYS: usize, L: Ledger>(
-    plan: &Plan,
-    group: u32,
-    registers: &[u64],
-    at: usize,
-    fronts: &mut [Front<K, WAYS>],
-    store: &mut BackingStore,
-    key: &mut [u64],
-    args: &mut [u64],
-    lag_over: bool,
-    steps: &mut Steps<L>,
-) -> Result<(), AllocError>
-    requires group { group < length plan.now.groups }
-    requires switch { at < length fronts.old }
-    requires registers { length registers.now ≡ registers_of plan.now }
-    requires shares { (f : Folding) × AllShare (λ kind. K.sizes kind) (λ kind. K.folding kind) f (length (wiring_at plan.now group).args) fronts.old store.old }
-    requires keys { store.old.key_words ≡ length (wiring_at plan.now group).keys }
-    requires key_room { length (wiring_at plan.now group).keys ≤ length key.old }
-    requires args_room { length (wiring_at plan.now group).args ≤ length args.old }
-    ensures runs { OnOk result ((f : Folding) → AllShare (λ kind. K.sizes kind) (λ kind. K.folding kind) f (length (wiring_at plan.now group).args) fronts.old store.old
-        → SharedRuns (λ kind. K.stands kind) f WAYS (IsTurnAt at (taken_at (wiring_at plan.now group) registers.now)) fronts.old fronts.new store.old store.new) }
-    ensures steps { steps.old ≤ steps.new }
-{
-    let front = &mut fronts[at];
-    turn(
-        plan, group, registers, front, store, key, args, lag_over, steps,
-    )
-}
-
 // Drains the fronts of all switches, one after another.
 fn drain_fronts<K: EpochKind, const WAYS: usize, L: Ledger>(
     fronts: &mut [Front<K, WAYS>],
     store: &mut BackingStore,
     steps: &mut Steps<L>,
 ) -> Result<(), AllocError>
-    requires shares { (f : Folding) × (args : ℕ) × AllShare (λ kind. K.sizes kind) (λ kind. K.folding kind) f args fronts.old store.old }
-    ensures runs { OnOk result ((f : Folding) (args : ℕ) → AllShare (λ kind. K.sizes kind) (λ kind. K.folding kind) f args fronts.old store.old
+    requires shares { (f : Folding) × (args : ℕ) × AllShare (λ kind. K.sizes kind) (λ kind. K.folding kind) f args
+        fronts.old store.old }
+    ensures runs { OnOk result ((f : Folding) (args : ℕ)
+        → AllShare (λ kind. K.sizes kind) (λ kind. K.folding kind) f args fronts.old store.old
         → SharedRuns (λ kind. K.stands kind) f WAYS NoPackets fronts.old fronts.new store.old store.new) }
     ensures drained { OnOk result (list_all (λ front. is_drained front.cache front.pipe) fronts.new ≡ true) }
     ensures steps { steps.old ≤ steps.new }
@@ -136,8 +113,8 @@ impl<const WAYS: usize> Group<WAYS> {
         requires pipe { (0 < pipe_records) × (pipe_records ≤ 65536) }
         requires program { IsProgram part.now.program }
         requires keys { (0 < length part.now.key_names) × (length part.now.key_names ≤ 8) }
-        ensures is { OnOk result ((switches registers : ℕ) (wiring : GroupWiring) → IsSoundGroup registers part.now wiring → IsGroup switches part.now wiring self.old
-            → IsGroup (switches + 1) part.now wiring self.new) }
+        ensures is { OnOk result ((switches registers : ℕ) (wiring : GroupWiring) → IsSoundGroup registers part.now wiring
+            → IsGroup switches part.now wiring self.old → IsGroup (switches + 1) part.now wiring self.new) }
         ensures grows { OnOk result (GroupGrows WAYS buckets self.old self.new) }
     {
         entries_are_small();
@@ -147,9 +124,36 @@ impl<const WAYS: usize> Group<WAYS> {
         add_front(alloc, &mut self.fronts, kind, buckets, keys, pipe_records)
     }
 
-    /// A packet of this switch, with these registers: where the pipe is full a merge, then the packet event of what the
-    /// groupby takes, and a merge where the lag is over.
-    pub fn turn<L: Ledger>(
+    /// Whether the pipe of a switch has room for a record.
+    pub fn ready(&self, at: usize) -> bool
+        requires { at < length self.now.fronts }
+        ensures { result ≡ is_ready_at at self.now }
+    {
+        let front = &self.fronts[at];
+        front.ready()
+    }
+
+    /// Merges a record of a switch where its pipe is full.
+    pub fn make_room<L: Ledger>(
+        &mut self,
+        at: usize,
+        steps: &mut Steps<L>,
+    ) -> Result<(), AllocError>
+        requires switch { at < length self.old.fronts }
+        requires shares { (args : ℕ) × GroupShares args self.old }
+        ensures runs { OnOk result (GroupRuns WAYS MergesAlone self.old self.new) }
+        ensures ready { OnOk result (is_ready_at at self.new ≡ true) }
+        ensures steps { steps.old ≤ steps.new }
+    {
+        if self.ready(at) {
+            return Ok(());
+        }
+        let _merged = self.merge(at, steps)?;
+        Ok(())
+    }
+
+    /// Takes what the groupby takes of these registers, if it takes anything, at this switch.
+    pub fn packet<L: Ledger>(
         &mut self,
         plan: &Plan,
         group: u32,
@@ -157,36 +161,73 @@ impl<const WAYS: usize> Group<WAYS> {
         at: usize,
         key: &mut [u64],
         args: &mut [u64],
-        lag_over: bool,
         steps: &mut Steps<L>,
-    ) -> Result<(), AllocError>
+    )
         requires group { group < length plan.now.groups }
-        requires switch { at < length self.old.fronts }
         requires registers { length registers.now ≡ registers_of plan.now }
-        requires shares { AllShare ⟦<AnyEpochs as EpochKind>⟧.sizes ⟦<AnyEpochs as EpochKind>⟧.folding (folding_in self.old) (length (wiring_at plan.now group).args) self.old.fronts self.old.store }
+        requires switch { at < length self.old.fronts }
+        requires ready { is_ready_at at self.old ≡ true }
+        requires shares { GroupShares (length (wiring_at plan.now group).args) self.old }
         requires keys { self.old.store.key_words ≡ length (wiring_at plan.now group).keys }
         requires key_room { length (wiring_at plan.now group).keys ≤ length key.old }
         requires args_room { length (wiring_at plan.now group).args ≤ length args.old }
-        ensures runs { OnOk result (GroupRuns WAYS (IsTurnAt at (taken_at (wiring_at plan.now group) registers.now)) self.old self.new) }
+        ensures makes { GroupMakesAll WAYS at (event_of (taken_at (wiring_at plan.now group) registers.now)) self.old self.new }
+        ensures store { self.new.store ≡ self.old.store }
         ensures steps { steps.old ≤ steps.new }
     {
-        turn_at(
+        take_packet(
             plan,
             group,
             registers,
             at,
             &mut self.fronts,
-            &mut self.store,
             key,
             args,
-            lag_over,
             steps,
         )
     }
 
+    /// Closes the least recently used epoch of a bucket of a switch. False exactly where the bucket is empty.
+    pub fn evict<L: Ledger>(&mut self, at: usize, bucket: u32, steps: &mut Steps<L>) -> bool
+        requires switch { at < length self.old.fronts }
+        requires ready { is_ready_at at self.old ≡ true }
+        requires range { AtSwitch (λ front. bucket < length front.cache.lists) self.old.fronts at }
+        ensures makes { GroupMakes WAYS at (Evict bucket) self.old self.new }
+        ensures store { self.new.store ≡ self.old.store }
+        ensures some { AtSwitch (λ front. result ≡ not (length (list_at front.cache bucket) == 0)) self.old.fronts at }
+        ensures steps { steps.old ≤ steps.new }
+    {
+        evict_at(&mut self.fronts, at, bucket, steps)
+    }
+
+    /// Merges the oldest record of a switch's pipe into the store. Empty exactly where the pipe is empty.
+    pub fn merge<L: Ledger>(
+        &mut self,
+        at: usize,
+        steps: &mut Steps<L>,
+    ) -> Result<Merged, AllocError>
+        requires switch { at < length self.old.fronts }
+        requires shares { (args : ℕ) × GroupShares args self.old }
+        ensures makes { OnOk result (GroupMakes WAYS at Merge self.old self.new) }
+        ensures ready { OnOk result (is_ready_at at self.new ≡ true) }
+        ensures empty { AtSwitch (λ front. (result ≡ Ok Merged.Empty) ↔ (length front.pipe.records ≡ 0)) self.old.fronts at }
+        ensures err { OnErr result (self.new ≡ self.old) }
+        ensures steps { steps.old ≤ steps.new }
+    {
+        merge_at(&mut self.fronts, at, &mut self.store, steps)
+    }
+
+    /// Whether all caches and pipes are empty.
+    pub fn drained(&self) -> bool
+        ensures value { result ≡ group_is_drained self.now }
+        ensures done { result ≡ true → AreAllMerged WAYS self.now }
+    {
+        all_drained(&self.fronts)
+    }
+
     /// Closes all open epochs of all switches, and merges all that are closed.
     pub fn drain<L: Ledger>(&mut self, steps: &mut Steps<L>) -> Result<(), AllocError>
-        requires shares { (args : ℕ) × AllShare ⟦<AnyEpochs as EpochKind>⟧.sizes ⟦<AnyEpochs as EpochKind>⟧.folding (folding_in self.old) args self.old.fronts self.old.store }
+        requires shares { (args : ℕ) × GroupShares args self.old }
         ensures runs { OnOk result (GroupRuns WAYS NoPackets self.old self.new) }
         ensures drained { OnOk result (group_is_drained self.new ≡ true) }
         ensures steps { steps.old ≤ steps.new }

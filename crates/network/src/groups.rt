@@ -1,14 +1,19 @@
 // The groupbys of a plan, side by side.
 
-ghost use Rattle.std.specs.Prelude.{◌≡◌, ◌+◌, ◌*◌, ◌<◌, ◌≤◌, ℕ, List, [], true, length, All, IfOk, OnOk};
+ghost use Rattle.std.specs.Prelude.{◌≡◌, ◌+◌, ◌*◌, ◌==◌, ◌<◌, ◌≤◌, ◌↔◌, ℕ, List, [], Ok, true, not, length};
+ghost use Rattle.std.specs.Prelude.{All, IfOk, OnOk, OnErr};
 ghost use Rattle.std.specs.List.{list_all};
-ghost use Rattle.epoch_model.specs.Machine.{Epoch};
+ghost use Rattle.bucket_cache.specs.Caches.{list_at};
+ghost use Rattle.epoch_model.specs.Driving.{event_of};
+ghost use Rattle.epoch_model.specs.Machine.{Epoch, Evict, Merge};
 ghost use Rattle.stage_plan.specs.Planned.{registers_of, wiring_at};
 ghost use Rattle.stage_plan.specs.Registers.{taken_at};
 ghost use Rattle.stage_plan.specs.Sound.{PlanParts};
+ghost use Rattle.switch_core.specs.Pipelines.{event_at};
 ghost use Rattle.switch_core.specs.Rows.{Each};
-ghost use Rattle.network.specs.Shared.{IsTurnAt, NoPackets};
+ghost use Rattle.network.specs.Shared.{MergesAlone, NoPackets};
 ghost use Rattle.network.specs.Groups.{AreGroups, GroupGrows, GroupStands, GroupsRun, StoresHold, group_is_drained, shared_tables};
+ghost use Rattle.network.specs.Events.{AreAllMerged, AtFront, AtGroup, GroupsMake, StoresStay, is_ready_at};
 
 use crate::group::Group;
 use final_queries::Table;
@@ -16,6 +21,7 @@ use marple_base::{Seq, Steps};
 use stage_plan::Plan;
 use std::alloc::{AllocError, Global};
 use std::sync::ledger::Ledger;
+use switch_core::Merged;
 
 /// What each groupby of a plan has before there is a switch.
 pub fn made_groups<const WAYS: usize>(
@@ -47,7 +53,8 @@ pub fn add_switch<const WAYS: usize>(
     requires places { buckets * WAYS ≤ 65536 }
     requires pipe { (0 < pipe_records) × (pipe_records ≤ 65536) }
     requires groups { (switches : ℕ) × AreGroups plan.now switches groups.old }
-    ensures are { OnOk result ((switches : ℕ) → AreGroups plan.now switches groups.old → AreGroups plan.now (switches + 1) groups.new) }
+    ensures are { OnOk result ((switches : ℕ) → AreGroups plan.now switches groups.old
+        → AreGroups plan.now (switches + 1) groups.new) }
     ensures grow { OnOk result (Each (GroupGrows WAYS buckets) groups.old groups.new) }
 {
     plan.known();
@@ -58,30 +65,131 @@ pub fn add_switch<const WAYS: usize>(
     Ok(())
 }
 
-/// A packet of this switch, with these registers, at each groupby.
-pub fn turn_groups<const WAYS: usize, L: Ledger>(
+/// Whether the pipe of a switch has room for a record at every groupby.
+pub fn all_ready<const WAYS: usize>(groups: &[Group<WAYS>], at: usize) -> bool
+    requires { (plan : PlanParts) × (switches : ℕ) × (at < switches) × AreGroups plan switches groups.now }
+    ensures { result ≡ list_all (is_ready_at at) groups.now }
+{
+    for group in groups {
+        if !group.ready(at) {
+            return false;
+        }
+    }
+    true
+}
+
+/// Merges a record of a switch at each groupby where its pipe is full.
+pub fn make_room<const WAYS: usize, L: Ledger>(
+    groups: &mut [Group<WAYS>],
+    at: usize,
+    steps: &mut Steps<L>,
+) -> Result<(), AllocError>
+    requires { (plan : PlanParts) × (switches : ℕ) × (at < switches) × AreGroups plan switches groups.old }
+    ensures runs { OnOk result (GroupsRun WAYS (λ n. MergesAlone) groups.old groups.new) }
+    ensures ready { OnOk result (list_all (is_ready_at at) groups.new ≡ true) }
+    ensures steps { steps.old ≤ steps.new }
+{
+    for i in 0..groups.len() {
+        let group = &mut groups[i];
+        group.make_room(at, steps)?;
+    }
+    Ok(())
+}
+
+/// The packet event of this switch at each groupby that takes something of these registers.
+pub fn packet_groups<const WAYS: usize, L: Ledger>(
     plan: &Plan,
     registers: &[u64],
     at: usize,
     groups: &mut [Group<WAYS>],
     key: &mut [u64],
     args: &mut [u64],
-    lag_over: bool,
     steps: &mut Steps<L>,
-) -> Result<(), AllocError>
+)
     requires groups { (switches : ℕ) × (at < switches) × AreGroups plan.now switches groups.old }
+    requires ready { list_all (is_ready_at at) groups.old ≡ true }
     requires registers { length registers.now ≡ registers_of plan.now }
     requires key { length key.old ≡ 8 }
     requires args { length args.old ≡ 16 }
-    ensures runs { OnOk result (GroupsRun WAYS (λ n. IsTurnAt at (taken_at (wiring_at plan.now n) registers.now)) groups.old groups.new) }
+    ensures makes { GroupsMake WAYS at (λ n. event_of (taken_at (wiring_at plan.now n) registers.now)) groups.old groups.new }
+    ensures stores { StoresStay groups.old groups.new }
     ensures steps { steps.old ≤ steps.new }
 {
     plan.known();
     for i in 0..groups.len() {
         let group = &mut groups[i];
-        group.turn(plan, i as u32, registers, at, key, args, lag_over, steps)?;
+        group.packet(plan, i as u32, registers, at, key, args, steps);
+    }
+}
+
+/// Closes the least recently used epoch of a bucket of a switch at one groupby.
+pub fn evict_from<const WAYS: usize, L: Ledger>(
+    groups: &mut [Group<WAYS>],
+    at: usize,
+    lane: usize,
+    bucket: u32,
+    steps: &mut Steps<L>,
+) -> bool
+    requires lane { lane < length groups.old }
+    requires groups { (plan : PlanParts) × (switches : ℕ) × (at < switches) × AreGroups plan switches groups.old }
+    requires ready { AtGroup (λ group. is_ready_at at group ≡ true) groups.old lane }
+    requires range { AtFront (λ front. bucket < length front.cache.lists) groups.old at lane }
+    ensures makes { GroupsMake WAYS at (event_at lane (Evict bucket)) groups.old groups.new }
+    ensures stores { StoresStay groups.old groups.new }
+    ensures some { AtFront (λ front. result ≡ not (length (list_at front.cache bucket) == 0)) groups.old at lane }
+    ensures steps { steps.old ≤ steps.new }
+{
+    let group = &mut groups[lane];
+    group.evict(at, bucket, steps)
+}
+
+/// Merges the oldest record of a switch's pipe at one groupby.
+pub fn merge_from<const WAYS: usize, L: Ledger>(
+    groups: &mut [Group<WAYS>],
+    at: usize,
+    lane: usize,
+    steps: &mut Steps<L>,
+) -> Result<Merged, AllocError>
+    requires lane { lane < length groups.old }
+    requires groups { (plan : PlanParts) × (switches : ℕ) × (at < switches) × AreGroups plan switches groups.old }
+    ensures makes { OnOk result (GroupsMake WAYS at (event_at lane Merge) groups.old groups.new) }
+    ensures ready { OnOk result (AtGroup (λ group. is_ready_at at group ≡ true) groups.new lane) }
+    ensures empty { AtFront (λ front. (result ≡ Ok Merged.Empty) ↔ (length front.pipe.records ≡ 0)) groups.old at lane }
+    ensures err { OnErr result (groups.new ≡ groups.old) }
+    ensures steps { steps.old ≤ steps.new }
+{
+    let group = &mut groups[lane];
+    group.merge(at, steps)
+}
+
+/// Merges the oldest record of a switch's pipe at each groupby that has one.
+pub fn merge_groups<const WAYS: usize, L: Ledger>(
+    groups: &mut [Group<WAYS>],
+    at: usize,
+    steps: &mut Steps<L>,
+) -> Result<(), AllocError>
+    requires { (plan : PlanParts) × (switches : ℕ) × (at < switches) × AreGroups plan switches groups.old }
+    ensures runs { OnOk result (GroupsRun WAYS (λ n. MergesAlone) groups.old groups.new) }
+    ensures steps { steps.old ≤ steps.new }
+{
+    for i in 0..groups.len() {
+        let group = &mut groups[i];
+        let _merged = group.merge(at, steps)?;
     }
     Ok(())
+}
+
+/// Whether all caches and pipes of all groupbys are empty.
+pub fn all_drained<const WAYS: usize>(groups: &[Group<WAYS>]) -> bool
+    ensures value { result ≡ list_all group_is_drained groups.now }
+    ensures done { result ≡ true → (n : ℕ) → AtGroup (AreAllMerged WAYS) groups.now n }
+{
+    for group in groups {
+        if !group.drained() {
+            return false;
+        }
+    }
+    true
 }
 
 /// Closes all open epochs of all switches at each groupby, and merges all that are closed.
@@ -108,7 +216,8 @@ pub fn group_tables<const WAYS: usize>(
     groups: &[Group<WAYS>],
 ) -> Result<Seq<Table>, AllocError>
     requires groups { (switches : ℕ) × AreGroups plan.now switches groups.now }
-    ensures { IfOk result (λ tables. (epochs : List (List Epoch)) → StoresHold groups.now epochs → tables ≡ shared_tables plan.now.groups groups.now epochs) }
+    ensures { IfOk result (λ tables. (epochs : List (List Epoch)) → StoresHold groups.now epochs
+        → tables ≡ shared_tables plan.now.groups groups.now epochs) }
 {
     plan.known();
     let mut tables = Seq::new(alloc);

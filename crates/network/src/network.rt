@@ -1,21 +1,29 @@
-//! A plan over several switches.
+//! A plan over several switches: one call for each event of a switch, and two for what a trace needs of them.
 
-ghost use Rattle.std.specs.Prelude.{◌≡◌, ◌+◌, ◌*◌, ◌<◌, ◌≤◌, ℕ, List, [], true, length, All, IfOk, OnOk};
+ghost use Rattle.std.specs.Prelude.{◌≡◌, ◌+◌, ◌*◌, ◌==◌, ◌<◌, ◌≤◌, ◌↔◌, ℕ, List, [], Ok, true, not, length};
+ghost use Rattle.std.specs.Prelude.{All, IfOk, OnOk, OnErr};
 ghost use Rattle.std.specs.List.{list_all};
-ghost use Rattle.epoch_model.specs.Machine.{Epoch};
+ghost use Rattle.bucket_cache.specs.Caches.{list_at};
+ghost use Rattle.epoch_model.specs.Machine.{Epoch, Evict, Merge};
 ghost use Rattle.stage_plan.specs.Planned.{taken};
+ghost use Rattle.switch_core.specs.Pipelines.{event_at, packet_events};
 ghost use Rattle.switch_core.specs.Rows.{Each};
-ghost use Rattle.network.specs.Shared.{IsTurnAt, NoPackets};
+ghost use Rattle.network.specs.Shared.{IsTurnAt, MergesAlone, NoPackets};
 ghost use Rattle.network.specs.Groups.{GroupGrows, GroupStands, GroupsRun, StoresHold, group_is_drained, shared_tables};
-ghost use Rattle.network.specs.Networks.{IsNetwork, Keeps, groups_in};
+ghost use Rattle.network.specs.Events.{AreAllMerged, AtFront, AtGroup, OthersStay, StoresStay, is_ready_at};
+ghost use Rattle.network.specs.Networks.{IsNetwork, Keeps, NetworkMakes, groups_in};
 
 use crate::group::Group;
-use crate::groups::{add_switch, drain_groups, group_tables, made_groups, turn_groups};
+use crate::groups::{
+    add_switch, all_drained, all_ready, drain_groups, evict_from, group_tables, made_groups,
+    make_room, merge_from, merge_groups, packet_groups,
+};
 use final_queries::Table;
 use marple_base::{Packet, Seq, Steps};
 use stage_plan::Plan;
 use std::alloc::{AllocError, Global};
 use std::sync::ledger::Ledger;
+use switch_core::Merged;
 
 /// A plan over several switches: each switch has a cache and a pipe for each groupby, and all of them share one store for
 /// each groupby.
@@ -99,9 +107,126 @@ impl<const WAYS: usize> Network<WAYS> {
         &self.plan
     }
 
-    /// Takes a packet of this switch: where one of its pipes is full, that lane merges a record; then each groupby whose input
-    /// has a tuple for the packet has its packet event; and each lane merges a record where the lag is over. No memory is
-    /// taken but by a store for a new key.
+    /// How many groupbys there are.
+    pub fn lanes(&self) -> u32
+        requires { (switches : ℕ) × IsNetwork switches self.now }
+        ensures { result ≡ length (groups_in self.now) }
+    {
+        self.plan.groups()
+    }
+
+    /// Whether every pipe of a switch has room for a record.
+    pub fn ready(&self, at: u32) -> bool
+        requires { (switches : ℕ) × (at < switches) × IsNetwork switches self.now }
+        ensures { result ≡ list_all (is_ready_at at) (groups_in self.now) }
+    {
+        all_ready(&self.groups, at as usize)
+    }
+
+    /// Whether the pipe of a switch has room for a record at one groupby.
+    pub fn lane_ready(&self, at: u32, lane: u32) -> bool
+        requires is { (switches : ℕ) × (at < switches) × IsNetwork switches self.now }
+        requires lane { lane < length (groups_in self.now) }
+        ensures { AtGroup (λ group. result ≡ is_ready_at at group) (groups_in self.now) lane }
+    {
+        let group = &self.groups[lane as usize];
+        group.ready(at as usize)
+    }
+
+    /// Takes a packet of a switch: each groupby whose input has a tuple for it has the packet event of its key and its
+    /// arguments, at this switch. It takes no memory.
+    pub fn packet<L: Ledger>(&mut self, at: u32, packet: &Packet, steps: &mut Steps<L>)
+        requires is { (switches : ℕ) × (at < switches) × IsNetwork switches self.old }
+        requires ready { list_all (is_ready_at at) (groups_in self.old) ≡ true }
+        ensures is { (switches : ℕ) → IsNetwork switches self.old → IsNetwork switches self.new }
+        ensures makes { NetworkMakes at (packet_events self.old.plan packet.now.words) self.old self.new }
+        ensures others { OthersStay at (groups_in self.old) (groups_in self.new) }
+        ensures stores { StoresStay (groups_in self.old) (groups_in self.new) }
+        ensures steps { steps.old ≤ steps.new }
+    {
+        self.plan.row(packet, &mut self.registers, steps);
+        packet_groups(
+            &self.plan,
+            &self.registers,
+            at as usize,
+            &mut self.groups,
+            &mut self.key,
+            &mut self.args,
+            steps,
+        );
+    }
+
+    /// Closes the least recently used epoch of a bucket of a switch at one groupby. False exactly where the bucket is empty.
+    pub fn evict<L: Ledger>(
+        &mut self,
+        at: u32,
+        lane: u32,
+        bucket: u32,
+        steps: &mut Steps<L>,
+    ) -> bool
+        requires is { (switches : ℕ) × (at < switches) × IsNetwork switches self.old }
+        requires lane { lane < length (groups_in self.old) }
+        requires ready { AtGroup (λ group. is_ready_at at group ≡ true) (groups_in self.old) lane }
+        requires range { bucket < self.old.buckets }
+        ensures is { (switches : ℕ) → IsNetwork switches self.old → IsNetwork switches self.new }
+        ensures makes { NetworkMakes at (event_at lane (Evict bucket)) self.old self.new }
+        ensures others { OthersStay at (groups_in self.old) (groups_in self.new) }
+        ensures stores { StoresStay (groups_in self.old) (groups_in self.new) }
+        ensures some { AtFront (λ front. result ≡ not (length (list_at front.cache bucket) == 0))
+            (groups_in self.old) at lane }
+        ensures steps { steps.old ≤ steps.new }
+    {
+        evict_from(&mut self.groups, at as usize, lane as usize, bucket, steps)
+    }
+
+    /// Merges the oldest record of a switch's pipe into the store of all switches, at one groupby. Empty exactly where the
+    /// pipe is empty; after a refusal of memory all is as it was.
+    pub fn merge<L: Ledger>(
+        &mut self,
+        at: u32,
+        lane: u32,
+        steps: &mut Steps<L>,
+    ) -> Result<Merged, AllocError>
+        requires is { (switches : ℕ) × (at < switches) × IsNetwork switches self.old }
+        requires lane { lane < length (groups_in self.old) }
+        ensures is { (switches : ℕ) → IsNetwork switches self.old → IsNetwork switches self.new }
+        ensures makes { OnOk result (NetworkMakes at (event_at lane Merge) self.old self.new) }
+        ensures others { OthersStay at (groups_in self.old) (groups_in self.new) }
+        ensures ready { OnOk result (AtGroup (λ group. is_ready_at at group ≡ true) (groups_in self.new) lane) }
+        ensures empty { AtFront (λ front. (result ≡ Ok Merged.Empty) ↔ (length front.pipe.records ≡ 0))
+            (groups_in self.old) at lane }
+        ensures err { OnErr result (groups_in self.new ≡ groups_in self.old) }
+        ensures keeps { Keeps self.old self.new }
+        ensures steps { steps.old ≤ steps.new }
+    {
+        merge_from(&mut self.groups, at as usize, lane as usize, steps)
+    }
+
+    // Merges a record of a switch at each groupby where its pipe is full.
+    fn make_room<L: Ledger>(&mut self, at: u32, steps: &mut Steps<L>) -> Result<(), AllocError>
+        requires { (switches : ℕ) × (at < switches) × IsNetwork switches self.old }
+        ensures is { OnOk result ((switches : ℕ) → IsNetwork switches self.old → IsNetwork switches self.new) }
+        ensures keeps { Keeps self.old self.new }
+        ensures runs { OnOk result (GroupsRun WAYS (λ n. MergesAlone) (groups_in self.old) (groups_in self.new)) }
+        ensures ready { OnOk result (list_all (is_ready_at at) (groups_in self.new) ≡ true) }
+        ensures steps { steps.old ≤ steps.new }
+    {
+        make_room(&mut self.groups, at as usize, steps)
+    }
+
+    // Merges a record of a switch at each groupby that has one.
+    fn catch_up<L: Ledger>(&mut self, at: u32, steps: &mut Steps<L>) -> Result<(), AllocError>
+        requires { (switches : ℕ) × (at < switches) × IsNetwork switches self.old }
+        ensures is { OnOk result ((switches : ℕ) → IsNetwork switches self.old → IsNetwork switches self.new) }
+        ensures keeps { Keeps self.old self.new }
+        ensures runs { OnOk result (GroupsRun WAYS (λ n. MergesAlone) (groups_in self.old) (groups_in self.new)) }
+        ensures steps { steps.old ≤ steps.new }
+    {
+        merge_groups(&mut self.groups, at as usize, steps)
+    }
+
+    /// A packet of a switch with the merges around it: where one of its pipes is full, that lane merges a record; then the
+    /// packet; and each lane merges a record where the lag is over. No memory is taken but by a store for a new key.
     pub fn turn<L: Ledger>(
         &mut self,
         at: u32,
@@ -112,20 +237,16 @@ impl<const WAYS: usize> Network<WAYS> {
         requires is { (switches : ℕ) × (at < switches) × IsNetwork switches self.old }
         ensures is { OnOk result ((switches : ℕ) → IsNetwork switches self.old → IsNetwork switches self.new) }
         ensures keeps { OnOk result (Keeps self.old self.new) }
-        ensures runs { OnOk result (GroupsRun WAYS (λ n. IsTurnAt at (taken self.old.plan n packet.now.words)) (groups_in self.old) (groups_in self.new)) }
+        ensures runs { OnOk result (GroupsRun WAYS (λ n. IsTurnAt at (taken self.old.plan n packet.now.words))
+            (groups_in self.old) (groups_in self.new)) }
         ensures steps { steps.old ≤ steps.new }
     {
-        self.plan.row(packet, &mut self.registers, steps);
-        turn_groups(
-            &self.plan,
-            &self.registers,
-            at as usize,
-            &mut self.groups,
-            &mut self.key,
-            &mut self.args,
-            lag_over,
-            steps,
-        )
+        self.make_room(at, steps)?;
+        self.packet(at, packet, steps);
+        if !lag_over {
+            return Ok(());
+        }
+        self.catch_up(at, steps)
     }
 
     /// Closes all open epochs of all switches and merges all that are closed.
@@ -138,6 +259,15 @@ impl<const WAYS: usize> Network<WAYS> {
         ensures steps { steps.old ≤ steps.new }
     {
         drain_groups(&mut self.groups, steps)
+    }
+
+    /// Whether all caches and pipes of all switches are empty. Then no epoch is open, and the closed ones of all switches are
+    /// merged.
+    pub fn drained(&self) -> bool
+        ensures value { result ≡ list_all group_is_drained (groups_in self.now) }
+        ensures done { result ≡ true → (lane : ℕ) → AtGroup (AreAllMerged WAYS) (groups_in self.now) lane }
+    {
+        all_drained(&self.groups)
     }
 
     /// The tables of the merged epochs, one for each groupby in order.

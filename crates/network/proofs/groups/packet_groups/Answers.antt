@@ -1,17 +1,20 @@
-use Rattle.std.proofs.Common.{◌≡◌, ◌<◌, ◌+◌, length, get_or, refl, sym, ◌∙◌, subst, arith, lit<}
+use Rattle.std.proofs.Common.{◌≡◌, ◌<◌, ◌+◌, ℕ, length, get_or, refl, sym, ◌∙◌, subst, arith, lit<}
 use Rattle.std.proofs.Math.Facts.{Fits-below}
+use Rattle.epoch_model.specs.Driving.{event_of}
 use Rattle.stage_plan.specs.Planned.{wiring_at}
 use Rattle.stage_plan.specs.Registers.{taken_at}
+use Rattle.switch_core.proofs.LaneFacts.{all_at}
 use Rattle.switch_core.proofs.SideBySide.{same_some, each_long, done_start, untouched_start, done_next, untouched_next, untouched_was, done_end}
 use Rattle.net_wide.proofs.Sharing.{got_here}
-use Rattle.network.specs.Shared.{IsTurnAt}
-use Rattle.network.specs.Groups.{GroupRuns}
+use Rattle.network.specs.Groups.{GroupView}
+use Rattle.network.specs.Events.{GroupMakesAll, is_ready_at}
 use Rattle.network.proofs.GroupSteps.{part_of}
-use Rattle.network.proofs.groups.turn_groups.Goals as goal
+use Rattle.network.proofs.groups.packet_groups.Goals as goal
 
 pub loop-i-init : goal.loop-i-init
 loop-i-init g c = record {
-  runs = done_start (λ n. GroupRuns g.row.WAYS (IsTurnAt c.args.at (taken_at (wiring_at c.args.plan.now n) c.args.registers.now))) 0 c.args.groups.now;
+  makes = done_start (λ n. GroupMakesAll g.row.WAYS c.args.at (event_of (taken_at (wiring_at c.args.plan.now n) c.args.registers.now))) 0 c.args.groups.now;
+  stores = done_start (λ n (a b : GroupView). b.store ≡ a.store) 0 c.args.groups.now;
   same = untouched_start 0 0 c.args.groups.now;
   later = omega arith;
   key = refl;
@@ -26,8 +29,8 @@ overflow_cast-i g c =
     let below = c.loop-i-test.true in
     Fits-below {n = 8} tt (omega arith)
 
-pub turn-requires : goal.turn-requires
-turn-requires g c =
+pub packet-requires : goal.packet-requires
+packet-requires g c =
     let i = c.loop-i.i in
     let first = c.args.groups.now in
     let group = get_or c.loop-i.groups i c.index-groups-i.result in
@@ -36,13 +39,14 @@ turn-requires g c =
     let was = untouched_was i first c.loop-i.groups group c.loop-i.invariant.same (omega arith) (got_here c.loop-i.groups i c.index-groups-i.result below) in
     let own = part_of c.args.plan.now c.requires.groups.0 i first group c.known.ensures c.requires.groups.2 was in
     let at : c.args.at < length group.fronts = let a = c.requires.groups.1 in let b = own.is.count in omega arith in
+    let ready = all_at (is_ready_at c.args.at) first i group c.requires.ready was in
     let key = c.loop-i.invariant.key in
     let args = c.loop-i.invariant.args in
     let key8 = c.requires.key in
     let args16 = c.requires.args in
     let few_keys = own.few_keys in
     let few_args = own.few_args in
-    (lit< tt, (own.within, (at, (c.requires.registers, (own.is.shares, (own.keys, (omega arith, omega arith)))))))
+    (lit< tt, (own.within, (c.requires.registers, (at, (ready, (own.is.shares, (own.keys, (omega arith, omega arith))))))))
 
 pub loop-i-preserved : goal.loop-i-preserved
 loop-i-preserved g c =
@@ -50,22 +54,30 @@ loop-i-preserved g c =
     let first = c.args.groups.now in
     let groups = c.loop-i.groups in
     let group = get_or groups i c.index-groups-i.result in
-    let new = c.turn.new.self in
+    let new = c.packet.new.self in
     let kept = c.loop-i.auto.groups in
     let below : i < length groups = let b = c.loop-i-test.true in omega arith in
     let was = untouched_was i first groups group c.loop-i.invariant.same (omega arith) (got_here groups i c.index-groups-i.result below) in
+    let made : ℕ → GroupView → GroupView → Type 0 = λ n. GroupMakesAll g.row.WAYS c.args.at (event_of (taken_at (wiring_at c.args.plan.now n) c.args.registers.now)) in
     record {
-      runs = done_next (λ n. GroupRuns g.row.WAYS (IsTurnAt c.args.at (taken_at (wiring_at c.args.plan.now n) c.args.registers.now))) i first groups new c.loop-i.invariant.runs
-          (λ x e. subst (λ v. GroupRuns g.row.WAYS (IsTurnAt c.args.at (taken_at (wiring_at c.args.plan.now i) c.args.registers.now)) v new) (same_some group x (sym was ∙ e)) c.in_ok-turn.ensures.runs);
+      makes = done_next made i first groups new c.loop-i.invariant.makes (λ x e. subst (λ v. made i v new) (same_some group x (sym was ∙ e)) c.packet.ensures.makes);
+      stores = done_next (λ n (a b : GroupView). b.store ≡ a.store) i first groups new c.loop-i.invariant.stores
+          (λ x e. subst (λ (v : GroupView). new.store ≡ v.store) (same_some group x (sym was ∙ e)) c.packet.ensures.store);
       same = untouched_next i first groups new c.loop-i.invariant.same;
-      later = let a = c.turn.ensures.steps in let b = c.loop-i.invariant.later in omega arith;
-      key = c.turn.auto.key ∙ c.loop-i.invariant.key;
-      args = c.turn.auto.args ∙ c.loop-i.invariant.args;
+      later = let a = c.packet.ensures.steps in let b = c.loop-i.invariant.later in omega arith;
+      key = c.packet.auto.key ∙ c.loop-i.invariant.key;
+      args = c.packet.auto.args ∙ c.loop-i.invariant.args;
     }
 
-pub returns-clause-runs : goal.returns-clause-runs
-returns-clause-runs g c =
+pub returns-clause-makes : goal.returns-clause-makes
+returns-clause-makes g c =
     let kept = c.loop-i.auto.groups in
     let end = c.loop-i-test.false in
-    done_end (λ n. GroupRuns g.row.WAYS (IsTurnAt c.args.at (taken_at (wiring_at c.args.plan.now n) c.args.registers.now))) c.loop-i.i c.args.groups.now c.loop-i.groups c.loop-i.invariant.runs
+    done_end (λ n. GroupMakesAll g.row.WAYS c.args.at (event_of (taken_at (wiring_at c.args.plan.now n) c.args.registers.now))) c.loop-i.i c.args.groups.now c.loop-i.groups c.loop-i.invariant.makes
     (omega arith)
+
+pub returns-clause-stores : goal.returns-clause-stores
+returns-clause-stores g c =
+    let kept = c.loop-i.auto.groups in
+    let end = c.loop-i-test.false in
+    done_end (λ n (a b : GroupView). b.store ≡ a.store) c.loop-i.i c.args.groups.now c.loop-i.groups c.loop-i.invariant.stores (omega arith)

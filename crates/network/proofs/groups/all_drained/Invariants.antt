@@ -1,0 +1,8 @@
+use Rattle.std.proofs.Common.{◌≡◌, true, take}
+use Rattle.std.specs.List.{list_all}
+use Rattle.network.specs.Groups.{group_is_drained}
+use Rattle.network.proofs.groups.all_drained.Given as goal
+
+-- so it is with the groupbys so far
+abbrev pub invariant-loop-group : goal.invariant-loop-group
+invariant-loop-group g l = list_all group_is_drained (take l.group-index l.groups) ≡ true

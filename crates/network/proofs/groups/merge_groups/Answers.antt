@@ -1,0 +1,55 @@
+use Rattle.std.proofs.Common.{◌≡◌, ◌<◌, ◌+◌, ◌==◌, true, false, length, get_or, set, sym, ap, ◌∙◌, subst, arith, lit<}
+use Rattle.std.specs.Prelude.{slice_get}
+use Rattle.std.proofs.lemmas.Bool.Decides.{nat_tests}
+use Rattle.epoch_model.proofs.KeyLists.{by_test}
+use Rattle.stage_plan.specs.Planned.{wiring_at}
+use Rattle.switch_core.proofs.LaneFacts.{got_set}
+use Rattle.switch_core.proofs.SideBySide.{same_some, done_start, untouched_start, done_next, untouched_next, untouched_was, done_end}
+use Rattle.net_wide.proofs.Sharing.{got_here}
+use Rattle.network.specs.Shared.{MergesAlone}
+use Rattle.network.specs.Groups.{GroupRuns}
+use Rattle.network.specs.Events.{is_ready_at}
+use Rattle.network.proofs.SharedSteps.{got_other, got_within, all_pass}
+use Rattle.network.proofs.MakeSteps.{merge_runs, shares_at, switch_within}
+use Rattle.network.proofs.groups.merge_groups.Goals as goal
+
+pub loop-i-init : goal.loop-i-init
+loop-i-init g c = record {
+  runs = done_start (λ n. GroupRuns g.row.WAYS MergesAlone) 0 c.args.groups.now;
+  same = untouched_start 0 0 c.args.groups.now;
+  later = omega arith;
+}
+
+pub merge-requires : goal.merge-requires
+merge-requires g c =
+    let i = c.loop-i.i in
+    let first = c.args.groups.now in
+    let group = get_or c.loop-i.groups i c.index-groups-i.result in
+    let kept = c.loop-i.auto.groups in
+    let below : i < length c.loop-i.groups = let b = c.loop-i-test.true in omega arith in
+    let was = untouched_was i first c.loop-i.groups group c.loop-i.invariant.same (omega arith) (got_here c.loop-i.groups i c.index-groups-i.result below) in
+    let r = c.requires in
+    (lit< tt, (switch_within r.0 r.1 c.args.at i first group r.2 r.3 was, (length (wiring_at r.0 i).args, shares_at r.0 r.1 i first group r.3 was)))
+
+pub loop-i-preserved : goal.loop-i-preserved
+loop-i-preserved g c =
+    let i = c.loop-i.i in
+    let first = c.args.groups.now in
+    let groups = c.loop-i.groups in
+    let group = get_or groups i c.index-groups-i.result in
+    let new = c.merge.new.self in
+    let kept = c.loop-i.auto.groups in
+    let below : i < length groups = let b = c.loop-i-test.true in omega arith in
+    let was = untouched_was i first groups group c.loop-i.invariant.same (omega arith) (got_here groups i c.index-groups-i.result below) in
+    record {
+      runs = done_next (λ n. GroupRuns g.row.WAYS MergesAlone) i first groups new c.loop-i.invariant.runs
+          (λ x e. subst (λ v. GroupRuns g.row.WAYS MergesAlone v new) (same_some group x (sym was ∙ e)) (merge_runs g.row.WAYS c.args.at group new c.in_ok-_merged.ensures.makes));
+      same = untouched_next i first groups new c.loop-i.invariant.same;
+      later = let a = c.merge.ensures.steps in let b = c.loop-i.invariant.later in omega arith;
+    }
+
+pub returns-clause-runs : goal.returns-clause-runs
+returns-clause-runs g c =
+    let kept = c.loop-i.auto.groups in
+    let end = c.loop-i-test.false in
+    done_end (λ n. GroupRuns g.row.WAYS MergesAlone) c.loop-i.i c.args.groups.now c.loop-i.groups c.loop-i.invariant.runs (omega arith)

@@ -1,0 +1,13 @@
+use Rattle.std.proofs.Common.{◌≤◌}
+use Rattle.switch_core.proofs.SideBySide.{Done, Untouched}
+use Rattle.network.specs.Shared.{MergesAlone}
+use Rattle.network.specs.Groups.{GroupRuns}
+use Rattle.network.proofs.groups.merge_groups.Given as goal
+
+-- the groupbys so far had merges alone
+abbrev pub invariant-loop-i : goal.invariant-loop-i
+invariant-loop-i g l = record {
+  runs : Done (λ n. GroupRuns g.row.WAYS MergesAlone) l.i l.initial.groups l.groups;
+  same : Untouched l.i l.initial.groups l.groups;
+  later : l.initial.steps ≤ l.steps;
+}

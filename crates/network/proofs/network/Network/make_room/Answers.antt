@@ -1,0 +1,16 @@
+use Rattle.std.proofs.Common.{refl, ◌∙◌}
+use Rattle.switch_core.proofs.LaneFacts.{on_ok}
+use Rattle.network.specs.Shared.{MergesAlone}
+use Rattle.network.specs.Groups.{GroupsRun}
+use Rattle.network.proofs.NetworkSteps.{ran_whole, still_network}
+use Rattle.network.proofs.network.Network.make_room.Goals as goal
+
+pub returns-clause-is : goal.returns-clause-is
+returns-clause-is g c =
+    let net = c.args.self.now in
+    let before = c.deref_mut.result.now in
+    let new = c.make_room.new.groups in
+    on_ok (GroupsRun g.row.WAYS (λ n. MergesAlone) before new) _ c.make_room.result
+    (λ ran switches is. still_network (λ n. MergesAlone) switches net _ refl refl refl refl is.rooms
+    (ran_whole (GroupsRun g.row.WAYS (λ n. MergesAlone)) net.groups.items before new net.groups.len c.deref_mut.ensures.value (c.make_room.auto.groups ∙ c.deref_mut.ensures.len) ran) is)
+    c.make_room.ensures.runs
