@@ -1,6 +1,7 @@
 // The packets of a trace, each at its switch.
 
-ghost use Rattle.std.specs.Prelude.{◌≡◌, ◌+◌, ◌<◌, ◌≤◌, ℕ, List, [], ◌∷◌, ◌++◌, All, None, Some, true, length};
+ghost use Rattle.std.specs.Prelude.{◌≡◌, ◌+◌, ◌<◌, ◌≤◌, ℕ, List, [], ◌∷◌, ◌++◌, All, None, Some, true};
+ghost use Rattle.std.specs.Prelude.{length};
 ghost use Rattle.std.specs.Prelude.{IfErr, IfOk, OnOk};
 ghost use Rattle.network.specs.Groups.{GroupStands};
 ghost use Rattle.network.specs.Networks.{IsNetwork, Keeps, groups_in};

@@ -25,12 +25,15 @@ pub record Holds (command : Command) (inputs : Which → Input) (query : Source)
 -- P holds of the command and the bytes of its operands, where a command is asked for and the inputs tell them.
 abbrev pub WhereTold : Option Command → (Which → Input) → (Command → Source → List ℕ → Type 0) → Type 0
 WhereTold asked inputs P =
-    (command : Command) (query : Source) (trace : List ℕ) → asked ≡ Some command → Holds command inputs query trace → P command query trace
+    (command : Command) (query : Source) (trace : List ℕ) → asked ≡ Some command → Holds command inputs query trace
+    → P command query trace
 
--- P holds of the command and its query or plan, where a command with one is asked for and the input tells its bytes, whatever the other input tells.
+-- P holds of the command and its query or plan, where a command with one is asked for and the input tells its bytes,
+-- whatever the other input tells.
 abbrev pub WhereQueryTold : Option Command → (Which → Input) → (Command → Source → Type 0) → Type 0
 WhereQueryTold asked inputs P =
-    (command : Command) (query : Source) → asked ≡ Some command → takes command Query ≡ true → (inputs Query).left ≡ Some query.text → IsRead command query → P command query
+    (command : Command) (query : Source) → asked ≡ Some command → takes command Query ≡ true
+    → (inputs Query).left ≡ Some query.text → IsRead command query → P command query
 
 -- The counts of the command's inputs and of the output did not rise.
 pub record IsQuiet (command : Command) (before after : Which → Input) (out_before out_after : ℕ) : Type 0 where

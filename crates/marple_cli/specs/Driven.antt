@@ -30,24 +30,30 @@ abbrev pub StandsForEnd : Setting → Checked TypedQuery → (TypedQuery → Lis
 StandsForEnd setting (Ok q) packets p = IsPlanOf q p.plan × PipelineStands p (query_ends q (geometry_of setting) (words_of (packets q)))
 StandsForEnd setting (Err fault) packets p = ⊥
 
--- the pipeline is of a plan of what the text says, and stands for the machines of its groups at the end of the trace's packets for what it reads
+-- the pipeline is of a plan of what the text says, and stands for the machines of its groups at the end of the trace's
+-- packets for what it reads
 abbrev pub StandsForPlan : Setting → Checked Made → List ℕ → PipelineView → Type 0
-StandsForPlan setting (Ok made) trace p = IsPlanFrom made p.plan × PipelineStands p (end_machines p.plan (geometry_of setting) (words_of (traces.packets trace (reads_in made))))
+StandsForPlan setting (Ok made) trace p = IsPlanFrom made p.plan
+    × PipelineStands p (end_machines p.plan (geometry_of setting) (words_of (traces.packets trace (reads_in made))))
 StandsForPlan setting (Err fault) trace p = ⊥
 
--- The working parts of a run are there, in the variant of its ways and with the setting's sizes: they are empty, and this holds of their pipeline.
+-- The working parts of a run are there, in the variant of its ways and with the setting's sizes: they are empty, and
+-- this holds of their pipeline.
 abbrev pub IsDriven : Setting → Option Driven → (PipelineView → Type 0) → Type 0
 IsDriven setting None P = ⊥
 IsDriven setting (Some driven) P = IsLeftBy setting driven × P (pipeline_in driven)
 
--- What a command that answers Ok leaves of the working parts. Of a run, a trial and a run of a plan they are there, and where the inputs tell their bytes they are the machines at
--- the trace's end; every other command leaves them as they were.
+-- What a command that answers Ok leaves of the working parts. Of a run, a trial and a run of a plan they are there, and
+-- where the inputs tell their bytes they are the machines at the trace's end; every other command leaves them as they
+-- were.
 abbrev pub Leaves : Command → (Which → Input) → Option Driven → Option Driven → Type 0
 Leaves (Run setting every) before old new =
-    IsDriven setting new (λ p. ToldOf (Run setting every) before (λ query trace. StandsForEnd setting (accepted query.text) (read_packets trace) p))
+    IsDriven setting new (λ p. ToldOf (Run setting every) before
+    (λ query trace. StandsForEnd setting (accepted query.text) (read_packets trace) p))
 Leaves (Trial generation setting) before old new =
     IsDriven setting new (λ p. StandsForEnd setting (accepted trial_query) (λ q. made_packets generation) p)
-Leaves (RunPlan setting) before old new = IsDriven setting new (λ p. ToldOf (RunPlan setting) before (λ query trace. StandsForPlan setting query.plan trace p))
+Leaves (RunPlan setting) before old new = IsDriven setting new
+    (λ p. ToldOf (RunPlan setting) before (λ query trace. StandsForPlan setting query.plan trace p))
 Leaves command before old new = new ≡ old
 
 -- The working parts after a call. Only a command that answers Ok changes them.

@@ -25,7 +25,8 @@ use Rattle.marple_cli.specs.declared.status.Status.TheVariants as statuses
 
 -- P holds of the query or the plan, where the command has one and its input tells its bytes.
 abbrev pub QueryTold : Command → (Which → Input) → (Source → Type 0) → Type 0
-QueryTold command inputs P = (query : Source) → takes command Query ≡ true → (inputs Query).left ≡ Some query.text → IsRead command query → P query
+QueryTold command inputs P = (query : Source) → takes command Query ≡ true → (inputs Query).left ≡ Some query.text
+    → IsRead command query → P query
 
 -- the status of a run over packets that broke off
 abbrev pub status_for : RunAnswer → Status
@@ -70,13 +71,15 @@ ReadEnds before after (statuses.InputFault Trace) = Rose before.faults after.fau
 ReadEnds before after status = ⊥
 
 -- A phase that reads the trace, refuses it for these faults and writes this text of it ended in this status.
-module _ {O : Type 0} (taken : O → Option (List ℕ)) (faults : O → ℕ) (fault : List ℕ → Option TraceFault) (text : List ℕ → List ℕ) (before after : Input) (old new : O) where
+module _ {O : Type 0} (taken : O → Option (List ℕ)) (faults : O → ℕ) (fault : List ℕ → Option TraceFault) (text : List ℕ
+    → List ℕ) (before after : Input) (old new : O) where
   abbrev pub TraceEnds : Status → Type 0
   TraceEnds statuses.Memory = IfSome before.left (λ trace. TakesFront (taken old) (taken new) (text_unless (fault trace) (text trace)))
   TraceEnds (statuses.InputFault Trace) = Rose before.faults after.faults × (new ≡ old)
   TraceEnds (statuses.TraceRefused found) = IfSome before.left (λ trace. fault trace ≡ Some found) × (new ≡ old)
   TraceEnds statuses.OutputFault =
-      Rose (faults old) (faults new) × IfSome before.left (λ trace. (fault trace ≡ None) × TakesFront (taken old) (taken new) (text trace))
+      Rose (faults old) (faults new)
+      × IfSome before.left (λ trace. (fault trace ≡ None) × TakesFront (taken old) (taken new) (text trace))
   TraceEnds status = ⊥
 
 -- A phase that writes this text ended in this status.
@@ -87,9 +90,11 @@ module _ {O : Type 0} (taken : O → Option (List ℕ)) (faults : O → ℕ) (te
   WriteEnds status = ⊥
 
 -- What each status says of a command.
-module _ {O : Type 0} (taken : O → Option (List ℕ)) (faults : O → ℕ) (command : Command) (before after : Which → Input) (old new : O) where
+module _ {O : Type 0} (taken : O → Option (List ℕ)) (faults : O → ℕ) (command : Command) (before after : Which
+    → Input) (old new : O) where
   abbrev pub Ends : Status → Type 0
-  Ends statuses.Ok = QueryTold command before (λ query. refusal command query ≡ None) × ToldOf command before (WritesOutput (taken old) (taken new) command)
+  Ends statuses.Ok = QueryTold command before (λ query. refusal command query ≡ None)
+      × ToldOf command before (WritesOutput (taken old) (taken new) command)
   Ends statuses.Memory =
       ToldOf command before (λ query trace. TakesFront (taken old) (taken new) (defined_text command query trace))
       × QueryTold command before (λ query. (refusal command query ≡ None → ⊥) → new ≡ old)
@@ -97,18 +102,23 @@ module _ {O : Type 0} (taken : O → Option (List ℕ)) (faults : O → ℕ) (co
   Ends (statuses.InputFault Query) =
       (takes command Query ≡ true) × Rose (before Query).faults (after Query).faults × (after Trace ≡ before Trace) × (new ≡ old)
   Ends (statuses.InputFault Trace) =
-      (takes command Trace ≡ true) × Rose (before Trace).faults (after Trace).faults × QueryTold command before (λ query. refusal command query ≡ None) × (new ≡ old)
+      (takes command Trace ≡ true) × Rose (before Trace).faults (after Trace).faults
+      × QueryTold command before (λ query. refusal command query ≡ None) × (new ≡ old)
   Ends (statuses.QueryRefused fault) =
-      (takes command Query ≡ true) × QueryTold command before (λ query. refusal command query ≡ Some fault) × (after Trace ≡ before Trace) × (new ≡ old)
+      (takes command Query ≡ true) × QueryTold command before (λ query. refusal command query ≡ Some fault)
+      × (after Trace ≡ before Trace) × (new ≡ old)
   Ends (statuses.TraceRefused fault) =
       (takes command Trace ≡ true) × QueryTold command before (λ query. refusal command query ≡ None)
-      × ToldOf command before (λ query trace. (refusal command query ≡ None) × (trace_refusal command query trace ≡ Some fault)) × (new ≡ old)
+      × ToldOf command before (λ query trace. (refusal command query ≡ None)
+      × (trace_refusal command query trace ≡ Some fault)) × (new ≡ old)
   Ends statuses.OutputFault =
-      Rose (faults old) (faults new) × QueryTold command before (λ query. refusal command query ≡ None) × ToldOf command before (WritesFront (taken old) (taken new) command)
+      Rose (faults old) (faults new) × QueryTold command before (λ query. refusal command query ≡ None)
+      × ToldOf command before (WritesFront (taken old) (taken new) command)
 
 -- What each status says where a command may have been asked for.
 module _ {O : Type 0} (taken : O → Option (List ℕ)) (faults : O → ℕ) (before after : Which → Input) (old new : O) where
   abbrev pub Answers : Option Command → Status → Type 0
   Answers None status = (status ≡ statuses.Usage) × (new ≡ old) × ((which : Which) → after which ≡ before which)
   Answers (Some command) status =
-      Ends taken faults command before after old new status × ((which : Which) → takes command which ≡ false → after which ≡ before which)
+      Ends taken faults command before after old new status
+      × ((which : Which) → takes command which ≡ false → after which ≡ before which)

@@ -1,5 +1,6 @@
 -- Which queries and traces are accepted, and what a command writes: each definition has one case for each command.
-use Rattle.std.specs.Prelude.{◌≡◌, ℕ, Bool, true, false, List, [], Option, None, Some, is_some, Result, Ok, Err, ⊤, if◌then◌else◌}
+use Rattle.std.specs.Prelude.{◌≡◌, ℕ, Bool, true, false, List, [], Option, None, Some, is_some, Result, Ok, Err, ⊤}
+use Rattle.std.specs.Prelude.{if◌then◌else◌}
 use Rattle.marple_base.specs.declared.field.Packet.{Packet}
 use Rattle.marple_base.specs.declared.inputs.Which.{Which}
 use Rattle.marple_base.specs.declared.inputs.Which.TheVariants.{Query, Trace}
@@ -78,8 +79,9 @@ fault_behind own (Err fault) = Some fault
 abbrev pub fault_with : (TypedQuery → Option QueryFault) → List ℕ → Option QueryFault
 fault_with own query = fault_behind own (accepted query)
 
--- Why the command refuses its query, where it does: the query's first fault. Behind it, where packets of several switches are run, a groupby that doesn't combine;
--- where bounds are asked for, one that has none; and where a plan is written, a final. The text of a plan is refused where it isn't one.
+-- Why the command refuses its query, where it does: the query's first fault. Behind it, where packets of several
+-- switches are run, a groupby that doesn't combine; where bounds are asked for, one that has none; and where a plan is
+-- written, a final. The text of a plan is refused where it isn't one.
 abbrev pub refusal : Command → Source → Option QueryFault
 refusal (Run setting every) query = query_fault query.text
 refusal (Plan ways) query = query_fault query.text
@@ -95,8 +97,8 @@ abbrev pub fault_for : Checked TypedQuery → List ℕ → Option TraceFault
 fault_for (Ok q) trace = traces.trace_fault trace (reads_of q)
 fault_for (Err fault) trace = None
 
--- Why the command refuses its trace, where it does: the trace's first fault for what the query or the plan reads. Over several switches `switch` is always read, and more than 64
--- of them are a fault.
+-- Why the command refuses its trace, where it does: the trace's first fault for what the query or the plan reads. Over
+-- several switches `switch` is always read, and more than 64 of them are a fault.
 abbrev pub trace_refusal : Command → Source → List ℕ → Option TraceFault
 trace_refusal (Run setting every) query trace = fault_for (accepted query.text) trace
 trace_refusal (Plan ways) query trace = None

@@ -17,7 +17,8 @@ pub const CAPACITY: u32 = 16;
 /// Writes the text of the packets that the generator makes. No input is opened.
 pub fn generate<O: Sink>(alloc: Global, generation: Generation, out: &mut O) -> Result<(), Status>
     requires generation { IsGeneration generation }
-    ensures ends { (inputs : AnyWhich → Input) → Ends O.taken O.faults (Command.Gen generation) inputs inputs out.old out.new (status_of result) }
+    ensures ends { (inputs : AnyWhich → Input)
+        → Ends O.taken O.faults (Command.Gen generation) inputs inputs out.old out.new (status_of result) }
     ensures out_later { O.faults out.old ≤ O.faults out.new }
 {
     let packets = simulate(alloc, generation.packets, generation.start, CAPACITY)?;

@@ -43,13 +43,16 @@ pub fn run_trace<I: Inputs, O: Sink, L: Ledger>(
     requires valid { IsValidQuery query.typed }
     requires plan { IsPlanOf query.typed query.plan }
     requires closed { IsClosed (I.input inputs.old Which.Trace) }
-    ensures accepted { IfOk result (λ driven. IfSome (I.input inputs.old Which.Trace).left (λ trace. trace_fault trace (reads_of query.typed) ≡ None)) }
-    ensures written { IfOk result (λ driven. IfSome (I.input inputs.old Which.Trace).left (λ trace. Appends (O.taken out.old) (O.taken out.new)
+    ensures accepted { IfOk result
+        (λ driven. IfSome (I.input inputs.old Which.Trace).left (λ trace. trace_fault trace (reads_of query.typed) ≡ None)) }
+    ensures written { IfOk result (λ driven. IfSome (I.input inputs.old Which.Trace).left
+        (λ trace. Appends (O.taken out.old) (O.taken out.new)
         (views_text query.typed (geometry_of setting) every (words_of (packets trace (reads_of query.typed)))))) }
     ensures plan { IfOk result (λ driven. IsPlanOf query.typed (pipeline_in driven).plan) }
     ensures left { IfOk result (IsLeftBy setting) }
     ensures stands { IfOk result (λ driven. IfSome (I.input inputs.old Which.Trace).left (λ trace.
-        PipelineStands (pipeline_in driven) (query_ends query.typed (geometry_of setting) (words_of (packets trace (reads_of query.typed)))))) }
+        PipelineStands (pipeline_in driven)
+        (query_ends query.typed (geometry_of setting) (words_of (packets trace (reads_of query.typed)))))) }
     ensures err { IfErr result (TraceEnds O.taken O.faults (λ trace. trace_fault trace (reads_of query.typed))
         (λ trace. views_text query.typed (geometry_of setting) every (words_of (packets trace (reads_of query.typed))))
         (I.input inputs.old Which.Trace) (I.input inputs.new Which.Trace) out.old out.new) }
@@ -73,10 +76,13 @@ pub fn run_made<O: Sink, L: Ledger>(
 ) -> Result<Driven, Status>
     requires generation { IsGeneration generation }
     requires setting { IsSetting setting }
-    ensures written { IfOk result (λ driven. Appends (O.taken out.old) (O.taken out.new) (tables_text setting (accepted trial_query) (λ q. made_packets generation))) }
+    ensures written { IfOk result (λ driven. Appends (O.taken out.old) (O.taken out.new)
+        (tables_text setting (accepted trial_query) (λ q. made_packets generation))) }
     ensures left { IfOk result (IsLeftBy setting) }
-    ensures stands { IfOk result (λ driven. StandsForEnd setting (accepted trial_query) (λ q. made_packets generation) (pipeline_in driven)) }
-    ensures err { IfErr result (WriteEnds O.taken O.faults (tables_text setting (accepted trial_query) (λ q. made_packets generation)) out.old out.new) }
+    ensures stands { IfOk result (λ driven. StandsForEnd setting (accepted trial_query) (λ q. made_packets generation)
+        (pipeline_in driven)) }
+    ensures err { IfErr result (WriteEnds O.taken O.faults
+        (tables_text setting (accepted trial_query) (λ q. made_packets generation)) out.old out.new) }
     ensures out_later { O.faults out.old ≤ O.faults out.new }
     ensures steps { steps.old ≤ steps.new }
 {

@@ -34,7 +34,8 @@ fn run<I: Inputs, O: Sink, L: Ledger>(
     requires setting { IsSetting setting }
     requires query_closed { IsClosed (I.input inputs.old Which.Query) }
     requires trace_closed { IsClosed (I.input inputs.old Which.Trace) }
-    ensures ends { Ends O.taken O.faults (Command.Run setting every) (I.input inputs.old) (I.input inputs.new) out.old out.new (status_of result) }
+    ensures ends { Ends O.taken O.faults (Command.Run setting every) (I.input inputs.old)
+        (I.input inputs.new) out.old out.new (status_of result) }
     ensures driven { DrivenAfter (Some (Command.Run setting every)) (I.input inputs.old) driven.old driven.new (status_of result) }
     ensures query_later { (I.input inputs.old Which.Query).faults ≤ (I.input inputs.new Which.Query).faults }
     ensures trace_later { (I.input inputs.old Which.Trace).faults ≤ (I.input inputs.new Which.Trace).faults }
@@ -57,8 +58,10 @@ fn trial<O: Sink, L: Ledger>(
 ) -> Result<(), Status>
     requires generation { IsGeneration generation }
     requires setting { IsSetting setting }
-    ensures ends { (inputs : AnyWhich → Input) → Ends O.taken O.faults (Command.Trial generation setting) inputs inputs out.old out.new (status_of result) }
-    ensures driven { (inputs : AnyWhich → Input) → DrivenAfter (Some (Command.Trial generation setting)) inputs driven.old driven.new (status_of result) }
+    ensures ends { (inputs : AnyWhich → Input)
+        → Ends O.taken O.faults (Command.Trial generation setting) inputs inputs out.old out.new (status_of result) }
+    ensures driven { (inputs : AnyWhich → Input)
+        → DrivenAfter (Some (Command.Trial generation setting)) inputs driven.old driven.new (status_of result) }
     ensures out_later { O.faults out.old ≤ O.faults out.new }
     ensures steps { steps.old ≤ steps.new }
 {

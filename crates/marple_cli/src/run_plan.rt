@@ -26,7 +26,8 @@ pub fn run_plan<I: Inputs, O: Sink, L: Ledger>(
     requires setting { IsSetting setting }
     requires query_closed { IsClosed (I.input inputs.old Which.Query) }
     requires trace_closed { IsClosed (I.input inputs.old Which.Trace) }
-    ensures ends { Ends O.taken O.faults (Command.RunPlan setting) (I.input inputs.old) (I.input inputs.new) out.old out.new (status_of result) }
+    ensures ends { Ends O.taken O.faults (Command.RunPlan setting) (I.input inputs.old)
+        (I.input inputs.new) out.old out.new (status_of result) }
     ensures driven { DrivenAfter (Some (Command.RunPlan setting)) (I.input inputs.old) driven.old driven.new (status_of result) }
     ensures query_later { (I.input inputs.old Which.Query).faults ≤ (I.input inputs.new Which.Query).faults }
     ensures trace_later { (I.input inputs.old Which.Trace).faults ≤ (I.input inputs.new Which.Trace).faults }

@@ -25,7 +25,8 @@ pub fn run_network<I: Inputs, O: Sink, L: Ledger>(
     requires setting { IsNetSetting setting }
     requires query_closed { IsClosed (I.input inputs.old Which.Query) }
     requires trace_closed { IsClosed (I.input inputs.old Which.Trace) }
-    ensures ends { Ends O.taken O.faults (Command.Net setting) (I.input inputs.old) (I.input inputs.new) out.old out.new (status_of result) }
+    ensures ends { Ends O.taken O.faults (Command.Net setting) (I.input inputs.old) (I.input inputs.new) out.old out.new
+        (status_of result) }
     ensures query_later { (I.input inputs.old Which.Query).faults ≤ (I.input inputs.new Which.Query).faults }
     ensures trace_later { (I.input inputs.old Which.Trace).faults ≤ (I.input inputs.new Which.Trace).faults }
     ensures out_later { O.faults out.old ≤ O.faults out.new }

@@ -5,7 +5,8 @@ ghost use Rattle.marple_base.specs.Faults.{Rose};
 ghost use Rattle.marple_base.specs.Inputs.{IsClosed};
 ghost use Rattle.marple_base.specs.Sink.{TakesFront};
 ghost use Rattle.command_line.specs.Command.{asked};
-ghost use Rattle.marple_cli.specs.Call.{Takes, WhereTold, WhereQueryTold, WritesOutput, WritesFront, IsQuiet, IsBeforeOutput, IsBeforeTrace};
+ghost use Rattle.marple_cli.specs.Call.{Takes, WhereTold, WhereQueryTold, WritesOutput, WritesFront, IsQuiet, IsBeforeOutput};
+ghost use Rattle.marple_cli.specs.Call.{IsBeforeTrace};
 ghost use Rattle.marple_cli.specs.Complaint.{complaint};
 ghost use Rattle.marple_cli.specs.Driven.{DrivenAfter};
 ghost use Rattle.marple_cli.specs.Ends.{Answers};
@@ -30,7 +31,8 @@ fn answer<I: Inputs, O: Sink, L: Ledger>(
 ) -> Status
     requires query_closed { IsClosed (I.input inputs.old Which.Query) }
     requires trace_closed { IsClosed (I.input inputs.old Which.Trace) }
-    ensures answers { Answers O.taken O.faults (I.input inputs.old) (I.input inputs.new) out.old out.new (asked (map string_bytes words.now)) result }
+    ensures answers { Answers O.taken O.faults (I.input inputs.old) (I.input inputs.new) out.old out.new
+        (asked (map string_bytes words.now)) result }
     ensures driven { DrivenAfter (asked (map string_bytes words.now)) (I.input inputs.old) driven.old driven.new result }
     ensures query_later { (I.input inputs.old Which.Query).faults ≤ (I.input inputs.new Which.Query).faults }
     ensures trace_later { (I.input inputs.old Which.Trace).faults ≤ (I.input inputs.new Which.Trace).faults }
@@ -64,9 +66,11 @@ pub fn marple<I: Inputs, O: Sink, E: Sink, L: Ledger>(
     ensures usage { (result ≡ Status.Usage) ↔ (asked (map string_bytes words.now) ≡ None) }
 
     // Success.
-    ensures ok { result ≡ Status.Ok → WhereTold (asked (map string_bytes words.now)) (I.input inputs.old) (WritesOutput (O.taken out.old) (O.taken out.new)) }
+    ensures ok { result ≡ Status.Ok
+        → WhereTold (asked (map string_bytes words.now)) (I.input inputs.old) (WritesOutput (O.taken out.old) (O.taken out.new)) }
     ensures complete { WhereTold (asked (map string_bytes words.now)) (I.input inputs.old) (λ command query trace.
-        IsAccepted command query trace → IsQuiet command (I.input inputs.old) (I.input inputs.new) (O.faults out.old) (O.faults out.new) →
+        IsAccepted command query trace
+        → IsQuiet command (I.input inputs.old) (I.input inputs.new) (O.faults out.old) (O.faults out.new) →
         (result ≡ Status.Ok) ⊎ (result ≡ Status.Memory)) }
 
     // Faults.
@@ -79,14 +83,16 @@ pub fn marple<I: Inputs, O: Sink, E: Sink, L: Ledger>(
     // Refusals.
     ensures query_refused { (fault : _) → result ≡ Status.QueryRefused fault →
         Takes (asked (map string_bytes words.now)) Which.Query
-        × WhereQueryTold (asked (map string_bytes words.now)) (I.input inputs.old) (λ command query. refusal command query ≡ Some fault) }
+        × WhereQueryTold (asked (map string_bytes words.now)) (I.input inputs.old) (λ command query. refusal command query
+        ≡ Some fault) }
     ensures refuses_query { (fault : _) →
         WhereQueryTold (asked (map string_bytes words.now)) (I.input inputs.old) (λ command query. refusal command query ≡ Some fault →
         (result ≡ Status.QueryRefused fault) ⊎ (result ≡ Status.InputFault Which.Query) ⊎ (result ≡ Status.Memory)) }
     ensures trace_refused { (fault : _) → result ≡ Status.TraceRefused fault →
         Takes (asked (map string_bytes words.now)) Which.Trace
         × WhereQueryTold (asked (map string_bytes words.now)) (I.input inputs.old) (λ command query. refusal command query ≡ None)
-        × WhereTold (asked (map string_bytes words.now)) (I.input inputs.old) (λ command query trace. trace_refusal command query trace ≡ Some fault) }
+        × WhereTold (asked (map string_bytes words.now)) (I.input inputs.old)
+        (λ command query trace. trace_refusal command query trace ≡ Some fault) }
     ensures refuses_trace { (fault : _) →
         WhereTold (asked (map string_bytes words.now)) (I.input inputs.old) (λ command query trace.
         refusal command query ≡ None → trace_refusal command query trace ≡ Some fault →
@@ -94,19 +100,24 @@ pub fn marple<I: Inputs, O: Sink, E: Sink, L: Ledger>(
 
     // What was written by then.
     ensures untouched { IsBeforeOutput result → out.new ≡ out.old }
-    ensures output_front { result ≡ Status.OutputFault → WhereTold (asked (map string_bytes words.now)) (I.input inputs.old) (WritesFront (O.taken out.old) (O.taken out.new)) }
-    ensures memory_front { result ≡ Status.Memory → WhereTold (asked (map string_bytes words.now)) (I.input inputs.old) (λ command query trace.
+    ensures output_front { result ≡ Status.OutputFault
+        → WhereTold (asked (map string_bytes words.now)) (I.input inputs.old) (WritesFront (O.taken out.old) (O.taken out.new)) }
+    ensures memory_front { result ≡ Status.Memory
+        → WhereTold (asked (map string_bytes words.now)) (I.input inputs.old) (λ command query trace.
         TakesFront (O.taken out.old) (O.taken out.new) (defined_text command query trace)) }
     ensures memory_query { (fault : _) → result ≡ Status.Memory →
-        WhereQueryTold (asked (map string_bytes words.now)) (I.input inputs.old) (λ command query. refusal command query ≡ Some fault → out.new ≡ out.old) }
+        WhereQueryTold (asked (map string_bytes words.now)) (I.input inputs.old) (λ command query. refusal command query
+        ≡ Some fault → out.new ≡ out.old) }
 
     // Inputs that weren't asked for, or not reached.
-    ensures no_operand { (which : _) → (Takes (asked (map string_bytes words.now)) which → ⊥) → I.input inputs.new which ≡ I.input inputs.old which }
+    ensures no_operand { (which : _) → (Takes (asked (map string_bytes words.now)) which → ⊥)
+        → I.input inputs.new which ≡ I.input inputs.old which }
     ensures not_reached { IsBeforeTrace result → I.input inputs.new Which.Trace ≡ I.input inputs.old Which.Trace }
 
     // Complaints. A fault of `err` changes no status.
     ensures complaint_front { TakesFront (E.taken err.old) (E.taken err.new) (complaint result) }
-    ensures complaint_whole { (Rose (E.faults err.old) (E.faults err.new) → ⊥) → Appends (E.taken err.old) (E.taken err.new) (complaint result) }
+    ensures complaint_whole { (Rose (E.faults err.old) (E.faults err.new) → ⊥)
+        → Appends (E.taken err.old) (E.taken err.new) (complaint result) }
 
     // Counts never fall.
     ensures query_later { (I.input inputs.old Which.Query).faults ≤ (I.input inputs.new Which.Query).faults }

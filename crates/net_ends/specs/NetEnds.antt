@@ -37,12 +37,15 @@ steps_of number taken packets = map (λ words. record { switch = number (switch_
 -- whatever order merges came.
 abbrev pub EndsAreTheNetTables : Type 0
 EndsAreTheNetTables = (q : TypedQuery) (plan : PlanParts) (buckets ways : ℕ) (packets : List (List ℕ)) (number : ℕ → ℕ)
-    → IsValidQuery q → net_fault q ≡ None → TellsSwitches q → IsPlanOf q plan → HasRoom (caches_of buckets ways) → AreWhole packets → AreNumbered number packets
-    → (i : ℕ) (shape : GroupShape) (f : TypedFold) (events : List SwitchEvent) (merged : List SwitchEpoch) → i < length plan.groups → fold_at q i ≡ Some f
+    → IsValidQuery q → net_fault q ≡ None → TellsSwitches q → IsPlanOf q plan → HasRoom (caches_of buckets ways)
+    → AreWhole packets → AreNumbered number packets
+    → (i : ℕ) (shape : GroupShape) (f : TypedFold) (events : List SwitchEvent) (merged : List SwitchEpoch)
+    → i < length plan.groups → fold_at q i ≡ Some f
     → IsRun (steps_of number (taken plan i) packets) events → AllMerged (caches_of buckets ways) events merged
     → closed_table (heading_of shape) (folding_of f) (all_epochs merged) ≡ net_table q (caches_of buckets ways) packets i shape f
 
 -- The tables of the definition may be read by finals, and have the shapes of what the groupbys take.
 abbrev pub NetTablesAreRead : Type 0
-NetTablesAreRead = (q : TypedQuery) (plan : PlanParts) (g : Geometry) (packets : List (List ℕ)) → IsValidQuery q → IsPlanOf q plan → IsSoundPlan plan → AreWhole packets
+NetTablesAreRead = (q : TypedQuery) (plan : PlanParts) (g : Geometry) (packets : List (List ℕ)) → IsValidQuery q
+    → IsPlanOf q plan → IsSoundPlan plan → AreWhole packets
     → All IsTable (net_tables q g packets) × (map table_shape (net_tables q g packets) ≡ map (group_shape q.folds) (takings q.streams))

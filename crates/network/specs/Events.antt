@@ -1,5 +1,6 @@
 -- What an event of one switch makes of the groupbys of a network.
-use Rattle.std.specs.Prelude.{◌≡◌, ◌≢◌, ℕ, Bool, false, nat_lt, List, [], ◌∷◌, ◌++◌, length, slice_get, Option, Some, None}
+use Rattle.std.specs.Prelude.{◌≡◌, ◌≢◌, ℕ, Bool, false, nat_lt, List, [], ◌∷◌, ◌++◌, length, slice_get, Option}
+use Rattle.std.specs.Prelude.{Some, None}
 use Rattle.epoch_model.specs.Machine.{Event, Packet, Evict, Merge}
 use Rattle.epoch_entry.specs.declared.any.AnyEpochs.{AnyEpochs}
 use Rattle.epoch_entry.specs.contracts.any.AnyEpochsEpochKind.TheImpl.{ghosts}
@@ -30,7 +31,8 @@ abbrev pub AtFront : (FrontOf AnyEpochs → Type 0) → List GroupView → ℕ �
 AtFront P groups at lane = AtGroup (λ group. AtSwitch P group.fronts at) groups lane
 
 -- The front of this switch makes these events, one after another, and those of all other switches are as they were.
-abbrev pub FrontsMakeAll : {K : Type 0} → (K → Standing) → ℕ → ℕ → List Event → List (FrontOf K) → List (FrontOf K) → Type 0
+abbrev pub FrontsMakeAll : {K : Type 0} → (K → Standing) → ℕ → ℕ → List Event → List (FrontOf K) → List (FrontOf K)
+    → Type 0
 FrontsMakeAll means ways at [] olds news = news ≡ olds
 FrontsMakeAll {K = K} means ways at (event ∷ events) olds news =
     (middle : List (FrontOf K)) × SwitchMakes means ways at event olds middle × FrontsMakeAll means ways at events middle news

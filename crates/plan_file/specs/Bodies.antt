@@ -1,5 +1,6 @@
 -- The line `body`: the statements of a fold in prefix form.
-use Rattle.std.specs.Prelude.{◌≡◌, ℕ, ◌+◌, ◌-◌, ◌≤◌, max, nat_lt, if◌then◌else◌, List, [], ◌∷◌, ◌++◌, map, codes}
+use Rattle.std.specs.Prelude.{◌≡◌, ℕ, ◌+◌, ◌-◌, ◌≤◌, max, nat_lt, if◌then◌else◌, List, [], ◌∷◌}
+use Rattle.std.specs.Prelude.{◌++◌, map, codes}
 use Rattle.query_lang.specs.Blocks.{Block, End, Set, Fork}
 use Rattle.query_lang.specs.Terms.{Term, Literal, Read, Negation, Operation}
 use Rattle.query_lang.specs.Folds.{IsValidBlock}

@@ -17,7 +17,16 @@ names_of groups = map (λ one. one.group.name) groups
 
 -- a group with a name and the operand that says whether it takes a use, and nothing else yet
 abbrev pub group_with : List ℕ → Operand → Group
-group_with name present = record { name = name; present = present; key_names = []; keys = []; args = []; state_names = []; initial = []; body = None }
+group_with name present = record {
+  name = name;
+  present = present;
+  key_names = [];
+  keys = [];
+  args = [];
+  state_names = [];
+  initial = [];
+  body = None;
+}
 
 -- `group NAME P`, with a new name; there are at most 8
 pub record IsGroupLine (fields : List Field) (ops : List PlanOp) (groups : List Folded) (line : List ℕ) (after : Group) : Type 0 where

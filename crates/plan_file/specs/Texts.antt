@@ -66,10 +66,12 @@ IsBadAt text place =
 
 -- the answer for a text that is refused: BadPlan at its place, or no memory
 abbrev pub IsRefused : List ℕ → PlanFileAnswer → Type 0
-IsRefused text (answers.Refused fault) = (fault.kind ≡ kinds.BadPlan) × IsBadAt text fault.span.start × (fault.span.end ≡ fault.span.start)
+IsRefused text (answers.Refused fault) = (fault.kind ≡ kinds.BadPlan) × IsBadAt text fault.span.start
+    × (fault.span.end ≡ fault.span.start)
 IsRefused text answers.Memory = Unit {0}
 
 -- a text that is refused is not valid, and it is refused at this place alone
 abbrev pub IsOnlyAnswer : List ℕ → PlanFileAnswer → Type 0
-IsOnlyAnswer text (answers.Refused fault) = (IsValidText text → ⊥) × ((place : ℕ) → IsBadAt text place → place ≡ fault.span.start)
+IsOnlyAnswer text (answers.Refused fault) = (IsValidText text → ⊥)
+    × ((place : ℕ) → IsBadAt text place → place ≡ fault.span.start)
 IsOnlyAnswer text answers.Memory = Unit {0}

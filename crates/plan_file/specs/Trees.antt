@@ -53,7 +53,8 @@ brace false = word.Close
 -- a choice behind its `if`
 abbrev pub written_choice : ℕ → Term → Block → Block → List Lexeme
 written_choice states c a b =
-    written states c ++ (word.Open ∷ (written_block states a ++ (word.Close ∷ word.Open ∷ (written_block states b ++ word.Close ∷ []))))
+    written states c ++ (word.Open
+    ∷ (written_block states a ++ (word.Close ∷ word.Open ∷ (written_block states b ++ word.Close ∷ []))))
 
 -- one statement
 abbrev pub IsStatement : Block → Type 0

@@ -12,7 +12,8 @@ use std::alloc::Global;
 /// any other one at one place.
 pub fn check_plan(alloc: Global, text: &[u8]) -> Result<(), PlanFileAnswer>
     ensures answer { MatchResult result (λ valid. IsValidText text.now) (λ answer. IsRefused text.now answer) }
-    ensures exact { MatchResult result (λ valid. (place : ℕ) → IsBadAt text.now place → ⊥) (λ answer. IsOnlyAnswer text.now answer) }
+    ensures exact { MatchResult result (λ valid. (place : ℕ) → IsBadAt text.now place
+        → ⊥) (λ answer. IsOnlyAnswer text.now answer) }
 {
     match read_text(alloc, text) {
         Ok(_) => Ok(()),

@@ -44,7 +44,8 @@ fn class_named(token: &[u8]) -> Option<Class>
 
 // What a line of the word `fold`, a class and three numbers says.
 fn fold_words(line: &[u8]) -> Option<FoldWords>
-    ensures { MatchOption result ((class : Class) → (depth nodes statements : ℕ) → IsFoldWords line.now class depth nodes statements → ⊥) (λ w. IsFoldWords line.now w.class w.depth w.nodes w.statements) }
+    ensures { MatchOption result ((class : Class) → (depth nodes statements : ℕ)
+        → IsFoldWords line.now class depth nodes statements → ⊥) (λ w. IsFoldWords line.now w.class w.depth w.nodes w.statements) }
 {
     let rest = after_word(b"fold", line)?;
     let (class, rest) = cut_at_space(rest)?;
@@ -103,7 +104,10 @@ pub fn fold_of(
     requires within { IsGroupWithin group.now }
     requires nodes { nodes ≤ 512 }
     requires statements { statements ≤ 64 }
-    ensures { IfOk result (λ found. MatchOption found ((other : TypedFold) → IsFoldOf group.now other → AreBounds other nodes statements → ⊥) (λ f. IsFoldOf group.now f × AreBounds f nodes statements × IsValidFold f × (f.nodes ≡ nodes) × (f.statements ≡ statements) × ((other : TypedFold) → IsFoldOf group.now other → fold_block other ≡ fold_block f))) }
+    ensures { IfOk result (λ found. MatchOption found ((other : TypedFold) → IsFoldOf group.now other
+        → AreBounds other nodes statements → ⊥) (λ f. IsFoldOf group.now f × AreBounds f nodes statements × IsValidFold f
+        × (f.nodes ≡ nodes) × (f.statements ≡ statements)
+        × ((other : TypedFold) → IsFoldOf group.now other → fold_block other ≡ fold_block f))) }
 {
     let words = match &group.body {
         Some(words) => words.as_slice(),
@@ -146,7 +150,8 @@ pub(crate) fn fold_line(
     line: &[u8],
 ) -> Result<Option<Folded>, AllocError>
     requires { IsGroupWithin before }
-    ensures { IfOk result (λ made. MatchOption made ((after : Folded) → IsFoldLine before line.now after → ⊥) (λ after. IsFoldLine before line.now after)) }
+    ensures { IfOk result (λ made. MatchOption made ((after : Folded) → IsFoldLine before line.now after
+        → ⊥) (λ after. IsFoldLine before line.now after)) }
 {
     let words = match fold_words(line) {
         Some(words) => words,

@@ -26,7 +26,8 @@ pub enum Lexeme {
 
 // A token that is no word of a statement.
 fn lexeme_among(token: &[u8]) -> Lexeme
-    ensures { result ≡ Lexemes.lexeme_among (function_named token.now) (literal token.now) (state_number token.now) (argument_number token.now) }
+    ensures { result ≡ Lexemes.lexeme_among (function_named token.now) (literal token.now) (state_number token.now)
+        (argument_number token.now) }
 {
     if let Some(op) = function_named(token) {
         return Lexeme::Function(op);

@@ -1,6 +1,7 @@
 // Lines, tokens, numbers and operands as they are read.
 
-ghost use Rattle.std.specs.Prelude.{◌≡◌, ◌+◌, ◌<◌, ◌≤◌, if◌then◌else◌, ◌∷◌, [], true, length, MatchOption, IfSome, drop};
+ghost use Rattle.std.specs.Prelude.{◌≡◌, ◌+◌, ◌<◌, ◌≤◌, if◌then◌else◌, ◌∷◌, [], true, length};
+ghost use Rattle.std.specs.Prelude.{MatchOption, IfSome, drop};
 ghost use Rattle.std.specs.Char.{digit_value};
 ghost use Rattle.std.specs.List.{list_all, slice_split};
 ghost use Rattle.std.specs.Str.{bytes_eq};
@@ -13,8 +14,10 @@ use query_lang::Op;
 
 /// What stands before the first LF, and what stands after it.
 pub(crate) fn cut_at_line_feed(text: &[u8]) -> Option<(&[u8], &[u8])>
-    ensures place { IfSome result (λ parts. (length parts.0.now < length text.now) × (parts.1.now ≡ drop (length parts.0.now + 1) text.now)) }
-    ensures parts { MatchOption result (slice_split is_line_feed text.now ≡ text.now ∷ []) (λ parts. slice_split is_line_feed text.now ≡ parts.0.now ∷ slice_split is_line_feed parts.1.now) }
+    ensures place { IfSome result (λ parts. (length parts.0.now < length text.now)
+        × (parts.1.now ≡ drop (length parts.0.now + 1) text.now)) }
+    ensures parts { MatchOption result (slice_split is_line_feed text.now ≡ text.now ∷ [])
+        (λ parts. slice_split is_line_feed text.now ≡ parts.0.now ∷ slice_split is_line_feed parts.1.now) }
 {
     for (i, byte) in text.iter().enumerate() {
         if *byte == b'\n' {
@@ -27,7 +30,8 @@ pub(crate) fn cut_at_line_feed(text: &[u8]) -> Option<(&[u8], &[u8])>
 /// The first token of a line, and what stands behind its space.
 pub(crate) fn cut_at_space(line: &[u8]) -> Option<(&[u8], &[u8])>
     ensures size { IfSome result (λ parts. length parts.1.now < length line.now) }
-    ensures parts { MatchOption result (slice_split is_space line.now ≡ line.now ∷ []) (λ parts. slice_split is_space line.now ≡ parts.0.now ∷ slice_split is_space parts.1.now) }
+    ensures parts { MatchOption result (slice_split is_space line.now ≡ line.now ∷ [])
+        (λ parts. slice_split is_space line.now ≡ parts.0.now ∷ slice_split is_space parts.1.now) }
 {
     for (i, byte) in line.iter().enumerate() {
         if *byte == b' ' {

@@ -41,7 +41,8 @@ fn first(before: Made, line: &[u8]) -> Option<Made>
 }
 
 fn reads(alloc: Global, before: Made, line: &[u8]) -> Result<Option<Made>, AllocError>
-    ensures { IfOk result (λ made. MatchOption made ((after : Made) → IsReads before line.now after → ⊥) (λ after. IsReads before line.now after)) }
+    ensures { IfOk result (λ made. MatchOption made ((after : Made) → IsReads before line.now after
+        → ⊥) (λ after. IsReads before line.now after)) }
 {
     if !before.begun || before.reads.is_some() {
         return Ok(None);
@@ -58,7 +59,8 @@ fn reads(alloc: Global, before: Made, line: &[u8]) -> Result<Option<Made>, Alloc
 
 fn op(before: Made, line: &[u8]) -> Result<Option<Made>, AllocError>
     requires few { length before.ops ≤ 32768 }
-    ensures { IfOk result (λ made. MatchOption made ((after : Made) → IsOp before line.now after → ⊥) (λ after. IsOp before line.now after)) }
+    ensures { IfOk result (λ made. MatchOption made ((after : Made) → IsOp before line.now after
+        → ⊥) (λ after. IsOp before line.now after)) }
 {
     if !before.groups.is_empty() || before.current.is_some() {
         return Ok(None);
@@ -79,7 +81,8 @@ fn op(before: Made, line: &[u8]) -> Result<Option<Made>, AllocError>
 
 fn group(alloc: Global, before: Made, line: &[u8]) -> Result<Option<Made>, AllocError>
     requires few { length before.ops ≤ 32768 }
-    ensures { IfOk result (λ made. MatchOption made ((after : Made) → IsGroup before line.now after → ⊥) (λ after. IsGroup before line.now after)) }
+    ensures { IfOk result (λ made. MatchOption made ((after : Made) → IsGroup before line.now after
+        → ⊥) (λ after. IsGroup before line.now after)) }
 {
     if before.current.is_some() || !before.prints.is_empty() {
         return Ok(None);
@@ -111,7 +114,8 @@ fn part(
     line: &[u8],
 ) -> Result<Option<Made>, AllocError>
     requires { IsWithin before }
-    ensures { IfOk result (λ made. MatchOption made ((after : Made) → IsPart word before line.now after → ⊥) (λ after. IsPart word before line.now after)) }
+    ensures { IfOk result (λ made. MatchOption made ((after : Made) → IsPart word before line.now after
+        → ⊥) (λ after. IsPart word before line.now after)) }
 {
     let Made {
         begun,
@@ -140,7 +144,8 @@ fn part(
 
 fn fold(alloc: Global, before: Made, line: &[u8]) -> Result<Option<Made>, AllocError>
     requires { IsWithin before }
-    ensures { IfOk result (λ made. MatchOption made ((after : Made) → IsFold before line.now after → ⊥) (λ after. IsFold before line.now after)) }
+    ensures { IfOk result (λ made. MatchOption made ((after : Made) → IsFold before line.now after
+        → ⊥) (λ after. IsFold before line.now after)) }
 {
     let Made {
         begun,
@@ -185,7 +190,8 @@ fn has_print(prints: &[u16], n: u64) -> bool
 
 fn print(before: Made, line: &[u8]) -> Result<Option<Made>, AllocError>
     requires { length before.groups ≤ 8 }
-    ensures { IfOk result (λ made. MatchOption made ((after : Made) → IsPrint before line.now after → ⊥) (λ after. IsPrint before line.now after)) }
+    ensures { IfOk result (λ made. MatchOption made ((after : Made) → IsPrint before line.now after
+        → ⊥) (λ after. IsPrint before line.now after)) }
 {
     if before.current.is_some() {
         return Ok(None);
@@ -205,7 +211,8 @@ fn print(before: Made, line: &[u8]) -> Result<Option<Made>, AllocError>
 /// What one more line makes of what the lines before it made, where it is valid after them.
 pub(crate) fn one_more(alloc: Global, before: Made, line: &[u8]) -> Result<Option<Made>, AllocError>
     requires { IsWithin before }
-    ensures { IfOk result (λ made. MatchOption made ((after : Made) → IsLine before line.now after → ⊥) (λ after. IsLine before line.now after)) }
+    ensures { IfOk result (λ made. MatchOption made ((after : Made) → IsLine before line.now after
+        → ⊥) (λ after. IsLine before line.now after)) }
 {
     let word = line_word(line);
     match word {

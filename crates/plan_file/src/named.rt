@@ -93,7 +93,8 @@ pub(crate) fn is_name(token: &[u8]) -> bool
 
 // What stands behind a first word.
 pub(crate) fn after_word<'a>(word: &[u8], line: &'a [u8]) -> Option<&'a [u8]>
-    ensures { MatchOption result ((t : List ℕ) → (ts : List (List ℕ)) → tokens line.now ≡ word.now ∷ t ∷ ts → ⊥) (λ rest. tokens line.now ≡ word.now ∷ tokens rest.now) }
+    ensures { MatchOption result ((t : List ℕ) → (ts : List (List ℕ)) → tokens line.now ≡ word.now ∷ t ∷ ts
+        → ⊥) (λ rest. tokens line.now ≡ word.now ∷ tokens rest.now) }
 {
     let (first, rest) = cut_at_space(line)?;
     if is_text(first, word) {
@@ -105,7 +106,8 @@ pub(crate) fn after_word<'a>(word: &[u8], line: &'a [u8]) -> Option<&'a [u8]>
 
 // The two tokens of a line that has two.
 pub(crate) fn two_tokens(line: &[u8]) -> Option<(&[u8], &[u8])>
-    ensures { MatchOption result ((a b : List ℕ) → tokens line.now ≡ a ∷ b ∷ [] → ⊥) (λ r. tokens line.now ≡ r.0.now ∷ r.1.now ∷ []) }
+    ensures { MatchOption result ((a b : List ℕ) → tokens line.now ≡ a ∷ b ∷ []
+        → ⊥) (λ r. tokens line.now ≡ r.0.now ∷ r.1.now ∷ []) }
 {
     let (first, second) = cut_at_space(line)?;
     match cut_at_space(second) {
@@ -141,7 +143,8 @@ pub(crate) fn one_operand(
     line: &[u8],
 ) -> Option<Operand>
     requires few { length ops.now ≤ 32768 }
-    ensures { MatchOption result ((v : Operand) → IsOneOperand fields.now ops.now word.now line.now v → ⊥) (λ v. IsOneOperand fields.now ops.now word.now line.now v) }
+    ensures { MatchOption result ((v : Operand) → IsOneOperand fields.now ops.now word.now line.now v
+        → ⊥) (λ v. IsOneOperand fields.now ops.now word.now line.now v) }
 {
     let rest = after_word(word, line)?;
     let token = one_token(rest)?;
@@ -156,7 +159,9 @@ pub(crate) fn named_operand<'a>(
     line: &'a [u8],
 ) -> Option<(&'a [u8], Operand)>
     requires few { length ops.now ≤ 32768 }
-    ensures { MatchOption result ((name : List ℕ) → (v : Operand) → IsNamedOperand fields.now ops.now word.now line.now name v → ⊥) (λ r. IsNamedOperand fields.now ops.now word.now line.now r.0.now r.1) }
+    ensures { MatchOption result ((name : List ℕ) → (v : Operand)
+        → IsNamedOperand fields.now ops.now word.now line.now name v
+        → ⊥) (λ r. IsNamedOperand fields.now ops.now word.now line.now r.0.now r.1) }
 {
     let rest = after_word(word, line)?;
     let (name, token) = two_tokens(rest)?;
@@ -169,7 +174,8 @@ pub(crate) fn named_operand<'a>(
 
 /// The name and the number of a line of this word, a name and a number.
 pub(crate) fn named_number<'a>(word: &[u8], line: &'a [u8]) -> Option<(&'a [u8], u64)>
-    ensures { MatchOption result ((name : List ℕ) → (n : ℕ) → IsNamedNumber word.now line.now name n → ⊥) (λ r. IsNamedNumber word.now line.now r.0.now r.1) }
+    ensures { MatchOption result ((name : List ℕ) → (n : ℕ) → IsNamedNumber word.now line.now name n
+        → ⊥) (λ r. IsNamedNumber word.now line.now r.0.now r.1) }
 {
     let rest = after_word(word, line)?;
     let (name, token) = two_tokens(rest)?;

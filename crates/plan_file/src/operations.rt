@@ -4,7 +4,8 @@ ghost use Rattle.std.specs.Prelude.{◌≡◌, ◌<◌, ◌≤◌, true, false, 
 ghost use Rattle.marple_base.specs.Field.{number_of};
 ghost use Rattle.plan_file.specs.Lexis as Lexis;
 ghost use Rattle.plan_file.specs.Operations as Operations;
-ghost use Rattle.plan_file.specs.Operations.{IsAllowed, IsKnown, IsKnownRegister, IsOpLine, IsStaged, is_right_of, not_of, takes_right, two_of};
+ghost use Rattle.plan_file.specs.Operations.{IsAllowed, IsKnown, IsKnownRegister, IsOpLine, IsStaged, is_right_of, not_of, takes_right};
+ghost use Rattle.plan_file.specs.Operations.{two_of};
 
 use crate::lexis::{behind, cut_at_space, function_named, is_text, number};
 use marple_base::Field;
@@ -40,7 +41,8 @@ fn is_known(fields: &[Field], ops: &[PlanOp], n: u64) -> bool
 /// An operand whose register is known after these fields and operations.
 pub(crate) fn operand(fields: &[Field], ops: &[PlanOp], token: &[u8]) -> Option<Operand>
     requires few { length ops.now ≤ 32768 }
-    ensures { MatchOption result ((v : Operand) → Operations.operand token.now ≡ Some v → IsKnown fields.now ops.now v → ⊥) (λ v. (Operations.operand token.now ≡ Some v) × IsKnown fields.now ops.now v) }
+    ensures { MatchOption result ((v : Operand) → Operations.operand token.now ≡ Some v → IsKnown fields.now ops.now v
+        → ⊥) (λ v. (Operations.operand token.now ≡ Some v) × IsKnown fields.now ops.now v) }
 {
     match behind(b'r', token) {
         Some(n) => {
@@ -118,7 +120,8 @@ fn staged(
     left: Operand,
     right: Operand,
 ) -> Option<PlanOp>
-    ensures { MatchOption result (IsStaged ops.now (record { stage = stage; op = op; left = left; right = right }) → ⊥) (λ r. (r ≡ record { stage = stage; op = op; left = left; right = right }) × IsStaged ops.now r) }
+    ensures { MatchOption result (IsStaged ops.now (record { stage = stage; op = op; left = left; right = right })
+        → ⊥) (λ r. (r ≡ record { stage = stage; op = op; left = left; right = right }) × IsStaged ops.now r) }
 {
     if ops.len() >= 32768 || stage < 1 || stage > 64 {
         return None;
@@ -140,7 +143,9 @@ fn staged(
 // The operation of a line with one operand.
 fn not_op(fields: &[Field], ops: &[PlanOp], stage: &[u8], a: &[u8]) -> Option<PlanOp>
     requires few { length ops.now ≤ 32768 }
-    ensures { MatchOption result ((op : PlanOp) → not_of (Lexis.number stage.now) (Operations.operand a.now) ≡ Some op → IsAllowed fields.now ops.now op → ⊥) (λ op. (not_of (Lexis.number stage.now) (Operations.operand a.now) ≡ Some op) × IsAllowed fields.now ops.now op) }
+    ensures { MatchOption result ((op : PlanOp) → not_of (Lexis.number stage.now) (Operations.operand a.now) ≡ Some op
+        → IsAllowed fields.now ops.now op
+        → ⊥) (λ op. (not_of (Lexis.number stage.now) (Operations.operand a.now) ≡ Some op) × IsAllowed fields.now ops.now op) }
 {
     let stage = number(stage)?;
     let left = operand(fields, ops, a)?;
@@ -157,7 +162,11 @@ fn two_op(
     b: &[u8],
 ) -> Option<PlanOp>
     requires few { length ops.now ≤ 32768 }
-    ensures { MatchOption result ((op : PlanOp) → two_of (Lexis.number stage.now) (Lexis.function_named function.now) (Operations.operand a.now) (Operations.operand b.now) ≡ Some op → IsAllowed fields.now ops.now op → ⊥) (λ op. (two_of (Lexis.number stage.now) (Lexis.function_named function.now) (Operations.operand a.now) (Operations.operand b.now) ≡ Some op) × IsAllowed fields.now ops.now op) }
+    ensures { MatchOption result ((op : PlanOp)
+        → two_of (Lexis.number stage.now) (Lexis.function_named function.now) (Operations.operand a.now)
+        (Operations.operand b.now) ≡ Some op → IsAllowed fields.now ops.now op
+        → ⊥) (λ op. (two_of (Lexis.number stage.now) (Lexis.function_named function.now) (Operations.operand a.now)
+        (Operations.operand b.now) ≡ Some op) × IsAllowed fields.now ops.now op) }
 {
     let stage = number(stage)?;
     let function = function_named(function)?;
@@ -169,7 +178,8 @@ fn two_op(
 /// The operation of a line `op`, where the line is valid after these fields and operations.
 pub(crate) fn op_line(fields: &[Field], ops: &[PlanOp], line: &[u8]) -> Option<PlanOp>
     requires few { length ops.now ≤ 32768 }
-    ensures { MatchOption result ((op : PlanOp) → IsOpLine fields.now ops.now line.now op → ⊥) (λ op. IsOpLine fields.now ops.now line.now op) }
+    ensures { MatchOption result ((op : PlanOp) → IsOpLine fields.now ops.now line.now op
+        → ⊥) (λ op. IsOpLine fields.now ops.now line.now op) }
 {
     let (word, rest) = cut_at_space(line)?;
     let (stage, rest) = cut_at_space(rest)?;

@@ -35,7 +35,8 @@ fn field_at(n: usize) -> Field
 
 /// The fields of a line `reads`, where the line is valid.
 pub(crate) fn reads_line(alloc: Global, line: &[u8]) -> Result<Option<Seq<Field>>, AllocError>
-    ensures { IfOk result (λ read. MatchOption read ((fields : List Field) → IsReadsLine line.now fields → ⊥) (λ fields. IsReadsLine line.now fields)) }
+    ensures { IfOk result (λ read. MatchOption read ((fields : List Field) → IsReadsLine line.now fields
+        → ⊥) (λ fields. IsReadsLine line.now fields)) }
 {
     let (word, mut rest, mut left) = first_token(line);
     if !is_text(word, b"reads") {

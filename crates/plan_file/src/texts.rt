@@ -17,7 +17,9 @@ const MOST_BYTES: usize = 2_097_152;
 /// The line that begins at a byte, and where the next one begins.
 fn next_line(text: &[u8], at: usize) -> Option<(&[u8], usize)>
     requires within { at ≤ length text.now }
-    ensures line { (i : ℕ) → IsLineStart text.now i at → MatchOption result (IsBehindLines text.now i at) (λ r. (slice_get (lines text.now) i ≡ Some r.0.now) × IsLineStart text.now (i + 1) r.1) }
+    ensures line { (i : ℕ) → IsLineStart text.now i at
+        → MatchOption result (IsBehindLines text.now i at) (λ r. (slice_get (lines text.now) i ≡ Some r.0.now)
+        × IsLineStart text.now (i + 1) r.1) }
     ensures later { IfSome result (λ r. (at < r.1) × (r.1 ≤ length text.now)) }
 {
     let rest = &text[at..];

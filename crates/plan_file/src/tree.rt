@@ -1,6 +1,7 @@
 // The statements of a body as a tree. It is made only of bodies within the bounds of a fold, so it isn't deep.
 
-ghost use Rattle.std.specs.Prelude.{◌≡◌, ◌≤◌, ◌↔◌, IsTrue, true, ◌+◌, ◌-◌, ◌<◌, ◌++◌, ◌∷◌, [], List, length, count_by, IfOk, IfSome, MatchOption};
+ghost use Rattle.std.specs.Prelude.{◌≡◌, ◌≤◌, ◌↔◌, IsTrue, true, ◌+◌, ◌-◌, ◌<◌, ◌++◌, ◌∷◌, []};
+ghost use Rattle.std.specs.Prelude.{List, length, count_by, IfOk, IfSome, MatchOption};
 ghost use Rattle.query_lang.specs.Blocks.{Block, End, Fork, block_of, stmt_block};
 ghost use Rattle.query_lang.specs.Terms.{Term, term_of};
 ghost use Rattle.query_lang.specs.Folds.{IsValidTerm, IsValidBlock, block_nodes, block_count};
@@ -71,7 +72,8 @@ fn are_small(words: &[Lexeme], nodes: u32, statements: u32) -> bool
 fn leaf(states: u64, slots: u64, word: Lexeme) -> Option<TypedExpr>
     requires states { states ≤ slots }
     requires slots { slots ≤ 24 }
-    ensures { (e : Term) → IsValidTerm slots e → is_leaf e ≡ true → word ≡ first_of states e → MatchOption result ⊥ (λ leaf. term_of leaf ≡ e) }
+    ensures { (e : Term) → IsValidTerm slots e → is_leaf e ≡ true → word ≡ first_of states e
+        → MatchOption result ⊥ (λ leaf. term_of leaf ≡ e) }
 {
     match word {
         Lexeme::Number(n) => Some(TypedExpr::Number(n)),
@@ -100,7 +102,8 @@ fn expression<'a>(
 ) -> Result<Option<(TypedExpr, &'a [Lexeme])>, AllocError>
     requires states { states ≤ slots }
     requires slots { slots ≤ 24 }
-    ensures found { IfOk result (λ found. (e : Term) → (rest : List Lexeme) → IsValidTerm slots e → words.now ≡ written states e ++ rest → MatchOption found ⊥ (λ r. (term_of r.0 ≡ e) × (r.1.now ≡ rest))) }
+    ensures found { IfOk result (λ found. (e : Term) → (rest : List Lexeme) → IsValidTerm slots e
+        → words.now ≡ written states e ++ rest → MatchOption found ⊥ (λ r. (term_of r.0 ≡ e) × (r.1.now ≡ rest))) }
     ensures shorter { IfOk result (λ found. IfSome found (λ r. length r.1.now < length words.now)) }
 {
     let (first, rest) = match words {
@@ -134,7 +137,8 @@ fn expression<'a>(
 
 // The tokens behind the first one, where that is a brace of this kind.
 fn behind_brace(words: &[Lexeme], opens: bool) -> Option<&[Lexeme]>
-    ensures { MatchOption result ((rest : List Lexeme) → words.now ≡ Trees.brace opens ∷ rest → ⊥) (λ rest. words.now ≡ Trees.brace opens ∷ rest.now) }
+    ensures { MatchOption result ((rest : List Lexeme) → words.now ≡ Trees.brace opens ∷ rest
+        → ⊥) (λ rest. words.now ≡ Trees.brace opens ∷ rest.now) }
 {
     match words {
         [Lexeme::Open, rest @ ..] => if opens { Some(rest) } else { None },
@@ -153,7 +157,10 @@ fn choice<'a>(
 ) -> Result<Option<(TypedStmt, &'a [Lexeme])>, AllocError>
     requires states { states ≤ slots }
     requires slots { slots ≤ 24 }
-    ensures found { IfOk result (λ found. (c : Term) → (a b : Block) → (rest : List Lexeme) → IsValidTerm slots c → IsValidBlock states (slots - states) a → IsValidBlock states (slots - states) b → words.now ≡ Trees.written_choice states c a b ++ rest → MatchOption found ⊥ (λ r. (stmt_block r.0 ≡ Fork c a b End) × (r.1.now ≡ rest))) }
+    ensures found { IfOk result (λ found. (c : Term) → (a b : Block) → (rest : List Lexeme) → IsValidTerm slots c
+        → IsValidBlock states (slots - states) a → IsValidBlock states (slots - states) b
+        → words.now ≡ Trees.written_choice states c a b ++ rest
+        → MatchOption found ⊥ (λ r. (stmt_block r.0 ≡ Fork c a b End) × (r.1.now ≡ rest))) }
     ensures shorter { IfOk result (λ found. IfSome found (λ r. length r.1.now < length words.now)) }
 {
     let (condition, rest) = match expression(alloc, states, slots, words)? {
@@ -196,7 +203,9 @@ fn statement<'a>(
 ) -> Result<Option<(TypedStmt, &'a [Lexeme])>, AllocError>
     requires states { states ≤ slots }
     requires slots { slots ≤ 24 }
-    ensures found { IfOk result (λ found. (one : Block) → (rest : List Lexeme) → IsStatement one → IsValidBlock states (slots - states) one → words.now ≡ written_block states one ++ rest → MatchOption found ⊥ (λ r. (stmt_block r.0 ≡ one) × (r.1.now ≡ rest))) }
+    ensures found { IfOk result (λ found. (one : Block) → (rest : List Lexeme) → IsStatement one
+        → IsValidBlock states (slots - states) one → words.now ≡ written_block states one ++ rest
+        → MatchOption found ⊥ (λ r. (stmt_block r.0 ≡ one) × (r.1.now ≡ rest))) }
     ensures shorter { IfOk result (λ found. IfSome found (λ r. length r.1.now < length words.now)) }
 {
     match words {
@@ -231,7 +240,9 @@ fn statements<'a>(
 ) -> Result<Option<(Seq<TypedStmt>, &'a [Lexeme])>, AllocError>
     requires states { states ≤ slots }
     requires slots { slots ≤ 24 }
-    ensures found { IfOk result (λ found. (b : Block) → (rest : List Lexeme) → Closes rest → IsValidBlock states (slots - states) b → words.now ≡ written_block states b ++ rest → MatchOption found ⊥ (λ r. (block_of r.0 ≡ b) × (r.1.now ≡ rest))) }
+    ensures found { IfOk result (λ found. (b : Block) → (rest : List Lexeme) → Closes rest
+        → IsValidBlock states (slots - states) b → words.now ≡ written_block states b ++ rest
+        → MatchOption found ⊥ (λ r. (block_of r.0 ≡ b) × (r.1.now ≡ rest))) }
     ensures shorter { IfOk result (λ found. IfSome found (λ r. length r.1.now ≤ length words.now)) }
 {
     let mut found = Seq::new(alloc);
@@ -259,7 +270,9 @@ pub(crate) fn body_of(
 ) -> Result<Option<Seq<TypedStmt>>, AllocError>
     requires states { states ≤ 8 }
     requires args { args ≤ 16 }
-    ensures { IfOk result (λ found. (b : Block) → IsBody states args words.now b → MatchOption found (block_nodes b ≤ nodes → block_count b ≤ most → ⊥) (λ body. (block_of body ≡ b) × (block_nodes b ≤ nodes) × (block_count b ≤ most))) }
+    ensures { IfOk result (λ found. (b : Block) → IsBody states args words.now b
+        → MatchOption found (block_nodes b ≤ nodes → block_count b ≤ most
+        → ⊥) (λ body. (block_of body ≡ b) × (block_nodes b ≤ nodes) × (block_count b ≤ most))) }
 {
     if !are_small(words, nodes, most) {
         return Ok(None);

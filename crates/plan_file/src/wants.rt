@@ -1,11 +1,13 @@
 // A body is read token by token, with a stack of what is still wanted: so a deep expression needs no deep recursion.
 
-ghost use Rattle.std.specs.Prelude.{◌≡◌, ◌+◌, ◌++◌, ◌^◌, ◌<◌, ◌∷◌, [], true, false, ◌≤◌, Some, MatchBool, IfOk};
+ghost use Rattle.std.specs.Prelude.{◌≡◌, ◌+◌, ◌++◌, ◌^◌, ◌<◌, ◌∷◌, [], true, false, ◌≤◌, Some};
+ghost use Rattle.std.specs.Prelude.{MatchBool, IfOk};
 ghost use Rattle.query_lang.specs.Blocks as blocks;
 ghost use Rattle.query_lang.specs.Folds as Folds;
 ghost use Rattle.plan_file.specs.Bodies.{IsBody};
 ghost use Rattle.plan_file.specs.Wants as Wants;
-ghost use Rattle.plan_file.specs.Wants.{behind_word, behind_condition, behind_number, behind_target, behind_open, behind_if, behind_block, behind, GoesOn, Steps, Sticks};
+ghost use Rattle.plan_file.specs.Wants.{behind_word, behind_condition, behind_number, behind_target, behind_open, behind_if};
+ghost use Rattle.plan_file.specs.Wants.{behind_block, behind, GoesOn, Steps, Sticks};
 
 use crate::lexemes::Lexeme;
 use query_lang::Op;
@@ -167,7 +169,8 @@ fn read_first(
 // One token: whether it can begin what is wanted next.
 fn step(wants: &mut Vec<Want>, states: u64, slots: u64, word: Lexeme) -> Result<bool, AllocError>
     requires { states ≤ slots }
-    ensures { IfOk result (λ fits. MatchBool fits (Steps states slots word wants.old.items wants.new.items) (Sticks states slots word wants.old.items)) }
+    ensures { IfOk result (λ fits. MatchBool fits (Steps states slots word wants.old.items wants.new.items)
+        (Sticks states slots word wants.old.items)) }
 {
     match wants.pop() {
         Some(want) => read_first(wants, states, slots, want, word),
@@ -183,7 +186,8 @@ pub(crate) fn is_body(
     words: &[Lexeme],
 ) -> Result<bool, AllocError>
     requires { states + args < 2 ^ 32 }
-    ensures { IfOk result (λ fits. MatchBool fits ((body : blocks.Block) × IsBody states args words.now body) ((body : blocks.Block) → IsBody states args words.now body → ⊥)) }
+    ensures { IfOk result (λ fits. MatchBool fits ((body : blocks.Block)
+        × IsBody states args words.now body) ((body : blocks.Block) → IsBody states args words.now body → ⊥)) }
 {
     let slots = states + args;
     let mut wants = Vec::new(alloc);
