@@ -36,7 +36,7 @@ module _ {A B : Type 0} (starts : Token → Bool) (p : Parser A) (total : Outcom
   pub fails : (f : List A → B) (n i : ℕ) (c : Counts) (ts : List Token) (x : Halt) → i < n → next_is starts ts ≡ true → Fails x (p c ts)
       → finished f (turns (n - i) starts p c ts) ≡ total → Fails x total
   fails f n i c ts halts.Memory lt h e so_far = tt
-  fails f n i c ts (halts.At k r) lt h e so_far = sym so_far ∙ ap (finished f) (one_turn n i c ts lt h) ∙ rw e refl
+  fails f n i c ts (halts.At x) lt h e so_far = sym so_far ∙ ap (finished f) (one_turn n i c ts lt h) ∙ rw e refl
 
   pub ends : (f : List A → B) (n i : ℕ) (c : Counts) (ts : List Token) → (n ≤ i) ⊎ (next_is starts ts ≡ false) → finished f (turns (n - i) starts p c ts) ≡ total → total ≡ Done (f []) c ts
   ends f n i c ts (inl le) so_far = let k : n - i ≡ 0 = omega arith in sym so_far ∙ rw k refl

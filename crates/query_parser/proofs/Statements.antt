@@ -77,7 +77,7 @@ module _ {A B : Type 0} (starts : Token → Bool) (p : Parser (A ⊎ B)) (total 
   pub fails_chain : (found : List A) (n i : ℕ) (c : Counts) (ts : List Token) (x : Halt) → i < n → next_is starts ts ≡ true → Fails x (p c ts)
       → chained_on found (chain_turns (n - i) starts p c ts) ≡ total → Fails x total
   fails_chain found n i c ts halts.Memory lt h e so_far = tt
-  fails_chain found n i c ts (halts.At k r) lt h e so_far = sym so_far ∙ ap (chained_on found) (one_link n i c ts lt h) ∙ rw e refl
+  fails_chain found n i c ts (halts.At x) lt h e so_far = sym so_far ∙ ap (chained_on found) (one_link n i c ts lt h) ∙ rw e refl
 
   pub ends_chain : (found : List A) (n i : ℕ) (c : Counts) (ts : List Token) → (n ≤ i) ⊎ (next_is starts ts ≡ false) → chained_on found (chain_turns (n - i) starts p c ts) ≡ total → total ≡ Done (found, None) c ts
   ends_chain found n i c ts way so_far = sym so_far ∙ ap (chained_on found) (go way) ∙ ap (λ (xs : List A). Done (xs, None) c ts) (append_none found)

@@ -1,9 +1,10 @@
 -- What the lexer gives, unless memory runs out.
-use Rattle.std.specs.Prelude.{◌≡◌, ◌≤◌, ℕ, Result, Ok, Err}
+use Rattle.std.specs.Prelude.{◌≡◌, ◌≤◌, ℕ, List, Result, Ok, Err, length, nat_lt, if◌then◌else◌}
 use Rattle.query_lang.specs.declared.fault.QueryFault.{QueryFault}
 use Rattle.query_lang.specs.declared.token.Piece.{Piece}
 use Rattle.query_lang.specs.declared.token.Piece.TheVariants as pieces
-use Rattle.query_lang.specs.Lexis.{Cut}
+use Rattle.query_lang.specs.declared.fault.FaultKind.TheVariants.{QueryTooLong}
+use Rattle.query_lang.specs.Lexis.{Cut, fault_at}
 use Rattle.query_parser.specs.declared.lexer.Lexed.{Lexed}
 use Rattle.query_parser.specs.declared.answer.ParseAnswer.{ParseAnswer}
 use Rattle.query_parser.specs.declared.answer.ParseAnswer.TheVariants.{Refused, Memory}
@@ -13,6 +14,10 @@ abbrev pub GivesTokens : Result Lexed ParseAnswer → Cut → Type 0
 GivesTokens (Ok lexed) cut = cut ≡ Ok (lexed.tokens, lexed.names)
 GivesTokens (Err (Refused fault)) cut = cut ≡ Err fault
 GivesTokens (Err Memory) cut = Unit {0}
+
+-- a text has at most 65,536 bytes
+abbrev pub length_checked : List ℕ → Result (Unit {0}) QueryFault
+length_checked text = if nat_lt 65536 (length text) then Err (fault_at QueryTooLong 65536) else Ok tt
 
 -- the piece takes no more bytes than that
 abbrev pub IsWithin : Piece → ℕ → Type 0

@@ -20,6 +20,7 @@ use Rattle.query_parser.specs.declared.statement.ElsePart.{ElsePart}
 use Rattle.query_parser.specs.declared.statement.ElsePart.TheVariants as parts
 use Rattle.query_parser.specs.declared.operators.Level.{Level}
 use Rattle.query_parser.specs.declared.operators.Level.TheVariants as levels
+use Rattle.query_parser.specs.declared.halt.Fault.{Fault}
 use Rattle.query_parser.specs.declared.halt.Halt.{Halt}
 use Rattle.query_parser.specs.declared.halt.Halt.TheVariants as halts
 use Rattle.query_parser.specs.declared.halt.Role.{Role}
@@ -31,21 +32,29 @@ role_of code.Node = roles.Node
 role_of code.Statement = roles.Statement
 role_of code.Opening = roles.Opening
 
+-- the same fault
+abbrev pub IsStopped : {A : Type 0} → Fault → Outcome A → Type 0
+IsStopped fault o = o ≡ Stopped fault.stop fault.rest.now
+
 -- the same fault, unless memory ran out
 abbrev pub Fails : {A : Type 0} → Halt → Outcome A → Type 0
 Fails halts.Memory o = Unit {0}
-Fails (halts.At k rest) o = o ≡ Stopped k rest.now
+Fails (halts.At fault) o = IsStopped fault o
 
 -- what a parser of the grammar gives
 abbrev pub Gives : {A : Type 0} → Result (A × Counts × Bor (List Token)) Halt → Outcome A → Type 0
 Gives (Ok x) o = o ≡ Done x.0 x.1 x.2.now
 Gives (Err e) o = Fails e o
 
+-- what a parser of the grammar gives that needs no memory
+abbrev pub Sees : {A : Type 0} → Result (A × Counts × Bor (List Token)) Fault → Outcome A → Type 0
+Sees (Ok x) o = o ≡ Done x.0 x.1 x.2.now
+Sees (Err fault) o = IsStopped fault o
+
 -- the counts after one more, or the limit at the first of the tokens
-abbrev pub Charges : Result Counts Halt → Option Counts → roles.Role → List Token → Type 0
+abbrev pub Charges : Result Counts Fault → Option Counts → roles.Role → List Token → Type 0
 Charges (Ok c) o role ts = o ≡ Some c
-Charges (Err halts.Memory) o role ts = ⊥
-Charges (Err (halts.At k rest)) o role ts = (o ≡ None) × (k ≡ limit_of role) × (rest.now ≡ ts)
+Charges (Err fault) o role ts = (o ≡ None) × (fault.stop ≡ limit_of role) × (fault.rest.now ≡ ts)
 
 -- ---- operators
 

@@ -1,7 +1,7 @@
 //! Why a text isn't a query.
 
 ghost use Rattle.std.specs.Prelude.{◌≡◌};
-ghost use Rattle.query_parser.specs.declared.answer.ParseAnswer.TheVariants.{Memory};
+ghost use Rattle.query_parser.specs.declared.answer.ParseAnswer.TheVariants.{Memory, Refused};
 
 use query_lang::QueryFault;
 use std::alloc::AllocError;
@@ -18,5 +18,13 @@ impl From<AllocError> for ParseAnswer {
 
     fn from(_e: AllocError) -> ParseAnswer {
         ParseAnswer::Memory
+    }
+}
+
+impl From<QueryFault> for ParseAnswer {
+    ghost from_gives = { λ fault e. e ≡ Refused fault };
+
+    fn from(fault: QueryFault) -> ParseAnswer {
+        ParseAnswer::Refused(fault)
     }
 }

@@ -8,9 +8,9 @@ ghost use Rattle.query_grammar.specs.Parser.{Limited, word, next_is, repeated};
 ghost use Rattle.query_grammar.specs.Reading.{atom as atom_of, atom_starts, expr_starts, unary as unary_of, expr_at, separated, listed_by, call_of, after};
 ghost use Rattle.query_lang.specs.declared.query.Expr.TheVariants as exprs;
 ghost use Rattle.query_lang.specs.declared.token.Mark.TheVariants as marks;
-ghost use Rattle.query_parser.specs.Reads.{Gives, operands_of, operation_of, level_of, comparison_of, bracket_at, arguments_at, primary_at};
+ghost use Rattle.query_parser.specs.Reads.{Gives, Sees, operands_of, operation_of, level_of, comparison_of, bracket_at, arguments_at, primary_at};
 
-use crate::halt::{Read, Role};
+use crate::halt::{Read, Role, Seen};
 use crate::operators::{Level, at_operator, function, operator};
 use crate::word::{
     at_mark, at_number, at_word, is_mark, is_name, is_number, is_word, keyword, mark, name,
@@ -110,8 +110,8 @@ fn at_expression(rest: &[Token]) -> bool
 }
 
 /// A number, `infinity` or a name.
-fn atom(counts: Counts, rest: &[Token]) -> Read<'_, Expr>
-    ensures { Gives result (atom_of Limited counts rest.now) }
+fn atom(counts: Counts, rest: &[Token]) -> Seen<'_, Expr>
+    ensures { Sees result (atom_of Limited counts rest.now) }
 {
     if at_number(rest) {
         let ((value, span), counts, rest) = number(Role::Node, counts, rest)?;
@@ -132,7 +132,7 @@ pub fn bracketed(alloc: Global, brackets: u32, counts: Counts, rest: &[Token]) -
     ensures { Gives result (bracket_at brackets counts rest.now) }
 {
     if brackets == 0 {
-        return no_bracket(Mark::OpenParen, counts, rest);
+        return Ok(no_bracket(Mark::OpenParen, counts, rest)?);
     }
     let (_, counts, rest) = plain_mark(Mark::OpenParen, counts, rest)?;
     let (inner, counts, rest) = expression(alloc, brackets - 1, counts, rest)?;
@@ -189,7 +189,7 @@ fn arguments(alloc: Global, brackets: u32, counts: Counts, rest: &[Token]) -> Re
     ensures { Gives result (arguments_at brackets counts rest.now) }
 {
     if brackets == 0 {
-        return no_bracket(Mark::OpenParen, counts, rest);
+        return Ok(no_bracket(Mark::OpenParen, counts, rest)?);
     }
     let (_, counts, rest) = plain_mark(Mark::OpenParen, counts, rest)?;
     let (found, counts, rest) = listed(alloc, brackets - 1, counts, rest)?;
@@ -213,7 +213,7 @@ fn primary(alloc: Global, brackets: u32, counts: Counts, rest: &[Token]) -> Read
     ensures { Gives result (primary_at brackets counts rest.now) }
 {
     if at_atom(rest) {
-        return atom(counts, rest);
+        return Ok(atom(counts, rest)?);
     }
     if at_mark(Mark::OpenParen, rest) {
         return bracketed(alloc, brackets, counts, rest);

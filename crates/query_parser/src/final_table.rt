@@ -6,9 +6,9 @@ ghost use Rattle.query_grammar.specs.Language.{Plain};
 ghost use Rattle.query_grammar.specs.Parser.{Limited, word, followed_by};
 ghost use Rattle.query_grammar.specs.Reading.{after, plain_name, expr_at, best as best_of, finishing as finishing_of, final as final_of};
 ghost use Rattle.query_lang.specs.declared.token.Mark.TheVariants as marks;
-ghost use Rattle.query_parser.specs.Reads.{Gives};
+ghost use Rattle.query_parser.specs.Reads.{Gives, Sees};
 
-use crate::halt::{Read, Role};
+use crate::halt::{Read, Role, Seen};
 use crate::stream::{filter, group, mapping, pairing};
 use crate::word::{at_word, keyword, name, number, plain_mark};
 use query_grammar::Counts;
@@ -16,8 +16,8 @@ use query_lang::{FinalDef, FinalOp, Item, Mark, Name, Span, Token, Word};
 use std::alloc::Global;
 
 /// A column, and behind a comma how many rows are kept.
-fn column_and_count(counts: Counts, rest: &[Token]) -> Read<'_, (Name, (u64, Span))>
-    ensures { Gives result (followed_by (plain_name Limited) (after Limited (sign marks.Comma) (word Limited Plain number_of)) counts rest.now) }
+fn column_and_count(counts: Counts, rest: &[Token]) -> Seen<'_, (Name, (u64, Span))>
+    ensures { Sees result (followed_by (plain_name Limited) (after Limited (sign marks.Comma) (word Limited Plain number_of)) counts rest.now) }
 {
     let (column, counts, rest) = name(Role::Plain, counts, rest)?;
     let (_, counts, rest) = plain_mark(Mark::Comma, counts, rest)?;
@@ -26,8 +26,8 @@ fn column_and_count(counts: Counts, rest: &[Token]) -> Read<'_, (Name, (u64, Spa
 }
 
 /// `top`, and in parentheses its input, a column and how many rows are kept.
-fn best(counts: Counts, rest: &[Token]) -> Read<'_, (Name, (Name, (u64, Span)))>
-    ensures { Gives result (best_of Limited counts rest.now) }
+fn best(counts: Counts, rest: &[Token]) -> Seen<'_, (Name, (Name, (u64, Span)))>
+    ensures { Sees result (best_of Limited counts rest.now) }
 {
     let (_, counts, rest) = keyword(Role::Plain, Word::Top, counts, rest)?;
     let (_, counts, rest) = plain_mark(Mark::OpenParen, counts, rest)?;

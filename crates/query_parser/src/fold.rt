@@ -5,9 +5,9 @@ ghost use Rattle.query_grammar.specs.Kinds.{sign};
 ghost use Rattle.query_grammar.specs.Parser.{Limited};
 ghost use Rattle.query_grammar.specs.Reading.{after, brackets, fold_def, listed_by, parameters as parameters_of, plain_name, separated, state_variable as state_variable_of, stmt_at};
 ghost use Rattle.query_lang.specs.declared.token.Mark.TheVariants as marks;
-ghost use Rattle.query_parser.specs.Reads.{Gives};
+ghost use Rattle.query_parser.specs.Reads.{Gives, Sees};
 
-use crate::halt::{Read, Role};
+use crate::halt::{Read, Role, Seen};
 use crate::statement::block_within;
 use crate::word::{at_mark, at_name, comma_name, keyword, name, number, plain_mark};
 use marple_base::Seq;
@@ -19,8 +19,8 @@ use std::alloc::Global;
 const WITHIN_BODY: u32 = 63;
 
 /// A state variable, with the number that it starts at: 0 where none is given.
-fn state_variable(counts: Counts, rest: &[Token]) -> Read<'_, StateVar>
-    ensures { Gives result (state_variable_of Limited counts rest.now) }
+fn state_variable(counts: Counts, rest: &[Token]) -> Seen<'_, StateVar>
+    ensures { Sees result (state_variable_of Limited counts rest.now) }
 {
     let (name, counts, rest) = name(Role::Plain, counts, rest)?;
     if !at_mark(Mark::Assign, rest) {
@@ -31,8 +31,8 @@ fn state_variable(counts: Counts, rest: &[Token]) -> Read<'_, StateVar>
     Ok((StateVar { name, initial }, counts, rest))
 }
 
-fn next_state_variable(counts: Counts, rest: &[Token]) -> Read<'_, StateVar>
-    ensures { Gives result (after Limited (sign marks.Comma) (state_variable_of Limited) counts rest.now) }
+fn next_state_variable(counts: Counts, rest: &[Token]) -> Seen<'_, StateVar>
+    ensures { Sees result (after Limited (sign marks.Comma) (state_variable_of Limited) counts rest.now) }
 {
     let (_, counts, rest) = plain_mark(Mark::Comma, counts, rest)?;
     let (next, counts, rest) = state_variable(counts, rest)?;

@@ -2,18 +2,33 @@
 
 ghost use Rattle.std.specs.Prelude.{◌≡◌};
 ghost use Rattle.query_grammar.specs.Parser.{Limited, charge};
-ghost use Rattle.query_parser.specs.declared.halt.Halt.TheVariants.{Memory};
+ghost use Rattle.query_parser.specs.declared.halt.Halt.TheVariants.{At, Memory};
 ghost use Rattle.query_parser.specs.Reads.{Charges, role_of};
 
 use query_grammar::{Counts, Stop};
 use query_lang::Token;
 use std::alloc::AllocError;
 
-/// Why nothing was read: the first of these tokens is a fault, or memory ran out.
+/// The first of these tokens is a fault.
+#[derive(Clone, Copy, Debug)]
+pub struct Fault<'a> {
+    pub stop: Stop,
+    pub rest: &'a [Token],
+}
+
+/// Why nothing was read: there is a fault, or memory ran out.
 #[derive(Debug, Drop)]
 pub enum Halt<'a> {
-    At(Stop, &'a [Token]),
+    At(Fault<'a>),
     Memory,
+}
+
+impl<'a> From<Fault<'a>> for Halt<'a> {
+    ghost from_gives = { λ fault h. h ≡ At fault };
+
+    fn from(fault: Fault<'a>) -> Halt<'a> {
+        Halt::At(fault)
+    }
 }
 
 impl<'a> From<AllocError> for Halt<'a> {
@@ -27,6 +42,17 @@ impl<'a> From<AllocError> for Halt<'a> {
 /// A value, what the item has counted up to its end, and the tokens behind it.
 pub type Read<'a, T> = Result<(T, Counts, &'a [Token]), Halt<'a>>;
 
+/// The same of what is read without memory: it fails only at a fault.
+pub type Seen<'a, T> = Result<(T, Counts, &'a [Token]), Fault<'a>>;
+
+/// The fault that the first of these tokens is.
+pub fn stop_at(stop: Stop, rest: &[Token]) -> Fault<'_>
+    ensures stop { result.stop ≡ stop }
+    ensures rest { result.rest.now ≡ rest.now }
+{
+    Fault { stop, rest }
+}
+
 /// What a token counts as: nothing, a node of an expression, the first token of a statement, or the first of an item, at
 /// which the counts begin again.
 #[derive(Clone, Copy, Debug, PartialEq, Eq)]
@@ -38,7 +64,7 @@ pub enum Role {
 }
 
 /// The counts after the first of the tokens.
-pub fn charged(role: Role, counts: Counts, rest: &[Token]) -> Result<Counts, Halt<'_>>
+pub fn charged(role: Role, counts: Counts, rest: &[Token]) -> Result<Counts, Fault<'_>>
     ensures { Charges result (charge Limited (role_of role) counts) (role_of role) rest.now }
 {
     let Counts { nodes, statements } = counts;
@@ -48,12 +74,12 @@ pub fn charged(role: Role, counts: Counts, rest: &[Token]) -> Result<Counts, Hal
             nodes: nodes + 1,
             statements,
         }),
-        Role::Node => Err(Halt::At(Stop::Nodes, rest)),
+        Role::Node => Err(stop_at(Stop::Nodes, rest)),
         Role::Statement if statements < 64 => Ok(Counts {
             nodes,
             statements: statements + 1,
         }),
-        Role::Statement => Err(Halt::At(Stop::Statements, rest)),
+        Role::Statement => Err(stop_at(Stop::Statements, rest)),
         Role::Opening => Ok(Counts {
             nodes: 0,
             statements: 0,

@@ -4,11 +4,11 @@ ghost use Rattle.std.specs.Prelude.{◌≡◌, [], ◌∷◌};
 ghost use Rattle.query_grammar.specs.Parser.{Limited, next_is, repeated};
 ghost use Rattle.query_grammar.specs.Reading.{expr_at, item as item_of, item_starts, print as print_of, query as query_of, stmt_at};
 ghost use Rattle.query_grammar.specs.Kinds.{among};
-ghost use Rattle.query_parser.specs.Reads.{Gives};
+ghost use Rattle.query_parser.specs.Reads.{Gives, Sees};
 
 use crate::final_table::final_table;
 use crate::fold::fold;
-use crate::halt::{Read, Role};
+use crate::halt::{Read, Role, Seen};
 use crate::stream::stream;
 use crate::word::{at_name, at_word, end, keyword, name, plain_mark};
 use marple_base::Seq;
@@ -17,8 +17,8 @@ use query_lang::{Item, Mark, Span, Token, Word};
 use std::alloc::Global;
 
 /// `print`, and the name of a table.
-fn print(counts: Counts, rest: &[Token]) -> Read<'_, Item>
-    ensures { Gives result (print_of Limited counts rest.now) }
+fn print(counts: Counts, rest: &[Token]) -> Seen<'_, Item>
+    ensures { Sees result (print_of Limited counts rest.now) }
 {
     let (_, counts, rest) = keyword(Role::Opening, Word::Print, counts, rest)?;
     let (table, counts, rest) = name(Role::Plain, counts, rest)?;
@@ -39,7 +39,7 @@ fn item(alloc: Global, counts: Counts, rest: &[Token]) -> Read<'_, Item>
     if at_word(Word::Final, rest) {
         return final_table(alloc, counts, rest);
     }
-    print(counts, rest)
+    Ok(print(counts, rest)?)
 }
 
 /// Whether an item may come next.

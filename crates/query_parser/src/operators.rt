@@ -5,9 +5,9 @@ ghost use Rattle.query_grammar.specs.Grammar.{comparing_ops, functions, either_o
 ghost use Rattle.query_grammar.specs.Kinds.{among, kinds_of, sign, operator as operator_of};
 ghost use Rattle.query_grammar.specs.Language.{Node};
 ghost use Rattle.query_grammar.specs.Parser.{Limited, word, next_is};
-ghost use Rattle.query_parser.specs.Reads.{Gives, op_among, op_with, is_op, ops_of};
+ghost use Rattle.query_parser.specs.Reads.{Sees, op_among, op_with, is_op, ops_of};
 
-use crate::halt::{Halt, Read, Role, charged};
+use crate::halt::{Role, Seen, charged, stop_at};
 use crate::word::{is_mark, is_word};
 use query_grammar::{Counts, Stop};
 use query_lang::{Mark, Op, Span, Token, TokenKind, Word};
@@ -134,28 +134,28 @@ pub fn at_operator(level: Level, rest: &[Token]) -> bool
 
 /// An operator of this level, which counts as a node.
 #[tactic(auto, using(crate::proofs::OperatorLists::operator_is))]
-pub fn operator(level: Level, counts: Counts, rest: &[Token]) -> Read<'_, (Op, Span)>
-    ensures { Gives result (word Limited Node (operator_of (ops_of level)) counts rest.now) }
+pub fn operator(level: Level, counts: Counts, rest: &[Token]) -> Seen<'_, (Op, Span)>
+    ensures { Sees result (word Limited Node (operator_of (ops_of level)) counts rest.now) }
 {
     let [first, behind @ ..] = rest else {
-        return Err(Halt::At(Stop::Unexpected, rest));
+        return Err(stop_at(Stop::Unexpected, rest));
     };
     match level_op(level, first.kind) {
         Some(op) => Ok(((op, first.span), charged(Role::Node, counts, rest)?, behind)),
-        None => Err(Halt::At(Stop::Unexpected, rest)),
+        None => Err(stop_at(Stop::Unexpected, rest)),
     }
 }
 
 /// A function's word, which counts as a node.
 #[tactic(auto, using(crate::proofs::OperatorLists::operator_is))]
-pub fn function(counts: Counts, rest: &[Token]) -> Read<'_, (Op, Span)>
-    ensures { Gives result (word Limited Node (operator_of functions) counts rest.now) }
+pub fn function(counts: Counts, rest: &[Token]) -> Seen<'_, (Op, Span)>
+    ensures { Sees result (word Limited Node (operator_of functions) counts rest.now) }
 {
     let [first, behind @ ..] = rest else {
-        return Err(Halt::At(Stop::Unexpected, rest));
+        return Err(stop_at(Stop::Unexpected, rest));
     };
     match function_op(first.kind) {
         Some(op) => Ok(((op, first.span), charged(Role::Node, counts, rest)?, behind)),
-        None => Err(Halt::At(Stop::Unexpected, rest)),
+        None => Err(stop_at(Stop::Unexpected, rest)),
     }
 }

@@ -4,7 +4,7 @@ ghost use Rattle.std.specs.Prelude.{◌≡◌, IfOk};
 ghost use Rattle.query_grammar.specs.Reading.{parsed};
 ghost use Rattle.query_grammar.specs.Texts.{answered, first_fault_of, IsFaultOf, IsQueryOf, kind_of as kind_by, parsed_text};
 ghost use Rattle.query_lang.specs.Limits.{IsReadable};
-ghost use Rattle.query_parser.specs.Given.{Answers, IfRefused};
+ghost use Rattle.query_parser.specs.Given.{Answers, IfRefused, length_checked};
 
 use crate::answer::ParseAnswer;
 use crate::halt::Halt;
@@ -51,18 +51,25 @@ fn read_tokens(alloc: Global, tokens: &[Token]) -> Result<(Seq<Item>, Span), Par
     match query(alloc, none, tokens) {
         Ok((found, _, [])) => Ok(found),
         Ok((_, _, rest)) => Err(ParseAnswer::Refused(fault_of(Stop::Unexpected, rest))),
-        Err(Halt::At(stop, rest)) => Err(ParseAnswer::Refused(fault_of(stop, rest))),
+        Err(Halt::At(fault)) => Err(ParseAnswer::Refused(fault_of(fault.stop, fault.rest))),
         Err(Halt::Memory) => Err(ParseAnswer::Memory),
     }
+}
+
+/// The longest text that is read has 65,536 bytes.
+fn check_length(text: &[u8]) -> Result<(), QueryFault>
+    ensures { result ≡ length_checked text.now }
+{
+    if text.len() > 65536 {
+        return Err(fault_from(FaultKind::QueryTooLong, 65536));
+    }
+    Ok(())
 }
 
 fn read_text(alloc: Global, text: &[u8]) -> Result<Query, ParseAnswer>
     ensures { Answers result (parsed_text text.now) }
 {
-    if text.len() > 65536 {
-        let fault = fault_from(FaultKind::QueryTooLong, 65536);
-        return Err(ParseAnswer::Refused(fault));
-    }
+    check_length(text)?;
     let Lexed { tokens, names } = cut_text(alloc, text)?;
     let (items, end) = read_tokens(alloc, tokens.as_slice())?;
     Ok(Query { names, items, end })

@@ -6,10 +6,10 @@ ghost use Rattle.query_grammar.specs.Grammar.{else_of as else_block};
 ghost use Rattle.query_grammar.specs.Parser.{Limited, next_is, repeated, chained};
 ghost use Rattle.query_grammar.specs.Reading.{expr_at, stmt_at, stmt_starts, assignment as assignment_of, emission as emission_of, block as block_of, if_part as if_part_of, if_statement as if_statement_of};
 ghost use Rattle.query_lang.specs.declared.query.Stmt.TheVariants as stmts;
-ghost use Rattle.query_parser.specs.Reads.{Gives, GivesPart, bracket_at, block_at, empty_at, else_part_at};
+ghost use Rattle.query_parser.specs.Reads.{Gives, GivesPart, Sees, bracket_at, block_at, empty_at, else_part_at};
 
 use crate::expression::{bracketed, expression};
-use crate::halt::{Read, Role};
+use crate::halt::{Read, Role, Seen};
 use crate::word::{
     at_mark, at_name, at_word, is_name, is_word, keyword, name, no_bracket, plain_mark,
 };
@@ -41,8 +41,8 @@ fn assignment(alloc: Global, brackets: u32, counts: Counts, rest: &[Token]) -> R
 
 /// The empty brackets behind `emit`, and the semicolon.
 #[tactic(auto, using(crate::proofs::Statements::empty_more))]
-fn no_arguments(brackets: u32, counts: Counts, rest: &[Token]) -> Read<'_, (Span, Span)>
-    ensures { Gives result (empty_at brackets counts rest.now) }
+fn no_arguments(brackets: u32, counts: Counts, rest: &[Token]) -> Seen<'_, (Span, Span)>
+    ensures { Sees result (empty_at brackets counts rest.now) }
 {
     if brackets == 0 {
         return no_bracket(Mark::OpenParen, counts, rest);
@@ -54,8 +54,8 @@ fn no_arguments(brackets: u32, counts: Counts, rest: &[Token]) -> Read<'_, (Span
 }
 
 /// `emit`, with its empty brackets.
-fn emission(brackets: u32, counts: Counts, rest: &[Token]) -> Read<'_, Stmt>
-    ensures { Gives result (emission_of Limited (empty_at brackets) counts rest.now) }
+fn emission(brackets: u32, counts: Counts, rest: &[Token]) -> Seen<'_, Stmt>
+    ensures { Sees result (emission_of Limited (empty_at brackets) counts rest.now) }
 {
     let (span, counts, rest) = keyword(Role::Statement, Word::Emit, counts, rest)?;
     let (_, counts, rest) = no_arguments(brackets, counts, rest)?;
@@ -180,7 +180,7 @@ fn statement(alloc: Global, brackets: u32, counts: Counts, rest: &[Token]) -> Re
     if at_word(Word::If, rest) {
         return if_statement(alloc, brackets, counts, rest);
     }
-    emission(brackets, counts, rest)
+    Ok(emission(brackets, counts, rest)?)
 }
 
 /// Any number of statements.
@@ -226,7 +226,7 @@ fn block(alloc: Global, brackets: u32, counts: Counts, rest: &[Token]) -> Read<'
     ensures { Gives result (block_at brackets counts rest.now) }
 {
     if brackets == 0 {
-        return no_bracket(Mark::OpenBrace, counts, rest);
+        return Ok(no_bracket(Mark::OpenBrace, counts, rest)?);
     }
     block_within(alloc, brackets - 1, counts, rest)
 }

@@ -5,10 +5,10 @@ ghost use Rattle.query_grammar.specs.Kinds.{sign, keyword as keyword_of};
 ghost use Rattle.query_grammar.specs.Parser.{Limited, followed_by};
 ghost use Rattle.query_grammar.specs.Reading.{after, parens, brackets, separated, plain_name, expr_at, filter_of, column_of, mapping as mapping_of, pairing as pairing_of, key_of, group as group_of, streaming as streaming_of, stream as stream_of};
 ghost use Rattle.query_lang.specs.declared.token.Mark.TheVariants as marks;
-ghost use Rattle.query_parser.specs.Reads.{Gives};
+ghost use Rattle.query_parser.specs.Reads.{Gives, Sees};
 
 use crate::expression::expression;
-use crate::halt::{Read, Role};
+use crate::halt::{Read, Role, Seen};
 use crate::word::{at_mark, at_name, at_word, comma_name, five_tuple, keyword, name, plain_mark};
 use marple_base::Seq;
 use query_grammar::Counts;
@@ -120,8 +120,8 @@ pub fn mapping(alloc: Global, counts: Counts, rest: &[Token]) -> Read<'_, (Name,
 }
 
 /// This word, and two names in parentheses.
-pub fn pairing(word: Word, counts: Counts, rest: &[Token]) -> Read<'_, (Name, Name)>
-    ensures { Gives result (pairing_of Limited (keyword_of word) counts rest.now) }
+pub fn pairing(word: Word, counts: Counts, rest: &[Token]) -> Seen<'_, (Name, Name)>
+    ensures { Sees result (pairing_of Limited (keyword_of word) counts rest.now) }
 {
     let (_, counts, rest) = keyword(Role::Plain, word, counts, rest)?;
     let (_, counts, rest) = plain_mark(Mark::OpenParen, counts, rest)?;
@@ -132,8 +132,8 @@ pub fn pairing(word: Word, counts: Counts, rest: &[Token]) -> Read<'_, (Name, Na
 }
 
 /// A key: a name, or `5tuple`.
-fn key(counts: Counts, rest: &[Token]) -> Read<'_, Key>
-    ensures { Gives result (key_of Limited counts rest.now) }
+fn key(counts: Counts, rest: &[Token]) -> Seen<'_, Key>
+    ensures { Sees result (key_of Limited counts rest.now) }
 {
     if at_name(rest) {
         let (name, counts, rest) = name(Role::Plain, counts, rest)?;
@@ -144,8 +144,8 @@ fn key(counts: Counts, rest: &[Token]) -> Read<'_, Key>
 }
 
 /// A comma, and a key behind it.
-fn comma_key(counts: Counts, rest: &[Token]) -> Read<'_, Key>
-    ensures { Gives result (after Limited (sign marks.Comma) (key_of Limited) counts rest.now) }
+fn comma_key(counts: Counts, rest: &[Token]) -> Seen<'_, Key>
+    ensures { Sees result (after Limited (sign marks.Comma) (key_of Limited) counts rest.now) }
 {
     let (_, counts, rest) = plain_mark(Mark::Comma, counts, rest)?;
     let (next, counts, rest) = key(counts, rest)?;

@@ -6,9 +6,9 @@ ghost use Rattle.query_grammar.specs.Parser.{Limited, word, next_is};
 ghost use Rattle.query_grammar.specs.Reading.{token_of, blocked, after, plain_name};
 ghost use Rattle.query_lang.specs.declared.token.Mark.TheVariants as marks;
 ghost use Rattle.query_lang.specs.declared.token.TokenKind.TheVariants as kinds;
-ghost use Rattle.query_parser.specs.Reads.{Gives, role_of};
+ghost use Rattle.query_parser.specs.Reads.{Sees, role_of};
 
-use crate::halt::{Halt, Read, Role, charged};
+use crate::halt::{Role, Seen, charged, stop_at};
 use query_grammar::{Counts, Stop};
 use query_lang::{Mark, Name, Span, Token, TokenKind, Word};
 
@@ -77,39 +77,39 @@ pub fn at_number(rest: &[Token]) -> bool
 }
 
 /// This mark.
-pub fn mark(role: Role, wanted: Mark, counts: Counts, rest: &[Token]) -> Read<'_, Span>
-    ensures { Gives result (word Limited (role_of role) (is (sign wanted)) counts rest.now) }
+pub fn mark(role: Role, wanted: Mark, counts: Counts, rest: &[Token]) -> Seen<'_, Span>
+    ensures { Sees result (word Limited (role_of role) (is (sign wanted)) counts rest.now) }
 {
     match rest {
         [first, behind @ ..] if is_mark(first.kind, wanted) => {
             Ok((first.span, charged(role, counts, rest)?, behind))
         }
-        _ => Err(Halt::At(Stop::Unexpected, rest)),
+        _ => Err(stop_at(Stop::Unexpected, rest)),
     }
 }
 
 /// A mark that counts as nothing.
-pub fn plain_mark(wanted: Mark, counts: Counts, rest: &[Token]) -> Read<'_, Span>
-    ensures { Gives result (token_of Limited (sign wanted) counts rest.now) }
+pub fn plain_mark(wanted: Mark, counts: Counts, rest: &[Token]) -> Seen<'_, Span>
+    ensures { Sees result (token_of Limited (sign wanted) counts rest.now) }
 {
     mark(Role::Plain, wanted, counts, rest)
 }
 
 /// This word.
-pub fn keyword(role: Role, wanted: Word, counts: Counts, rest: &[Token]) -> Read<'_, Span>
-    ensures { Gives result (word Limited (role_of role) (is (keyword_of wanted)) counts rest.now) }
+pub fn keyword(role: Role, wanted: Word, counts: Counts, rest: &[Token]) -> Seen<'_, Span>
+    ensures { Sees result (word Limited (role_of role) (is (keyword_of wanted)) counts rest.now) }
 {
     match rest {
         [first, behind @ ..] if is_word(first.kind, wanted) => {
             Ok((first.span, charged(role, counts, rest)?, behind))
         }
-        _ => Err(Halt::At(Stop::Unexpected, rest)),
+        _ => Err(stop_at(Stop::Unexpected, rest)),
     }
 }
 
 /// A name, by its number.
-pub fn name(role: Role, counts: Counts, rest: &[Token]) -> Read<'_, Name>
-    ensures { Gives result (word Limited (role_of role) name_of counts rest.now) }
+pub fn name(role: Role, counts: Counts, rest: &[Token]) -> Seen<'_, Name>
+    ensures { Sees result (word Limited (role_of role) name_of counts rest.now) }
 {
     match rest {
         [
@@ -125,13 +125,13 @@ pub fn name(role: Role, counts: Counts, rest: &[Token]) -> Read<'_, Name>
             };
             Ok((name, charged(role, counts, rest)?, behind))
         }
-        _ => Err(Halt::At(Stop::Unexpected, rest)),
+        _ => Err(stop_at(Stop::Unexpected, rest)),
     }
 }
 
 /// A comma, and a name behind it.
-pub fn comma_name(counts: Counts, rest: &[Token]) -> Read<'_, Name>
-    ensures { Gives result (after Limited (sign marks.Comma) (plain_name Limited) counts rest.now) }
+pub fn comma_name(counts: Counts, rest: &[Token]) -> Seen<'_, Name>
+    ensures { Sees result (after Limited (sign marks.Comma) (plain_name Limited) counts rest.now) }
 {
     let (_, counts, rest) = plain_mark(Mark::Comma, counts, rest)?;
     let (next, counts, rest) = name(Role::Plain, counts, rest)?;
@@ -139,8 +139,8 @@ pub fn comma_name(counts: Counts, rest: &[Token]) -> Read<'_, Name>
 }
 
 /// A number, and where it stands.
-pub fn number(role: Role, counts: Counts, rest: &[Token]) -> Read<'_, (u64, Span)>
-    ensures { Gives result (word Limited (role_of role) number_of counts rest.now) }
+pub fn number(role: Role, counts: Counts, rest: &[Token]) -> Seen<'_, (u64, Span)>
+    ensures { Sees result (word Limited (role_of role) number_of counts rest.now) }
 {
     match rest {
         [
@@ -150,13 +150,13 @@ pub fn number(role: Role, counts: Counts, rest: &[Token]) -> Read<'_, (u64, Span
             },
             behind @ ..,
         ] => { Ok(((*n, *span), charged(role, counts, rest)?, behind)) }
-        _ => Err(Halt::At(Stop::Unexpected, rest)),
+        _ => Err(stop_at(Stop::Unexpected, rest)),
     }
 }
 
 /// The word `5tuple`.
-pub fn five_tuple(counts: Counts, rest: &[Token]) -> Read<'_, Span>
-    ensures { Gives result (token_of Limited kinds.FiveTuple counts rest.now) }
+pub fn five_tuple(counts: Counts, rest: &[Token]) -> Seen<'_, Span>
+    ensures { Sees result (token_of Limited kinds.FiveTuple counts rest.now) }
 {
     match rest {
         [
@@ -166,13 +166,13 @@ pub fn five_tuple(counts: Counts, rest: &[Token]) -> Read<'_, Span>
             },
             behind @ ..,
         ] => Ok((*span, counts, behind)),
-        _ => Err(Halt::At(Stop::Unexpected, rest)),
+        _ => Err(stop_at(Stop::Unexpected, rest)),
     }
 }
 
 /// The end of the text.
-pub fn end(counts: Counts, rest: &[Token]) -> Read<'_, Span>
-    ensures { Gives result (token_of Limited kinds.End counts rest.now) }
+pub fn end(counts: Counts, rest: &[Token]) -> Seen<'_, Span>
+    ensures { Sees result (token_of Limited kinds.End counts rest.now) }
 {
     match rest {
         [
@@ -182,17 +182,17 @@ pub fn end(counts: Counts, rest: &[Token]) -> Read<'_, Span>
             },
             behind @ ..,
         ] => Ok((*span, counts, behind)),
-        _ => Err(Halt::At(Stop::Unexpected, rest)),
+        _ => Err(stop_at(Stop::Unexpected, rest)),
     }
 }
 
 /// The fault at this bracket, where no more may be opened.
-pub fn no_bracket<T>(wanted: Mark, counts: Counts, rest: &[Token]) -> Read<'_, T>
-    ensures { Gives result (blocked (sign wanted) counts rest.now) }
+pub fn no_bracket<T>(wanted: Mark, counts: Counts, rest: &[Token]) -> Seen<'_, T>
+    ensures { Sees result (blocked (sign wanted) counts rest.now) }
 {
     let _ = counts;
     match rest {
-        [first, ..] if is_mark(first.kind, wanted) => Err(Halt::At(Stop::Nesting, rest)),
-        _ => Err(Halt::At(Stop::Unexpected, rest)),
+        [first, ..] if is_mark(first.kind, wanted) => Err(stop_at(Stop::Nesting, rest)),
+        _ => Err(stop_at(Stop::Unexpected, rest)),
     }
 }

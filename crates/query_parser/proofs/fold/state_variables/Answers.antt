@@ -1,5 +1,6 @@
 use Rattle.std.proofs.Common.{sym, ◌∙◌}
 use Rattle.std.proofs.lemmas.Result.{err_from_is_err_and}
+use Rattle.query_parser.specs.declared.halt.Halt.TheVariants as halts
 use Rattle.query_parser.proofs.Loops.{behind, more_list, fails}
 use Rattle.query_parser.proofs.fold.state_variables.Goals as goal
 
@@ -10,5 +11,5 @@ variables-preserved c = more_list _ _ _ c.variables.found c.push-in-variables.ne
 pub returns-in_err-next : goal.returns-in_err-next
 returns-in_err-next c =
     let p = err_from_is_err_and c.from_residual-in_err-next.result c.from_residual-in_err-next.ensures.1 in
-    rw (p.1, p.2) (fails _ _ _ (behind c.variables.found) _ c.variables.counter c.variables.counts c.variables.rest.now c.in_err-next.field-0.0
+    rw (p.1, p.2) (fails _ _ _ (behind c.variables.found) _ c.variables.counter c.variables.counts c.variables.rest.now (halts.At c.in_err-next.field-0.0)
     c.variables-test.true (sym c.at_mark.ensures ∙ c.if-not-at_mark.false) c.in_err-next.ensures c.variables.invariant)
