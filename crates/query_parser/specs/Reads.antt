@@ -1,5 +1,6 @@
 -- What the functions that read tokens give, unless memory runs out.
-use Rattle.std.specs.Prelude.{◌≡◌, ℕ, zero, suc, Bool, true, false, List, [], ◌∷◌, nat_eq, if◌then◌else◌, ◌⊎◌, Option, Some, None, Result, Ok, Err}
+use Rattle.std.specs.Prelude.{◌≡◌, ℕ, zero, suc, Bool, true, false, List, [], ◌∷◌, nat_eq, if◌then◌else◌, ◌⊎◌}
+use Rattle.std.specs.Prelude.{Option, Some, None, Result, Ok, Err}
 use Rattle.std.specs.Borrow.{Bor}
 use Rattle.std.proofs.Common.{inl, inr}
 use Rattle.query_lang.specs.declared.fault.Span.{Span}
@@ -13,9 +14,11 @@ use Rattle.query_grammar.specs.declared.stop.Counts.{Counts}
 use Rattle.query_grammar.specs.Kinds.{among, kind_number, kinds_of, operator, sign}
 use Rattle.query_grammar.specs.Language as roles
 use Rattle.query_grammar.specs.Language.{Node}
-use Rattle.query_grammar.specs.Grammar.{Operators, compared, comparing_ops, either_ops, both_ops, or_ops, xor_ops, and_ops, shift_ops, sum_ops, product_ops}
+use Rattle.query_grammar.specs.Grammar.{Operators, compared, comparing_ops, either_ops, both_ops, or_ops, xor_ops, and_ops, shift_ops}
+use Rattle.query_grammar.specs.Grammar.{sum_ops, product_ops}
 use Rattle.query_grammar.specs.Parser.{Limited, Outcome, Done, Stopped, Parser, limit_of, word, followed_by, mapped, at_most_once}
-use Rattle.query_grammar.specs.Reading.{blocked, parens, listed_by, expr_starts, level, primary, unary, product, sum, shift, bit_and, bit_xor, bit_or, comparison, conjunction, expr_at, block, empty_parens, else_part, stmt_at}
+use Rattle.query_grammar.specs.Reading.{blocked, parens, listed_by, expr_starts, level, primary, unary, product, sum, shift, bit_and}
+use Rattle.query_grammar.specs.Reading.{bit_xor, bit_or, comparison, conjunction, expr_at, block, empty_parens, else_part, stmt_at}
 use Rattle.query_parser.specs.declared.statement.ElsePart.{ElsePart}
 use Rattle.query_parser.specs.declared.statement.ElsePart.TheVariants as parts
 use Rattle.query_parser.specs.declared.operators.Level.{Level}
@@ -103,7 +106,8 @@ level_of l p = level Limited (ops_of l) (operands_of l p)
 
 -- one comparison at most
 abbrev pub comparison_of : Parser Expr → Parser Expr
-comparison_of p = mapped (λ v. compared v.0 v.1) (followed_by (operands_of levels.Comparison p) (at_most_once (among (kinds_of comparing_ops)) (operation_of levels.Comparison p)))
+comparison_of p = mapped (λ v. compared v.0 v.1)
+    (followed_by (operands_of levels.Comparison p) (at_most_once (among (kinds_of comparing_ops)) (operation_of levels.Comparison p)))
 
 -- An expression in its bracket, the list of a call, and a primary, in which at most so many brackets may be opened.
 abbrev pub bracket_at : ℕ → Parser Expr

@@ -5,10 +5,12 @@ ghost use Rattle.query_grammar.specs.Grammar.{negated as negated_by, functions};
 ghost use Rattle.query_grammar.specs.Kinds.{among, is, sign};
 ghost use Rattle.query_grammar.specs.Language.{Node};
 ghost use Rattle.query_grammar.specs.Parser.{Limited, word, next_is, repeated};
-ghost use Rattle.query_grammar.specs.Reading.{atom as atom_of, atom_starts, expr_starts, unary as unary_of, expr_at, separated, listed_by, call_of, after};
+ghost use Rattle.query_grammar.specs.Reading.{atom as atom_of, atom_starts, expr_starts, unary as unary_of, expr_at, separated};
+ghost use Rattle.query_grammar.specs.Reading.{listed_by, call_of, after};
 ghost use Rattle.query_lang.specs.declared.query.Expr.TheVariants as exprs;
 ghost use Rattle.query_lang.specs.declared.token.Mark.TheVariants as marks;
-ghost use Rattle.query_parser.specs.Reads.{Gives, Sees, operands_of, operation_of, level_of, comparison_of, bracket_at, arguments_at, primary_at};
+ghost use Rattle.query_parser.specs.Reads.{Gives, Sees, operands_of, operation_of, level_of, comparison_of, bracket_at, arguments_at};
+ghost use Rattle.query_parser.specs.Reads.{primary_at};
 
 use crate::halt::{Read, Role, Seen};
 use crate::operators::{Level, at_operator, function, operator};

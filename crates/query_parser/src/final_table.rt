@@ -17,7 +17,8 @@ use std::alloc::Global;
 
 /// A column, and behind a comma how many rows are kept.
 fn column_and_count(counts: Counts, rest: &[Token]) -> Seen<'_, (Name, (u64, Span))>
-    ensures { Sees result (followed_by (plain_name Limited) (after Limited (sign marks.Comma) (word Limited Plain number_of)) counts rest.now) }
+    ensures { Sees result (followed_by (plain_name Limited)
+        (after Limited (sign marks.Comma) (word Limited Plain number_of)) counts rest.now) }
 {
     let (column, counts, rest) = name(Role::Plain, counts, rest)?;
     let (_, counts, rest) = plain_mark(Mark::Comma, counts, rest)?;

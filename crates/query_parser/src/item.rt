@@ -54,7 +54,8 @@ fn at_item(rest: &[Token]) -> bool
 
 /// Any number of items.
 fn items(alloc: Global, counts: Counts, rest: &[Token]) -> Read<'_, Seq<Item>>
-    ensures { Gives result (repeated (among item_starts) (item_of Limited (stmt_at Limited 63) (expr_at Limited 63) (expr_at Limited 62)) counts rest.now) }
+    ensures { Gives result (repeated (among item_starts)
+        (item_of Limited (stmt_at Limited 63) (expr_at Limited 63) (expr_at Limited 62)) counts rest.now) }
 {
     let mut found = Seq::new(alloc);
     let mut counts = counts;

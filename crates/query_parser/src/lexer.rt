@@ -4,7 +4,8 @@ ghost use Rattle.std.specs.Prelude.{◌≡◌, ℕ, ◌^◌, length, slice_index
 ghost use Rattle.std.specs.Str.{bytes_eq};
 ghost use Rattle.std.specs.Str.Parse.{digits_value};
 ghost use Rattle.std.specs.List.{prefix_len};
-ghost use Rattle.query_lang.specs.Lexis.{is_word_byte, is_digit, is_not_line_feed, is_blank, one_mark, two_mark, reserved, below_limit, word_piece, mark_at, piece, token_at, fault_at, tokens_of};
+ghost use Rattle.query_lang.specs.Lexis.{is_word_byte, is_digit, is_not_line_feed, is_blank, one_mark, two_mark, reserved, below_limit};
+ghost use Rattle.query_lang.specs.Lexis.{word_piece, mark_at, piece, token_at, fault_at, tokens_of};
 ghost use Rattle.query_parser.specs.Given.{GivesTokens, IsWithin};
 ghost use Rattle.std.specs.Char.{digit_value};
 

@@ -1,7 +1,8 @@
 //! Operators, by how close they bind, and the functions.
 
 ghost use Rattle.std.specs.Prelude.{◌≡◌, [], ◌∷◌};
-ghost use Rattle.query_grammar.specs.Grammar.{comparing_ops, functions, either_ops, both_ops, or_ops, xor_ops, and_ops, shift_ops, sum_ops, product_ops};
+ghost use Rattle.query_grammar.specs.Grammar.{comparing_ops, functions, either_ops, both_ops, or_ops, xor_ops, and_ops, shift_ops};
+ghost use Rattle.query_grammar.specs.Grammar.{sum_ops, product_ops};
 ghost use Rattle.query_grammar.specs.Kinds.{among, kinds_of, sign, operator as operator_of};
 ghost use Rattle.query_grammar.specs.Language.{Node};
 ghost use Rattle.query_grammar.specs.Parser.{Limited, word, next_is};

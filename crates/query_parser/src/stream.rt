@@ -3,7 +3,9 @@
 ghost use Rattle.std.specs.Prelude.{◌≡◌, [], ◌∷◌};
 ghost use Rattle.query_grammar.specs.Kinds.{sign, keyword as keyword_of};
 ghost use Rattle.query_grammar.specs.Parser.{Limited, followed_by};
-ghost use Rattle.query_grammar.specs.Reading.{after, parens, brackets, separated, plain_name, expr_at, filter_of, column_of, mapping as mapping_of, pairing as pairing_of, key_of, group as group_of, streaming as streaming_of, stream as stream_of};
+ghost use Rattle.query_grammar.specs.Reading.{after, parens, brackets, separated, plain_name, expr_at, filter_of, column_of};
+ghost use Rattle.query_grammar.specs.Reading.{mapping as mapping_of, pairing as pairing_of, key_of, group as group_of};
+ghost use Rattle.query_grammar.specs.Reading.{streaming as streaming_of, stream as stream_of};
 ghost use Rattle.query_lang.specs.declared.token.Mark.TheVariants as marks;
 ghost use Rattle.query_parser.specs.Reads.{Gives, Sees};
 
@@ -32,7 +34,8 @@ fn comma_condition(alloc: Global, counts: Counts, rest: &[Token]) -> Read<'_, Ex
 
 /// In parentheses, a name, and a condition behind a comma.
 fn filter_operands(alloc: Global, counts: Counts, rest: &[Token]) -> Read<'_, (Name, Expr)>
-    ensures { Gives result (parens Limited (followed_by (plain_name Limited) (after Limited (sign marks.Comma) (expr_at Limited 63))) counts rest.now) }
+    ensures { Gives result (parens Limited
+        (followed_by (plain_name Limited) (after Limited (sign marks.Comma) (expr_at Limited 63))) counts rest.now) }
 {
     let (_, counts, rest) = plain_mark(Mark::OpenParen, counts, rest)?;
     let (input, counts, rest) = name(Role::Plain, counts, rest)?;
@@ -90,7 +93,8 @@ fn columns(alloc: Global, counts: Counts, rest: &[Token]) -> Read<'_, Seq<Column
 
 /// Columns in square brackets, behind a comma.
 fn comma_columns(alloc: Global, counts: Counts, rest: &[Token]) -> Read<'_, Seq<Column>>
-    ensures { Gives result (after Limited (sign marks.Comma) (brackets Limited (separated Limited (column_of Limited (expr_at Limited 62)))) counts rest.now) }
+    ensures { Gives result (after Limited (sign marks.Comma)
+        (brackets Limited (separated Limited (column_of Limited (expr_at Limited 62)))) counts rest.now) }
 {
     let (_, counts, rest) = plain_mark(Mark::Comma, counts, rest)?;
     let (_, counts, rest) = plain_mark(Mark::OpenBracket, counts, rest)?;
@@ -101,7 +105,10 @@ fn comma_columns(alloc: Global, counts: Counts, rest: &[Token]) -> Read<'_, Seq<
 
 /// In parentheses, a name, and columns behind a comma.
 fn map_operands(alloc: Global, counts: Counts, rest: &[Token]) -> Read<'_, (Name, Seq<Column>)>
-    ensures { Gives result (parens Limited (followed_by (plain_name Limited) (after Limited (sign marks.Comma) (brackets Limited (separated Limited (column_of Limited (expr_at Limited 62)))))) counts rest.now) }
+    ensures { Gives result (parens Limited
+        (followed_by (plain_name Limited)
+        (after Limited (sign marks.Comma)
+        (brackets Limited (separated Limited (column_of Limited (expr_at Limited 62)))))) counts rest.now) }
 {
     let (_, counts, rest) = plain_mark(Mark::OpenParen, counts, rest)?;
     let (input, counts, rest) = name(Role::Plain, counts, rest)?;
@@ -173,7 +180,8 @@ fn keys(alloc: Global, counts: Counts, rest: &[Token]) -> Read<'_, Seq<Key>>
 
 /// Keys in square brackets, and the name of a fold behind a comma.
 fn keys_and_fold(alloc: Global, counts: Counts, rest: &[Token]) -> Read<'_, (Seq<Key>, Name)>
-    ensures { Gives result (followed_by (brackets Limited (separated Limited (key_of Limited))) (after Limited (sign marks.Comma) (plain_name Limited)) counts rest.now) }
+    ensures { Gives result (followed_by (brackets Limited (separated Limited (key_of Limited)))
+        (after Limited (sign marks.Comma) (plain_name Limited)) counts rest.now) }
 {
     let (_, counts, rest) = plain_mark(Mark::OpenBracket, counts, rest)?;
     let (found, counts, rest) = keys(alloc, counts, rest)?;

@@ -1,7 +1,8 @@
 //! One token: a mark, a reserved word, a name, a number, or the like.
 
 ghost use Rattle.std.specs.Prelude.{◌≡◌, [], ◌∷◌, nat_eq};
-ghost use Rattle.query_grammar.specs.Kinds.{among, is, name as name_of, number as number_of, kind_number, mark_number, word_number, sign, keyword as keyword_of};
+ghost use Rattle.query_grammar.specs.Kinds.{among, is, name as name_of, number as number_of, kind_number, mark_number, word_number, sign};
+ghost use Rattle.query_grammar.specs.Kinds.{keyword as keyword_of};
 ghost use Rattle.query_grammar.specs.Parser.{Limited, word, next_is};
 ghost use Rattle.query_grammar.specs.Reading.{token_of, blocked, after, plain_name};
 ghost use Rattle.query_lang.specs.declared.token.Mark.TheVariants as marks;
