@@ -15,11 +15,12 @@ pub struct QueryFault {
     pub span: Span,
 }
 
+/// What is wrong with a query, or with the text of a plan.
 #[derive(Clone, Copy, Debug, PartialEq, Eq)]
 pub enum FaultKind {
     /// The text has more than 65,536 bytes.
     QueryTooLong,
-    /// A byte that begins no token, or the first byte of a word that is neither a number nor a name.
+    /// A byte that begins no token; or the first byte that isn't a digit, of a word that begins with one and isn't `5tuple`.
     BadByte,
     /// No query goes on with this token.
     UnexpectedToken,
@@ -52,6 +53,7 @@ pub enum FaultKind {
     BadPlan,
 }
 
+/// What there may be only so many of.
 #[derive(Clone, Copy, Debug, PartialEq, Eq)]
 pub enum Limit {
     Groupbys,

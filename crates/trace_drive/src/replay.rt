@@ -117,7 +117,7 @@ impl<'a, const WAYS: usize> Replay<'a, WAYS> {
     /// Takes so many packets, or fewer where the trace ends before; and whether there were so many. The packets are numbered
     /// from 1; for each one, in this order: each lane whose pipe is full merges a record; the packet; a sweep, where the
     /// number is a multiple of the refresh; a merge of each lane, where it is a multiple of the lag. No memory is taken for a
-    /// packet, but by a store for a new key.
+    /// packet, but by a store for a new key, and for a further epoch of a key where each has a row.
     pub fn advance<L: Ledger>(
         &mut self,
         most: u32,
