@@ -1,3 +1,5 @@
+//! What the acceptance of a query answers where it isn't accepted.
+
 use query_lang::QueryFault;
 
 /// Why a query's text isn't accepted.

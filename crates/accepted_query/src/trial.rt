@@ -1,4 +1,4 @@
-// The query of a trial.
+//! The query of a trial.
 
 ghost use Rattle.std.specs.Prelude.{◌≡◌, Ok};
 ghost use Rattle.query_lang.specs.declared.typed.TypedQuery.{TypedQuery};

@@ -1,4 +1,4 @@
-// Laws that say which texts are accepted and why a text is refused, in the words of the grammar, the rules and the depths.
+//! Laws that say which texts are accepted and why a text is refused, in the words of the grammar, the rules and the depths.
 
 ghost use Rattle.accepted_rules.specs.ByRules.{AcceptedByRules, AcceptedOnce, RefusedByRules};
 ghost use Rattle.accepted_rules.specs.TypingExamples.{ExpressionExamples, StreamExamples};

@@ -1,3 +1,5 @@
+//! The store: keys with their numbers of epochs, and rows of state.
+
 ghost use Rattle.std.specs.Prelude.{◌≡◌, ◌<◌, ◌↔◌, ℕ, Some, option_map, slice_get, ◌++◌, ◌∷◌, [], IfOk};
 ghost use Rattle.std.specs.Prelude.{OnErr, OnOk, length};
 ghost use Rattle.backing_store.specs.SortedRows.{IsMade, sorted_rows};

@@ -1,4 +1,4 @@
-// What can be a coefficient of an affine map.
+//! What can be a coefficient of an affine map.
 
 ghost use Rattle.std.specs.Prelude.{◌≡◌, ℕ, List, length};
 ghost use Rattle.coeff_algebra.specs.Elements.{Elements, ElementLaws, StorageLaws};

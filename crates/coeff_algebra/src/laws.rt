@@ -1,4 +1,4 @@
-// Laws of affine maps.
+//! Laws of affine maps.
 
 ghost use Rattle.std.specs.Prelude.{◌≡◌, ℕ, ◌<◌};
 ghost use Rattle.coeff_algebra.specs.Maps.{map_apply, map_compose, HasWord};

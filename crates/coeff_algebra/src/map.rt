@@ -1,4 +1,4 @@
-// Affine maps on words: for each row, the elements that the state is multiplied with, and then the one that is added.
+//! Affine maps on words: for each row, the elements that the state is multiplied with, and then the one that is added.
 
 ghost use Rattle.std.specs.Prelude.{◌≡◌, ◌≢◌, ℕ, ◌+◌, ◌*◌, ◌<◌, ◌≤◌, length, slice_index};
 ghost use Rattle.coeff_algebra.specs.Maps.{stored_at, stored_entry, element_at, table_of, sum_below, map_compose, map_apply};

@@ -1,4 +1,4 @@
-// Words with an absent element, where the sum is the greater and the product a sum that saturates.
+//! Words with an absent element, where the sum is the greater and the product a sum that saturates.
 
 ghost use Rattle.std.specs.Prelude.{◌^◌, ◌<◌};
 ghost use Rattle.coeff_algebra.specs.MaxPlusModel.{max_plus_elements, max_plus_words, max_plus_from_words, IsMaxPlus};

@@ -1,4 +1,4 @@
-// Words modulo 2^64.
+//! Words modulo 2^64.
 
 ghost use Rattle.std.specs.Prelude.{◌^◌, ◌<◌};
 ghost use Rattle.coeff_algebra.specs.WrappingModel.{wrapping_elements, wrapping_words, wrapping_from_words, IsWrapping};

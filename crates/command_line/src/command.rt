@@ -1,4 +1,4 @@
-// Commands.
+//! Commands.
 
 ghost use Rattle.std.specs.Prelude.{◌≡◌, ◌≤◌, map, string_bytes, IfSome};
 ghost use Rattle.command_line.specs.Command.{IsCommand, IsGeneration, IsSetting, asked, asked_compile, asked_gen, asked_net, asked_plan};

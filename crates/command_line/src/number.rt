@@ -1,4 +1,4 @@
-// Numbers as words spell them.
+//! Numbers as words spell them.
 
 ghost use Rattle.std.specs.Prelude.{◌≡◌, ◌^◌, ◌<◌, ◌≤◌, IfSome};
 ghost use Rattle.command_line.specs.Number.{number, number_within};

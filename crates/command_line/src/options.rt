@@ -1,4 +1,4 @@
-// Options, as pairs of words.
+//! Options, as pairs of words.
 
 ghost use Rattle.std.specs.Prelude.{◌≡◌, ◌≤◌, ◌*◌, map, string_bytes, IfSome, ⊤};
 ghost use Rattle.command_line.specs.Command.{IsSetting, IsNetSetting, no_options, with_option, options_from, setting_of, setting_from};

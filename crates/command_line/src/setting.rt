@@ -1,4 +1,4 @@
-// What the options of a run say.
+//! What the options of a run say.
 
 ghost use Rattle.std.specs.Prelude.{◌≡◌};
 ghost use Rattle.command_line.specs.Command.{ways_number, ways_of, ways_with};
@@ -17,6 +17,7 @@ pub enum Ways {
 }
 
 impl Ways {
+    /// How many ways these are.
     pub fn number(self) -> u32
         ensures { result ≡ ways_number self }
     {

@@ -1,4 +1,4 @@
-// A query over packets, with bounds in the place of the tables of folds that aren't linear.
+//! A query over packets, with bounds in the place of the tables of folds that aren't linear.
 
 ghost use Rattle.std.specs.Prelude.{◌≡◌, ◌*◌, ◌<◌, ◌≤◌, None, IfErr, OnOk};
 ghost use Rattle.std.specs.Io.KnownBytes.{Appends};

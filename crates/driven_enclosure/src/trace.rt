@@ -1,4 +1,4 @@
-// Bounds over the packets of a trace.
+//! Bounds over the packets of a trace.
 
 ghost use Rattle.std.specs.Prelude.{◌≡◌, ◌≤◌, None, IfErr, OnOk};
 ghost use Rattle.std.specs.Io.KnownBytes.{Appends};

@@ -1,4 +1,4 @@
-// The end of a trace over several switches.
+//! The end of a trace over several switches.
 
 ghost use Rattle.std.specs.Prelude.{◌≡◌, ◌≤◌, ℕ, List, None, IfOk};
 ghost use Rattle.query_lang.specs.TypedQueries.{IsValidQuery};

@@ -1,4 +1,4 @@
-// A query over the packets of several switches.
+//! A query over the packets of several switches.
 
 ghost use Rattle.std.specs.Prelude.{◌≡◌, ◌≤◌, None, IfErr, OnOk};
 ghost use Rattle.std.specs.Io.KnownBytes.{Appends};

@@ -1,4 +1,4 @@
-// The packets of a trace, each at its switch.
+//! The packets of a trace, each at its switch.
 
 ghost use Rattle.std.specs.Prelude.{◌≡◌, ◌+◌, ◌<◌, ◌≤◌, ℕ, List, [], ◌∷◌, ◌++◌, All, None, Some, true};
 ghost use Rattle.std.specs.Prelude.{length};

@@ -1,4 +1,4 @@
-// What a query prints over several switches, with the ways that a setting names.
+//! What a query prints over several switches, with the ways that a setting names.
 
 ghost use Rattle.std.specs.Prelude.{◌≡◌, ◌*◌, ◌<◌, ◌≤◌, None, Some, [], length, IfErr, IfOk};
 ghost use Rattle.query_lang.specs.TypedQueries.{IsValidQuery};

@@ -1,4 +1,4 @@
-// The text of what a plan prints at the end of packets.
+//! The text of what a plan prints at the end of packets.
 
 ghost use Rattle.std.specs.Prelude.{◌≡◌, ◌<◌, ℕ, All, List, flat_map, length, true, IfOk};
 ghost use Rattle.std.specs.List.{list_all};

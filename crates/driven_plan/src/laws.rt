@@ -1,4 +1,4 @@
-// What the machines of a plan's text give.
+//! What the machines of a plan's text give.
 
 ghost use Rattle.driven_plan.specs.Ends.{EndsAreTheTexts};
 

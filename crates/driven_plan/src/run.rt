@@ -1,4 +1,4 @@
-// A plan over packets.
+//! A plan over packets.
 
 ghost use Rattle.std.specs.Prelude.{◌≡◌, ◌*◌, ◌<◌, ◌≤◌, None, IfErr, IfOk, true};
 ghost use Rattle.std.specs.Io.KnownBytes.{Appends};

@@ -1,4 +1,4 @@
-// A plan over the packets of a trace.
+//! A plan over the packets of a trace.
 
 ghost use Rattle.std.specs.Prelude.{◌≡◌, ◌≤◌, None, IfOk, IfErr};
 ghost use Rattle.std.specs.Io.KnownBytes.{Appends};

@@ -1,4 +1,4 @@
-// A trace that is accepted before its packets are taken.
+//! A trace that is accepted before its packets are taken.
 
 ghost use Rattle.std.specs.Prelude.{◌≡◌, ◌<◌, IfErr, IfOk, None, OnOk, Some};
 ghost use Rattle.trace_reader.specs.Faults.{IfRefused};

@@ -1,4 +1,4 @@
-// What a run gives.
+//! What a run gives.
 
 use switch_core::Pipeline;
 

@@ -1,4 +1,4 @@
-// A query over the packets of a trace, or over packets that were made.
+//! A query over the packets of a trace, or over packets that were made.
 
 ghost use Rattle.std.specs.Prelude.{◌≡◌, ◌≤◌, None, IfOk, IfErr};
 ghost use Rattle.std.specs.Io.KnownBytes.{Appends};

@@ -1,4 +1,4 @@
-// What the machines at the end of a trace give where bounds are asked for.
+//! What the machines at the end of a trace give where bounds are asked for.
 
 ghost use Rattle.enclosed_query.specs.EnclosedTables.{EndsGiveEnclosedTables};
 ghost use Rattle.enclosed_query.specs.Holding.{ShownTablesHold};

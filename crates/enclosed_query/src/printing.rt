@@ -1,4 +1,4 @@
-// What a query prints where bounds are asked for.
+//! What a query prints where bounds are asked for.
 
 ghost use Rattle.std.specs.Prelude.{◌≡◌, ◌++◌, ◌<◌, ◌≤◌, ℕ, All, List, [], ◌∷◌, length, map, flat_map, true};
 ghost use Rattle.std.specs.Prelude.{IfOk, OnOk};

@@ -1,4 +1,4 @@
-// From what the variables of folds start.
+//! From what the variables of folds start.
 
 ghost use Rattle.query_lang.specs.Folds.{initial_state};
 ghost use Rattle.query_lang.specs.Words.{AreWords};

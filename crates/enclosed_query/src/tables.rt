@@ -1,4 +1,4 @@
-// What is shown of the groupbys of a pipeline.
+//! What is shown of the groupbys of a pipeline.
 
 ghost use Rattle.std.specs.Prelude.{◌≡◌, ℕ, All, List, map, true, IfOk};
 ghost use Rattle.std.specs.List.{list_all};

@@ -1,4 +1,4 @@
-// The table of bounds that a table of three states side by side gives.
+//! The table of bounds that a table of three states side by side gives.
 
 ghost use Rattle.std.specs.Prelude.{◌≡◌, ◌*◌, ◌<◌, ◌≤◌, All, length, IfOk};
 ghost use Rattle.final_queries.specs.Finals.{HasColumns};

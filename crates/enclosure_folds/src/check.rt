@@ -1,4 +1,4 @@
-// Whether all groupbys of a query have bounds.
+//! Whether all groupbys of a query have bounds.
 
 ghost use Rattle.std.specs.Prelude.{◌≡◌, ◌<◌, All, Some, option_map, slice_get};
 ghost use Rattle.query_lang.specs.declared.fold.TypedFold.{TypedFold as AnyFold};

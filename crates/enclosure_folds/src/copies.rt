@@ -1,4 +1,4 @@
-// Copies of words and names.
+//! Copies of words and names.
 
 ghost use Rattle.std.specs.Prelude.{◌≡◌, ◌++◌, IfOk, OnOk};
 

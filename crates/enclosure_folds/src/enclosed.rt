@@ -1,4 +1,4 @@
-// What is shown of a groupby.
+//! What is shown of a groupby.
 
 ghost use Rattle.std.specs.Prelude.{◌≡◌, IfOk};
 ghost use Rattle.enclosure_folds.specs.Shown.{MayBeShown, shown};

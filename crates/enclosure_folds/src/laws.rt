@@ -1,4 +1,4 @@
-// Laws of bounds.
+//! Laws of bounds.
 
 ghost use Rattle.std.specs.Prelude.{◌≡◌, ℕ, ◌<◌, true, false, List, map, filter, length, All};
 ghost use Rattle.query_lang.specs.declared.fold.TypedFold.{TypedFold};

@@ -1,4 +1,4 @@
-// The text of tables of bounds.
+//! The text of tables of bounds.
 
 ghost use Rattle.std.specs.Prelude.{◌≡◌, ◌<◌, ◌++◌, ◌∷◌, [], length, flat_map, codes, decimal, IfOk, OnOk};
 ghost use Rattle.table_printer.specs.TableText.{continued, joined, line, numbers};

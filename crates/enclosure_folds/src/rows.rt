@@ -1,4 +1,4 @@
-// The rows of a table of bounds that finals may read.
+//! The rows of a table of bounds that finals may read.
 
 ghost use Rattle.std.specs.Prelude.{◌≡◌, ◌++◌, length, map, filter, IfOk};
 ghost use Rattle.enclosure_folds.specs.BoundsTables.{IsBoundsTable, row_is_exact, exact_row, exact_table};

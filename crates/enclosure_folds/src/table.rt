@@ -1,3 +1,5 @@
+//! Tables of bounds.
+
 use final_queries::Table;
 use marple_base::{Seq, Text};
 

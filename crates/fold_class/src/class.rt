@@ -1,4 +1,4 @@
-// What a fold, an expression and an operator are said to be.
+//! What a fold, an expression and an operator are said to be.
 
 ghost use Rattle.std.specs.Prelude.{◌≡◌};
 ghost use Rattle.fold_class.specs.Kinds.{role};

@@ -1,4 +1,4 @@
-// The class of a fold, and its program.
+//! The class of a fold, and its program.
 
 ghost use Rattle.std.specs.Prelude.{◌≡◌, ℕ, ◌<◌, ◌≤◌, Bool, nat_lt, if◌then◌else◌, length, IfOk};
 ghost use Rattle.query_lang.specs.Folds.{IsValidFold, fold_states};

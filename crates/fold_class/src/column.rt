@@ -1,4 +1,4 @@
-// A run of code over the parts of one column.
+//! A run of code over the parts of one column.
 
 ghost use Rattle.std.specs.Prelude.{◌≡◌, ◌≢◌, ℕ, ◌+◌, ◌*◌, ◌<◌, ◌≤◌, [], ◌∷◌, ◌++◌, map, length};
 ghost use Rattle.query_lang.specs.Words.{op_value};

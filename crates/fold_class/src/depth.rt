@@ -1,4 +1,4 @@
-// Which variables have a depth, and how deep a fold is.
+//! Which variables have a depth, and how deep a fold is.
 
 ghost use Rattle.std.specs.Prelude.{◌≡◌, ℕ, ◌<◌, ◌≤◌, Bool, true, false, not, ◌&&◌, ◌||◌, length, slice_get};
 ghost use Rattle.query_lang.specs.Folds.{IsValidFold, fold_states};

@@ -1,4 +1,4 @@
-// Laws of depth and class, and of translations.
+//! Laws of depth and class, and of translations.
 
 ghost use Rattle.std.specs.Prelude.{◌≡◌, ◌≤◌, ◌<◌, ◌↔◌, ℕ, ◌+◌, ◌%◌, ◌^◌, max, true, false, List};
 ghost use Rattle.std.specs.Prelude.{length, slice_index};

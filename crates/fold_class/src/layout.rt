@@ -1,4 +1,4 @@
-// The order of a fold's variables in the words of an entry.
+//! The order of a fold's variables in the words of an entry.
 
 ghost use Rattle.std.specs.Prelude.{◌≡◌, ℕ, ◌<◌, ◌≤◌, Bool, true, false, not, length, IfOk};
 ghost use Rattle.query_lang.specs.Folds.{IsValidFold, fold_states, fold_args};

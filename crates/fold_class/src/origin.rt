@@ -1,4 +1,4 @@
-// Where the part of a variable comes from as a column begins.
+//! Where the part of a variable comes from as a column begins.
 
 /// The number of a variable among the history variables, or among the linear ones.
 #[derive(Clone, Copy, Debug, PartialEq, Eq)]

@@ -1,4 +1,4 @@
-// What is known of a fold once it is classified.
+//! What is known of a fold once it is classified.
 
 ghost use Rattle.std.specs.Prelude.{◌≡◌, IfOk};
 

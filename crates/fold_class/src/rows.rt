@@ -1,4 +1,4 @@
-// The affine map of one step of a fold on its linear variables.
+//! The affine map of one step of a fold on its linear variables.
 
 ghost use Rattle.std.specs.Prelude.{◌≡◌, ◌≢◌, ℕ, ◌+◌, ◌*◌, ◌<◌, ◌≤◌, length, map, slice_index, All, IfOk};
 ghost use Rattle.coeff_algebra.specs.Maps.{stored_entry};

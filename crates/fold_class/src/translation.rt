@@ -1,4 +1,4 @@
-// Whether a fold is a translation.
+//! Whether a fold is a translation.
 
 ghost use Rattle.std.specs.Prelude.{◌≡◌};
 ghost use Rattle.query_lang.specs.Terms.{term_of};

@@ -1,4 +1,4 @@
-// The walk over a fold's statements with the kinds of its variables.
+//! The walk over a fold's statements with the kinds of its variables.
 
 ghost use Rattle.std.specs.Prelude.{◌≡◌, ℕ, ◌<◌, ◌≤◌, length};
 ghost use Rattle.query_lang.specs.Terms.{term_of};

@@ -1,4 +1,4 @@
-// Folds whose assignments add to a variable what does not depend on the state.
+//! Folds whose assignments add to a variable what does not depend on the state.
 
 ghost use Rattle.std.specs.Prelude.{◌≡◌, ◌&&◌};
 ghost use Rattle.query_lang.specs.Terms.{term_of};

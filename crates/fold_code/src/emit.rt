@@ -1,4 +1,4 @@
-// From a fold's statements to instructions.
+//! From a fold's statements to instructions.
 
 ghost use Rattle.std.specs.Prelude.{◌≡◌, ◌+◌, ◌-◌, ◌<◌, ◌≤◌, [], ◌∷◌, ◌++◌, IfOk, OnOk, vec_len};
 ghost use Rattle.query_lang.specs.Blocks.{stmt_block, block_of};

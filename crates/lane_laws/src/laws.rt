@@ -1,4 +1,4 @@
-// Laws of lanes, from those of the machines that they stand for.
+//! Laws of lanes, from those of the machines that they stand for.
 
 ghost use Rattle.lane_laws.specs.LaneLaws.{LanesKeepKeysInBuckets};
 

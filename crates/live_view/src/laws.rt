@@ -1,4 +1,4 @@
-// What a view has of a running trace.
+//! What a view has of a running trace.
 
 ghost use Rattle.live_view.specs.Laws.{RowListsAreSeen, ViewsEndTheTrace};
 

@@ -1,4 +1,4 @@
-// Words copied as a block, with a step for each of them.
+//! Words copied as a block, with a step for each of them.
 
 ghost use Rattle.std.specs.Prelude.{◌≡◌, ◌+◌, length};
 

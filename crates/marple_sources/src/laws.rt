@@ -1,4 +1,4 @@
-// What holds of the sources of texts.
+//! What holds of the sources of texts.
 
 ghost use Rattle.marple_sources.specs.Sources.{SourcesAreOne, SourcesAreThere};
 

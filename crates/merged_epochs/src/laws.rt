@@ -1,4 +1,4 @@
-// What holds of stores that hold epochs.
+//! What holds of stores that hold epochs.
 
 ghost use Rattle.merged_epochs.specs.Laws.{MergedEpochsAreHeld, HeldRowsAreTheTables};
 

@@ -1,4 +1,4 @@
-// Table rows, from the rows of a store.
+//! Table rows, from the rows of a store.
 
 ghost use Rattle.std.specs.Prelude.{◌≡◌, IfOk, map, sum_by};
 ghost use Rattle.epoch_model.specs.Tables.{epochs_shown};

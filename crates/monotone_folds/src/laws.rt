@@ -1,4 +1,4 @@
-// Laws of monotone folds.
+//! Laws of monotone folds.
 
 ghost use Rattle.std.specs.Prelude.{◌≡◌, ℕ, true, false, List, [], ◌∷◌, All, ◌++◌, length};
 ghost use Rattle.query_lang.specs.declared.fold.TypedFold.{TypedFold};

@@ -1,4 +1,4 @@
-// Whether a fold keeps the order of states.
+//! Whether a fold keeps the order of states.
 
 ghost use Rattle.std.specs.Prelude.{◌≡◌, ℕ, ◌≤◌, nat_lt, not, if◌then◌else◌, length};
 ghost use Rattle.query_lang.specs.Folds.{IsValidFold};

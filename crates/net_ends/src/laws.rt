@@ -1,4 +1,4 @@
-// What the merged epochs of several switches give.
+//! What the merged epochs of several switches give.
 
 ghost use Rattle.net_ends.specs.NetEnds.{EndsAreTheNetTables, NetTablesAreRead};
 

@@ -1,4 +1,4 @@
-// Laws of accepted texts over several switches, with no premise but what a user can check.
+//! Laws of accepted texts over several switches, with no premise but what a user can check.
 
 ghost use Rattle.net_order.specs.OrderLaws.{AcceptedTellSwitches, NeighboursMayChangePlaces, SwitchOrderIsFree};
 

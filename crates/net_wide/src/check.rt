@@ -1,4 +1,4 @@
-// Which queries may run over several switches.
+//! Which queries may run over several switches.
 
 ghost use Rattle.std.specs.Prelude.{◌≡◌, All, Some, slice_get};
 ghost use Rattle.query_lang.specs.Folds.{IsValidFold};

@@ -1,4 +1,4 @@
-// The table of a groupby over all switches.
+//! The table of a groupby over all switches.
 
 ghost use Rattle.std.specs.Prelude.{◌≡◌, ◌↔◌, ◌++◌, ◌≤◌, false, List, length, IfOk};
 ghost use Rattle.epoch_model.specs.Machine.{Epoch};

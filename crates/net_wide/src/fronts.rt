@@ -1,4 +1,4 @@
-// The fronts of several switches at one groupby, side by side.
+//! The fronts of several switches at one groupby, side by side.
 
 ghost use Rattle.std.specs.Prelude.{◌≡◌, ◌+◌, ◌*◌, ◌==◌, ◌≤◌, ◌<◌, ◌↔◌, ℕ, List, Ok, true, not, length};
 ghost use Rattle.std.specs.Prelude.{OnOk, OnErr};

@@ -1,4 +1,4 @@
-// What holds of what a query prints over several switches.
+//! What holds of what a query prints over several switches.
 
 ghost use Rattle.net_wide.specs.NetLaws.{KeysOfOneSwitch, SwitchesDoNotWait, UsesAreTheSwitchs};
 

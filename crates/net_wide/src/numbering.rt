@@ -1,4 +1,4 @@
-// The switches of a trace, by number.
+//! The switches of a trace, by number.
 
 ghost use Rattle.std.specs.Prelude.{◌≡◌, ◌+◌, ◌≤◌, length, IfOk, OnOk, OnErr};
 ghost use Rattle.net_wide.specs.Numbering.{place_among, switch_number, with_switch};

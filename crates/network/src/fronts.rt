@@ -1,4 +1,4 @@
-// The fronts of a groupby, one by one, and the store that each is merged into.
+//! The fronts of a groupby, one by one, and the store that each is merged into.
 
 ghost use Rattle.std.specs.Prelude.{◌≡◌, ◌<◌, ◌≤◌, ◌↔◌, ◌≢◌, ℕ, Ok, true, length, OnOk};
 ghost use Rattle.epoch_model.specs.Timeline.{NoPacket};

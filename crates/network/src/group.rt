@@ -1,4 +1,4 @@
-// The fronts of all switches at one groupby, and the store that they share.
+//! The fronts of all switches at one groupby, and the store that they share.
 
 ghost use Rattle.std.specs.Prelude.{◌≡◌, ◌+◌, ◌*◌, ◌==◌, ◌<◌, ◌≤◌, ◌↔◌, ℕ, List, [], Ok, true, not};
 ghost use Rattle.std.specs.Prelude.{length};

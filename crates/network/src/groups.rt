@@ -1,4 +1,4 @@
-// The groupbys of a plan, side by side.
+//! The groupbys of a plan, side by side.
 
 ghost use Rattle.std.specs.Prelude.{◌≡◌, ◌+◌, ◌*◌, ◌==◌, ◌<◌, ◌≤◌, ◌↔◌, ℕ, List, [], Ok, true, not};
 ghost use Rattle.std.specs.Prelude.{length};

@@ -1,3 +1,5 @@
+//! What reading a plan's text answers where it gives none.
+
 ghost use Rattle.std.specs.Prelude.{◌≡◌};
 
 use query_lang::QueryFault;

@@ -1,4 +1,4 @@
-// Whether a text is the text of a plan.
+//! Whether a text is the text of a plan.
 
 ghost use Rattle.std.specs.Prelude.{ℕ, MatchResult};
 ghost use Rattle.plan_file.specs.Texts.{IsValidText, IsRefused, IsBadAt, IsOnlyAnswer};

@@ -1,4 +1,4 @@
-// A line `fold` as it is read.
+//! A line `fold` as it is read.
 
 ghost use Rattle.std.specs.Prelude.{◌≡◌, ◌≤◌, ℕ, true, false, length, MatchOption, IfOk, IfSome};
 ghost use Rattle.query_lang.specs.declared.fold.TypedFold.{TypedFold};

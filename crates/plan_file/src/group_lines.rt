@@ -1,4 +1,4 @@
-// The lines of a group, from `group` to `body`, as they are read.
+//! The lines of a group, from `group` to `body`, as they are read.
 
 ghost use Rattle.std.specs.Prelude.{◌≡◌, ◌≤◌, ◌+◌, ◌<◌, ◌^◌, length, true, false, Contains, MatchOption, IfOk};
 ghost use Rattle.std.specs.Prelude.{List, ℕ};

@@ -1,4 +1,4 @@
-// The tokens of a `body` line.
+//! The tokens of a `body` line.
 
 ghost use Rattle.std.specs.Prelude.{◌≡◌, map, IfOk};
 ghost use Rattle.plan_file.specs.Lexis.{tokens_left, function_named, literal, state_number, argument_number};

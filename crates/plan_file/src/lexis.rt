@@ -1,4 +1,4 @@
-// Lines, tokens, numbers and operands as they are read.
+//! Lines, tokens, numbers and operands as they are read.
 
 ghost use Rattle.std.specs.Prelude.{◌≡◌, ◌+◌, ◌<◌, ◌≤◌, if◌then◌else◌, ◌∷◌, [], true, length};
 ghost use Rattle.std.specs.Prelude.{MatchOption, IfSome, drop};

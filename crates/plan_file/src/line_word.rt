@@ -1,4 +1,4 @@
-// The first words of lines.
+//! The first words of lines.
 
 ghost use Rattle.std.specs.Prelude.{◌≡◌};
 ghost use Rattle.plan_file.specs.LineWords as LineWords;

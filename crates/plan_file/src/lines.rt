@@ -1,4 +1,4 @@
-// One more line, as it is read after the lines before it.
+//! One more line, as it is read after the lines before it.
 
 ghost use Rattle.std.specs.Prelude.{◌≡◌, ◌≤◌, length, true, false, Contains, MatchOption, IfOk};
 ghost use Rattle.plan_file.specs.declared.made.Made.{Made};

@@ -1,4 +1,4 @@
-// What the lines of a plan's text have made.
+//! What the lines of a plan's text have made.
 
 use crate::lexemes::Lexeme;
 use marple_base::{Field, Seq, Text};

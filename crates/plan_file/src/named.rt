@@ -1,4 +1,4 @@
-// Lines of a word, a name and an operand or a number, as they are read.
+//! Lines of a word, a name and an operand or a number, as they are read.
 
 ghost use Rattle.std.specs.Prelude.{◌≡◌, ◌≤◌, ◌∷◌, [], List, ℕ, true, false, codes, length, is_some, MatchOption};
 ghost use Rattle.std.specs.List.{list_all};

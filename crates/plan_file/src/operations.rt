@@ -1,4 +1,4 @@
-// Operands and the lines `op` as they are read.
+//! Operands and the lines `op` as they are read.
 
 ghost use Rattle.std.specs.Prelude.{◌≡◌, ◌<◌, ◌≤◌, true, false, length, map, Contains, MatchOption, Some};
 ghost use Rattle.marple_base.specs.Field.{number_of};

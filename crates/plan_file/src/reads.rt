@@ -1,4 +1,4 @@
-// The line `reads` as it is read.
+//! The line `reads` as it is read.
 
 ghost use Rattle.std.specs.Prelude.{◌≡◌, ◌<◌, ◌∷◌, List, IfOk, MatchOption};
 ghost use Rattle.marple_base.specs.Field.{number_of};

@@ -1,4 +1,4 @@
-// The lines of a text, one after another.
+//! The lines of a text, one after another.
 
 ghost use Rattle.std.specs.Prelude.{◌≡◌, ◌≤◌, ◌<◌, ◌+◌, ℕ, length, slice_get, IfSome, MatchOption, MatchResult, Some};
 ghost use Rattle.plan_file.specs.Lexis.{lines};

@@ -1,4 +1,4 @@
-// The statements of a body as a tree. It is made only of bodies within the bounds of a fold, so it isn't deep.
+//! The statements of a body as a tree. It is made only of bodies within the bounds of a fold, so it isn't deep.
 
 ghost use Rattle.std.specs.Prelude.{◌≡◌, ◌≤◌, ◌↔◌, IsTrue, true, ◌+◌, ◌-◌, ◌<◌, ◌++◌, ◌∷◌, []};
 ghost use Rattle.std.specs.Prelude.{List, length, count_by, IfOk, IfSome, MatchOption};

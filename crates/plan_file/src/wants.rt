@@ -1,4 +1,4 @@
-// A body is read token by token, with a stack of what is still wanted: so a deep expression needs no deep recursion.
+//! A body is read token by token, with a stack of what is still wanted: so a deep expression needs no deep recursion.
 
 ghost use Rattle.std.specs.Prelude.{◌≡◌, ◌+◌, ◌++◌, ◌^◌, ◌<◌, ◌∷◌, [], true, false, ◌≤◌, Some};
 ghost use Rattle.std.specs.Prelude.{MatchBool, IfOk};

@@ -1,4 +1,4 @@
-// The groupbys of a plan by the groups of its text.
+//! The groupbys of a plan by the groups of its text.
 
 ghost use Rattle.std.specs.Prelude.{◌≡◌, ◌^◌, bit_or, map, unwrap_or, [], All, IfOk};
 ghost use Rattle.marple_base.specs.Field.{number_of};

@@ -1,4 +1,4 @@
-// The text of a plan to the plan.
+//! The text of a plan to the plan.
 
 ghost use Rattle.std.specs.Prelude.{ℕ, IfOk, MatchResult};
 ghost use Rattle.plan_file.specs.Texts.{IsBadAt, IsOnlyAnswer, IsRefused};

@@ -1,4 +1,4 @@
-// A plan that is read.
+//! A plan that is read.
 
 use marple_base::Seq;
 use stage_plan::Plan;

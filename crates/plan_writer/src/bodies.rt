@@ -1,4 +1,4 @@
-// The statements of a fold in prefix form.
+//! The statements of a fold in prefix form.
 
 ghost use Rattle.std.specs.Prelude.{◌≡◌, ◌++◌, ◌∷◌, [], OnOk};
 ghost use Rattle.query_lang.specs.Blocks.{stmt_block, block_of};

@@ -1,4 +1,4 @@
-// What a plan's text can't have.
+//! What a plan's text can't have.
 
 ghost use Rattle.std.specs.Prelude.{◌≡◌};
 ghost use Rattle.plan_writer.specs.PlanText.{final_fault};

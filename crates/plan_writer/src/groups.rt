@@ -1,4 +1,4 @@
-// The groupbys of a plan.
+//! The groupbys of a plan.
 
 ghost use Rattle.std.specs.Prelude.{◌≡◌, ℕ, ◌<◌, ◌≤◌, ◌∷◌, ◌++◌, [], Some, length, map, flat_map, codes};
 ghost use Rattle.std.specs.Prelude.{decimal, option_to_list, IfOk, OnOk};

@@ -1,4 +1,4 @@
-// The first lines of a plan's text, and the last ones.
+//! The first lines of a plan's text, and the last ones.
 
 ghost use Rattle.std.specs.Prelude.{◌≡◌, ◌∷◌, ◌++◌, [], map, filter, flat_map, codes, decimal, OnOk};
 ghost use Rattle.marple_base.specs.Field.{field_name, has_field};

@@ -1,4 +1,4 @@
-// The operations of a plan.
+//! The operations of a plan.
 
 ghost use Rattle.std.specs.Prelude.{◌≡◌, ◌++◌, flat_map, OnOk};
 ghost use Rattle.plan_writer.specs.Words.{behind, function_word, operation_words};

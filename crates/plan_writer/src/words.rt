@@ -1,4 +1,4 @@
-// Words behind others, each with a space before it.
+//! Words behind others, each with a space before it.
 
 ghost use Rattle.std.specs.Prelude.{◌≡◌, ◌++◌, ◌∷◌, [], decimal, OnOk};
 ghost use Rattle.plan_writer.specs.Words.{behind, operand_word};

@@ -1,4 +1,4 @@
-// The text of a plan.
+//! The text of a plan.
 
 ghost use Rattle.std.specs.Prelude.{◌≡◌, None, IfOk};
 ghost use Rattle.query_lang.specs.TypedQueries.{IsValidQuery};

@@ -1,4 +1,4 @@
-// Laws about the grammar: a text has one meaning at most, and the function on tokens gives it or exactly the first fault.
+//! Laws about the grammar: a text has one meaning at most, and the function on tokens gives it or exactly the first fault.
 
 ghost use Rattle.std.specs.Prelude.{◌≡◌, ◌↔◌, ℕ, List, [], ◌∷◌, ◌++◌};
 ghost use Rattle.query_lang.specs.declared.fault.QueryFault.{QueryFault};

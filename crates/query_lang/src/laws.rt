@@ -1,4 +1,4 @@
-// Laws about names and about the cutting of a text.
+//! Laws about names and about the cutting of a text.
 
 ghost use Rattle.std.specs.Prelude.{◌≡◌, ℕ, ◌≤◌, List, [], ◌∷◌, length};
 ghost use Rattle.query_lang.specs.Lexis.{cut, piece, TakesSome};

@@ -1,16 +1,18 @@
-// A query as it is read: items in order, with names as numbers and the places of their tokens.
+//! A query as it is read: items in order, with names as numbers and the places of their tokens.
 
 use crate::fault::Span;
 use crate::fold::Op;
 use crate::names::Names;
 use marple_base::{Boxed, Seq};
 
+/// A name, by its number among the names of the text, where it stands.
 #[derive(Clone, Copy, PartialEq, Eq, Debug)]
 pub struct Name {
     pub id: u32,
     pub span: Span,
 }
 
+/// The items of a text in order, its names, and the place of its end.
 #[derive(Drop)]
 pub struct Query {
     pub names: Names,
@@ -18,6 +20,7 @@ pub struct Query {
     pub end: Span,
 }
 
+/// A fold, a stream, a final or a print.
 #[derive(Drop)]
 pub enum Item {
     Fold(FoldDef),
@@ -26,6 +29,7 @@ pub enum Item {
     Print(Name),
 }
 
+/// `def name([states], [args]) { body }`.
 #[derive(Drop)]
 pub struct FoldDef {
     pub name: Name,
@@ -34,12 +38,14 @@ pub struct FoldDef {
     pub body: Seq<Stmt>,
 }
 
+/// A state variable, and the number that it starts with.
 #[derive(Clone, Copy, PartialEq, Eq, Debug)]
 pub struct StateVar {
     pub name: Name,
     pub initial: u64,
 }
 
+/// A statement: an assignment, a choice between two blocks, or `emit`.
 #[derive(Drop)]
 pub enum Stmt {
     Assign(Name, Expr),
@@ -47,6 +53,7 @@ pub enum Stmt {
     Emit(Span),
 }
 
+/// An expression. An operator or a function has the place of its token.
 #[derive(Drop)]
 pub enum Expr {
     Number(u64, Span),
@@ -56,12 +63,14 @@ pub enum Expr {
     Call(Op, Span, Seq<Expr>),
 }
 
+/// `name = op;`.
 #[derive(Drop)]
 pub struct StreamDef {
     pub name: Name,
     pub op: StreamOp,
 }
 
+/// What makes a stream: of one input, or of two for a `zip`. A group has its keys and its fold.
 #[derive(Drop)]
 pub enum StreamOp {
     Filter(Name, Expr),
@@ -70,12 +79,14 @@ pub enum StreamOp {
     Group(Name, Seq<Key>, Name),
 }
 
+/// `final name = op;`.
 #[derive(Drop)]
 pub struct FinalDef {
     pub name: Name,
     pub op: FinalOp,
 }
 
+/// What makes a table of tables. A `top` has a column and how many rows are kept.
 #[derive(Drop)]
 pub enum FinalOp {
     Filter(Name, Expr),
@@ -85,12 +96,14 @@ pub enum FinalOp {
     Top(Name, Name, u64, Span),
 }
 
+/// A new column, `name = value`.
 #[derive(Drop)]
 pub struct Column {
     pub name: Name,
     pub value: Expr,
 }
 
+/// A key of a groupby; `5tuple` stands for five.
 #[derive(Clone, Copy, PartialEq, Eq, Debug)]
 pub enum Key {
     Named(Name),

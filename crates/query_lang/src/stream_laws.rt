@@ -1,4 +1,4 @@
-// Streams of three packets, computed from their definitions.
+//! Streams of three packets, computed from their definitions.
 
 ghost use Rattle.query_lang.specs.StreamExamples.{FilterExample, MapExample, ZipExample, GroupExample};
 

@@ -74,6 +74,7 @@ pub enum TokenKind {
     End,
 }
 
+/// A token, and where it stands.
 #[derive(Clone, Copy, Debug, PartialEq, Eq)]
 pub struct Token {
     pub kind: TokenKind,

@@ -51,6 +51,7 @@ pub struct TypedFinal {
     pub op: TypedFinalOp,
 }
 
+/// What makes the table: tables by number, columns by slot, a group's fold and its arguments.
 #[derive(Drop)]
 pub enum TypedFinalOp {
     Filter(u16, TypedExpr),

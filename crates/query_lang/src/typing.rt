@@ -42,6 +42,7 @@ pub enum Origin {
     Map(u16),
 }
 
+/// A column of a stream: its name, and where it comes from.
 #[derive(Clone, Copy, Debug, PartialEq, Eq)]
 pub struct StreamColumn {
     pub name: u32,
@@ -97,6 +98,7 @@ pub enum Meaning {
     Final(TableView),
 }
 
+/// A name, and what it stands for.
 #[derive(Drop)]
 pub struct Known {
     pub name: u32,

@@ -13,24 +13,28 @@ use crate::halt::{Role, Seen, charged, stop_at};
 use query_grammar::{Counts, Stop};
 use query_lang::{Mark, Name, Span, Token, TokenKind, Word};
 
+/// Is it this mark?
 pub fn is_mark(kind: TokenKind, wanted: Mark) -> bool
     ensures { result ≡ nat_eq (kind_number kind) (mark_number wanted) }
 {
     kind == TokenKind::Mark(wanted)
 }
 
+/// Is it this reserved word?
 pub fn is_word(kind: TokenKind, wanted: Word) -> bool
     ensures { result ≡ nat_eq (kind_number kind) (word_number wanted) }
 {
     kind == TokenKind::Word(wanted)
 }
 
+/// Is it a name?
 pub fn is_name(kind: TokenKind) -> bool
     ensures { result ≡ nat_eq (kind_number kind) 0 }
 {
     matches!(kind, TokenKind::Name(_))
 }
 
+/// Is it a number?
 pub fn is_number(kind: TokenKind) -> bool
     ensures { result ≡ nat_eq (kind_number kind) 1 }
 {

@@ -1,4 +1,4 @@
-// Laws of faults: where a query's fault stands and what it says, in the words of the rules.
+//! Laws of faults: where a query's fault stands and what it says, in the words of the rules.
 
 ghost use Rattle.query_rules.specs.FaultLaws.{UnknownNames, StatesOnLine, NamesTaken, WrongKinds, WrongArities, BadConstants};
 ghost use Rattle.query_rules.specs.FaultLaws.{OverLimits, NothingsPrinted, OnlyTheseKinds, DemandsAreRules};

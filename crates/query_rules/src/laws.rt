@@ -1,4 +1,4 @@
-// Laws of the rules: what the checks give is exactly what the rules give.
+//! Laws of the rules: what the checks give is exactly what the rules give.
 
 ghost use Rattle.query_rules.specs.Laws.{ConditionsAgree, FaultsHaveNoForm, FinalsAgree, FoldsAgree};
 ghost use Rattle.query_rules.specs.Laws.{HasOneTypedForm, QueriesAgree, StreamsAgree, WordsAgree};

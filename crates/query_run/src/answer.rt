@@ -1,4 +1,4 @@
-// How a run over packets breaks off.
+//! How a run over packets breaks off.
 
 ghost use Rattle.std.specs.Prelude.{◌≡◌};
 ghost use Rattle.query_run.specs.Answers.{answer_for};

@@ -1,4 +1,4 @@
-// What the machines at the end of a trace are, and the tables that they give.
+//! What the machines at the end of a trace are, and the tables that they give.
 
 ghost use Rattle.query_run.specs.Runs.{EndsAreTheQuerys, ReadPacketsAreFew, ReadPacketsAreWhole};
 ghost use Rattle.query_run.specs.Views.{NoViewsWithoutNumber};

@@ -1,4 +1,4 @@
-// The text of what a pipeline shows, in the middle of a trace and at its end.
+//! The text of what a pipeline shows, in the middle of a trace and at its end.
 
 ghost use Rattle.std.specs.Prelude.{◌≡◌, ◌≤◌, ℕ, List, IfOk, take, true};
 ghost use Rattle.std.specs.List.{list_all};

@@ -1,4 +1,4 @@
-// A query over packets.
+//! A query over packets.
 
 ghost use Rattle.std.specs.Prelude.{◌≡◌, ◌*◌, ◌<◌, ◌≤◌, None, IfErr, IfOk, true};
 ghost use Rattle.std.specs.Io.KnownBytes.{Appends};

@@ -1,4 +1,4 @@
-// Views of a trace on its way, written one after another.
+//! Views of a trace on its way, written one after another.
 
 ghost use Rattle.std.specs.Prelude.{◌≡◌, ◌<◌, ◌≤◌, ℕ, List, None, IfErr, IfOk, OnOk, length};
 ghost use Rattle.std.specs.Io.KnownBytes.{Appends};

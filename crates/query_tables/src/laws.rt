@@ -1,4 +1,4 @@
-// What holds of the tables of a query's groupbys.
+//! What holds of the tables of a query's groupbys.
 
 ghost use Rattle.query_tables.specs.TableLaws.{QueryTablesAreRead};
 

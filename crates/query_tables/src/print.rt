@@ -1,4 +1,4 @@
-// The printed tables.
+//! The printed tables.
 
 ghost use Rattle.std.specs.Prelude.{◌≡◌, ◌+◌, ◌++◌, ◌≤◌, ◌<◌, All, List, [], length, map, flat_map, IfOk, OnOk};
 ghost use Rattle.query_lang.specs.TypedQueries.{IsValidQuery, AreValidFinals, final_shape, group_shape};

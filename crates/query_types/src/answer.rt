@@ -1,3 +1,5 @@
+//! What the typing of a query answers where it gives none, and faults with their places.
+
 ghost use Rattle.std.specs.Prelude.{◌≡◌};
 
 use query_lang::{FaultKind, QueryFault, Span};
@@ -34,14 +36,14 @@ impl From<AllocError> for CheckAnswer {
     }
 }
 
-// A fault that stands here.
+/// A fault that stands here.
 pub fn fault(kind: FaultKind, span: Span) -> QueryFault
     ensures { result ≡ record { kind = kind; span = span } }
 {
     QueryFault { kind, span }
 }
 
-// The answer for a fault that stands here.
+/// The answer for a fault that stands here.
 pub fn refused(kind: FaultKind, span: Span) -> CheckAnswer
     ensures { result ≡ CheckAnswer.Refused (record { kind = kind; span = span }) }
 {

@@ -1,4 +1,4 @@
-// The statements of a fold.
+//! The statements of a fold.
 
 ghost use Rattle.std.specs.Prelude.{◌≡◌, ◌≤◌, ◌∷◌, ◌++◌, [], Ok, Some, IfOk, length, map};
 ghost use Rattle.query_lang.specs.TypedExprs.{condition_of, word_of};
@@ -16,7 +16,7 @@ use query_lang::{Expr, FaultKind, Name, Op, QueryFault, Span, Stmt, TypedExpr, T
 use std::alloc::{AllocError, Global};
 use std::mem;
 
-// The names of a fold: its state variables, its arguments, and the columns of its expressions, which are both.
+/// The names of a fold: its state variables, its arguments, and the columns of its expressions, which are both.
 #[derive(Clone, Copy)]
 pub struct Scope<'a> {
     pub states: &'a [u32],
@@ -150,7 +150,7 @@ fn emit_under(alloc: Global, outer: &Option<TypedExpr>) -> Result<TypedExpr, All
     }
 }
 
-// A choice between two blocks: its condition, and what encloses the statements of each block.
+/// A choice between two blocks: its condition, and what encloses the statements of each block.
 #[derive(Drop)]
 pub struct Choice {
     pub condition: TypedExpr,

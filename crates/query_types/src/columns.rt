@@ -1,4 +1,4 @@
-// Columns: those that a `map` adds, those of a `zip`, keys, and the arguments of a fold.
+//! Columns: those that a `map` adds, those of a `zip`, keys, and the arguments of a fold.
 
 ghost use Rattle.std.specs.Prelude.{◌≡◌, ◌≤◌, ◌++◌, [], Ok, IfOk, OnOk, length, map, flat_map, slice_get};
 ghost use Rattle.std.specs.List.{list_any};

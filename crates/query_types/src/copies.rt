@@ -1,4 +1,4 @@
-// Copies of expressions and of lists of names.
+//! Copies of expressions and of lists of names.
 
 ghost use Rattle.std.specs.Prelude.{◌≡◌, ◌++◌, IfOk};
 
@@ -6,6 +6,7 @@ use marple_base::{Boxed, Seq};
 use query_lang::TypedExpr;
 use std::alloc::{AllocError, Global};
 
+/// A copy of an expression.
 pub fn copy_expr(alloc: Global, e: &TypedExpr) -> Result<TypedExpr, AllocError>
     ensures { IfOk result (λ copy. copy ≡ e.now) }
 {
@@ -24,13 +25,14 @@ pub fn copy_expr(alloc: Global, e: &TypedExpr) -> Result<TypedExpr, AllocError>
     }
 }
 
+/// A copy of a list of names.
 pub fn copy_words(alloc: Global, words: &[u32]) -> Result<Seq<u32>, AllocError>
     ensures { IfOk result (λ copy. copy ≡ words.now) }
 {
     Ok(Seq::from_vec(Vec::from_slice(alloc, words)?))
 }
 
-// One list of names behind another.
+/// One list of names behind another.
 pub fn names_of_both(alloc: Global, first: &[u32], second: &[u32]) -> Result<Seq<u32>, AllocError>
     ensures { IfOk result (λ names. names ≡ first.now ++ second.now) }
 {

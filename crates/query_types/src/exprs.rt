@@ -1,4 +1,4 @@
-// Expressions over columns.
+//! Expressions over columns.
 
 ghost use Rattle.std.specs.Prelude.{◌≡◌, ◌<◌, ◌∷◌, [], Ok, IfSome, length};
 ghost use Rattle.query_lang.specs.Checks.{is_among, place_of};
@@ -13,14 +13,14 @@ use query_lang::typing::{Found, Sort};
 use query_lang::{Expr, FaultKind, Name, Op, QueryFault, Span, TypedExpr};
 use std::alloc::{AllocError, Global};
 
-// Is the name among these?
+/// Is the name among these?
 pub fn has_name(names: &[u32], id: u32) -> bool
     ensures { result ≡ is_among id names.now }
 {
     names.contains(&id)
 }
 
-// The name's place among these.
+/// The name's place among these.
 pub fn find_place(names: &[u32], id: u32) -> Option<usize>
     ensures place { result ≡ place_of names.now id }
     ensures within { IfSome result (λ at. at < length names.now) }
@@ -33,7 +33,7 @@ pub fn find_place(names: &[u32], id: u32) -> Option<usize>
     None
 }
 
-// The slot of a column.
+/// The slot of a column.
 pub fn find_slot(columns: &[u32], hidden: &[u32], name: Name) -> Result<u16, QueryFault>
     requires { IsNarrow columns.now }
     ensures { result ≡ slot_of columns.now hidden.now name }

@@ -1,4 +1,4 @@
-// Finals.
+//! Finals.
 
 ghost use Rattle.std.specs.Prelude.{◌≡◌, ◌+◌, ◌<◌, ◌≤◌, ◌++◌, [], IfOk, OnOk, length};
 ghost use Rattle.query_lang.specs.TypedExprs.{condition_of, slot_of};
@@ -125,7 +125,7 @@ fn check_map(
     Ok(made_map(alloc, groups, source, new)?)
 }
 
-// `5tuple` stands for the five fields from the fourth on.
+/// `5tuple` stands for the five fields from the fourth on.
 pub fn five_of(fields: &Seq<u32>) -> &[u32]
     ensures { result.now ≡ five_fields fields.now }
 {

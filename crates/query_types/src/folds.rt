@@ -1,4 +1,4 @@
-// Folds.
+//! Folds.
 
 ghost use Rattle.std.specs.Prelude.{◌≡◌, ◌+◌, ◌<◌, ◌^◌, ◌≤◌, [], Ok, IfOk, length, map, sum_by};
 ghost use Rattle.query_lang.specs.TypedFolds.{states_from, args_from, expr_nodes, stmt_nodes, stmt_count, body_checked, fold_nodes};

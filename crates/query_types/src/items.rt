@@ -1,4 +1,4 @@
-// The items of a query in order.
+//! The items of a query in order.
 
 ghost use Rattle.std.specs.Prelude.{◌≡◌, ◌<◌, ◌≤◌, IfOk, OnOk, length, is_some, All};
 ghost use Rattle.query_lang.specs.Limits.{KeepsLimits, IsNumbered};

@@ -1,4 +1,4 @@
-// What groupbys take from three packets, computed from the definition.
+//! What groupbys take from three packets, computed from the definition.
 
 ghost use Rattle.query_types.specs.UseExamples.{FilteredUses, MappedUses, ZippedUses, FedUses};
 

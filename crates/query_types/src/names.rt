@@ -1,4 +1,4 @@
-// The names of fields.
+//! The names of fields.
 
 ghost use Rattle.std.specs.Prelude.{◌≡◌, ◌+◌, ◌<◌, ◌^◌, Some, IfOk, OnOk, length, map, option_map, slice_get};
 ghost use Rattle.std.specs.Str.{bytes_eq};

@@ -1,4 +1,4 @@
-// The greatest number of expressions, statements and items, which fits a word.
+//! The greatest number of expressions, statements and items, which fits a word.
 
 ghost use Rattle.std.specs.Prelude.{◌≡◌, map};
 ghost use Rattle.query_types.specs.Numbers.{greatest_of, greatest_number, greatest_in, columns_number, stream_number, final_number};

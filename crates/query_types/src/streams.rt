@@ -1,4 +1,4 @@
-// Streams.
+//! Streams.
 
 ghost use Rattle.std.specs.Prelude.{◌≡◌, ◌+◌, ◌<◌, ◌≤◌, ◌++◌, Ok, None, IfOk, OnOk, length, map, is_some};
 ghost use Rattle.std.specs.Prelude.{if◌then◌else◌};

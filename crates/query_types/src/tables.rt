@@ -1,4 +1,4 @@
-// The numbers, keys and columns of tables.
+//! The numbers, keys and columns of tables.
 
 ghost use Rattle.std.specs.Prelude.{◌≡◌, ◌≤◌, drop, take, length};
 ghost use Rattle.std.specs.List.{list_any};

@@ -1,4 +1,4 @@
-// Whole queries.
+//! Whole queries.
 
 ghost use Rattle.std.specs.Prelude.{◌≡◌, ◌<◌, ◌≤◌, ◌^◌, Ok, None, [], IfOk, All, length, map, count_by, min};
 ghost use Rattle.query_lang.specs.Limits.{IsReadable, KeepsLimits, IsNumbered};

@@ -1,4 +1,4 @@
-// What the names of a query stand for.
+//! What the names of a query stand for.
 
 ghost use Rattle.std.specs.Prelude.{◌≡◌, ◌<◌, ◌+◌, IfOk, length, option_map, is_some};
 ghost use Rattle.query_lang.specs.TypedStreams.{meaning_of, begun, stream_named, fold_named};

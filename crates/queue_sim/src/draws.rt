@@ -21,6 +21,7 @@ pub struct Drawn {
 }
 
 impl Draws {
+    /// The draws behind this start.
     pub fn new(start: u32) -> Draws
         requires { start < 2 ^ 31 }
         ensures { result.state ≡ start }

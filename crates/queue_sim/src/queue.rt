@@ -24,6 +24,7 @@ pub struct Place {
 }
 
 impl Queue {
+    /// The queue of a switch before its first packet.
     pub fn new(alloc: Global) -> Queue
         ensures { Holds result [] 0 }
     {

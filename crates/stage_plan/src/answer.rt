@@ -1,3 +1,5 @@
+//! What planning answers where it gives no plan.
+
 ghost use Rattle.std.specs.Prelude.{◌≡◌};
 
 use query_lang::QueryFault;

@@ -1,4 +1,4 @@
-// The bound on the steps of one packet.
+//! The bound on the steps of one packet.
 
 ghost use Rattle.std.specs.Prelude.{◌≡◌, ℕ, ◌+◌, ◌*◌, ◌^◌, ◌<◌, ◌≤◌, length, map, sum, slice_get, Some};
 ghost use Rattle.stage_plan.specs.declared.group.GroupPlan.{GroupPlan};

@@ -1,4 +1,4 @@
-// Operations that wait for one another, one in each stage.
+//! Operations that wait for one another, one in each stage.
 
 ghost use Rattle.std.specs.Prelude.{◌≡◌, ◌+◌, ◌<◌, [], length, IfOk, IfSome, OnOk, is_some, true};
 ghost use Rattle.stage_plan.specs.declared.op.Operand.TheVariants.{Register};

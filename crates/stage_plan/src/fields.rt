@@ -1,4 +1,4 @@
-// The fields that a query reads.
+//! The fields that a query reads.
 
 ghost use Rattle.std.specs.Prelude.{◌≡◌, ◌∷◌, ◌++◌, [], None, map, fold, IfOk, OnOk};
 ghost use Rattle.marple_base.specs.Field.{all_fields};

@@ -1,4 +1,4 @@
-// The groupbys of a plan.
+//! The groupbys of a plan.
 
 use crate::op::Operand;
 use fold_class::FoldProgram;

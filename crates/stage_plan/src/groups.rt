@@ -1,4 +1,4 @@
-// The groupbys of a plan.
+//! The groupbys of a plan.
 
 ghost use Rattle.std.specs.Prelude.{◌≡◌, ℕ, ◌<◌, ◌++◌, map, length, option_map, option_to_list, All, IfOk, OnOk};
 ghost use Rattle.query_lang.specs.Folds.{IsValidFold};

@@ -1,4 +1,4 @@
-// Laws about the stages of plans.
+//! Laws about the stages of plans.
 
 ghost use Rattle.std.specs.Prelude.{◌≡◌, ℕ, ◌≤◌, List, map};
 ghost use Rattle.stage_plan.specs.Placements.{IsPlacement};

@@ -1,4 +1,4 @@
-// The operations of a query, one after another.
+//! The operations of a query, one after another.
 
 ghost use Rattle.std.specs.Prelude.{◌≡◌, ◌+◌, ◌<◌, ◌≤◌, max, min, suc, length, map, ◌++◌, Some, IfOk, OnOk};
 ghost use Rattle.query_lang.specs.Folds.{term_nodes};

@@ -1,4 +1,4 @@
-// The operations of a plan.
+//! The operations of a plan.
 
 use query_lang::Op;
 

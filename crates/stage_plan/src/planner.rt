@@ -1,4 +1,4 @@
-// The plan of a typed query.
+//! The plan of a typed query.
 
 ghost use Rattle.std.specs.Prelude.{◌≡◌, ◌≤◌, ◌∷◌, [], None, length, IfOk, OnOk, IfErr};
 ghost use Rattle.query_lang.specs.TypedQueries.{IsValidQuery};

@@ -1,4 +1,4 @@
-// A plan, and what it does with a packet.
+//! A plan, and what it does with a packet.
 
 ghost use Rattle.std.specs.Prelude.{◌≡◌, ℕ, ◌+◌, ◌*◌, ◌^◌, ◌<◌, ◌≤◌, ◌==◌, map, length, slice_get};
 ghost use Rattle.std.specs.Prelude.{count_by, Some, IfOk};
@@ -75,6 +75,7 @@ impl Plan {
         14 + self.ops.len()
     }
 
+    /// How many operations there are.
     pub fn operations(&self) -> u32
         ensures { result ≡ length self.now.ops }
     {
@@ -95,6 +96,7 @@ impl Plan {
         self.groups.len() as u32
     }
 
+    /// The groupby with this number, from 0.
     pub fn group(&self, i: u32) -> &GroupPlan
         requires { i < length self.now.groups }
         ensures { slice_get self.now.groups i ≡ Some result.now }
@@ -102,6 +104,7 @@ impl Plan {
         self.groups.get(i as usize)
     }
 
+    /// What the groupby with this number takes of the registers.
     pub fn wiring(&self, i: u32) -> &GroupWiring
         requires { i < length self.now.groups }
         ensures { slice_get self.now.wiring i ≡ Some result.now }
@@ -109,6 +112,7 @@ impl Plan {
         self.wiring.get(i as usize)
     }
 
+    /// The operation with this number, from 0.
     pub fn op(&self, number: u32) -> PlanOp
         requires { number < length self.now.ops }
         ensures { slice_get self.now.ops number ≡ Some result }

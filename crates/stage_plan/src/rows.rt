@@ -1,4 +1,4 @@
-// The registers of a packet.
+//! The registers of a packet.
 
 ghost use Rattle.std.specs.Prelude.{◌≡◌, ℕ, ◌+◌, ◌<◌, ◌≤◌, length, take, slice_get, slice_index, Some, map, All};
 ghost use Rattle.stage_plan.specs.declared.op.PlanOp.{PlanOp};

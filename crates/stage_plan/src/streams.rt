@@ -1,4 +1,4 @@
-// The operations of all streams of a query.
+//! The operations of all streams of a query.
 
 ghost use Rattle.std.specs.Prelude.{◌≡◌, ◌+◌, ◌<◌, ◌≤◌, ◌∷◌, [], None, Some, length, slice_get, nat_lt, IfOk};
 ghost use Rattle.std.specs.Prelude.{OnOk, IfErr};

@@ -1,4 +1,4 @@
-// The text of a plan.
+//! The text of a plan.
 
 ghost use Rattle.std.specs.Prelude.{◌≡◌, ◌∷◌, ◌++◌, [], ◌<◌, ◌≤◌, length, map, flat_map, codes, IfOk, OnOk};
 ghost use Rattle.stage_plan.specs.Planned.{shape_of};

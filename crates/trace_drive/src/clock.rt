@@ -12,6 +12,7 @@ pub struct Clock {
 }
 
 impl Clock {
+    /// A clock that has counted no packet.
     pub fn new(every: u32) -> Clock
         ensures every { result.every ≡ every }
         ensures counted { HasCounted 0 result }

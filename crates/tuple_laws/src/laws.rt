@@ -1,4 +1,4 @@
-// Laws of the streams of a query, by its definition over all packets.
+//! Laws of the streams of a query, by its definition over all packets.
 
 ghost use Rattle.tuple_laws.specs.TupleLaws.{PacketsAreOfTheTrace, PacketsAscend, RowsFillTheirColumns};
 ghost use Rattle.tuple_laws.specs.TupleLaws.{ZippedColumnsAgree, ZipsKeepTheFirst, ZipsKeepTheSecond};

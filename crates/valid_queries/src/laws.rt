@@ -1,4 +1,4 @@
-// Laws of accepted texts, with no premise but that the text is accepted.
+//! Laws of accepted texts, with no premise but that the text is accepted.
 
 ghost use Rattle.valid_queries.specs.ValidLaws.{AcceptedAreValid, AcceptedStartAsWords, NumbersAreWords};
 
