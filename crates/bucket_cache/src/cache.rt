@@ -26,7 +26,7 @@ pub struct BucketCache<const WAYS: usize> {
     /// For each bucket, how many of its ways are in use.
     used: Vec<usize>,
     /// For each bucket its ways, the most recently used first and the free ones last.
-    order: Vec<usize>,
+    order: Vec<u16>,
     /// For each place the words of its key.
     words: Vec<u64>,
     entries: Entries,
@@ -69,7 +69,7 @@ impl<const WAYS: usize> BucketCache<WAYS> {
         let places = count * WAYS;
         let mut order = Vec::new(alloc);
         for place in 0..places {
-            order.push(place % WAYS)?;
+            order.push((place % WAYS) as u16)?;
         }
         let used = vec![in alloc; 0; count]?;
         let words = vec![in alloc; 0; places * key_words]?;
@@ -144,7 +144,7 @@ impl<const WAYS: usize> BucketCache<WAYS> {
         let bucket = bucket as usize;
         if i < self.used[bucket] {
             let first = bucket * WAYS;
-            Some(first + self.order[first + i])
+            Some(first + self.order[first + i] as usize)
         } else {
             None
         }
