@@ -1,17 +1,14 @@
 -- The lists of a cache, by its buckets.
-use Rattle.std.proofs.Common.{◌≡◌, ◌≢◌, ◌⊎◌, ℕ, suc, ◌∷◌, ◌+◌, ◌*◌, ◌<◌, ◌≤◌, List, [], Some, length, map, get_or, set, take, replicate, All, AllPairs, mul_comm, refl, sym, ap, ap₂, ◌∙◌, subst, ⊎_elim, arith, length-set, get_or-set_other, get_or-set_same}
+use Rattle.std.proofs.Common.{◌≡◌, ◌≢◌, ◌⊎◌, ℕ, suc, ◌∷◌, ◌+◌, ◌*◌, ◌<◌, ◌≤◌, List, [], Some, length, map, get_or, take, replicate, All, AllPairs, mul_comm, refl, sym, ap, ap₂, ◌∙◌, subst, ⊎_elim, arith}
 use Rattle.std.specs.Prelude.{nat_lt, slice_get, sum_by, ◌/◌, ◌%◌}
 use Rattle.std.proofs.Math.Nat.{div-add-mod, mod-lt, div-lt_iff_lt-mul}
-use Rattle.std.proofs.lemmas.Bool.{cases_eq, cases_order, ltb-true, ltb-false}
-use Rattle.std.proofs.lemmas.List.{map-set, get_or-map, length-map, get_or_past}
+use Rattle.std.proofs.lemmas.Bool.{cases_order, ltb-true, ltb-false}
+use Rattle.std.proofs.lemmas.List.{get_or-map, length-map, get_or_past}
 use Rattle.std.proofs.lemmas.List.Elements.{All-nil}
 use Rattle.std.proofs.lemmas.List.Sums.{sum_by_more}
 use Rattle.std.proofs.lemmas.Option.{get_or_from_slice_get}
-use Rattle.epoch_model.specs.Keys.{Key}
-use Rattle.bucket_cache.specs.declared.bucket.Touch.{Touch}
-use Rattle.bucket_cache.specs.Buckets.{Pair, Recency, with_pairs, AreOnce, IsSound}
-use Rattle.bucket_cache.specs.Touches.{Touches}
-use Rattle.bucket_cache.specs.Caches.{Cache, with_list, IsSoundCache}
+use Rattle.bucket_cache.specs.Buckets.{Pair, Recency, AreOnce}
+use Rattle.bucket_cache.specs.Caches.{IsSoundCache}
 use Rattle.bucket_cache.specs.Shapes.{IsHome, IsShaped}
 use Rattle.bucket_cache.proofs.FlatRows.{row_fits}
 use Rattle.bucket_cache.proofs.BucketLists.{some-get}
@@ -20,48 +17,11 @@ use Rattle.bucket_cache.proofs.Fronts.{by_test}
 abbrev pub lists_of : List Recency → List (List Pair)
 lists_of buckets = map (λ r. r.pairs) buckets
 
-pub lists_of-set : (buckets : List Recency) (i : ℕ) (r : Recency) → lists_of (set buckets i r) ≡ set (lists_of buckets) i r.pairs
-lists_of-set buckets i r = map-set (λ (r : Recency). r.pairs) buckets i r
-
-pub list_new : (buckets : List Recency) (i : ℕ) (r : Recency) → i < length buckets → get_or (lists_of (set buckets i r)) i [] ≡ r.pairs
-list_new buckets i r h = ap (λ ls. get_or ls i []) (lists_of-set buckets i r) ∙ get_or-set_same (lists_of buckets) i r.pairs [] (subst (λ n. i < n) (sym (length-map buckets (λ (r : Recency). r.pairs))) h)
-
 pub list_old : (buckets : List Recency) (i : ℕ) (r : Recency) → i < length buckets → r ≡ get_or buckets i r → get_or (lists_of buckets) i [] ≡ r.pairs
 list_old buckets i r h e = get_or-map (λ (r : Recency). r.pairs) buckets i r [] h ∙ ap (λ (x : Recency). x.pairs) (sym e)
 
 pub home_at : (ways kw ew : ℕ) (buckets : List Recency) (entries : List (List ℕ)) (i : ℕ) (r : Recency) → IsShaped ways kw ew buckets entries → i < length buckets → r ≡ get_or buckets i r → IsHome ways kw (i * ways) r
 home_at ways kw ew buckets entries i r s h e = subst (IsHome ways kw (i * ways)) (sym e) (s.each i r h)
-
-pub touched_at : (ways kw first : ℕ) (key : Key) (buckets : List Recency) (i : ℕ) (old new : Recency) (touch : Touch) → IsHome ways kw first old → i < length buckets → old ≡ get_or buckets i old
-    → Touches old.ways key old.pairs touch new.pairs → Touches ways key (get_or (lists_of buckets) i []) touch (get_or (lists_of (set buckets i new)) i [])
-touched_at ways kw first key buckets i old new touch s h e t =
-    subst (λ n. Touches n key (get_or (lists_of buckets) i []) touch (get_or (lists_of (set buckets i new)) i [])) s.of_ways
-    (subst (λ ps. Touches old.ways key ps touch (get_or (lists_of (set buckets i new)) i [])) (sym (list_old buckets i old h e))
-    (subst (λ ps. Touches old.ways key old.pairs touch ps) (sym (list_new buckets i new h)) t))
-
--- a bucket of other pairs is at home where it was
-pub home-with_pairs : (ways kw first : ℕ) (old new : Recency) (pairs : List Pair) → IsHome ways kw first old → new ≡ with_pairs old pairs → IsSound new → IsHome ways kw first new
-home-with_pairs ways kw first old new pairs s e sound = record {
-  of_first = ap (λ r. r.first) e ∙ s.of_first;
-  of_ways = ap (λ r. r.ways) e ∙ s.of_ways;
-  of_key_words = ap (λ r. r.key_words) e ∙ s.of_key_words;
-  sound = sound;
-}
-
-pub shaped-set : (ways kw ew : ℕ) (buckets : List Recency) (entries : List (List ℕ)) (i : ℕ) (new : Recency) → IsShaped ways kw ew buckets entries → i < length buckets → IsHome ways kw (i * ways) new
-    → IsShaped ways kw ew (set buckets i new) entries
-shaped-set ways kw ew buckets entries i new s h home =
-    let long : length (set buckets i new) ≡ length buckets = length-set buckets i new in
-    record {
-      some = s.some;
-      each = λ b d l. ⊎_elim
-          (λ (e : b ≡ i). subst (λ n. IsHome ways kw (n * ways) (get_or (set buckets i new) n d)) (sym e) (subst (IsHome ways kw (i * ways)) (sym (get_or-set_same buckets i new d h)) home))
-          (λ (n : b ≡ i → ⊥). subst (IsHome ways kw (b * ways)) (sym (get_or-set_other buckets i b new d n)) (s.each b d (omega arith)))
-          (cases_eq b i);
-      room = subst (λ n. n * ways ≤ 65536) (sym long) s.room;
-      places = s.places ∙ ap (λ n. n * ways) (sym long);
-      words = s.words;
-    }
 
 -- two rows that share a place are one row
 pub same_row : (one two width place : ℕ) → one * width ≤ place → place < one * width + width → two * width ≤ place → place < two * width + width → one ≡ two
@@ -136,28 +96,6 @@ cache_sound ways kw ew buckets entries s =
       entries = s.places ∙ ap (λ n. n * ways) (sym long);
       entry_words = s.words;
     }
-
--- the cache of these parts
-abbrev pub cache_of : ℕ → ℕ → List Recency → List (List ℕ) → Cache
-cache_of kw ew buckets entries = record { key_words = kw; entry_words = ew; lists = lists_of buckets; entries = entries }
-
-pub in_buckets : (kw ew i : ℕ) (buckets : List Recency) (entries : List (List ℕ)) (cache : Cache) → cache_of kw ew buckets entries ≡ cache → i < length cache.lists → i < length buckets
-in_buckets kw ew i buckets entries cache e h = subst (λ n. i < n) (ap (λ x. length x.lists) (sym e) ∙ length-map buckets (λ (r : Recency). r.pairs)) h
-
--- a cache is sound after one of its buckets got other pairs
-pub sound-set : (ways kw ew i : ℕ) (buckets : List Recency) (entries : List (List ℕ)) (old new : Recency) (pairs : List Pair) → IsShaped ways kw ew buckets entries → i < length buckets → old ≡ get_or buckets i old
-    → new ≡ with_pairs old pairs → IsSound new → IsSoundCache ways (cache_of kw ew (set buckets i new) entries)
-sound-set ways kw ew i buckets entries old new pairs s h e n sound =
-    cache_sound ways kw ew (set buckets i new) entries
-    (shaped-set ways kw ew buckets entries i new s h (home-with_pairs ways kw (i * ways) old new pairs (home_at ways kw ew buckets entries i old s h e) n sound))
-
--- the pairs that a bucket gets, by those that it had
-pub pairs-set : (kw ew i : ℕ) (buckets : List Recency) (entries : List (List ℕ)) (old new : Recency) (change : List Pair → List Pair) → i < length buckets → old ≡ get_or buckets i old
-    → new ≡ with_pairs old (change old.pairs) → cache_of kw ew (set buckets i new) entries ≡ with_list (cache_of kw ew buckets entries) i (change (get_or (lists_of buckets) i []))
-pairs-set kw ew i buckets entries old new change h e n =
-    ap (λ ls. record { key_words = kw; entry_words = ew; lists = ls; entries = entries })
-    (lists_of-set buckets i new
-    ∙ (ap (λ (r : Recency). set (lists_of buckets) i r.pairs) n ∙ ap (λ ps. set (lists_of buckets) i (change ps)) (sym (list_old buckets i old h e))))
 
 -- the bucket of a place, and the way in it
 pub place_in : (ways place : ℕ) → 0 < ways → (place / ways * ways + place % ways ≡ place) × (place % ways < ways)

@@ -1,7 +1,9 @@
 pub mod Moves
 pub mod FlatRows
+pub mod FlatBuckets
+pub mod FlatCaches
+pub mod FlatReads
 pub mod Fronts
 pub mod PairLists
 pub mod BucketLists
-pub mod Written
 pub mod CacheLists

@@ -15,9 +15,6 @@ pub record Recency : Type 0 where
   pub key_words : ℕ
   pub pairs : List Pair
 
-abbrev pub with_pairs : Recency → List Pair → Recency
-with_pairs r pairs = record { first = r.first; ways = r.ways; key_words = r.key_words; pairs = pairs }
-
 abbrev pub is_pair_of : Key → Pair → Bool
 is_pair_of key pair = key_eq pair.key key
 

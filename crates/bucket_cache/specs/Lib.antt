@@ -1,5 +1,6 @@
 pub mod Slices
 pub mod Buckets
+pub mod FlatBuckets
 pub mod Touches
 pub mod Bounds
 pub mod Caches

@@ -8,8 +8,10 @@ ghost use Rattle.bucket_cache.specs.Touches.{Touches, IsLeast, least_place, with
 ghost use Rattle.bucket_cache.specs.LendingRows.{written_over};
 ghost use Rattle.bucket_cache.specs.Caches.{Cache, list_at, entry_at, with_list, empty_cache, IsSoundCache};
 
-use crate::bucket::{Bucket, Touch};
+use crate::bucket::Touch;
+use crate::buckets::{replace_in_bucket, touch_bucket};
 use crate::entries::Entries;
+use crate::slices;
 use marple_base::Steps;
 use std::alloc::{AllocError, Global};
 use std::marker::Model;
@@ -21,25 +23,29 @@ use std::sync::ledger::Ledger;
 pub struct BucketCache<const WAYS: usize> {
     key_words: usize,
     entry_words: usize,
-    buckets: Vec<Bucket>,
+    /// For each bucket, how many of its ways are in use.
+    used: Vec<usize>,
+    /// For each bucket its ways, the most recently used first and the free ones last.
+    order: Vec<u16>,
+    /// For each place the words of its key.
+    words: Vec<u64>,
     entries: Entries,
 }
 
 impl<const WAYS: usize> Model for BucketCache<WAYS> {
-    ghost use Rattle.std.specs.Prelude.{map};
     ghost use Rattle.bucket_cache.specs.Caches.{Cache};
-    ghost use Rattle.bucket_cache.specs.Shapes.{IsShaped};
+    ghost use Rattle.bucket_cache.specs.FlatBuckets.{lists_in, IsFlatCache};
 
     ghost Value = { Cache };
 
     ghost view = { λ c. record {
       key_words = c.key_words;
       entry_words = c.entry_words;
-      lists = map (λ r. r.pairs) c.buckets.items;
+      lists = lists_in WAYS c.key_words c.used.items c.order.items c.words.items;
       entries = c.entries;
     } };
 
-    ghost invariant = { λ c. IsShaped WAYS c.key_words c.entry_words c.buckets.items c.entries };
+    ghost invariant = { λ c. IsFlatCache WAYS c.key_words c.entry_words c.used.items c.order.items c.words.items c.entries };
 }
 
 impl<const WAYS: usize> BucketCache<WAYS> {
@@ -59,17 +65,21 @@ impl<const WAYS: usize> BucketCache<WAYS> {
         requires entry { entry_words ≤ 512 }
         ensures { IfOk result (λ cache. cache ≡ empty_cache buckets WAYS key_words entry_words) }
     {
-        let mut made = Vec::new(alloc);
-        let mut first = 0;
-        for _bucket in 0..buckets {
-            made.push(Bucket::new(alloc, first, WAYS, key_words)?)?;
-            first += WAYS;
+        let count = buckets as usize;
+        let places = count * WAYS;
+        let mut order = Vec::new(alloc);
+        for place in 0..places {
+            order.push((place % WAYS) as u16)?;
         }
-        let entries = Entries::new(alloc, first, entry_words)?;
+        let used = vec![in alloc; 0; count]?;
+        let words = vec![in alloc; 0; places * key_words]?;
+        let entries = Entries::new(alloc, places, entry_words)?;
         Ok(BucketCache {
             key_words,
             entry_words,
-            buckets: made,
+            used,
+            order,
+            words,
             entries,
         })
     }
@@ -79,7 +89,7 @@ impl<const WAYS: usize> BucketCache<WAYS> {
         ensures number { result ≡ length self.now.lists }
         ensures sound { IsSoundCache WAYS self.now }
     {
-        self.buckets.len() as u32
+        self.used.len() as u32
     }
 
     /// Brings the key to the front of its bucket where it is there or where a place is free.
@@ -92,10 +102,15 @@ impl<const WAYS: usize> BucketCache<WAYS> {
         ensures at_least { steps.old ≤ steps.new }
         ensures cost { steps.new ≤ steps.old + touch_cost WAYS self.old.key_words result }
     {
-        let bucket = &mut self.buckets[bucket as usize];
-        let touch = bucket.touch(key, steps);
-        bucket.known();
-        touch
+        touch_bucket(
+            bucket as usize,
+            WAYS,
+            &mut self.used,
+            &mut self.order,
+            &mut self.words,
+            key,
+            steps,
+        )
     }
 
     /// Gives the least recently used place of a full bucket to the key.
@@ -110,10 +125,15 @@ impl<const WAYS: usize> BucketCache<WAYS> {
         ensures sound { IsSoundCache WAYS self.new }
         ensures cost { steps.new ≡ steps.old + replace_cost WAYS self.old.key_words }
     {
-        let bucket = &mut self.buckets[bucket as usize];
-        let place = bucket.replace(key, steps);
-        bucket.known();
-        place
+        replace_in_bucket(
+            bucket as usize,
+            WAYS,
+            &self.used,
+            &mut self.order,
+            &mut self.words,
+            key,
+            steps,
+        )
     }
 
     /// The place of a pair of a bucket, the most recently used one being 0. None where the bucket has no such pair.
@@ -121,8 +141,13 @@ impl<const WAYS: usize> BucketCache<WAYS> {
         requires { bucket < length self.now.lists }
         ensures { result ≡ slice_get (places_of (list_at self.now bucket)) i }
     {
-        let bucket = &self.buckets[bucket as usize];
-        bucket.place(i)
+        let bucket = bucket as usize;
+        if i < self.used[bucket] {
+            let first = bucket * WAYS;
+            Some(first + self.order[first + i] as usize)
+        } else {
+            None
+        }
     }
 
     /// The least recently used place of a bucket. None where the bucket is empty.
@@ -131,8 +156,12 @@ impl<const WAYS: usize> BucketCache<WAYS> {
         ensures place { result ≡ least_place (list_at self.now bucket) }
         ensures sound { IsSoundCache WAYS self.now }
     {
-        let bucket = &self.buckets[bucket as usize];
-        bucket.least()
+        let used = self.used[bucket as usize];
+        if used == 0 {
+            None
+        } else {
+            self.place(bucket, used - 1)
+        }
     }
 
     /// The least recently used pair of a bucket goes.
@@ -143,9 +172,7 @@ impl<const WAYS: usize> BucketCache<WAYS> {
         ensures sound { IsSoundCache WAYS self.new }
         ensures cost { steps.new ≡ steps.old + 1 }
     {
-        let bucket = &mut self.buckets[bucket as usize];
-        bucket.drop_last();
-        bucket.known();
+        self.used[bucket as usize] -= 1;
         steps.tick();
     }
 
@@ -156,8 +183,7 @@ impl<const WAYS: usize> BucketCache<WAYS> {
         ensures key { (bucket i : ℕ) (pair : Pair) → slice_get (list_at self.now bucket) i ≡ Some pair → pair.place ≡ at
             → result.now ≡ pair.key }
     {
-        let bucket = &self.buckets[at / WAYS];
-        bucket.key(at % WAYS)
+        slices::row(&self.words, self.key_words, at)
     }
 
     /// The words of the entry at a place.
@@ -187,8 +213,8 @@ impl<const WAYS: usize> BucketCache<WAYS> {
         ensures bound { result ≤ length self.now.lists * WAYS }
     {
         let mut held = 0;
-        for bucket in &self.buckets {
-            held += bucket.len();
+        for used in &self.used {
+            held += *used;
         }
         held
     }

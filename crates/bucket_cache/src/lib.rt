@@ -5,6 +5,7 @@
 ghost use Rattle.bucket_cache.specs.Bounds.{UsesAreBounded};
 
 mod bucket;
+mod buckets;
 mod cache;
 mod entries;
 mod hash;

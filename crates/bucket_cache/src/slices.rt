@@ -24,7 +24,7 @@ pub fn same_words<L: Ledger>(a: &[u64], b: &[u64], steps: &mut Steps<L>) -> bool
 }
 
 /// Moves an element to the front, and those before it one place back.
-pub fn move_to_front<L: Ledger>(order: &mut [usize], at: usize, steps: &mut Steps<L>)
+pub fn move_to_front<L: Ledger>(order: &mut [u16], at: usize, steps: &mut Steps<L>)
     requires { at < length order.old }
     ensures moved { order.new ≡ at_front at order.old }
     ensures cost { steps.new ≡ steps.old + (at + 1) }

@@ -14,7 +14,7 @@ use std::sync::ledger::Ledger;
 
 /// Where the key stands among the ways in use.
 fn find_key<L: Ledger>(
-    order: &[usize],
+    order: &[u16],
     used: usize,
     words: &[u64],
     key: &[u64],
@@ -33,7 +33,7 @@ fn find_key<L: Ledger>(
     ensures cost { steps.new ≤ steps.old + used * length key.now }
 {
     for i in 0..used {
-        let held = slices::row(words, key.len(), order[i]);
+        let held = slices::row(words, key.len(), order[i] as usize);
         if slices::same_words(held, key, steps) {
             return Some(i);
         }
@@ -43,7 +43,7 @@ fn find_key<L: Ledger>(
 
 /// Moves a way to the front and gives it the key. Answers the way.
 fn put<L: Ledger>(
-    order: &mut [usize],
+    order: &mut [u16],
     words: &mut [u64],
     at: usize,
     key: &[u64],
@@ -58,7 +58,7 @@ fn put<L: Ledger>(
         ≡ slice_set (rows_of (length key.now) (length order.old) words.old) result key.now }
     ensures cost { steps.new ≡ steps.old + (at + 1) + length key.now }
 {
-    let way = order[at];
+    let way = order[at] as usize;
     slices::move_to_front(order, at, steps);
     let start = way * key.len();
     copy_words(key, &mut words[start..start + key.len()], steps);
@@ -69,7 +69,7 @@ fn put<L: Ledger>(
 pub fn touch_ways<L: Ledger>(
     first: usize,
     used: &mut usize,
-    order: &mut [usize],
+    order: &mut [u16],
     words: &mut [u64],
     key: &[u64],
     steps: &mut Steps<L>,
@@ -85,7 +85,7 @@ pub fn touch_ways<L: Ledger>(
 {
     match find_key(order, *used, words, key, steps) {
         Some(at) => {
-            let way = order[at];
+            let way = order[at] as usize;
             slices::move_to_front(order, at, steps);
             Touch::Hit(first + way)
         }
@@ -95,7 +95,7 @@ pub fn touch_ways<L: Ledger>(
                 *used += 1;
                 Touch::Free(first + way)
             } else {
-                Touch::Full(first + order[*used - 1])
+                Touch::Full(first + order[*used - 1] as usize)
             }
         }
     }
@@ -104,7 +104,7 @@ pub fn touch_ways<L: Ledger>(
 /// Gives the least recently used way of a full bucket to the key.
 pub fn replace_way<L: Ledger>(
     first: usize,
-    order: &mut [usize],
+    order: &mut [u16],
     words: &mut [u64],
     key: &[u64],
     steps: &mut Steps<L>,

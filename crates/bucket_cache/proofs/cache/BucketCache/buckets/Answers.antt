@@ -1,7 +1,16 @@
-use Rattle.bucket_cache.proofs.CacheLists.{cache_sound}
+use Rattle.std.proofs.Common.{ap, length, arith}
+use Rattle.bucket_cache.proofs.FlatBuckets.{length-lists_in}
+use Rattle.bucket_cache.proofs.FlatCaches.{flat_sound}
 use Rattle.bucket_cache.proofs.cache.BucketCache.buckets.Goals as goal
 
 pub returns-clause-sound : goal.returns-clause-sound
 returns-clause-sound g c =
     let b = c.self.inside in
-    rw (← c.self.view_is) (cache_sound g.row.WAYS b.key_words b.entry_words b.buckets.items b.entries c.self.invariant)
+    rw (← c.self.view_is) (flat_sound g.row.WAYS b.key_words b.entry_words b.used.items b.order.items b.words.items b.entries c.self.invariant)
+
+pub returns-clause-number : goal.returns-clause-number
+returns-clause-number g c =
+    let b = c.self.inside in
+    let long = length-lists_in g.row.WAYS b.key_words b.used.items b.order.items b.words.items in
+    let lists = ap (λ x. length x.lists) c.self.view_is in
+    omega (arith, long, lists, c.len.ensures, b.used.ok.0)

@@ -1,21 +1,25 @@
-use Rattle.std.proofs.Common.{◌/◌, ◌<◌, ◌*◌, [], length, get_or, sym, ap, ◌∙◌, subst}
-use Rattle.std.specs.Prelude.{slice_get, ◌%◌, ◌+◌}
-use Rattle.bucket_cache.proofs.CacheLists.{lists_of, list_old, home_at, place_in, bucket_in_range, pair_home}
+use Rattle.std.proofs.Common.{◌+◌, ◌*◌, ◌<◌, ◌≤◌, length, take, drop, sym, ap, ◌∙◌, subst}
+use Rattle.bucket_cache.proofs.FlatReads.{key-fits, key-long, flat-key}
 use Rattle.bucket_cache.proofs.cache.BucketCache.key.Goals as goal
+
+pub row-requires : goal.row-requires
+row-requires g c =
+    let b = c.self.inside in
+    let stands : c.args.at < length b.used.items * g.row.WAYS = subst (λ n. c.args.at < n) (ap (λ x. length x.entries) (sym c.self.view_is) ∙ c.self.invariant.places) c.requires in
+    subst (λ xs. c.args.at * b.key_words + b.key_words ≤ length xs) (sym c.deref.ensures.value)
+    (key-fits g.row.WAYS b.key_words c.args.at b.used.items b.order.items b.words.items c.self.invariant.buckets stands)
+
+pub returns-clause-length : goal.returns-clause-length
+returns-clause-length g c =
+    let b = c.self.inside in
+    let stands : c.args.at < length b.used.items * g.row.WAYS = subst (λ n. c.args.at < n) (ap (λ x. length x.entries) (sym c.self.view_is) ∙ c.self.invariant.places) c.requires in
+    key-long g.row.WAYS b.key_words c.args.at b.used.items b.order.items b.words.items c.row.result.now c.self.invariant.buckets stands
+    (c.row.ensures ∙ ap (λ xs. take b.key_words (drop (c.args.at * b.key_words) xs)) c.deref.ensures.value) ∙ ap (λ x. x.key_words) c.self.view_is
 
 pub returns-clause-key : goal.returns-clause-key
 returns-clause-key g c =
     let b = c.self.inside in
-    let ways = g.row.WAYS in
-    let at = c.args.at in
-    let s = c.self.invariant in
-    let stands : at < length b.buckets.items * ways = subst (λ n. at < n) (ap (λ x. length x.entries) (sym c.self.view_is) ∙ s.places) c.requires in
-    let range = bucket_in_range ways at (length b.buckets.items) s.some stands in
-    let split = place_in ways at s.some in
-    let r = c.index-bucket.result.now in
-    let home = home_at ways b.key_words b.entry_words b.buckets.items b.entries (at / ways) r s range c.index-bucket.ensures in
+    let stands : c.args.at < length b.used.items * g.row.WAYS = subst (λ n. c.args.at < n) (ap (λ x. length x.entries) (sym c.self.view_is) ∙ c.self.invariant.places) c.requires in
     rw (← c.self.view_is) (λ bucket i pair e p.
-    let same = pair_home ways b.key_words b.entry_words b.buckets.items b.entries bucket i at pair s e p in
-    c.key.ensures.key i pair
-    (sym (ap (λ ps. slice_get ps i) (list_old b.buckets.items (at / ways) r range c.index-bucket.ensures)) ∙ (ap (λ n. slice_get (get_or (lists_of b.buckets.items) n []) i) (sym same) ∙ e))
-    (p ∙ (sym split.0 ∙ ap (λ n. n + at % ways) (sym home.of_first))))
+    c.row.ensures ∙ (ap (λ xs. take b.key_words (drop (c.args.at * b.key_words) xs)) c.deref.ensures.value
+    ∙ flat-key g.row.WAYS b.key_words b.entry_words c.args.at b.used.items b.order.items b.words.items b.entries c.self.invariant stands bucket i pair e p))
