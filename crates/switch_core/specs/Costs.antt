@@ -1,6 +1,10 @@
--- How many steps evictions take.
+-- How many steps evictions and merges take.
 use Rattle.std.specs.Prelude.{ℕ, ◌+◌}
 
 -- a key of so many words and its entry go into the pipe word by word, and the bucket drops their pair
 abbrev pub evict_cost : ℕ → ℕ → ℕ
 evict_cost key_words entry_words = key_words + entry_words + 1
+
+-- a key of so many words and its entry are copied out of the pipe, and the entry is merged, which takes so many steps at most
+abbrev pub merge_cost : ℕ → ℕ → ℕ → ℕ
+merge_cost key_words entry_words merging = key_words + entry_words + merging

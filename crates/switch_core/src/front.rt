@@ -7,7 +7,7 @@ ghost use Rattle.epoch_model.specs.Machine.{Machine, Packet, Evict, Merge, empty
 ghost use Rattle.epoch_model.specs.Timeline.{IsSwept};
 ghost use Rattle.bucket_cache.specs.Caches.{list_at, with_list};
 ghost use Rattle.switch_core.specs.Closing.{held_in, is_drained};
-ghost use Rattle.switch_core.specs.Costs.{evict_cost};
+ghost use Rattle.switch_core.specs.Costs.{evict_cost, merge_cost};
 ghost use Rattle.switch_core.specs.FrontParts.{IsFront, FitsStore};
 ghost use Rattle.switch_core.specs.FrontEvents.{FrontMakes, MergesNext};
 ghost use Rattle.switch_core.specs.Lanes.{FrontStands, geometry};
@@ -173,6 +173,8 @@ impl<K: EpochKind, const WAYS: usize> Front<K, WAYS> {
         ensures kind { self.new.kind ≡ self.old.kind }
         ensures cache { self.new.cache ≡ self.old.cache }
         ensures at_least { steps.old ≤ steps.new }
+        ensures cost { let cache = self.old.cache in
+            steps.new ≤ steps.old + merge_cost cache.key_words cache.entry_words (K.merge_bound self.old.kind) }
     {
         if self.piped() == 0 {
             return Ok(Merged::Empty);

@@ -10,7 +10,7 @@ ghost use Rattle.switch_core.specs.Lanes.{LaneStands, geometry};
 ghost use Rattle.switch_core.specs.FrontParts.{IsFront, FitsStore};
 ghost use Rattle.switch_core.specs.LaneEvents.{EventsAreFollowed, Makes, parts};
 ghost use Rattle.switch_core.specs.Closing.{held_in, is_drained};
-ghost use Rattle.switch_core.specs.Costs.{evict_cost};
+ghost use Rattle.switch_core.specs.Costs.{evict_cost, merge_cost};
 ghost use Rattle.final_queries.specs.GroupTable.{closed_table};
 
 use crate::closing::columns;
@@ -141,6 +141,8 @@ impl<K: EpochKind, const WAYS: usize> Lane<K, WAYS> {
         ensures kind { self.new.kind ≡ self.old.kind }
         ensures cache { self.new.cache ≡ self.old.cache }
         ensures at_least { steps.old ≤ steps.new }
+        ensures cost { let cache = self.old.cache in
+            steps.new ≤ steps.old + merge_cost cache.key_words cache.entry_words (K.merge_bound self.old.kind) }
     {
         self.front.merge_into(&mut self.store, steps)
     }

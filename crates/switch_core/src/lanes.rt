@@ -14,7 +14,7 @@ ghost use Rattle.switch_core.specs.Costs.{evict_cost};
 ghost use Rattle.switch_core.specs.Rows.{Each};
 ghost use Rattle.switch_core.specs.Pipelines.{event_at};
 ghost use Rattle.switch_core.specs.PlanLanes.{AreLanesOf, AtLane, LaneMakes, LanesMake, LaneView, LaneIsSwept, LaneRunsSweep, LaneSweeps};
-ghost use Rattle.switch_core.specs.PlanLanes.{SweepBreaksOff, lane_cost, lane_is_ready, lane_view};
+ghost use Rattle.switch_core.specs.PlanLanes.{SweepBreaksOff, lane_cost, lane_is_ready, lane_merge_cost, lane_view};
 
 use crate::front::Merged;
 use crate::lane::Lane;
@@ -127,6 +127,7 @@ pub fn merge_at<const WAYS: usize, L: Ledger>(
     ensures empty { AtLane (λ lane. (result ≡ Ok Merged.Empty) ↔ (length lane.pipe.records ≡ 0)) (map lane_view lanes.old) at }
     ensures err { OnErr result (map lane_view lanes.new ≡ map lane_view lanes.old) }
     ensures at_least { steps.old ≤ steps.new }
+    ensures cost { AtLane (λ lane. steps.new ≤ steps.old + lane_merge_cost lane) (map lane_view lanes.old) at }
 {
     let lane = &mut lanes[at];
     lane.merge(steps)

@@ -14,7 +14,7 @@ ghost use Rattle.switch_core.specs.Costs.{evict_cost};
 ghost use Rattle.switch_core.specs.Pipelines.{empty_machines, event_at, geometry_of, packet_events, tables_of};
 ghost use Rattle.switch_core.specs.PlanLanes.{AreLanesOf, AtLane, HavePlaces, LaneRunsSweep, PipelineIsSwept, PipelineMakes};
 ghost use Rattle.switch_core.specs.PlanLanes.{PipelineStands, PipelineSweeps, SweepBreaksOff, folding_at, lane_is_drained, lane_is_ready};
-ghost use Rattle.switch_core.specs.PlanLanes.{lane_view, pipeline_cost};
+ghost use Rattle.switch_core.specs.PlanLanes.{lane_merge_cost, lane_view, pipeline_cost};
 
 use crate::front::Merged;
 use crate::lane::Lane;
@@ -175,6 +175,7 @@ impl<const WAYS: usize> Pipeline<WAYS> {
         ensures empty { AtLane (λ at. (result ≡ Ok Merged.Empty) ↔ (length at.pipe.records ≡ 0)) self.old.lanes lane }
         ensures err { OnErr result (self.new ≡ self.old) }
         ensures at_least { steps.old ≤ steps.new }
+        ensures cost { AtLane (λ at. steps.new ≤ steps.old + lane_merge_cost at) self.old.lanes lane }
     {
         merge_at(&mut self.lanes, lane as usize, steps)
     }
