@@ -14,7 +14,7 @@ ghost use Rattle.switch_core.specs.Costs.{evict_cost};
 ghost use Rattle.switch_core.specs.Rows.{Each};
 ghost use Rattle.switch_core.specs.Pipelines.{event_at};
 ghost use Rattle.switch_core.specs.PlanLanes.{AreLanesOf, AtLane, LaneMakes, LanesMake, LaneView, LaneIsSwept, LaneRunsSweep, LaneSweeps};
-ghost use Rattle.switch_core.specs.PlanLanes.{SweepBreaksOff, lane_cost, lane_is_ready, lane_merge_cost, lane_view};
+ghost use Rattle.switch_core.specs.PlanLanes.{SweepBreaksOff, lane_cost, lane_is_ready, lane_merge_cost, lane_sweep_cost, lane_view};
 
 use crate::front::Merged;
 use crate::lane::Lane;
@@ -143,6 +143,7 @@ pub fn sweep_lanes<const WAYS: usize, L: Ledger>(
     ensures breaks_off { OnErr result (SweepBreaksOff WAYS (map lane_view lanes.old) (map lane_view lanes.new)) }
     ensures makes { Each (LaneSweeps WAYS) (map lane_view lanes.old) (map lane_view lanes.new) }
     ensures at_least { steps.old ≤ steps.new }
+    ensures cost { steps.new ≤ steps.old + sum_by lane_sweep_cost (map lane_view lanes.old) }
 {
     for i in 0..lanes.len() {
         let lane = &mut lanes[i];

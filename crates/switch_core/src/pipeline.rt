@@ -1,7 +1,7 @@
 //! The lanes of a plan.
 
 ghost use Rattle.std.specs.Prelude.{◌≡◌, ◌+◌, ◌*◌, ◌<◌, ◌≤◌, ◌==◌, ◌↔◌, not, true, List, length, map};
-ghost use Rattle.std.specs.Prelude.{slice_get, if◌then◌else◌, IfOk, OnOk, OnErr, Some};
+ghost use Rattle.std.specs.Prelude.{slice_get, sum_by, if◌then◌else◌, IfOk, OnOk, OnErr, Some};
 ghost use Rattle.std.specs.List.{list_all};
 ghost use Rattle.epoch_model.specs.Machine.{Machine, Evict, Merge};
 ghost use Rattle.epoch_model.specs.Timeline.{IsSwept};
@@ -14,7 +14,7 @@ ghost use Rattle.switch_core.specs.Costs.{evict_cost};
 ghost use Rattle.switch_core.specs.Pipelines.{empty_machines, event_at, geometry_of, packet_events, tables_of};
 ghost use Rattle.switch_core.specs.PlanLanes.{AreLanesOf, AtLane, HavePlaces, LaneRunsSweep, PipelineIsSwept, PipelineMakes};
 ghost use Rattle.switch_core.specs.PlanLanes.{PipelineStands, PipelineSweeps, SweepBreaksOff, folding_at, lane_is_drained, lane_is_ready};
-ghost use Rattle.switch_core.specs.PlanLanes.{lane_merge_cost, lane_view, pipeline_cost};
+ghost use Rattle.switch_core.specs.PlanLanes.{lane_merge_cost, lane_sweep_cost, lane_view, pipeline_cost};
 
 use crate::front::Merged;
 use crate::lane::Lane;
@@ -188,6 +188,7 @@ impl<const WAYS: usize> Pipeline<WAYS> {
         ensures runs { OnOk result (Each (LaneRunsSweep WAYS) self.old.lanes self.new.lanes) }
         ensures breaks_off { OnErr result (SweepBreaksOff WAYS self.old.lanes self.new.lanes) }
         ensures at_least { steps.old ≤ steps.new }
+        ensures cost { steps.new ≤ steps.old + sum_by lane_sweep_cost self.old.lanes }
     {
         sweep_lanes(&mut self.lanes, steps)
     }
