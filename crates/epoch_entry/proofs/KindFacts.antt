@@ -24,8 +24,8 @@ use Rattle.fold_class.proofs.AlgebraLaws.{sums_are, maxima_are}
 use Rattle.fold_class.proofs.DepthLemmas.{history_rounds}
 use Rattle.fold_class.proofs.LawLemmas.{depth_is, depth_found_is, maxima_depth}
 use Rattle.fold_class.proofs.PlaceLemmas.{both_sorts}
-use Rattle.epoch_entry.specs.Foldings.{per_epoch, entry_bound, IsKindOf}
-use Rattle.epoch_entry.specs.Entries.{other_sizes, other_folding, other_open, other_absorb, linear_rank, history_words, linear_sizes, linear_folding, linear_open, linear_absorb, WritesInto}
+use Rattle.epoch_entry.specs.Foldings.{per_epoch, entry_bound, IsKindOf, merge_bound}
+use Rattle.epoch_entry.specs.Entries.{other_sizes, other_folding, other_open, other_absorb, linear_rank, history_words, linear_sizes, linear_folding, linear_open, linear_absorb, other_merge, linear_merge, WritesInto}
 use Rattle.epoch_entry.proofs.FoldLemmas.{code_folds}
 
 pub other_kind : (f : TypedFold) (p : FoldProgram) → IsProgramOf f p → p.class ≡ Class.Other → IsKindOf f (other_sizes p) (other_folding p) (other_open p) (other_absorb p)
@@ -41,6 +41,11 @@ other_kind f p h e =
       «open» = omega (arith, states);
       absorb = omega (arith, h.code.steps, add-mul (fold_states f) 1 (f.nodes + 4 * f.statements + 1));
     }
+
+pub other_merged : (f : TypedFold) (p : FoldProgram) → IsProgramOf f p → other_merge p ≤ merge_bound f
+other_merged f p h =
+    let states : length p.layout.initial ≡ fold_states f = ap (λ l. length l) h.layout.initial ∙ h.valid.starts in
+    omega (arith, states)
 
 square : (d n : ℕ) → d ≤ n → d * (d + 1) ≤ n * (n + 1)
 square d n h =
@@ -88,6 +93,13 @@ linear_kind f p size h e sized =
             run_fit (algebra_of f) (fold_states f) (linear_rank p) (history_words p) (f.nodes + 4 * f.statements + 1) (p.depth * p.layout.args) size (code_steps p.code) own sorts h.code.steps,
           );
     }
+
+pub linear_merged : (f : TypedFold) (p : FoldProgram) → IsProgramOf f p → linear_merge p ≤ merge_bound f
+linear_merged f p h =
+    let sorts : linear_rank p + history_words p ≡ fold_states f = omega (arith, ap (λ l. length l) h.layout.linear, ap (λ l. length l) h.layout.history, both_sorts (is_history f) (fold_states f)) in
+    let few : linear_rank p ≤ fold_states f = omega (arith, sorts) in
+    let runs : p.depth * code_steps p.code ≡ depth_of f * code_steps p.code = ap (λ k. k * code_steps p.code) (depth_is f p.depth h.depth) in
+    omega (arith, sorts, runs, mul-le-mul_left (depth_of f) h.code.steps, mul-le-mul_left (linear_rank p) few, mul-le-mul_right (fold_states f) few)
 
 -- the rows of a linear program write elements of its algebra
 writes_algebra : (f : TypedFold) (p : FoldProgram) (a : Algebra) → IsProgramOf f p → p.class ≡ Linear → p.algebra ≡ a → WritesAlgebra a f p.rows

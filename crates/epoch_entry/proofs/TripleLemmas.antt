@@ -1,5 +1,5 @@
 -- Three states side by side, and the kind of the entries that hold them.
-use Rattle.std.proofs.Common.{◌≡◌, ℕ, ◌-◌, ◌^◌, List, [], ◌∷◌, ◌++◌, length, take, drop, refl, sym, ap, ◌∙◌, arith}
+use Rattle.std.proofs.Common.{◌≡◌, ℕ, ◌-◌, ◌^◌, ◌≤◌, List, [], ◌∷◌, ◌++◌, length, take, drop, refl, sym, ap, ◌∙◌, arith}
 use Rattle.std.specs.Prelude.{fold}
 use Rattle.std.proofs.lemmas.List.{length-take-le, length-drop, length-replicate}
 use Rattle.std.proofs.Math.Seq.{take-append_seam, drop-append_seam}
@@ -11,7 +11,8 @@ use Rattle.fold_code.specs.Meaning.{code_step}
 use Rattle.fold_class.specs.declared.program.FoldProgram.{FoldProgram}
 use Rattle.fold_class.specs.Program.{IsProgramOf}
 use Rattle.epoch_entry.specs.Triples.{first_third, second_third, last_third, beside, step_beside, start_beside}
-use Rattle.epoch_entry.specs.Bounds.{least_state, greatest_state, bounds_sizes, bounds_folding, bounds_open, bounds_absorb, IsBoundsKindOf}
+use Rattle.epoch_entry.specs.Bounds.{least_state, greatest_state, bounds_sizes, bounds_folding, bounds_open, bounds_absorb, bounds_merge, IsBoundsKindOf}
+use Rattle.epoch_entry.specs.Foldings.{merge_bound}
 
 -- the thirds
 
@@ -69,3 +70,8 @@ bounds_kind f p h =
       «open» = omega (arith, states);
       absorb = omega (arith, h.code.steps);
     }
+
+pub bounds_merged : (f : TypedFold) (p : FoldProgram) → IsProgramOf f p → bounds_merge p ≤ merge_bound f
+bounds_merged f p h =
+    let states : length p.layout.initial ≡ fold_states f = ap (λ l. length l) h.layout.initial ∙ h.valid.starts in
+    omega (arith, states)

@@ -56,6 +56,9 @@ bounds_open p = 3 * length p.layout.initial
 abbrev pub bounds_absorb : FoldProgram → ℕ
 bounds_absorb p = 3 * code_steps p.code
 
+abbrev pub bounds_merge : FoldProgram → ℕ
+bounds_merge p = bounds_words p
+
 -- A kind of entries is that of a fold's bounds: its sizes, what its entries are folded to, and its bounds on steps.
 pub record IsBoundsKindOf (f : TypedFold) (sizes : Sizes) (folding : Folding) (opening absorbing : ℕ) : Type 0 where
   pub args : sizes.args ≡ fold_args f

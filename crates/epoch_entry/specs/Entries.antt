@@ -44,6 +44,9 @@ other_open p = length p.layout.initial
 abbrev pub other_absorb : FoldProgram → ℕ
 other_absorb p = code_steps p.code
 
+abbrev pub other_merge : FoldProgram → ℕ
+other_merge p = length p.layout.initial
+
 -- Of a linear fold: the number of logged rows, a log, the history, and the map of the rows after the log, whose
 -- elements have so many words.
 
@@ -140,3 +143,11 @@ run_steps size p = 2 * history_words p + code_steps p.code + (linear_rank p + li
 
 abbrev pub linear_absorb : ℕ → FoldProgram → ℕ
 linear_absorb size p = max (composed_steps size p) (run_steps size p)
+
+-- the map is applied to the linear variables, which are read before and written back, and the history is written
+abbrev pub carry_steps : FoldProgram → ℕ
+carry_steps p = linear_rank p * linear_rank p + 3 * linear_rank p + history_words p
+
+-- an entry is merged by a run of the code for each logged row, and then by the map
+abbrev pub linear_merge : FoldProgram → ℕ
+linear_merge p = p.depth * code_steps p.code + carry_steps p

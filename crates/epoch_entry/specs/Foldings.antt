@@ -30,6 +30,11 @@ abbrev pub absorb_bound : TypedFold → ℕ
 absorb_bound f =
     (fold_states f + 1) * (f.nodes + 4 * f.statements + 1) + fold_states f * fold_states f * (fold_states f + 1) + 4 * entry_bound f
 
+-- the most steps of merging an entry: a run of the body for each row that the fold looks back, the map, which is applied, and moves of
+-- the state
+abbrev pub merge_bound : TypedFold → ℕ
+merge_bound f = depth_of f * (f.nodes + 4 * f.statements + 1) + fold_states f * fold_states f + 3 * fold_states f
+
 -- A kind of entries is a fold's: its sizes, its step, which is the fold's body, what its entries are folded to, and its bounds on steps.
 pub record IsKindOf (f : TypedFold) (sizes : Sizes) (folding : Folding) (opening absorbing : ℕ) : Type 0 where
   pub args : sizes.args ≡ fold_args f

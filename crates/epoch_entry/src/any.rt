@@ -1,5 +1,6 @@
 // The kind of a program's entries, by its class and algebra and by what they are for.
 
+ghost use Rattle.std.specs.Prelude.{◌≤◌};
 ghost use Rattle.fold_class.specs.Program.{IsProgram, IsProgramOf};
 
 use crate::bounds::BoundsEpochs;
@@ -24,7 +25,7 @@ pub enum AnyEpochs {
 
 impl AnyEpochs {
     ghost use Rattle.query_lang.specs.declared.fold.TypedFold.{TypedFold};
-    ghost use Rattle.epoch_entry.specs.Foldings.{IsKindOf};
+    ghost use Rattle.epoch_entry.specs.Foldings.{IsKindOf, merge_bound};
     ghost use Rattle.epoch_entry.specs.Purposes.{IsKindFor};
 
     /// The entries of a program's fold: their sizes, what they are folded to and their bounds on steps are the fold's.
@@ -33,6 +34,7 @@ impl AnyEpochs {
         ensures kind { (f : TypedFold) → IsProgramOf f program
             → IsKindOf f (⟦<AnyEpochs as EpochKind>⟧.sizes result) (⟦<AnyEpochs as EpochKind>⟧.folding result)
             (⟦<AnyEpochs as EpochKind>⟧.open_bound result) (⟦<AnyEpochs as EpochKind>⟧.absorb_bound result) }
+        ensures merge { (f : TypedFold) → IsProgramOf f program → ⟦<AnyEpochs as EpochKind>⟧.merge_bound result ≤ merge_bound f }
     {
         match program.class {
             Class::Linear => match program.algebra {
@@ -50,6 +52,7 @@ impl AnyEpochs {
         ensures kind { (f : TypedFold) → IsProgramOf f program
             → IsKindFor entries f (⟦<AnyEpochs as EpochKind>⟧.sizes result) (⟦<AnyEpochs as EpochKind>⟧.folding result)
             (⟦<AnyEpochs as EpochKind>⟧.open_bound result) (⟦<AnyEpochs as EpochKind>⟧.absorb_bound result) }
+        ensures merge { (f : TypedFold) → IsProgramOf f program → ⟦<AnyEpochs as EpochKind>⟧.merge_bound result ≤ merge_bound f }
     {
         match entries {
             Entries::Folds => AnyEpochs::of(program),
@@ -97,6 +100,13 @@ impl EpochKind for AnyEpochs {
       | Maxima k ↦ ⟦<LinearEpochs<MaxPlus64> as EpochKind>⟧.absorb_bound k
       | Other k ↦ ⟦<OtherEpochs as EpochKind>⟧.absorb_bound k
       | Bounds k ↦ ⟦<BoundsEpochs as EpochKind>⟧.absorb_bound k
+    ] };
+
+    ghost merge_bound = { elim [
+      | Linear k ↦ ⟦<LinearEpochs<Wrapping64> as EpochKind>⟧.merge_bound k
+      | Maxima k ↦ ⟦<LinearEpochs<MaxPlus64> as EpochKind>⟧.merge_bound k
+      | Other k ↦ ⟦<OtherEpochs as EpochKind>⟧.merge_bound k
+      | Bounds k ↦ ⟦<BoundsEpochs as EpochKind>⟧.merge_bound k
     ] };
 
     fn args_words(&self) -> usize {

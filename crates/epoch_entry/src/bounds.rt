@@ -21,6 +21,7 @@ pub struct BoundsEpochs {
 impl BoundsEpochs {
     ghost use Rattle.query_lang.specs.declared.fold.TypedFold.{TypedFold};
     ghost use Rattle.epoch_entry.specs.Bounds.{IsBoundsKindOf};
+    ghost use Rattle.epoch_entry.specs.Foldings.{merge_bound};
 
     /// The entries of the bounds of a program's fold.
     pub fn of(program: FoldProgram) -> BoundsEpochs
@@ -29,13 +30,14 @@ impl BoundsEpochs {
         ensures kind { (f : TypedFold) → IsProgramOf f program
             → IsBoundsKindOf f (⟦<BoundsEpochs as EpochKind>⟧.sizes result) (⟦<BoundsEpochs as EpochKind>⟧.folding result)
             (⟦<BoundsEpochs as EpochKind>⟧.open_bound result) (⟦<BoundsEpochs as EpochKind>⟧.absorb_bound result) }
+        ensures merge { (f : TypedFold) → IsProgramOf f program → ⟦<BoundsEpochs as EpochKind>⟧.merge_bound result ≤ merge_bound f }
     {
         BoundsEpochs { program }
     }
 }
 
 impl EpochKind for BoundsEpochs {
-    ghost use Rattle.epoch_entry.specs.Bounds.{bounds_sizes, bounds_folding, BoundsStand, bounds_open, bounds_absorb};
+    ghost use Rattle.epoch_entry.specs.Bounds.{bounds_sizes, bounds_folding, BoundsStand, bounds_open, bounds_absorb, bounds_merge};
 
     ghost sizes = { λ k. bounds_sizes k.program };
 
@@ -46,6 +48,8 @@ impl EpochKind for BoundsEpochs {
     ghost open_bound = { λ k. bounds_open k.program };
 
     ghost absorb_bound = { λ k. bounds_absorb k.program };
+
+    ghost merge_bound = { λ k. bounds_merge k.program };
 
     fn args_words(&self) -> usize {
         self.program.layout.args as usize

@@ -26,6 +26,9 @@ pub trait EpochKind: Drop {
     /// The most steps that absorbing a row takes.
     ghost absorb_bound: { Self → ℕ };
 
+    /// The most steps that merging an entry takes.
+    ghost merge_bound: { Self → ℕ };
+
     fn args_words(&self) -> usize
         ensures { result ≡ (sizes self.now).args };
 
@@ -82,5 +85,6 @@ pub trait EpochKind: Drop {
         requires scratch { length scratch.old ≡ (sizes self.now).scratch }
         ensures merged { (rows : List ArgRow) → stands self.now entry.now rows → MayTake (folding self.now) state.old
             → state.new ≡ fold (folding self.now).step state.old rows }
-        ensures at_least { steps.old ≤ steps.new };
+        ensures at_least { steps.old ≤ steps.new }
+        ensures cost { steps.new ≤ steps.old + merge_bound self.now };
 }

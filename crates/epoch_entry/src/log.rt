@@ -2,7 +2,7 @@
 
 ghost use Rattle.std.specs.Prelude.{◌≡◌, ◌≢◌, ℕ, ◌+◌, ◌*◌, ◌<◌, ◌≤◌, length, fold};
 ghost use Rattle.coeff_algebra.specs.Maps.{stored_at};
-ghost use Rattle.fold_code.specs.Meaning.{Code, code_step, code_scratch};
+ghost use Rattle.fold_code.specs.Meaning.{Code, code_step, code_steps, code_scratch};
 ghost use Rattle.epoch_entry.specs.Entries.{logged_rows};
 
 use fold_code::FoldCode;
@@ -35,6 +35,7 @@ pub(crate) fn replay<L: Ledger>(
     requires room { length scratch.old ≡ code_scratch code.now }
     ensures state { state.new ≡ fold (code_step code.now) state.old (logged_rows code.now.args rows log.now) }
     ensures steps { steps.old ≤ steps.new }
+    ensures cost { steps.new ≡ steps.old + rows * code_steps code.now }
 {
     let args = code.args();
     for row in 0..rows {

@@ -20,7 +20,7 @@ pub struct OtherEpochs {
 impl OtherEpochs {
     ghost use Rattle.query_lang.specs.declared.fold.TypedFold.{TypedFold};
     ghost use Rattle.query_lang.specs.declared.typed.Class.{Class};
-    ghost use Rattle.epoch_entry.specs.Foldings.{IsKindOf};
+    ghost use Rattle.epoch_entry.specs.Foldings.{IsKindOf, merge_bound};
 
     /// The entries of a program's fold.
     pub fn of(program: FoldProgram) -> OtherEpochs
@@ -29,13 +29,14 @@ impl OtherEpochs {
         ensures kind { (f : TypedFold) → IsProgramOf f program → program.class ≡ Class.Other
             → IsKindOf f (⟦<OtherEpochs as EpochKind>⟧.sizes result) (⟦<OtherEpochs as EpochKind>⟧.folding result)
             (⟦<OtherEpochs as EpochKind>⟧.open_bound result) (⟦<OtherEpochs as EpochKind>⟧.absorb_bound result) }
+        ensures merge { (f : TypedFold) → IsProgramOf f program → ⟦<OtherEpochs as EpochKind>⟧.merge_bound result ≤ merge_bound f }
     {
         OtherEpochs { program }
     }
 }
 
 impl EpochKind for OtherEpochs {
-    ghost use Rattle.epoch_entry.specs.Entries.{other_sizes, other_folding, OtherStands, other_open, other_absorb};
+    ghost use Rattle.epoch_entry.specs.Entries.{other_sizes, other_folding, OtherStands, other_open, other_absorb, other_merge};
 
     ghost sizes = { λ k. other_sizes k.program };
 
@@ -46,6 +47,8 @@ impl EpochKind for OtherEpochs {
     ghost open_bound = { λ k. other_open k.program };
 
     ghost absorb_bound = { λ k. other_absorb k.program };
+
+    ghost merge_bound = { λ k. other_merge k.program };
 
     fn args_words(&self) -> usize {
         self.program.layout.args as usize

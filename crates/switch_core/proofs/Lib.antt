@@ -9,6 +9,7 @@ pub mod Drained
 pub mod Histories
 pub mod SweepSteps
 pub mod SweepEvents
+pub mod SweepCosts
 pub mod SideBySide
 pub mod LaneFacts
 pub mod PipelineSteps

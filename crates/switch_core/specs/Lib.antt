@@ -5,6 +5,7 @@ pub mod FrontParts
 pub mod FrontEvents
 pub mod LaneEvents
 pub mod Closing
+pub mod Costs
 pub mod Sweeps
 pub mod Rows
 pub mod Pipelines

@@ -19,6 +19,7 @@ use Rattle.switch_core.specs.Lanes.{LaneStands}
 use Rattle.switch_core.specs.LaneEvents.{Parts, parts, MakesAll}
 use Rattle.switch_core.specs.Pipelines.{IsLaneOf, HasRooms, after_events, geometry_of}
 use Rattle.switch_core.specs.Closing.{held_in, is_drained}
+use Rattle.switch_core.specs.Costs.{evict_cost, merge_cost, sweep_cost}
 use Rattle.switch_core.specs.Sweeps.{Leads, MakesSweep, RunsAll, RunsFirst, lane_sweep}
 use Rattle.switch_core.specs.Rows.{Each, EachFrom}
 
@@ -110,6 +111,15 @@ lane_cost ways lane =
     let sizes = ghosts.sizes lane.kind in
     (key_words + sizes.args) + (key_words + 2 * ways * (key_words + 1) + (key_words + sizes.entry)
     + ghosts.open_bound lane.kind + ghosts.absorb_bound lane.kind)
+
+-- the most steps that a merge takes at a lane
+abbrev pub lane_merge_cost : LaneView → ℕ
+lane_merge_cost lane = merge_cost lane.cache.key_words lane.cache.entry_words (ghosts.merge_bound lane.kind)
+
+-- the most steps that a sweep takes at a lane
+abbrev pub lane_sweep_cost : LaneView → ℕ
+lane_sweep_cost lane = sweep_cost (held_in lane.cache) (length lane.cache.lists)
+    (evict_cost lane.cache.key_words lane.cache.entry_words) (lane_merge_cost lane)
 
 -- a lane makes evictions and merges, and nothing else
 pub record LaneSweeps (ways : ℕ) (old new : LaneView) : Type 0 where

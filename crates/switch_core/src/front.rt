@@ -1,12 +1,13 @@
 //! A front: the cache of open epochs and the pipe of closed ones, before the store that they are merged into.
 
 ghost use Rattle.std.specs.Prelude.{◌≡◌, ◌+◌, ◌-◌, ◌*◌, ◌<◌, ◌≤◌, ◌==◌, ◌↔◌, take, drop, not, true};
-ghost use Rattle.std.specs.Prelude.{false, length, nat_lt};
+ghost use Rattle.std.specs.Prelude.{false, length, nat_lt, if◌then◌else◌};
 ghost use Rattle.std.specs.Prelude.{IfOk, OnOk, OnErr};
 ghost use Rattle.epoch_model.specs.Machine.{Machine, Packet, Evict, Merge, empty_machine};
 ghost use Rattle.epoch_model.specs.Timeline.{IsSwept};
 ghost use Rattle.bucket_cache.specs.Caches.{list_at, with_list};
 ghost use Rattle.switch_core.specs.Closing.{held_in, is_drained};
+ghost use Rattle.switch_core.specs.Costs.{evict_cost, merge_cost};
 ghost use Rattle.switch_core.specs.FrontParts.{IsFront, FitsStore};
 ghost use Rattle.switch_core.specs.FrontEvents.{FrontMakes, MergesNext};
 ghost use Rattle.switch_core.specs.Lanes.{FrontStands, geometry};
@@ -140,6 +141,8 @@ impl<K: EpochKind, const WAYS: usize> Front<K, WAYS> {
             self.new.cache ≡ with_list self.old.cache bucket (take (length list - 1) list) }
         ensures same { result ≡ false → self.new ≡ self.old }
         ensures at_least { steps.old ≤ steps.new }
+        ensures cost { let cache = self.old.cache in
+            steps.new ≡ steps.old + (if result then evict_cost cache.key_words cache.entry_words else 0) }
     {
         match self.cache.least(bucket) {
             Some(place) => {
@@ -170,6 +173,8 @@ impl<K: EpochKind, const WAYS: usize> Front<K, WAYS> {
         ensures kind { self.new.kind ≡ self.old.kind }
         ensures cache { self.new.cache ≡ self.old.cache }
         ensures at_least { steps.old ≤ steps.new }
+        ensures cost { let cache = self.old.cache in
+            steps.new ≤ steps.old + merge_cost cache.key_words cache.entry_words (K.merge_bound self.old.kind) }
     {
         if self.piped() == 0 {
             return Ok(Merged::Empty);

@@ -1,7 +1,7 @@
 //! A lane: what is kept for one groupby.
 
 ghost use Rattle.std.specs.Prelude.{◌≡◌, ◌+◌, ◌-◌, ◌*◌, ◌<◌, ◌≤◌, ◌==◌, ◌↔◌, take, drop, not, true};
-ghost use Rattle.std.specs.Prelude.{false, length, nat_lt};
+ghost use Rattle.std.specs.Prelude.{false, length, nat_lt, if◌then◌else◌};
 ghost use Rattle.std.specs.Prelude.{IfOk, OnOk, OnErr};
 ghost use Rattle.epoch_model.specs.Machine.{Machine, Packet, Evict, Merge, empty_machine};
 ghost use Rattle.epoch_model.specs.Timeline.{IsSwept};
@@ -10,6 +10,7 @@ ghost use Rattle.switch_core.specs.Lanes.{LaneStands, geometry};
 ghost use Rattle.switch_core.specs.FrontParts.{IsFront, FitsStore};
 ghost use Rattle.switch_core.specs.LaneEvents.{EventsAreFollowed, Makes, parts};
 ghost use Rattle.switch_core.specs.Closing.{held_in, is_drained};
+ghost use Rattle.switch_core.specs.Costs.{evict_cost, merge_cost};
 ghost use Rattle.final_queries.specs.GroupTable.{closed_table};
 
 use crate::closing::columns;
@@ -121,6 +122,8 @@ impl<K: EpochKind, const WAYS: usize> Lane<K, WAYS> {
         ensures kind { self.new.kind ≡ self.old.kind }
         ensures store { self.new.store ≡ self.old.store }
         ensures at_least { steps.old ≤ steps.new }
+        ensures cost { let cache = self.old.cache in
+            steps.new ≡ steps.old + (if result then evict_cost cache.key_words cache.entry_words else 0) }
     {
         self.front.evict(bucket, steps)
     }
@@ -138,6 +141,8 @@ impl<K: EpochKind, const WAYS: usize> Lane<K, WAYS> {
         ensures kind { self.new.kind ≡ self.old.kind }
         ensures cache { self.new.cache ≡ self.old.cache }
         ensures at_least { steps.old ≤ steps.new }
+        ensures cost { let cache = self.old.cache in
+            steps.new ≤ steps.old + merge_cost cache.key_words cache.entry_words (K.merge_bound self.old.kind) }
     {
         self.front.merge_into(&mut self.store, steps)
     }

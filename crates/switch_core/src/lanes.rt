@@ -1,7 +1,7 @@
 //! Lanes side by side.
 
 ghost use Rattle.std.specs.Prelude.{◌≡◌, ◌+◌, ◌<◌, ◌≤◌, ◌==◌, ◌↔◌, ℕ, true, not, length, map, slice_get};
-ghost use Rattle.std.specs.Prelude.{sum_by, OnOk, OnErr};
+ghost use Rattle.std.specs.Prelude.{sum_by, if◌then◌else◌, OnOk, OnErr};
 ghost use Rattle.std.specs.List.{list_all};
 ghost use Rattle.epoch_model.specs.Machine.{Evict, Merge};
 ghost use Rattle.epoch_model.specs.Driving.{event_of};
@@ -10,10 +10,11 @@ ghost use Rattle.stage_plan.specs.Planned.{registers_of, wiring_at};
 ghost use Rattle.stage_plan.specs.Registers.{taken_at};
 ghost use Rattle.bucket_cache.specs.Caches.{list_at};
 ghost use Rattle.switch_core.specs.Closing.{is_drained};
+ghost use Rattle.switch_core.specs.Costs.{evict_cost};
 ghost use Rattle.switch_core.specs.Rows.{Each};
 ghost use Rattle.switch_core.specs.Pipelines.{event_at};
 ghost use Rattle.switch_core.specs.PlanLanes.{AreLanesOf, AtLane, LaneMakes, LanesMake, LaneView, LaneIsSwept, LaneRunsSweep, LaneSweeps};
-ghost use Rattle.switch_core.specs.PlanLanes.{SweepBreaksOff, lane_cost, lane_is_ready, lane_view};
+ghost use Rattle.switch_core.specs.PlanLanes.{SweepBreaksOff, lane_cost, lane_is_ready, lane_merge_cost, lane_sweep_cost, lane_view};
 
 use crate::front::Merged;
 use crate::lane::Lane;
@@ -107,6 +108,8 @@ pub fn evict_at<const WAYS: usize, L: Ledger>(
     ensures makes { LanesMake WAYS (event_at at (Evict bucket)) (map lane_view lanes.old) (map lane_view lanes.new) }
     ensures some { AtLane (λ lane. result ≡ not (length (list_at lane.cache bucket) == 0)) (map lane_view lanes.old) at }
     ensures at_least { steps.old ≤ steps.new }
+    ensures cost { AtLane (λ lane. steps.new ≡ steps.old
+        + (if result then evict_cost lane.cache.key_words lane.cache.entry_words else 0)) (map lane_view lanes.old) at }
 {
     let lane = &mut lanes[at];
     lane.evict(bucket, steps)
@@ -124,6 +127,7 @@ pub fn merge_at<const WAYS: usize, L: Ledger>(
     ensures empty { AtLane (λ lane. (result ≡ Ok Merged.Empty) ↔ (length lane.pipe.records ≡ 0)) (map lane_view lanes.old) at }
     ensures err { OnErr result (map lane_view lanes.new ≡ map lane_view lanes.old) }
     ensures at_least { steps.old ≤ steps.new }
+    ensures cost { AtLane (λ lane. steps.new ≤ steps.old + lane_merge_cost lane) (map lane_view lanes.old) at }
 {
     let lane = &mut lanes[at];
     lane.merge(steps)
@@ -139,6 +143,7 @@ pub fn sweep_lanes<const WAYS: usize, L: Ledger>(
     ensures breaks_off { OnErr result (SweepBreaksOff WAYS (map lane_view lanes.old) (map lane_view lanes.new)) }
     ensures makes { Each (LaneSweeps WAYS) (map lane_view lanes.old) (map lane_view lanes.new) }
     ensures at_least { steps.old ≤ steps.new }
+    ensures cost { steps.new ≤ steps.old + sum_by lane_sweep_cost (map lane_view lanes.old) }
 {
     for i in 0..lanes.len() {
         let lane = &mut lanes[i];

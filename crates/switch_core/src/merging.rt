@@ -38,6 +38,7 @@ pub fn merge_entry<K: EpochKind, L: Ledger>(
     ensures key_words { store.new.key_words ≡ store.old.key_words }
     ensures state_words { store.new.state_words ≡ store.old.state_words }
     ensures at_least { steps.old ≤ steps.new }
+    ensures cost { steps.new ≤ steps.old + K.merge_bound kind.now }
 {
     merged_epochs_are_held();
     store.known();
@@ -68,6 +69,7 @@ pub fn merge_record<K: EpochKind, L: Ledger>(
     ensures key_words { store.new.key_words ≡ store.old.key_words }
     ensures state_words { store.new.state_words ≡ store.old.state_words }
     ensures at_least { steps.old ≤ steps.new }
+    ensures cost { steps.new ≤ steps.old + K.merge_bound kind.now }
 {
     let (key, entry) = words.split_at(words.len() - kind.entry_words());
     merge_entry(kind, store, key, entry, initial, scratch, steps)

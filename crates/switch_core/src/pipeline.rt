@@ -1,7 +1,7 @@
 //! The lanes of a plan.
 
 ghost use Rattle.std.specs.Prelude.{◌≡◌, ◌+◌, ◌*◌, ◌<◌, ◌≤◌, ◌==◌, ◌↔◌, not, true, List, length, map};
-ghost use Rattle.std.specs.Prelude.{slice_get, IfOk, OnOk, OnErr, Some};
+ghost use Rattle.std.specs.Prelude.{slice_get, sum_by, if◌then◌else◌, IfOk, OnOk, OnErr, Some};
 ghost use Rattle.std.specs.List.{list_all};
 ghost use Rattle.epoch_model.specs.Machine.{Machine, Evict, Merge};
 ghost use Rattle.epoch_model.specs.Timeline.{IsSwept};
@@ -10,10 +10,11 @@ ghost use Rattle.bucket_cache.specs.Caches.{list_at};
 ghost use Rattle.epoch_entry.specs.Purposes.{runs_of};
 ghost use Rattle.stage_plan.specs.Planned.{plan_bound};
 ghost use Rattle.switch_core.specs.Closing.{held_in};
+ghost use Rattle.switch_core.specs.Costs.{evict_cost};
 ghost use Rattle.switch_core.specs.Pipelines.{empty_machines, event_at, geometry_of, packet_events, tables_of};
 ghost use Rattle.switch_core.specs.PlanLanes.{AreLanesOf, AtLane, HavePlaces, LaneRunsSweep, PipelineIsSwept, PipelineMakes};
 ghost use Rattle.switch_core.specs.PlanLanes.{PipelineStands, PipelineSweeps, SweepBreaksOff, folding_at, lane_is_drained, lane_is_ready};
-ghost use Rattle.switch_core.specs.PlanLanes.{lane_view, pipeline_cost};
+ghost use Rattle.switch_core.specs.PlanLanes.{lane_merge_cost, lane_sweep_cost, lane_view, pipeline_cost};
 
 use crate::front::Merged;
 use crate::lane::Lane;
@@ -156,6 +157,8 @@ impl<const WAYS: usize> Pipeline<WAYS> {
         ensures makes { PipelineMakes WAYS (event_at lane (Evict bucket)) self.old self.new }
         ensures some { AtLane (λ at. result ≡ not (length (list_at at.cache bucket) == 0)) self.old.lanes lane }
         ensures at_least { steps.old ≤ steps.new }
+        ensures cost { AtLane (λ at. steps.new ≡ steps.old
+            + (if result then evict_cost at.cache.key_words at.cache.entry_words else 0)) self.old.lanes lane }
     {
         evict_at(&mut self.lanes, lane as usize, bucket, steps)
     }
@@ -172,6 +175,7 @@ impl<const WAYS: usize> Pipeline<WAYS> {
         ensures empty { AtLane (λ at. (result ≡ Ok Merged.Empty) ↔ (length at.pipe.records ≡ 0)) self.old.lanes lane }
         ensures err { OnErr result (self.new ≡ self.old) }
         ensures at_least { steps.old ≤ steps.new }
+        ensures cost { AtLane (λ at. steps.new ≤ steps.old + lane_merge_cost at) self.old.lanes lane }
     {
         merge_at(&mut self.lanes, lane as usize, steps)
     }
@@ -184,6 +188,7 @@ impl<const WAYS: usize> Pipeline<WAYS> {
         ensures runs { OnOk result (Each (LaneRunsSweep WAYS) self.old.lanes self.new.lanes) }
         ensures breaks_off { OnErr result (SweepBreaksOff WAYS self.old.lanes self.new.lanes) }
         ensures at_least { steps.old ≤ steps.new }
+        ensures cost { steps.new ≤ steps.old + sum_by lane_sweep_cost self.old.lanes }
     {
         sweep_lanes(&mut self.lanes, steps)
     }

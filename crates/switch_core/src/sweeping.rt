@@ -1,10 +1,11 @@
 //! Closing all epochs of a lane.
 
-ghost use Rattle.std.specs.Prelude.{◌≡◌, ◌≢◌, ◌<◌, ◌≤◌, ℕ, IfOk, OnOk, OnErr, length};
+ghost use Rattle.std.specs.Prelude.{◌≡◌, ◌≢◌, ◌+◌, ◌*◌, ◌<◌, ◌≤◌, ℕ, IfOk, OnOk, OnErr, length};
 ghost use Rattle.epoch_model.specs.Machine.{empty_bucket, empty_buckets};
 ghost use Rattle.bucket_cache.specs.Caches.{list_at};
 ghost use Rattle.switch_core.specs.LaneEvents.{parts};
 ghost use Rattle.switch_core.specs.Closing.{held_in};
+ghost use Rattle.switch_core.specs.Costs.{evict_cost, merge_cost, sweep_cost};
 ghost use Rattle.switch_core.specs.Lanes.{geometry};
 ghost use Rattle.switch_core.specs.Sweeps.{Leads, MakesSweep, RunsAll, RunsFirst, bucket_events, lane_sweep, room_events};
 
@@ -32,6 +33,8 @@ fn make_ready<K: EpochKind, const WAYS: usize, L: Ledger>(
     ensures err { OnErr result ((lane.new.pipe ≡ lane.old.pipe) × (lane.new.store ≡ lane.old.store)) }
     ensures kind { lane.new.kind ≡ lane.old.kind }
     ensures at_least { steps.old ≤ steps.new }
+    ensures cost { let cache = lane.old.cache in
+        steps.new ≤ steps.old + merge_cost cache.key_words cache.entry_words (K.merge_bound lane.old.kind) }
 {
     events_keep_alike();
     if lane.ready() {
@@ -63,6 +66,12 @@ fn sweep_bucket<K: EpochKind, const WAYS: usize, L: Ledger>(
     ensures buckets { length lane.new.cache.lists ≡ length lane.old.cache.lists }
     ensures kind { lane.new.kind ≡ lane.old.kind }
     ensures at_least { steps.old ≤ steps.new }
+    ensures key_words { lane.new.cache.key_words ≡ lane.old.cache.key_words }
+    ensures entry_words { lane.new.cache.entry_words ≡ lane.old.cache.entry_words }
+    ensures cost { let cache = lane.old.cache in
+        let evicting = evict_cost cache.key_words cache.entry_words in
+        let merging = merge_cost cache.key_words cache.entry_words (K.merge_bound lane.old.kind) in
+        steps.new + held_in lane.new.cache * (evicting + merging) ≤ steps.old + (held_in cache * (evicting + merging) + merging) }
 {
     events_keep_alike();
     buckets_empty_by_evictions();
@@ -93,6 +102,9 @@ pub fn sweep_lane<K: EpochKind, const WAYS: usize, L: Ledger>(
         (parts lane.old.cache lane.old.pipe lane.old.store) (parts lane.new.cache lane.new.pipe lane.new.store) }
     ensures kind { lane.new.kind ≡ lane.old.kind }
     ensures at_least { steps.old ≤ steps.new }
+    ensures cost { let cache = lane.old.cache in
+        steps.new ≤ steps.old + sweep_cost (held_in cache) (length cache.lists) (evict_cost cache.key_words cache.entry_words)
+        (merge_cost cache.key_words cache.entry_words (K.merge_bound lane.old.kind)) }
 {
     events_keep_alike();
     buckets_empty_by_evictions();

@@ -1,7 +1,8 @@
-use Rattle.std.proofs.Common.{◌==◌, not, length, map, get_or, refl, sym, ap, ◌∙◌, subst, lit<}
+use Rattle.std.proofs.Common.{◌≡◌, ◌+◌, ◌==◌, if◌then◌else◌, not, length, map, get_or, refl, sym, ap, ◌∙◌, subst, lit<}
 use Rattle.std.proofs.lemmas.Bool.{ltb-true}
 use Rattle.epoch_model.specs.Machine.{Evict}
 use Rattle.bucket_cache.specs.Caches.{list_at}
+use Rattle.switch_core.specs.Costs.{evict_cost}
 use Rattle.switch_core.specs.Pipelines.{event_at}
 use Rattle.switch_core.specs.PlanLanes.{LanesMake, lane_view, parts_of}
 use Rattle.switch_core.proofs.SideBySide.{same_some}
@@ -32,3 +33,10 @@ returns-clause-some g c x e =
     let lanes = c.args.lanes.now in
     let same = same_some (lane_view (get_or lanes at c.index-lanes-at.result)) x (sym (got_view lanes at c.index-lanes-at.result c.requires.lane) ∙ e) in
     c.evict.ensures.some ∙ ap (λ v. not (length (list_at v.cache c.args.bucket) == 0)) same
+
+pub returns-clause-cost : goal.returns-clause-cost
+returns-clause-cost g c x e =
+    let at = c.args.at in
+    let lanes = c.args.lanes.now in
+    let same = same_some (lane_view (get_or lanes at c.index-lanes-at.result)) x (sym (got_view lanes at c.index-lanes-at.result c.requires.lane) ∙ e) in
+    subst (λ v. c.evict.new.steps ≡ c.args.steps.now + (if c.evict.result then evict_cost v.cache.key_words v.cache.entry_words else 0)) same c.evict.ensures.cost

@@ -1,4 +1,4 @@
-use Rattle.std.proofs.Common.{◌≡◌, ◌<◌, true, length, map, set, get_or, refl, sym, ap, ◌∙◌, subst, arith}
+use Rattle.std.proofs.Common.{◌≡◌, ◌+◌, ◌<◌, ◌≤◌, true, length, map, set, get_or, refl, sym, ap, ◌∙◌, subst, arith}
 use Rattle.std.proofs.lemmas.List.{length-map}
 use Rattle.std.proofs.lemmas.Bool.{lt-ltb}
 use Rattle.std.specs.Prelude.{slice_get}
@@ -6,7 +6,7 @@ use Rattle.epoch_model.specs.Machine.{Merge}
 use Rattle.epoch_entry.specs.contracts.any.AnyEpochsEpochKind.TheImpl.{ghosts}
 use Rattle.switch_core.specs.LaneEvents.{Makes}
 use Rattle.switch_core.specs.Pipelines.{event_at}
-use Rattle.switch_core.specs.PlanLanes.{LanesMake, AtLane, lane_view, lane_is_ready, parts_of}
+use Rattle.switch_core.specs.PlanLanes.{LanesMake, AtLane, lane_view, lane_is_ready, lane_merge_cost, parts_of}
 use Rattle.switch_core.proofs.SideBySide.{same_some}
 use Rattle.switch_core.proofs.LaneFacts.{got_view, set_view, got_set, set_same, on_ok, on_err, make_one}
 use Rattle.switch_core.proofs.lanes.merge_at.Goals as goal
@@ -54,3 +54,10 @@ returns-clause-err g c =
     let same : lane_view new ≡ lane_view lane = rw (c.merge.ensures.kind, c.merge.ensures.cache, kept.0, kept.1) refl in
     set_view lanes at new ∙ (ap (set (map lane_view lanes) at) same ∙ set_same (map lane_view lanes) at (lane_view lane) here))
     c.merge.ensures.err
+
+pub returns-clause-cost : goal.returns-clause-cost
+returns-clause-cost g c x e =
+    let at = c.args.at in
+    let lanes = c.args.lanes.now in
+    let same = same_some (lane_view (get_or lanes at c.index-lanes-at.result)) x (sym (got_view lanes at c.index-lanes-at.result c.requires) ∙ e) in
+    subst (λ v. c.merge.new.steps ≤ c.args.steps.now + lane_merge_cost v) same c.merge.ensures.cost

@@ -1,5 +1,6 @@
-use Rattle.std.proofs.Common.{◌≤◌, map}
-use Rattle.switch_core.specs.PlanLanes.{LaneIsSwept, LaneRunsSweep, LaneSweeps, lane_view}
+use Rattle.std.proofs.Common.{◌≤◌, ◌+◌, map, take}
+use Rattle.std.specs.Prelude.{sum_by}
+use Rattle.switch_core.specs.PlanLanes.{LaneIsSwept, LaneRunsSweep, LaneSweeps, lane_sweep_cost, lane_view}
 use Rattle.switch_core.specs.Rows.{Each}
 use Rattle.switch_core.proofs.SideBySide.{Done, Untouched}
 use Rattle.switch_core.proofs.lanes.sweep_lanes.Given as goal
@@ -12,4 +13,5 @@ invariant-loop-i g l = record {
   same : Untouched l.i (map lane_view l.initial.lanes) (map lane_view l.lanes);
   makes : Each (LaneSweeps g.row.WAYS) (map lane_view l.initial.lanes) (map lane_view l.lanes);
   at_least : l.initial.steps ≤ l.steps;
+  cost : l.steps ≤ l.initial.steps + sum_by lane_sweep_cost (take l.i (map lane_view l.initial.lanes));
 }

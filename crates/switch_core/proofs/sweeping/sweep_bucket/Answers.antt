@@ -1,13 +1,16 @@
-use Rattle.std.proofs.Common.{◌≡◌, ◌-◌, ◌<◌, false, [], length, take, refl, sym, ap, ◌∙◌, subst, arith, get_or-set_other}
+use Rattle.std.proofs.Common.{◌≡◌, ◌+◌, ◌-◌, ◌*◌, ◌<◌, ◌≤◌, true, false, if◌then◌else◌, [], length, take, refl, sym, ap, ◌∙◌, subst, arith, get_or-set_other}
 use Rattle.std.proofs.lemmas.Bool.Decides.{nat_tests}
 use Rattle.epoch_model.specs.Machine.{Evict}
 use Rattle.bucket_cache.specs.Caches.{list_at}
+use Rattle.switch_core.specs.Closing.{held_in}
+use Rattle.switch_core.specs.Costs.{evict_cost, merge_cost}
 use Rattle.switch_core.specs.LaneEvents.{Makes, parts}
 use Rattle.switch_core.specs.Lanes.{geometry}
 use Rattle.switch_core.specs.Sweeps.{Leads, MakesSweep, RunsAll, RunsFirst, bucket_events, room_events}
 use Rattle.switch_core.proofs.LaneFacts.{err_holds}
 use Rattle.switch_core.proofs.SweepSteps.{sweep_none, sweep_on, sweep_evict, on_start, on_alike, on_evict, on_end}
 use Rattle.switch_core.proofs.SweepEvents.{Evicted, sweep_room, evicted_none, evicted_more, evicted_shorter, bucket_runs, bucket_begun, same_parts}
+use Rattle.switch_core.proofs.SweepCosts.{held_fewer, evicted_within, merged_within}
 use Rattle.switch_core.proofs.sweeping.sweep_bucket.Goals as goal
 
 pub loop-lane-init : goal.loop-lane-init
@@ -24,6 +27,9 @@ loop-lane-init g c =
       buckets = refl;
       kind = refl;
       at_least = omega arith;
+      key_words = refl;
+      entry_words = refl;
+      cost = omega arith;
     }
 
 pub returns-in_err-make_ready-clause-begun : goal.returns-in_err-make_ready-clause-begun
@@ -143,4 +149,51 @@ loop-lane-preserved g c =
       buckets = c.evict.ensures.stands.buckets ∙ (ap (λ x. length x.lists) c.make_ready.ensures.cache ∙ c.loop-lane.invariant.buckets);
       kind = c.evict.ensures.kind ∙ kind;
       at_least = let a = c.make_ready.ensures.at_least in let b = c.evict.ensures.at_least in let i = c.loop-lane.invariant.at_least in omega arith;
+      key_words = ap (λ x. x.key_words) c.evict.ensures.cache ∙ (ap (λ x. x.key_words) c.make_ready.ensures.cache ∙ c.loop-lane.invariant.key_words);
+      entry_words = ap (λ x. x.entry_words) c.evict.ensures.cache ∙ (ap (λ x. x.entry_words) c.make_ready.ensures.cache ∙ c.loop-lane.invariant.entry_words);
+      cost =
+          let key : ready.cache.key_words ≡ first.cache.key_words = ap (λ x. x.key_words) c.make_ready.ensures.cache ∙ c.loop-lane.invariant.key_words in
+          let entry : ready.cache.entry_words ≡ first.cache.entry_words = ap (λ x. x.entry_words) c.make_ready.ensures.cache ∙ c.loop-lane.invariant.entry_words in
+          let merging = merge_cost first.cache.key_words first.cache.entry_words (g.K.EpochKind.merge_bound first.kind) in
+          let merged_once : c.make_ready.new.steps ≤ c.loop-lane.steps + merging = omega (arith, c.make_ready.ensures.cost, c.loop-lane.invariant.key_words, c.loop-lane.invariant.entry_words, ap g.K.EpochKind.merge_bound c.loop-lane.invariant.kind) in
+          let done : c.evict.result ≡ true = c.if-not-evict.false in
+          let counted : c.evict.new.steps ≡ c.make_ready.new.steps + (if c.evict.result then evict_cost ready.cache.key_words ready.cache.entry_words else 0) = c.evict.ensures.cost in
+          let evicting : c.evict.new.steps ≡ c.make_ready.new.steps + evict_cost ready.cache.key_words ready.cache.entry_words = subst (λ b. c.evict.new.steps ≡ c.make_ready.new.steps + (if b then evict_cost ready.cache.key_words ready.cache.entry_words else 0)) done counted in
+          let fewer = held_fewer ready.cache new.cache bucket within some c.evict.ensures.cache ∙ ap held_in c.make_ready.ensures.cache in
+          evicted_within c.args.steps.now c.loop-lane.steps c.make_ready.new.steps c.evict.new.steps (held_in was.cache) (held_in new.cache) (held_in first.cache) (evict_cost first.cache.key_words first.cache.entry_words) merging
+          fewer merged_once (omega (arith, evicting, key, entry)) c.loop-lane.invariant.cost;
     }
+
+pub returns-in_err-make_ready-clause-key_words : goal.returns-in_err-make_ready-clause-key_words
+returns-in_err-make_ready-clause-key_words g c = ap (λ x. x.key_words) c.make_ready.ensures.cache ∙ c.loop-lane.invariant.key_words
+
+pub returns-in_err-make_ready-clause-entry_words : goal.returns-in_err-make_ready-clause-entry_words
+returns-in_err-make_ready-clause-entry_words g c = ap (λ x. x.entry_words) c.make_ready.ensures.cache ∙ c.loop-lane.invariant.entry_words
+
+pub returns-in_err-make_ready-clause-cost : goal.returns-in_err-make_ready-clause-cost
+returns-in_err-make_ready-clause-cost g c =
+    let first = c.args.lane.now in
+    let evicting = evict_cost first.cache.key_words first.cache.entry_words in
+    let merging = merge_cost first.cache.key_words first.cache.entry_words (g.K.EpochKind.merge_bound first.kind) in
+    let merged : c.make_ready.new.steps ≤ c.loop-lane.steps + merging = omega (arith, c.make_ready.ensures.cost, c.loop-lane.invariant.key_words, c.loop-lane.invariant.entry_words, ap g.K.EpochKind.merge_bound c.loop-lane.invariant.kind) in
+    merged_within c.args.steps.now c.loop-lane.steps c.make_ready.new.steps (held_in c.loop-lane.lane.cache) (held_in c.make_ready.new.lane.cache) (held_in first.cache * (evicting + merging)) (evicting + merging) merging
+    (ap held_in c.make_ready.ensures.cache) merged c.loop-lane.invariant.cost
+
+pub returns-then-not-evict-clause-key_words : goal.returns-then-not-evict-clause-key_words
+returns-then-not-evict-clause-key_words g c = ap (λ x. x.key_words) c.evict.ensures.cache ∙ (ap (λ x. x.key_words) c.make_ready.ensures.cache ∙ c.loop-lane.invariant.key_words)
+
+pub returns-then-not-evict-clause-entry_words : goal.returns-then-not-evict-clause-entry_words
+returns-then-not-evict-clause-entry_words g c = ap (λ x. x.entry_words) c.evict.ensures.cache ∙ (ap (λ x. x.entry_words) c.make_ready.ensures.cache ∙ c.loop-lane.invariant.entry_words)
+
+pub returns-then-not-evict-clause-cost : goal.returns-then-not-evict-clause-cost
+returns-then-not-evict-clause-cost g c =
+    let first = c.args.lane.now in
+    let ready = c.make_ready.new.lane in
+    let evicting = evict_cost first.cache.key_words first.cache.entry_words in
+    let merging = merge_cost first.cache.key_words first.cache.entry_words (g.K.EpochKind.merge_bound first.kind) in
+    let merged : c.make_ready.new.steps ≤ c.loop-lane.steps + merging = omega (arith, c.make_ready.ensures.cost, c.loop-lane.invariant.key_words, c.loop-lane.invariant.entry_words, ap g.K.EpochKind.merge_bound c.loop-lane.invariant.kind) in
+    let failed : c.evict.result ≡ false = c.if-not-evict.true in
+    let counted : c.evict.new.steps ≡ c.make_ready.new.steps + (if c.evict.result then evict_cost ready.cache.key_words ready.cache.entry_words else 0) = c.evict.ensures.cost in
+    let none : c.evict.new.steps ≡ c.make_ready.new.steps + 0 = subst (λ b. c.evict.new.steps ≡ c.make_ready.new.steps + (if b then evict_cost ready.cache.key_words ready.cache.entry_words else 0)) failed counted in
+    merged_within c.args.steps.now c.loop-lane.steps c.evict.new.steps (held_in c.loop-lane.lane.cache) (held_in c.evict.new.self.cache) (held_in first.cache * (evicting + merging)) (evicting + merging) merging
+    (ap held_in ((c.evict.ensures.same failed).0 ∙ c.make_ready.ensures.cache)) (omega (arith, merged, none)) c.loop-lane.invariant.cost

@@ -1,7 +1,9 @@
-use Rattle.std.proofs.Common.{◌≡◌, ◌+◌, ◌<◌, suc, length, refl, ap, ◌∙◌, subst, arith, ⊎_elim}
+use Rattle.std.proofs.Common.{◌≡◌, ◌+◌, ◌*◌, ◌<◌, ◌≤◌, suc, length, refl, ap, ◌∙◌, subst, arith, ⊎_elim}
 use Rattle.std.proofs.lemmas.Bool.{cases_eq}
 use Rattle.epoch_model.specs.Machine.{empty_bucket, empty_buckets}
 use Rattle.bucket_cache.specs.Caches.{list_at}
+use Rattle.switch_core.specs.Closing.{held_in}
+use Rattle.switch_core.specs.Costs.{evict_cost, merge_cost}
 use Rattle.switch_core.specs.LaneEvents.{parts}
 use Rattle.switch_core.specs.Lanes.{geometry}
 use Rattle.switch_core.specs.Sweeps.{Leads, MakesSweep, RunsAll, RunsFirst, bucket_events, lane_sweep, sweep_events}
@@ -9,6 +11,7 @@ use Rattle.switch_core.proofs.LaneFacts.{err_holds}
 use Rattle.switch_core.proofs.Drained.{empty_held}
 use Rattle.switch_core.proofs.SweepSteps.{sweep_none, sweep_on, all_start, all_next}
 use Rattle.switch_core.proofs.SweepEvents.{sweep_room, buckets_none, buckets_more, sweep_begun}
+use Rattle.switch_core.proofs.SweepCosts.{bucket_within, buckets_within}
 use Rattle.switch_core.proofs.sweeping.sweep_lane.Goals as goal
 
 pub loop-bucket-init : goal.loop-bucket-init
@@ -25,6 +28,9 @@ loop-bucket-init g c =
       buckets = refl;
       kind = refl;
       at_least = omega arith;
+      key_words = refl;
+      entry_words = refl;
+      cost = omega arith;
     }
 
 pub returns-in_err-sweep_bucket-clause-begun : goal.returns-in_err-sweep_bucket-clause-begun
@@ -82,6 +88,17 @@ loop-bucket-preserved g c =
       buckets = c.sweep_bucket.ensures.buckets ∙ c.loop-bucket.invariant.buckets;
       kind = c.sweep_bucket.ensures.kind ∙ c.loop-bucket.invariant.kind;
       at_least = let a = c.sweep_bucket.ensures.at_least in let i = c.loop-bucket.invariant.at_least in omega arith;
+      key_words = c.sweep_bucket.ensures.key_words ∙ c.loop-bucket.invariant.key_words;
+      entry_words = c.sweep_bucket.ensures.entry_words ∙ c.loop-bucket.invariant.entry_words;
+      cost =
+          let evicting = evict_cost first.cache.key_words first.cache.entry_words in
+          let merging = merge_cost first.cache.key_words first.cache.entry_words (g.K.EpochKind.merge_bound first.kind) in
+          let evicting_was = evict_cost was.cache.key_words was.cache.entry_words in
+          let merging_was = merge_cost was.cache.key_words was.cache.entry_words (g.K.EpochKind.merge_bound was.kind) in
+          let evicts : evicting_was ≡ evicting = omega (arith, c.loop-bucket.invariant.key_words, c.loop-bucket.invariant.entry_words) in
+          let merges : merging_was ≡ merging = omega (arith, c.loop-bucket.invariant.key_words, c.loop-bucket.invariant.entry_words, ap g.K.EpochKind.merge_bound c.loop-bucket.invariant.kind) in
+          bucket_within c.args.steps.now c.loop-bucket.steps c.sweep_bucket.new.steps (held_in was.cache) (held_in new.cache) (held_in first.cache) (evicting + merging) (evicting_was + merging_was) bucket merging merging_was
+          (omega (arith, evicts, merges)) merges c.loop-bucket.invariant.cost c.sweep_bucket.ensures.cost;
     }
 
 pub returns-clause-leads : goal.returns-clause-leads
@@ -108,3 +125,31 @@ returns-clause-held g c =
     let a = c.loop-bucket-test.false in let b = c.loop-bucket.auto.bucket-end in let n = c.buckets-bucket-end.ensures.number ∙ ap (λ x. length x.lists) c.cache.ensures in omega arith in
     let same = c.loop-bucket.invariant.buckets in
     empty_held c.loop-bucket.lane.cache.lists (λ b l. c.loop-bucket.invariant.empty b (omega arith))
+
+pub returns-clause-cost : goal.returns-clause-cost
+returns-clause-cost g c =
+    let first = c.args.lane.now in
+    let now = c.loop-bucket.lane.cache in
+    let evicting = evict_cost first.cache.key_words first.cache.entry_words in
+    let merging = merge_cost first.cache.key_words first.cache.entry_words (g.K.EpochKind.merge_bound first.kind) in
+    let end : c.loop-bucket.bucket ≡ length first.cache.lists =
+    let a = c.loop-bucket-test.false in let b = c.loop-bucket.auto.bucket-end in let n = c.buckets-bucket-end.ensures.number ∙ ap (λ x. length x.lists) c.cache.ensures in omega arith in
+    buckets_within c.args.steps.now c.loop-bucket.steps (held_in now * (evicting + merging)) (held_in first.cache * (evicting + merging)) c.loop-bucket.bucket (length first.cache.lists) merging (omega (arith, end)) c.loop-bucket.invariant.cost
+
+pub returns-in_err-sweep_bucket-clause-cost : goal.returns-in_err-sweep_bucket-clause-cost
+returns-in_err-sweep_bucket-clause-cost g c =
+    let first = c.args.lane.now in
+    let was = c.loop-bucket.lane in
+    let new = c.sweep_bucket.new.lane in
+    let bucket = c.loop-bucket.bucket in
+    let evicting = evict_cost first.cache.key_words first.cache.entry_words in
+    let merging = merge_cost first.cache.key_words first.cache.entry_words (g.K.EpochKind.merge_bound first.kind) in
+    let evicting_was = evict_cost was.cache.key_words was.cache.entry_words in
+    let merging_was = merge_cost was.cache.key_words was.cache.entry_words (g.K.EpochKind.merge_bound was.kind) in
+    let evicts : evicting_was ≡ evicting = omega (arith, c.loop-bucket.invariant.key_words, c.loop-bucket.invariant.entry_words) in
+    let merges : merging_was ≡ merging = omega (arith, c.loop-bucket.invariant.key_words, c.loop-bucket.invariant.entry_words, ap g.K.EpochKind.merge_bound c.loop-bucket.invariant.kind) in
+    let below : bucket < length first.cache.lists =
+    let a = c.loop-bucket-test.true in let b = c.loop-bucket.auto.bucket-end in let n = c.buckets-bucket-end.ensures.number ∙ ap (λ x. length x.lists) c.cache.ensures in omega arith in
+    buckets_within c.args.steps.now c.sweep_bucket.new.steps (held_in new.cache * (evicting + merging)) (held_in first.cache * (evicting + merging)) (bucket + 1) (length first.cache.lists) merging (omega (arith, below))
+    (bucket_within c.args.steps.now c.loop-bucket.steps c.sweep_bucket.new.steps (held_in was.cache) (held_in new.cache) (held_in first.cache) (evicting + merging) (evicting_was + merging_was) bucket merging merging_was
+    (omega (arith, evicts, merges)) merges c.loop-bucket.invariant.cost c.sweep_bucket.ensures.cost)

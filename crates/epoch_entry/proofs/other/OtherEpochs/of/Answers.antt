@@ -1,5 +1,8 @@
-use Rattle.epoch_entry.proofs.KindFacts.{other_kind}
+use Rattle.epoch_entry.proofs.KindFacts.{other_kind, other_merged}
 use Rattle.epoch_entry.proofs.other.OtherEpochs.of.Goals as goal
 
 pub returns-clause-kind : goal.returns-clause-kind
 returns-clause-kind c f h e = other_kind f c.args.program h e
+
+pub returns-clause-merge : goal.returns-clause-merge
+returns-clause-merge c f h = other_merged f c.args.program h

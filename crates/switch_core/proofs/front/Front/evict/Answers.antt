@@ -1,7 +1,8 @@
-use Rattle.std.proofs.Common.{◌≡◌, ◌-◌, ◌<◌, false, take, length, refl, sym, ap, ◌∙◌, subst, lit<, length-set}
+use Rattle.std.proofs.Common.{◌≡◌, ◌+◌, ◌-◌, ◌<◌, false, take, length, refl, sym, ap, ◌∙◌, subst, lit<, length-set, arith}
 use Rattle.std.specs.Prelude.{not, ◌==◌}
 use Rattle.epoch_model.specs.Machine.{Evict, evict}
 use Rattle.bucket_cache.specs.Caches.{list_at, with_list}
+use Rattle.switch_core.specs.Costs.{evict_cost}
 use Rattle.switch_core.specs.FrontParts.{front_of}
 use Rattle.switch_core.specs.FrontEvents.{FrontMakes}
 use Rattle.switch_core.specs.Lanes.{FrontStands, PipeStands}
@@ -65,3 +66,10 @@ pub returns-in-None-clause-cache : goal.returns-in-None-clause-cache
 returns-in-None-clause-cache g c =
     let none = none_least (list_at c.self.inside.cache c.args.bucket) c.in-None.ensures.place in
     subst (λ x. x.cache ≡ with_list x.cache c.args.bucket (take (length (list_at x.cache c.args.bucket) - 1) (list_at x.cache c.args.bucket))) c.self.view_is (nothing_taken c.self.inside.cache c.args.bucket none)
+
+pub returns-in-Some-clause-cost : goal.returns-in-Some-clause-cost
+returns-in-Some-clause-cost g c =
+    let words = c.self.invariant.front.record_words in
+    let pushed = c.push_pair.ensures.cost in
+    let dropped = c.drop_entry.ensures.cost in
+    subst (λ x. c.drop_entry.new.steps ≡ c.args.steps.now + evict_cost x.cache.key_words x.cache.entry_words) c.self.view_is (omega arith)

@@ -1,12 +1,13 @@
-use Rattle.std.proofs.Common.{◌≡◌, true, ◌<◌, [], ◌++◌, take, drop, length, refl, sym, ap, ◌∙◌, subst, arith, get_or, ◌-◌, append-nil, length-drop}
+use Rattle.std.proofs.Common.{◌≡◌, ◌+◌, true, ◌<◌, ◌≤◌, [], ◌++◌, take, drop, length, refl, sym, ap, ◌∙◌, subst, arith, get_or, ◌-◌, append-nil, length-drop}
 use Rattle.std.proofs.lemmas.Bool.Decides.{nat_tests}
 use Rattle.std.proofs.Math.Seq.{take-append_seam}
 use Rattle.epoch_model.specs.Machine.{Merge}
 use Rattle.merged_epochs.specs.Merged.{StoreHolds}
+use Rattle.switch_core.specs.Costs.{merge_cost}
 use Rattle.switch_core.specs.FrontParts.{front_of}
 use Rattle.switch_core.specs.FrontEvents.{FrontMakes, MergesNext}
 use Rattle.switch_core.specs.Lanes.{FrontStands, RecordStands}
-use Rattle.switch_core.proofs.MergeSteps.{none_piped, merge_none, none_next, front_merged, next_held}
+use Rattle.switch_core.proofs.MergeSteps.{none_piped, merge_none, none_next, front_merged, next_held, copied_within}
 use Rattle.switch_core.proofs.front.Front.merge_into.Goals as goal
 
 pub returns-then-piped-eq0-clause-makes : goal.returns-then-piped-eq0-clause-makes
@@ -61,3 +62,19 @@ returns-clause-ready g c =
     let places : c.drop_front.new.self.places ≡ old.pipe.places = ap (λ p. p.places) c.drop_front.ensures ∙ ap (λ p. p.places) pipe in
     let few = c.piped.ensures.bound in let same = c.piped.ensures.number in
     omega arith
+
+pub returns-clause-cost : goal.returns-clause-cost
+returns-clause-cost g c =
+    let words = c.self.invariant.front.record_words in
+    let copied = copied_within c.front_into-copied.result c.self.inside.pipe.record_words in
+    let counted = c.front_into-copied.ensures.cost in
+    let merged = c.merge_record.ensures.cost in
+    subst (λ x. c.merge_record.new.steps ≤ c.args.steps.now + merge_cost x.cache.key_words x.cache.entry_words (g.K.EpochKind.merge_bound x.kind)) c.self.view_is (omega arith)
+
+pub returns-in_err-merge_record-clause-cost : goal.returns-in_err-merge_record-clause-cost
+returns-in_err-merge_record-clause-cost g c =
+    let words = c.self.invariant.front.record_words in
+    let copied = copied_within c.front_into-copied.result c.self.inside.pipe.record_words in
+    let counted = c.front_into-copied.ensures.cost in
+    let merged = c.merge_record.ensures.cost in
+    subst (λ x. c.merge_record.new.steps ≤ c.args.steps.now + merge_cost x.cache.key_words x.cache.entry_words (g.K.EpochKind.merge_bound x.kind)) c.self.view_is (omega arith)

@@ -1,6 +1,7 @@
-use Rattle.std.proofs.Common.{◌≡◌, ◌++◌, length, map, take, drop, sym, ◌∙◌, subst}
+use Rattle.std.proofs.Common.{◌≡◌, ◌+◌, ◌≤◌, ◌++◌, length, map, take, drop, sym, ◌∙◌, subst}
+use Rattle.std.specs.Prelude.{sum_by}
 use Rattle.switch_core.specs.Rows.{Each}
-use Rattle.switch_core.specs.PlanLanes.{AreLanesOf, LaneRunsSweep, LaneSweeps, LaneIsSwept, PipelineSweeps, PipelineIsSwept, PipelineView, SweepBreaksOff, lane_view}
+use Rattle.switch_core.specs.PlanLanes.{AreLanesOf, LaneRunsSweep, LaneSweeps, LaneIsSwept, PipelineSweeps, PipelineIsSwept, PipelineView, SweepBreaksOff, lane_sweep_cost, lane_view}
 use Rattle.switch_core.proofs.LaneFacts.{whole_written, on_err, on_ok}
 use Rattle.switch_core.proofs.PipelineSteps.{sweeps_sizes, lanes_kept, pipeline_sweeps, pipeline_is_swept}
 use Rattle.switch_core.proofs.pipeline.Pipeline.sweep.Goals as goal
@@ -70,3 +71,8 @@ returns-clause-breaks_off g c =
     subst (λ x. SweepBreaksOff g.row.WAYS (map lane_view p.lanes.items) (map lane_view x)) (sym whole) (subst (λ x. SweepBreaksOff g.row.WAYS (map lane_view x) (map lane_view new)) c.deref_mut.ensures.value made) in
     subst (λ (v : PipelineView). SweepBreaksOff g.row.WAYS v.lanes after.lanes) c.self.view_is lanes)
     c.sweep_lanes.ensures.breaks_off
+
+pub returns-clause-cost : goal.returns-clause-cost
+returns-clause-cost g c =
+    subst (λ (v : PipelineView). c.sweep_lanes.new.steps ≤ c.args.steps.now + sum_by lane_sweep_cost v.lanes) c.self.view_is
+    (subst (λ xs. c.sweep_lanes.new.steps ≤ c.args.steps.now + sum_by lane_sweep_cost (map lane_view xs)) c.deref_mut.ensures.value c.sweep_lanes.ensures.cost)
