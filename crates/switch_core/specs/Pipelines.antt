@@ -1,5 +1,5 @@
 -- Lanes side by side, one for each groupby of a plan.
-use Rattle.std.specs.Prelude.{◌≡◌, ℕ, suc, ◌==◌, nat_lt, Bool, List, [], ◌∷◌, length, if◌then◌else◌}
+use Rattle.std.specs.Prelude.{◌≡◌, ℕ, suc, ◌==◌, List, [], ◌∷◌, length, if◌then◌else◌}
 use Rattle.fold_class.specs.Program.{IsProgramOf}
 use Rattle.query_lang.specs.declared.fold.TypedFold.{TypedFold}
 use Rattle.epoch_model.specs.Epochs.{Geometry}
@@ -11,7 +11,6 @@ use Rattle.epoch_entry.specs.Foldings.{per_epoch}
 use Rattle.epoch_entry.specs.Kinds.{Sizes}
 use Rattle.epoch_entry.specs.Purposes.{IsKindFor}
 use Rattle.bucket_cache.specs.Caches.{Cache}
-use Rattle.evict_pipe.specs.Pipes.{Pipe}
 use Rattle.final_queries.specs.declared.table.Table.{Table}
 use Rattle.final_queries.specs.GroupTable.{Heading, closed_table}
 use Rattle.stage_plan.specs.declared.group.GroupPlan.{GroupPlan}
@@ -56,10 +55,6 @@ packet_events plan words n = event_of (taken plan n words)
 -- one lane alone has an event
 abbrev pub event_at : ℕ → Event → ℕ → List Event
 event_at lane event n = if n == lane then event ∷ [] else []
-
--- whether a pipe has room
-abbrev pub has_room : Pipe → Bool
-has_room pipe = nat_lt (length pipe.records) pipe.places
 
 -- what the table of a groupby says beside its rows
 abbrev pub heading_of : GroupPlan → Heading

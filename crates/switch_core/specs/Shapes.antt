@@ -1,4 +1,4 @@
--- What a packet leaves of the shape of a lane's parts, and what it may cost.
+-- What a packet leaves of the shape of a lane's parts.
 use Rattle.std.specs.Prelude.{◌≡◌, length}
 use Rattle.bucket_cache.specs.Caches.{Cache}
 

@@ -1,5 +1,5 @@
-//! What a switch and its store do for one groupby: the cache of open epochs, the pipe of evicted ones and the store that
-//! they are merged into.
+//! What a switch and its stores do for the groupbys of a plan: for each a lane, of the cache of open epochs, the pipe of
+//! evicted ones and the store that they are merged into.
 #![tactic(auto)]
 
 mod closing;
