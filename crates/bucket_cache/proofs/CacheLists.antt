@@ -9,7 +9,7 @@ use Rattle.std.proofs.lemmas.List.Sums.{sum_by_more}
 use Rattle.std.proofs.lemmas.Option.{get_or_from_slice_get}
 use Rattle.bucket_cache.specs.Buckets.{Pair, Recency, AreOnce}
 use Rattle.bucket_cache.specs.Caches.{IsSoundCache}
-use Rattle.bucket_cache.specs.Shapes.{IsHome, IsShaped}
+use Rattle.bucket_cache.proofs.Shapes.{IsHome, IsShaped}
 use Rattle.bucket_cache.proofs.FlatRows.{row_fits}
 use Rattle.bucket_cache.proofs.BucketLists.{some-get}
 use Rattle.bucket_cache.proofs.Fronts.{by_test}

@@ -5,7 +5,7 @@ use Rattle.bucket_cache.specs.Slices.{rows_of}
 use Rattle.bucket_cache.specs.Buckets.{IsSound, pairs_at}
 use Rattle.bucket_cache.specs.FlatBuckets.{bucket_of, buckets_of, lists_in, orders_of, words_of, AreBuckets, IsFlatCache}
 use Rattle.bucket_cache.specs.Caches.{Cache, IsSoundCache}
-use Rattle.bucket_cache.specs.Shapes.{IsHome, IsShaped}
+use Rattle.bucket_cache.proofs.Shapes.{IsHome, IsShaped}
 use Rattle.bucket_cache.proofs.FlatRows.{get-rows_of}
 use Rattle.bucket_cache.proofs.BucketLists.{bucket_sound}
 use Rattle.bucket_cache.proofs.FlatBuckets.{length-buckets_of, length-lists_in, get-buckets_of, lent-long}

@@ -6,4 +6,5 @@ pub mod FlatReads
 pub mod Fronts
 pub mod PairLists
 pub mod BucketLists
+pub mod Shapes
 pub mod CacheLists

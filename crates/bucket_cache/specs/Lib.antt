@@ -4,6 +4,5 @@ pub mod FlatBuckets
 pub mod Touches
 pub mod Bounds
 pub mod Caches
-pub mod Shapes
 pub mod LendingRows
 pub mod LendingCaches

@@ -1,4 +1,4 @@
--- What holds of the parts of every cache.
+-- A cache by its buckets, one value for each.
 use Rattle.std.specs.Prelude.{◌≡◌, ℕ, List, ◌*◌, ◌<◌, ◌≤◌, length, slice_index_or, All}
 use Rattle.bucket_cache.specs.Buckets.{Recency, IsSound}
 
