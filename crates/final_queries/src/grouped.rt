@@ -83,9 +83,9 @@ fn fold_row<L: Ledger>(
     if !is_read(row.mark) {
         return Ok(());
     }
-    columns_into(columns, row)?;
-    let key = values_at(alloc, columns.as_slice(), keys)?;
-    let taken = values_at(alloc, columns.as_slice(), args)?;
+    columns_into(columns, row, steps)?;
+    let key = values_at(alloc, columns.as_slice(), keys, steps)?;
+    let taken = values_at(alloc, columns.as_slice(), args, steps)?;
     fold_args_in(
         code,
         start,

@@ -30,10 +30,16 @@ impl Table {
     }
 }
 
-fn filter_table(alloc: Global, condition: &TypedExpr, table: &Table) -> Result<Seq<Row>, AllocError>
+fn filter_table<L: Ledger>(
+    alloc: Global,
+    condition: &TypedExpr,
+    table: &Table,
+    steps: &mut Steps<L>,
+) -> Result<Seq<Row>, AllocError>
     requires table { IsTable table.now }
     requires condition { IsValidTerm (length table.now.columns) (term_of condition.now) }
-    ensures { IfOk result (λ rows. rows ≡ filtered_rows condition.now (rows_read table.now)) }
+    ensures rows { IfOk result (λ rows. rows ≡ filtered_rows condition.now (rows_read table.now)) }
+    ensures steps { steps.old ≤ steps.new }
 {
     let keys = table.keys as usize;
     filtered(
@@ -42,16 +48,30 @@ fn filter_table(alloc: Global, condition: &TypedExpr, table: &Table) -> Result<S
         table.rows.as_slice(),
         keys,
         table.others(),
+        steps,
     )
 }
 
-fn map_table(alloc: Global, values: &[TypedExpr], table: &Table) -> Result<Seq<Row>, AllocError>
+fn map_table<L: Ledger>(
+    alloc: Global,
+    values: &[TypedExpr],
+    table: &Table,
+    steps: &mut Steps<L>,
+) -> Result<Seq<Row>, AllocError>
     requires table { IsTable table.now }
     requires values { All (λ e. IsValidTerm (length table.now.columns) (term_of e)) values.now }
-    ensures { IfOk result (λ rows. rows ≡ mapped_rows values.now (rows_read table.now)) }
+    ensures rows { IfOk result (λ rows. rows ≡ mapped_rows values.now (rows_read table.now)) }
+    ensures steps { steps.old ≤ steps.new }
 {
     let keys = table.keys as usize;
-    mapped(alloc, values, table.rows.as_slice(), keys, table.others())
+    mapped(
+        alloc,
+        values,
+        table.rows.as_slice(),
+        keys,
+        table.others(),
+        steps,
+    )
 }
 
 fn group_table<L: Ledger>(
@@ -74,24 +94,32 @@ fn group_table<L: Ledger>(
     grouped(alloc, keys, f, args, table.rows.as_slice(), width, steps)
 }
 
-fn join_tables(alloc: Global, left: &Table, right: &Table) -> Result<Seq<Row>, AllocError>
+fn join_tables<L: Ledger>(
+    alloc: Global,
+    left: &Table,
+    right: &Table,
+    steps: &mut Steps<L>,
+) -> Result<Seq<Row>, AllocError>
     requires left { IsTable left.now }
     requires right { IsTable right.now }
-    ensures { IfOk result (λ rows. rows ≡ joined_rows (rows_read left.now) (rows_read right.now)) }
+    ensures rows { IfOk result (λ rows. rows ≡ joined_rows (rows_read left.now) (rows_read right.now)) }
+    ensures steps { steps.old ≤ steps.new }
 {
-    joined(alloc, left.rows.as_slice(), right.rows.as_slice())
+    joined(alloc, left.rows.as_slice(), right.rows.as_slice(), steps)
 }
 
-fn top_of_table(
+fn top_of_table<L: Ledger>(
     alloc: Global,
     column: usize,
     kept: usize,
     table: &Table,
+    steps: &mut Steps<L>,
 ) -> Result<Seq<Row>, AllocError>
     requires table { IsTable table.now }
     requires column { column < length table.now.columns }
     requires kept { 0 < kept }
-    ensures { IfOk result (λ rows. rows ≡ top_rows column kept (rows_read table.now)) }
+    ensures rows { IfOk result (λ rows. rows ≡ top_rows column kept (rows_read table.now)) }
+    ensures steps { steps.old ≤ steps.new }
 {
     let keys = table.keys as usize;
     top(
@@ -101,6 +129,7 @@ fn top_of_table(
         kept,
         keys,
         table.others(),
+        steps,
     )
 }
 
@@ -121,10 +150,10 @@ fn rows_made<L: Ledger>(
 {
     match &one.op {
         TypedFinalOp::Filter(input, condition) => {
-            filter_table(alloc, condition, tables.get(*input as usize))
+            filter_table(alloc, condition, tables.get(*input as usize), steps)
         }
         TypedFinalOp::Map(input, values) => {
-            map_table(alloc, values.as_slice(), tables.get(*input as usize))
+            map_table(alloc, values.as_slice(), tables.get(*input as usize), steps)
         }
         TypedFinalOp::Group(input, keys, f, args) => {
             let fold = folds.get(*f as usize);
@@ -136,11 +165,12 @@ fn rows_made<L: Ledger>(
                 alloc,
                 tables.get(*left as usize),
                 tables.get(*right as usize),
+                steps,
             )
         }
         TypedFinalOp::Top(input, column, kept) => {
             let table = tables.get(*input as usize);
-            top_of_table(alloc, *column as usize, *kept as usize, table)
+            top_of_table(alloc, *column as usize, *kept as usize, table, steps)
         }
     }
 }

@@ -1,6 +1,6 @@
 // The rows of a table that are greatest in one column.
 
-ghost use Rattle.std.specs.Prelude.{◌≡◌, ◌+◌, ◌-◌, ◌^◌, ◌<◌, All, Some, length, map, nat_lt, count_by, slice_get};
+ghost use Rattle.std.specs.Prelude.{◌≡◌, ◌+◌, ◌-◌, ◌^◌, ◌<◌, ◌≤◌, All, Some, length, map, nat_lt, count_by, slice_get};
 ghost use Rattle.std.specs.Prelude.{IfOk};
 ghost use Rattle.epoch_model.specs.Keys.{IsAscending};
 ghost use Rattle.final_queries.specs.Finals.{HasColumns, column_at, columns_of, top_rows};
@@ -9,9 +9,10 @@ ghost use Rattle.final_queries.specs.Ranks.{rank_of, ranks_from, is_before, is_w
 
 use crate::rows::{is_read, plain_copy};
 use epoch_model::Row;
-use marple_base::Seq;
+use marple_base::{Seq, Steps};
 use std::alloc::{AllocError, Global};
 use std::cmp::Reverse;
+use std::sync::ledger::Ledger;
 
 /// Where a row stands among others: by its column from the greatest word on, and where this is equal by its place, since
 /// rows are in the order of their keys.
@@ -44,22 +45,25 @@ fn rank_of(row: &Row, column: usize, place: usize) -> Rank
     }
 }
 
-// The ranks of the rows that are read.
-fn ranks_of(
+// The ranks of the rows that are read, with a step for each of their two words.
+fn ranks_of<L: Ledger>(
     alloc: Global,
     rows: &[Row],
     column: usize,
     keys: usize,
     others: usize,
+    steps: &mut Steps<L>,
 ) -> Result<Vec<Rank>, AllocError>
     requires column { column < keys + others }
     requires rows { All (HasColumns keys others) rows.now }
-    ensures { IfOk result (λ ranks. ranks.items ≡ ranks_from column 0 rows.now) }
+    ensures ranks { IfOk result (λ ranks. ranks.items ≡ ranks_from column 0 rows.now) }
+    ensures steps { steps.old ≤ steps.new }
 {
     let mut ranks = Vec::new(alloc);
     for place in 0..rows.len() {
         if is_read(rows[place].mark) {
             ranks.push(rank_of(&rows[place], column, place))?;
+            steps.tick_many(2);
         }
     }
     Ok(ranks)
@@ -87,28 +91,34 @@ fn is_kept(last: Option<Rank>, rank: Rank) -> bool
     }
 }
 
-/// The rows before which fewer than so many go, in ascending order of their keys.
-pub fn top(
+/// The rows before which fewer than so many go, in ascending order of their keys. It counts two comparisons of
+/// each rank, of two words each: one in the search for the last that is kept, and one with that.
+pub fn top<L: Ledger>(
     alloc: Global,
     rows: &[Row],
     column: usize,
     kept: usize,
     keys: usize,
     others: usize,
+    steps: &mut Steps<L>,
 ) -> Result<Seq<Row>, AllocError>
     requires column { column < keys + others }
     requires rows { All (HasColumns keys others) rows.now }
     requires order { IsAscending (map (λ row. row.key) (reads rows.now)) }
     requires kept { 0 < kept }
-    ensures { IfOk result (λ made. made ≡ top_rows column kept (reads rows.now)) }
+    ensures rows { IfOk result (λ made. made ≡ top_rows column kept (reads rows.now)) }
+    ensures steps { steps.old ≤ steps.new }
 {
-    let mut ranks = ranks_of(alloc, rows, column, keys, others)?;
+    let mut ranks = ranks_of(alloc, rows, column, keys, others, steps)?;
     let last = last_kept(ranks.as_mut_slice(), kept);
     let mut made = Seq::new(alloc);
     for place in 0..rows.len() {
         let row = &rows[place];
-        if is_read(row.mark) && is_kept(last, rank_of(row, column, place)) {
-            made.push(plain_copy(alloc, row)?)?;
+        if is_read(row.mark) {
+            steps.tick_many(4);
+            if is_kept(last, rank_of(row, column, place)) {
+                made.push(plain_copy(alloc, row, steps)?)?;
+            }
         }
     }
     Ok(made)

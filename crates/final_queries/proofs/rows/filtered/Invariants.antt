@@ -1,9 +1,10 @@
-use Rattle.std.proofs.Common.{◌≡◌, ◌++◌, drop, filter}
+use Rattle.std.proofs.Common.{◌≡◌, ◌≤◌, ◌++◌, drop, filter}
 use Rattle.final_queries.specs.Finals.{is_read, filtered_rows}
 use Rattle.final_queries.proofs.rows.filtered.Given as goal
 
 -- the rows so far, and then those that are left, make the whole
 abbrev pub invariant-loop-row : goal.invariant-loop-row
-invariant-loop-row l =
-    l.made ++ filtered_rows l.condition (filter (λ row. is_read row.mark) (drop l.row-index l.rows))
-    ≡ filtered_rows l.condition (filter (λ row. is_read row.mark) l.rows)
+invariant-loop-row g l = record {
+  rows : l.made ++ filtered_rows l.condition (filter (λ row. is_read row.mark) (drop l.row-index l.rows)) ≡ filtered_rows l.condition (filter (λ row. is_read row.mark) l.rows);
+  steps : l.fn.steps ≤ l.steps;
+}
