@@ -31,7 +31,8 @@ abbrev pub words_of : ℕ → ℕ → List ℕ → List ℕ → List (List ℕ)
 words_of ways key_words used words = rows_of (ways * key_words) (length used) words
 
 abbrev pub buckets_of : ℕ → ℕ → List ℕ → List ℕ → List ℕ → List Recency
-buckets_of ways key_words used order words = buckets_from ways key_words 0 used (orders_of ways used order) (words_of ways key_words used words)
+buckets_of ways key_words used order words =
+    buckets_from ways key_words 0 used (orders_of ways used order) (words_of ways key_words used words)
 
 -- the pairs of each bucket, and those of one
 abbrev pub lists_in : ℕ → ℕ → List ℕ → List ℕ → List ℕ → List (List Pair)
