@@ -1,13 +1,15 @@
 //! How many words the entries of folds have, and the most that an entry with its key can have.
+ghost use Rattle.query_lang.specs.TypedQueries.{IsValidQuery};
 
 use crate::fold_programs::{
     ACCUMULATE, AVERAGE, DEEPEST, HASH, OUT_OF_SEQUENCE, TWO_STEPS, first_program, program_of,
 };
-use accepted_query::accept;
+use accepted_query::{AcceptedQuery, accept};
 use epoch_entry::{AnyEpochs, EpochKind};
 use fold_class::{Algebra, FoldProgram};
 use marple_base::Text;
 use stage_plan::Plan;
+use std::alloc::{AllocError, Global};
 use std::test::Fail;
 
 #[test]
@@ -54,6 +56,37 @@ fn other_steps(plan: &Plan, program: &FoldProgram) -> u64 {
         + 2 * (keys + args)
 }
 
+/// Of a query with one groupby: its fold's algebra and depth, what its packet's bound on steps has beside those others, and
+/// the words of an entry with its key.
+fn measured(alloc: Global, accepted: &AcceptedQuery) -> Result<(Algebra, u8, u64, usize), Fail>
+    requires { IsValidQuery accepted.now.typed }
+{
+    let program = first_program(alloc, &accepted.typed)?;
+    let (algebra, depth) = (program.algebra, program.depth);
+    let others = other_steps(&accepted.plan, &program);
+    let entries = accepted.plan.bound(1).saturating_sub(others);
+    let kind = AnyEpochs::of(program);
+    Ok((
+        algebra,
+        depth,
+        entries,
+        kind.entry_words().saturating_add(8),
+    ))
+}
+
+// The query of the group over the fold with this text.
+fn text_of(alloc: Global, fold: &[u8]) -> Result<Text, AllocError> {
+    let mut text = Text::from_slice(alloc, fold)?;
+    text.push_slice(DEEP_GROUP)?;
+    Ok(text)
+}
+
+// The same of a query's text.
+fn measured_in(alloc: Global, text: &[u8]) -> Result<(Algebra, u8, u64, usize), Fail> {
+    let accepted = accept(alloc, text)?;
+    measured(alloc, &accepted)
+}
+
 #[test]
 fn greatest_entries(rt: HostRuntime) -> Result<(), Fail> {
     let alloc = rt.alloc();
@@ -61,16 +94,11 @@ fn greatest_entries(rt: HostRuntime) -> Result<(), Fail> {
         (DEEP, Algebra::Sums, 8, 8 + 1 + 128 + 8, 218),
         (DEEP_MAXIMUM, Algebra::Maxima, 7, 8 + 1 + 112 + 7 + 4, 274),
     ] {
-        let mut text = Text::from_slice(alloc, fold)?;
-        text.push_slice(DEEP_GROUP)?;
-        let accepted = accept(alloc, text.as_slice())?;
-        let program = first_program(alloc, &accepted.typed)?;
-        assert_eq!(rt; program.algebra, algebra);
-        assert_eq!(rt; program.depth, depth);
-        let others = other_steps(&accepted.plan, &program);
-        assert_eq!(rt; accepted.plan.bound(1).saturating_sub(others), 6 * most);
-        let kind = AnyEpochs::of(program);
-        assert_eq!(rt; kind.entry_words().saturating_add(8), words);
+        let text = text_of(alloc, fold)?;
+        assert_eq!(rt;
+            measured_in(alloc, text.as_slice())?,
+            (algebra, depth, 6 * most, words)
+        );
     }
     Ok(())
 }

@@ -54,11 +54,26 @@ pub(crate) fn first_program(alloc: Global, typed: &TypedQuery) -> Result<FoldPro
     Ok(classify(alloc, fold, code)?)
 }
 
+/// The query of a text.
+pub(crate) fn typed_of(alloc: Global, text: &[u8]) -> Result<TypedQuery, Fail>
+    ensures { IfOk result IsValidQuery }
+{
+    let accepted = accept(alloc, text)?;
+    Ok(accepted.typed)
+}
+
+// The program of the first fold of a query's text.
+fn program_in(alloc: Global, text: &[u8]) -> Result<FoldProgram, Fail>
+    ensures { IfOk result IsProgram }
+{
+    let typed = typed_of(alloc, text)?;
+    first_program(alloc, &typed)
+}
+
 /// The program of the fold with this text.
 pub(crate) fn program_of(alloc: Global, fold: &[u8]) -> Result<FoldProgram, Fail>
     ensures { IfOk result IsProgram }
 {
     let text = query_of(alloc, fold)?;
-    let accepted = accept(alloc, text.as_slice())?;
-    first_program(alloc, &accepted.typed)
+    program_in(alloc, text.as_slice())
 }

@@ -1,8 +1,7 @@
 //! Which folds are monotone: what each operator makes of a state variable.
 ghost use Rattle.query_lang.specs.TypedQueries.{IsValidQuery};
 
-use crate::fold_programs::query_of;
-use accepted_query::accept;
+use crate::fold_programs::{query_of, typed_of};
 use monotone_folds::is_monotone;
 use query_lang::TypedQuery;
 use std::alloc::Global;
@@ -18,11 +17,16 @@ fn is_first_monotone(typed: &TypedQuery) -> Result<bool, Fail>
     Ok(is_monotone(typed.folds.get(0)))
 }
 
+// Whether the first fold of a query's text is monotone.
+fn is_monotone_in(alloc: Global, text: &[u8]) -> Result<bool, Fail> {
+    let typed = typed_of(alloc, text)?;
+    is_first_monotone(&typed)
+}
+
 /// Whether the fold with this text is monotone.
 fn is_text_monotone(alloc: Global, fold: &[u8]) -> Result<bool, Fail> {
     let text = query_of(alloc, fold)?;
-    let accepted = accept(alloc, text.as_slice())?;
-    is_first_monotone(&accepted.typed)
+    is_monotone_in(alloc, text.as_slice())
 }
 
 #[test]
