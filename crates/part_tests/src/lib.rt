@@ -1,7 +1,9 @@
-//! Tests over the public contracts of the parts: folds, entries and lanes. They stand apart from the
+//! Tests over the public contracts of the parts: means in memory, folds, entries and lanes. They stand apart from the
 //! parts, so that no crate is proved twice for its tests.
 #![tactic(auto)]
 
+#[cfg(test)]
+mod base;
 #[cfg(test)]
 mod direct;
 #[cfg(test)]

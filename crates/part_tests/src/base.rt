@@ -1,7 +1,8 @@
-//! Each call once with ample memory, and inputs and sinks of which one call after the other fails.
+//! The outside in memory, counters and values: each call once with ample memory, and inputs and sinks of which one call
+//! after the other fails.
 ghost use Rattle.std.specs.Prelude.{◌≡◌, ◌<◌};
 
-use super::{
+use marple_base::{
     Boxed, FailAt, Failed, Field, FieldSet, Inputs, MemoryInputs, MemorySink, Packet, ReadAnswer,
     Seq, SoundInputs, SoundSink, Steps, Text, Which, decimal, read_input, write_all,
 };
