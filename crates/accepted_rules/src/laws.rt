@@ -14,8 +14,8 @@ pub fn accepted_once()
     ensures { AcceptedOnce }
 {}
 
-/// A text is refused with a fault that is the first of the grammar, or breaks a rule, or stands at a stream that is too deep;
-/// and with none where it is accepted.
+/// A text is refused with a fault that is the first of the grammar; or that says what an item asks that isn't so, or that
+/// nothing is printed; or that stands at a stream that is too deep. It is refused with none where it is accepted.
 pub fn refused_by_rules()
     ensures { RefusedByRules }
 {}
