@@ -1,5 +1,6 @@
--- The examples, from the rules.
-use Rattle.std.proofs.Common.{◌≡◌, ℕ, List, [], ◌∷◌, Ok, Err, refl, sym, ap, subst, ◌∙◌, inl, inr, arith}
+-- The examples of expressions and streams, from the rules.
+use Rattle.std.proofs.Common.{◌≡◌, ℕ, List, [], ◌∷◌, Option, Some, None, Ok, Err, refl, sym, ap, ◌∙◌, arith}
+use Rattle.query_lang.specs.declared.fault.FaultKind.TheVariants.{WrongKind}
 use Rattle.query_lang.specs.declared.fault.QueryFault.{QueryFault}
 use Rattle.query_lang.specs.declared.fold.Op.{Op}
 use Rattle.query_lang.specs.declared.fold.Op.TheVariants.{Add, Div, Shl, Lt, Both, Max}
@@ -7,23 +8,30 @@ use Rattle.query_lang.specs.declared.fold.TypedExpr.{TypedExpr}
 use Rattle.query_lang.specs.declared.fold.TypedExpr.TheVariants as typed
 use Rattle.query_lang.specs.declared.query.Expr.{Expr}
 use Rattle.query_lang.specs.declared.query.Expr.TheVariants.{Number, Named, Not, Binary, Call}
-use Rattle.query_lang.specs.declared.query.Name.{Name}
+use Rattle.query_lang.specs.declared.query.Key.TheVariants as key
+use Rattle.query_lang.specs.declared.query.StreamOp.{StreamOp}
+use Rattle.query_lang.specs.declared.query.StreamOp.TheVariants.{Filter, Map, Zip}
 use Rattle.query_lang.specs.declared.typing.Found.{Found}
 use Rattle.query_lang.specs.declared.typing.Origin.TheVariants as origin
 use Rattle.query_lang.specs.declared.typing.Sort.{Sort}
 use Rattle.query_lang.specs.declared.typing.Sort.TheVariants as sort
-use Rattle.query_lang.specs.declared.typing.StreamView.{StreamView}
-use Rattle.query_lang.specs.Checks.{Checked, and_then, collected}
+use Rattle.query_lang.specs.Checks.{Checked, and_then, collected, place_of}
 use Rattle.query_lang.specs.TypedExprs.{of_two, call_of, negated, expr_checked}
-use Rattle.query_lang.specs.TypedStreams.{column_names}
-use Rattle.query_rules.specs.Context.{IsStream}
-use Rattle.query_rules.specs.ExprRules.{Kind, Word, Condition, HasKind, of_number, of_name, of_binary, of_call}
+use Rattle.query_rules.specs.Asked.{StreamAsks}
+use Rattle.query_rules.specs.Asked as asks
+use Rattle.query_rules.specs.Context.{IsStream, IsFold}
+use Rattle.query_rules.specs.Demands.{HasPart, AStream, Demand, Stands, AColumn, New, Typed, Same, Apart, Holds}
+use Rattle.query_rules.specs.Demands as parts
+use Rattle.query_rules.specs.ExprRules.{Kind, Word, Condition, StandsAt, HasKind, of_number, of_name, of_binary, of_call}
 use Rattle.query_rules.specs.StreamRules as rules
-use Rattle.query_rules.proofs.ExprComplete.{complete, number_is, named_is, not_is, binary_is, call_is}
+use Rattle.query_rules.proofs.ExprComplete.{complete, word_complete, number_is, named_is, not_is, binary_is, call_is}
 use Rattle.query_rules.proofs.FaultSteps.{no_fault}
-use Rattle.query_rules.proofs.NameLaws.{stream_complete}
-use Rattle.query_rules.proofs.Steps.{then_next, same_ok}
-use Rattle.accepted_rules.specs.TypingExamples.{here, called, two_columns, first, second, is_less, by_key, mapped, unmapped, three_streams, ExpressionExamples, StreamExamples}
+use Rattle.query_rules.proofs.FoldNames.{among_new}
+use Rattle.query_rules.proofs.ItemsMeet.{stream_meets}
+use Rattle.query_rules.proofs.NameLaws.{stream_sound, stream_complete, fold_name_sound, apart_sound}
+use Rattle.query_rules.proofs.Steps.{then_next, place_stands, stands_place}
+use Rattle.accepted_rules.specs.TypingExamples.{here, called, two_columns, first, second, is_less, ExpressionExamples}
+use Rattle.accepted_rules.specs.TypingExamples.{a_field, by_key, mapped, unmapped, of_one_argument, of_no_argument, items_before, MakesNothing, is_above_0, new_column, grouped_by, StreamExamples}
 
 -- ---- expressions
 
@@ -40,7 +48,7 @@ two columns op x y f g p q = binary_is columns [] op here x y ∙ then_next (exp
 first_is : expr_checked two_columns [] first ≡ Ok (found (typed.Slot 0) sort.Word)
 first_is = named_is two_columns [] (called 1)
 
-second_is : expr_checked two_columns [] second ≡ Ok (found (typed.Slot 1) sort.Word)
+pub second_is : expr_checked two_columns [] second ≡ Ok (found (typed.Slot 1) sort.Word)
 second_is = named_is two_columns [] (called 2)
 
 number : (n : ℕ) → expr_checked two_columns [] (Number n here) ≡ Ok (found (typed.Number n) (sort.Number n))
@@ -49,11 +57,14 @@ number n = number_is two_columns [] n here
 less_is : expr_checked two_columns [] is_less ≡ Ok (found (typed.Binary Lt (typed.Slot 0) (typed.Slot 1)) sort.Condition)
 less_is = two two_columns Lt first second _ _ first_is second_is
 
-first_word : HasKind two_columns Word first (typed.Slot 0)
+pub first_word : HasKind two_columns Word first (typed.Slot 0)
 first_word = of_name (called 1) 0 refl
 
-second_word : HasKind two_columns Word second (typed.Slot 1)
-second_word = of_name (called 2) 1 ((λ e. absurd (omega (arith, e))), refl)
+pub second_word : HasKind two_columns Word second (typed.Slot 1)
+second_word = of_name (called 2) 1 (place_stands two_columns 2 1 refl)
+
+pub no_word : (t : TypedExpr) × HasKind two_columns Word is_less t → ⊥
+no_word h = no_fault h.0 (record { kind = WrongKind; span = here }) (sym (word_complete two_columns [] is_less h.0 h.1) ∙ then_next (expr_checked two_columns [] is_less) _ _ less_is)
 
 pub expression_examples : ExpressionExamples
 expression_examples = record {
@@ -76,23 +87,31 @@ expression_examples = record {
 
 -- ---- streams
 
-source_is : (x : Name) (s r : StreamView) → IsStream three_streams x.id s → IsStream three_streams x.id r → s ≡ r
-source_is x s r p q = same_ok s r (sym (stream_complete three_streams x s p) ∙ stream_complete three_streams x r q)
+pub no_place : (names : List ℕ) (id : ℕ) → place_of names id ≡ None → (place : ℕ) × StandsAt names place id → ⊥
+no_place names id none h = let same : (let o : Option ℕ = None in o) ≡ Some h.0 = sym none ∙ stands_place names id h.0 h.1 in cc same
 
-ten : IsStream three_streams 10 by_key
-ten = inl (refl, refl)
+-- what stands on the right of `0 <`
+pub right_of_0 : (id : ℕ) → HasPart Condition (is_above_0 id) Word (Named (called id))
+right_of_0 id = parts.of_right Condition Lt here (Number 0 here) (Named (called id)) Word (Named (called id)) (parts.whole Word (Named (called id)))
 
-eleven : IsStream three_streams 11 mapped
-eleven = inr ((λ e. absurd (omega (arith, e))), inl (refl, refl))
+ten : IsStream items_before 10 by_key
+ten = stream_sound items_before (called 10) by_key refl
 
-twelve : IsStream three_streams 12 unmapped
-twelve = inr ((λ e. absurd (omega (arith, e))), inr ((λ e. absurd (omega (arith, e))), inl (refl, refl)))
+eleven : IsStream items_before 11 mapped
+eleven = stream_sound items_before (called 11) mapped refl
 
-no_state : (k : Kind) (t : TypedExpr) → HasKind (1 ∷ []) k (Binary Lt here (Number 0 here) (Named (called 3))) t → ⊥
-no_state = refuse (1 ∷ []) (Binary Lt here (Number 0 here) (Named (called 3))) _ (
-    binary_is (1 ∷ []) [] Lt here (Number 0 here) (Named (called 3))
-    ∙ then_next (expr_checked (1 ∷ []) [] (Number 0 here)) _ (found (typed.Number 0) (sort.Number 0)) (number_is (1 ∷ []) [] 0 here)
-    ∙ ap (λ (r : Checked Found). and_then r (λ y. of_two Lt here (found (typed.Number 0) (sort.Number 0)) y)) (named_is (1 ∷ []) [] (called 3)))
+twelve : IsStream items_before 12 unmapped
+twelve = stream_sound items_before (called 12) unmapped refl
+
+thirteen : IsFold items_before 13 of_one_argument
+thirteen = fold_name_sound items_before (called 13) of_one_argument refl
+
+fourteen : IsFold items_before 14 of_no_argument
+fourteen = fold_name_sound items_before (called 14) of_no_argument refl
+
+-- an operator makes nothing where something isn't so that it asks
+unmet : (op : StreamOp) (d : Demand) → StreamAsks [] items_before 1 (called 20) op d → (Holds items_before d → ⊥) → MakesNothing op
+unmet op d asked fails = λ made h. fails (stream_meets [] items_before 4 1 (called 20) op made d h asked)
 
 pub stream_examples : StreamExamples
 stream_examples = record {
@@ -103,9 +122,37 @@ stream_examples = record {
     typed = of_binary Lt here (Number 0 here) first (typed.Number 0) (typed.Slot 0) (of_number 0 here) (of_name (called 1) 0 refl) tt;
     is = refl;
   };
-  filter_on_a_state = λ made h.
-      let C : StreamView → Type 0 = λ z. HasKind (column_names z.columns) Condition (Binary Lt here (Number 0 here) (Named (called 3))) h.condition in
-      no_state Condition h.condition (subst C (source_is (called 10) h.source by_key h.stream ten) h.typed);
+  filter_on_a_state = unmet (Filter (called 10) (is_above_0 3)) (AColumn (1 ∷ []) (3 ∷ []) 3 here)
+      (asks.of_condition (called 10) (is_above_0 3) by_key (AColumn (1 ∷ []) (3 ∷ []) 3 here) ten (asks.of_name Word (called 3) (right_of_0 3)))
+      (no_place (1 ∷ []) 3 refl);
+  filter_of_a_fold = unmet (Filter (called 13) (is_above_0 2)) (Stands AStream (called 13)) (asks.of_filtered (called 13) (is_above_0 2))
+      (λ h. no_fault h.0 (record { kind = WrongKind; span = here }) (sym (stream_complete items_before (called 13) h.0 h.1)));
+  map_of_a_sum = record {
+    source = unmapped;
+    values = typed.Binary Add (typed.Slot 0) (typed.Slot 1) ∷ [];
+    stream = twelve;
+    typed = (among_new 5 two_columns refl, of_binary Add here first second (typed.Slot 0) (typed.Slot 1) first_word second_word tt, tt);
+    is = refl;
+  };
+  map_to_a_column = unmet (Map (called 12) (new_column 2 first ∷ [])) (New two_columns 2 here)
+      (asks.of_columns (called 12) (new_column 2 first ∷ []) unmapped (New two_columns 2 here) twelve (asks.of_name [] (new_column 2 first) [] refl))
+      (λ new. new.1.0 refl);
+  map_to_a_state = unmet (Map (called 10) (new_column 3 first ∷ [])) (New (1 ∷ 3 ∷ []) 3 here)
+      (asks.of_columns (called 10) (new_column 3 first ∷ []) by_key (New (1 ∷ 3 ∷ []) 3 here) ten (asks.of_name [] (new_column 3 first) [] refl))
+      (λ new. new.1.0 refl);
+  map_to_one_name = unmet (Map (called 12) (new_column 5 first ∷ new_column 5 second ∷ [])) (New (1 ∷ 2 ∷ 5 ∷ []) 5 here)
+      (asks.of_columns (called 12) (new_column 5 first ∷ new_column 5 second ∷ []) unmapped (New (1 ∷ 2 ∷ 5 ∷ []) 5 here) twelve
+      (asks.of_name (new_column 5 first ∷ []) (new_column 5 second) [] refl))
+      (λ new. new.1.1.0 refl);
+  map_of_a_condition = unmet (Map (called 12) (new_column 5 is_less ∷ [])) (Typed two_columns Word is_less)
+      (asks.of_columns (called 12) (new_column 5 is_less ∷ []) unmapped (Typed two_columns Word is_less) twelve
+      (asks.of_value [] (new_column 5 is_less) [] (Typed two_columns Word is_less) refl (asks.of_part Word is_less (parts.whole Word is_less))))
+      no_word;
+  map_of_a_new_column = unmet (Map (called 12) (new_column 5 first ∷ new_column 6 (Named (called 5)) ∷ [])) (AColumn two_columns [] 5 here)
+      (asks.of_columns (called 12) (new_column 5 first ∷ new_column 6 (Named (called 5)) ∷ []) unmapped (AColumn two_columns [] 5 here) twelve
+      (asks.of_value (new_column 5 first ∷ []) (new_column 6 (Named (called 5))) [] (AColumn two_columns [] 5 here) refl
+      (asks.of_name Word (called 5) (parts.whole Word (Named (called 5))))))
+      (no_place two_columns 5 refl);
   zip_of_one_column = record {
     left = by_key;
     right = mapped;
@@ -118,10 +165,36 @@ stream_examples = record {
     taken = (refl, tt);
     is = refl;
   };
-  zip_of_a_mapped_column = λ made h.
-      let L : StreamView → Type 0 = λ z. rules.AreSame z.columns h.right.columns in
-      let R : StreamView → Type 0 = λ z. rules.AreSame mapped.columns z.columns in
-      let same = subst R (source_is (called 12) h.right unmapped h.other twelve) (subst L (source_is (called 11) h.left mapped h.one eleven) h.same) in
-      let e = same.1.0.1.0 refl in cc e;
+  zip_of_a_mapped_column = unmet (Zip (called 11) (called 12)) (Same mapped.columns unmapped.columns here)
+      (asks.of_both (called 11) (called 12) mapped unmapped eleven twelve)
+      (λ same. let e = same.1.0.1.0 refl in cc e);
+  groupby_of_a_key = record {
+    few = omega arith;
+    source = unmapped;
+    slots = 0 ∷ [];
+    columns = a_field 1 ∷ [];
+    f = of_one_argument;
+    arguments = 1 ∷ [];
+    stream = twelve;
+    picked = record { places = (refl, tt); distinct = (tt, tt); few = omega arith };
+    there = (refl, tt);
+    fold = thirteen;
+    taken = record { places = (place_stands two_columns 2 1 refl, tt); apart = apart_sound (3 ∷ []) (1 ∷ []) refl };
+    is = refl;
+  };
   key_twice = λ made h. h.picked.distinct.1.0.0 refl;
+  key_without_a_column = unmet (grouped_by 12 5 13) (AColumn two_columns [] 5 here)
+      (asks.of_keys (called 12) (key.Named (called 5) ∷ []) (called 13) unmapped (AColumn two_columns [] 5 here) twelve (asks.of_key [] (called 5) [] refl))
+      (no_place two_columns 5 refl);
+  key_is_a_state = unmet (grouped_by 10 3 14) (AColumn (1 ∷ []) (3 ∷ []) 3 here)
+      (asks.of_keys (called 10) (key.Named (called 3) ∷ []) (called 14) by_key (AColumn (1 ∷ []) (3 ∷ []) 3 here) ten (asks.of_key [] (called 3) [] refl))
+      (no_place (1 ∷ []) 3 refl);
+  argument_without_a_column = unmet (grouped_by 10 1 13) (AColumn (1 ∷ []) (3 ∷ []) 2 here)
+      (asks.of_arguments (called 10) (key.Named (called 1) ∷ []) (called 13) by_key of_one_argument (AColumn (1 ∷ []) (3 ∷ []) 2 here) ten thirteen
+      (asks.of_argument [] 2 [] refl))
+      (no_place (1 ∷ []) 2 refl);
+  variable_with_a_keys_name = unmet (grouped_by 12 1 14) (Apart (1 ∷ []) (1 ∷ []) here)
+      (asks.of_arguments (called 12) (key.Named (called 1) ∷ []) (called 14) unmapped of_no_argument (Apart (1 ∷ []) (1 ∷ []) here) twelve fourteen asks.of_states)
+      (λ apart. apart.0.0 refl);
+  ninth_groupby = λ made h. absurd (omega (arith, h.few));
 }

@@ -1,10 +1,13 @@
 -- Which texts are accepted: by the grammar, the rules and the depths of operations.
 use Rattle.std.specs.Prelude.{◌≡◌, ◌↔◌, ℕ, ◌≤◌, List, All, Some, Ok, Err}
+use Rattle.query_lang.specs.declared.fault.FaultKind.TheVariants.{NothingPrinted}
 use Rattle.query_lang.specs.declared.fault.QueryFault.{QueryFault}
 use Rattle.query_lang.specs.declared.query.Query.{Query}
 use Rattle.query_lang.specs.declared.typed.TypedQuery.{TypedQuery}
 use Rattle.query_lang.specs.Typing.{checked}
 use Rattle.query_grammar.specs.Texts.{IsQueryOf, IsFaultOf}
+use Rattle.query_rules.specs.Demands.{Tells}
+use Rattle.query_rules.specs.FaultLaws.{Breaks, PrintsNothing}
 use Rattle.query_rules.specs.QueryRules.{IsTyped}
 use Rattle.stage_plan.specs.Depths.{query_depths, stage_fault}
 use Rattle.accepted_query.specs.Accepted.{accepted}
@@ -26,11 +29,18 @@ AcceptedByRules = (text : List ℕ) (t : TypedQuery) → (accepted text ≡ Ok t
 abbrev pub AcceptedOnce : Type 0
 AcceptedOnce = (text : List ℕ) (t u : TypedQuery) → IsAcceptedAs text t → IsAcceptedAs text u → t ≡ u
 
--- Why a text is refused: the fault is the first of the grammar; or a query derives that no form is typed of; or its form has a stream
--- that is too deep.
+-- The rule that a query breaks, as the fault says it. An item has no typed form behind those before it, which have theirs: something is
+-- asked of one of its tokens that isn't so, and a fault of this kind at this token says that. Or all items have typed forms, none prints a
+-- table, and the fault stands at the end.
+pub data BreaksRule (q : Query) (fault : QueryFault) : Type 0 where
+  of_item : Breaks (λ known demand. Tells known fault.kind fault.span demand) q → BreaksRule q fault
+  of_end : fault ≡ record { kind = NothingPrinted; span = q.end } → PrintsNothing q → BreaksRule q fault
+
+-- Why a text is refused: the fault is the first of the grammar; or a query derives that has no typed form, and the fault, the first that
+-- the checks find, says which rule it breaks; or its form has a stream that is too deep.
 pub data IsRefusedFor (text : List ℕ) (fault : QueryFault) : Type 0 where
   by_grammar : IsFaultOf text fault → IsRefusedFor text fault
-  by_typing : (q : Query) → IsQueryOf text q → checked q ≡ Err fault → ((t : TypedQuery) → IsTyped q t → ⊥)
+  by_typing : (q : Query) → IsQueryOf text q → checked q ≡ Err fault → BreaksRule q fault → ((t : TypedQuery) → IsTyped q t → ⊥)
       → IsRefusedFor text fault
   by_stages : (q : Query) (t : TypedQuery) → IsQueryOf text q → IsTyped q t → stage_fault t ≡ Some fault → (FitsStages t → ⊥)
       → IsRefusedFor text fault

@@ -1,2 +1,4 @@
 pub mod ByRules
 pub mod TypingExamples
+pub mod FoldExamples
+pub mod FinalExamples

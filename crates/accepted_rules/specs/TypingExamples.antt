@@ -1,15 +1,19 @@
 -- Small expressions and streams, typed and refused by the rules.
-use Rattle.std.specs.Prelude.{ℕ, List, [], ◌∷◌, None}
+use Rattle.std.specs.Prelude.{ℕ, List, [], ◌∷◌, Some, None, false}
 use Rattle.query_lang.specs.declared.fault.Span.{Span}
 use Rattle.query_lang.specs.declared.fold.Op.TheVariants.{Add, Div, Shl, Lt, Both, Max}
 use Rattle.query_lang.specs.declared.fold.TypedExpr.{TypedExpr}
 use Rattle.query_lang.specs.declared.fold.TypedExpr.TheVariants as typed
+use Rattle.query_lang.specs.declared.query.Column.{Column}
 use Rattle.query_lang.specs.declared.query.Expr.{Expr}
 use Rattle.query_lang.specs.declared.query.Expr.TheVariants.{Number, Named, Not, Binary, Call}
 use Rattle.query_lang.specs.declared.query.Key.TheVariants as key
 use Rattle.query_lang.specs.declared.query.Name.{Name}
-use Rattle.query_lang.specs.declared.query.StreamOp.TheVariants.{Filter, Zip, Group}
+use Rattle.query_lang.specs.declared.query.StreamOp.{StreamOp}
+use Rattle.query_lang.specs.declared.query.StreamOp.TheVariants.{Filter, Map, Zip, Group}
+use Rattle.query_lang.specs.declared.typed.PrintOf.TheVariants as place
 use Rattle.query_lang.specs.declared.typed.TypedOp.TheVariants as made_by
+use Rattle.query_lang.specs.declared.typing.FoldView.{FoldView}
 use Rattle.query_lang.specs.declared.typing.Known.{Known}
 use Rattle.query_lang.specs.declared.typing.MadeStream.{MadeStream}
 use Rattle.query_lang.specs.declared.typing.Meaning.TheVariants as meaning
@@ -62,9 +66,14 @@ pub record ExpressionExamples : Type 0 where
 abbrev pub a_field : ℕ → StreamColumn
 a_field id = record { name = id; origin = origin.Field }
 
--- a groupby's stream with the key 1, whose fold has the variable 3
+-- the stream of a groupby by the key 1, whose fold has the variable 3
 abbrev pub by_key : StreamView
-by_key = record { number = 1; columns = a_field 1 ∷ []; hidden = 3 ∷ []; table = None }
+by_key = record {
+  number = 1;
+  columns = a_field 1 ∷ [];
+  hidden = 3 ∷ [];
+  table = Some (record { place = place.Group 0; columns = 1 ∷ 3 ∷ []; keys = 1 });
+}
 
 -- the stream of a `map` that makes a column with the name 2, and one that has the packet's field of that name
 abbrev pub mapped : StreamView
@@ -73,32 +82,83 @@ mapped = record { number = 2; columns = a_field 1 ∷ record { name = 2; origin 
 abbrev pub unmapped : StreamView
 unmapped = record { number = 3; columns = a_field 1 ∷ a_field 2 ∷ []; hidden = []; table = None }
 
-abbrev pub three_streams : List Known
-three_streams =
+-- a fold with the variable 3 and the argument 2, and one whose variable has the name 1
+abbrev pub of_one_argument : FoldView
+of_one_argument = record { number = 0; states = 3 ∷ []; args = 2 ∷ []; emits = false }
+
+abbrev pub of_no_argument : FoldView
+of_no_argument = record { number = 1; states = 1 ∷ []; args = []; emits = false }
+
+abbrev pub items_before : List Known
+items_before =
     record { name = 10; meaning = meaning.Stream by_key }
     ∷ record { name = 11; meaning = meaning.Stream mapped }
     ∷ record { name = 12; meaning = meaning.Stream unmapped }
+    ∷ record { name = 13; meaning = meaning.Fold of_one_argument }
+    ∷ record { name = 14; meaning = meaning.Fold of_no_argument }
     ∷ []
 
--- Streams behind these three.
+-- behind these the operator makes this, as stream 4 and behind one groupby
+abbrev pub Makes : StreamOp → MadeStream → Type 0
+Makes op made = HasStream [] items_before 4 1 op made
+
+abbrev pub MakesNothing : StreamOp → Type 0
+MakesNothing op = (made : MadeStream) → Makes op made → ⊥
+
+-- 0 is less than this column
+abbrev pub is_above_0 : ℕ → Expr
+is_above_0 id = Binary Lt here (Number 0 here) (Named (called id))
+
+-- a new column of a `map`, by its name and value
+abbrev pub new_column : ℕ → Expr → Column
+new_column id value = record { name = called id; value = value }
+
+-- a groupby by one key, of the stream and with the fold of these names
+abbrev pub grouped_by : ℕ → ℕ → ℕ → StreamOp
+grouped_by input id fold_id = Group (called input) (key.Named (called id) ∷ []) (called fold_id)
+
 pub record StreamExamples : Type 0 where
-  -- a filter on the key, and none on the fold's state
-  pub filter_on_the_key : HasStream [] three_streams 4 0 (Filter (called 10) (Binary Lt here (Number 0 here) first)) (record {
+  -- a filter on the key, and none on the fold's state; and a fold is no stream
+  pub filter_on_the_key : Makes (Filter (called 10) (is_above_0 1)) (record {
     op = made_by.Filter 1 (typed.Binary Lt (typed.Number 0) (typed.Slot 0));
     columns = a_field 1 ∷ [];
     hidden = 3 ∷ [];
     table = None;
   })
-  pub filter_on_a_state : (made : MadeStream)
-      → HasStream [] three_streams 4 0 (Filter (called 10) (Binary Lt here (Number 0 here) (Named (called 3)))) made → ⊥
+  pub filter_on_a_state : MakesNothing (Filter (called 10) (is_above_0 3))
+  pub filter_of_a_fold : MakesNothing (Filter (called 13) (is_above_0 2))
+  -- a new column, behind those of the input
+  pub map_of_a_sum : Makes (Map (called 12) (new_column 5 (Binary Add here first second) ∷ [])) (record {
+    op = made_by.Map 3 (typed.Binary Add (typed.Slot 0) (typed.Slot 1) ∷ []);
+    columns = a_field 1 ∷ a_field 2 ∷ record { name = 5; origin = origin.Map 4 } ∷ [];
+    hidden = [];
+    table = None;
+  })
+  -- its name is new beside the columns, the states and the other new columns; and it is a word of the input's columns alone
+  pub map_to_a_column : MakesNothing (Map (called 12) (new_column 2 first ∷ []))
+  pub map_to_a_state : MakesNothing (Map (called 10) (new_column 3 first ∷ []))
+  pub map_to_one_name : MakesNothing (Map (called 12) (new_column 5 first ∷ new_column 5 second ∷ []))
+  pub map_of_a_condition : MakesNothing (Map (called 12) (new_column 5 is_less ∷ []))
+  pub map_of_a_new_column : MakesNothing (Map (called 12) (new_column 5 first ∷ new_column 6 (Named (called 5)) ∷ []))
   -- the key and the mapped column side by side; but a mapped column isn't the packet's field of its name
-  pub zip_of_one_column : HasStream [] three_streams 4 0 (Zip (called 10) (called 11)) (record {
+  pub zip_of_one_column : Makes (Zip (called 10) (called 11)) (record {
     op = made_by.Zip 1 2 (1 ∷ []);
     columns = a_field 1 ∷ record { name = 2; origin = origin.Map 2 } ∷ [];
     hidden = 3 ∷ [];
     table = None;
   })
-  pub zip_of_a_mapped_column : (made : MadeStream) → HasStream [] three_streams 4 0 (Zip (called 11) (called 12)) made → ⊥
-  -- no key stands twice
-  pub key_twice : (made : MadeStream)
-      → HasStream [] three_streams 4 0 (Group (called 12) (key.Named (called 1) ∷ key.Named (called 1) ∷ []) (called 13)) made → ⊥
+  pub zip_of_a_mapped_column : MakesNothing (Zip (called 11) (called 12))
+  -- the second column is the fold's argument; the table has the key and then the fold's variable
+  pub groupby_of_a_key : Makes (grouped_by 12 1 13) (record {
+    op = made_by.Group 3 (0 ∷ []) 0 (1 ∷ []);
+    columns = a_field 1 ∷ [];
+    hidden = 3 ∷ [];
+    table = Some (record { place = place.Group 1; columns = 1 ∷ 3 ∷ []; keys = 1 });
+  })
+  -- no key stands twice, a key is a column and no state, the fold's arguments are columns, and its variables have no key's name
+  pub key_twice : MakesNothing (Group (called 12) (key.Named (called 1) ∷ key.Named (called 1) ∷ []) (called 13))
+  pub key_without_a_column : MakesNothing (grouped_by 12 5 13)
+  pub key_is_a_state : MakesNothing (grouped_by 10 3 14)
+  pub argument_without_a_column : MakesNothing (grouped_by 10 1 13)
+  pub variable_with_a_keys_name : MakesNothing (grouped_by 12 1 14)
+  pub ninth_groupby : (made : MadeStream) → HasStream [] items_before 4 8 (grouped_by 12 1 13) made → ⊥

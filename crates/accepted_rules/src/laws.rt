@@ -1,6 +1,8 @@
 //! Laws that say which texts are accepted and why a text is refused, in the words of the grammar, the rules and the depths.
 
 ghost use Rattle.accepted_rules.specs.ByRules.{AcceptedByRules, AcceptedOnce, RefusedByRules};
+ghost use Rattle.accepted_rules.specs.FinalExamples.{FinalExamples};
+ghost use Rattle.accepted_rules.specs.FoldExamples.{FoldExamples};
 ghost use Rattle.accepted_rules.specs.TypingExamples.{ExpressionExamples, StreamExamples};
 
 /// A text is accepted with a typed form exactly where a query derives from it, the rules give the query that form, and no
@@ -14,15 +16,17 @@ pub fn accepted_once()
     ensures { AcceptedOnce }
 {}
 
-/// A text is refused with a fault that is the first of the grammar, or breaks a rule, or stands at a stream that is too deep;
-/// and with none where it is accepted.
+/// A text is refused with a fault that is the first of the grammar; or that says what an item asks that isn't so, or that
+/// nothing is printed; or that stands at a stream that is too deep. It is refused with none where it is accepted.
 pub fn refused_by_rules()
     ensures { RefusedByRules }
 {}
 
-/// Small expressions and streams, typed and refused: a filter on a fold's state, a mapped column beside the packet's field of
-/// its name, a key that stands twice, and a row for each kind of node.
+/// Small expressions, streams, folds and finals, typed and refused: a filter on a fold's state, a mapped column beside the
+/// packet's field of its name, an `emit` under a condition on a state, a join by other keys, and a row for each kind of node.
 pub fn small_forms()
     ensures expressions { ExpressionExamples }
     ensures streams { StreamExamples }
+    ensures folds { FoldExamples }
+    ensures finals { FinalExamples }
 {}

@@ -1,3 +1,5 @@
+use Rattle.accepted_rules.proofs.FinalExamples.{final_examples}
+use Rattle.accepted_rules.proofs.FoldExamples.{fold_examples}
 use Rattle.accepted_rules.proofs.TypingExamples.{expression_examples, stream_examples}
 use Rattle.accepted_rules.proofs.laws.small_forms.Goals as goal
 
@@ -6,3 +8,9 @@ returns-clause-expressions c = expression_examples
 
 pub returns-clause-streams : goal.returns-clause-streams
 returns-clause-streams c = stream_examples
+
+pub returns-clause-folds : goal.returns-clause-folds
+returns-clause-folds c = fold_examples
+
+pub returns-clause-finals : goal.returns-clause-finals
+returns-clause-finals c = final_examples
