@@ -18,13 +18,13 @@ const LENGTHS: [u64; 15] = [4, 4, 9, 9, 4, 9, 4, 0, 0, 0, 0, 0, 0, 0, 0];
 
 /// A pipeline of one bucket.
 #[derive(Drop)]
-struct OneBucket<const WAYS: usize> {
-    pipeline: Pipeline<WAYS>,
+pub struct OneBucket<const WAYS: usize> {
+    pub pipeline: Pipeline<WAYS>,
     ghost one: { pipeline.buckets ≡ 1 },
 }
 
-// The words of a packet that has only a source and a length.
-fn packet_of(source: u64, length: u64) -> Packet {
+/// The words of a packet that has only a source and a length.
+pub fn packet_of(source: u64, length: u64) -> Packet {
     let mut packet = Packet { words: [0; 14] };
     packet.words[Field::SrcIp.number()] = source;
     packet.words[Field::PktLen.number()] = length;
@@ -32,13 +32,20 @@ fn packet_of(source: u64, length: u64) -> Packet {
 }
 
 impl<const WAYS: usize> OneBucket<WAYS> {
-    /// A pipeline for the query, with pipes for six records.
-    fn new(alloc: Global) -> Result<OneBucket<WAYS>, Fail>
+    /// A pipeline for a query, with entries for this and pipes for so many records.
+    pub fn new(
+        alloc: Global,
+        query: &[u8],
+        entries: Entries,
+        records: u32,
+    ) -> Result<OneBucket<WAYS>, Fail>
         requires some_ways { 0 < WAYS }
         requires few_ways { WAYS ≤ 65536 }
+        requires some_records { 0 < records }
+        requires few_records { records ≤ 65536 }
     {
-        let accepted = accept(alloc, QUERY)?;
-        let pipeline = Pipeline::<WAYS>::new(alloc, accepted.plan, Entries::Folds, 1, 6)?;
+        let accepted = accept(alloc, query)?;
+        let pipeline = Pipeline::<WAYS>::new(alloc, accepted.plan, entries, 1, records)?;
         Ok(OneBucket { pipeline })
     }
 
@@ -146,7 +153,7 @@ fn compare<const WAYS: usize, L: Ledger>(
     requires some_ways { 0 < WAYS }
     requires few_ways { WAYS ≤ 65536 }
 {
-    let mut one = OneBucket::<WAYS>::new(alloc)?;
+    let mut one = OneBucket::<WAYS>::new(alloc, QUERY, Entries::Folds, 6)?;
     Ok(make_all(rt, alloc, &mut one, events, steps)?)
 }
 

@@ -1,9 +1,11 @@
-//! Tests over the public contracts of the parts: means in memory, folds, entries and lanes. They stand apart from the
-//! parts, so that no crate is proved twice for its tests.
+//! Tests over the public contracts of the parts: means in memory, folds, entries, lanes and counts of steps. They stand
+//! apart from the parts, so that no crate is proved twice for its tests.
 #![tactic(auto)]
 
 #[cfg(test)]
 mod base;
+#[cfg(test)]
+mod counts;
 #[cfg(test)]
 mod direct;
 #[cfg(test)]

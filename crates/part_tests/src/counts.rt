@@ -1,0 +1,352 @@
+//! How many steps small events take, beside sums that are made by hand from the rules of counting.
+//!
+//! A packet takes a step for each register, the fourteen fields and the operations of the plan. Where the groupby takes it,
+//! it takes one for each word of the key and of the arguments that is read out of the registers, for each word of the key
+//! that is hashed, for each word that is compared with a key of the bucket, up to the first that differs, and for each way
+//! of the bucket that is moved, from the front to that of the key. A new key is written, and its entry is opened; where the
+//! bucket is full, the key and the entry that go are written into the pipe before. Then the row is absorbed.
+//!
+//! One run of a fold's body takes a step for the mask of the whole body, for each node of an expression, and for each of the
+//! two masks of an `if`, and two for an assignment: the choice of its value, and the variable.
+//!
+//! The entry of a linear fold has the number of logged rows, the log, the history and the map. All but the log is written
+//! where it is opened. A row that is logged takes the history read and written, a run of the body, the arguments and the
+//! number. In a translation each later row takes the history and the last column of the map read and written, and a run of
+//! the body. In any other linear fold it takes, for each column of the map, a part of each variable, a run of the body and
+//! the words of the column, then the history, a product for each element of the map and each linear variable, and the
+//! words of the map.
+//!
+//! An eviction writes the key and the entry into the pipe, and takes one for the bucket that has a key less. A merge takes
+//! one for each word of the key and of the entry, which come out of the pipe. Then the body is run on each logged row;
+//! where the log is full, each linear variable is read, has a product with each of them, is copied and is written, and the
+//! history is written. What the store does to find the key isn't counted.
+
+ghost use Rattle.std.specs.Prelude.{◌≡◌, ◌<◌, ◌≤◌};
+
+use crate::direct::QUERY;
+use crate::lanes::{OneBucket, packet_of};
+use epoch_entry::Entries;
+use marple_base::Steps;
+use std::alloc::{AllocError, Global};
+use std::marker::Brand;
+use std::process::Abort;
+use std::sync::ledger::{Blank, Ledger};
+use std::test::Fail;
+
+/// An event of a pipeline: a packet has this source and this length.
+#[derive(Clone, Copy)]
+enum Event {
+    Packet(u64, u64),
+    Evict,
+    Merge,
+    Sweep,
+}
+
+/// A query with one groupby, what its entries are for, and events one after another, each with the steps that it takes. The
+/// pipe has room for one record.
+#[derive(Clone, Copy)]
+struct Case {
+    name: &'static str,
+    query: &'static [u8],
+    entries: Entries,
+    events: &'static [(Event, u64)],
+}
+
+/// A translation without a history, behind a filter of two operations: the comparison, and whether there is a packet and it
+/// holds. So there are 14 + 2 registers. The body takes 1 + 3 + 2 steps. The entry has 1 + 2 words, which are all written
+/// where it is opened, and a row takes 1 read + 6 + 1 written.
+const FILTERED: Case = Case {
+    name: "filtered",
+    query: b"def count([c],[]) { c = c + 1; } f = filter(pktstream, pkt_len < 1000); r = groupby(f, [srcip], count); print r;",
+    entries: Entries::Folds,
+    events: &[
+        // a new key: 16 registers + 1 word of the key + 1 of it hashed + 1 way + 1 word of the key written + 3 of the entry
+        // + 8 for the row
+        (Event::Packet(1, 100), 16 + 1 + 1 + 1 + 1 + 3 + 8),
+        // a key that is there: 16 registers + 1 word of the key + 1 hashed + 1 compared + 1 way + 8 for the row
+        (Event::Packet(1, 100), 16 + 1 + 1 + 1 + 1 + 8),
+        // one that evicts: 16 registers + 1 word of the key + 1 hashed + 1 compared + 1 word of the other key and 3 of its
+        // entry into the pipe + 1 way + 1 word of the key written + 3 of the entry + 8 for the row
+        (
+            Event::Packet(2, 100),
+            16 + 1 + 1 + 1 + (1 + 3) + 1 + 1 + 3 + 8,
+        ),
+        // 1 word of the key and 3 of the entry out of the pipe + 1 variable read + 1 product + 1 copied + 1 written
+        (Event::Merge, (1 + 3) + 1 + 1 + 1 + 1),
+        // a packet that the filter drops: 16 registers
+        (Event::Packet(3, 1000), 16),
+        // 1 word of the key and 3 of the entry into the pipe + 1 for the bucket that has a key less
+        (Event::Evict, (1 + 3) + 1),
+        // the pipe is full, and no epoch is open: a merge
+        (Event::Sweep, 8),
+        // nothing is left
+        (Event::Evict, 0),
+        (Event::Merge, 0),
+        (Event::Sweep, 0),
+        // the same new key, and the same eviction by a packet
+        (Event::Packet(1, 100), 31),
+        (Event::Packet(2, 100), 36),
+        // the pipe is full before the eviction and behind it: a merge + an eviction + a merge
+        (Event::Sweep, 8 + 5 + 8),
+    ],
+};
+
+/// The same fold without a filter, by two words of a key, so that there are 14 registers and a row takes 8. The bucket has
+/// two ways.
+const TWO_WAYS: Case = Case {
+    name: "two ways",
+    query: b"def count([c],[]) { c = c + 1; } r = groupby(pktstream, [srcip, pkt_len], count); print r;",
+    entries: Entries::Folds,
+    events: &[
+        // a new key: 14 registers + 2 words of the key + 2 hashed + 1 way + 2 words of the key written + 3 of the entry
+        // + 8 for the row
+        (Event::Packet(1, 100), 14 + 2 + 2 + 1 + 2 + 3 + 8),
+        // a key that differs in its second word: 14 registers + 2 words of the key + 2 hashed + 2 compared + 2 ways
+        // + 2 words of the key written + 3 of the entry + 8 for the row
+        (Event::Packet(1, 200), 14 + 2 + 2 + 2 + 2 + 2 + 3 + 8),
+        // the key that is found second: 14 registers + 2 words of the key + 2 hashed + 2 compared with the other key
+        // + 2 with the same + 2 ways + 8 for the row
+        (Event::Packet(1, 100), 14 + 2 + 2 + (2 + 2) + 2 + 8),
+        // it is found first: 14 registers + 2 words of the key + 2 hashed + 2 compared + 1 way + 8 for the row
+        (Event::Packet(1, 100), 14 + 2 + 2 + 2 + 1 + 8),
+        // a key that differs from both in its first word: 14 registers + 2 words of the key + 2 hashed + 1 compared + 1
+        // + 2 words of the last key and 3 of its entry into the pipe + 2 ways + 2 words of the key written + 3 of the entry
+        // + 8 for the row
+        (
+            Event::Packet(2, 100),
+            14 + 2 + 2 + (1 + 1) + (2 + 3) + 2 + 2 + 3 + 8,
+        ),
+        // a full pipe and two open epochs: three merges, each of 2 words of the key and 3 of the entry out of the pipe
+        // + 1 variable read + 1 product + 1 copied + 1 written, and two evictions, each of 2 words of the key and 3 of the
+        // entry into the pipe + 1 for the bucket
+        (Event::Sweep, 3 * ((2 + 3) + 4) + 2 * ((2 + 3) + 1)),
+    ],
+};
+
+/// Two linear variables that aren't only moved, and one that is remembered. The body takes 1 + (3 + 2) for its condition,
+/// (3 + 2) and (1 + 2) and (5 + 2) for assignments, so 21. The entry has 1 + 1 logged + 1 remembered + 2 * 3 words.
+const COMPOSED: Case = Case {
+    name: "composed",
+    query: QUERY,
+    entries: Entries::Folds,
+    events: &[
+        // a new key: 14 registers + 1 word of the key + 1 argument + 1 hashed + 1 way + 1 word of the key written
+        // + 1 + 1 + 6 of the entry; the row is logged: 2 for the history + 21 + 1 argument + 1 for the number
+        (
+            Event::Packet(1, 4),
+            14 + 1 + 1 + 1 + 1 + 1 + (1 + 1 + 6) + (2 + 21 + 1 + 1),
+        ),
+        // the log is full: 14 registers + 1 word of the key + 1 argument + 1 hashed + 1 compared + 1 way; 3 columns of
+        // 3 parts, 21 and 2 words + 1 of the history + 6 elements with 2 products each + 6 words of the map
+        (
+            Event::Packet(1, 4),
+            14 + 1 + 1 + 1 + 1 + 1 + 3 * (3 + 21 + 2) + 1 + 6 * 2 + 6,
+        ),
+        // it evicts: 14 registers + 1 word of the key + 1 argument + 1 hashed + 1 compared + 1 word of the other key and 9
+        // of its entry into the pipe + 1 way + 1 word of the key written + 8 of the entry + 25 for the row, which is logged
+        (
+            Event::Packet(2, 4),
+            14 + 1 + 1 + 1 + 1 + (1 + 9) + 1 + 1 + 8 + 25,
+        ),
+        // 1 word of the key and 9 of the entry out of the pipe + 21 for the logged row + 2 variables read + 4 products
+        // + 2 copied + 2 written + 1 of the history
+        (Event::Merge, (1 + 9) + 21 + 2 + 4 + 2 + 2 + 1),
+    ],
+};
+
+/// A translation that looks two rows back, with two arguments. The body takes 1 + (5 + 2) + (1 + 2) + (1 + 2) steps. The
+/// entry has 1 + 2 * 2 logged + 2 remembered + 2 words.
+const MOVED: Case = Case {
+    name: "moved",
+    query: b"def gaps([s, a, b],[tin, tout]) { s = s + tout - a; a = b; b = tin; } r = groupby(pktstream, [srcip], gaps); print r;",
+    entries: Entries::Folds,
+    events: &[
+        // a new key: 14 registers + 1 word of the key + 2 arguments + 1 hashed + 1 way + 1 word of the key written
+        // + 1 + 2 + 2 of the entry; the row is logged: 2 * 2 for the history + 14 + 2 arguments + 1 for the number
+        (
+            Event::Packet(1, 4),
+            14 + 1 + 2 + 1 + 1 + 1 + (1 + 2 + 2) + (4 + 14 + 2 + 1),
+        ),
+        // the second row is logged too: 14 registers + 1 word of the key + 2 arguments + 1 hashed + 1 compared + 1 way + 21
+        (Event::Packet(1, 4), 14 + 1 + 2 + 1 + 1 + 1 + 21),
+        // the log is full: 14 registers + 1 word of the key + 2 arguments + 1 hashed + 1 compared + 1 way + 4 for the
+        // history + 1 element read + 14 + 1 written
+        (
+            Event::Packet(1, 4),
+            14 + 1 + 2 + 1 + 1 + 1 + (4 + 1 + 14 + 1),
+        ),
+        // it evicts: 14 registers + 1 word of the key + 2 arguments + 1 hashed + 1 compared + 1 word of the other key and 9
+        // of its entry into the pipe + 1 way + 1 word of the key written + 5 of the entry + 21 for the row
+        (
+            Event::Packet(2, 4),
+            14 + 1 + 2 + 1 + 1 + (1 + 9) + 1 + 1 + 5 + 21,
+        ),
+        // a full log: 1 word of the key and 9 of the entry out of the pipe + 2 * 14 for the logged rows + 1 variable read
+        // + 1 product + 1 copied + 1 written + 2 of the history
+        (Event::Merge, (1 + 9) + 2 * 14 + 1 + 1 + 1 + 1 + 2),
+        // 1 word of the key and 9 of the entry into the pipe + 1 for the bucket
+        (Event::Evict, (1 + 9) + 1),
+        // a log of one row: 1 word of the key and 9 of the entry out of the pipe + 14 for the row
+        (Event::Merge, (1 + 9) + 14),
+    ],
+};
+
+/// Maxima, whose elements have two words, of a variable that isn't only moved. The body takes 1 + (5 + 2) steps. The entry
+/// has 1 + 2 * 2 words.
+const COMPOSED_MAXIMA: Case = Case {
+    name: "composed maxima",
+    query: b"def peak([p],[qsize]) { p = max(sadd(p, 3), qsize); } r = groupby(pktstream, [srcip], peak); print r;",
+    entries: Entries::Folds,
+    events: &[
+        // a new key: 14 registers + 1 word of the key + 1 argument + 1 hashed + 1 way + 1 word of the key written + 5 of the
+        // entry; 2 columns of 1 part, 8 and 2 words + 2 elements with 1 product each + 4 words of the map
+        (
+            Event::Packet(1, 4),
+            14 + 1 + 1 + 1 + 1 + 1 + 5 + 2 * (1 + 8 + 2) + 2 + 4,
+        ),
+        // it is there: 14 registers + 1 word of the key + 1 argument + 1 hashed + 1 compared + 1 way + 28 for the row
+        (Event::Packet(1, 4), 14 + 1 + 1 + 1 + 1 + 1 + 28),
+        // 1 word of the key and 5 of the entry into the pipe + 1 for the bucket
+        (Event::Evict, (1 + 5) + 1),
+        // 1 word of the key and 5 of the entry out of the pipe + 1 variable read + 1 product + 1 copied + 1 written
+        (Event::Merge, (1 + 5) + 1 + 1 + 1 + 1),
+    ],
+};
+
+/// Maxima that only move the variable. The body takes 1 + (3 + 2) steps, and the entry has 1 + 2 * 2 words.
+const MOVED_MAXIMA: Case = Case {
+    name: "moved maxima",
+    query: b"def deepest([m],[qsize]) { m = max(m, qsize); } r = groupby(pktstream, [srcip], deepest); print r;",
+    entries: Entries::Folds,
+    events: &[
+        // a new key: 14 registers + 1 word of the key + 1 argument + 1 hashed + 1 way + 1 word of the key written + 5 of the
+        // entry; 1 word of the state from the map + 6 + 2 words of an element
+        (
+            Event::Packet(1, 4),
+            14 + 1 + 1 + 1 + 1 + 1 + 5 + (1 + 6 + 2),
+        ),
+        // it is there: 14 registers + 1 word of the key + 1 argument + 1 hashed + 1 compared + 1 way + 9 for the row
+        (Event::Packet(1, 4), 14 + 1 + 1 + 1 + 1 + 1 + 9),
+    ],
+};
+
+const AVERAGE: &[u8] =
+    b"def avg([e],[qsize]) { e = decay(e, 3) + qsize; } r = groupby(pktstream, [srcip], avg); print r;";
+
+/// A fold that isn't linear. The body takes 1 + (5 + 2) steps, and the entry is the state of one word.
+const OTHER: Case = Case {
+    name: "other",
+    query: AVERAGE,
+    entries: Entries::Folds,
+    events: &[
+        // a new key: 14 registers + 1 word of the key + 1 argument + 1 hashed + 1 way + 1 word of the key written + 1 of the
+        // entry + 8 for the row
+        (Event::Packet(1, 4), 14 + 1 + 1 + 1 + 1 + 1 + 1 + 8),
+        // it is there: 14 registers + 1 word of the key + 1 argument + 1 hashed + 1 compared + 1 way + 8 for the row
+        (Event::Packet(1, 4), 14 + 1 + 1 + 1 + 1 + 1 + 8),
+        // 1 word of the key and 1 of the entry into the pipe + 1 for the bucket
+        (Event::Evict, (1 + 1) + 1),
+        // 1 word of the key and 1 of the entry out of the pipe + 1 of the state
+        (Event::Merge, (1 + 1) + 1),
+    ],
+};
+
+/// The bounds of the same fold: three states side by side.
+const BOUNDS: Case = Case {
+    name: "bounds",
+    query: AVERAGE,
+    entries: Entries::Bounds,
+    events: &[
+        // a new key: 14 registers + 1 word of the key + 1 argument + 1 hashed + 1 way + 1 word of the key written + 3 of the
+        // entry + 3 * 8 for the row
+        (Event::Packet(1, 4), 14 + 1 + 1 + 1 + 1 + 1 + 3 + 3 * 8),
+        // it is there: 14 registers + 1 word of the key + 1 argument + 1 hashed + 1 compared + 1 way + 3 * 8 for the row
+        (Event::Packet(1, 4), 14 + 1 + 1 + 1 + 1 + 1 + 3 * 8),
+        // 1 word of the key and 3 of the entry into the pipe + 1 for the bucket
+        (Event::Evict, (1 + 3) + 1),
+        // 1 word of the key and 3 of the entry out of the pipe + 3 of the states
+        (Event::Merge, (1 + 3) + 3),
+    ],
+};
+
+// Makes an event of the only lane: how many steps it takes.
+fn steps_of<const WAYS: usize, L: Ledger>(
+    rt: &impl Abort,
+    one: &mut OneBucket<WAYS>,
+    event: Event,
+    steps: &mut Steps<L>,
+) -> Result<u64, AllocError> {
+    let before = steps.shown();
+    assert_eq!(rt; one.pipeline.lanes(), 1);
+    match event {
+        Event::Packet(source, length) => {
+            assert!(rt; one.pipeline.ready());
+            one.pipeline.packet(&packet_of(source, length), steps);
+        }
+        Event::Evict => {
+            assert!(rt; one.pipeline.lane_ready(0));
+            let _has_ended = one.pipeline.evict(0, 0, steps);
+        }
+        Event::Merge => {
+            let _merged = one.pipeline.merge(0, steps)?;
+        }
+        Event::Sweep => one.pipeline.sweep(steps)?,
+    }
+    Ok(steps.shown().saturating_sub(before))
+}
+
+// Makes the events of a case, each of which takes exactly its steps.
+fn make_all<const WAYS: usize, L: Ledger>(
+    rt: &impl Abort,
+    one: &mut OneBucket<WAYS>,
+    case: &Case,
+    steps: &mut Steps<L>,
+) -> Result<(), AllocError> {
+    let name = case.name;
+    for (i, (event, counted)) in case.events.iter().enumerate() {
+        let taken = steps_of(rt, one, *event, steps)?;
+        assert_eq!(rt; taken, *counted, "{name}, event {i}");
+    }
+    Ok(())
+}
+
+// The same of a new pipeline.
+fn compare<const WAYS: usize, L: Ledger>(
+    rt: &impl Abort,
+    alloc: Global,
+    case: &Case,
+    steps: &mut Steps<L>,
+) -> Result<(), Fail>
+    requires some_ways { 0 < WAYS }
+    requires few_ways { WAYS ≤ 65536 }
+{
+    let mut one = OneBucket::<WAYS>::new(alloc, case.query, case.entries, 1)?;
+    Ok(make_all(rt, &mut one, case, steps)?)
+}
+
+// The same of each case.
+fn compare_cases<L: Ledger>(rt: &impl Abort, alloc: Global, blank: Blank) -> Result<(), Fail>
+    requires name { blank.name ≡ L.name }
+    requires parts { blank.parts ≡ L.parts }
+    requires whole { 0 < blank.parts }
+{
+    let mut steps = Steps::<L>::new(blank);
+    compare::<2, L>(rt, alloc, &TWO_WAYS, &mut steps)?;
+    for case in [
+        FILTERED,
+        COMPOSED,
+        MOVED,
+        COMPOSED_MAXIMA,
+        MOVED_MAXIMA,
+        OTHER,
+        BOUNDS,
+    ] {
+        compare::<1, L>(rt, alloc, &case, &mut steps)?;
+    }
+    Ok(())
+}
+
+#[test]
+fn events_take_their_steps(rt: HostRuntime) -> Result<(), Fail> {
+    compare_cases::<Brand>(&rt, rt.alloc(), Blank::new(1))
+}
