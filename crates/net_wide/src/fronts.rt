@@ -1,12 +1,13 @@
 //! The fronts of several switches at one groupby, side by side.
 
 ghost use Rattle.std.specs.Prelude.{◌≡◌, ◌+◌, ◌*◌, ◌==◌, ◌≤◌, ◌<◌, ◌↔◌, ℕ, List, Ok, true, not, length};
-ghost use Rattle.std.specs.Prelude.{OnOk, OnErr};
+ghost use Rattle.std.specs.Prelude.{if◌then◌else◌, OnOk, OnErr};
 ghost use Rattle.std.specs.List.{list_all};
 ghost use Rattle.epoch_model.specs.Machine.{Packet, Evict, Merge};
 ghost use Rattle.bucket_cache.specs.Caches.{list_at};
-ghost use Rattle.switch_core.specs.FrontParts.{FitsStore};
+ghost use Rattle.switch_core.specs.FrontParts.{IsFront, FitsStore};
 ghost use Rattle.switch_core.specs.Closing.{is_drained};
+ghost use Rattle.switch_core.specs.Costs.{evict_cost, merge_cost};
 ghost use Rattle.additive_folds.specs.Network.{SwitchEvent, SwitchEpoch, AllMerged};
 ghost use Rattle.net_wide.specs.NetTables.{caches_of};
 ghost use Rattle.net_wide.specs.Sharing.{AtSwitch, SwitchMakes, LeadsBy, LeadsByMerge, StoreTakes, FrontsStand, AddsFront};
@@ -33,6 +34,9 @@ pub fn packet_at<K: EpochKind, const WAYS: usize, L: Ledger>(
     ensures makes { SwitchMakes (λ kind. K.stands kind) WAYS at (Packet key.now args.now) fronts.old fronts.new }
     ensures leads { LeadsBy (λ kind. K.stands kind) WAYS at (Packet key.now args.now) fronts.old fronts.new }
     ensures at_least { steps.old ≤ steps.new }
+    ensures cost { AtSwitch (λ front. let key_words = front.cache.key_words in
+        steps.new ≤ steps.old + (key_words + 2 * WAYS * (key_words + 1) + (key_words + (K.sizes front.kind).entry)
+        + K.open_bound front.kind + K.absorb_bound front.kind)) fronts.old at }
 {
     let front = &mut fronts[at];
     front.packet(key, args, steps);
@@ -52,6 +56,8 @@ pub fn evict_at<K: EpochKind, const WAYS: usize, L: Ledger>(
     ensures leads { LeadsBy (λ kind. K.stands kind) WAYS at (Evict bucket) fronts.old fronts.new }
     ensures some { AtSwitch (λ front. result ≡ not (length (list_at front.cache bucket) == 0)) fronts.old at }
     ensures at_least { steps.old ≤ steps.new }
+    ensures cost { AtSwitch (λ front. steps.new ≡ steps.old
+        + (if result then evict_cost front.cache.key_words front.cache.entry_words else 0)) fronts.old at }
 {
     let front = &mut fronts[at];
     front.evict(bucket, steps)
@@ -76,8 +82,12 @@ pub fn merge_at<K: EpochKind, const WAYS: usize, L: Ledger>(
     ensures empty { AtSwitch (λ front. (result ≡ Ok Merged.Empty) ↔ (length front.pipe.records ≡ 0)) fronts.old at }
     ensures err { OnErr result ((fronts.new ≡ fronts.old) × (store.new ≡ store.old)) }
     ensures at_least { steps.old ≤ steps.new }
+    ensures cost { AtSwitch (λ front. steps.new ≤ steps.old
+        + merge_cost front.cache.key_words front.cache.entry_words (K.merge_bound front.kind)) fronts.old at }
+    ensures known { AtSwitch (λ front. IsFront WAYS (K.sizes front.kind) front.cache front.pipe) fronts.old at }
 {
     let front = &mut fronts[at];
+    front.known();
     front.merge_into(store, steps)
 }
 

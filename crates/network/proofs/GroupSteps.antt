@@ -24,7 +24,7 @@ use Rattle.switch_core.specs.Rows.{Each, EachFrom}
 use Rattle.switch_core.proofs.LanesMade.{group_sound}
 use Rattle.switch_core.proofs.SideBySide.{same_some, each_at, each_long, each_map, got_below}
 use Rattle.network.specs.FrontRuns.{FrontKept}
-use Rattle.network.specs.Groups.{AllWide, AreWide, GroupGrows, GroupView, IsGroup, AreGroups, GroupRuns, GroupsRun, folding_in, shared_tables}
+use Rattle.network.specs.Groups.{AllWide, AreWide, GroupGrows, GroupView, IsGroup, IsKindOfProgram, AreGroups, GroupRuns, GroupsRun, folding_in, shared_tables}
 use Rattle.network.specs.Shared.{AllShare, MayShare, SharedRuns}
 use Rattle.network.proofs.SharedSteps.{each_back, still_share}
 
@@ -77,6 +77,9 @@ still_group ways switches are part plan n old new ran is = record {
   states = ran.runs.store.state_words ∙ (is.states ∙ ap (λ k. (ghosts.sizes k).state) (sym ran.kind));
   class = ap (λ k. (ghosts.folding k).row_per_epoch) ran.kind ∙ is.class;
   kind = λ f program. subst (λ k. IsKindOf f (ghosts.sizes k) (ghosts.folding k) (ghosts.open_bound k) (ghosts.absorb_bound k)) (sym ran.kind) (is.kind f program);
+  kinds = λ s front e.
+      let was = each_back (λ n. FrontKept) 0 old.fronts new.fronts s front ran.runs.fronts e in
+      subst (IsKindOfProgram part.program) (sym (was.2 s (omega arith)).kind) (is.kinds s was.0 was.1);
   count = sym (each_long _ 0 old.fronts new.fronts ran.runs.fronts) ∙ is.count;
   shares = subst (λ k. AllShare ghosts.sizes ghosts.folding (ghosts.folding k) (length (wiring_at plan n).args) new.fronts new.store) (sym ran.kind)
       (still_share ghosts.sizes ghosts.folding (folding_in old) (length (wiring_at plan n).args) old.fronts new.fronts old.store new.store ran.runs.fronts ran.runs.store is.shares);
@@ -178,6 +181,10 @@ module _ (view : GroupView) (part : GroupPlan) (wiring : GroupWiring) (registers
     states = is.states;
     class = is.class;
     kind = is.kind;
+    kinds = λ s front e. elim (got_push view.fronts adds.front front s (ap (λ xs. slice_get xs s) (sym adds.added) ∙ e)) [
+      | inl there ↦ is.kinds s front there
+      | inr new ↦ subst (λ (x : FrontOf AnyEpochs). IsKindOfProgram part.program x.kind) new (subst (IsKindOfProgram part.program) (sym adds.has_kind) of_kind)
+    ];
     count = ap length adds.added ∙ (length-append view.fronts (adds.front ∷ []) ∙ ap (λ n. n + 1) is.count);
     shares = λ s front e. elim (got_push view.fronts adds.front front s (ap (λ xs. slice_get xs s) (sym adds.added) ∙ e)) [
       | inl there ↦ is.shares s front there

@@ -1,6 +1,7 @@
 -- The groupbys of a plan over several switches.
 use Rattle.std.specs.Prelude.{◌≡◌, ℕ, Bool, List, [], ◌∷◌, length, slice_get, Some}
 use Rattle.std.specs.List.{list_all}
+use Rattle.fold_class.specs.declared.program.FoldProgram.{FoldProgram}
 use Rattle.fold_class.specs.Program.{IsProgramOf}
 use Rattle.query_lang.specs.declared.fold.TypedFold.{TypedFold}
 use Rattle.epoch_model.specs.Machine.{Epoch}
@@ -37,13 +38,18 @@ folding_in group = ghosts.folding group.kind
 abbrev pub GroupShares : ℕ → GroupView → Type 0
 GroupShares args group = AllShare ghosts.sizes ghosts.folding (folding_in group) args group.fronts group.store
 
+-- entries of this kind are those of the program's fold
+abbrev pub IsKindOfProgram : FoldProgram → AnyEpochs → Type 0
+IsKindOfProgram program kind = (f : TypedFold) → IsProgramOf f program
+    → IsKindOf f (ghosts.sizes kind) (ghosts.folding kind) (ghosts.open_bound kind) (ghosts.absorb_bound kind)
+
 -- It is that of the plan's groupby, with fronts for so many switches.
 pub record IsGroup (switches : ℕ) (part : GroupPlan) (wiring : GroupWiring) (group : GroupView) : Type 0 where
   pub keys : group.store.key_words ≡ length part.key_names
   pub states : group.store.state_words ≡ (ghosts.sizes group.kind).state
   pub class : (folding_in group).row_per_epoch ≡ per_epoch part.program.class
-  pub kind : (f : TypedFold) → IsProgramOf f part.program
-      → IsKindOf f (ghosts.sizes group.kind) (ghosts.folding group.kind) (ghosts.open_bound group.kind) (ghosts.absorb_bound group.kind)
+  pub kind : IsKindOfProgram part.program group.kind
+  pub kinds : (s : ℕ) (front : FrontOf AnyEpochs) → slice_get group.fronts s ≡ Some front → IsKindOfProgram part.program front.kind
   pub count : length group.fronts ≡ switches
   pub shares : GroupShares (length wiring.args) group
 

@@ -1,10 +1,12 @@
 -- A plan over several switches, as contracts see it.
-use Rattle.std.specs.Prelude.{◌≡◌, ℕ, ◌*◌, ◌<◌, ◌≤◌, List}
+use Rattle.std.specs.Prelude.{◌≡◌, ℕ, ◌+◌, ◌*◌, ◌<◌, ◌≤◌, List, sum_by}
 use Rattle.epoch_model.specs.Machine.{Event}
+use Rattle.stage_plan.specs.Planned.{registers_of}
 use Rattle.switch_core.specs.Pipelines.{HasRooms}
 use Rattle.network.specs.declared.network.Network.{Network}
 use Rattle.network.specs.Events.{GroupsMake}
 use Rattle.network.specs.Groups.{GroupView, AreGroups, AllWide}
+use Rattle.network.specs.Costs.{group_cost, group_merge_cost}
 
 -- its groupbys
 abbrev pub groups_in : {ways : ℕ} → Network ways → List GroupView
@@ -33,3 +35,15 @@ pub record Keeps {ways : ℕ} (old new : Network ways) : Type 0 where
 pub record NetworkMakes {ways : ℕ} (at : ℕ) (events : ℕ → List Event) (old new : Network ways) : Type 0 where
   pub groups : GroupsMake ways at events (groups_in old) (groups_in new)
   pub keeps : Keeps old new
+
+-- the most steps that a packet of this switch takes: its registers, and what the switch's front takes at each groupby
+abbrev pub network_cost : {ways : ℕ} → ℕ → Network ways → ℕ
+network_cost {ways = ways} at net = registers_of net.plan + sum_by (group_cost ways at) (groups_in net)
+
+-- the most steps that merges of this switch take, one at each groupby
+abbrev pub merges_cost : {ways : ℕ} → ℕ → Network ways → ℕ
+merges_cost at net = sum_by (group_merge_cost at) (groups_in net)
+
+-- the most steps that a packet of this switch takes with the merges around it: one at each groupby before it, and one behind it
+abbrev pub turn_cost : {ways : ℕ} → ℕ → Network ways → ℕ
+turn_cost at net = network_cost at net + 2 * merges_cost at net

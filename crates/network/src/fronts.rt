@@ -1,6 +1,6 @@
 //! The fronts of a groupby, one by one, and the store that each is merged into.
 
-ghost use Rattle.std.specs.Prelude.{◌≡◌, ◌<◌, ◌≤◌, ◌↔◌, ◌≢◌, ℕ, Ok, true, length, OnOk};
+ghost use Rattle.std.specs.Prelude.{◌≡◌, ◌+◌, ◌*◌, ◌<◌, ◌≤◌, ◌↔◌, ◌≢◌, ℕ, Ok, true, length, OnOk};
 ghost use Rattle.epoch_model.specs.Timeline.{NoPacket};
 ghost use Rattle.epoch_model.specs.Driving.{event_of};
 ghost use Rattle.bucket_cache.specs.Caches.{list_at};
@@ -85,6 +85,9 @@ pub fn take_packet<K: EpochKind, const WAYS: usize, L: Ledger>(
     ensures makes { FrontsMakeAll (λ kind. K.stands kind) WAYS at
         (event_of (taken_at (wiring_at plan.now group) registers.now)) fronts.old fronts.new }
     ensures steps { steps.old ≤ steps.new }
+    ensures cost { AtSwitch (λ front. let key_words = front.cache.key_words in let sizes = K.sizes front.kind in
+        steps.new ≤ steps.old + ((key_words + sizes.args) + (key_words + 2 * WAYS * (key_words + 1) + (key_words + sizes.entry)
+        + K.open_bound front.kind + K.absorb_bound front.kind))) fronts.old at }
 {
     if plan.present(group, registers) {
         let wiring = plan.wiring(group);

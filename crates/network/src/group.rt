@@ -2,7 +2,7 @@
 
 ghost use Rattle.std.specs.Prelude.{◌≡◌, ◌+◌, ◌*◌, ◌==◌, ◌<◌, ◌≤◌, ◌↔◌, ℕ, List, [], Ok, true, not};
 ghost use Rattle.std.specs.Prelude.{length};
-ghost use Rattle.std.specs.Prelude.{IfOk, OnOk, OnErr};
+ghost use Rattle.std.specs.Prelude.{if◌then◌else◌, IfOk, OnOk, OnErr};
 ghost use Rattle.std.specs.List.{list_all};
 ghost use Rattle.bucket_cache.specs.Caches.{list_at};
 ghost use Rattle.epoch_entry.specs.Foldings.{per_epoch};
@@ -17,11 +17,14 @@ ghost use Rattle.stage_plan.specs.Planned.{registers_of, wiring_at};
 ghost use Rattle.stage_plan.specs.Registers.{taken_at};
 ghost use Rattle.stage_plan.specs.Sound.{IsSoundGroup};
 ghost use Rattle.switch_core.specs.Closing.{is_drained};
+ghost use Rattle.switch_core.specs.Costs.{evict_cost};
 ghost use Rattle.switch_core.specs.Pipelines.{heading_of};
+ghost use Rattle.switch_core.specs.PlanLanes.{lane_cost, lane_merge_cost};
 ghost use Rattle.net_wide.specs.Sharing.{AtSwitch};
 ghost use Rattle.network.specs.Shared.{AllShare, MergesAlone, NoPackets, SharedRuns};
 ghost use Rattle.network.specs.Groups.{GroupGrows, GroupRuns, GroupShares, GroupStands, IsGroup, folding_in, group_is_drained};
 ghost use Rattle.network.specs.Events.{AreAllMerged, GroupMakes, GroupMakesAll, is_ready_at};
+ghost use Rattle.network.specs.Costs.{AtLaneIn, group_merge_cost};
 
 use crate::fronts::{drain, take_packet};
 use backing_store::BackingStore;
@@ -145,6 +148,7 @@ impl<const WAYS: usize> Group<WAYS> {
         ensures runs { OnOk result (GroupRuns WAYS MergesAlone self.old self.new) }
         ensures ready { OnOk result (is_ready_at at self.new ≡ true) }
         ensures steps { steps.old ≤ steps.new }
+        ensures cost { steps.new ≤ steps.old + group_merge_cost at self.old }
     {
         if self.ready(at) {
             return Ok(());
@@ -175,6 +179,7 @@ impl<const WAYS: usize> Group<WAYS> {
         ensures makes { GroupMakesAll WAYS at (event_of (taken_at (wiring_at plan.now group) registers.now)) self.old self.new }
         ensures store { self.new.store ≡ self.old.store }
         ensures steps { steps.old ≤ steps.new }
+        ensures cost { AtLaneIn (λ lane. steps.new ≤ steps.old + lane_cost WAYS lane) self.old at }
     {
         take_packet(
             plan,
@@ -197,6 +202,8 @@ impl<const WAYS: usize> Group<WAYS> {
         ensures store { self.new.store ≡ self.old.store }
         ensures some { AtSwitch (λ front. result ≡ not (length (list_at front.cache bucket) == 0)) self.old.fronts at }
         ensures steps { steps.old ≤ steps.new }
+        ensures cost { AtLaneIn (λ lane. steps.new ≡ steps.old
+            + (if result then evict_cost lane.cache.key_words lane.cache.entry_words else 0)) self.old at }
     {
         evict_at(&mut self.fronts, at, bucket, steps)
     }
@@ -214,6 +221,8 @@ impl<const WAYS: usize> Group<WAYS> {
         ensures empty { AtSwitch (λ front. (result ≡ Ok Merged.Empty) ↔ (length front.pipe.records ≡ 0)) self.old.fronts at }
         ensures err { OnErr result (self.new ≡ self.old) }
         ensures steps { steps.old ≤ steps.new }
+        ensures cost { AtLaneIn (λ lane. steps.new ≤ steps.old + lane_merge_cost lane) self.old at }
+        ensures most { steps.new ≤ steps.old + group_merge_cost at self.old }
     {
         merge_at(&mut self.fronts, at, &mut self.store, steps)
     }

@@ -2,7 +2,7 @@
 
 ghost use Rattle.std.specs.Prelude.{◌≡◌, ◌+◌, ◌*◌, ◌==◌, ◌<◌, ◌≤◌, ◌↔◌, ℕ, List, [], Ok, true, not};
 ghost use Rattle.std.specs.Prelude.{length};
-ghost use Rattle.std.specs.Prelude.{All, IfOk, OnOk, OnErr};
+ghost use Rattle.std.specs.Prelude.{All, sum_by, if◌then◌else◌, IfOk, OnOk, OnErr};
 ghost use Rattle.std.specs.List.{list_all};
 ghost use Rattle.bucket_cache.specs.Caches.{list_at};
 ghost use Rattle.epoch_model.specs.Driving.{event_of};
@@ -10,11 +10,14 @@ ghost use Rattle.epoch_model.specs.Machine.{Epoch, Evict, Merge};
 ghost use Rattle.stage_plan.specs.Planned.{registers_of, wiring_at};
 ghost use Rattle.stage_plan.specs.Registers.{taken_at};
 ghost use Rattle.stage_plan.specs.Sound.{PlanParts};
+ghost use Rattle.switch_core.specs.Costs.{evict_cost};
 ghost use Rattle.switch_core.specs.Pipelines.{event_at};
+ghost use Rattle.switch_core.specs.PlanLanes.{lane_merge_cost};
 ghost use Rattle.switch_core.specs.Rows.{Each};
 ghost use Rattle.network.specs.Shared.{MergesAlone, NoPackets};
 ghost use Rattle.network.specs.Groups.{AreGroups, GroupGrows, GroupStands, GroupsRun, StoresHold, group_is_drained, shared_tables};
 ghost use Rattle.network.specs.Events.{AreAllMerged, AtFront, AtGroup, GroupsMake, StoresStay, is_ready_at};
+ghost use Rattle.network.specs.Costs.{AtSwitchLane, group_cost, group_merge_cost};
 
 use crate::group::Group;
 use final_queries::Table;
@@ -89,6 +92,7 @@ pub fn make_room<const WAYS: usize, L: Ledger>(
     ensures runs { OnOk result (GroupsRun WAYS (λ n. MergesAlone) groups.old groups.new) }
     ensures ready { OnOk result (list_all (is_ready_at at) groups.new ≡ true) }
     ensures steps { steps.old ≤ steps.new }
+    ensures cost { steps.new ≤ steps.old + sum_by (group_merge_cost at) groups.old }
 {
     for i in 0..groups.len() {
         let group = &mut groups[i];
@@ -115,6 +119,7 @@ pub fn packet_groups<const WAYS: usize, L: Ledger>(
     ensures makes { GroupsMake WAYS at (λ n. event_of (taken_at (wiring_at plan.now n) registers.now)) groups.old groups.new }
     ensures stores { StoresStay groups.old groups.new }
     ensures steps { steps.old ≤ steps.new }
+    ensures cost { steps.new ≤ steps.old + sum_by (group_cost WAYS at) groups.old }
 {
     plan.known();
     for i in 0..groups.len() {
@@ -139,6 +144,8 @@ pub fn evict_from<const WAYS: usize, L: Ledger>(
     ensures stores { StoresStay groups.old groups.new }
     ensures some { AtFront (λ front. result ≡ not (length (list_at front.cache bucket) == 0)) groups.old at lane }
     ensures steps { steps.old ≤ steps.new }
+    ensures cost { AtSwitchLane (λ one. steps.new ≡ steps.old
+        + (if result then evict_cost one.cache.key_words one.cache.entry_words else 0)) groups.old at lane }
 {
     let group = &mut groups[lane];
     group.evict(at, bucket, steps)
@@ -158,6 +165,7 @@ pub fn merge_from<const WAYS: usize, L: Ledger>(
     ensures empty { AtFront (λ front. (result ≡ Ok Merged.Empty) ↔ (length front.pipe.records ≡ 0)) groups.old at lane }
     ensures err { OnErr result (groups.new ≡ groups.old) }
     ensures steps { steps.old ≤ steps.new }
+    ensures cost { AtSwitchLane (λ one. steps.new ≤ steps.old + lane_merge_cost one) groups.old at lane }
 {
     let group = &mut groups[lane];
     group.merge(at, steps)
@@ -172,6 +180,7 @@ pub fn merge_groups<const WAYS: usize, L: Ledger>(
     requires { (plan : PlanParts) × (switches : ℕ) × (at < switches) × AreGroups plan switches groups.old }
     ensures runs { OnOk result (GroupsRun WAYS (λ n. MergesAlone) groups.old groups.new) }
     ensures steps { steps.old ≤ steps.new }
+    ensures cost { steps.new ≤ steps.old + sum_by (group_merge_cost at) groups.old }
 {
     for i in 0..groups.len() {
         let group = &mut groups[i];

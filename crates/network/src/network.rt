@@ -2,24 +2,29 @@
 
 ghost use Rattle.std.specs.Prelude.{◌≡◌, ◌+◌, ◌*◌, ◌==◌, ◌<◌, ◌≤◌, ◌↔◌, ℕ, List, [], Ok, true, not};
 ghost use Rattle.std.specs.Prelude.{length};
-ghost use Rattle.std.specs.Prelude.{All, IfOk, OnOk, OnErr};
+ghost use Rattle.std.specs.Prelude.{All, if◌then◌else◌, IfOk, OnOk, OnErr};
 ghost use Rattle.std.specs.List.{list_all};
 ghost use Rattle.bucket_cache.specs.Caches.{list_at};
 ghost use Rattle.epoch_model.specs.Machine.{Epoch, Evict, Merge};
-ghost use Rattle.stage_plan.specs.Planned.{taken};
+ghost use Rattle.stage_plan.specs.Planned.{plan_bound, taken};
+ghost use Rattle.switch_core.specs.Costs.{evict_cost};
 ghost use Rattle.switch_core.specs.Pipelines.{event_at, packet_events};
+ghost use Rattle.switch_core.specs.PlanLanes.{lane_merge_cost};
 ghost use Rattle.switch_core.specs.Rows.{Each};
 ghost use Rattle.network.specs.Shared.{IsTurnAt, MergesAlone, NoPackets};
 ghost use Rattle.network.specs.Groups.{GroupGrows, GroupStands, GroupsRun, StoresHold, group_is_drained, shared_tables};
 ghost use Rattle.network.specs.Events.{AreAllMerged, AtFront, AtGroup, OthersStay, StoresStay, is_ready_at};
-ghost use Rattle.network.specs.Networks.{IsNetwork, Keeps, NetworkMakes, groups_in};
+ghost use Rattle.network.specs.Costs.{AtSwitchLane};
+ghost use Rattle.network.specs.Networks.{IsNetwork, Keeps, NetworkMakes, groups_in, merges_cost, network_cost, turn_cost};
 
 use crate::group::Group;
 use crate::groups::{
     add_switch, all_drained, all_ready, drain_groups, evict_from, group_tables, made_groups,
     make_room, merge_from, merge_groups, packet_groups,
 };
+use epoch_entry::entries_suit_folds;
 use final_queries::Table;
+use fold_class::depth_is_found;
 use marple_base::{Packet, Seq, Steps};
 use stage_plan::Plan;
 use std::alloc::{AllocError, Global};
@@ -144,7 +149,12 @@ impl<const WAYS: usize> Network<WAYS> {
         ensures others { OthersStay at (groups_in self.old) (groups_in self.new) }
         ensures stores { StoresStay (groups_in self.old) (groups_in self.new) }
         ensures steps { steps.old ≤ steps.new }
+        ensures cost { steps.new ≤ steps.old + network_cost at self.old }
+        ensures bound { steps.new ≤ steps.old + plan_bound self.old.plan WAYS }
     {
+        depth_is_found();
+        entries_suit_folds();
+        self.plan.known();
         self.plan.row(packet, &mut self.registers, steps);
         packet_groups(
             &self.plan,
@@ -176,6 +186,8 @@ impl<const WAYS: usize> Network<WAYS> {
         ensures some { AtFront (λ front. result ≡ not (length (list_at front.cache bucket) == 0))
             (groups_in self.old) at lane }
         ensures steps { steps.old ≤ steps.new }
+        ensures cost { AtSwitchLane (λ one. steps.new ≡ steps.old
+            + (if result then evict_cost one.cache.key_words one.cache.entry_words else 0)) (groups_in self.old) at lane }
     {
         evict_from(&mut self.groups, at as usize, lane as usize, bucket, steps)
     }
@@ -199,6 +211,7 @@ impl<const WAYS: usize> Network<WAYS> {
         ensures err { OnErr result (groups_in self.new ≡ groups_in self.old) }
         ensures keeps { Keeps self.old self.new }
         ensures steps { steps.old ≤ steps.new }
+        ensures cost { AtSwitchLane (λ one. steps.new ≤ steps.old + lane_merge_cost one) (groups_in self.old) at lane }
     {
         merge_from(&mut self.groups, at as usize, lane as usize, steps)
     }
@@ -211,6 +224,7 @@ impl<const WAYS: usize> Network<WAYS> {
         ensures runs { OnOk result (GroupsRun WAYS (λ n. MergesAlone) (groups_in self.old) (groups_in self.new)) }
         ensures ready { OnOk result (list_all (is_ready_at at) (groups_in self.new) ≡ true) }
         ensures steps { steps.old ≤ steps.new }
+        ensures cost { steps.new ≤ steps.old + merges_cost at self.old }
     {
         make_room(&mut self.groups, at as usize, steps)
     }
@@ -222,6 +236,7 @@ impl<const WAYS: usize> Network<WAYS> {
         ensures keeps { Keeps self.old self.new }
         ensures runs { OnOk result (GroupsRun WAYS (λ n. MergesAlone) (groups_in self.old) (groups_in self.new)) }
         ensures steps { steps.old ≤ steps.new }
+        ensures cost { steps.new ≤ steps.old + merges_cost at self.old }
     {
         merge_groups(&mut self.groups, at as usize, steps)
     }
@@ -241,6 +256,7 @@ impl<const WAYS: usize> Network<WAYS> {
         ensures runs { OnOk result (GroupsRun WAYS (λ n. IsTurnAt at (taken self.old.plan n packet.now.words))
             (groups_in self.old) (groups_in self.new)) }
         ensures steps { steps.old ≤ steps.new }
+        ensures cost { steps.new ≤ steps.old + turn_cost at self.old }
     {
         self.make_room(at, steps)?;
         self.packet(at, packet, steps);

@@ -1,6 +1,7 @@
-use Rattle.std.proofs.Common.{◌==◌, not, length, get_or, set, sym, ap, ◌∙◌}
+use Rattle.std.proofs.Common.{◌≡◌, ◌+◌, ◌==◌, if◌then◌else◌, not, length, get_or, set, sym, ap, ◌∙◌, subst}
 use Rattle.epoch_model.specs.Machine.{Evict}
 use Rattle.bucket_cache.specs.Caches.{list_at}
+use Rattle.switch_core.specs.Costs.{evict_cost}
 use Rattle.switch_core.proofs.SideBySide.{same_some}
 use Rattle.net_wide.proofs.Sharing.{one_makes, got_here, evict_leads}
 use Rattle.net_wide.proofs.fronts.evict_at.Goals as goal
@@ -23,3 +24,10 @@ returns-clause-some g c x e =
     let first = c.index-fronts-at.result in
     let same = same_some (get_or fronts c.args.at first) x (sym (got_here fronts c.args.at first c.requires.switch) ∙ e) in
     c.evict.ensures.some ∙ ap (λ v. not (length (list_at v.cache c.args.bucket) == 0)) same
+
+pub returns-clause-cost : goal.returns-clause-cost
+returns-clause-cost g c x e =
+    let fronts = c.args.fronts.now in
+    let first = c.index-fronts-at.result in
+    let same = same_some (get_or fronts c.args.at first) x (sym (got_here fronts c.args.at first c.requires.switch) ∙ e) in
+    subst (λ v. c.evict.new.steps ≡ c.args.steps.now + (if c.evict.result then evict_cost v.cache.key_words v.cache.entry_words else 0)) same c.evict.ensures.cost

@@ -1,5 +1,7 @@
-use Rattle.std.proofs.Common.{rules, ◌≡◌, ◌<◌, length, get_or, set, sym, ap, subst, ◌∙◌}
+use Rattle.std.proofs.Common.{rules, ◌≡◌, ◌+◌, ◌<◌, ◌≤◌, length, get_or, set, sym, ap, subst, ◌∙◌}
 use Rattle.epoch_model.specs.Machine.{Merge}
+use Rattle.switch_core.specs.Costs.{merge_cost}
+use Rattle.switch_core.specs.FrontParts.{IsFront}
 use Rattle.switch_core.specs.FrontEvents.{FrontMakes, MergesNext}
 use Rattle.switch_core.proofs.SideBySide.{same_some}
 use Rattle.switch_core.proofs.LaneFacts.{got_set, on_ok, on_err, set_same}
@@ -67,6 +69,20 @@ returns-clause-err g c =
     on_err ((new ≡ was) × (c.merge_into.new.store ≡ c.args.store.now)) ((set fronts at new ≡ fronts) × (c.merge_into.new.store ≡ c.args.store.now)) c.merge_into.result
     (λ same. (ap (set fronts at) same.0 ∙ set_same fronts at was (got_here fronts at c.index-fronts-at.result c.requires.switch), same.1))
     c.merge_into.ensures.err
+
+pub returns-clause-cost : goal.returns-clause-cost
+returns-clause-cost g c x e =
+    let fronts = c.args.fronts.now in
+    let first = c.index-fronts-at.result in
+    let same = same_some (get_or fronts c.args.at first) x (sym (got_here fronts c.args.at first c.requires.switch) ∙ e) in
+    subst (λ v. c.merge_into.new.steps ≤ c.args.steps.now + merge_cost v.cache.key_words v.cache.entry_words (g.K.EpochKind.merge_bound v.kind)) same c.merge_into.ensures.cost
+
+pub returns-clause-known : goal.returns-clause-known
+returns-clause-known g c x e =
+    let fronts = c.args.fronts.now in
+    let first = c.index-fronts-at.result in
+    let same = same_some (get_or fronts c.args.at first) x (sym (got_here fronts c.args.at first c.requires.switch) ∙ e) in
+    subst (λ v. IsFront g.row.WAYS (g.K.EpochKind.sizes v.kind) v.cache v.pipe) same c.known.ensures
 
 pub merge_into-requires : goal.merge_into-requires
 merge_into-requires g c =

@@ -1,4 +1,4 @@
-use Rattle.std.proofs.Common.{◌≡◌, true, false, [], Option, Some, map, refl, sym, ap, ◌∙◌, subst}
+use Rattle.std.proofs.Common.{◌≡◌, ℕ, ◌+◌, ◌*◌, ◌≤◌, true, false, [], Option, Some, map, refl, sym, ap, ◌∙◌, subst, arith}
 use Rattle.epoch_model.specs.Driving.{Taken, event_of}
 use Rattle.epoch_model.specs.Keys.{Key, ArgRow}
 use Rattle.query_lang.specs.Words.{holds}
@@ -28,3 +28,21 @@ returns-else-present-clause-makes g c =
     let t : holds (operand_value registers wiring.present) ≡ false = sym c.present.ensures ∙ c.if-present.false in
     let none : [] ≡ event_of (taken_at wiring registers) = rw t refl in
     subst (λ events. FrontsMakeAll (λ kind. g.K.EpochKind.stands kind) g.row.WAYS c.args.at events fronts fronts) none refl
+
+-- steps of a key and of a row of arguments, and then of a packet
+copied : (start key args end keys row most : ℕ) → key ≡ start + keys → args ≡ key + row → end ≤ args + most → end ≤ start + ((keys + row) + most)
+copied start key args end keys row most k r e = omega arith
+
+pub returns-then-present-clause-cost : goal.returns-then-present-clause-cost
+returns-then-present-clause-cost g c front e =
+    let start = c.args.steps.now in
+    let words = front.cache.key_words in
+    let sizes = g.K.EpochKind.sizes front.kind in
+    copied start c.key_into.new.steps c.args_into.new.steps c.packet_at.new.steps words sizes.args
+    (words + 2 * g.row.WAYS * (words + 1) + (words + sizes.entry) + g.K.EpochKind.open_bound front.kind + g.K.EpochKind.absorb_bound front.kind)
+    (c.key_into.ensures.steps ∙ ap (λ n. start + n) (c.requires.key front e))
+    (c.args_into.ensures.steps ∙ ap (λ n. c.key_into.new.steps + n) (c.requires.args front e))
+    (c.packet_at.ensures.cost front e)
+
+pub returns-else-present-clause-cost : goal.returns-else-present-clause-cost
+returns-else-present-clause-cost g c front e = omega arith

@@ -37,3 +37,11 @@ returns-clause-some g c x e front f =
     let group = get_or groups lane c.index-groups-lane.result in
     let same = same_some group x (sym (got_here groups lane c.index-groups-lane.result c.requires.lane) ∙ e) in
     c.evict.ensures.some front (ap (λ (v : GroupView). slice_get v.fronts c.args.at) same ∙ f)
+
+pub returns-clause-cost : goal.returns-clause-cost
+returns-clause-cost g c x e front f =
+    let groups = c.args.groups.now in
+    let lane = c.args.lane in
+    let group = get_or groups lane c.index-groups-lane.result in
+    let same = same_some group x (sym (got_here groups lane c.index-groups-lane.result c.requires.lane) ∙ e) in
+    c.evict.ensures.cost front (ap (λ (v : GroupView). slice_get v.fronts c.args.at) same ∙ f)

@@ -1,9 +1,10 @@
-use Rattle.std.proofs.Common.{◌≡◌, ◌≤◌, ◌<◌, ℕ, true, Some}
-use Rattle.std.specs.Prelude.{slice_get}
+use Rattle.std.proofs.Common.{◌≡◌, ◌+◌, ◌≤◌, ◌<◌, ℕ, true, take, Some}
+use Rattle.std.specs.Prelude.{slice_get, sum_by}
 use Rattle.switch_core.proofs.SideBySide.{Done, Untouched}
 use Rattle.network.specs.Shared.{MergesAlone}
 use Rattle.network.specs.Groups.{GroupRuns, GroupView}
 use Rattle.network.specs.Events.{is_ready_at}
+use Rattle.network.specs.Costs.{group_merge_cost}
 use Rattle.network.proofs.groups.make_room.Given as goal
 
 -- the groupbys so far had merges alone, and have room
@@ -13,4 +14,5 @@ invariant-loop-i g l = record {
   same : Untouched l.i l.initial.groups l.groups;
   ready : (s : ℕ) (group : GroupView) → s < l.i → slice_get l.groups s ≡ Some group → is_ready_at l.at group ≡ true;
   later : l.initial.steps ≤ l.steps;
+  cost : l.steps ≤ l.initial.steps + sum_by (group_merge_cost l.at) (take l.i l.initial.groups);
 }

@@ -53,3 +53,11 @@ returns-clause-err g c =
     let new = c.merge.new.self in
     on_err (new ≡ group) (set groups lane new ≡ groups) c.merge.result
     (λ same. ap (set groups lane) same ∙ set_same groups lane group (got_here groups lane c.index-groups-lane.result c.requires.lane)) c.merge.ensures.err
+
+pub returns-clause-cost : goal.returns-clause-cost
+returns-clause-cost g c x e front f =
+    let groups = c.args.groups.now in
+    let lane = c.args.lane in
+    let group = get_or groups lane c.index-groups-lane.result in
+    let same = same_some group x (sym (got_here groups lane c.index-groups-lane.result c.requires.lane) ∙ e) in
+    c.merge.ensures.cost front (ap (λ (v : GroupView). slice_get v.fronts c.args.at) same ∙ f)

@@ -1,14 +1,17 @@
-use Rattle.std.proofs.Common.{◌≡◌, ◌<◌, ◌+◌, ◌==◌, true, false, length, get_or, set, sym, ap, ◌∙◌, subst, arith, lit<}
-use Rattle.std.specs.Prelude.{slice_get}
+use Rattle.std.proofs.Common.{◌≡◌, ◌<◌, ◌+◌, ◌==◌, true, false, length, take, get_or, set, sym, ap, ◌∙◌, subst, arith, lit<}
+use Rattle.std.specs.Prelude.{slice_get, sum_by}
 use Rattle.std.proofs.lemmas.Bool.Decides.{nat_tests}
 use Rattle.epoch_model.proofs.KeyLists.{by_test}
 use Rattle.stage_plan.specs.Planned.{wiring_at}
 use Rattle.switch_core.proofs.LaneFacts.{got_set}
-use Rattle.switch_core.proofs.SideBySide.{same_some, done_start, untouched_start, done_next, untouched_next, untouched_was, done_end}
+use Rattle.switch_core.proofs.SweepCosts.{sum_within}
+use Rattle.switch_core.proofs.SideBySide.{same_some, done_start, untouched_start, done_next, untouched_next, untouched_was, done_end, sum_next}
 use Rattle.net_wide.proofs.Sharing.{got_here}
 use Rattle.network.specs.Shared.{MergesAlone}
 use Rattle.network.specs.Groups.{GroupRuns}
 use Rattle.network.specs.Events.{is_ready_at}
+use Rattle.network.specs.Costs.{group_merge_cost}
+use Rattle.network.proofs.CostSteps.{within_next}
 use Rattle.network.proofs.SharedSteps.{got_other, got_within, all_pass}
 use Rattle.network.proofs.MakeSteps.{merge_runs, shares_at, switch_within}
 use Rattle.network.proofs.groups.merge_groups.Goals as goal
@@ -18,6 +21,7 @@ loop-i-init g c = record {
   runs = done_start (λ n. GroupRuns g.row.WAYS MergesAlone) 0 c.args.groups.now;
   same = untouched_start 0 0 c.args.groups.now;
   later = omega arith;
+  cost = omega arith;
 }
 
 pub merge-requires : goal.merge-requires
@@ -46,6 +50,10 @@ loop-i-preserved g c =
           (λ x e. subst (λ v. GroupRuns g.row.WAYS MergesAlone v new) (same_some group x (sym was ∙ e)) (merge_runs g.row.WAYS c.args.at group new c.in_ok-_merged.ensures.makes));
       same = untouched_next i first groups new c.loop-i.invariant.same;
       later = let a = c.merge.ensures.steps in let b = c.loop-i.invariant.later in omega arith;
+      cost =
+          let most = group_merge_cost c.args.at in
+          within_next c.args.steps.now c.loop-i.steps c.merge.new.steps (sum_by most (take i first)) (most group) (sum_by most (take (i + 1) first)) (sum_next most first i group was)
+          c.loop-i.invariant.cost c.merge.ensures.most;
     }
 
 pub returns-clause-runs : goal.returns-clause-runs
@@ -53,3 +61,20 @@ returns-clause-runs g c =
     let kept = c.loop-i.auto.groups in
     let end = c.loop-i-test.false in
     done_end (λ n. GroupRuns g.row.WAYS MergesAlone) c.loop-i.i c.args.groups.now c.loop-i.groups c.loop-i.invariant.runs (omega arith)
+
+pub returns-clause-cost : goal.returns-clause-cost
+returns-clause-cost g c = omega (arith, sum_within (group_merge_cost c.args.at) c.loop-i.i c.args.groups.now, c.loop-i.invariant.cost)
+
+pub returns-in_err-_merged-clause-cost : goal.returns-in_err-_merged-clause-cost
+returns-in_err-_merged-clause-cost g c =
+    let i = c.loop-i.i in
+    let first = c.args.groups.now in
+    let most = group_merge_cost c.args.at in
+    let group = get_or c.loop-i.groups i c.index-groups-i.result in
+    let kept = c.loop-i.auto.groups in
+    let below : i < length c.loop-i.groups = let b = c.loop-i-test.true in omega arith in
+    let was = untouched_was i first c.loop-i.groups group c.loop-i.invariant.same (omega arith) (got_here c.loop-i.groups i c.index-groups-i.result below) in
+    let here = within_next c.args.steps.now c.loop-i.steps c.merge.new.steps (sum_by most (take i first)) (most group) (sum_by most (take (i + 1) first)) (sum_next most first i group was)
+    c.loop-i.invariant.cost c.merge.ensures.most in
+    let all = sum_within most (i + 1) first in
+    omega arith

@@ -1,7 +1,9 @@
-use Rattle.std.proofs.Common.{◌≤◌}
+use Rattle.std.proofs.Common.{◌+◌, ◌≤◌, take}
+use Rattle.std.specs.Prelude.{sum_by}
 use Rattle.switch_core.proofs.SideBySide.{Done, Untouched}
 use Rattle.network.specs.Shared.{MergesAlone}
 use Rattle.network.specs.Groups.{GroupRuns}
+use Rattle.network.specs.Costs.{group_merge_cost}
 use Rattle.network.proofs.groups.merge_groups.Given as goal
 
 -- the groupbys so far had merges alone
@@ -10,4 +12,5 @@ invariant-loop-i g l = record {
   runs : Done (λ n. GroupRuns g.row.WAYS MergesAlone) l.i l.initial.groups l.groups;
   same : Untouched l.i l.initial.groups l.groups;
   later : l.initial.steps ≤ l.steps;
+  cost : l.steps ≤ l.initial.steps + sum_by (group_merge_cost l.at) (take l.i l.initial.groups);
 }

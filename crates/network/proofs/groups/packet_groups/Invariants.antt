@@ -1,10 +1,12 @@
-use Rattle.std.proofs.Common.{◌≡◌, ◌≤◌, length}
+use Rattle.std.proofs.Common.{◌≡◌, ◌≤◌, ◌+◌, length, take}
+use Rattle.std.specs.Prelude.{sum_by}
 use Rattle.epoch_model.specs.Driving.{event_of}
 use Rattle.stage_plan.specs.Planned.{wiring_at}
 use Rattle.stage_plan.specs.Registers.{taken_at}
 use Rattle.switch_core.proofs.SideBySide.{Done, Untouched}
 use Rattle.network.specs.Groups.{GroupView}
 use Rattle.network.specs.Events.{GroupMakesAll}
+use Rattle.network.specs.Costs.{group_cost}
 use Rattle.network.proofs.groups.packet_groups.Given as goal
 
 -- the groupbys so far had their events
@@ -14,6 +16,7 @@ invariant-loop-i g l = record {
   stores : Done (λ n (a b : GroupView). b.store ≡ a.store) l.i l.initial.groups l.groups;
   same : Untouched l.i l.initial.groups l.groups;
   later : l.initial.steps ≤ l.steps;
+  cost : l.steps ≤ l.initial.steps + sum_by (group_cost g.row.WAYS l.at) (take l.i l.initial.groups);
   key : length l.key ≡ length l.initial.key;
   args : length l.args ≡ length l.initial.args;
 }

@@ -38,3 +38,7 @@ returns-clause-makes g c =
 pub returns-clause-some : goal.returns-clause-some
 returns-clause-some g c front e =
     c.evict_at.ensures.some front (ap (λ xs. slice_get xs c.args.at) c.deref_mut.ensures.value ∙ (ap (λ (v : GroupView). slice_get v.fronts c.args.at) c.self.view_is ∙ e))
+
+pub returns-clause-cost : goal.returns-clause-cost
+returns-clause-cost g c front e =
+    c.evict_at.ensures.cost front (ap (λ xs. slice_get xs c.args.at) c.deref_mut.ensures.value ∙ (ap (λ (v : GroupView). slice_get v.fronts c.args.at) c.self.view_is ∙ e))

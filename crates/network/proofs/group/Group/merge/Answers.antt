@@ -3,10 +3,12 @@ use Rattle.std.specs.Prelude.{slice_get}
 use Rattle.epoch_entry.specs.contracts.any.AnyEpochsEpochKind.TheImpl.{ghosts}
 use Rattle.epoch_model.specs.Machine.{Merge}
 use Rattle.switch_core.proofs.LaneFacts.{on_err, on_ok, whole_written}
+use Rattle.switch_core.proofs.SideBySide.{got_some}
 use Rattle.net_wide.specs.Sharing.{AtSwitch, LeadsByMerge, StoreTakes, SwitchMakes}
 use Rattle.network.specs.Shared.{AllShare}
 use Rattle.network.specs.Groups.{GroupView, folding_in}
 use Rattle.network.specs.Events.{GroupMakes, is_ready_at}
+use Rattle.network.proofs.CostSteps.{merge_within}
 use Rattle.network.proofs.MakeSteps.{merge_makes, on_three, ready_at}
 use Rattle.network.proofs.group.Group.merge.Goals as goal
 
@@ -75,3 +77,15 @@ returns-clause-err g c =
     let fronts : after.fronts ≡ p.fronts.items = whole ∙ (same.0 ∙ c.deref_mut.ensures.value) in
     ap (λ xs. record after { fronts = xs }) fronts ∙ (ap (λ s. record view { store = s }) same.1 ∙ c.self.view_is))
     c.merge_at.ensures.err
+
+pub returns-clause-cost : goal.returns-clause-cost
+returns-clause-cost g c front e =
+    c.merge_at.ensures.cost front (ap (λ xs. slice_get xs c.args.at) c.deref_mut.ensures.value ∙ (ap (λ (v : GroupView). slice_get v.fronts c.args.at) c.self.view_is ∙ e))
+
+pub returns-clause-most : goal.returns-clause-most
+returns-clause-most g c =
+    let old = c.args.self.now in
+    let at = c.args.at in
+    let here = got_some old.fronts at c.requires.switch in
+    let there = ap (λ xs. slice_get xs at) c.deref_mut.ensures.value ∙ (ap (λ (v : GroupView). slice_get v.fronts at) c.self.view_is ∙ here.1) in
+    merge_within at c.args.steps.now c.merge_at.new.steps old here.0 here.1 (c.merge_at.ensures.known here.0 there).entry (c.merge_at.ensures.cost here.0 there)

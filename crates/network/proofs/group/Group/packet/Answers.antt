@@ -48,3 +48,7 @@ returns-clause-makes g c =
     let whole = whole_written new (drop (length new) p.fronts.items) p.fronts.len (c.take_packet.auto.fronts ∙ c.deref_mut.ensures.len) in
     packet_makes g.row.WAYS c.args.at (taken_at (wiring_at c.args.plan.now c.args.group) c.args.registers.now) c.args.self.now view c.deref_mut.result.now new _
     c.self.view_is c.deref_mut.ensures.value whole (subst (λ (v : GroupView). c.args.at < length v.fronts) (sym c.self.view_is) c.requires.switch) c.take_packet.ensures.makes
+
+pub returns-clause-cost : goal.returns-clause-cost
+returns-clause-cost g c front e =
+    c.take_packet.ensures.cost front (ap (λ xs. slice_get xs c.args.at) c.deref_mut.ensures.value ∙ (ap (λ (v : GroupView). slice_get v.fronts c.args.at) c.self.view_is ∙ e))

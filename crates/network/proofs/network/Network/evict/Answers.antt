@@ -50,6 +50,10 @@ pub returns-clause-some : goal.returns-clause-some
 returns-clause-some g c group e front f =
     c.evict_from.ensures.some group (ap (λ xs. slice_get xs c.args.lane) c.deref_mut.ensures.value ∙ e) front f
 
+pub returns-clause-cost : goal.returns-clause-cost
+returns-clause-cost g c group e front f =
+    c.evict_from.ensures.cost group (ap (λ xs. slice_get xs c.args.lane) c.deref_mut.ensures.value ∙ e) front f
+
 pub returns-clause-is : goal.returns-clause-is
 returns-clause-is g c switches is =
     let net = c.args.self.now in

@@ -64,6 +64,10 @@ returns-clause-err g c =
     on_err (new ≡ before) (take net.groups.len (new ++ drop (length new) net.groups.items) ≡ net.groups.items) c.merge_from.result
     (λ same. whole ∙ (same ∙ c.deref_mut.ensures.value)) c.merge_from.ensures.err
 
+pub returns-clause-cost : goal.returns-clause-cost
+returns-clause-cost g c group e front f =
+    c.merge_from.ensures.cost group (ap (λ xs. slice_get xs c.args.lane) c.deref_mut.ensures.value ∙ e) front f
+
 pub returns-clause-is : goal.returns-clause-is
 returns-clause-is g c switches is =
     let net = c.args.self.now in

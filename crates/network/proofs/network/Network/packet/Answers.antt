@@ -1,12 +1,16 @@
-use Rattle.std.proofs.Common.{◌≡◌, ◌++◌, ℕ, List, length, take, drop, refl, sym, ap, ◌∙◌, subst}
+use Rattle.std.proofs.Common.{◌≡◌, ◌+◌, ◌≤◌, ◌++◌, ℕ, List, length, take, drop, refl, sym, ap, ◌∙◌, subst, arith}
+use Rattle.std.specs.Prelude.{sum_by}
 use Rattle.epoch_model.specs.Driving.{event_of}
 use Rattle.epoch_model.specs.Machine.{Event}
-use Rattle.stage_plan.specs.Planned.{row_of, wiring_at}
+use Rattle.stage_plan.specs.Planned.{plan_bound, registers_of, row_of, wiring_at}
 use Rattle.stage_plan.specs.Registers.{taken_at}
 use Rattle.switch_core.specs.Pipelines.{packet_events}
 use Rattle.switch_core.proofs.LaneFacts.{whole_written}
 use Rattle.switch_traces.specs.Traces.{from_switch}
 use Rattle.network.specs.Events.{GroupsMake, OthersStay, StoresStay}
+use Rattle.network.specs.Costs.{group_cost}
+use Rattle.network.specs.Networks.{network_cost}
+use Rattle.network.proofs.CostSteps.{groups_within}
 use Rattle.network.proofs.MakeSteps.{makes_runs, others_stay}
 use Rattle.network.proofs.NetworkSteps.{ran_whole, still_network}
 use Rattle.network.proofs.network.Network.packet.Goals as goal
@@ -37,6 +41,26 @@ returns-clause-stores g c =
     let net = c.args.self.now in
     ran_whole StoresStay net.groups.items c.deref_mut-2.result.now c.packet_groups.new.groups net.groups.len
     c.deref_mut-2.ensures.value (c.packet_groups.auto.groups ∙ c.deref_mut-2.ensures.len) c.packet_groups.ensures.stores
+
+after_row : (start row end registers groups : ℕ) → row ≡ start + registers → end ≤ row + groups → end ≤ start + (registers + groups)
+after_row start row end registers groups r e = omega arith
+
+under : (start end cost bound : ℕ) → end ≤ start + cost → cost ≤ bound → end ≤ start + bound
+under start end cost bound e b = omega arith
+
+pub returns-clause-cost : goal.returns-clause-cost
+returns-clause-cost g c =
+    let net = c.args.self.now in
+    let most = group_cost g.row.WAYS c.args.at in
+    after_row c.args.steps.now c.row.new.steps c.packet_groups.new.steps (registers_of net.plan) (sum_by most net.groups.items) c.row.ensures.steps
+    (subst (λ xs. c.packet_groups.new.steps ≤ c.row.new.steps + sum_by most xs) c.deref_mut-2.ensures.value c.packet_groups.ensures.cost)
+
+pub returns-clause-bound : goal.returns-clause-bound
+returns-clause-bound g c =
+    let net = c.args.self.now in
+    let r = c.requires.is in
+    under c.args.steps.now c.packet_groups.new.steps (network_cost c.args.at net) (plan_bound net.plan g.row.WAYS) (returns-clause-cost g c)
+    (groups_within g.row.WAYS c.args.at r.0 net.buckets net.plan net.groups.items c.depth_is_found.ensures c.entries_suit_folds.ensures c.known.ensures r.1 r.2.wide r.2.groups)
 
 pub returns-clause-is : goal.returns-clause-is
 returns-clause-is g c switches is =

@@ -1,12 +1,19 @@
-use Rattle.std.proofs.Common.{◌≡◌, ℕ, List, [], ◌++◌, ◌∙◌, subst, lit<}
-use Rattle.stage_plan.specs.Planned.{taken}
+use Rattle.std.proofs.Common.{◌≡◌, ℕ, ◌+◌, ◌*◌, ◌≤◌, List, [], ◌++◌, ap, ◌∙◌, subst, arith, lit<}
+use Rattle.std.specs.Prelude.{sum_by}
+use Rattle.epoch_model.specs.Machine.{Event}
+use Rattle.stage_plan.specs.Planned.{registers_of, taken}
+use Rattle.switch_core.specs.Pipelines.{packet_events}
 use Rattle.switch_core.proofs.LaneFacts.{on_ok}
 use Rattle.additive_folds.specs.Network.{SwitchEvent}
+use Rattle.switch_traces.specs.Traces.{from_switch}
 use Rattle.network.specs.Shared.{IsTurnAt, MergesAlone}
 use Rattle.network.specs.Groups.{GroupsRun}
-use Rattle.network.specs.Networks.{IsNetwork, groups_in}
+use Rattle.network.specs.Costs.{group_cost}
+use Rattle.network.specs.declared.network.Network.{Network}
+use Rattle.network.specs.Networks.{IsNetwork, Keeps, groups_in, merges_cost, network_cost}
+use Rattle.network.proofs.CostSteps.{costs_kept, merges_kept}
 use Rattle.network.proofs.SharedSteps.{turn_behind}
-use Rattle.network.proofs.MakeSteps.{groups_on}
+use Rattle.network.proofs.MakeSteps.{groups_on, makes_runs}
 use Rattle.network.proofs.NetworkSteps.{turned}
 use Rattle.network.proofs.network.Network.turn.Goals as goal
 
@@ -35,3 +42,45 @@ returns-clause-runs g c =
     (λ n xs ys x y. turn_behind c.args.at (taken old.plan n c.args.packet.now.words) xs ys x y)
     (turned c.args.at c.args.packet.now.words old c.make_room.new.self after c.make_room.ensures.keeps c.in_ok-make_room.ensures.runs c.packet.ensures.makes.groups) ran)
     c.catch_up.ensures.runs
+
+-- merges, a packet, and merges again
+turn_within : (start room packet end merges later cost packets : ℕ) → room ≤ start + merges → packets ≡ cost → packet ≤ room + packets → later ≡ merges → end ≤ packet + later → end ≤ start + (cost + 2 * merges)
+turn_within start room packet end merges later cost packets a b c d e = omega arith
+
+room_within : (start room merges cost : ℕ) → room ≤ start + merges → room ≤ start + (cost + 2 * merges)
+room_within start room merges cost a = omega arith
+
+packet_within : (start room packet merges cost packets : ℕ) → room ≤ start + merges → packets ≡ cost → packet ≤ room + packets → packet ≤ start + (cost + 2 * merges)
+packet_within start room packet merges cost packets a b c = omega arith
+
+-- what a packet takes behind merges is what it took before them
+same_cost : {ways : ℕ} (at : ℕ) (old mid : Network ways) → Keeps old mid → GroupsRun ways (λ n. MergesAlone) (groups_in old) (groups_in mid) → network_cost at mid ≡ network_cost at old
+same_cost {ways = ways} at old mid keeps ran =
+    ap (λ p. registers_of p + sum_by (group_cost ways at) (groups_in mid)) keeps.plan
+    ∙ ap (λ n. registers_of old.plan + n) (costs_kept ways at (λ n. MergesAlone) (groups_in old) (groups_in mid) ran)
+
+pub returns-in_err-make_room-clause-cost : goal.returns-in_err-make_room-clause-cost
+returns-in_err-make_room-clause-cost g c =
+    let old = c.args.self.now in
+    room_within c.args.steps.now c.make_room.new.steps (merges_cost c.args.at old) (network_cost c.args.at old) c.make_room.ensures.cost
+
+pub returns-then-not-lag_over-clause-cost : goal.returns-then-not-lag_over-clause-cost
+returns-then-not-lag_over-clause-cost g c =
+    let old = c.args.self.now in
+    let mid = c.make_room.new.self in
+    packet_within c.args.steps.now c.make_room.new.steps c.packet.new.steps (merges_cost c.args.at old) (network_cost c.args.at old) (network_cost c.args.at mid)
+    c.make_room.ensures.cost (same_cost c.args.at old mid c.make_room.ensures.keeps c.in_ok-make_room.ensures.runs) c.packet.ensures.cost
+
+pub returns-clause-cost : goal.returns-clause-cost
+returns-clause-cost g c =
+    let at = c.args.at in
+    let ways = g.row.WAYS in
+    let old = c.args.self.now in
+    let mid = c.make_room.new.self in
+    let after = c.packet.new.self in
+    let events : ℕ → List Event = packet_events mid.plan c.args.packet.now.words in
+    let back : merges_cost at mid ≡ merges_cost at old = merges_kept ways at (λ n. MergesAlone) (groups_in old) (groups_in mid) c.in_ok-make_room.ensures.runs in
+    let here : merges_cost at after ≡ merges_cost at mid =
+    merges_kept ways at (λ n more. more ≡ from_switch at (events n)) (groups_in mid) (groups_in after) (makes_runs ways at events (groups_in mid) (groups_in after) c.packet.ensures.makes.groups) in
+    turn_within c.args.steps.now c.make_room.new.steps c.packet.new.steps c.catch_up.new.steps (merges_cost at old) (merges_cost at after) (network_cost at old) (network_cost at mid)
+    c.make_room.ensures.cost (same_cost at old mid c.make_room.ensures.keeps c.in_ok-make_room.ensures.runs) c.packet.ensures.cost (here ∙ back) c.catch_up.ensures.cost

@@ -1,0 +1,124 @@
+-- What the steps of one switch's lanes come to.
+use Rattle.std.proofs.Common.{◌≡◌, ℕ, zero, suc, ◌+◌, ◌*◌, ◌<◌, ◌≤◌, List, [], ◌∷◌, Option, Some, None, length, refl, sym, ap, ◌∙◌, subst, arith}
+use Rattle.std.specs.Prelude.{slice_get, sum_by}
+use Rattle.std.proofs.lemmas.List.Sums.{sum_by-cons}
+use Rattle.epoch_entry.specs.declared.any.AnyEpochs.{AnyEpochs}
+use Rattle.epoch_entry.specs.declared.purpose.Entries.TheVariants.{Folds}
+use Rattle.epoch_entry.specs.Purposes.{EntriesSuitFolds}
+use Rattle.epoch_entry.specs.contracts.any.AnyEpochsEpochKind.TheImpl.{ghosts}
+use Rattle.stage_plan.specs.declared.group.GroupPlan.{GroupPlan}
+use Rattle.stage_plan.specs.declared.group.GroupWiring.{GroupWiring}
+use Rattle.stage_plan.specs.Planned.{plan_bound, registers_of, wiring_at}
+use Rattle.stage_plan.specs.Sound.{PlanParts, IsSoundPlan}
+use Rattle.switch_core.specs.Costs.{merge_cost}
+use Rattle.switch_core.specs.FrontParts.{FrontOf}
+use Rattle.switch_core.specs.Pipelines.{IsLaneOf}
+use Rattle.switch_core.specs.PlanLanes.{LaneView, PipelineView, lane_cost, lane_merge_cost}
+use Rattle.switch_core.specs.Rows.{EachFrom}
+use Rattle.switch_core.proofs.PacketBound.{HasOneDepth, packet_within}
+use Rattle.switch_core.proofs.SideBySide.{each_map, got_some}
+use Rattle.additive_folds.specs.Network.{SwitchEvent}
+use Rattle.network.specs.FrontRuns.{FrontKept}
+use Rattle.network.specs.Groups.{AllWide, AreGroups, AreWide, GroupRuns, GroupsRun, GroupView, IsGroup}
+use Rattle.network.specs.Costs.{AtLaneIn, front_cost, front_merge_cost, group_cost, group_merge_cost, lane_in}
+
+-- steps within those of the switch's lane are within those of the groupby
+pub group_within : (ways at start end : ℕ) (group : GroupView) → at < length group.fronts → AtLaneIn (λ lane. end ≤ start + lane_cost ways lane) group at → end ≤ start + group_cost ways at group
+group_within ways at start end group within cost =
+    let here = got_some group.fronts at within in
+    subst (λ n. end ≤ start + n) (sym (ap (front_cost ways group) here.1)) (cost here.0 here.1)
+
+-- an item more in a sum of steps
+pub within_next : (start before end sum more next : ℕ) → next ≡ sum + more → before ≤ start + sum → end ≤ before + more → end ≤ start + next
+within_next start before end sum more next s b e = omega arith
+
+-- steps of a merge at a front whose entries have as many words as their kind says
+pub merge_within : (at start end : ℕ) (group : GroupView) (front : FrontOf AnyEpochs) → slice_get group.fronts at ≡ Some front → front.cache.entry_words ≡ (ghosts.sizes front.kind).entry
+    → end ≤ start + lane_merge_cost (lane_in group front) → end ≤ start + group_merge_cost at group
+merge_within at start end group front here words cost =
+    subst (λ n. end ≤ start + n) (ap (λ w. merge_cost front.cache.key_words w (ghosts.merge_bound front.kind)) words ∙ sym (ap front_merge_cost here)) cost
+
+-- what is kept of fronts and of groupbys keeps their costs
+
+kept_at : (F G : Option (FrontOf AnyEpochs) → ℕ) → G None ≡ F None → ((a b : FrontOf AnyEpochs) → FrontKept a b → G (Some b) ≡ F (Some a)) → (k at : ℕ) (olds news : List (FrontOf AnyEpochs))
+    → EachFrom (λ n. FrontKept) k olds news → G (slice_get news at) ≡ F (slice_get olds at)
+kept_at F G none some k at [] [] e = none
+kept_at F G none some k at [] (y ∷ news) e = absurd e
+kept_at F G none some k at (x ∷ olds) [] e = absurd e
+kept_at F G none some k zero (x ∷ olds) (y ∷ news) e = some x y e.0
+kept_at F G none some k (suc at) (x ∷ olds) (y ∷ news) e = kept_at F G none some (suc k) at olds news e.1
+
+cost_kept : (ways at : ℕ) (are : List SwitchEvent → Type 0) (old new : GroupView) → GroupRuns ways are old new → group_cost ways at new ≡ group_cost ways at old
+cost_kept ways at are old new ran =
+    let by : ℕ → AnyEpochs → ℕ = λ w k. (w + (ghosts.sizes k).args) + (w + 2 * ways * (w + 1) + (w + (ghosts.sizes k).entry) + ghosts.open_bound k + ghosts.absorb_bound k) in
+    kept_at (front_cost ways old) (front_cost ways new) refl (λ a b kept. ap (λ w. by w b.kind) kept.key_words ∙ ap (by a.cache.key_words) kept.kind) 0 at old.fronts new.fronts ran.runs.fronts
+
+merge_kept : (ways at : ℕ) (are : List SwitchEvent → Type 0) (old new : GroupView) → GroupRuns ways are old new → group_merge_cost at new ≡ group_merge_cost at old
+merge_kept ways at are old new ran =
+    let by : ℕ → AnyEpochs → ℕ = λ w k. merge_cost w (ghosts.sizes k).entry (ghosts.merge_bound k) in
+    kept_at front_merge_cost front_merge_cost refl (λ a b kept. ap (λ w. by w b.kind) kept.key_words ∙ ap (by a.cache.key_words) kept.kind) 0 at old.fronts new.fronts ran.runs.fronts
+
+sum_same : (f : GroupView → ℕ) (k : ℕ) (olds news : List GroupView) → EachFrom (λ n a b. f b ≡ f a) k olds news → sum_by f news ≡ sum_by f olds
+sum_same f k [] [] e = refl
+sum_same f k [] (b ∷ news) e = absurd e
+sum_same f k (a ∷ olds) [] e = absurd e
+sum_same f k (a ∷ olds) (b ∷ news) e =
+    sum_by-cons f b news ∙ (ap (λ n. n + sum_by f news) e.0 ∙ (ap (λ n. f a + n) (sum_same f (suc k) olds news e.1) ∙ sym (sum_by-cons f a olds)))
+
+pub costs_kept : (ways at : ℕ) (are : ℕ → List SwitchEvent → Type 0) (olds news : List GroupView) → GroupsRun ways are olds news → sum_by (group_cost ways at) news ≡ sum_by (group_cost ways at) olds
+costs_kept ways at are olds news ran =
+    sum_same (group_cost ways at) 0 olds news
+    (each_map (λ n. GroupRuns ways (are n)) (λ n a b. group_cost ways at b ≡ group_cost ways at a) 0 olds news (λ j n a b q x y r. cost_kept ways at (are n) a b r) ran)
+
+pub merges_kept : (ways at : ℕ) (are : ℕ → List SwitchEvent → Type 0) (olds news : List GroupView) → GroupsRun ways are olds news → sum_by (group_merge_cost at) news ≡ sum_by (group_merge_cost at) olds
+merges_kept ways at are olds news ran =
+    sum_same (group_merge_cost at) 0 olds news
+    (each_map (λ n. GroupRuns ways (are n)) (λ n a b. group_merge_cost at b ≡ group_merge_cost at a) 0 olds news (λ j n a b q x y r. merge_kept ways at (are n) a b r) ran)
+
+-- The lane of a switch is the one that the plan's groupby has in a pipeline.
+lane_is : (switches at buckets : ℕ) (part : GroupPlan) (wiring : GroupWiring) (group : GroupView) (front : FrontOf AnyEpochs) → slice_get group.fronts at ≡ Some front → AreWide buckets group → IsGroup switches part wiring group
+    → IsLaneOf Folds buckets front.cache (ghosts.sizes front.kind) (ghosts.folding front.kind) (ghosts.open_bound front.kind) (ghosts.absorb_bound front.kind) part wiring
+lane_is switches at buckets part wiring group front here wide is =
+    let share = is.shares at front here in
+    record {
+      many = wide at front here;
+      keys = sym share.fits.key ∙ is.keys;
+      args = share.args;
+      class = share.alike.row_per_epoch ∙ is.class;
+      kind = λ f program. is.kinds at front here f program;
+    }
+
+-- the lanes of a switch, one for each of these groupbys, and what a packet takes at them
+record LanesAt (ways at buckets k : ℕ) (plan : PlanParts) (groups : List GroupView) (parts : List GroupPlan) : Type 0 where
+  lanes : List LaneView
+  are : EachFrom (λ n lane part. IsLaneOf Folds buckets lane.cache (ghosts.sizes lane.kind) (ghosts.folding lane.kind)
+      (ghosts.open_bound lane.kind) (ghosts.absorb_bound lane.kind) part (wiring_at plan n)) k lanes parts
+  cost : sum_by (group_cost ways at) groups ≡ sum_by (lane_cost ways) lanes
+
+lanes_at : (ways at switches buckets k : ℕ) (plan : PlanParts) (groups : List GroupView) (parts : List GroupPlan) → at < switches → AllWide buckets groups
+    → EachFrom (λ n group part. IsGroup switches part (wiring_at plan n) group) k groups parts → LanesAt ways at buckets k plan groups parts
+lanes_at ways at switches buckets k plan [] [] within wide is = record { lanes = []; are = tt; cost = refl }
+lanes_at ways at switches buckets k plan [] (part ∷ parts) within wide is = absurd is
+lanes_at ways at switches buckets k plan (group ∷ groups) [] within wide is = absurd is
+lanes_at ways at switches buckets k plan (group ∷ groups) (part ∷ parts) within wide is =
+    let front = got_some group.fronts at (let many = is.0.count in omega arith) in
+    let lane = lane_in group front.0 in
+    let rest = lanes_at ways at switches buckets (suc k) plan groups parts within (λ n x e. wide (suc n) x e) is.1 in
+    record {
+      lanes = lane ∷ rest.lanes;
+      are = (lane_is switches at buckets part (wiring_at plan k) group front.0 front.1 (wide 0 group refl) is.0, rest.are);
+      cost = sum_by-cons (group_cost ways at) group groups
+          ∙ (ap (λ n. n + sum_by (group_cost ways at) groups) (ap (front_cost ways group) front.1)
+          ∙ (ap (λ n. lane_cost ways lane + n) rest.cost ∙ sym (sum_by-cons (lane_cost ways) lane rest.lanes)));
+    }
+
+as_one : (registers cost lanes bound : ℕ) → cost ≡ lanes → registers + lanes ≤ 1 * bound → registers + cost ≤ bound
+as_one registers cost lanes bound same within = omega arith
+
+-- A packet's steps are within the plan's bound: the lanes of its switch are those of a pipeline of the plan.
+pub groups_within : (ways at switches buckets : ℕ) (plan : PlanParts) (groups : List GroupView) → HasOneDepth → EntriesSuitFolds → IsSoundPlan plan → at < switches → AllWide buckets groups → AreGroups plan switches groups
+    → registers_of plan + sum_by (group_cost ways at) groups ≤ plan_bound plan ways
+groups_within ways at switches buckets plan groups one suit sound within wide are =
+    let found = lanes_at ways at switches buckets 0 plan groups plan.groups within wide are in
+    let view : PipelineView = record { plan = plan; entries = Folds; buckets = buckets; lanes = found.lanes } in
+    as_one (registers_of plan) (sum_by (group_cost ways at) groups) (sum_by (lane_cost ways) found.lanes) (plan_bound plan ways) found.cost (packet_within one suit ways view sound found.are)
