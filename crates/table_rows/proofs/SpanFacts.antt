@@ -1,6 +1,8 @@
 -- The rows of spans, where words are appended.
-use Rattle.std.proofs.Common.{◌≡◌, ℕ, ◌+◌, ◌≤◌, List, [], ◌∷◌, ◌++◌, length, take, drop, refl, sym, ap, ap₂, ◌∙◌, arith, length-append, length-drop, drop-drop, append_assoc, append-nil, ◌-◌}
+use Rattle.std.proofs.Common.{◌≡◌, ℕ, zero, suc, set, slice_get, Some, ◌+◌, ◌≤◌, List, [], ◌∷◌, ◌++◌, length, take, drop, refl, sym, ap, ap₂, ◌∙◌, arith, length-append, length-drop, drop-drop, append_assoc, append-nil, ◌-◌}
 use Rattle.std.proofs.lemmas.List.{take-append-le, drop-append-le, take_at, drop_at, map-append}
+use Rattle.std.proofs.lemmas.Option.{same_Some}
+use Rattle.epoch_model.specs.declared.tables.Mark.{Mark}
 use Rattle.std.proofs.lemmas.List.Elements.{All-head, All-tail}
 use Rattle.std.proofs.Math.Seq.{take-add}
 use Rattle.std.specs.declared.result.Result.{Result}
@@ -61,3 +63,12 @@ columns-row_in words start key_words value_words =
 pub on_err : {T E P : Type 0} (r : Result T E) → P → OnErr r P
 on_err (Ok x) p = tt
 on_err (Err e) p = p
+
+-- the rows where a span has another mark and another epoch
+pub set_marked : (words : List ℕ) (spans : List Span) (at : ℕ) (span : Span) (mark : Mark) (epoch : ℕ) (row : Row)
+    → slice_get spans at ≡ Some span → slice_get (rows_in words spans) at ≡ Some row
+    → rows_in words (set spans at (record span { mark = mark; epoch = epoch })) ≡ set (rows_in words spans) at (record row { mark = mark; epoch = epoch })
+set_marked words [] at span mark epoch row stands here = cc here
+set_marked words (first ∷ spans) zero span mark epoch row stands here = rw (← same_Some _ _ stands, ← same_Some _ _ here) refl
+set_marked words (first ∷ spans) (suc at) span mark epoch row stands here =
+    ap (λ (rows : List Row). row_in words first ∷ rows) (set_marked words spans at span mark epoch row stands here)

@@ -1,8 +1,9 @@
 //! The rows of a table.
 
-ghost use Rattle.std.specs.Prelude.{◌≡◌, ◌<◌, ◌↔◌, ◌++◌, ◌∷◌, [], length, option_map, slice_get, filter, Some};
+ghost use Rattle.std.specs.Prelude.{◌≡◌, ◌<◌, ◌↔◌, ◌++◌, ◌∷◌, [], length, option_map, slice_get, slice_set, filter, Some};
 ghost use Rattle.std.specs.Prelude.{IsTrue, OnOk, OnErr};
 ghost use Rattle.epoch_model.specs.Keys.{Key};
+ghost use Rattle.epoch_model.specs.declared.tables.Row.{Row};
 ghost use Rattle.table_rows.specs.RowOrder.{Ascends, is_of};
 
 use crate::order::sorted_spans;
@@ -148,6 +149,19 @@ impl Rows {
     {
         let span = &self.spans[at];
         span.epochs
+    }
+
+    /// Gives the row at a place another mark and another epoch.
+    pub fn set_mark(&mut self, at: usize, mark: Mark, epoch: u64)
+        requires { at < length self.old }
+        ensures { (row : Row) → slice_get self.old at ≡ Some row → self.new ≡ slice_set self.old at (record row { mark = mark; epoch = epoch }) }
+    {
+        let span = self.spans[at];
+        self.spans[at] = Span {
+            mark,
+            epoch,
+            ..span
+        };
     }
 
     /// Puts the rows in ascending order of their keys, compared word by word. Rows of one key keep their order. On an
