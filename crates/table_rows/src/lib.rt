@@ -1,0 +1,8 @@
+//! The rows of a table, in two arrays: the words of all rows, and for each row where its words are.
+#![tactic(auto)]
+
+mod order;
+mod rows;
+mod span;
+
+pub use rows::Rows;
