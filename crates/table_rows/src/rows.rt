@@ -3,8 +3,10 @@
 ghost use Rattle.std.specs.Prelude.{◌≡◌, ◌<◌, ◌↔◌, ◌++◌, ◌∷◌, [], length, option_map, slice_get, filter, Some};
 ghost use Rattle.std.specs.Prelude.{IsTrue, OnOk, OnErr};
 ghost use Rattle.epoch_model.specs.Keys.{Key};
+ghost use Rattle.table_rows.specs.LentRows.{row_of};
 ghost use Rattle.table_rows.specs.RowOrder.{Ascends, is_of};
 
+use crate::lent::{RowRef, row_at};
 use crate::order::sorted_spans;
 use crate::span::{Span, columns_in, key_in, values_in};
 use epoch_model::Mark;
@@ -60,7 +62,12 @@ impl Rows {
         values: &[u64],
     ) -> Result<(), AllocError>
         ensures ok { OnOk result (self.new ≡ self.old ++ record {
-            key = key.now; mark = mark; epoch = epoch; epochs = epochs; values = values.now } ∷ []) }
+          key = key.now;
+          mark = mark;
+          epoch = epoch;
+          epochs = epochs;
+          values = values.now;
+        } ∷ []) }
         ensures err { OnErr result (self.new ≡ self.old) }
     {
         let start = self.words.len();
@@ -89,6 +96,17 @@ impl Rows {
         ensures { IsTrue result ↔ (self.now ≡ []) }
     {
         self.spans.is_empty()
+    }
+
+    /// The row at a place.
+    #[inline]
+    pub fn get(&self, at: usize) -> RowRef<'_>
+        requires { at < length self.now }
+        ensures row { slice_get self.now at ≡ Some (row_of result) }
+        ensures columns { result.columns.now ≡ result.key.now ++ result.values.now }
+    {
+        let span = &self.spans[at];
+        row_at(self.words.as_slice(), span)
     }
 
     /// The key of the row at a place.
