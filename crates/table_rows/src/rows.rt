@@ -6,9 +6,9 @@ ghost use Rattle.epoch_model.specs.Keys.{Key};
 ghost use Rattle.table_rows.specs.LentRows.{row_of};
 ghost use Rattle.table_rows.specs.RowOrder.{Ascends, is_of};
 
-use crate::lent::{RowRef, row_at};
+use crate::lent::RowRef;
 use crate::order::sorted_spans;
-use crate::span::{Span, columns_in, key_in, values_in};
+use crate::span::{Span, columns_in, key_in, row_in, values_in};
 use epoch_model::Mark;
 use std::alloc::{AllocError, Global};
 use std::marker::Model;
@@ -102,11 +102,10 @@ impl Rows {
     #[inline]
     pub fn get(&self, at: usize) -> RowRef<'_>
         requires { at < length self.now }
-        ensures row { slice_get self.now at ≡ Some (row_of result) }
-        ensures columns { result.columns.now ≡ result.key.now ++ result.values.now }
+        ensures { slice_get self.now at ≡ Some (row_of result) }
     {
         let span = &self.spans[at];
-        row_at(self.words.as_slice(), span)
+        row_in(self.words.as_slice(), span)
     }
 
     /// The key of the row at a place.

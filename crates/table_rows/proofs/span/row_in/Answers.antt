@@ -1,10 +1,10 @@
 use Rattle.std.proofs.Common.{◌≡◌, ◌+◌, ◌∙◌, List, ℕ, ap, ap₂, take, drop, arith}
 use Rattle.std.proofs.lemmas.List.{take-take, drop-take, drop-drop}
 use Rattle.epoch_model.specs.declared.tables.Row.{Row}
-use Rattle.table_rows.proofs.lent.row_at.Goals as goal
+use Rattle.table_rows.proofs.span.row_in.Goals as goal
 
-pub returns-clause-row : goal.returns-clause-row
-returns-clause-row c =
+pub returns : goal.returns
+returns c =
     let span = c.args.span.now in
     let words = c.args.words.now in
     let row : List ℕ → List ℕ → Row = λ key values. record { key = key; mark = span.mark; epoch = span.epoch; epochs = span.epochs; values = values } in
