@@ -4,10 +4,12 @@ ghost use Rattle.std.specs.Prelude.{◌≡◌, ◌<◌, ◌↔◌, ◌++◌, ◌
 ghost use Rattle.std.specs.Prelude.{IsTrue, OnOk, OnErr};
 ghost use Rattle.epoch_model.specs.Keys.{Key};
 ghost use Rattle.epoch_model.specs.declared.tables.Row.{Row};
+ghost use Rattle.table_rows.specs.LentRows.{row_of};
 ghost use Rattle.table_rows.specs.RowOrder.{Ascends, is_of};
 
+use crate::lent::RowRef;
 use crate::order::sorted_spans;
-use crate::span::{Span, columns_in, key_in, values_in};
+use crate::span::{Span, columns_in, key_in, row_in, values_in};
 use epoch_model::Mark;
 use std::alloc::{AllocError, Global};
 use std::marker::Model;
@@ -95,6 +97,16 @@ impl Rows {
         ensures { IsTrue result ↔ (self.now ≡ []) }
     {
         self.spans.is_empty()
+    }
+
+    /// The row at a place.
+    #[inline]
+    pub fn get(&self, at: usize) -> RowRef<'_>
+        requires { at < length self.now }
+        ensures { slice_get self.now at ≡ Some (row_of result) }
+    {
+        let span = &self.spans[at];
+        row_in(self.words.as_slice(), span)
     }
 
     /// The key of the row at a place.

@@ -1,8 +1,10 @@
 //! Where a row's words lie, and what stands beside them.
 
 ghost use Rattle.std.specs.Prelude.{◌≡◌, ◌+◌, ◌≤◌, length, take, drop};
-ghost use Rattle.table_rows.specs.Spans.{key_in, values_in, EndsWithin};
+ghost use Rattle.table_rows.specs.LentRows.{row_of};
+ghost use Rattle.table_rows.specs.Spans.{key_in, values_in, row_in, EndsWithin};
 
+use crate::lent::RowRef;
 use epoch_model::Mark;
 
 /// A row without its words. They begin at `start`: `key_words` words of the key, and then `value_words` of the values.
@@ -52,4 +54,22 @@ pub fn columns_in<'a>(words: &'a [u64], span: &Span) -> &'a [u64]
 {
     let end = span.start + span.key_words + span.value_words;
     &words[span.start..end]
+}
+
+/// The row of a span, lent.
+#[inline]
+pub fn row_in<'a>(words: &'a [u64], span: &Span) -> RowRef<'a>
+    requires { EndsWithin words.now span.now }
+    ensures { row_of result ≡ row_in words.now span.now }
+{
+    let columns = columns_in(words, span);
+    let (key, values) = columns.split_at(span.key_words);
+    RowRef {
+        key,
+        mark: span.mark,
+        epoch: span.epoch,
+        epochs: span.epochs,
+        values,
+        columns,
+    }
 }
