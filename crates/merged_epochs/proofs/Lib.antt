@@ -1,3 +1,3 @@
 mod StoredStates
 mod ClosedRows
-mod Showing
+pub mod Showing

@@ -3,6 +3,7 @@ use Rattle.std.proofs.Common.{◌≡◌, ℕ, zero, suc, set, slice_get, Some, �
 use Rattle.std.proofs.lemmas.List.{take-append-le, drop-append-le, take_at, drop_at, map-append}
 use Rattle.std.proofs.lemmas.Option.{same_Some}
 use Rattle.epoch_model.specs.declared.tables.Mark.{Mark}
+use Rattle.epoch_model.specs.declared.tables.Mark.TheVariants.{Plain}
 use Rattle.std.proofs.lemmas.List.Elements.{All-head, All-tail}
 use Rattle.std.proofs.Math.Seq.{take-add}
 use Rattle.std.specs.declared.result.Result.{Result}
@@ -72,3 +73,12 @@ set_marked words [] at span mark epoch row stands here = cc here
 set_marked words (first ∷ spans) zero span mark epoch row stands here = rw (← same_Some _ _ stands, ← same_Some _ _ here) refl
 set_marked words (first ∷ spans) (suc at) span mark epoch row stands here =
     ap (λ (rows : List Row). row_in words first ∷ rows) (set_marked words spans at span mark epoch row stands here)
+
+-- the rows where a span is plain
+pub set_plained : (words : List ℕ) (spans : List Span) (at : ℕ) (span : Span) (row : Row)
+    → slice_get spans at ≡ Some span → slice_get (rows_in words spans) at ≡ Some row
+    → rows_in words (set spans at (record span { mark = Plain; epoch = 0; epochs = 0 })) ≡ set (rows_in words spans) at (record row { mark = Plain; epoch = 0; epochs = 0 })
+set_plained words [] at span row stands here = cc here
+set_plained words (first ∷ spans) zero span row stands here = rw (← same_Some _ _ stands, ← same_Some _ _ here) refl
+set_plained words (first ∷ spans) (suc at) span row stands here =
+    ap (λ (rows : List Row). row_in words first ∷ rows) (set_plained words spans at span row stands here)

@@ -176,6 +176,20 @@ impl Rows {
         };
     }
 
+    /// Makes the row at a place one of a table made of tables: its mark is Plain, and it is of no epoch.
+    pub fn set_plain(&mut self, at: usize)
+        requires { at < length self.old }
+        ensures { (row : Row) → slice_get self.old at ≡ Some row → self.new ≡ slice_set self.old at (record row { mark = Mark.Plain; epoch = 0; epochs = 0 }) }
+    {
+        let span = self.spans[at];
+        self.spans[at] = Span {
+            mark: Mark::Plain,
+            epoch: 0,
+            epochs: 0,
+            ..span
+        };
+    }
+
     /// Puts the rows in ascending order of their keys, compared word by word. Rows of one key keep their order. On an
     /// error the rows are unchanged.
     pub fn sort(&mut self, alloc: Global) -> Result<(), AllocError>

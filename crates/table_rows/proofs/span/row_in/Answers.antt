@@ -1,4 +1,4 @@
-use Rattle.std.proofs.Common.{◌≡◌, ◌+◌, ◌∙◌, List, ℕ, ap, ap₂, take, drop, arith}
+use Rattle.std.proofs.Common.{◌+◌, ◌∙◌, List, ℕ, ap, ap₂, take, drop, arith}
 use Rattle.std.proofs.lemmas.List.{take-take, drop-take, drop-drop}
 use Rattle.epoch_model.specs.declared.tables.Row.{Row}
 use Rattle.table_rows.proofs.span.row_in.Goals as goal
