@@ -4,9 +4,10 @@ ghost use Rattle.std.specs.Prelude.{◌≡◌, ◌+◌, ◌*◌, ◌^◌, ◌==�
 ghost use Rattle.std.specs.Prelude.{take, IfNone, IfSome, MatchOption};
 ghost use Rattle.std.specs.List.{slice_split};
 ghost use Rattle.trace_reader.specs.Numbers as Numbers;
-ghost use Rattle.trace_reader.specs.Numbers.{decimal_word, is_dot, number_in, octet_word, quad_word, without_blanks};
+ghost use Rattle.trace_reader.specs.Numbers.{decimal_word, is_dot, octet_word, quad_word, without_blanks};
 ghost use Rattle.trace_reader.specs.Numbers.{without_first_blanks, without_last_blanks, word_of};
 
+use fast_float::parse_u64;
 use marple_base::Field;
 
 fn is_blank(byte: u8) -> bool
@@ -50,49 +51,14 @@ pub fn trimmed(text: &[u8]) -> &[u8]
     &rest[..kept_end(rest)]
 }
 
-// One more digit at the end of a number, where the number still fits.
-fn with_digit(number: u64, digit: u64) -> Option<u64>
-    requires { digit < 10 }
-    ensures some { IfSome result (λ n. (n ≡ number * 10 + digit) × (n < 2 ^ 64)) }
-    ensures none { IfNone result (2 ^ 64 ≤ number * 10 + digit) }
-{
-    number.checked_mul(10)?.checked_add(digit)
-}
-
-// A number of 1 to 19 digits, which always fits.
-fn digits(text: &[u8]) -> Option<u64>
-    requires some { 0 < length text.now }
-    requires few { length text.now ≤ 19 }
-    ensures { result ≡ number_in 19 (10 ^ 19) text.now }
-{
-    let mut number = 0u64;
-    for byte in text {
-        if !byte.is_ascii_digit() {
-            return None;
-        }
-        number = number * 10 + u64::from(*byte - b'0');
-    }
-    Some(number)
-}
-
-// A number of 1 to 20 digits. Only the last of 20 can pass the most that fits.
+// A number of 1 to 20 digits that fits.
 fn decimal(text: &[u8]) -> Option<u64>
     ensures { result ≡ decimal_word text.now }
 {
-    if text.is_empty() || text.len() > 20 {
+    if text.is_empty() || text.len() > 20 || text[0] == b'+' {
         return None;
     }
-    if text.len() < 20 {
-        return digits(text);
-    }
-    let Some(front) = digits(&text[..19]) else {
-        return None;
-    };
-    let last = text[19];
-    if !last.is_ascii_digit() {
-        return None;
-    }
-    with_digit(front, u64::from(last - b'0'))
+    parse_u64(text).ok()
 }
 
 // A number of 1 to 3 digits that is at most 255.
@@ -139,8 +105,8 @@ fn quad(text: &[u8]) -> Option<u64>
     Some(((first * 256 + second) * 256 + third) * 256 + fourth)
 }
 
-/// The word of a field's text, if the text is in the field's form.
-pub fn word(field: Field, text: &[u8]) -> Option<u64>
+// The word of a text without blanks at its ends, if it is in the field's form.
+fn trimmed_word(field: Field, text: &[u8]) -> Option<u64>
     ensures { result ≡ word_of field text.now }
 {
     if let Some(number) = decimal(text) {
@@ -151,4 +117,15 @@ pub fn word(field: Field, text: &[u8]) -> Option<u64>
         Field::Tout if text == b"inf".as_slice() => Some(u64::MAX),
         _ => None,
     }
+}
+
+/// The word of a field's text without the blanks at its ends, if that is in the field's form. Most texts are digits alone,
+/// which have no blanks.
+pub fn word(field: Field, text: &[u8]) -> Option<u64>
+    ensures { result ≡ word_of field (without_blanks text.now) }
+{
+    if let Some(number) = decimal(text) {
+        return Some(number);
+    }
+    trimmed_word(field, trimmed(text))
 }
