@@ -4,7 +4,7 @@ ghost use Rattle.std.specs.Prelude.{◌≡◌, ◌+◌, ◌*◌, ◌^◌, ◌==�
 ghost use Rattle.std.specs.Prelude.{take, IfNone, IfSome, MatchOption};
 ghost use Rattle.std.specs.List.{slice_split};
 ghost use Rattle.trace_reader.specs.Numbers as Numbers;
-ghost use Rattle.trace_reader.specs.Numbers.{decimal_word, is_dot, octet_word, quad_word, without_blanks};
+ghost use Rattle.trace_reader.specs.Numbers.{decimal_word, is_dot, number_in, octet_word, quad_word, without_blanks};
 ghost use Rattle.trace_reader.specs.Numbers.{without_first_blanks, without_last_blanks, word_of};
 
 use fast_float::parse_u64;
@@ -51,11 +51,35 @@ pub fn trimmed(text: &[u8]) -> &[u8]
     &rest[..kept_end(rest)]
 }
 
-// A number of 1 to 20 digits that fits.
+// A number of 1 to 19 digits, which always fits.
+#[inline(always)]
+fn digits(text: &[u8]) -> Option<u64>
+    requires some { 0 < length text.now }
+    requires few { length text.now ≤ 19 }
+    ensures { result ≡ number_in 19 (10 ^ 19) text.now }
+{
+    let mut number = 0u64;
+    for byte in text {
+        if !byte.is_ascii_digit() {
+            return None;
+        }
+        number = number * 10 + u64::from(*byte - b'0');
+    }
+    Some(number)
+}
+
+// A number of 1 to 20 digits that fits. From eight digits on they are read several at a time.
+#[inline(always)]
 fn decimal(text: &[u8]) -> Option<u64>
     ensures { result ≡ decimal_word text.now }
 {
-    if text.is_empty() || text.len() > 20 || text[0] == b'+' {
+    if text.is_empty() {
+        return None;
+    }
+    if text.len() < 8 {
+        return digits(text);
+    }
+    if text.len() > 20 || text[0] == b'+' {
         return None;
     }
     parse_u64(text).ok()
@@ -106,6 +130,7 @@ fn quad(text: &[u8]) -> Option<u64>
 }
 
 // The word of a text without blanks at its ends, if it is in the field's form.
+#[inline(never)]
 fn trimmed_word(field: Field, text: &[u8]) -> Option<u64>
     ensures { result ≡ word_of field text.now }
 {

@@ -15,6 +15,7 @@ use csv::{ByteRecord, Reader};
 use marple_base::{Field, FieldSet, Packet};
 
 /// The next record into `row`, and whether there was one. The one error of a reader over a slice is want of memory.
+#[inline(always)]
 pub fn next_record(reader: &mut Reader<&[u8]>, row: &mut ByteRecord) -> Result<bool, TraceAnswer>
     requires { IsBetweenRecords reader.old }
     ensures between { IfOk result (λ found. found ≡ true → IsBetweenRecords reader.new) }
@@ -83,6 +84,7 @@ pub fn columns(header: &ByteRecord, reads: FieldSet) -> Result<[Option<usize>; 1
 }
 
 // The word of a field in a record.
+#[inline(always)]
 fn word_of_field(row: &ByteRecord, field: Field, column: usize) -> Result<u64, Field>
     ensures { result ≡ word_at (fields_of row.now) field (Some column) }
 {
@@ -90,6 +92,7 @@ fn word_of_field(row: &ByteRecord, field: Field, column: usize) -> Result<u64, F
 }
 
 // The word of each field in a record, into `words`: 0 where it isn't read.
+#[inline(always)]
 fn words_into(row: &ByteRecord, columns: &Columns, words: &mut [u64; 14]) -> Result<(), Field>
     ensures ok { OnOk result (words_of columns.now (fields_of row.now) ≡ Ok words.new) }
     ensures err { IfErr result (λ field. words_of columns.now (fields_of row.now) ≡ Err field) }
@@ -106,6 +109,7 @@ fn words_into(row: &ByteRecord, columns: &Columns, words: &mut [u64; 14]) -> Res
 
 /// The packet of data record `n`, into `packet`.
 #[tactic(auto, unfolding(crate::specs::Traces::packet_of))]
+#[inline(always)]
 pub fn packet_into(
     row: &ByteRecord,
     n: u32,

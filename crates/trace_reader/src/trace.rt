@@ -115,6 +115,7 @@ impl<'a> Trace<'a> {
 
     /// The next packet into `packet`, and whether there was one: the same as `next`, with no copy of the packet.
     /// Where there is none, the words of `packet` are free.
+    #[inline(always)]
     pub fn next_into(&mut self, packet: &mut Packet) -> Result<bool, TraceAnswer>
         ensures packet { result ≡ Ok true → Gives self.old packet.new self.new }
         ensures end { result ≡ Ok false → IsAtEnd self.old × (self.new ≡ self.old) }

@@ -1,0 +1,42 @@
+use Rattle.std.proofs.Common.{◌≡◌, ◌^◌, ◌≤◌, get_or, length, take, true, arith, rules, ◌∙◌, ap, sym, Some}
+use Rattle.std.specs.Char.{is_ascii_digit}
+use Rattle.std.proofs.lemmas.List.{length-take-le, take_all}
+use Rattle.std.proofs.lemmas.Bool.Decides.{nat_tests}
+use Rattle.trace_reader.proofs.NumberFacts.{digits_below, digits_value_digit, list_all_digit, number_some}
+use Rattle.trace_reader.proofs.number.digits.Goals as goal
+
+pub overflow_mul-number : goal.overflow_mul-number
+overflow_mul-number c =
+    let text = c.args.text.now in
+    let i = c.loop-byte.byte-index in
+    let size : length (take i text) ≡ i = length-take-le i text (omega (arith, c.loop-byte-test.true)) in
+    let few : length (take i text) ≤ 18 = omega (arith, size, c.loop-byte-test.true, c.requires.few) in
+    omega (arith, digits_below (take i text) 18 c.loop-byte.invariant.digits few, c.loop-byte.invariant.value)
+
+pub overflow_add-number : goal.overflow_add-number
+overflow_add-number c =
+    let text = c.args.text.now in
+    let i = c.loop-byte.byte-index in
+    let size : length (take i text) ≡ i = length-take-le i text (omega (arith, c.loop-byte-test.true)) in
+    let few : length (take i text) ≤ 18 = omega (arith, size, c.loop-byte-test.true, c.requires.few) in
+    let digit : is_ascii_digit (get_or text i 0) ≡ true = search rules in
+    let small : get_or text i 0 ≤ 57 = grind (arith, nat_tests) in
+    omega (arith, digits_below (take i text) 18 c.loop-byte.invariant.digits few, c.loop-byte.invariant.value, c.from.ensures, small)
+
+pub loop-byte-preserved : goal.loop-byte-preserved
+loop-byte-preserved c =
+    let text = c.args.text.now in
+    let i = c.loop-byte.byte-index in
+    let digit : is_ascii_digit (get_or text i 0) ≡ true = search rules in
+    record {
+      digits = list_all_digit text i c.loop-byte-test.true c.loop-byte.invariant.digits digit;
+      value = grind (arith, digits_value_digit text i c.loop-byte-test.true digit);
+    }
+
+pub returns : goal.returns
+returns c =
+    let text = c.args.text.now in
+    let all = take_all c.loop-byte.byte-index text c.loop-byte-test.false in
+    let digits = rw all at c.loop-byte.invariant.digits in
+    let value = rw all at c.loop-byte.invariant.value in
+    sym (number_some 19 (10 ^ 19) text c.requires.some c.requires.few digits (digits_below text 19 digits c.requires.few) ∙ ap Some (sym value))
