@@ -7,7 +7,6 @@ ghost use Rattle.trace_reader.specs.Numbers as Numbers;
 ghost use Rattle.trace_reader.specs.Numbers.{decimal_word, is_dot, number_in, octet_word, quad_word, without_blanks};
 ghost use Rattle.trace_reader.specs.Numbers.{without_first_blanks, without_last_blanks, word_of};
 
-use fast_float::parse_u64;
 use marple_base::Field;
 
 fn is_blank(byte: u8) -> bool
@@ -51,6 +50,15 @@ pub fn trimmed(text: &[u8]) -> &[u8]
     &rest[..kept_end(rest)]
 }
 
+// One more digit at the end of a number, where the number still fits.
+fn with_digit(number: u64, digit: u64) -> Option<u64>
+    requires { digit < 10 }
+    ensures some { IfSome result (λ n. (n ≡ number * 10 + digit) × (n < 2 ^ 64)) }
+    ensures none { IfNone result (2 ^ 64 ≤ number * 10 + digit) }
+{
+    number.checked_mul(10)?.checked_add(digit)
+}
+
 // A number of 1 to 19 digits, which always fits.
 #[inline(always)]
 fn digits(text: &[u8]) -> Option<u64>
@@ -68,21 +76,25 @@ fn digits(text: &[u8]) -> Option<u64>
     Some(number)
 }
 
-// A number of 1 to 20 digits that fits. From eight digits on they are read several at a time.
+// A number of 1 to 20 digits. Only the last of 20 can pass the most that fits.
 #[inline(always)]
 fn decimal(text: &[u8]) -> Option<u64>
     ensures { result ≡ decimal_word text.now }
 {
-    if text.is_empty() {
+    if text.is_empty() || text.len() > 20 {
         return None;
     }
-    if text.len() < 8 {
+    if text.len() < 20 {
         return digits(text);
     }
-    if text.len() > 20 || text[0] == b'+' {
+    let Some(front) = digits(&text[..19]) else {
+        return None;
+    };
+    let last = text[19];
+    if !last.is_ascii_digit() {
         return None;
     }
-    parse_u64(text).ok()
+    with_digit(front, u64::from(last - b'0'))
 }
 
 // A number of 1 to 3 digits that is at most 255.
@@ -146,6 +158,7 @@ fn trimmed_word(field: Field, text: &[u8]) -> Option<u64>
 
 /// The word of a field's text without the blanks at its ends, if that is in the field's form. Most texts are digits alone,
 /// which have no blanks.
+#[inline(always)]
 pub fn word(field: Field, text: &[u8]) -> Option<u64>
     ensures { result ≡ word_of field (without_blanks text.now) }
 {

@@ -15,7 +15,6 @@ use csv::{ByteRecord, Reader};
 use marple_base::{Field, FieldSet, Packet};
 
 /// The next record into `row`, and whether there was one. The one error of a reader over a slice is want of memory.
-#[inline(always)]
 pub fn next_record(reader: &mut Reader<&[u8]>, row: &mut ByteRecord) -> Result<bool, TraceAnswer>
     requires { IsBetweenRecords reader.old }
     ensures between { IfOk result (λ found. found ≡ true → IsBetweenRecords reader.new) }
