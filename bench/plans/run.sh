@@ -4,7 +4,7 @@ set -eu
 here=$(cd "$(dirname "$0")" && pwd)
 top=$(cd "$here/../.." && pwd)
 work=$(mktemp -d)
-crates="marple_base epoch_model backing_store merged_epochs query_lang query_types coeff_algebra fold_code fold_class epoch_entry stage_plan final_queries table_printer query_tables plan_file plan_loader"
+crates="marple_base epoch_model bucket_cache table_rows backing_store merged_epochs query_lang query_types coeff_algebra fold_code fold_class epoch_entry stage_plan final_queries table_printer query_tables plan_file plan_loader"
 trap 'rm -rf "$work"' EXIT
 
 mkdir -p "$work/crates"
