@@ -73,8 +73,19 @@ def crates_below(uses: dict[str, list[str]], names: list[str]) -> list[str]:
     return found
 
 
+def copy_library(crate: str, crates: Path) -> None:
+    """Proves a library of the repository where it isn't yet, and copies it with what was built."""
+    source = TOP / "crates" / crate
+    built = subprocess.run(["rt", "lib"], cwd=source, capture_output=True, text=True, check=False)
+    if built.returncode != 0:
+        raise BenchError(f"{crate} isn't proved: {built.stdout[-2000:]}{built.stderr[-2000:]}")
+    shutil.copytree(source, crates / crate, ignore=shutil.ignore_patterns("out", "must-fail", "edits"))
+    (crates / crate / "out").mkdir()
+    subprocess.run(["cp", "-a", source / "out/rlib", crates / crate / "out/rlib"], check=True)
+
+
 def proved_program(shop: Workshop) -> str:
-    """Proves and builds the bench's folder `program` over copies of the crates that it uses, and gives its path.
+    """Proves and builds the bench's folder `program`, in a repository with the crates that it uses, and gives its path.
 
     The sources of `program` carry one more suffix, since the gate reads the sources of `crates` alone.
     """
@@ -85,8 +96,7 @@ def proved_program(shop: Workshop) -> str:
     crates = shop.room / "crates"
     crates.mkdir()
     for crate in below:
-        # with their times, so that kept proofs are used
-        subprocess.run(["cp", "-a", TOP / "crates" / crate, crates / crate], check=True)
+        copy_library(crate, crates)
     shutil.copytree(shop.here / "program", crates / name)
     (crates / name / "crates.txt").unlink()
     for file in [*(crates / name).rglob("*.txt")]:
@@ -97,7 +107,7 @@ def proved_program(shop: Workshop) -> str:
     built = subprocess.run(["rt", "run"], cwd=crates / name, capture_output=True, text=True, check=False)
     program = crates / name / "out" / name
     if built.returncode != 0 or not program.exists():
-        raise BenchError(f"{name} isn't built: {built.stderr[-2000:]}")
+        raise BenchError(f"{name} isn't built: {built.stdout[-2000:]}{built.stderr[-2000:]}")
     return str(program)
 
 
