@@ -120,7 +120,7 @@ def count_instructions(command: Command) -> tuple[int | None, int | None]:
 
 
 def sum_costs(lines: list[str]) -> tuple[int, int]:
-    """Of the lines of a callgrind file: all instructions, and those of functions whose names have `csv` in them."""
+    """Of the lines of a callgrind file: all instructions, and those of the functions of the crate `csv`."""
     names: dict[str, str] = {}
     total = reading = 0
     function = ""
@@ -139,7 +139,7 @@ def sum_costs(lines: list[str]) -> tuple[int, int]:
             if not is_call:
                 cost = int(line.split()[1])
                 total += cost
-                reading += cost if "csv" in function else 0
+                reading += cost if function.startswith(("csv::", "csv_core::")) else 0
             is_call = False
     return total, reading
 
