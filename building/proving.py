@@ -14,7 +14,7 @@ from pathlib import Path
 from typing import Dict, List, Set
 
 from building.crates import PROGRAM, Crate, digest, digests
-from building.estimate import Cost, chains, pace, seconds_to_go, time_to_go
+from building.estimate import Cost, chains, clock_seconds, jobs_of, pace, seconds_to_go, time_to_go
 from building.machine import Machine
 from building.progress import Progress
 from building.toolchain import KEPT, Toolchain, below
@@ -95,28 +95,35 @@ class Proving:
 
     def begin_ready(self) -> None:
         ready = self.ready()
-        while ready and len(self.running) < self.machine.processors:
+        idle = self.machine.processors - sum(it.jobs for it in self.running)
+        while ready and idle > 0:
             crate = ready[0]
             room = self.machine.megabytes - sum(self.megabytes(it.crate, it.jobs) for it in self.running)
             is_held_up = self.megabytes(crate, 1) > room or crate.name in self.alone
             if self.running and (is_held_up or self.running[0].crate.name in self.alone):
                 return
-            self.begin(crate, self.jobs(crate, len(ready), room))
+            jobs = self.jobs(crate, len(ready), idle, room)
+            self.begin(crate, jobs)
             ready.remove(crate)
+            idle -= jobs
 
     def ready(self) -> List[Crate]:
         """Returns the crates that could be begun, the longest chain first."""
-        begun = self.done | {it.crate.name for it in self.running}
-        found = [it for it in self.order if it.name not in begun and self.done.issuperset(it.crates)]
+        found = [it for it in self.waiting() if self.done.issuperset(it.crates)]
         return sorted(found, key=lambda it: -self.chains[it.name])
 
-    def jobs(self, crate: Crate, ready: int, room: int) -> int:
-        """Returns the crate's jobs: a share of the processors that no other crate has a use for, as far as memory goes."""
+    def waiting(self) -> List[Crate]:
+        begun = self.done | {it.crate.name for it in self.running}
+        return [it for it in self.order if it.name not in begun]
+
+    def jobs(self, crate: Crate, ready: int, idle: int, room: int) -> int:
+        """Returns the jobs of the crate that is begun next, as far as memory goes."""
         if crate.name in self.alone:
             return 1
-        idle = self.machine.processors - sum(it.jobs for it in self.running)
+        work = sum(self.costs[it.name].seconds for it in self.waiting())
+        wanted = jobs_of(self.chains[crate.name], work, self.machine.processors, ready, idle)
         by_memory = 1 + max(room - self.costs[crate.name].megabytes, 0) // MEGABYTES_FOR_A_JOB
-        return max(min(idle // ready, by_memory), 1)
+        return min(wanted, by_memory)
 
     def megabytes(self, crate: Crate, jobs: int) -> int:
         return self.costs[crate.name].megabytes + MEGABYTES_FOR_A_JOB * (jobs - 1)
@@ -149,10 +156,10 @@ class Proving:
             if pid:
                 self.running.remove(proof)
                 proof.process.returncode = -os.WTERMSIG(status) if os.WIFSIGNALED(status) else os.WEXITSTATUS(status)
-                self.end(proof, used.ru_maxrss // 1024)
+                self.end(proof, used.ru_utime + used.ru_stime, used.ru_maxrss // 1024)
 
-    def end(self, proof: Proof, megabytes: int) -> None:
-        """Records a proof that ended by itself."""
+    def end(self, proof: Proof, processor: float, megabytes: int) -> None:
+        """Records a proof that ended by itself, after so many seconds of processor time."""
         crate, seconds = proof.crate, time.monotonic() - proof.began
         if proof.process.returncode == -signal.SIGKILL and crate.name not in self.alone:
             self.alone.add(crate.name)
@@ -166,9 +173,10 @@ class Proving:
             raise Failed(f"the sources of {crate.name} changed while it was proved: call ./build again")
         self.keep(crate)
         self.done.add(crate.name)
-        self.table_seconds += self.costs[crate.name].seconds
+        self.table_seconds += clock_seconds(self.costs[crate.name].seconds, proof.jobs)
         self.measured_seconds += seconds
-        self.progress.line(f"{self.so_far()}: proved {crate.name} in {seconds:.0f} s, {megabytes} MB")
+        taken = f"{seconds:.0f} s, {processor:.0f} s of processor time, {megabytes} MB"
+        self.progress.line(f"{self.so_far()}: proved {crate.name} in {taken}")
 
     def link(self, crate: Crate) -> None:
         """Links the program, which takes the place of an older one at once."""
@@ -203,10 +211,12 @@ class Proving:
 
     def seconds_to_go(self) -> float:
         speed = pace(self.table_seconds, self.measured_seconds)
-        left = {it.name: speed * self.costs[it.name].seconds for it in self.order if it.name not in self.done}
+        left = {it.name: speed * self.costs[it.name].seconds for it in self.waiting()}
         for it in self.running:
-            left[it.crate.name] = max(left[it.crate.name] - (time.monotonic() - it.began), 1.0)
-        return seconds_to_go(self.order, left, [it.crate.name for it in self.running], self.machine.processors)
+            whole = speed * clock_seconds(self.costs[it.crate.name].seconds, it.jobs)
+            left[it.crate.name] = max(whole - (time.monotonic() - it.began), 1.0)
+        running = {it.crate.name: it.jobs for it in self.running}
+        return seconds_to_go(self.order, left, running, self.machine.processors)
 
     def log_end(self, crate: Crate, lines: int = 15) -> str:
         text = (crate.folder / "out/build.log").read_text(encoding="utf-8", errors="replace")
