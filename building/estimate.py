@@ -11,7 +11,7 @@ from building.crates import Crate
 
 # What a crate takes that the table lacks: so much for any crate, and so much for a kilobyte of its sources.
 SECONDS_FOR_A_CRATE = 15.0
-SECONDS_FOR_A_KILOBYTE = 1.0
+SECONDS_FOR_A_KILOBYTE = 1.2
 MEGABYTES = 2500
 # What of a proof its jobs don't share: reading the crate, and putting together what they proved.
 NOT_SHARED = 0.2
