@@ -17,12 +17,12 @@ def busy(seed: int, packets: int = 200, answers: bool = False) -> tuple[World, i
 
 def left_out(before: int, after: int, way: str = f"{RECEIVER} to 10.0.1.1 and 2 more") -> str:
     """The message for packets of the other direction."""
-    return f"{before} packets before the queue and {after} after it are of another direction ({way}), and were left out"
+    return f"{before} packets before the queue and {after} after it are of another direction ({way}): left out"
 
 
 def joined(place: str, packets: int, pieces: int) -> str:
     """The message for packets that were cut."""
-    return f"{packets} packets {place} the queue had been joined by segmentation offload, and were cut into {pieces}"
+    return f"{packets} packets {place} the queue had been joined by segmentation offload: cut into {pieces}"
 
 
 def ordinary() -> Case:
@@ -81,8 +81,7 @@ def twice() -> Case:
             time += 60 * MSECS
             again += 1
             world.send(time, lost.pop(0))
-    left = sum(1 for row in world.rows[-1:] if row.left is None)
-    return world.case("twice", messages=[world.counts(), alike(world) if left == 0 else ""])
+    return world.case("twice", messages=[world.counts(), alike(world)])
 
 
 def alike(world: World) -> str:
@@ -91,7 +90,7 @@ def alike(world: World) -> str:
     for place, row in enumerate(world.rows):
         same = [other for other in world.rows if other is not row and other.packet == row.packet]
         count += row.left is not None and any(other.came < row.left and (other.left is None or other.left > row.left) for other in same)
-    return f"{count} packets were told from others alike by their time in the queue"
+    return f"{count} packets were told from others alike by the time in the queue"
 
 
 def wrapped() -> Case:
@@ -119,7 +118,7 @@ def offload() -> Case:
     time, answers, cut, pieces = START, 0, 0, 0
     for number in range(90):
         time += int(world.random.expovariate(1 / 12e6))
-        size = world.random.choice((100, 1448, 2896, 4000, 14480, 20 * 1448))
+        size = world.random.choice((100, 1448, 2896, 4000, 14480, 20 * 1448)) if 0 < number < 89 else 100
         rows = world.send(time, world.next_packet(f"10.0.1.{number % 3 + 1}", size), piece=1448)
         cut, pieces = cut + (len(rows) > 1), pieces + (len(rows) if len(rows) > 1 else 0)
         answers += world.answer(rows)
@@ -138,7 +137,7 @@ def datagrams() -> Case:
         world.identification = (world.identification + -(-size // 1200)) % 65536
         rows = world.send(time, packet, piece=1200)
         cut, pieces = cut + (len(rows) > 1), pieces + (len(rows) if len(rows) > 1 else 0)
-    return world.case("datagrams", messages=[world.counts(), joined("before", cut, pieces)])
+    return world.case("datagrams", longest=1228, payload=1200, messages=[world.counts(), joined("before", cut, pieces)])
 
 
 def join_runs(left: list[tuple[int, Packet]]) -> list[tuple[int, Packet]]:
@@ -196,35 +195,46 @@ def joined_after() -> Case:
     return world.case("joined-after", messages=[world.counts(), joined("after", len(joins), pieces_of(joins))])
 
 
-def shifted(case: Case, name: str, by: int, **how) -> Case:
-    """The same case where the clock after the queue is wrong."""
-    after = [replace(frame, time=frame.time + by) for frame in case.after]
-    return replace(case, name=name, after=after, **how)
-
-
-def swapped(case: Case, name: str, message: str) -> Case:
-    """The same case with the files the wrong way round."""
-    return replace(case, name=name, swapped=True, status=1, messages=[message])
-
-
-def trace_cases() -> Iterator[Case]:
-    """Cases that have a trace without an option."""
-    for make in (ordinary, one_sided, tagged, other_protocols, fragments, twice, wrapped, nothing_left, offload, datagrams,
-                 both_ends, joined_after):  # fmt: skip
-        yield make()
-
-
-def refused(case: Case, name: str, message: str, options: list[str] | None = None) -> Case:
-    """The same case with options that make it refused."""
-    return replace(case, name=name, status=1, messages=[message], options=options or [])
-
-
 def late_after() -> Case:
-    """The second capture begins after 60 of 200 packets came."""
+    """A second capture that begins after some sixty packets came."""
     world, _ = busy(13)
     begin = world.rows[60].came
     world.after = [frame for frame in world.after if frame.time >= begin]
     seen = next(place for place, row in enumerate(world.rows) if row.left is not None and row.left >= begin)
     world.rows = world.rows[seen:]
-    case = world.case("late-after")
-    return replace(case, messages=[world.counts(), f"{seen} packets came before after.pcap.gz begins, and were left out: nothing says whether they left"])
+    note = f"{seen} packets came before after.pcap.gz begins: left out, since nothing says what left then"
+    return world.case("late-after", checked=False, messages=[world.counts(), note])
+
+
+def early_end() -> Case:
+    """A second capture that ends before the last fifty packets came."""
+    world, _ = busy(14)
+    end = world.rows[150].came
+    world.after = [frame for frame in world.after if frame.time < end]
+    seen = max(place for place, row in enumerate(world.rows) if row.left is not None and row.left < end)
+    for row in world.rows:
+        row.left = row.left if row.left is not None and row.left < end else None
+    last = max(row.left for row in world.rows if row.left is not None)
+    gone = sum(1 for row in world.rows[seen + 1 :] if row.came > last)
+    inside = [row for row in world.rows[seen + 1 :] if row.came <= last]
+    world.rows = world.rows[: seen + 1 + len(inside)]
+    note = f"{gone} packets came after after.pcap.gz ends: left out, since nothing says what left then"
+    return world.case("early-end", checked=False, messages=[world.counts(), note])
+
+
+def late_before() -> Case:
+    """A first capture that begins after some fifty packets left."""
+    world, _ = busy(15)
+    begin = world.rows[80].came
+    world.before = [frame for frame in world.before if frame.time >= begin]
+    missing = sum(1 for row in world.rows[:80] if row.left is not None)
+    world.rows = world.rows[80:]
+    note = f"{missing} packets after the queue came before before.pcap.gz begins or after it ends: left out"
+    return world.case("late-before", checked=False, messages=[world.counts(), note])
+
+
+def trace_cases() -> Iterator[Case]:
+    """Cases that have a trace without an option."""
+    for make in (ordinary, one_sided, tagged, other_protocols, fragments, twice, wrapped, nothing_left, offload, datagrams,
+                 both_ends, joined_after, late_after, early_end, late_before):  # fmt: skip
+        yield make()

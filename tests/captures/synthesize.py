@@ -93,6 +93,11 @@ class Case:
     status: int = 0
     messages: list[str] = field(default_factory=list)
     swapped: bool = False
+    captures: str = ""  # the case whose captures these are, where it is another one
+    senders: str = "10.0.1.0/24"  # what the checker is told: who sends, and how packets are cut
+    longest: int = 1500
+    payload: int = 1448
+    checked: bool = True  # whether the checker knows enough
 
     def write(self, folder: Path) -> None:
         """Writes both captures."""

@@ -6,13 +6,14 @@ from ipaddress import IPv4Address, IPv4Network
 from math import log
 
 from marple_captures.matching import Matches, Pair
-from marple_captures.records import Spool
+from marple_captures.records import Packet, Spool
 
 MOST_STRANGE = 0.02  # of the packets after the queue may match none before it
 MOST_EARLY = 0.01  # of the matched packets may leave before they came
 CHANCE = 1e-6  # a row of losses less likely than this is no accident
 SMALL = 100_000  # nanoseconds: clocks of two machines rarely agree as well as this
 TOLERANCE = 1_000_000  # nanoseconds by which least latencies differ in any case
+NEVER = 2**63
 TEN = 10  # the other direction may have this many times the bytes of the queue's
 
 
@@ -32,8 +33,10 @@ class Findings:
     """Which packets are taken, what is to be said, and why there is no trace if there is none."""
 
     left_out: set[bytes] = field(default_factory=set)
-    first: int = 0  # places of the first and the last packet that are taken
-    last: int | None = None
+    first: int = 0  # packets in places before this one are left out if they came before `begin`,
+    begin: int = 0
+    last: int = NEVER  # and those after this one if they came after `end`
+    end: int = NEVER
     came: int = 0
     left: int = 0
     early: int = 0
@@ -41,6 +44,12 @@ class Findings:
     expected: int = 0  # packets after the queue that should match
     notes: list[str] = field(default_factory=list)
     refusal: str = ""
+
+    def takes(self, slot: int, packet: Packet) -> bool:
+        """Whether the packet in this place is in the trace."""
+        if (slot < self.first and packet.time < self.begin) or (slot > self.last and packet.time > self.end):
+            return False
+        return packet.source + packet.target not in self.left_out
 
     @property
     def strange_share(self) -> float:
@@ -68,6 +77,11 @@ def packets(number: int) -> str:
     return f"{number} packet" if number == 1 else f"{number} packets"
 
 
+def were(number: int) -> str:
+    """The verb after a number of packets."""
+    return "was" if number == 1 else "were"
+
+
 def other_direction(pairs: dict[bytes, Pair], options: Options) -> set[bytes]:
     """The pairs of addresses whose packets don't go through the queue, or go the other way."""
     if options.networks:
@@ -93,7 +107,7 @@ def note_direction(findings: Findings, pairs: dict[bytes, Pair]) -> None:
     before, after = (total((pairs[addresses] for addresses in out), name) for name in ("before", "after"))
     more = f" and {len(out) - 1} more" if len(out) > 1 else ""
     findings.notes.append(f"{packets(before)} before the queue and {after} after it are of another direction "
-                          f"({in_words(out[0])}{more}), and were left out")  # fmt: skip
+                          f"({in_words(out[0])}{more}): left out")  # fmt: skip
 
 
 def is_no_accident(row: int, lost: int, came: int) -> bool:
@@ -107,26 +121,27 @@ def trim(findings: Findings, matches: Matches, before: Spool, after: Spool, opti
     seen = [pair for pair in kept.values() if pair.matched]
     if not seen or after.first is None or after.last is None:
         return
+    begin, end = after.first + options.shift, after.last + options.shift
     first, last = min(pair.first for pair in seen), max(pair.last for pair in seen)
     unmatched = [slot for addresses, slot in matches.unmatched_before() if addresses in kept]
-    early = [slot for slot in unmatched if slot < first and before.time_of(slot) < after.first + options.shift]
-    late = [slot for slot in unmatched if slot > last and before.time_of(slot) > after.last + options.shift]
+    early = [slot for slot in unmatched if slot < first and before.time_of(slot) < begin]
+    late = [slot for slot in unmatched if slot > last and before.time_of(slot) > end]
     lost = findings.came - findings.left - len(early) - len(late)
     rest = findings.came - len(early) - len(late)
     if is_no_accident(len(early), lost, rest):
-        findings.first = first
+        findings.first, findings.begin = first, begin
         findings.came -= len(early)
-        findings.notes.append(f"{packets(len(early))} came before {options.after} begins, and were left out: nothing says whether they left")
+        findings.notes.append(f"{packets(len(early))} came before {options.after} begins: left out, since nothing says what left then")
     if is_no_accident(len(late), lost, rest):
-        findings.last = last
+        findings.last, findings.end = last, end
         findings.came -= len(late)
-        findings.notes.append(f"{packets(len(late))} came after {options.after} ends, and were left out: nothing says whether they left")
+        findings.notes.append(f"{packets(len(late))} came after {options.after} ends: left out, since nothing says what left then")
     began, ended = min(pair.began for pair in seen), max(pair.ended for pair in seen)
     outside = sum(1 for addresses, time in matches.unmatched_after() if addresses in kept and not began <= time <= ended)
     if outside:
         findings.strange -= outside
         findings.expected -= outside
-        findings.notes.append(f"{packets(outside)} after the queue came before {options.before} begins or after it ends, and were left out")
+        findings.notes.append(f"{packets(outside)} after the queue came before {options.before} begins or after it ends: left out")
 
 
 def other_way_round(pairs: list[Pair], findings: Findings) -> bool:

@@ -5,6 +5,7 @@ import sys
 from pathlib import Path
 from tempfile import TemporaryDirectory
 
+from marple_captures.findings import packets, were
 from marple_captures.start import add_numbers, start
 from marple_captures.trace import TraceWriter, check_origin, first_second
 from marple_captures.tshark import need_tshark, read_side_by_side
@@ -32,9 +33,9 @@ def make_trace(name: str, words: argparse.Namespace) -> None:
         (spool,) = read_side_by_side(name, [words.capture], [Path(folder) / "packets"])
         origin = first_second(spool.read()) if words.origin is None else words.origin
         check_origin(spool.read(), origin)
-        print(f"{name}: {spool.packets} packets were read", file=sys.stderr)
+        print(f"{name}: {packets(spool.packets)} {were(spool.packets)} read", file=sys.stderr)
         if spool.foreign:
-            print(f"{name}: {spool.foreign} packets without IPv4 were passed over", file=sys.stderr)
+            print(f"{name}: {packets(spool.foreign)} without IPv4 {were(spool.foreign)} passed over", file=sys.stderr)
         TraceWriter(sys.stdout, words.switch, words.queue, origin).write((packet, packet.time) for packet in spool.read())
 
 

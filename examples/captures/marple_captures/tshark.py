@@ -53,11 +53,10 @@ class Reading:
         return self
 
     def __exit__(self, kind: type[BaseException] | None, value: BaseException | None, trace: TracebackType | None) -> None:
-        if self.process.poll() is None:
-            self.process.terminate()
-        self.process.wait()
         assert self.process.stdout is not None
         self.process.stdout.close()
+        self.process.kill()  # a tshark that waits to write heeds no SIGTERM
+        self.process.wait()
         self.complaints.close()
 
     def lines(self) -> Iterator[bytes]:

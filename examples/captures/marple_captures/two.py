@@ -9,7 +9,7 @@ from tempfile import TemporaryDirectory
 
 from marple_captures import CaptureError, cutting
 from marple_captures.cutting import Cut, SizeFor
-from marple_captures.findings import Findings, Options, judge, packets
+from marple_captures.findings import Findings, Options, judge, packets, were
 from marple_captures.matching import Matches, match
 from marple_captures.records import Departures, Packet, Spool
 from marple_captures.start import add_numbers, start
@@ -61,11 +61,9 @@ class Attempt:
 
     def taken(self) -> Iterator[tuple[Packet, int]]:
         """The packets of the trace with their departures."""
-        findings = self.findings
+        takes = self.findings.takes
         for slot, (packet, left) in enumerate(zip(self.cut.before.read(), self.departures.read(), strict=True)):
-            if slot < findings.first or (findings.last is not None and slot > findings.last):
-                continue
-            if packet.source + packet.target not in findings.left_out:
+            if takes(slot, packet):
                 yield packet, left
 
 
@@ -102,20 +100,20 @@ def best_attempt(spools: list[Spool], room: Path, words: argparse.Namespace, opt
 
 def notes(attempt: Attempt, foreign: int) -> Iterator[str]:
     """What there is to be said of the captures, a line each."""
-    findings, cut = attempt.findings, attempt.cut
+    findings, cut, alike = attempt.findings, attempt.cut, attempt.matches.alike
     yield f"{findings.came} packets came, {findings.left} left, {findings.came - findings.left} never did"
     for count, place in ((cut.cut_before, "before"), (cut.cut_after, "after")):
         if count.packets:
-            yield f"{packets(count.packets)} {place} the queue had been joined by segmentation offload, and were cut into {count.pieces}"
+            yield f"{packets(count.packets)} {place} the queue had been joined by segmentation offload: cut into {count.pieces}"
     yield from findings.notes
     if findings.strange:
         yield f"{packets(findings.strange)} after the queue match none before it"
     if foreign:
-        yield f"{packets(foreign)} without IPv4 were passed over"
+        yield f"{packets(foreign)} without IPv4 {were(foreign)} passed over"
     if findings.early:
         yield f"{packets(findings.early)} left before they came, and count as 0 ns"
-    if attempt.matches.alike:
-        yield f"{packets(attempt.matches.alike)} were told from others alike by their time in the queue"
+    if alike:
+        yield f"{packets(alike)} {were(alike)} told from others alike by the time in the queue"
 
 
 def main() -> None:
