@@ -17,7 +17,7 @@ def busy(seed: int, packets: int = 200, answers: bool = False) -> tuple[World, i
 
 def left_out(before: int, after: int, way: str = f"{RECEIVER} to 10.0.1.1 and 2 more") -> str:
     """The message for packets of the other direction."""
-    return f"{before} packets before the queue and {after} after it are of another direction ({way}): left out"
+    return f"left out as another direction: {before} packets before, {after} after ({way})"
 
 
 def joined(place: str, packets: int, pieces: int) -> str:

@@ -17,7 +17,7 @@ SMALLEST = 500  # a payload below this is taken for no full piece
 STARTS = 8192  # how many beginnings of long packets are looked for in the other capture
 STARTS_OF_FLOW = 16  # and how many of one flow
 
-START = Struct(">4s4sIBHI")
+START = Struct(">4s4sIIHB")
 Flow = tuple[bytes, bytes, int, int]
 SizeFor = Callable[[Packet], int]  # the payload of a packet's pieces, or 0 where it isn't cut
 
@@ -29,7 +29,7 @@ def flow_of(packet: Packet) -> Flow:
 
 def start_of(packet: Packet) -> bytes:
     """Where a packet begins: what a long one and the first piece of it have alike."""
-    return START.pack(*packet[:3], packet.protocol, packet.identification, packet.sequence)
+    return START.pack(*packet[:6])
 
 
 def can_be_cut(packet: Packet) -> bool:

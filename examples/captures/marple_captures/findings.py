@@ -45,6 +45,11 @@ class Findings:
     notes: list[str] = field(default_factory=list)
     refusal: str = ""
 
+    @property
+    def takes_all(self) -> bool:
+        """Whether all packets before the queue are in the trace."""
+        return not self.left_out and not self.begin and self.end == NEVER
+
     def takes(self, slot: int, packet: Packet) -> bool:
         """Whether the packet in this place is in the trace."""
         if (slot < self.first and packet.time < self.begin) or (slot > self.last and packet.time > self.end):
@@ -106,8 +111,7 @@ def note_direction(findings: Findings, pairs: dict[bytes, Pair]) -> None:
     out = sorted(findings.left_out)
     before, after = (total((pairs[addresses] for addresses in out), name) for name in ("before", "after"))
     more = f" and {len(out) - 1} more" if len(out) > 1 else ""
-    findings.notes.append(f"{packets(before)} before the queue and {after} after it are of another direction "
-                          f"({in_words(out[0])}{more}): left out")  # fmt: skip
+    findings.notes.append(f"left out as another direction: {packets(before)} before, {after} after ({in_words(out[0])}{more})")
 
 
 def is_no_accident(row: int, lost: int, came: int) -> bool:

@@ -63,6 +63,14 @@ def put(table: dict[bytes, int | list[int]], identity: bytes, number: int) -> No
         table[identity] = [found, number]
 
 
+def pair_of(pairs: dict[bytes, Pair], identity: bytes) -> Pair:
+    """The counts of a packet's addresses."""
+    pair = pairs.get(identity[:8])
+    if pair is None:
+        pair = pairs[identity[:8]] = Pair()
+    return pair
+
+
 class Matcher:
     """Takes arrivals and departures in the order of time."""
 
@@ -85,7 +93,6 @@ class Matcher:
         slot = self.arrivals
         self.arrivals += 1
         self.recent[slot % RECENT] = time
-        self.pair(identity).before += 1
         if identity in self.matches.strange:
             self.match(identity, slot, time, self.take_strange(identity))
         else:
@@ -93,7 +100,6 @@ class Matcher:
 
     def leave(self, identity: bytes, time: int) -> None:
         """A packet is seen after the queue."""
-        self.pair(identity).after += 1
         found = self.matches.waiting.pop(identity, None)
         if found is None:
             put(self.matches.strange, identity, time)
@@ -110,7 +116,7 @@ class Matcher:
         """Notes that a packet left, and what that says of its direction."""
         self.departures.put(slot, left)
         self.latency = latency = left - came
-        pair = self.matches.pairs[identity[:8]]
+        pair = pair_of(self.matches.pairs, identity)
         if not pair.matched:
             pair.first, pair.began, pair.ended = slot, left, left
             pair.least = pair.greatest = latency
@@ -126,14 +132,16 @@ class Matcher:
         elif latency > pair.greatest:
             pair.greatest = latency
 
-    def pair(self, identity: bytes) -> Pair:
-        """The counts of a packet's addresses."""
+    def finished(self) -> Matches:
+        """The matches, when all packets were seen."""
         pairs = self.matches.pairs
-        addresses = identity[:8]
-        pair = pairs.get(addresses)
-        if pair is None:
-            pair = pairs[addresses] = Pair()
-        return pair
+        for pair in pairs.values():
+            pair.before = pair.after = pair.matched
+        for addresses, _ in self.matches.unmatched_before():
+            pair_of(pairs, addresses).before += 1
+        for addresses, _ in self.matches.unmatched_after():
+            pair_of(pairs, addresses).after += 1
+        return self.matches
 
     def take_strange(self, identity: bytes) -> int:
         """The first of the packets of this identity that left before they came."""
@@ -172,4 +180,4 @@ def match(before: Spool, after: Spool, departures: Departures, shift: int) -> Ma
             else:
                 matcher.leave(leaving, left + shift)
                 leaving, left = next(leavings, end)
-        return matcher.matches
+        return matcher.finished()

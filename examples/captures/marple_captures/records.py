@@ -2,6 +2,7 @@
 
 import os
 import struct
+from array import array
 from collections.abc import Callable, Iterator
 from dataclasses import dataclass, field
 from pathlib import Path
@@ -10,9 +11,10 @@ from typing import BinaryIO, NamedTuple
 TCP = 6
 UDP = 17
 
-# What is the same in both captures: addresses, ports, IP identification, protocol, place of a fragment, sequence number, length.
-# Behind it are the bytes of the IP and transport headers, the packet's number in its capture, and nanoseconds since 1970.
-LAYOUT = struct.Struct(">4s4sIHBHIIHIq")
+# What is the same in both captures: addresses, ports, sequence number, IP identification, protocol, place of a fragment, length.
+# Then come the bytes of the IP and transport headers, the packet's number in its capture, and nanoseconds since 1970.
+LAYOUT = struct.Struct(">4s4sIIHBHIHIq")
+SHORT_LAYOUT = struct.Struct(">4s4sQHBHIHIq")  # the same, with ports and sequence number in one word
 IDENTITY = 25
 SPLIT = struct.Struct(">25s6xq")
 BLOCK = 4096
@@ -24,10 +26,10 @@ class Packet(NamedTuple):
     source: bytes
     target: bytes
     ports: int
+    sequence: int
     identification: int
     protocol: int
     offset: int
-    sequence: int
     length: int
     header: int
     number: int
@@ -89,28 +91,49 @@ def write_packet(file: BinaryIO, packet: Packet) -> None:
 
 
 class Departures:
-    """When each packet before the queue left it: nanoseconds since 1970 in a file, with 0 for a packet that never did."""
+    """When each packet before the queue left it: nanoseconds since 1970 in a file, with 0 for a packet that never did.
 
-    WORD = struct.Struct(">q")
+    A few blocks of the file are in memory, since packets that leave one after the other mostly came so.
+    """
+
+    HELD = 4
 
     def __init__(self, path: Path, packets: int) -> None:
         self.path = path
         self.file = os.open(path, os.O_RDWR | os.O_CREAT | os.O_TRUNC, 0o600)
-        os.ftruncate(self.file, packets * self.WORD.size)
+        os.ftruncate(self.file, packets * 8)
+        self.packets = packets
+        self.blocks: dict[int, array[int]] = {}
 
     def __enter__(self) -> "Departures":
         return self
 
     def __exit__(self, *_: object) -> None:
+        for number in list(self.blocks):
+            self.store(number)
         os.close(self.file)
 
     def put(self, slot: int, time: int) -> None:
         """Sets the departure of the packet in this place of the spool, counted from 0."""
-        os.pwrite(self.file, self.WORD.pack(time), slot * self.WORD.size)
+        block = self.blocks.get(slot // BLOCK)
+        if block is None:
+            block = self.load(slot // BLOCK)
+        block[slot % BLOCK] = time
+
+    def load(self, number: int) -> "array[int]":
+        """Takes a block into memory, in the place of the one that is longest there."""
+        if len(self.blocks) == self.HELD:
+            self.store(next(iter(self.blocks)))
+        block = self.blocks[number] = array("q")
+        block.frombytes(os.pread(self.file, 8 * BLOCK, 8 * BLOCK * number))
+        return block
+
+    def store(self, number: int) -> None:
+        """Writes a block into the file."""
+        os.pwrite(self.file, self.blocks.pop(number).tobytes(), 8 * BLOCK * number)
 
     def read(self) -> Iterator[int]:
         """The departures in the order of the packets."""
         with self.path.open("rb") as file:
-            while block := file.read(self.WORD.size * BLOCK):
-                for (time,) in self.WORD.iter_unpack(block):
-                    yield time
+            while data := file.read(8 * BLOCK):
+                yield from array("q", data)

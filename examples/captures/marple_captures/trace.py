@@ -33,7 +33,7 @@ class TraceWriter:
         """Writes packets with their departures, where 0 means that there was none."""
         write, start, origin, inside = self.file.write, self.start, self.origin, self.inside
         for packet, left in packets:
-            source, target, ports, _, protocol, _, sequence, length, header, number, came = packet
+            source, target, ports, sequence, _, protocol, _, length, header, number, came = packet
             while inside and inside[0] <= came:
                 heappop(inside)
             depth = len(inside)

@@ -17,7 +17,7 @@ from socket import inet_aton
 from types import TracebackType
 
 from marple_captures import CaptureError
-from marple_captures.records import LAYOUT, TCP, UDP, Spool
+from marple_captures.records import SHORT_LAYOUT, TCP, UDP, Spool
 
 FIELDS = ("frame.time_epoch", "ip.src", "ip.dst", "ip.proto", "ip.hdr_len", "ip.len", "ip.id", "ip.frag_offset", "data.data")
 TURN = 512  # lines that are read of one capture before the next one has its turn
@@ -79,32 +79,45 @@ def address(text: bytes) -> bytes:
     return inet_aton(text.decode())
 
 
+@lru_cache(maxsize=65536)
+def head(*texts: bytes) -> tuple[int, ...]:
+    """The numbers of columns that rarely differ."""
+    return tuple(map(int, texts))
+
+
 def nanoseconds(text: bytes) -> int:
-    """The nanoseconds of a number of seconds with nine digits after the point."""
+    """The nanoseconds of a number of seconds."""
     seconds, _, part = text.partition(b".")
     return int(seconds + part.ljust(9, b"0")[:9])
+
+
+def number_of(data: bytes, start: int, digits: int) -> int:
+    """A number of so many hexadecimal digits, or 0 where a short snapshot lacks one of them."""
+    text = data[start : start + digits].strip()
+    return int(text, 16) if len(text) == digits else 0
+
+
+def transport(protocol: int, data: bytes) -> tuple[int, int]:
+    """Ports and sequence number in one word, and the bytes of the transport header."""
+    if protocol == TCP:
+        if len(data) > 26:
+            return int(data[:16], 16), 4 * int(data[24:25], 16)
+        return number_of(data, 0, 8) << 32 | number_of(data, 8, 8), 4 * number_of(data, 24, 1)
+    return (number_of(data, 0, 8) << 32, 8) if protocol == UDP else (0, 0)
 
 
 def record_of(line: bytes) -> tuple[int, bytes]:
     """The time of a line's packet, and its record: empty where it has no IPv4 header."""
     try:
-        number, epoch, source, target, protocol_text, header_text, length, identification, offset, data = line.split(b"\t")
-        moment = nanoseconds(epoch)
+        number, epoch, source, target, protocol_text, header_text, length, identification, offset_text, data = line.split(b"\t")
+        moment = int(epoch[:-10] + epoch[-9:]) if epoch[-10:-9] == b"." else nanoseconds(epoch)
         if not source:
             return moment, b""
-        protocol = int(protocol_text)
-        header = int(header_text)
-        ports = sequence = 0
-        # A fragment after the first has no ports, and of a short snapshot the sequence number may be missing.
-        if protocol == TCP and offset == b"0":
-            ports = int(data[:8].strip() or b"0", 16)
-            sequence = int(data[8:16].strip() or b"0", 16)
-            header += 4 * int(data[24:25].strip() or b"0", 16)
-        elif protocol == UDP and offset == b"0":
-            ports = int(data[:8].strip() or b"0", 16)
-            header += 8
-        return moment, LAYOUT.pack(address(source), address(target), ports, int(identification, 16), protocol, int(offset),
-                                   sequence, int(length), header, int(number), moment)  # fmt: skip
+        protocol, offset, header = head(protocol_text, offset_text, header_text)
+        # A fragment after the first has no ports.
+        word, size = transport(protocol, data) if offset == 0 else (0, 0)
+        return moment, SHORT_LAYOUT.pack(address(source), address(target), word, int(identification, 16), protocol, offset,
+                                         int(length), header + size, int(number), moment)  # fmt: skip
     except (ValueError, OSError) as error:
         raise CaptureError(f"tshark wrote a line that isn't understood: {line.decode(errors='replace').strip()}") from error
 

@@ -61,10 +61,11 @@ class Attempt:
 
     def taken(self) -> Iterator[tuple[Packet, int]]:
         """The packets of the trace with their departures."""
+        everything = zip(self.cut.before.read(), self.departures.read(), strict=True)
+        if self.findings.takes_all:
+            return everything
         takes = self.findings.takes
-        for slot, (packet, left) in enumerate(zip(self.cut.before.read(), self.departures.read(), strict=True)):
-            if takes(slot, packet):
-                yield packet, left
+        return ((packet, left) for slot, (packet, left) in enumerate(everything) if takes(slot, packet))
 
 
 def ways_to_cut(before: Spool, after: Spool, words: argparse.Namespace) -> Iterator[tuple[SizeFor | None, SizeFor | None]]:
