@@ -66,7 +66,10 @@ def read(name: str) -> Query:
 
 
 def ask(program: str, words: list[str]) -> Answer:
-    done = subprocess.run([program, *words], stdin=subprocess.DEVNULL, capture_output=True, check=False)
+    try:
+        done = subprocess.run([program, *words], stdin=subprocess.DEVNULL, capture_output=True, check=False)
+    except OSError as fault:
+        sys.exit(f"explain: cannot run {program}: {fault.strerror}")
     return Answer(done.returncode, done.stdout.decode("latin-1"), done.stderr.decode("latin-1"))
 
 

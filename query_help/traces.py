@@ -141,7 +141,7 @@ def counted(number: int, word: str) -> str:
 
 
 def field_missing(name: str, fault: TraceFault, header: Record) -> tuple[str, str]:
-    """What is said of a column that isn't there, and the situation that tells its remedy."""
+    """What is said of a column that isn't there, and the situation that its remedy is under."""
     names = [text_of(field.strip(" \t")) for field in header.fields]
     said = f"{name}:{header.line}: {fault.kind}: the query reads `{fault.field}`, and the header doesn't name it.\n"
     if all(re.fullmatch(r"[0-9.]+|inf", field) for field in names):
