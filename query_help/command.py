@@ -5,6 +5,7 @@ import os
 import re
 import subprocess
 import sys
+import tempfile
 from dataclasses import dataclass
 from pathlib import Path
 from typing import Optional
@@ -27,6 +28,7 @@ UNFIT = {
     "NotMonotone": "this doesn't rise with the state",
 }
 QUERY_REFUSED, TRACE_REFUSED = 4, 5
+COMPLAINT = re.compile("marple: (out of memory|bad command line|cannot (read|write)|query: |trace: )")
 
 
 @dataclass
@@ -66,11 +68,23 @@ def read(name: str) -> Query:
 
 
 def ask(program: str, words: list[str]) -> Answer:
-    try:
-        done = subprocess.run([program, *words], stdin=subprocess.DEVNULL, capture_output=True, check=False)
-    except OSError as fault:
-        sys.exit(f"explain: cannot run {program}: {fault.strerror}")
-    return Answer(done.returncode, done.stdout.decode("latin-1"), done.stderr.decode("latin-1"))
+    """Runs marple. What a launcher says while it builds the program goes on to standard error as it comes."""
+    complaint = ""
+    with tempfile.TemporaryFile() as output:
+        try:
+            process = subprocess.Popen(
+                [program, *words], stdin=subprocess.DEVNULL, stdout=output, stderr=subprocess.PIPE, encoding="latin-1"
+            )
+        except OSError as fault:
+            sys.exit(f"explain: cannot run {program}: {fault.strerror}")
+        with process:
+            for line in process.stderr or ():
+                if COMPLAINT.match(line):
+                    complaint += line
+                else:
+                    print(line, end="", file=sys.stderr, flush=True)
+        output.seek(0)
+        return Answer(process.returncode, output.read().decode("latin-1"), complaint)
 
 
 def plan_words(query: Query, plan: str) -> str:
