@@ -6,6 +6,7 @@ from collections.abc import Iterator, Mapping
 from contextlib import contextmanager
 from pathlib import Path
 
+from marple.faults import InputError
 from marple.plans import Plan, read_plan
 from marple.program import call
 from marple.queries import UnreadQuery, read_query
@@ -104,6 +105,14 @@ def text_file(query: Query, mark: str = ";") -> Iterator[tuple[str, bytes]]:
         return
     with _written(query.encode() if isinstance(query, str) else query) as path:
         yield path, query.encode() if isinstance(query, str) else query
+
+
+def query_text(query: Query) -> bytes:
+    """The text of a query. Raises InputError where its file can't be read."""
+    with text_file(query) as (path, text):
+        if not text and isinstance(query, str | os.PathLike) and not os.access(path, os.R_OK):
+            raise InputError(f"cannot read the query {path}")
+        return text
 
 
 @contextmanager

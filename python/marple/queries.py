@@ -6,8 +6,6 @@ The program says whether a text is a query; this reader is for texts that it acc
 import re
 from dataclasses import dataclass
 
-from marple.plans import FIELDS
-
 FIVE_TUPLE = ("srcip", "dstip", "srcport", "dstport", "proto")
 TOKEN = re.compile(
     rb"(?P<blank>[ \t\n\r]+|#[^\n]*)|(?P<word>[A-Za-z0-9_]+)|(?P<mark>[=!<>]=|<<|>>|&&|\|\||[][(){},;=<>+*/%&|^!-])"
@@ -177,8 +175,3 @@ def _binding(name: str, operator: str, final: bool, arguments: list[list[str]], 
         return Item(name, operator, final, **place, inputs=inputs, made=tuple(column[0] for column in listed))
     keys = [key for column in listed for key in (FIVE_TUPLE if column[0] == "5tuple" else column)]
     return Item(name, operator, final, **place, inputs=inputs, keys=tuple(keys))
-
-
-def fields_among(names) -> tuple[str, ...]:
-    """Those of the names that are fields of a packet, in the order of the fields."""
-    return tuple(field for field in FIELDS if field in set(names))

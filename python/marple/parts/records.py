@@ -14,6 +14,7 @@ PACKETS = 4_194_304  # and the most packets
 BLOCK = 4 << 20
 NAMING = " \t"  # goes from both ends of names and numbers
 BYTE_ORDER_MARK = b"\xef\xbb\xbf"
+EMPTY = (b"\n", b"\r\n", b"\r")
 MOST = 2**64 - 1
 DECIMAL = re.compile(rb"[0-9]{1,20}")
 QUAD = re.compile(rb"([0-9]{1,3})\.([0-9]{1,3})\.([0-9]{1,3})\.([0-9]{1,3})")
@@ -92,8 +93,18 @@ def plain_records(block: bytes) -> list[bytes]:
     """The records of a block without quotes, with their ends. Empty lines are none."""
     lines = block.splitlines(True)
     if b"\r" in block or b"\n\n" in block or block[:1] == b"\n":
-        return [line for line in lines if line not in (b"\n", b"\r\n", b"\r")]
+        return [line for line in lines if line not in EMPTY]
     return lines
+
+
+def record_sizes(span: Span) -> Iterator[list[int]]:
+    """The sizes in bytes of the records of a span, with their ends, in lists; that of an empty line is below 0."""
+    if span.quoted:
+        for text, fields in _records(_lines(span), span.path):
+            yield [len(text) if fields else -len(text)]
+        return
+    for block in plain_blocks(span):
+        yield [-len(line) if line in EMPTY else len(line) for line in block.splitlines(True)]
 
 
 def quoted_records(span: Span) -> Iterator[tuple[bytes, list[str]]]:

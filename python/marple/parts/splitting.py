@@ -4,7 +4,9 @@ import json
 import os
 import uuid
 from collections.abc import Callable, Iterator, Sequence
-from dataclasses import dataclass
+from contextlib import contextmanager
+from dataclasses import dataclass, field
+from typing import IO
 
 from marple.parts.records import Span, number_of, plain_blocks, plain_records, quoted_records
 
@@ -20,7 +22,7 @@ ROUND = 32 << 20  # how many bytes are held until they are written part by part
 REMEMBERED = 1 << 18  # how many texts of keys are remembered with their parts
 
 
-@dataclass(frozen=True)
+@dataclass
 class Splitting:
     """A function from records to parts: by the numbers of these fields, which stand in these columns.
 
@@ -32,6 +34,7 @@ class Splitting:
     columns: tuple[int, ...]
     parts: int
     level: int
+    known: dict[tuple[bytes, ...], int] = field(default_factory=dict, repr=False)  # the parts of texts that were met
 
     def part_of(self, words: Sequence[int | None]) -> int:
         """The part of these numbers."""
@@ -48,21 +51,20 @@ class Splitting:
     def key_of(self, cells: Sequence[bytes]) -> tuple[int | None, ...]:
         """The numbers of the fields in a record's cells."""
         return tuple(
-            number_of(cells[column], field) if column < len(cells) else None
-            for field, column in zip(self.fields, self.columns, strict=True)
+            number_of(cells[column], name) if column < len(cells) else None
+            for name, column in zip(self.fields, self.columns, strict=True)
         )
 
     def parts_of(self, block: bytes, records: list[bytes]) -> Sequence[int]:
         """The part of each record of a block without quotes."""
-        if numpy is not None and len(b"".join(records)) == len(block) and b"\r" not in block:
+        if numpy is not None and b"\r" not in block and block.count(b"\n") == len(records):
             return _parts_of_columns(self, block, records)
         return _parts_of_texts(self, records)
 
 
 def _parts_of_texts(splitting: Splitting, records: list[bytes]) -> list[int]:
-    """The parts of records, where the parts of texts that were met are remembered."""
-    columns, last = splitting.columns, max(splitting.columns)
-    known: dict[tuple[bytes, ...], int] = {}
+    """The parts of records, one after another."""
+    columns, last, known = splitting.columns, max(splitting.columns), splitting.known
     parts = []
     for record in records:
         cells = record.split(b",", last + 1)
@@ -71,9 +73,9 @@ def _parts_of_texts(splitting: Splitting, records: list[bytes]) -> list[int]:
         key = tuple(cells[column] if column < len(cells) else b"" for column in columns)
         part = known.get(key)
         if part is None:
-            part = known[key] = splitting.part_of(splitting.key_of(cells))
-            if len(known) > REMEMBERED:
+            if len(known) == REMEMBERED:
                 known.clear()
+            part = known[key] = splitting.part_of(splitting.key_of(cells))
         parts.append(part)
     return parts
 
@@ -209,22 +211,17 @@ def _write_round(file, start: int, held: list) -> Round:
     return Round(start, tuple(sizes), counts)
 
 
-class written:
-    """A file that is written under a name of its own and has its name when all of it is there."""
-
-    def __init__(self, path: str, mode: str = "wb"):
-        self.path, self.own, self.mode = path, f"{path}.{uuid.uuid4().hex}", mode
-
-    def __enter__(self):
-        self.file = open(self.own, self.mode)  # noqa: SIM115
-        return self.file
-
-    def __exit__(self, kind, value, trace) -> None:
-        self.file.close()
-        if kind is None:
-            os.replace(self.own, self.path)
-        else:
-            os.unlink(self.own)
+@contextmanager
+def written(path: str, mode: str = "wb") -> Iterator[IO]:
+    """A file that is written under a name of its own, and has its name when all of it is there."""
+    own = f"{path}.{uuid.uuid4().hex}"
+    try:
+        with open(own, mode) as file:
+            yield file
+        os.replace(own, path)
+    except BaseException:
+        os.unlink(own)
+        raise
 
 
 def keep(path: str, make: Callable[[], object]) -> object:
