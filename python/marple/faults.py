@@ -57,7 +57,10 @@ class QueryRefused(MarpleError):
         self.line, self.column = before.count(b"\n") + 1, offset - start + 1
         indent = re.sub(r"[^\t]", " ", before[start:].decode(errors="replace"))
         self.shown = f"{text.decode(errors='replace')}\n{indent}^"
-        super().__init__(f"{kind} at {offset}, line {self.line}, column {self.column}:\n{self.shown}")
+        super().__init__(kind, offset, query)
+
+    def __str__(self) -> str:
+        return f"query: {self.kind} at {self.offset}, line {self.line}, column {self.column}:\n{self.shown}"
 
 
 class TraceRefused(MarpleError):
@@ -71,7 +74,10 @@ class TraceRefused(MarpleError):
 
     def __init__(self, fault: str, record: int | None = None, field: str | None = None, path: str | None = None):
         self.fault, self.record, self.field, self.path = fault, record, field, path
-        super().__init__(self.shown if path is None else f"{self.shown} in {path}")
+        super().__init__(fault, record, field, path)
+
+    def __str__(self) -> str:
+        return f"trace: {self.shown}" + (f" in {self.path}" if self.path else "")
 
     @property
     def shown(self) -> str:

@@ -123,22 +123,25 @@ class _Body:
         if self.take() != token:
             raise Unread(" ".join(self.tokens))
 
-    def statements(self) -> bool:
-        """Whether the statements up to a closing brace, or to the end, only add."""
+    def statements(self, free: bool = True) -> bool:
+        """Whether the statements up to a closing brace, or to the end, only add; `free` where no condition around them reads a
+        state variable.
+        """
         adds = True
         while not self.at_end() and self.tokens[self.at] != "}":
-            adds = self.statement() and adds
+            adds = self.statement(free) and adds
         return adds
 
-    def statement(self) -> bool:
+    def statement(self, free: bool) -> bool:
         if (word := self.take()) == "set":
-            return self.assignment()
+            return self.assignment() and free
         if word != "if":
             raise Unread(" ".join(self.tokens))
-        adds = self.is_free()
+        free = self.is_free() and free
+        adds = True
         for _ in range(2):
             self.expect("{")
-            adds = self.statements() and adds
+            adds = self.statements(free) and adds
             self.expect("}")
         return adds
 

@@ -19,31 +19,33 @@ NUMBERED = ("refresh", "every")  # they count the packets of the whole
 
 
 class Progress:
-    """Writes lines of progress: one that is rewritten at a terminal; elsewhere each stage at its beginning and end, and in
-    between one in ten seconds.
+    """Writes lines of progress: one that is rewritten at a terminal; elsewhere the end of each stage, and in between one line
+    in ten seconds.
     """
 
     EVERY = 10
 
     def __init__(self, stream):
-        self.stream, self.width, self.stage, self.last = stream, 0, "", 0.0
+        self.stream, self.width, self.last = stream, 0, time.monotonic()
 
     def tell(self, line: str) -> None:
-        words = line.split()
-        stage, ended = words[0], len(words) > 3 and words[-2] == "of" and words[-1] == words[-3]
-        now = time.monotonic()
         if self.stream.isatty():
             self.stream.write(f"\r{line.ljust(self.width)}")
             self.width = len(line)
-        elif stage != self.stage or ended or now - self.last >= self.EVERY:
+        elif not is_underway(line) or time.monotonic() - self.last >= self.EVERY:
             self.stream.write(f"marple: {line}\n")
-            self.last = now
-        self.stage = stage
+            self.last = time.monotonic()
         self.stream.flush()
 
     def end(self) -> None:
         if self.stream.isatty() and self.width:
             self.stream.write("\n")
+
+
+def is_underway(line: str) -> bool:
+    """Whether a line of progress counts tasks, of which some aren't done."""
+    words = line.split()
+    return len(words) > 2 and words[-2] == "of" and words[-3] != words[-1]
 
 
 def words() -> argparse.ArgumentParser:
