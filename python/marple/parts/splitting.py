@@ -224,13 +224,14 @@ def written(path: str, mode: str = "wb") -> Iterator[IO]:
         raise
 
 
-def keep(path: str, make: Callable[[], object]) -> object:
-    """What the JSON file has; where there is none yet, what is made now and kept there."""
+def keep(path: str, make: Callable[[], dict], is_done: Callable[[dict], bool] = lambda made: True) -> dict:
+    """What the JSON file has; where there is none yet, what is made now, and kept there if it is done."""
     try:
         with open(path) as file:
             return json.load(file)
     except FileNotFoundError:
         made = make()
+    if is_done(made):
         with written(path, "w") as file:
             json.dump(made, file)
-        return made
+    return made

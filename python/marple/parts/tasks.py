@@ -121,8 +121,10 @@ class Ran:
 
 
 def run_part(words: Sequence[str], header: bytes, spans: Sequence[Span], packets: int, path: str) -> Ran:
-    """Runs the program over the header and the records of the spans. A second call finds what the first one did."""
-    made = keep(f"{path}.json", lambda: asdict(_run_part(words, header, spans, packets, path)))
+    """Runs the program over the header and the records of the spans. A second call finds what the first one did, if that gave
+    tables.
+    """
+    made = keep(f"{path}.json", lambda: asdict(_run_part(words, header, spans, packets, path)), lambda made: made["status"] == 0)
     return Ran(**(made | {"tables": tuple(made["tables"])}))
 
 
