@@ -41,6 +41,8 @@ class Job:
     piece: int
     tell: Callable[[str], None]
     headers: list[Header] = field(default_factory=list)
+    begun: dict = field(default_factory=dict)  # what identifies the work in its folder
+    decided: int | None = None  # how many parts another call of this work made
 
     def run(self) -> tuple[str, list[Ran]]:
         """Writes the tables into a file of the folder. Its path, and what the runs gave.
@@ -81,17 +83,23 @@ class Job:
         }
         mine = json.loads(json.dumps(mine))
         path = self._path("work.json")
+        theirs = {}
         if os.path.exists(path):
             with open(path) as file:
                 theirs = json.load(file)
-            self.parts = self.parts or theirs.pop("parts")
             if mine != {name: theirs.get(name) for name in mine}:
                 raise WorkTaken(f"{self.work} has other work: its {_difference(mine, theirs)} differs")
         elif os.listdir(self.work):
             raise WorkTaken(f"{self.work} has files, and no work that was begun")
-        self.identity = mine
+        self.begun, self.decided = mine, theirs.get("parts")
+        self._note_parts(self.decided)
         with written(self._path("query")) as file:
             file.write(self.query)
+
+    def _note_parts(self, parts: int | None) -> None:
+        """Keeps with the work how many parts there are, since another call may have more workers."""
+        with written(self._path("work.json"), "w") as file:
+            json.dump(self.begun | {"parts": parts}, file)
 
     def _try_header(self) -> None:
         """Runs the program over the header alone, so that a fault there is told before any trace is read."""
@@ -122,19 +130,23 @@ class Job:
     def _split(self, spans: list[list[Span]], ends: int) -> list[Part]:
         """The parts by the numbers of fields, none too large for a run."""
         sources = [Source([span], path=span.path) for own in spans for span in own]
-        self.parts = max(self._parts_needed(ends), self.parts or 0)
-        with written(self._path("work.json"), "w") as file:
-            json.dump(self.identity | {"parts": self.parts}, file)
+        number = self._parts_number(ends)
+        self._note_parts(number)
         columns = tuple(self.headers[0].names.index(name) for name in self.choice.by)
-        splitting = Splitting(self.choice.by, columns, self.parts, 0)
+        splitting = Splitting(self.choice.by, columns, number, 0)
         whole = self._split_sources(splitting, sources, "whole")
         whole.number_sources()
         return [fit for part in whole.parts() for fit in self._fitting(whole, part)]
 
-    def _parts_needed(self, ends: int) -> int:
+    def _parts_number(self, ends: int) -> int:
+        """How many parts: as the work began, or as the limits of a run ask for and the caller, or the workers."""
         size = sum(header.size for header in self.headers)
         needed = max(math.ceil(size / (BYTES * ROOM)), math.ceil(ends / (PACKETS * ROOM)), 1)
-        return needed if self.parts else math.ceil(needed / self.engine.places) * self.engine.places
+        if self.parts is None:
+            return self.decided or math.ceil(needed / self.engine.places) * self.engine.places
+        if self.decided not in (None, max(needed, self.parts)):
+            raise WorkTaken(f"{self.work} has other work: its number of parts differs")
+        return max(needed, self.parts)
 
     def _split_sources(self, splitting: Splitting, sources: list[Source], name: str) -> Split:
         calls = [
@@ -158,8 +170,6 @@ class Job:
 
     def _cut(self, spans: list[list[Span]]) -> list[Part]:
         """The pieces of the traces as they come, none too large for a run."""
-        with written(self._path("work.json"), "w") as file:
-            json.dump(self.identity | {"parts": None}, file)
         most = BYTES - len(self.headers[0].text)
         whole = [span for own in spans for span in own]
         cuts = self.engine.each(cut, [(span, PACKETS, most) for span in whole], self._count("cut"))
