@@ -58,7 +58,6 @@ def words() -> argparse.ArgumentParser:
     where.add_argument("--scheduler", metavar="ADDRESS", help="of the Dask scheduler to use")
     where.add_argument("--workers", type=int, metavar="N", help="how many workers a Dask cluster on this machine has")
     parser.add_argument("--work", metavar="FOLDER", help="for what is made on the way; a second call goes on there")
-    parser.add_argument("--program", metavar="PATH", help="the program to run, also one that isn't proved")
     for name in OPTIONS:
         parser.add_argument(f"--{name}", type=int, help="as at `marple run`, for each part")
     for name in NUMBERED:
@@ -76,7 +75,7 @@ def print_tables(given: argparse.Namespace, tell) -> None:
         with folder_of(given.work) as folder:
             joined, _, _ = tables_file(
                 query_text(given.query), given.traces, by=given.by.split(",") if given.by else None, parts=given.parts,
-                client=client, work=folder, given=options, program=given.program, piece=PIECE, tell=tell,
+                client=client, work=folder, given=options, program=None, piece=PIECE, tell=tell,
             )  # fmt: skip
             with open(joined, "rb") as file:
                 shutil.copyfileobj(file, sys.stdout.buffer)
