@@ -76,12 +76,15 @@ class Items:
         return item.keys if item.operator == "groupby" else self.keys_of(item.inputs[0])
 
     def printing(self, names: list[str]) -> bytes:
-        """The query without its finals, that prints these groupbys."""
-        text = bytearray(self.text)
-        for item in self.items:
-            if item.final or item.operator == "print":
-                text[item.start : item.end] = b" " * (item.end - item.start)
-        return bytes(text) + b"\n" + b"".join(b"print %s;\n" % name.encode() for name in names)
+        """The query without its finals, that prints these groupbys; no longer than it is. The prints stand where the last of its
+        finals and prints does, since all groupbys that these are made from come earlier.
+        """
+        text, at, prints = b"", 0, b"".join(b"print %s;" % name.encode() for name in names)
+        left_out = [item for item in self.items if item.final or item.operator == "print"]
+        for item in left_out:
+            text += self.text[at : item.start] + (prints if item is left_out[-1] else b"")
+            at = item.end
+        return text + self.text[at:]
 
 
 @dataclass(frozen=True)

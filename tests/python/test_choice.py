@@ -67,6 +67,13 @@ class Choices(unittest.TestCase):
     def test_pass_over_comments(self):
         self.check(b"# print s; final t = groupby(\nr = groupby(pktstream, [ #dstip\nsrcip], most);# }\nprint r;# 5tuple", "srcip")
 
+    def test_of_the_longest_query(self):
+        """The text by which the program is asked for the keys is no longer than the query."""
+        items = b"r=groupby(pktstream,[srcip],most);s=groupby(pktstream,[srcip],count);final j=join(r,s);print j;#"
+        self.check(items + b"x" * (65536 - len(COUNT + items)), "srcip")
+        items = items.replace(b"final j=join(r,s);print j;", b"print r;print s;")
+        self.check(items + b"x" * (65536 - len(COUNT + items)), "srcip")
+
     def test_of_a_query_that_is_none(self):
         with self.assertRaises(QueryRefused) as refused:
             choose(b"print z;", None)

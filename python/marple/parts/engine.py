@@ -1,5 +1,6 @@
 """Where tasks run: in this process, or on a Dask cluster."""
 
+import logging
 from collections.abc import Callable, Iterable
 from typing import Protocol
 
@@ -52,9 +53,11 @@ class OnCluster:
 def local_client(workers: int):
     """A client of a cluster on this machine, of so many processes."""
     distributed = _distributed()
+    # What fails is told by the tasks themselves; memory_limit 0 is none, since the runs of the program aren't in its count.
     cluster = distributed.LocalCluster(
-        n_workers=workers, threads_per_worker=1, processes=True, dashboard_address=None, memory_limit=0
-    )
+        n_workers=workers, threads_per_worker=1, processes=True, dashboard_address=None, memory_limit=0,
+        silence_logs=logging.CRITICAL,
+    )  # fmt: skip
     return distributed.Client(cluster)
 
 
