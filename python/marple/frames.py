@@ -2,7 +2,7 @@
 
 import math
 
-from marple.tables import BESIDE, Mark, Table
+from marple.tables import Mark, Table
 
 
 def pandas():
@@ -27,14 +27,9 @@ def frame_of(table: Table):
             marks = [str(Mark(word)) for word in words]
             columns[name] = module.Categorical(marks, categories=[str(mark) for mark in Mark])
         else:
-            columns[name] = module.array(words, dtype="uint64") if not words else module.Series(words, dtype="uint64")
+            columns[name] = module.Series(words, dtype="uint64")
     frame = module.DataFrame(columns, columns=list(table.columns))
     return frame.set_index(list(table.keys)) if table.keys else frame
-
-
-def states_of(table: Table) -> tuple[str, ...]:
-    """The names of the columns that are neither keys nor marks."""
-    return tuple(name for name in table.columns if name not in BESIDE and name not in (table.keys or ()))
 
 
 def trace_of(frame) -> bytes:

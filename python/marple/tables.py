@@ -23,7 +23,6 @@ MARKS = {str(mark): mark for mark in Mark}
 NUMBER = re.compile(r"0|[1-9][0-9]{0,19}")
 ROW = re.compile(r"(?:0|[1-9][0-9]{0,19})(?:,(?:0|[1-9][0-9]{0,19}))*")
 MOST = 2**64 - 1
-BESIDE = ("mark", "epoch", "epochs")  # columns of a groupby's table that are neither keys nor states
 
 
 class TableFault(ValueError):

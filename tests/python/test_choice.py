@@ -108,7 +108,7 @@ class Refusals(unittest.TestCase):
         self.assertIn("group s by srcip too", told)
         self.assertIn("make the fold of r, s additive", told)
         told = self.told(FieldNeeded, b"m = map(pktstream, [a = 0]); r = groupby(m, [a], count); final t = top(r, c, 1); print t;")
-        self.assertIn("group r by switch too, or print no final", told)
+        self.assertIn("group r by srcip too, or print no final", told)
 
     def test_name_the_final(self):
         told = self.told(FinalGroupby, b"r = groupby(pktstream, [srcip], most); final t = groupby(r, [m], count); print t;")

@@ -83,6 +83,11 @@ class SeveralFiles(unittest.TestCase):
         self.assertTrue(any("splitting it again" in line for line in lines), lines)
         self.check(fault, 1, "BadNumber(134,tin)")
 
+    def test_of_more_faults_than_a_run_takes(self):
+        trace = HEADERS[0] + b"".join(b"%d,1\n" % number for number in range(70)) + b"x,1\n" * 60
+        with mock.patch.multiple(job, PACKETS=20, ROOM=4, AGAIN=4):
+            self.check(self.told([trace], piece=500), 0, "BadNumber(71,srcip)")
+
     def test_of_headers(self):
         self.check(self.told([b"srcip,tout\n1,2\n"]), 0, "FieldMissing(tin)")
         self.check(self.told([b"srcip,tin,srcip\n1,2,3\n"]), 0, "FieldTwice(srcip)")

@@ -119,7 +119,7 @@ def _refuse_fields(by: tuple[str, ...], fields: tuple[str, ...], groups: list[Gr
 def _field_needed(groups: list[Group], sums: bool) -> str:
     """What would make parts possible."""
     own = {group.name: [name for name, field in group.keys.items() if name == field] for group in groups}
-    shared = max(FIELDS, key=lambda name: sum(name in names for names in own.values()))
+    shared = max(("srcip", *FIELDS), key=lambda name: sum(name in names for names in own.values()))
     lacking = ", ".join(name for name, names in own.items() if shared not in names)
     text = f"no field of the packet is a key of every groupby that is printed or read: group {lacking} by {shared} too"
     if sums:

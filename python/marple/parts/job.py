@@ -160,6 +160,8 @@ class Job:
         if part.packets <= PACKETS and size <= BYTES:
             return [part]
         [key] = self.engine.each(sole_key, [(whole.splitting, part.spans)], lambda done, of: None)
+        if key is not None and None in key:
+            return [part.beginning()]  # no number of a field: a fault, which the first record of the part has
         if key is not None:
             shown = ", ".join(f"{name} {word}" for name, word in zip(self.choice.by, key, strict=True))
             raise KeyTooLarge(f"{shown} has {part.packets} packets in {size} bytes: one run takes {PACKETS} in {BYTES}")

@@ -3,7 +3,7 @@
 from __future__ import annotations
 
 from collections.abc import Callable, Sequence
-from dataclasses import dataclass
+from dataclasses import dataclass, replace
 
 from marple.parts.records import Span
 from marple.parts.splitting import Piece, Splitting
@@ -42,6 +42,10 @@ class Part:
     @property
     def bytes(self) -> int:
         return sum(span.end - span.start for span in self.spans)
+
+    def beginning(self) -> Part:
+        """The part's first records alone, no more than are held at a time as they are split."""
+        return replace(self, spans=self.spans[:1])
 
     @staticmethod
     def of_span(number: int, span: Span, packets: int, before: int) -> Part:

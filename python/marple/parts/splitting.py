@@ -6,6 +6,8 @@ import uuid
 from collections.abc import Callable, Iterator, Sequence
 from contextlib import contextmanager
 from dataclasses import dataclass, field
+from functools import cached_property
+from itertools import accumulate
 from typing import IO
 
 from marple.parts.records import Span, number_of, plain_blocks, plain_records, quoted_records
@@ -143,6 +145,11 @@ class Round:
     bytes: tuple[int, ...]
     records: tuple[int, ...]
 
+    @cached_property
+    def places(self) -> list[int]:
+        """Where the records of each part begin in the file, and where the last ones end."""
+        return list(accumulate(self.bytes, initial=self.start))
+
 
 @dataclass(frozen=True)
 class Piece:
@@ -154,12 +161,9 @@ class Piece:
 
     def spans(self, part: int) -> list[Span]:
         """Where the records of a part stand, in order."""
-        spans = []
-        for one in self.rounds:
-            start = one.start + sum(one.bytes[:part])
-            if one.bytes[part]:
-                spans.append(Span(self.path, start, start + one.bytes[part], self.quoted))
-        return spans
+        return [
+            Span(self.path, one.places[part], one.places[part + 1], self.quoted) for one in self.rounds if one.bytes[part]
+        ]
 
     def records(self, part: int) -> int:
         """How many records the part has in this piece."""
