@@ -59,8 +59,11 @@ class Splitting:
 
     def parts_of(self, block: bytes, records: list[bytes]) -> Sequence[int]:
         """The part of each record of a block without quotes."""
-        if numpy is not None and b"\r" not in block and block.count(b"\n") == len(records):
-            return _parts_of_columns(self, block, records)
+        if numpy is not None and b"\r" not in block:
+            text = numpy.frombuffer(block, dtype=numpy.uint8)
+            ends = numpy.flatnonzero(text == 10)
+            if len(ends) == len(records):  # so there are no empty lines
+                return _parts_of_columns(self, text, ends, records)
         return _parts_of_texts(self, records)
 
 
@@ -82,10 +85,10 @@ def _parts_of_texts(splitting: Splitting, records: list[bytes]) -> list[int]:
     return parts
 
 
-def _parts_of_columns(splitting: Splitting, block: bytes, records: list[bytes]) -> list[int]:
-    """The parts of records whose only ends are LF, column by column. What isn't 1 to 19 digits is read record by record."""
-    text = numpy.frombuffer(block, dtype=numpy.uint8)
-    ends = numpy.flatnonzero(text == 10)
+def _parts_of_columns(splitting: Splitting, text, ends, records: list[bytes]) -> list[int]:
+    """The parts of the records of a text, which have these ends, column by column. What isn't 1 to 19 digits is read record by
+    record.
+    """
     starts = numpy.concatenate(([0], ends[:-1] + 1))
     commas = numpy.flatnonzero(text == 44)
     first = numpy.searchsorted(commas, starts)
@@ -197,8 +200,9 @@ def write_piece(splitting: Splitting, spans: Sequence[Span], path: str) -> Piece
 def _chunks(count: int, records: list[bytes], parts: Sequence[int]) -> Iterator[tuple[bytes, int, int]]:
     """The records of a block, put together by their parts: the bytes, how many records, and the part."""
     lists: list[list[bytes]] = [[] for _ in range(count)]
+    appends = [own.append for own in lists]
     for record, part in zip(records, parts, strict=True):
-        lists[part].append(record)
+        appends[part](record)
     for part, own in enumerate(lists):
         if own:
             yield b"".join(own), len(own), part
