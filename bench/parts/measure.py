@@ -63,7 +63,7 @@ class Stages:
     def __init__(self):
         self.began, self.ends = time.monotonic(), {}
 
-    def tell(self, line: str) -> None:
+    def report(self, line: str) -> None:
         self.ends[line.split()[0]] = time.monotonic() - self.began
 
     def seconds(self) -> dict[str, float]:
@@ -87,9 +87,9 @@ def timed_parts(query: str, room: Path, workers: int) -> tuple[Stages, list[int]
     work, stages = room / "work", Stages()
     joined, _, runs = parts.tables_file(
         Path(query).read_bytes(), sorted(room.glob("traces/*.csv")), by=None, parts=None, client=client, work=work, given={},
-        program=None, piece=parts.PIECE, tell=stages.tell,
+        program=None, piece=parts.PIECE, report=stages.report,
     )  # fmt: skip
-    stages.tell("end")
+    stages.report("end")
     peaks = [max(client.run(peak).values()), max(ran.peak for ran in runs) // 1024]
     client.close()
     client.cluster.close()

@@ -93,11 +93,11 @@ PLAIN = {1: OutOfMemory, 2: UsageError, 3: InputError, 6: OutputError}
 
 def refusal_of(status: int, complaint: str, query: bytes = b"") -> MarpleError:
     """The exception that says what the program's status and complaint say."""
-    told = complaint.strip().removeprefix("marple: ") or f"status {status}"
+    text = complaint.strip().removeprefix("marple: ") or f"status {status}"
     if status == 4 and (found := QUERY.search(complaint)):
         return QueryRefused(found[1], int(found[2]), query)
     if status == 5 and (found := TRACE.search(complaint)):
         return TraceRefused(found[1], int(found[2]) if found[2] else None, found[3])
     if status in PLAIN and complaint.startswith("marple: "):
-        return PLAIN[status](told)
-    return ProgramFailed(f"the program ended with status {status}: {told}")
+        return PLAIN[status](text)
+    return ProgramFailed(f"the program ended with status {status}: {text}")

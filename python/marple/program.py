@@ -79,7 +79,7 @@ def call(words: Sequence[str], *, program: str | os.PathLike | None, query: byte
             [find_program(program), *words], stdin=subprocess.DEVNULL, stdout=subprocess.PIPE, stderr=complaint, check=False
         )
         complaint.seek(0)
-        told = complaint.read().decode(errors="replace")
+        text = complaint.read().decode(errors="replace")
     if done.returncode != 0:
-        raise refusal_of(done.returncode, told, query)
+        raise refusal_of(done.returncode, text, query)
     return Called(done.stdout)

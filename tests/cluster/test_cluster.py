@@ -105,7 +105,7 @@ class LargeTraces(OnACluster):
             subprocess.run([plain, "count", *traces], stdout=file, check=True)
         joined, choice, _ = parts.tables_file(
             (BENCH / "keys.query").read_bytes(), traces, by=None, parts=4, client=self.client, work=self.folder.path("work"),
-            given={}, program=None, piece=parts.PIECE, tell=lambda line: None,
+            given={}, program=None, piece=parts.PIECE, report=lambda line: None,
         )  # fmt: skip
         self.assertEqual(choice.by, ("srcip",))
         with open(joined, "rb") as own, open(self.folder.path("expected"), "rb") as expected:

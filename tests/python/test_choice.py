@@ -94,28 +94,28 @@ class FieldsAskedFor(unittest.TestCase):
 
 
 class Refusals(unittest.TestCase):
-    def told(self, kind: type[PartsRefused], items: bytes) -> str:
+    def refused(self, kind: type[PartsRefused], items: bytes) -> str:
         with self.assertRaises(kind) as refused:
             choose(COUNT + items, None)
         return str(refused.exception)
 
     def test_say_what_would_make_it_possible(self):
-        told = self.told(
+        text = self.refused(
             FieldNeeded,
             b"r = groupby(pktstream, [srcip], most); s = groupby(pktstream, [dstip], most); t = groupby(pktstream, [srcip], count);"
             b" print r; print s; print t;",
         )
-        self.assertIn("group s by srcip too", told)
-        self.assertIn("make the fold of r, s additive", told)
-        told = self.told(FieldNeeded, b"m = map(pktstream, [a = 0]); r = groupby(m, [a], count); final t = top(r, c, 1); print t;")
-        self.assertIn("group r by srcip too, or print no final", told)
+        self.assertIn("group s by srcip too", text)
+        self.assertIn("make the fold of r, s additive", text)
+        text = self.refused(FieldNeeded, b"m = map(pktstream, [a = 0]); r = groupby(m, [a], count); final t = top(r, c, 1); print t;")
+        self.assertIn("group r by srcip too, or print no final", text)
 
     def test_name_the_final(self):
-        told = self.told(FinalGroupby, b"r = groupby(pktstream, [srcip], most); final t = groupby(r, [m], count); print t;")
-        self.assertTrue(told.startswith("FinalGroupby: t groups rows"), told)
-        self.assertIn("print r", told)
-        told = self.told(FinalOfTop, b"r = groupby(pktstream, [srcip], most); final t = top(r, m, 2); final u = filter(t, m > 1); print u;")
-        self.assertTrue(told.startswith("FinalOfTop: u is made from t"), told)
+        text = self.refused(FinalGroupby, b"r = groupby(pktstream, [srcip], most); final t = groupby(r, [m], count); print t;")
+        self.assertTrue(text.startswith("FinalGroupby: t groups rows"), text)
+        self.assertIn("print r", text)
+        text = self.refused(FinalOfTop, b"r = groupby(pktstream, [srcip], most); final t = top(r, m, 2); final u = filter(t, m > 1); print u;")
+        self.assertTrue(text.startswith("FinalOfTop: u is made from t"), text)
 
 
 class Bodies(unittest.TestCase):

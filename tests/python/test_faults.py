@@ -1,4 +1,4 @@
-"""A fault of a trace is told with its file, and otherwise as a run over that file alone tells it."""
+"""A fault of a trace is reported with its file, and otherwise as by a run over that file alone."""
 
 import random
 import unittest
@@ -56,7 +56,7 @@ class SeveralFiles(unittest.TestCase):
     def setUp(self):
         self.folder = Folder(self)
 
-    def told(self, traces: list[bytes], query: str = BY_KEY, **options) -> marple.TraceRefused:
+    def refused(self, traces: list[bytes], query: str = BY_KEY, **options) -> marple.TraceRefused:
         self.paths = [self.folder.write(f"{number}.csv", trace) for number, trace in enumerate(traces)]
         with self.assertRaises(marple.TraceRefused) as refused:
             parts.run(query, self.paths, **options)
@@ -66,32 +66,32 @@ class SeveralFiles(unittest.TestCase):
         self.assertEqual((fault.path, fault.shown), (self.paths[file], shown))
         self.assertEqual(str(fault), f"trace: {shown} in {self.paths[file]}")
 
-    def test_the_first_fault_is_told(self):
+    def test_the_first_fault_is_reported(self):
         good = HEADERS[0] + b"".join(b"%d,%d\n" % (number % 9, number) for number in range(40))
         late, early = good + b"5,x\n" + b"6,x\n", HEADERS[0] + b"1,1\n4,\n" + b"5,1,1\n"
         for query in (BY_KEY, BY_SUMS):
-            self.check(self.told([good, late, early], query, parts=3, piece=70), 1, "BadNumber(41,tin)")
-            self.check(self.told([good, early, late], query, parts=3, piece=70), 1, "BadNumber(2,tin)")
-            self.check(self.told([good, HEADERS[0] + b"1\n", late], query, parts=3, piece=70), 1, "FieldCount(1)")
+            self.check(self.refused([good, late, early], query, parts=3, piece=70), 1, "BadNumber(41,tin)")
+            self.check(self.refused([good, early, late], query, parts=3, piece=70), 1, "BadNumber(2,tin)")
+            self.check(self.refused([good, HEADERS[0] + b"1\n", late], query, parts=3, piece=70), 1, "FieldCount(1)")
 
     def test_of_parts_that_were_split_again(self):
         records = [b"%d,%d\n" % (number % 30, number) for number in range(400)]
         records[333] = b"3,x\n"
         with mock.patch.multiple(job, PACKETS=20, ROOM=4, AGAIN=4):
             lines: list[str] = []
-            fault = self.told([HEADERS[0] + b"".join(records[:200]), HEADERS[0] + b"".join(records[200:])], piece=500, tell=lines.append)
+            fault = self.refused([HEADERS[0] + b"".join(records[:200]), HEADERS[0] + b"".join(records[200:])], piece=500, report=lines.append)
         self.assertTrue(any("splitting it again" in line for line in lines), lines)
         self.check(fault, 1, "BadNumber(134,tin)")
 
     def test_of_more_faults_than_a_run_takes(self):
         trace = HEADERS[0] + b"".join(b"%d,1\n" % number for number in range(70)) + b"x,1\n" * 60
         with mock.patch.multiple(job, PACKETS=20, ROOM=4, AGAIN=4):
-            self.check(self.told([trace], piece=500), 0, "BadNumber(71,srcip)")
+            self.check(self.refused([trace], piece=500), 0, "BadNumber(71,srcip)")
 
     def test_of_headers(self):
-        self.check(self.told([b"srcip,tout\n1,2\n"]), 0, "FieldMissing(tin)")
-        self.check(self.told([b"srcip,tin,srcip\n1,2,3\n"]), 0, "FieldTwice(srcip)")
-        self.check(self.told([b"srcip,tin\n1,2\n", b"\n"]), 1, "NoHeader")
+        self.check(self.refused([b"srcip,tout\n1,2\n"]), 0, "FieldMissing(tin)")
+        self.check(self.refused([b"srcip,tin,srcip\n1,2,3\n"]), 0, "FieldTwice(srcip)")
+        self.check(self.refused([b"srcip,tin\n1,2\n", b"\n"]), 1, "NoHeader")
 
     def test_of_other_columns(self):
         with self.assertRaisesRegex(parts.HeadersDiffer, "1.csv names other columns"):

@@ -23,7 +23,7 @@ class Installed(unittest.TestCase):
         cls.python = str(cls.place / "bin" / "python")
         pip = [sys.executable, "-m", "pip", "--python", cls.python, "install", "--no-index", "--quiet", str(TOP / "python")]
         done = subprocess.run(pip, capture_output=True, text=True, check=False)
-        cls.told = done.stdout + done.stderr
+        cls.text = done.stdout + done.stderr
         cls.status = done.returncode
 
     @classmethod
@@ -36,7 +36,7 @@ class Installed(unittest.TestCase):
         return done.stdout
 
     def test_without_a_network(self):
-        self.assertEqual(self.status, 0, self.told)
+        self.assertEqual(self.status, 0, self.text)
 
     def test_has_the_version_of_the_checkout(self):
         asked = "import marple, importlib.metadata as m; print(marple.__version__, m.version('marple'), m.metadata('marple')"

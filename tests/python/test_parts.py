@@ -107,7 +107,7 @@ class JoinedTables(unittest.TestCase):
         query = TOP / "examples" / "count.query"
         with mock.patch.multiple(job, PACKETS=40, ROOM=2, AGAIN=5):
             lines: list[str] = []
-            answer = parts.run(query, [self.whole], piece=20_000, tell=lines.append)
+            answer = parts.run(query, [self.whole], piece=20_000, report=lines.append)
         self.check_same(answer, marple.run(query, self.whole))
         self.assertTrue(any("splitting it again" in line for line in lines), lines)
         self.assertGreater(answer.parts, 15)

@@ -122,7 +122,7 @@ class TheCommand(unittest.TestCase):
         self.assertEqual(status, 0)
         self.assertGreater(marple.read_tables(out)["r"].epochs, 2 * whole.epochs)
 
-    def test_tells_faults_with_its_statuses(self):
+    def test_reports_faults_with_its_statuses(self):
         bad = self.folder.write("bad.csv", generated(*TRACE).replace(b"\n", b"\n1,2\n", 1))
         printed = self.folder.write("no.query", b"print z;")
         many = self.folder.write("sum.query", b"def f([],[]) { }\nm = map(pktstream, [a = 0]); r = groupby(m, [a], f);"
@@ -158,7 +158,7 @@ class Lines(unittest.TestCase):
         stream = Terminal()
         progress = Progress(stream)
         for line in ("looked through 1 of 2", "looked through 2 of 2", "ran 1 of 1"):
-            progress.tell(line)
+            progress.report(line)
         progress.end()
         self.assertEqual(stream.getvalue(), "\rlooked through 1 of 2\rlooked through 2 of 2\rran 1 of 1           \n")
 
@@ -166,7 +166,7 @@ class Lines(unittest.TestCase):
         stream = io.StringIO()
         progress = Progress(stream)
         for line in ("by srcip: asked", *(f"split {done} of 50" for done in range(1, 51)), "joining"):
-            progress.tell(line)
+            progress.report(line)
         self.assertEqual(stream.getvalue(), "marple: by srcip: asked\nmarple: split 50 of 50\nmarple: joining\n")
 
 

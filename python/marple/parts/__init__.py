@@ -51,7 +51,7 @@ def run(
     query: Query, traces: Sequence[str | os.PathLike], *, by: Sequence[str] | None = None, parts: int | None = None,
     client=None, work: str | os.PathLike | None = None, buckets: int | None = None, ways: int | None = None,
     pipe: int | None = None, lag: int | None = None, program: str | os.PathLike | None = None, piece: int = PIECE,
-    tell: Callable[[str], None] = lambda line: None,
+    report: Callable[[str], None] = lambda line: None,
 ) -> PartsAnswer:  # fmt: skip
     """The tables of the query over the packets of all traces, in their order, by runs over parts of them.
 
@@ -59,14 +59,14 @@ def run(
     that the query allows. parts: how many at least. client: a distributed.Client, whose workers see the traces and the folder
     at the same paths; without one the tasks run one after another here. work: a folder for what is made on the way, where a
     second call with the same arguments goes on; by default one that is deleted at the end. The options are those of the
-    program for each part. piece: how many bytes a task splits. tell: takes lines of progress.
+    program for each part. piece: how many bytes a task splits. report: takes lines of progress.
     Raises what `marple.run` raises, where a TraceRefused has the file in `path`, and PartsRefused.
     """
     given = {"buckets": buckets, "ways": ways, "pipe": pipe, "lag": lag}
     text = query_text(query)
     with folder_of(work) as folder:
         joined, choice, runs = tables_file(
-            text, traces, by=by, parts=parts, client=client, work=folder, given=given, program=program, piece=piece, tell=tell
+            text, traces, by=by, parts=parts, client=client, work=folder, given=given, program=program, piece=piece, report=report
         )
         with open(joined, "rb") as file:
             answer = PartsAnswer(list(read_tables(file.read(), keys_of_finals(text)).values()))
@@ -74,13 +74,13 @@ def run(
     return answer
 
 
-def tables_file(query: bytes, traces, *, by, parts, client, work, given, program, piece, tell):
+def tables_file(query: bytes, traces, *, by, parts, client, work, given, program, piece, report):
     """The file of the tables in the folder `work`, the choice of fields, and what the runs gave. Otherwise as `run`."""
     program = find_program(program)
     choice = choose(query, tuple(by) if by is not None else None, program)
-    tell(f"by {','.join(choice.by)}: {choice.reason}" if choice.by else f"by pieces as they come: {choice.reason}")
+    report(f"by {','.join(choice.by)}: {choice.reason}" if choice.by else f"by pieces as they come: {choice.reason}")
     paths = [os.path.abspath(os.fspath(path)) for path in traces]
-    job = Job(query, paths, choice, parts, given, program, engine_of(client), os.path.abspath(work), piece, tell)
+    job = Job(query, paths, choice, parts, given, program, engine_of(client), os.path.abspath(work), piece, report)
     joined, runs = job.run()
     return joined, choice, runs
 

@@ -28,7 +28,7 @@ class Progress:
     def __init__(self, stream):
         self.stream, self.width, self.last = stream, 0, time.monotonic()
 
-    def tell(self, line: str) -> None:
+    def report(self, line: str) -> None:
         if self.stream.isatty():
             self.stream.write(f"\r{line.ljust(self.width)}")
             self.width = len(line)
@@ -65,7 +65,7 @@ def words() -> argparse.ArgumentParser:
     return parser
 
 
-def print_tables(given: argparse.Namespace, tell) -> None:
+def print_tables(given: argparse.Namespace, report) -> None:
     for name in NUMBERED:
         if getattr(given, name) is not None:
             raise OptionRefused(f"--{name} counts the packets of the whole, and a part numbers its own")
@@ -75,7 +75,7 @@ def print_tables(given: argparse.Namespace, tell) -> None:
         with folder_of(given.work) as folder:
             joined, _, _ = tables_file(
                 query_text(given.query), given.traces, by=given.by.split(",") if given.by else None, parts=given.parts,
-                client=client, work=folder, given=options, program=None, piece=PIECE, tell=tell,
+                client=client, work=folder, given=options, program=None, piece=PIECE, report=report,
             )  # fmt: skip
             with open(joined, "rb") as file:
                 shutil.copyfileobj(file, sys.stdout.buffer)
@@ -97,7 +97,7 @@ def main() -> int:
     given = words().parse_args()
     progress = Progress(sys.stderr)
     try:
-        print_tables(given, progress.tell)
+        print_tables(given, progress.report)
     except (MarpleError, ImportError) as refused:
         progress.end()
         print(f"marple: {refused}", file=sys.stderr)

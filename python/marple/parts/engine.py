@@ -4,7 +4,7 @@ import logging
 from collections.abc import Callable, Iterable
 from typing import Protocol
 
-Told = Callable[[int, int], None]  # how many tasks are done, and how many there are
+Counted = Callable[[int, int], None]  # how many tasks are done, and how many there are
 
 
 class Engine(Protocol):
@@ -12,7 +12,7 @@ class Engine(Protocol):
 
     places: int
 
-    def each(self, task: Callable, calls: Iterable[tuple], told: Told) -> list:
+    def each(self, task: Callable, calls: Iterable[tuple], counted: Counted) -> list:
         """What the task gives for each of these argument lists, in their order."""
 
 
@@ -21,11 +21,11 @@ class Here:
 
     places = 1
 
-    def each(self, task: Callable, calls: Iterable[tuple], told: Told) -> list:
+    def each(self, task: Callable, calls: Iterable[tuple], counted: Counted) -> list:
         calls, results = list(calls), []
         for call in calls:
             results.append(task(*call))
-            told(len(results), len(calls))
+            counted(len(results), len(calls))
         return results
 
 
@@ -36,7 +36,7 @@ class OnCluster:
         self.client = client
         self.places = max(1, sum(client.nthreads().values()))
 
-    def each(self, task: Callable, calls: Iterable[tuple], told: Told) -> list:
+    def each(self, task: Callable, calls: Iterable[tuple], counted: Counted) -> list:
         from distributed import as_completed
 
         # Not pure: what a task gives also depends on files, which an earlier run of the same call may have left otherwise.
@@ -44,7 +44,7 @@ class OnCluster:
         try:
             for done, future in enumerate(as_completed(futures), 1):
                 future.result()
-                told(done, len(futures))
+                counted(done, len(futures))
             return [future.result() for future in futures]
         finally:
             self.client.cancel(futures)
@@ -53,7 +53,7 @@ class OnCluster:
 def local_client(workers: int):
     """A client of a cluster on this machine, of so many processes."""
     distributed = _distributed()
-    # What fails is told by the tasks themselves; memory_limit 0 is none, since the runs of the program aren't in its count.
+    # What fails is reported by the tasks themselves; memory_limit 0 is none, since the runs of the program aren't in its count.
     cluster = distributed.LocalCluster(
         n_workers=workers, threads_per_worker=1, processes=True, dashboard_address=None, memory_limit=0,
         silence_logs=logging.CRITICAL,

@@ -27,7 +27,7 @@ AGAIN = 64  # into how many parts one is split that came out too large
 class Job:
     """A query over traces, and how it is run.
 
-    piece: how many bytes of a trace a task splits; tell: takes a line of progress.
+    piece: how many bytes of a trace a task splits; report: takes a line of progress.
     """
 
     query: bytes
@@ -39,7 +39,7 @@ class Job:
     engine: Engine
     work: str
     piece: int
-    tell: Callable[[str], None]
+    report: Callable[[str], None]
     headers: list[Header] = field(default_factory=list)
     begun: dict = field(default_factory=dict)  # what identifies the work in its folder
     decided: int | None = None  # how many parts another call of this work made
@@ -58,7 +58,7 @@ class Job:
         spans, ends = self._look()
         parts = self._split(spans, ends) if self.choice.by else self._cut(spans)
         runs = self._run(parts)
-        self.tell(f"joining the tables of {len(runs)} parts")
+        self.report(f"joining the tables of {len(runs)} parts")
         joined = self._path("tables")
         self.engine.each(join_tables, [(self.choice.joins, runs, joined)], lambda done, of: None)
         return joined, runs
@@ -102,7 +102,7 @@ class Job:
             json.dump(self.begun | {"parts": parts}, file)
 
     def _try_header(self) -> None:
-        """Runs the program over the header alone, so that a fault there is told before any trace is read."""
+        """Runs the program over the header alone, so that a fault there is reported before any trace is read."""
         ran = run_part(self._words(), self.headers[0].text, [], 0, self._path("header"))
         if ran.status != 0:
             raise _refusal(ran, self.query, lambda number: (self.traces[0], number))
@@ -125,7 +125,7 @@ class Job:
         return spans, sum(one.ends for one in looked)
 
     def _count(self, what: str) -> Callable[[int, int], None]:
-        return lambda done, of: self.tell(f"{what} {done} of {of}")
+        return lambda done, of: self.report(f"{what} {done} of {of}")
 
     def _split(self, spans: list[list[Span]], ends: int) -> list[Part]:
         """The parts by the numbers of fields, none too large for a run."""
@@ -165,7 +165,7 @@ class Job:
         if key is not None:
             shown = ", ".join(f"{name} {word}" for name, word in zip(self.choice.by, key, strict=True))
             raise KeyTooLarge(f"{shown} has {part.packets} packets in {size} bytes: one run takes {PACKETS} in {BYTES}")
-        self.tell(f"part {part.name} has {part.packets} packets in {size} bytes: splitting it again")
+        self.report(f"part {part.name} has {part.packets} packets in {size} bytes: splitting it again")
         splitting = Splitting(self.choice.by, whole.splitting.columns, AGAIN, whole.splitting.level + 1)
         again = self._split_sources(splitting, whole.sources_of(part.number), part.name)
         return [fit for one in again.parts() if one.packets for fit in self._fitting(again, one)]

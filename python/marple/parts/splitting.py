@@ -123,7 +123,7 @@ def _numbers(text, begin, end):
     return words, odd
 
 
-def parted(splitting: Splitting, span: Span) -> Iterator[tuple[list[bytes], Sequence[int]]]:
+def with_parts(splitting: Splitting, span: Span) -> Iterator[tuple[list[bytes], Sequence[int]]]:
     """The records of a span with their parts, a block after the other."""
     if not span.quoted:
         for block in plain_blocks(span):
@@ -185,7 +185,7 @@ def write_piece(splitting: Splitting, spans: Sequence[Span], path: str) -> Piece
     size = start = 0
     with written(path) as file:
         for span in spans:
-            for records, parts in parted(splitting, span):
+            for records, parts in with_parts(splitting, span):
                 for chunk, count, part in _chunks(splitting.parts, records, parts):
                     held[part][0].append(chunk)
                     held[part][1] += count

@@ -9,7 +9,7 @@ from dataclasses import asdict, dataclass
 
 from marple.parts.records import BLOCK, Span, plain_blocks, plain_records, quoted_records, record_sizes
 from marple.parts.refusals import RecordTooLong
-from marple.parts.splitting import Piece, Round, Splitting, keep, parted, write_piece, written
+from marple.parts.splitting import Piece, Round, Splitting, keep, with_parts, write_piece, written
 
 END = re.compile(rb"[\r\n]")
 
@@ -93,7 +93,7 @@ def find_record(splitting: Splitting, spans: Sequence[Span], part: int, number: 
     """Which record of the spans, from 1, is the one with this number, from 1, among those of the part."""
     before = 0
     for span in spans:
-        for records, parts in parted(splitting, span):
+        for records, parts in with_parts(splitting, span):
             for at, own in enumerate(parts):
                 number -= own == part
                 if number == 0:
@@ -135,10 +135,10 @@ def _run_part(words: Sequence[str], header: bytes, spans: Sequence[Span], packet
         _, status, used = os.wait4(process.pid, 0)
         process.returncode = os.waitstatus_to_exitcode(status)
         complaint.seek(0)
-        told = complaint.read().decode(errors="replace")
+        text = complaint.read().decode(errors="replace")
     os.unlink(f"{path}.complaint")
     seconds = round(used.ru_utime + used.ru_stime, 3)
-    return Ran(path, process.returncode, told, tuple(_table_starts(path)), packets, size, seconds, used.ru_maxrss)
+    return Ran(path, process.returncode, text, tuple(_table_starts(path)), packets, size, seconds, used.ru_maxrss)
 
 
 def _feed(pipe, header: bytes, spans: Sequence[Span]) -> int:
