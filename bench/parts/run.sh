@@ -1,0 +1,29 @@
+#!/bin/sh
+# Measures a query over traces in parts, on clusters of this machine, and writes the figures into README.md beside it.
+#
+# Usage: bench/parts/run.sh [PACKETS [KEYS]]
+# 20,000,000 packets of 1,000,000 keys in files of 1,000,000 by default, which take 4 GB in $ROOM (/tmp/marple-parts). The
+# program is $MARPLE, or ./marple; PYTHON is a Python with Dask's distributed, pandas and numpy (Debian: python3-dask,
+# python3-distributed, python3-pandas). WORKERS are the numbers of workers, "1 2 4" by default. With PACKETS other than the
+# default nothing is written.
+set -eu
+here=$(cd "$(dirname "$0")" && pwd)
+top=$(cd "$here/../.." && pwd)
+packets=${1:-20000000}
+keys=${2:-1000000}
+room=${ROOM:-/tmp/marple-parts}
+MARPLE=${MARPLE:-$top/marple}
+PYTHONPATH="$top/python"
+export MARPLE PYTHONPATH
+mkdir -p "$room"
+rm -rf "$room/traces" "$room/work"
+mkdir "$room/traces"
+cc -O2 -o "$room/plain" "$here/plain.c"
+files=$(((packets + 999999) / 1000000))
+"$room/plain" make "$packets" "$keys" "$files" "$room/traces"
+"$room/plain" count "$room"/traces/*.csv >"$room/expected"
+# shellcheck disable=SC2086 # the numbers of workers are words
+"${PYTHON:-/usr/bin/python3}" "$here/measure.py" "$here/keys.query" "$room" ${WORKERS:-1 2 4} >"$room/figures"
+cat "$room/figures"
+[ "$packets" -ne 20000000 ] || cp "$room/figures" "$here/README.md"
+rm -rf "$room"

@@ -1,0 +1,62 @@
+"""What can't be run in parts, by name."""
+
+from marple.faults import MarpleError
+
+
+class PartsRefused(MarpleError):
+    """The query, or the work, can't be done in parts."""
+
+    status = 4
+
+    def __str__(self) -> str:
+        return f"{type(self).__name__}: {super().__str__()}"
+
+
+class FieldNeeded(PartsRefused):
+    """No field of the packet is a key of every groupby that the printed tables are made from."""
+
+
+class FinalGroupby(PartsRefused):
+    """A final groups rows of several parts."""
+
+
+class FinalOfTop(PartsRefused):
+    """A final is made from the best rows of the whole, which no part knows."""
+
+
+class FieldRefused(PartsRefused):
+    """A field that was asked for doesn't keep the keys."""
+
+
+class OptionRefused(PartsRefused):
+    """An option that has no meaning over parts."""
+
+    status = 2
+
+
+class QueryUnread(PartsRefused):
+    """The query is of a form that the choice doesn't know."""
+
+
+class HeadersDiffer(PartsRefused):
+    """Two traces name other columns."""
+
+    status = 5
+
+
+class KeyTooLarge(PartsRefused):
+    """One key alone has more than one run takes."""
+
+    status = 5
+
+
+class RecordTooLong(PartsRefused):
+    """One record alone has more bytes than one run takes."""
+
+    status = 5
+
+
+class WorkTaken(PartsRefused):
+    """The folder for the work has another one."""
+
+    status = 2

@@ -1,0 +1,245 @@
+"""Which part a record goes to, and the writing of a piece of a trace record by record into parts."""
+
+import json
+import os
+import uuid
+from collections.abc import Callable, Iterator, Sequence
+from contextlib import contextmanager
+from dataclasses import dataclass, field
+from functools import cached_property
+from itertools import accumulate
+from typing import IO
+
+from marple.parts.records import Span, number_of, plain_blocks, plain_records, quoted_records
+
+try:
+    import numpy
+except ImportError:  # the standard library alone does as well, more slowly where there are many keys
+    numpy = None
+
+WORD = 2**64 - 1
+FACTORS = (0xBF58476D1CE4E5B9, 0x94D049BB133111EB)
+STEP = 0x9E3779B97F4A7C15
+ROUND = 32 << 20  # how many bytes are held until they are written part by part
+REMEMBERED = 1 << 18  # how many texts of keys are remembered with their parts
+
+
+@dataclass
+class Splitting:
+    """A function from records to parts: by the numbers of these fields, which stand in these columns.
+
+    level: how often the records were split before, since each level has a function of its own. A record in which a field is
+    missing or is no number goes to part 0, where the program finds the fault.
+    """
+
+    fields: tuple[str, ...]
+    columns: tuple[int, ...]
+    parts: int
+    level: int
+    known: dict[tuple[bytes, ...], int] = field(default_factory=dict, repr=False)  # the parts of texts that were met
+
+    def part_of(self, words: Sequence[int | None]) -> int:
+        """The part of these numbers."""
+        mixed = self.level * STEP & WORD
+        for word in words:
+            if word is None:
+                return 0
+            mixed ^= word
+            mixed = (mixed ^ mixed >> 30) * FACTORS[0] & WORD
+            mixed = (mixed ^ mixed >> 27) * FACTORS[1] & WORD
+            mixed ^= mixed >> 31
+        return (mixed >> 32) % self.parts
+
+    def key_of(self, cells: Sequence[bytes]) -> tuple[int | None, ...]:
+        """The numbers of the fields in a record's cells."""
+        return tuple(
+            number_of(cells[column], name) if column < len(cells) else None
+            for name, column in zip(self.fields, self.columns, strict=True)
+        )
+
+    def parts_of(self, block: bytes, records: list[bytes]) -> Sequence[int]:
+        """The part of each record of a block without quotes."""
+        if numpy is not None and b"\r" not in block:
+            text = numpy.frombuffer(block, dtype=numpy.uint8)
+            ends = numpy.flatnonzero(text == 10)
+            if len(ends) == len(records):  # so there are no empty lines
+                return _parts_of_columns(self, text, ends, records)
+        return _parts_of_texts(self, records)
+
+
+def _parts_of_texts(splitting: Splitting, records: list[bytes]) -> list[int]:
+    """The parts of records, one after another."""
+    columns, last, known = splitting.columns, max(splitting.columns), splitting.known
+    parts = []
+    for record in records:
+        cells = record.split(b",", last + 1)
+        if len(cells) <= last + 1:
+            cells[-1] = cells[-1].rstrip(b"\r\n")
+        key = tuple(cells[column] if column < len(cells) else b"" for column in columns)
+        part = known.get(key)
+        if part is None:
+            if len(known) == REMEMBERED:
+                known.clear()
+            part = known[key] = splitting.part_of(splitting.key_of(cells))
+        parts.append(part)
+    return parts
+
+
+def _parts_of_columns(splitting: Splitting, text, ends, records: list[bytes]) -> list[int]:
+    """The parts of the records of a text, which have these ends, column by column. What isn't 1 to 19 digits is read record by
+    record.
+    """
+    starts = numpy.concatenate(([0], ends[:-1] + 1))
+    commas = numpy.flatnonzero(text == 44)
+    first = numpy.searchsorted(commas, starts)
+    commas = numpy.concatenate((commas, numpy.full(max(splitting.columns) + 1, len(text))))
+    mixed = numpy.full(len(ends), splitting.level * STEP & WORD, dtype=numpy.uint64)
+    odd = numpy.zeros(len(ends), dtype=bool)
+    for column in splitting.columns:
+        begin = starts if column == 0 else commas[first + column - 1] + 1
+        words, strange = _numbers(text, begin, numpy.minimum(commas[first + column], ends))
+        odd |= strange
+        mixed ^= words
+        mixed = (mixed ^ mixed >> numpy.uint64(30)) * numpy.uint64(FACTORS[0])
+        mixed = (mixed ^ mixed >> numpy.uint64(27)) * numpy.uint64(FACTORS[1])
+        mixed ^= mixed >> numpy.uint64(31)
+    parts = ((mixed >> numpy.uint64(32)) % numpy.uint64(splitting.parts)).tolist()
+    strange = numpy.flatnonzero(odd).tolist()
+    for at, part in zip(strange, _parts_of_texts(splitting, [records[at] for at in strange]), strict=True):
+        parts[at] = part
+    return parts
+
+
+def _numbers(text, begin, end):
+    """The numbers between these places of a text, and where there is something else than 1 to 19 digits."""
+    size = end - begin
+    odd = (size < 1) | (size > 19)
+    words = numpy.zeros(len(begin), dtype=numpy.uint64)
+    for place in range(int(numpy.where(odd, 0, size).max(initial=0))):
+        live = ~odd & (place < size)
+        digits = text[numpy.where(live, begin + place, 0)] - numpy.uint8(48)
+        odd |= live & (digits > 9)
+        words = numpy.where(live, words * numpy.uint64(10) + digits, words)
+    return words, odd
+
+
+def with_parts(splitting: Splitting, span: Span) -> Iterator[tuple[list[bytes], Sequence[int]]]:
+    """The records of a span with their parts, a block after the other."""
+    if not span.quoted:
+        for block in plain_blocks(span):
+            records = plain_records(block)
+            yield records, splitting.parts_of(block, records)
+        return
+    records, parts = [], []
+    for text, fields in quoted_records(span):
+        records.append(text)
+        parts.append(splitting.part_of(splitting.key_of([field.encode("latin-1") for field in fields])))
+        if len(records) == 1 << 14:
+            yield records, parts
+            records, parts = [], []
+    yield records, parts
+
+
+@dataclass(frozen=True)
+class Round:
+    """What was written at one time: where it begins in the file, and the bytes and records of each part, part after part."""
+
+    start: int
+    bytes: tuple[int, ...]
+    records: tuple[int, ...]
+
+    @cached_property
+    def places(self) -> list[int]:
+        """Where the records of each part begin in the file, and where the last ones end."""
+        return list(accumulate(self.bytes, initial=self.start))
+
+
+@dataclass(frozen=True)
+class Piece:
+    """A piece of a trace, split: its file, which has rounds, and whether there may be quotes in it."""
+
+    path: str
+    quoted: bool
+    rounds: tuple[Round, ...]
+
+    def spans(self, part: int) -> list[Span]:
+        """Where the records of a part stand, in order."""
+        return [
+            Span(self.path, one.places[part], one.places[part + 1], self.quoted) for one in self.rounds if one.bytes[part]
+        ]
+
+    def records(self, part: int) -> int:
+        """How many records the part has in this piece."""
+        return sum(one.records[part] for one in self.rounds)
+
+    @property
+    def total(self) -> int:
+        """How many records the piece has."""
+        return sum(sum(one.records) for one in self.rounds)
+
+
+def write_piece(splitting: Splitting, spans: Sequence[Span], path: str) -> Piece:
+    """Writes the records of these spans into one file, in rounds, each part after part in the order of the records."""
+    rounds: list[Round] = []
+    held = [[[], 0] for _ in range(splitting.parts)]
+    size = start = 0
+    with written(path) as file:
+        for span in spans:
+            for records, parts in with_parts(splitting, span):
+                for chunk, count, part in _chunks(splitting.parts, records, parts):
+                    held[part][0].append(chunk)
+                    held[part][1] += count
+                    size += len(chunk)
+                if size >= ROUND:
+                    rounds.append(_write_round(file, start, held))
+                    start, size = start + size, 0
+        rounds.append(_write_round(file, start, held))
+    return Piece(path, any(span.quoted for span in spans), tuple(rounds))
+
+
+def _chunks(count: int, records: list[bytes], parts: Sequence[int]) -> Iterator[tuple[bytes, int, int]]:
+    """The records of a block, put together by their parts: the bytes, how many records, and the part."""
+    lists: list[list[bytes]] = [[] for _ in range(count)]
+    appends = [own.append for own in lists]
+    for record, part in zip(records, parts, strict=True):
+        appends[part](record)
+    for part, own in enumerate(lists):
+        if own:
+            yield b"".join(own), len(own), part
+
+
+def _write_round(file, start: int, held: list) -> Round:
+    sizes = []
+    for chunks, _ in held:
+        file.writelines(chunks)
+        sizes.append(sum(map(len, chunks)))
+    counts = tuple(count for _, count in held)
+    for one in held:
+        one[0], one[1] = [], 0
+    return Round(start, tuple(sizes), counts)
+
+
+@contextmanager
+def written(path: str, mode: str = "wb") -> Iterator[IO]:
+    """A file that is written under a name of its own, and has its name when all of it is there."""
+    own = f"{path}.{uuid.uuid4().hex}"
+    try:
+        with open(own, mode) as file:
+            yield file
+        os.replace(own, path)
+    except BaseException:
+        os.unlink(own)
+        raise
+
+
+def keep(path: str, make: Callable[[], dict], is_done: Callable[[dict], bool] = lambda made: True) -> dict:
+    """What the JSON file has; where there is none yet, what is made now, and kept there if it is done."""
+    try:
+        with open(path) as file:
+            return json.load(file)
+    except FileNotFoundError:
+        made = make()
+    if is_done(made):
+        with written(path, "w") as file:
+            json.dump(made, file)
+    return made

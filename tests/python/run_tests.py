@@ -1,0 +1,23 @@
+"""Runs the tests of a folder, and says how many passed and failed. A test that can't run here has failed."""
+
+import sys
+import unittest
+
+
+def main() -> int:
+    folder, *names = sys.argv[1:]
+    sys.path.insert(0, folder)
+    loader = unittest.TestLoader()
+    suite = loader.loadTestsFromNames(names) if names else loader.discover(folder, top_level_dir=folder)
+    result = unittest.TextTestRunner(verbosity=0).run(suite)
+    failed = len(result.failures) + len(result.errors) + len(result.unexpectedSuccesses) + len(result.skipped)
+    passed = result.testsRun - failed
+    for test, reason in result.skipped:
+        print(f"{test} could not run: {reason}")
+    sys.stderr.flush()
+    print(f"{passed} passed, {failed} failed")
+    return 0 if failed == 0 and passed > 0 else 1
+
+
+if __name__ == "__main__":
+    sys.exit(main())

@@ -1,0 +1,159 @@
+"""How each query may run in parts, or why it can't."""
+
+import unittest
+
+from support import TOP, choices
+
+from marple import QueryRefused
+from marple.parts import FieldNeeded, FieldRefused, FinalGroupby, FinalOfTop, PartsRefused, choose
+from marple.plans import Unread, only_adds
+from marple.queries import UnreadQuery, read_query
+
+COUNT = b"def count([c],[]) { c = c + 1; }\ndef most([m],[qsize]) { m = max(m, qsize); }\n"
+
+
+def shown(query: bytes) -> str:
+    """The choice as the list of choices writes it."""
+    try:
+        chosen = choose(query, None)
+    except PartsRefused as refused:
+        return type(refused).__name__
+    return ",".join(chosen.by) or "sums"
+
+
+class EveryQuery(unittest.TestCase):
+    """Each query of the cases and the cookbook that the program accepts. The list `choices` was made by a reader of queries of
+    its own, which knows types and columns.
+    """
+
+    def test_is_chosen_for(self):
+        for name, expected in choices().items():
+            with self.subTest(query=name):
+                self.assertEqual(shown((TOP / name).read_bytes()), expected)
+
+
+class Choices(unittest.TestCase):
+    def check(self, items: bytes, expected: str):
+        self.assertEqual(shown(COUNT + items), expected, items)
+
+    def test_are_of_printed_tables_alone(self):
+        self.check(b"r = groupby(pktstream, [srcip, qid], count); s = groupby(pktstream, [dstip, qid], most); print r;", "qid,srcip")
+        self.check(b"r = groupby(pktstream, [srcip], count); s = groupby(pktstream, [dstip], most); print r; print s;", "FieldNeeded")
+        self.check(b"r = groupby(pktstream, [srcip], count); s = groupby(pktstream, [dstip], count); print r; print s;", "sums")
+
+    def test_follow_finals(self):
+        two = b"r = groupby(pktstream, [srcip, qid], most); s = groupby(pktstream, [qid, srcip], count);"
+        self.check(two + b"final t = filter(r, m > 3); final u = top(t, m, 2); print u;", "qid,srcip")
+        one = b"r = groupby(pktstream, [srcip], most); s = groupby(pktstream, [srcip], count);"
+        self.check(one + b"final t = join(r, s); final u = map(t, [d = m - c]); print u;", "srcip")
+        self.check(one + b"final t = top(r, m, 2); final u = map(t, [d = m + 1]); print t;", "srcip")
+        self.check(one + b"final t = top(r, m, 2); final u = map(t, [d = m + 1]); print u;", "FinalOfTop")
+        self.check(one + b"final t = top(r, m, 2); final u = top(t, m, 1); print u;", "FinalOfTop")
+        self.check(one + b"final t = groupby(r, [srcip], count); print t;", "FinalGroupby")
+        self.check(one + b"final t = groupby(r, [m], count); final u = filter(t, c > 1); print u;", "FinalGroupby")
+
+    def test_of_sums_print_no_final(self):
+        self.check(b"m = map(pktstream, [all = 0]); r = groupby(m, [all], count); print r;", "sums")
+        self.check(b"m = map(pktstream, [all = 0]); r = groupby(m, [all], count); final t = top(r, c, 1); print t;", "FieldNeeded")
+        self.check(b"m = map(pktstream, [all = 0]); r = groupby(m, [all], most); print r;", "FieldNeeded")
+
+    def test_go_by_names_of_fields(self):
+        self.check(b"m = map(pktstream, [from = srcip]); r = groupby(m, [from], most); print r;", "FieldNeeded")
+        chain = b"b = groupby(pktstream, [srcip, qid], pass); m = map(b, [dstip = srcip]); r = groupby(m, [dstip, qid], count);"
+        fold = b"def pass([],[]) { emit(); }\n"
+        self.check(fold + chain + b"print r;", "qid")
+        self.check(fold + chain + b"print b;", "qid,srcip")
+
+    def test_pass_over_comments(self):
+        self.check(b"# print s; final t = groupby(\nr = groupby(pktstream, [ #dstip\nsrcip], most);# }\nprint r;# 5tuple", "srcip")
+
+    def test_of_the_longest_query(self):
+        """The text by which the program is asked for the keys is no longer than the query."""
+        items = b"r=groupby(pktstream,[srcip],most);s=groupby(pktstream,[srcip],count);final j=join(r,s);print j;#"
+        self.check(items + b"x" * (65536 - len(COUNT + items)), "srcip")
+        items = items.replace(b"final j=join(r,s);print j;", b"print r;print s;")
+        self.check(items + b"x" * (65536 - len(COUNT + items)), "srcip")
+
+    def test_of_a_query_that_is_none(self):
+        with self.assertRaises(QueryRefused) as refused:
+            choose(b"print z;", None)
+        self.assertEqual((refused.exception.kind, refused.exception.offset), ("UnknownName", 6))
+
+
+class FieldsAskedFor(unittest.TestCase):
+    QUERY = COUNT + b"r = groupby(pktstream, [srcip, qid], count); print r;"
+
+    def test_are_taken(self):
+        self.assertEqual(choose(self.QUERY, ("qid",)).by, ("qid",))
+        self.assertEqual(choose(self.QUERY, ("srcip", "qid")).by, ("srcip", "qid"))
+
+    def test_have_to_keep_the_keys(self):
+        for by in (("dstip",), ("srcip", "dstip"), ("source",), ("srcip", "srcip"), ()):
+            with self.subTest(by=by), self.assertRaises(FieldRefused):
+                choose(self.QUERY, by)
+
+
+class Refusals(unittest.TestCase):
+    def refused(self, kind: type[PartsRefused], items: bytes) -> str:
+        with self.assertRaises(kind) as refused:
+            choose(COUNT + items, None)
+        return str(refused.exception)
+
+    def test_say_what_would_make_it_possible(self):
+        text = self.refused(
+            FieldNeeded,
+            b"r = groupby(pktstream, [srcip], most); s = groupby(pktstream, [dstip], most); t = groupby(pktstream, [srcip], count);"
+            b" print r; print s; print t;",
+        )
+        self.assertIn("group s by srcip too", text)
+        self.assertIn("make the fold of r, s additive", text)
+        text = self.refused(FieldNeeded, b"m = map(pktstream, [a = 0]); r = groupby(m, [a], count); final t = top(r, c, 1); print t;")
+        self.assertIn("group r by srcip too, or print no final", text)
+
+    def test_name_the_final(self):
+        text = self.refused(FinalGroupby, b"r = groupby(pktstream, [srcip], most); final t = groupby(r, [m], count); print t;")
+        self.assertTrue(text.startswith("FinalGroupby: t groups rows"), text)
+        self.assertIn("print r", text)
+        text = self.refused(FinalOfTop, b"r = groupby(pktstream, [srcip], most); final t = top(r, m, 2); final u = filter(t, m > 1); print u;")
+        self.assertTrue(text.startswith("FinalOfTop: u is made from t"), text)
+
+
+class Bodies(unittest.TestCase):
+    def test_that_only_add(self):
+        expected = {
+            "": True,
+            "set s0 add s0 #1": True,
+            "set s0 sub s0 mul a0 a1": True,
+            "set s1 add s1 not gt a0 #3": True,
+            "if gt a0 #2 { set s0 add s0 #1 } { }": True,
+            "if gt s0 #2 { } { }": True,
+            "if gt s0 #2 { set s0 add s0 #1 } { }": False,
+            "if gt a0 #2 { if gt s1 #0 { } { set s0 add s0 #1 } } { }": False,
+            "set s0 add #1 s0": False,
+            "set s0 add s1 #1": False,
+            "set s0 add s0 s1": False,
+            "set s0 add s0 mul #2 s0": False,
+            "set s0 mul s0 #1": False,
+            "set s0 max s0 a0": False,
+            "set s0 a0": False,
+            "set s0 add s0 #1 set s1 s0": False,
+        }
+        for body, adds in expected.items():
+            self.assertIs(only_adds(tuple(body.split())), adds, body)
+
+    def test_of_another_form_are_refused(self):
+        for body in ("set", "set s0", "set s0 add s0", "set s0 pow s0 #2", "if gt a0 #2 { }", "set s0 #1 }", "loop", "set s0 b1"):
+            with self.subTest(body), self.assertRaises(Unread):
+                only_adds(tuple(body.split()))
+
+
+class AnotherQuery(unittest.TestCase):
+    def test_is_not_read(self):
+        for text in (b"r = sample(pktstream, 3);", b"r = groupby(pktstream, srcip, f);", b"print r;", b"def f([],[]) {", b"$", b"r;",
+                     b"r = groupby(map(pktstream, [a = 1]), [a], f);", b"table r = groupby(pktstream, [a], f);"):  # fmt: skip
+            with self.subTest(text), self.assertRaises(UnreadQuery):
+                read_query(text)
+
+
+if __name__ == "__main__":
+    unittest.main()

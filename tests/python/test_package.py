@@ -1,0 +1,69 @@
+"""The package installs by pip from the checkout, without a network, and answers as it does there."""
+
+import subprocess
+import sys
+import unittest
+import venv
+import zipfile
+from pathlib import Path
+
+from support import TOP, Folder
+
+import marple
+
+VERSION = (TOP / "VERSION").read_text().strip()
+
+
+class Installed(unittest.TestCase):
+    @classmethod
+    def setUpClass(cls):
+        cls.folder = Folder(cls)
+        cls.place = Path(cls.folder.path("venv"))
+        venv.create(cls.place, with_pip=False)
+        cls.python = str(cls.place / "bin" / "python")
+        pip = [sys.executable, "-m", "pip", "--python", cls.python, "install", "--no-index", "--quiet", str(TOP / "python")]
+        done = subprocess.run(pip, capture_output=True, text=True, check=False)
+        cls.text = done.stdout + done.stderr
+        cls.status = done.returncode
+
+    @classmethod
+    def addCleanup(cls, call):
+        cls.addClassCleanup(call)
+
+    def ask(self, text: str) -> str:
+        done = subprocess.run([self.python, "-I", "-c", text], capture_output=True, text=True, check=False)
+        self.assertEqual(done.stderr, "")
+        return done.stdout
+
+    def test_without_a_network(self):
+        self.assertEqual(self.status, 0, self.text)
+
+    def test_has_the_version_of_the_checkout(self):
+        asked = "import marple, importlib.metadata as m; print(marple.__version__, m.version('marple'), m.metadata('marple')"
+        self.assertEqual(self.ask(asked + "['License-Expression'])"), f"{VERSION} {VERSION} Apache-2.0\n")
+        self.assertEqual(marple.__version__, VERSION)
+
+    def test_has_every_module(self):
+        asked = "import marple.parts.__main__, marple.frames; print(marple.parts.PartsRefused.status)"
+        self.assertEqual(self.ask(asked), "4\n")
+
+    def test_leaves_nothing_in_the_checkout(self):
+        kept = [path.name for path in (TOP / "python").iterdir()]
+        self.assertEqual(sorted(name for name in kept if name != "__pycache__"), ["marple", "pyproject.toml", "wheel_backend.py"])
+
+
+class TheWheel(unittest.TestCase):
+    def test_records_each_file(self):
+        folder = Folder(self)
+        build = f"import sys; sys.path.insert(0, {str(TOP / 'python')!r}); import wheel_backend as w; print(w.build_wheel({folder.place.name!r}))"
+        done = subprocess.run([sys.executable, "-B", "-c", build], capture_output=True, text=True, check=True)
+        with zipfile.ZipFile(folder.path(done.stdout.strip())) as wheel:
+            names = wheel.namelist()
+            record = wheel.read(f"marple-{VERSION}.dist-info/RECORD").decode().splitlines()
+        sources = {str(path.relative_to(TOP / "python")) for path in (TOP / "python" / "marple").rglob("*.py")}
+        self.assertLessEqual(sources, set(names))
+        self.assertEqual(sorted(line.split(",")[0] for line in record), sorted(names))
+
+
+if __name__ == "__main__":
+    unittest.main()

@@ -1,0 +1,145 @@
+"""The tables of parts, joined, are those of one run over the whole trace."""
+
+import unittest
+from collections import Counter
+from unittest import mock
+
+from support import TOP, Folder, but_for_epochs, choices, generated
+
+import marple
+from marple import Mark, parts
+from marple.parts import job
+
+REFUSED = ("FieldNeeded", "FinalGroupby", "FinalOfTop")
+TRACE = (600, 11)
+SMALL = {"buckets": 2, "ways": 2}  # of 64 flows most leave such a cache and come back
+
+
+def partable() -> list[str]:
+    return [name for name, chosen in choices().items() if chosen not in REFUSED]
+
+
+def epochs_of(table: marple.Table) -> dict[tuple[int, ...], int]:
+    """How many epochs each key has."""
+    at = table.columns.index("epochs")
+    return {row[: len(table.keys)]: row[at] for row in table.rows}
+
+
+def valid_rows(table: marple.Table) -> dict[tuple[int, ...], tuple[int, ...]]:
+    """The rows of the keys that have one epoch."""
+    at = table.columns.index("mark")
+    return {row[: len(table.keys)]: row for row in table.rows if row[at] == Mark.VALID}
+
+
+class JoinedTables(unittest.TestCase):
+    def setUp(self):
+        self.folder = Folder(self)
+        self.whole = self.folder.write("whole.csv", generated(*TRACE))
+
+    def test_are_those_of_the_whole(self):
+        for name in partable():
+            query = TOP / name
+            expected = marple.run(query, self.whole)
+            for number in (2, 3, 7):
+                traces = self.folder.traces(generated(*TRACE), number % 3 + 1)
+                with self.subTest(query=name, parts=number):
+                    size = len(generated(*TRACE)) // number + 1
+                    answer = parts.run(query, traces, parts=number, piece=size)
+                    self.assertEqual(answer.by, tuple(choices()[name].split(",")) if choices()[name] != "sums" else ())
+                    self.check_same(answer, expected)
+                    self.assertTrue(answer.parts >= number if answer.by else answer.parts > 1)
+
+    def check_same(self, answer: marple.Answer, expected: marple.Answer):
+        self.assertEqual(list(answer), list(expected))
+        for name, table in expected.items():
+            own = answer[name]
+            shape = (table.kind, table.depth, table.keys, table.columns)
+            self.assertEqual((own.kind, own.depth, own.keys, own.columns), shape)
+            self.assertEqual(but_for_epochs(own), but_for_epochs(table), name)
+            if table.kind != "final":
+                self.assertEqual(own.epochs, sum(epochs_of(own).values()))
+
+    def test_of_small_caches(self):
+        """Where keys leave the caches, exact rows are still those of the whole, and so is each row that is valid there."""
+        others = 0
+        for name in partable():
+            query = TOP / name
+            whole, apart = marple.run(query, self.whole, **SMALL), marple.run(query, self.whole)
+            answer = parts.run(query, [self.whole], parts=3, piece=20_000, **SMALL)
+            for table in (one for one in whole.values() if one.kind != "final"):
+                with self.subTest(query=name, table=table.name):
+                    own = answer[table.name]
+                    if table.kind == "linear":
+                        self.assertEqual(but_for_epochs(own), but_for_epochs(table))
+                        continue
+                    others += 1
+                    self.assertEqual(epochs_of(own).keys(), epochs_of(table).keys())
+                    self.assertLessEqual(valid_rows(table).items(), valid_rows(own).items())
+                    self.assertLessEqual(valid_rows(own).items(), valid_rows(apart[table.name]).items())
+                    self.assertTrue(all(own_epochs <= epochs_of(table)[key] for key, own_epochs in epochs_of(own).items()))
+        self.assertGreater(others, 10)
+
+    def test_of_fields_asked_for(self):
+        query = TOP / "examples" / "cookbook" / "flows.query"
+        expected = marple.run(query, self.whole)
+        for by in (("dstip",), ("proto", "srcport")):
+            answer = parts.run(query, [self.whole], by=by, parts=3)
+            self.assertEqual(answer.by, by)
+            self.check_same(answer, expected)
+
+    def test_over_no_packets(self):
+        header = generated(*TRACE).split(b"\n")[0]
+        for name in ("examples/cookbook/flows.query", "examples/cookbook/total.query", "examples/cookbook/heavy.query"):
+            empty = self.folder.write("empty.csv", header)
+            self.assertEqual(parts.run(TOP / name, [empty, empty], parts=2).text, marple.run(TOP / name, empty).text)
+
+    def test_of_starts_other_than_0(self):
+        query = (
+            "def sums([n = 5, m = 18446744073709551615, d = 1],[pkt_len]) { n = n + 1; m = m - pkt_len; }\n"
+            "m = map(pktstream, [parity = uid & 1]); r = groupby(m, [parity], sums); print r;"
+        )
+        answer = parts.run(query, [self.whole], piece=9_000)
+        self.assertEqual(answer.by, ())
+        self.check_same(answer, marple.run(query, self.whole))
+
+    def test_of_several_splits(self):
+        """Parts that come out too large are split again."""
+        query = TOP / "examples" / "count.query"
+        with mock.patch.multiple(job, PACKETS=40, ROOM=2, AGAIN=5):
+            lines: list[str] = []
+            answer = parts.run(query, [self.whole], piece=20_000, report=lines.append)
+        self.check_same(answer, marple.run(query, self.whole))
+        self.assertTrue(any("splitting it again" in line for line in lines), lines)
+        self.assertGreater(answer.parts, 15)
+
+    def test_of_one_key_that_is_too_large(self):
+        records = generated(*TRACE).splitlines()[1:]
+        address, most = Counter(line.split(b",")[3] for line in records).most_common(1)[0]
+        with mock.patch.multiple(job, PACKETS=most - 1, AGAIN=5), self.assertRaises(parts.KeyTooLarge) as refused:
+            parts.run(TOP / "examples" / "count.query", [self.whole], piece=20_000)
+        self.assertIn(f"srcip {address.decode()} has {most} packets", str(refused.exception))
+        with mock.patch.multiple(job, BYTES=400), self.assertRaises(parts.KeyTooLarge):
+            parts.run(TOP / "examples" / "count.query", [self.whole], piece=20_000)
+
+
+class PacketsInOrder(unittest.TestCase):
+    def test_of_a_key_over_files_and_pieces(self):
+        """The fold keeps the last eight packets of a key, so their order shows."""
+        folder = Folder(self)
+        fold = (
+            "def last([a, b, c, d],[uid]) { d = c; c = b; b = a; a = uid; }\n"
+            "def digest([h],[uid]) { h = h * 31 + uid; }\n"
+            "r = groupby(pktstream, [srcip], last); s = groupby(pktstream, [srcip, dstip], digest); print r; print s;"
+        )
+        trace = generated(*TRACE)
+        traces = folder.traces(trace, 4)
+        answer = parts.run(fold, traces, parts=5, piece=4_000)
+        expected = marple.run(fold, trace)
+        for name in ("r", "s"):
+            self.assertEqual(but_for_epochs(answer[name]), but_for_epochs(expected[name]))
+        backwards = parts.run(fold, traces[::-1], parts=5, piece=4_000)
+        self.assertNotEqual(backwards["s"].column("h"), expected["s"].column("h"))
+
+
+if __name__ == "__main__":
+    unittest.main()
