@@ -9,23 +9,25 @@ import subprocess
 import sys
 import tempfile
 import time
-from collections.abc import Iterator
+from collections.abc import Iterable, Iterator
 from functools import lru_cache
 from itertools import islice
 from pathlib import Path
 from socket import inet_aton
 from types import TracebackType
+from typing import BinaryIO
 
 from marple_captures import CaptureError
 from marple_captures.records import SHORT_LAYOUT, TCP, UDP, Spool
 
 FIELDS = ("frame.time_epoch", "ip.src", "ip.dst", "ip.proto", "ip.hdr_len", "ip.len", "ip.id", "ip.frag_offset", "data.data")
+TCP_SIZES = [4 * int(chr(digit), 16) if chr(digit) in "0123456789abcdef" else 0 for digit in range(256)]  # of a header's length
 TURN = 512  # lines that are read of one capture before the next one has its turn
 
 
 def command(capture: str) -> list[str]:
-    """The words that make tshark write the packet's number and FIELDS, separated by tabs, for each packet of a capture."""
-    columns = ['"number","%m"'] + [f'"{field}","%Cus:{field}:1:U"' for field in FIELDS]
+    """The words that make tshark write FIELDS, separated by tabs, for each packet of a capture."""
+    columns = [f'"{field}","%Cus:{field}:1:U"' for field in FIELDS]
     return ["tshark", "-r", capture, "-n", "-T", "tabs", "-o", "gui.column.format:" + ",".join(columns),
             "-o", "ip.defragment:FALSE", "--disable-protocol", "tcp", "--disable-protocol", "udp"]  # fmt: skip
 
@@ -100,24 +102,29 @@ def number_of(data: bytes, start: int, digits: int) -> int:
 def transport(protocol: int, data: bytes) -> tuple[int, int]:
     """Ports and sequence number in one word, and the bytes of the transport header."""
     if protocol == TCP:
-        if len(data) > 26:
-            return int(data[:16], 16), 4 * int(data[24:25], 16)
         return number_of(data, 0, 8) << 32 | number_of(data, 8, 8), 4 * number_of(data, 24, 1)
     return (number_of(data, 0, 8) << 32, 8) if protocol == UDP else (0, 0)
 
 
-def record_of(line: bytes) -> tuple[int, bytes]:
-    """The time of a line's packet, and its record: empty where it has no IPv4 header."""
+def records_of(lines: Iterable[bytes], number: int) -> Iterator[tuple[int, bytes]]:
+    """The time of each line's packet, and its record, empty where it has no IPv4 header; `number` is that of the first packet."""
+    line = b""
     try:
-        number, epoch, source, target, protocol_text, header_text, length, identification, offset_text, data = line.split(b"\t")
-        moment = int(epoch[:-10] + epoch[-9:]) if epoch[-10:-9] == b"." else nanoseconds(epoch)
-        if not source:
-            return moment, b""
-        protocol, offset, header = head(protocol_text, offset_text, header_text)
-        # A fragment after the first has no ports.
-        word, size = transport(protocol, data) if offset == 0 else (0, 0)
-        return moment, SHORT_LAYOUT.pack(address(source), address(target), word, int(identification, 16), protocol, offset,
-                                         int(length), header + size, int(number), moment)  # fmt: skip
+        for number, line in enumerate(lines, number):
+            epoch, source, target, protocol_text, header_text, length, identification, offset_text, data = line.split(b"\t")
+            moment = int(epoch[:-10] + epoch[-9:]) if epoch[-10:-9] == b"." else nanoseconds(epoch)
+            if not source:
+                yield moment, b""
+                continue
+            protocol, header, offset = head(protocol_text, header_text, offset_text)
+            if offset:  # a fragment after the first has no ports
+                word = size = 0
+            elif protocol == TCP and len(data) > 26:
+                word, size = int(data[:16], 16), TCP_SIZES[data[24]]
+            else:
+                word, size = transport(protocol, data)
+            yield moment, SHORT_LAYOUT.pack(address(source), address(target), word, int(identification, 16), protocol, offset,
+                                            int(length), header + size, number, moment)  # fmt: skip
     except (ValueError, OSError) as error:
         raise CaptureError(f"tshark wrote a line that isn't understood: {line.decode(errors='replace').strip()}") from error
 
@@ -144,25 +151,19 @@ class Progress:
             print("\r\033[K", end="", file=sys.stderr, flush=True)
 
 
-def fill(spool: Spool, lines: Iterator[bytes], file) -> bool:
+def fill(spool: Spool, lines: Iterable[bytes], file: BinaryIO) -> bool:
     """Writes the records of some lines; whether there were any."""
-    found = False
-    for line in lines:
-        found = True
-        moment, record = record_of(line)
-        if spool.first is None:
-            spool.first = moment
-        spool.last = moment
-        if not record:
-            spool.foreign += 1
-            continue
-        file.write(record)
-        spool.packets += 1
-        addresses = record[:8]
-        length = int.from_bytes(record[21:25])
-        if length > spool.longest.get(addresses, 0):
-            spool.longest[addresses] = length
-    return found
+    found = list(records_of(lines, spool.packets + spool.foreign + 1))
+    if not found:
+        return False
+    if spool.first is None:
+        spool.first = found[0][0]
+    spool.last = found[-1][0]
+    records = [record for _, record in found if record]
+    file.write(b"".join(records))
+    spool.packets += len(records)
+    spool.foreign += len(found) - len(records)
+    return True
 
 
 def read_side_by_side(name: str, captures: list[str], paths: list[Path]) -> list[Spool]:
@@ -184,7 +185,7 @@ def read_side_by_side(name: str, captures: list[str], paths: list[Path]) -> list
     return spools
 
 
-def take_turn(spool: Spool, lines: Iterator[bytes], file) -> bool:
+def take_turn(spool: Spool, lines: Iterator[bytes], file: BinaryIO) -> bool:
     """Reads some lines of one capture; whether it may have more."""
     if fill(spool, islice(lines, TURN), file):
         return True
