@@ -55,6 +55,14 @@ def other_protocols() -> Case:
     return world.case("other-protocols", messages=[world.counts(), "25 packets without IPv4 were passed over"])
 
 
+def no_link() -> Case:
+    """A tunnel's device, whose packets have no link header: tshark has to say what they are."""
+    world, _ = busy(16, 60)
+    for frame in world.before + world.after:
+        frame.data, frame.length = frame.data[14:], frame.length - 14
+    return world.case("no-link", messages=[world.counts()], checked=False, dissected=True, link=101)
+
+
 def fragments() -> Case:
     """Datagrams in three fragments beside TCP."""
     world = World(5)
@@ -235,6 +243,6 @@ def late_before() -> Case:
 
 def trace_cases() -> Iterator[Case]:
     """Cases that have a trace without an option."""
-    for make in (ordinary, one_sided, tagged, other_protocols, fragments, twice, wrapped, nothing_left, offload, datagrams,
+    for make in (ordinary, one_sided, tagged, other_protocols, no_link, fragments, twice, wrapped, nothing_left, offload, datagrams,
                  both_ends, joined_after, late_after, early_end, late_before):  # fmt: skip
         yield make()

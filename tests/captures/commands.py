@@ -159,9 +159,9 @@ def peak(room: Path, waiting: int) -> int:
     """The most memory in bytes that the script needs while `waiting` packets wait for their match."""
     folder = room / f"waiting-{waiting}"
     folder.mkdir()
-    line = "{}\t18000000{:02}.{:09}\t10.0.1.1\t10.0.2.2\t6\t20\t1500\t0x{:04x}\t0\t9c411389{:08x}000000018010\n"
+    line = "0x0800\t18000000{:02}.{:09}\t450005dc{:04x}0000400600000a0001010a0002029c411389{:08x}000000018010\n"
     with gzip.open(folder / "before.gz", "wt", compresslevel=1) as file:
-        file.writelines(line.format(n + 1, n // 10**6, n % 10**6 * 1000, n % 65536, n * 1448) for n in range(waiting))
+        file.writelines(line.format(n // 10**6, n % 10**6 * 1000, n % 65536, n * 1448) for n in range(waiting))
     gzip.open(folder / "after.gz", "wt").close()
     (folder / "before.pcap").touch()
     (folder / "after.pcap").touch()

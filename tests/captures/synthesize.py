@@ -98,11 +98,13 @@ class Case:
     longest: int = 1500
     payload: int = 1448
     checked: bool = True  # whether the checker knows enough
+    dissected: bool = False  # whether tshark has to dissect IP
+    link: int = 1  # the kind of the link: Ethernet
 
     def write(self, folder: Path) -> None:
         """Writes both captures."""
         for name, frames in (("before", self.before), ("after", self.after)):
-            write_capture(folder / f"{name}.pcap.gz", frames)
+            write_capture(folder / f"{name}.pcap.gz", frames, self.link)
 
     def trace(self) -> str:
         """The trace that is right for these captures."""
@@ -124,10 +126,10 @@ def by_time(frames: list[Frame]) -> list[Frame]:
     return sorted(frames, key=lambda frame: frame.time)
 
 
-def write_capture(path: Path, frames: list[Frame]) -> None:
+def write_capture(path: Path, frames: list[Frame], link: int) -> None:
     """Writes a compressed capture with times in nanoseconds."""
     with gzip.GzipFile(path, "wb", mtime=0) as file:
-        file.write(struct.pack("<IHHiIII", 0xA1B23C4D, 2, 4, 0, 0, SNAPSHOT, 1))
+        file.write(struct.pack("<IHHiIII", 0xA1B23C4D, 2, 4, 0, 0, SNAPSHOT, link))
         for frame in by_time(frames):
             seconds, part = divmod(frame.time, 10**9)
             file.write(struct.pack("<IIII", seconds, part, len(frame.data), frame.length) + frame.data)

@@ -5,15 +5,14 @@ from dataclasses import dataclass, field
 from ipaddress import IPv4Address, IPv4Network
 from math import log
 
-from marple_captures.matching import Matches, Pair
-from marple_captures.records import Packet, Spool
+from marple_captures.matching import NEVER, Matches, Pair
+from marple_captures.records import Fields, Spool
 
 MOST_STRANGE = 0.02  # of the packets after the queue may match none before it
 MOST_EARLY = 0.01  # of the matched packets may leave before they came
 CHANCE = 1e-6  # a row of losses less likely than this is no accident
 SMALL = 100_000  # nanoseconds: clocks of two machines rarely agree as well as this
 TOLERANCE = 1_000_000  # nanoseconds by which least latencies differ in any case
-NEVER = 2**63
 TEN = 10  # the other direction may have this many times the bytes of the queue's
 
 
@@ -50,11 +49,11 @@ class Findings:
         """Whether all packets before the queue are in the trace."""
         return not self.left_out and not self.begin and self.end == NEVER
 
-    def takes(self, slot: int, packet: Packet) -> bool:
+    def takes(self, slot: int, fields: Fields) -> bool:
         """Whether the packet in this place is in the trace."""
-        if (slot < self.first and packet.time < self.begin) or (slot > self.last and packet.time > self.end):
+        if (slot < self.first and fields[-1] < self.begin) or (slot > self.last and fields[-1] > self.end):
             return False
-        return packet.source + packet.target not in self.left_out
+        return fields[0] + fields[1] not in self.left_out
 
     @property
     def strange_share(self) -> float:

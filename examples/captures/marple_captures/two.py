@@ -11,7 +11,7 @@ from marple_captures import CaptureError, cutting
 from marple_captures.cutting import Cut, SizeFor
 from marple_captures.findings import Findings, Options, judge, packets, were
 from marple_captures.matching import Matches, match
-from marple_captures.records import Departures, Packet, Spool
+from marple_captures.records import Departures, Fields, Spool
 from marple_captures.start import add_numbers, start
 from marple_captures.trace import TraceWriter, check_origin, first_second
 from marple_captures.tshark import need_tshark, read_side_by_side
@@ -59,13 +59,13 @@ class Attempt:
             self.matches: Matches = match(cut.before, cut.after, self.departures, options.shift)
         self.findings: Findings = judge(self.matches, cut.before, cut.after, options)
 
-    def taken(self) -> Iterator[tuple[Packet, int]]:
+    def taken(self) -> Iterator[tuple[Fields, int]]:
         """The packets of the trace with their departures."""
-        everything = zip(self.cut.before.read(), self.departures.read(), strict=True)
+        everything = zip(self.cut.before.fields(), self.departures.read(), strict=True)
         if self.findings.takes_all:
             return everything
         takes = self.findings.takes
-        return ((packet, left) for slot, (packet, left) in enumerate(everything) if takes(slot, packet))
+        return ((fields, left) for slot, (fields, left) in enumerate(everything) if takes(slot, fields))
 
 
 def ways_to_cut(before: Spool, after: Spool, words: argparse.Namespace) -> Iterator[tuple[SizeFor | None, SizeFor | None]]:
@@ -77,8 +77,7 @@ def ways_to_cut(before: Spool, after: Spool, words: argparse.Namespace) -> Itera
         yield size_for, size_for
     else:
         yield cutting.as_the_other_shows(before, after), cutting.as_the_other_shows(after, before)
-        longest = min(max(spool.longest.values(), default=0) for spool in (before, after))
-        if longest > cutting.ETHERNET:
+        if min(before.longest, after.longest) > cutting.ETHERNET:
             size_for = cutting.to_ethernet(before, after)
             yield size_for, size_for
 
@@ -129,7 +128,7 @@ def make_trace(name: str, words: argparse.Namespace) -> None:
     with TemporaryDirectory(prefix="marple-") as folder:
         room = Path(folder)
         spools = read_side_by_side(name, [words.before, words.after], [room / "before", room / "after"])
-        origin = first_second(spools[0].read()) if words.origin is None else words.origin
+        origin = first_second(spools[0].fields()) if words.origin is None else words.origin
         attempt = best_attempt(spools, room, words, options)
         for note in notes(attempt, spools[0].foreign):
             print(f"{name}: {note}", file=sys.stderr)
@@ -139,5 +138,5 @@ def make_trace(name: str, words: argparse.Namespace) -> None:
         if refusal:
             print(f"{name}: by force: {refusal}", file=sys.stderr)
         if words.origin is not None:
-            check_origin((packet for packet, _ in attempt.taken()), origin)
+            check_origin((fields for fields, _ in attempt.taken()), origin)
         TraceWriter(sys.stdout, words.switch, words.queue, origin).write(attempt.taken())
