@@ -1,4 +1,4 @@
-//! What `many.query` prints, by hand: no quotes, no check of the number of fields, and two maps from key to state.
+//! What `many.query` prints, handwritten: no quotes, no check of the number of fields, and two maps from key to state.
 use std::cmp::Reverse;
 use std::collections::HashMap;
 

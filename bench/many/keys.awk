@@ -1,4 +1,4 @@
-# A trace of `packets` packets, nearly each with a key of its own: numbers of two generators modulo 2^31-1.
+# A trace of `packets` packets, nearly each with a new key: numbers of two generators modulo 2^31-1.
 BEGIN {
     print "srcip,dstip,srcport,dstport,proto,pkt_len,tin,tout,qsize"
     one = 1

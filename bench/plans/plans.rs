@@ -1,5 +1,5 @@
-// The same work in plain Rust: the lines of a plan's text are read one by one, with the same rules for operations, and the lines of its one
-// group by their words.
+// The same work in plain Rust: the lines of a plan's text are read in sequence, with the same rules for operations,
+// and the lines of its one group by their words.
 
 use std::hint::black_box;
 

@@ -1,4 +1,5 @@
-// count TRACE: packets by srcip, by hand, std only: the whole file in memory, columns found by a scan for ',' and LF, one map from word to count.
+// count TRACE: packets by srcip, handwritten, std only: the whole file in memory, columns found by a scan for ',' and
+// LF, one map from word to count.
 use std::collections::HashMap;
 use std::hash::{BuildHasherDefault, Hasher};
 

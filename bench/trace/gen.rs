@@ -1,4 +1,5 @@
-// gen PACKETS START: the same generator by hand, std only: a queue of departure times for each switch, digits by hand into one buffer.
+// gen PACKETS START: the same generator, handwritten, std only: a queue of departure times for each switch, and digits
+// into one buffer.
 use std::collections::VecDeque;
 use std::io::Write;
 

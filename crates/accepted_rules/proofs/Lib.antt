@@ -4,3 +4,4 @@ pub mod TypingExamples
 pub mod FoldCounts
 pub mod FoldExamples
 pub mod FinalExamples
+pub mod ItemExamples

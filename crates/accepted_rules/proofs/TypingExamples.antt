@@ -1,9 +1,9 @@
 -- The examples of expressions and streams, from the rules.
-use Rattle.std.proofs.Common.{◌≡◌, ℕ, List, [], ◌∷◌, Option, Some, None, Ok, Err, refl, sym, ap, ◌∙◌, arith}
+use Rattle.std.proofs.Common.{◌≡◌, ℕ, List, [], ◌∷◌, Option, Some, None, Ok, Err, false, refl, sym, ap, ◌∙◌, arith}
 use Rattle.query_lang.specs.declared.fault.FaultKind.TheVariants.{WrongKind}
 use Rattle.query_lang.specs.declared.fault.QueryFault.{QueryFault}
 use Rattle.query_lang.specs.declared.fold.Op.{Op}
-use Rattle.query_lang.specs.declared.fold.Op.TheVariants.{Add, Div, Shl, Lt, Both, Max}
+use Rattle.query_lang.specs.declared.fold.Op.TheVariants.{Mul, Div, Rem, Add, Sub, Shl, Shr, And, Xor, Or, Eq, Ne, Lt, Le, Gt, Ge, Both, Either, Max, Min, Sadd, Decay}
 use Rattle.query_lang.specs.declared.fold.TypedExpr.{TypedExpr}
 use Rattle.query_lang.specs.declared.fold.TypedExpr.TheVariants as typed
 use Rattle.query_lang.specs.declared.query.Expr.{Expr}
@@ -15,14 +15,15 @@ use Rattle.query_lang.specs.declared.typing.Found.{Found}
 use Rattle.query_lang.specs.declared.typing.Origin.TheVariants as origin
 use Rattle.query_lang.specs.declared.typing.Sort.{Sort}
 use Rattle.query_lang.specs.declared.typing.Sort.TheVariants as sort
-use Rattle.query_lang.specs.Checks.{Checked, and_then, collected, place_of}
+use Rattle.query_lang.specs.Checks.{Checked, and_then, collected, is_among, place_of}
 use Rattle.query_lang.specs.TypedExprs.{of_two, call_of, negated, expr_checked}
 use Rattle.query_rules.specs.Asked.{StreamAsks}
 use Rattle.query_rules.specs.Asked as asks
 use Rattle.query_rules.specs.Context.{IsStream, IsFold}
 use Rattle.query_rules.specs.Demands.{HasPart, AStream, Demand, Stands, AColumn, New, Typed, Same, Apart, Holds}
 use Rattle.query_rules.specs.Demands as parts
-use Rattle.query_rules.specs.ExprRules.{Kind, Word, Condition, StandsAt, HasKind, of_number, of_name, of_binary, of_call}
+use Rattle.query_rules.specs.ExprRules.{Kind, Word, Condition, StandsAt, HasKind, of_number, of_name, of_not, of_binary, of_call}
+use Rattle.query_rules.specs.FoldRules.{IsNew}
 use Rattle.query_rules.specs.StreamRules as rules
 use Rattle.query_rules.proofs.ExprComplete.{complete, word_complete, number_is, named_is, not_is, binary_is, call_is}
 use Rattle.query_rules.proofs.FaultSteps.{no_fault}
@@ -30,8 +31,8 @@ use Rattle.query_rules.proofs.FoldNames.{among_new}
 use Rattle.query_rules.proofs.ItemsMeet.{stream_meets}
 use Rattle.query_rules.proofs.NameLaws.{stream_sound, stream_complete, fold_name_sound, apart_sound}
 use Rattle.query_rules.proofs.Steps.{then_next, place_stands, stands_place}
-use Rattle.accepted_rules.specs.TypingExamples.{here, called, two_columns, first, second, is_less, ExpressionExamples}
-use Rattle.accepted_rules.specs.TypingExamples.{a_field, by_key, mapped, unmapped, of_one_argument, of_no_argument, items_before, MakesNothing, is_above_0, new_column, grouped_by, StreamExamples}
+use Rattle.accepted_rules.specs.TypingExamples.{here, called, two_columns, first, second, is_less, typed_is_less, with_first, RefusesNumber, RefusesColumn, ExpressionExamples}
+use Rattle.accepted_rules.specs.TypingExamples.{fields, zipped, a_field, by_key, mapped, unmapped, of_one_argument, of_no_argument, items_before, MakesNothing, is_above_0, new_column, grouped_by, StreamExamples}
 
 -- ---- expressions
 
@@ -44,6 +45,13 @@ refuse columns e fault is k t h = let g = complete columns [] k e t h in no_faul
 two : (columns : List ℕ) (op : Op) (x y : Expr) (f g : Found) → expr_checked columns [] x ≡ Ok f → expr_checked columns [] y ≡ Ok g
     → expr_checked columns [] (Binary op here x y) ≡ of_two op f.at f g
 two columns op x y f g p q = binary_is columns [] op here x y ∙ then_next (expr_checked columns [] x) _ f p ∙ then_next (expr_checked columns [] y) _ g q
+
+two_called : (columns : List ℕ) (op : Op) (x y : Expr) (f g : Found) → expr_checked columns [] x ≡ Ok f → expr_checked columns [] y ≡ Ok g
+    → expr_checked columns [] (Call op here (x ∷ y ∷ [])) ≡ of_two op here f g
+two_called columns op x y f g p q =
+    call_is columns [] op here (x ∷ y ∷ [])
+    ∙ ap (λ (r : Checked Found). and_then (collected [] (r ∷ expr_checked columns [] y ∷ [])) (call_of op here)) p
+    ∙ ap (λ (r : Checked Found). and_then (collected (f ∷ []) (r ∷ [])) (call_of op here)) q
 
 first_is : expr_checked two_columns [] first ≡ Ok (found (typed.Slot 0) sort.Word)
 first_is = named_is two_columns [] (called 1)
@@ -66,23 +74,58 @@ second_word = of_name (called 2) 1 (place_stands two_columns 2 1 refl)
 pub no_word : (t : TypedExpr) × HasKind two_columns Word is_less t → ⊥
 no_word h = no_fault h.0 (record { kind = WrongKind; span = here }) (sym (word_complete two_columns [] is_less h.0 h.1) ∙ then_next (expr_checked two_columns [] is_less) _ _ less_is)
 
+is_condition : HasKind two_columns Condition is_less typed_is_less
+is_condition = of_binary Lt here first second (typed.Slot 0) (typed.Slot 1) first_word second_word tt
+
+by_number : (op : Op) (n : ℕ) (fault : QueryFault) → expr_checked two_columns [] (with_first op (Number n here)) ≡ Err fault → RefusesNumber op n
+by_number op n fault is = refuse two_columns (with_first op (Number n here)) fault is
+
+by_column : (op : Op) (fault : QueryFault) → expr_checked two_columns [] (with_first op second) ≡ Err fault → RefusesColumn op
+by_column op fault is = refuse two_columns (with_first op second) fault is
+
 pub expression_examples : ExpressionExamples
 expression_examples = record {
   column = first_word;
   no_column = refuse two_columns (Named (called 3)) _ (named_is two_columns [] (called 3));
-  function = of_call Max here first second (typed.Slot 0) (typed.Slot 1) first_word second_word tt;
+  greater = of_call Max here first second (typed.Slot 0) (typed.Slot 1) first_word second_word tt;
   one_argument = refuse two_columns (Call Max here (first ∷ [])) _ (call_is two_columns [] Max here (first ∷ [])
       ∙ ap (λ (r : Checked Found). and_then (collected [] (r ∷ [])) (call_of Max here)) first_is);
   sum = of_binary Add here first (Number 7 here) (typed.Slot 0) (typed.Number 7) first_word (of_number 7 here) tt;
   sum_of_a_condition = refuse two_columns (Binary Add here is_less second) _ (two two_columns Add is_less second _ _ less_is second_is);
-  comparison = of_binary Lt here first second (typed.Slot 0) (typed.Slot 1) first_word second_word tt;
-  both_of_words = refuse two_columns (Binary Both here first second) _ (two two_columns Both first second _ _ first_is second_is);
+  product = of_binary Mul here first second (typed.Slot 0) (typed.Slot 1) first_word second_word tt;
+  difference = of_binary Sub here first second (typed.Slot 0) (typed.Slot 1) first_word second_word tt;
+  conjunction_of_bits = of_binary And here first second (typed.Slot 0) (typed.Slot 1) first_word second_word tt;
+  exclusive_disjunction_of_bits = of_binary Xor here first second (typed.Slot 0) (typed.Slot 1) first_word second_word tt;
+  disjunction_of_bits = of_binary Or here first second (typed.Slot 0) (typed.Slot 1) first_word second_word tt;
+  less = of_call Min here first second (typed.Slot 0) (typed.Slot 1) first_word second_word tt;
+  saturating_sum = of_call Sadd here first second (typed.Slot 0) (typed.Slot 1) first_word second_word tt;
+  comparison = is_condition;
+  equal = of_binary Eq here first second (typed.Slot 0) (typed.Slot 1) first_word second_word tt;
+  other = of_binary Ne here first second (typed.Slot 0) (typed.Slot 1) first_word second_word tt;
+  at_most = of_binary Le here first second (typed.Slot 0) (typed.Slot 1) first_word second_word tt;
+  above = of_binary Gt here first second (typed.Slot 0) (typed.Slot 1) first_word second_word tt;
+  at_least = of_binary Ge here first second (typed.Slot 0) (typed.Slot 1) first_word second_word tt;
+  both = of_binary Both here is_less is_less typed_is_less typed_is_less is_condition is_condition tt;
+  both_of_words = by_column Both _ (two two_columns Both first second _ _ first_is second_is);
+  either = of_binary Either here is_less is_less typed_is_less typed_is_less is_condition is_condition tt;
+  either_of_words = by_column Either _ (two two_columns Either first second _ _ first_is second_is);
+  negation = of_not here is_less typed_is_less is_condition;
   negation_of_a_word = refuse two_columns (Not here first) _ (not_is two_columns [] here first ∙ then_next (expr_checked two_columns [] first) (negated here) _ first_is);
-  quotient = of_binary Div here first (Number 2 here) (typed.Slot 0) (typed.Number 2) first_word (of_number 2 here) (2, here, refl, omega arith);
-  divided_by_zero = refuse two_columns (Binary Div here first (Number 0 here)) _ (two two_columns Div first (Number 0 here) _ _ first_is (number 0));
-  divided_by_a_column = refuse two_columns (Binary Div here first second) _ (two two_columns Div first second _ _ first_is second_is);
+  quotient = of_binary Div here first (Number 1 here) (typed.Slot 0) (typed.Number 1) first_word (of_number 1 here) (1, here, refl, omega arith);
+  divided_by_zero = by_number Div 0 _ (two two_columns Div first (Number 0 here) _ _ first_is (number 0));
+  divided_by_a_column = by_column Div _ (two two_columns Div first second _ _ first_is second_is);
+  remainder = of_binary Rem here first (Number 1 here) (typed.Slot 0) (typed.Number 1) first_word (of_number 1 here) (1, here, refl, omega arith);
+  remainder_by_zero = by_number Rem 0 _ (two two_columns Rem first (Number 0 here) _ _ first_is (number 0));
+  remainder_by_a_column = by_column Rem _ (two two_columns Rem first second _ _ first_is second_is);
   shift = of_binary Shl here first (Number 63 here) (typed.Slot 0) (typed.Number 63) first_word (of_number 63 here) (63, here, refl, omega arith);
-  shifted_by_64 = refuse two_columns (Binary Shl here first (Number 64 here)) _ (two two_columns Shl first (Number 64 here) _ _ first_is (number 64));
+  shifted_by_64 = by_number Shl 64 _ (two two_columns Shl first (Number 64 here) _ _ first_is (number 64));
+  shifted_by_a_column = by_column Shl _ (two two_columns Shl first second _ _ first_is second_is);
+  shift_right = of_binary Shr here first (Number 63 here) (typed.Slot 0) (typed.Number 63) first_word (of_number 63 here) (63, here, refl, omega arith);
+  shifted_right_by_64 = by_number Shr 64 _ (two two_columns Shr first (Number 64 here) _ _ first_is (number 64));
+  shifted_right_by_a_column = by_column Shr _ (two two_columns Shr first second _ _ first_is second_is);
+  decay = of_call Decay here first (Number 63 here) (typed.Slot 0) (typed.Number 63) first_word (of_number 63 here) (63, here, refl, omega arith);
+  decay_by_64 = by_number Decay 64 _ (two_called two_columns Decay first (Number 64 here) _ _ first_is (number 64));
+  decay_by_a_column = by_column Decay _ (two_called two_columns Decay first second _ _ first_is second_is);
 }
 
 -- ---- streams
@@ -109,6 +152,21 @@ thirteen = fold_name_sound items_before (called 13) of_one_argument refl
 fourteen : IsFold items_before 14 of_no_argument
 fourteen = fold_name_sound items_before (called 14) of_no_argument refl
 
+fifteen : IsStream items_before 15 fields
+fifteen = stream_sound items_before (called 15) fields refl
+
+sixteen : IsStream items_before 16 zipped
+sixteen = stream_sound items_before (called 16) zipped refl
+
+abbrev field_names : List ℕ
+field_names = 2 ∷ 21 ∷ 22 ∷ 23 ∷ 24 ∷ 25 ∷ 26 ∷ 27 ∷ 28 ∷ 29 ∷ []
+
+field : (id slot : ℕ) → place_of field_names id ≡ Some slot → StandsAt field_names slot id
+field id slot is = place_stands field_names id slot is
+
+new : (id : ℕ) (names : List ℕ) → is_among id names ≡ false → IsNew id names
+new id names is = among_new id names is
+
 -- an operator makes nothing where something isn't so that it asks
 unmet : (op : StreamOp) (d : Demand) → StreamAsks [] items_before 1 (called 20) op d → (Holds items_before d → ⊥) → MakesNothing op
 unmet op d asked fails = λ made h. fails (stream_meets [] items_before 4 1 (called 20) op made d h asked)
@@ -127,6 +185,14 @@ stream_examples = record {
       (no_place (1 ∷ []) 3 refl);
   filter_of_a_fold = unmet (Filter (called 13) (is_above_0 2)) (Stands AStream (called 13)) (asks.of_filtered (called 13) (is_above_0 2))
       (λ h. no_fault h.0 (record { kind = WrongKind; span = here }) (sym (stream_complete items_before (called 13) h.0 h.1)));
+  filter_on_a_column_with_a_states_name = record {
+    source = zipped;
+    condition = typed.Binary Lt (typed.Number 0) (typed.Slot 1);
+    stream = sixteen;
+    typed = of_binary Lt here (Number 0 here) (Named (called 3)) (typed.Number 0) (typed.Slot 1) (of_number 0 here)
+        (of_name (called 3) 1 (place_stands (1 ∷ 3 ∷ []) 3 1 refl)) tt;
+    is = refl;
+  };
   map_of_a_sum = record {
     source = unmapped;
     values = typed.Binary Add (typed.Slot 0) (typed.Slot 1) ∷ [];
@@ -196,5 +262,34 @@ stream_examples = record {
   variable_with_a_keys_name = unmet (grouped_by 12 1 14) (Apart (1 ∷ []) (1 ∷ []) here)
       (asks.of_arguments (called 12) (key.Named (called 1) ∷ []) (called 14) unmapped of_no_argument (Apart (1 ∷ []) (1 ∷ []) here) twelve fourteen asks.of_states)
       (λ apart. apart.0.0 refl);
+  eight_fields = record {
+    few = omega arith;
+    source = fields;
+    slots = 1 ∷ 2 ∷ 3 ∷ 4 ∷ 5 ∷ 6 ∷ 7 ∷ 8 ∷ [];
+    columns = a_field 21 ∷ a_field 22 ∷ a_field 23 ∷ a_field 24 ∷ a_field 25 ∷ a_field 26 ∷ a_field 27 ∷ a_field 28 ∷ [];
+    f = of_one_argument;
+    arguments = 0 ∷ [];
+    stream = fifteen;
+    picked = record { places = (field 21 1 refl, (field 22 2 refl, (field 23 3 refl, (field 24 4 refl, (field 25 5 refl, (field 26 6 refl, (field 27 7 refl, (field 28 8 refl, tt)))))))); distinct = (new 21 ([]) refl, (new 22 (21 ∷ []) refl, (new 23 (21 ∷ 22 ∷ []) refl, (new 24 (21 ∷ 22 ∷ 23 ∷ []) refl, (new 25 (21 ∷ 22 ∷ 23 ∷ 24 ∷ []) refl, (new 26 (21 ∷ 22 ∷ 23 ∷ 24 ∷ 25 ∷ []) refl, (new 27 (21 ∷ 22 ∷ 23 ∷ 24 ∷ 25 ∷ 26 ∷ []) refl, (new 28 (21 ∷ 22 ∷ 23 ∷ 24 ∷ 25 ∷ 26 ∷ 27 ∷ []) refl, tt)))))))); few = omega arith };
+    there = (refl, (refl, (refl, (refl, (refl, (refl, (refl, (refl, tt))))))));
+    fold = thirteen;
+    taken = record { places = (field 2 0 refl, tt); apart = apart_sound (3 ∷ []) (21 ∷ 22 ∷ 23 ∷ 24 ∷ 25 ∷ 26 ∷ 27 ∷ 28 ∷ []) refl };
+    is = refl;
+  };
+  nine_fields = λ made h. absurd (omega (arith, h.picked.few));
+  five_tuple = record {
+    few = omega arith;
+    source = fields;
+    slots = 1 ∷ 2 ∷ 3 ∷ 4 ∷ 5 ∷ [];
+    columns = a_field 21 ∷ a_field 22 ∷ a_field 23 ∷ a_field 24 ∷ a_field 25 ∷ [];
+    f = of_one_argument;
+    arguments = 0 ∷ [];
+    stream = fifteen;
+    picked = record { places = (field 21 1 refl, (field 22 2 refl, (field 23 3 refl, (field 24 4 refl, (field 25 5 refl, tt))))); distinct = (new 21 ([]) refl, (new 22 (21 ∷ []) refl, (new 23 (21 ∷ 22 ∷ []) refl, (new 24 (21 ∷ 22 ∷ 23 ∷ []) refl, (new 25 (21 ∷ 22 ∷ 23 ∷ 24 ∷ []) refl, tt))))); few = omega arith };
+    there = (refl, (refl, (refl, (refl, (refl, tt)))));
+    fold = thirteen;
+    taken = record { places = (field 2 0 refl, tt); apart = apart_sound (3 ∷ []) (21 ∷ 22 ∷ 23 ∷ 24 ∷ 25 ∷ []) refl };
+    is = refl;
+  };
   ninth_groupby = λ made h. absurd (omega (arith, h.few));
 }

@@ -3,6 +3,7 @@
 ghost use Rattle.accepted_rules.specs.ByRules.{AcceptedByRules, AcceptedOnce, RefusedByRules};
 ghost use Rattle.accepted_rules.specs.FinalExamples.{FinalExamples};
 ghost use Rattle.accepted_rules.specs.FoldExamples.{FoldExamples};
+ghost use Rattle.accepted_rules.specs.ItemExamples.{ItemExamples};
 ghost use Rattle.accepted_rules.specs.TypingExamples.{ExpressionExamples, StreamExamples};
 
 /// A text is accepted with a typed form exactly where a query derives from it, the rules give the query that form, and no
@@ -22,11 +23,13 @@ pub fn refused_by_rules()
     ensures { RefusedByRules }
 {}
 
-/// Small expressions, streams, folds and finals, typed and refused: a filter on a fold's state, a mapped column beside the
-/// packet's field of its name, an `emit` under a condition on a state, a join by other keys, and a row for each kind of node.
+/// Small expressions, streams, folds, finals and items, typed and refused: a row for each operator and each kind of node, a
+/// filter on a fold's state, a mapped column beside the packet's field of its name, an `emit` under a condition on a state,
+/// a join by other keys, a ninth key, a name that is taken, a 33rd binding, and a table that is printed twice.
 pub fn small_forms()
     ensures expressions { ExpressionExamples }
     ensures streams { StreamExamples }
     ensures folds { FoldExamples }
     ensures finals { FinalExamples }
+    ensures items { ItemExamples }
 {}

@@ -1,5 +1,5 @@
 -- What an epoch of a key, and what is written into its last row, mean for each key.
-use Rattle.std.proofs.Common.{◌≡◌, ℕ, suc, zero, ◌<◌, ◌≤◌, ◌||◌, Bool, true, false, cond, List, [], ◌∷◌, ◌++◌, append-nil, length, slice_get, Some, refl, sym, ap, ◌∙◌, eq-eqb, inl, inr, arith}
+use Rattle.std.proofs.Common.{◌≡◌, ℕ, suc, zero, ◌<◌, ◌≤◌, ◌||◌, Bool, true, false, cond, List, [], ◌∷◌, ◌++◌, append-nil, drop, length, slice_get, Some, refl, sym, ap, ◌∙◌, eq-eqb, inl, inr, arith}
 use Rattle.std.specs.Prelude.{◌==◌}
 use Rattle.std.proofs.lemmas.Bool.{cases_lt, ne_eqb}
 use Rattle.std.proofs.lemmas.List.{drop_all, take_all}
@@ -10,6 +10,7 @@ use Rattle.backing_store.specs.Store.{AreRowsOf, IsLastIn, Store, StoredKey, Sto
 use Rattle.backing_store.specs.StoreLaws.{EpochsAreCounted, KeysAreKept, LastRowsAreWritten, RowsAreAdded, keys_of, with_last}
 use Rattle.backing_store.specs.StoreLending.{replaced, with_words_at}
 use Rattle.backing_store.proofs.SortedFacts.{no_states, states_push}
+use Rattle.backing_store.proofs.StateFacts.{written-whole}
 use Rattle.backing_store.proofs.StoreKept.{missing_counted, store_counted}
 
 or_swap : (a b c : Bool) → (a || (b || c)) ≡ (b || (a || c))
@@ -134,13 +135,17 @@ last_of_more : (x : List ℕ) (xs : List (List ℕ)) (item : List ℕ) → 0 < l
 last_of_more x [] item some = absurd (omega arith)
 last_of_more x (y ∷ xs) item some = refl
 
+-- what is written into a row of as many words changes no row after it
+only_one : (row : StoredRow) (rows : List StoredRow) (state : List ℕ) → length state ≡ length row.words → with_words_at rows 0 (drop (length row.words) state) ≡ rows
+only_one row rows state same = ap (λ rest. with_words_at rows 0 rest) (drop_all (length row.words) state (omega (arith, same))) ∙ written-whole rows
+
 written_last : (keys words : ℕ) (rows : List StoredRow) (m place : ℕ) (state : List ℕ) → AreRowsOf keys words rows → IsLastIn (row_keys rows) m place → length state ≡ words
     → states_at (with_words_at rows place state) m ≡ with_last (states_at rows m) state
 written_last keys words [] m place state are is size = absurd (cc is.here)
 written_last keys words (row ∷ rows) m zero state are is size =
     let here = eq-eqb row.key m (same_Some _ _ is.here) in
     let none = no_later rows m (λ later at. is.last (suc later) (omega arith) at) in
-    rw (here, none, replaced_whole row.words state (size ∙ sym are.1)) refl
+    rw (here, only_one row rows state (size ∙ sym are.1), none, replaced_whole row.words state (size ∙ sym are.1)) refl
 written_last keys words (row ∷ rows) m (suc place) state are is size =
     let rest : IsLastIn (row_keys rows) m place = record { here = is.here; last = λ later after at. is.last (suc later) (omega (arith, after)) at } in
     let more = written_last keys words rows m place state are.2 rest size in
@@ -148,12 +153,12 @@ written_last keys words (row ∷ rows) m (suc place) state are is size =
     (λ same. rw (same, more) (sym (last_of_more row.words (states_at rows m) state (some_state rows m place is.here))))
     (λ differs. rw (differs, more) refl)
 
-written_other : (rows : List StoredRow) (n m place : ℕ) (state : List ℕ) → slice_get (row_keys rows) place ≡ Some n → (n ≡ m → ⊥) → states_at (with_words_at rows place state) m ≡ states_at rows m
-written_other [] n m place state here differs = refl
-written_other (row ∷ rows) n m zero state here differs = rw (ne_eqb row.key m (λ e. differs (sym (same_Some _ _ here) ∙ e))) refl
-written_other (row ∷ rows) n m (suc place) state here differs = by_test (row.key == m)
-    (λ same. rw (same, written_other rows n m place state here differs) refl)
-    (λ apart. rw (apart, written_other rows n m place state here differs) refl)
+written_other : (keys words : ℕ) (rows : List StoredRow) (n m place : ℕ) (state : List ℕ) → AreRowsOf keys words rows → length state ≡ words → slice_get (row_keys rows) place ≡ Some n → (n ≡ m → ⊥) → states_at (with_words_at rows place state) m ≡ states_at rows m
+written_other keys words [] n m place state are size here differs = refl
+written_other keys words (row ∷ rows) n m zero state are size here differs = rw (only_one row rows state (size ∙ sym are.1), ne_eqb row.key m (λ e. differs (sym (same_Some _ _ here) ∙ e))) refl
+written_other keys words (row ∷ rows) n m (suc place) state are size here differs = by_test (row.key == m)
+    (λ same. rw (same, written_other keys words rows n m place state are.2 size here differs) refl)
+    (λ apart. rw (apart, written_other keys words rows n m place state are.2 size here differs) refl)
 
 number_small : (keys words : ℕ) (rows : List StoredRow) (n place : ℕ) → AreRowsOf keys words rows → slice_get (row_keys rows) place ≡ Some n → n < keys
 number_small keys words [] n place are here = absurd (cc here)
@@ -165,7 +170,7 @@ last_written store key other place state kept is size = by_test (key_eq key othe
     (λ same.
     let e = key_eq-true key other same in
     rw (same, ← e) (written_last (length store.keys) store.state_words store.rows (number_of store.keys key) place state kept.rows is size))
-    (λ apart. rw apart (written_other store.rows (number_of store.keys key) (number_of store.keys other) place state is.here (λ e. elim (cases_lt (number_of store.keys other) (length store.keys)) [
+    (λ apart. rw apart (written_other (length store.keys) store.state_words store.rows (number_of store.keys key) (number_of store.keys other) place state kept.rows size is.here (λ e. elim (cases_lt (number_of store.keys other) (length store.keys)) [
       | inl there ↦ numbers_differ store.keys key other apart there e
       | inr past ↦ omega (arith, number_small (length store.keys) store.state_words store.rows (number_of store.keys key) place kept.rows is.here, e)
     ])))

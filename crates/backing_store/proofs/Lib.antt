@@ -1,8 +1,11 @@
+pub mod MarkFacts
+mod KeyFacts
+pub mod StateFacts
 pub mod StoreFacts
-pub mod LendingFacts
 pub mod StoreKept
 pub mod StoreWhole
-pub mod RowOrderFacts
+pub mod ZipFacts
+pub mod SameRows
 pub mod SortedFacts
-pub mod CopyFacts
+pub mod LentFacts
 pub mod LawFacts

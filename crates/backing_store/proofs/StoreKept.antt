@@ -73,7 +73,7 @@ length-replaced old words =
 
 rows_written : (keys words : ℕ) (rows : List StoredRow) (at : ℕ) (w : List ℕ) → AreRowsOf keys words rows → AreRowsOf keys words (with_words_at rows at w)
 rows_written keys words [] at w kept = tt
-rows_written keys words (row ∷ rows) zero w kept = (kept.0, length-replaced row.words w ∙ kept.1, kept.2)
+rows_written keys words (row ∷ rows) zero w kept = (kept.0, length-replaced row.words w ∙ kept.1, rows_written keys words rows zero (drop (length row.words) w) kept.2)
 rows_written keys words (row ∷ rows) (suc at) w kept = (kept.0, kept.1, rows_written keys words rows at w kept.2)
 
 -- what is written into a row keeps the store

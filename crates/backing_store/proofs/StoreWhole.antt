@@ -1,15 +1,12 @@
 -- A store, as its map and its rows show it, after an epoch of a key.
-use Rattle.std.proofs.Common.{◌≡◌, ℕ, true, false, List, [], ◌∷◌, ◌++◌, length, slice_get, Some, None, Vec, Global, refl}
+use Rattle.std.proofs.Common.{◌≡◌, ℕ, true, false, List, [], ◌∷◌, ◌++◌, length, slice_get, Some, None, refl}
 use Rattle.std.specs.Map.{lookup, values_of}
-use Rattle.indexmap.specs.IndexMap.{set_value_at}
+use Rattle.backing_store.specs.StoreView.{IsWhole, store_with}
 use Rattle.epoch_model.specs.Keys.{key_eq}
-use Rattle.backing_store.specs.Store.{IsStore, StoredRow, one_more}
+use Rattle.backing_store.specs.Store.{StoredRow, one_more}
 use Rattle.backing_store.specs.declared.store.Merged.{Merged}
-use Rattle.backing_store.proofs.StoreFacts.{Entry, FirstAt, SoundFor, counted_again, counted_first, counted_row, sound_again, sound_first, sound_row, store_with}
+use Rattle.backing_store.proofs.StoreFacts.{Entry, FirstAt, counted_again, counted_first, counted_row, sound_again, sound_first, sound_row, set_value_at}
 use Rattle.backing_store.proofs.StoreKept.{store_counted}
-
-abbrev pub IsWhole : List Entry → List StoredRow → ℕ → ℕ → Type 0
-IsWhole es rows kw sw = IsStore (store_with es rows kw sw) × SoundFor es rows
 
 -- no new row
 pub whole_again : (key initial : List ℕ) (es : List Entry) (rows : List StoredRow) (kw sw at : ℕ) (was now : Merged) → FirstAt key es at → slice_get (values_of es) at ≡ Some was
@@ -29,8 +26,8 @@ whole_row key initial es rows kw sw at was now first here more place key_size ro
 )
 
 -- a new key
-pub whole_first : (key initial : List ℕ) (es : List Entry) (rows : List StoredRow) (kw sw : ℕ) (k : Vec ℕ Global) (last : ℕ)
-    → lookup (λ k. key_eq key k.items) es ≡ None → k.items ≡ key → last ≡ length rows → length key ≡ kw → length initial ≡ sw → IsWhole es rows kw sw
+pub whole_first : (key initial : List ℕ) (es : List Entry) (rows : List StoredRow) (kw sw : ℕ) (k : List ℕ) (last : ℕ)
+    → lookup (λ k. key_eq key k) es ≡ None → k ≡ key → last ≡ length rows → length key ≡ kw → length initial ≡ sw → IsWhole es rows kw sw
     → IsWhole (es ++ (k, record { epochs = 1; last = last }) ∷ []) (rows ++ record { key = length es; words = initial } ∷ []) kw sw
 whole_first key initial es rows kw sw k last none same place key_size row_size whole = (
   rw (counted_first key initial es rows kw sw false k last none same) (store_counted (store_with es rows kw sw) key initial false whole.0 key_size row_size),

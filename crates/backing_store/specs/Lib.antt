@@ -1,8 +1,11 @@
+pub mod Marks
+pub mod KeyList
 pub mod Store
-pub mod StoreLines
-pub mod StoreView
-pub mod Lending
 pub mod StoreLending
+pub mod States
+pub mod StoreView
+pub mod Stored
 pub mod SortedRows
-pub mod RowOrder
+pub mod LendingStates
+pub mod LendingRows
 pub mod StoreLaws

@@ -1,23 +1,26 @@
--- How the fields of a `BackingStore` show a store.
-use Rattle.std.specs.Prelude.{ℕ, ◌≡◌, map, slice_get, Some}
-use Rattle.indexmap.specs.IndexMap.{values}
-use Rattle.backing_store.specs.Store.{IsLastIn, IsStore, Store, row_keys}
-use Rattle.backing_store.specs.StoreLines.{lines}
+-- How the fields of a store show it.
+use Rattle.std.specs.Prelude.{ℕ, List, ◌≡◌, length, map, slice_get, Some}
+use Rattle.std.specs.List.{zip}
+use Rattle.std.specs.Map.{values_of}
+use Rattle.backing_store.specs.Store.{IsLastIn, IsStore, Store, StoredRow, row_keys}
+pub use Rattle.backing_store.specs.Stored.{stored}
 use Rattle.backing_store.specs.declared.store.BackingStore.TheInside.{Inside}
 use Rattle.backing_store.specs.declared.store.Merged.{Merged}
 
+abbrev pub store_with : List (List ℕ × Merged) → List StoredRow → ℕ → ℕ → Store
+store_with es rows key_words state_words = record { keys = map stored es; rows = rows; key_words = key_words; state_words = state_words }
+
+-- each key keeps the place of its last row
+abbrev pub SoundFor : List (List ℕ × Merged) → List StoredRow → Type 0
+SoundFor es rows = (number : ℕ) (merged : Merged) → slice_get (values_of es) number ≡ Some merged → IsLastIn (row_keys rows) number merged.last
+
+abbrev pub IsWhole : List (List ℕ × Merged) → List StoredRow → ℕ → ℕ → Type 0
+IsWhole es rows kw sw = IsStore (store_with es rows kw sw) × SoundFor es rows
+
 abbrev pub store_of : Inside → Store
-store_of a = record {
-  keys = map (λ e. record { key = e.0.items; epochs = e.1.epochs }) a.keys.entries;
-  rows = lines a.rows.items;
-  key_words = a.key_words;
-  state_words = a.state_words;
-}
+store_of a = store_with (zip a.keys.keys a.merged.items) a.states.rows a.keys.width a.states.width
 
--- each key has a row, and keeps the place of its last one
-abbrev pub KeepsLast : Inside → Type 0
-KeepsLast a = (number : ℕ) (merged : Merged) → slice_get (values a.keys) number ≡ Some merged
-    → IsLastIn (row_keys (store_of a).rows) number merged.last
-
-abbrev pub IsSound : Inside → Type 0
-IsSound a = IsStore (store_of a) × KeepsLast a
+-- there is an entry for each key, and the store is whole
+pub record IsSound (a : Inside) : Type 0 where
+  pub many : length a.merged.items ≡ length a.keys.keys
+  pub whole : IsWhole (zip a.keys.keys a.merged.items) a.states.rows a.keys.width a.states.width

@@ -2,16 +2,18 @@
 
 ghost use Rattle.std.specs.Prelude.{◌≡◌, ◌<◌, ◌↔◌, ℕ, Some, option_map, slice_get, ◌++◌, ◌∷◌, [], IfOk};
 ghost use Rattle.std.specs.Prelude.{OnErr, OnOk, length};
+ghost use Rattle.std.specs.Prelude.{map};
+ghost use Rattle.std.specs.List.{zip};
 ghost use Rattle.backing_store.specs.SortedRows.{IsMade, sorted_rows};
 ghost use Rattle.backing_store.specs.Store.{AreOnce, AreRowsOf, IsLastRowOf, IsStore, counted, epochs_of, number_of};
-ghost use Rattle.backing_store.specs.StoreLines.{lines, shown, stored_keys};
-ghost use Rattle.std.specs.Borrow.{sem};
+ghost use Rattle.backing_store.specs.Stored.{stored};
 
-use crate::table::{StoreRow, sort_rows, store_row};
-use indexmap::IndexMap;
-use marple_base::Seq;
+use crate::keys::Keys;
+use crate::states::States;
+use epoch_model::Mark;
 use std::alloc::{AllocError, Global};
 use std::marker::Model;
+use table_rows::Rows;
 
 // How often a key was merged, and the place of its last row.
 #[derive(Clone, Copy, Drop)]
@@ -20,22 +22,46 @@ struct Merged {
     last: usize,
 }
 
-// A row, with the number of its key.
-#[derive(Drop)]
-struct Row {
-    of: usize,
-    words: Vec<u64>,
-}
-
 /// Keys in the order of their first epochs, each with its number of epochs, and the rows in the order of their
 /// making. A row's place is its number.
 #[derive(Drop)]
 pub struct BackingStore {
     alloc: Global,
-    keys: IndexMap<Vec<u64>, Merged>,
-    rows: Vec<Row>,
-    key_words: usize,
-    state_words: usize,
+    keys: Keys,
+    merged: Vec<Merged>,
+    states: States,
+}
+
+// The rows in the order of their making, each with its number among its key's rows.
+fn made_rows(
+    alloc: Global,
+    keys: &Keys,
+    merged: &Vec<Merged>,
+    states: &States,
+) -> Result<Rows, AllocError>
+    requires many { length merged.now.items ≡ length keys.now.keys }
+    requires once { AreOnce (map stored (zip keys.now.keys merged.now.items)) }
+    requires rows { AreRowsOf (length keys.now.keys) states.now.width states.now.rows }
+    ensures { IfOk result (λ made. IsMade (map stored (zip keys.now.keys merged.now.items)) made states.now.rows) }
+{
+    let mut given = vec![in alloc; 0u64; keys.len()]?;
+    let mut made = Rows::new(alloc);
+    let width = keys.width().saturating_add(states.width());
+    made.reserve(states.len(), states.len().saturating_mul(width))?;
+    for at in 0..states.len() {
+        let of = states.of(at);
+        let epoch = given[of] + 1;
+        let kept = merged[of];
+        made.push(
+            keys.key(of),
+            Mark::Plain,
+            epoch,
+            kept.epochs,
+            states.row(at),
+        )?;
+        given[of] = epoch;
+    }
+    Ok(made)
 }
 
 impl Model for BackingStore {
@@ -50,116 +76,6 @@ impl Model for BackingStore {
     ghost invariant = { IsSound };
 }
 
-impl Row {
-    ghost use Rattle.backing_store.specs.Lending.{LendsWords};
-
-    // Its words.
-    fn words_mut(&mut self) -> &mut [u64]
-        ensures* writes_back { sem 𝓛 (LendsWords self.entry result) }
-        ensures value { result.now ≡ self.old.words.items }
-    {
-        self.words.as_mut_slice()
-    }
-}
-
-// A new last row, whose place is answered.
-fn add_row(
-    alloc: Global,
-    rows: &mut Vec<Row>,
-    of: usize,
-    initial: &[u64],
-) -> Result<usize, AllocError>
-    ensures place { IfOk result (λ place. place ≡ length rows.old.items) }
-    ensures ok { OnOk result (lines rows.new.items ≡ lines rows.old.items ++ record { key = of; words = initial.now } ∷ []) }
-    ensures err { OnErr result (rows.new.items ≡ rows.old.items) }
-{
-    let words = Vec::from_slice(alloc, initial)?;
-    let place = rows.len();
-    rows.push(Row { of, words })?;
-    Ok(place)
-}
-
-// The rows in the order of their making, each with its number among its key's rows.
-fn made_rows(
-    alloc: Global,
-    keys: &IndexMap<Vec<u64>, Merged>,
-    rows: &[Row],
-) -> Result<Vec<StoreRow>, AllocError>
-    requires once { AreOnce (stored_keys keys.now.entries) }
-    requires rows { (words : ℕ) × AreRowsOf (length (stored_keys keys.now.entries)) words (lines rows.now) }
-    ensures { IfOk result (λ made. IsMade (stored_keys keys.now.entries) made.items (lines rows.now)) }
-{
-    let mut given = vec![in alloc; 0u64; keys.len()]?;
-    let mut made = Vec::with_capacity(alloc, rows.len())?;
-    for row in rows {
-        if let Some((key, merged)) = keys.get_index(row.of) {
-            let epoch = given[row.of] + 1;
-            let (key, state) = (key.as_slice(), row.words.as_slice());
-            made.push(store_row(alloc, key, epoch, merged.epochs, state)?)?;
-            given[row.of] = epoch;
-        }
-    }
-    Ok(made)
-}
-
-// The same rows, moved: each gives its words away.
-fn moved_rows(
-    alloc: Global,
-    keys: &IndexMap<Vec<u64>, Merged>,
-    rows: Vec<Row>,
-) -> Result<Vec<StoreRow>, AllocError>
-    requires once { AreOnce (stored_keys keys.now.entries) }
-    requires rows { (words : ℕ) × AreRowsOf (length (stored_keys keys.now.entries)) words (lines rows.items) }
-    ensures { IfOk result (λ made. IsMade (stored_keys keys.now.entries) made.items (lines rows.items)) }
-{
-    let mut given = vec![in alloc; 0u64; keys.len()]?;
-    let mut made = Vec::with_capacity(alloc, rows.len())?;
-    for row in rows {
-        let Row { of, words } = row;
-        if let Some((key, merged)) = keys.get_index(of) {
-            let epoch = given[of] + 1;
-            let key = Seq::from_vec(Vec::from_slice(alloc, key.as_slice())?);
-            made.push(StoreRow {
-                key,
-                epoch,
-                epochs: merged.epochs,
-                state: Seq::from_vec(words),
-            })?;
-            given[of] = epoch;
-        }
-    }
-    Ok(made)
-}
-
-// A copy of the map.
-fn copied_keys(
-    alloc: Global,
-    keys: &IndexMap<Vec<u64>, Merged>,
-) -> Result<IndexMap<Vec<u64>, Merged>, AllocError>
-    requires { AreOnce (stored_keys keys.now.entries) }
-    ensures { IfOk result (λ copy. shown copy.entries ≡ shown keys.now.entries) }
-{
-    let mut copy = IndexMap::with_capacity(alloc, keys.len())?;
-    for place in 0..keys.len() {
-        if let Some((key, merged)) = keys.get_index(place) {
-            let owned = Vec::from_slice(alloc, key.as_slice())?;
-            copy.insert(owned, *merged)?;
-        }
-    }
-    Ok(copy)
-}
-
-// A copy of the rows.
-fn copied_rows(alloc: Global, rows: &[Row]) -> Result<Vec<Row>, AllocError>
-    ensures { IfOk result (λ copy. lines copy.items ≡ lines rows.now) }
-{
-    let mut copy = Vec::with_capacity(alloc, rows.len())?;
-    for row in rows {
-        add_row(alloc, &mut copy, row.of, row.words.as_slice())?;
-    }
-    Ok(copy)
-}
-
 impl BackingStore {
     /// A store with no keys.
     pub fn new(alloc: Global, key_words: usize, state_words: usize) -> BackingStore
@@ -167,10 +83,9 @@ impl BackingStore {
     {
         BackingStore {
             alloc,
-            keys: IndexMap::new(alloc),
-            rows: Vec::new(alloc),
-            key_words,
-            state_words,
+            keys: Keys::new(alloc, key_words),
+            merged: Vec::new(alloc),
+            states: States::new(alloc, state_words),
         }
     }
 
@@ -178,18 +93,7 @@ impl BackingStore {
     pub fn known(&self)
         ensures { IsStore self.now }
     {
-        let _words = self.key_words;
-    }
-
-    /// How many epochs of a key were counted, 0 where the key isn't there.
-    pub fn epochs(&self, key: &[u64]) -> u64
-        ensures value { result ≡ epochs_of self.now.keys key.now }
-        ensures zero { (result ≡ 0) ↔ (number_of self.now.keys key.now ≡ length self.now.keys) }
-    {
-        match self.keys.get(key) {
-            Some(merged) => merged.epochs,
-            None => 0,
-        }
+        let _merged = &self.merged;
     }
 
     /// Counts an epoch of a key, and answers the place of the key's last row. A key without a row gets one, and
@@ -206,68 +110,70 @@ impl BackingStore {
         ensures place { IfOk result (λ place. IsLastRowOf self.new key.now place) }
         ensures err { OnErr result (self.new ≡ self.old) }
     {
-        match self.keys.get_index_of(key) {
+        match self.keys.find(key) {
             Some(at) if row_per_epoch => {
-                let last = add_row(self.alloc, &mut self.rows, at, initial)?;
-                let merged = self.keys[at];
-                self.keys[at] = Merged {
-                    epochs: merged.epochs.saturating_add(1),
-                    last,
-                };
+                let last = self.states.len();
+                self.states.push(at, initial)?;
+                let epochs = self.merged[at].epochs.saturating_add(1);
+                self.merged[at] = Merged { epochs, last };
                 Ok(last)
             }
             Some(at) => {
-                let merged = self.keys[at];
+                let merged = self.merged[at];
                 let epochs = merged.epochs.saturating_add(1);
-                self.keys[at] = Merged { epochs, ..merged };
+                self.merged[at] = Merged { epochs, ..merged };
                 Ok(merged.last)
             }
             None => {
-                let owned = Vec::from_slice(self.alloc, key)?;
-                self.keys.reserve(1)?;
                 let number = self.keys.len();
-                let last = add_row(self.alloc, &mut self.rows, number, initial)?;
-                self.keys.insert(owned, Merged { epochs: 1, last })?;
-                Ok(last)
+                let last = self.states.len();
+                self.merged.reserve(1)?;
+                self.states.push(number, initial)?;
+                match self.keys.add(key) {
+                    Ok(()) => {
+                        self.merged.push_reserved(Merged { epochs: 1, last });
+                        Ok(last)
+                    }
+                    Err(error) => {
+                        self.states.pop();
+                        Err(error)
+                    }
+                }
             }
         }
     }
 
-    ghost use Rattle.backing_store.specs.StoreLending.{LendsRow};
+    /// How many epochs of a key were counted, 0 where the key isn't there.
+    pub fn epochs(&self, key: &[u64]) -> u64
+        ensures value { result ≡ epochs_of self.now.keys key.now }
+        ensures zero { (result ≡ 0) ↔ (number_of self.now.keys key.now ≡ length self.now.keys) }
+    {
+        match self.keys.find(key) {
+            Some(at) => self.merged[at].epochs,
+            None => 0,
+        }
+    }
 
-    /// The words of the row at a place.
+    ghost use Rattle.std.specs.Borrow.{sem};
+    ghost use Rattle.backing_store.specs.LendingRows.{LendsRow};
+
+    /// Lends the words of the row at a place.
     pub fn row_mut(&mut self, at: usize) -> &mut [u64]
         requires { at < length self.old.rows }
         ensures* writes_back { sem 𝓛 (LendsRow self.entry at result) }
         ensures value { option_map (λ row. row.words) (slice_get self.old.rows at) ≡ Some result.now }
         ensures length { length result.now ≡ self.old.state_words }
     {
-        let row = &mut self.rows[at];
-        row.words_mut()
+        self.states.row_mut(at)
     }
 
     /// One row for each row of the store, by ascending key, compared word by word, and then by number.
-    pub fn sorted(&self) -> Result<Seq<StoreRow>, AllocError>
+    pub fn sorted(&self) -> Result<Rows, AllocError>
         ensures { IfOk result (λ rows. rows ≡ sorted_rows self.now) }
     {
-        let mut rows = made_rows(self.alloc, &self.keys, self.rows.as_slice())?;
-        sort_rows(&mut rows)?;
-        Ok(Seq::from_vec(rows))
-    }
-
-    /// The rows that `sorted` gives. The store is given away for them: their states are its own.
-    pub fn into_sorted(self) -> Result<Seq<StoreRow>, AllocError>
-        ensures { IfOk result (λ rows. rows ≡ sorted_rows self) }
-    {
-        let BackingStore {
-            alloc,
-            keys,
-            rows,
-            ..
-        } = self;
-        let mut rows = moved_rows(alloc, &keys, rows)?;
-        sort_rows(&mut rows)?;
-        Ok(Seq::from_vec(rows))
+        let mut rows = made_rows(self.alloc, &self.keys, &self.merged, &self.states)?;
+        rows.sort(self.alloc)?;
+        Ok(rows)
     }
 
     /// A store of its own memory with the same keys and rows.
@@ -276,10 +182,9 @@ impl BackingStore {
     {
         Ok(BackingStore {
             alloc: self.alloc,
-            keys: copied_keys(self.alloc, &self.keys)?,
-            rows: copied_rows(self.alloc, self.rows.as_slice())?,
-            key_words: self.key_words,
-            state_words: self.state_words,
+            keys: self.keys.copy()?,
+            merged: Vec::from_slice(self.alloc, self.merged.as_slice())?,
+            states: self.states.copy()?,
         })
     }
 }

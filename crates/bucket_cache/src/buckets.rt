@@ -12,6 +12,7 @@ use std::sync::ledger::Ledger;
 
 /// Brings the key to the front of a bucket where it is there or where a place is free.
 /// `used` has a number for each bucket, `order` its `ways`, and `words` the words of their keys.
+#[inline(always)]
 pub fn touch_bucket<L: Ledger>(
     bucket: usize,
     ways: usize,

@@ -17,7 +17,7 @@ pub fn bucket_of<L: Ledger>(key: &[u64], buckets: u32, steps: &mut Steps<L>) -> 
     let mut hash: u64 = 0;
     for word in key {
         hash = (hash ^ *word).wrapping_mul(0x9E37_79B9_7F4A_7C15);
-        steps.tick();
     }
+    steps.tick_many(key.len() as u64);
     ((hash >> 32) % u64::from(buckets)) as u32
 }

@@ -7,7 +7,8 @@ ghost use Rattle.bucket_cache.specs.Slices.{at_front};
 use marple_base::Steps;
 use std::sync::ledger::Ledger;
 
-/// Whether two keys of one length are equal.
+/// Whether two keys of one length are equal. It takes a step for each word that it looks at.
+#[inline(always)]
 pub fn same_words<L: Ledger>(a: &[u64], b: &[u64], steps: &mut Steps<L>) -> bool
     requires { length a.now ≡ length b.now }
     ensures answer { result ≡ key_eq a.now b.now }
@@ -15,11 +16,12 @@ pub fn same_words<L: Ledger>(a: &[u64], b: &[u64], steps: &mut Steps<L>) -> bool
     ensures cost { steps.new ≤ steps.old + length a.now }
 {
     for i in 0..a.len() {
-        steps.tick();
         if a[i] != b[i] {
+            steps.tick_many(i as u64 + 1);
             return false;
         }
     }
+    steps.tick_many(a.len() as u64);
     true
 }
 

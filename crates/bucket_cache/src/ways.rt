@@ -13,6 +13,7 @@ use marple_base::{Steps, copy_words};
 use std::sync::ledger::Ledger;
 
 /// Where the key stands among the ways in use.
+#[inline(always)]
 fn find_key<L: Ledger>(
     order: &[u16],
     used: usize,
@@ -66,6 +67,7 @@ fn put<L: Ledger>(
 }
 
 /// Brings the key to the front of the ways in use where it is there or where a way is free.
+#[inline(always)]
 pub fn touch_ways<L: Ledger>(
     first: usize,
     used: &mut usize,

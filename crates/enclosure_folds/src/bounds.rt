@@ -1,6 +1,8 @@
 //! The table of bounds that a table of three states side by side gives.
 
-ghost use Rattle.std.specs.Prelude.{◌≡◌, ◌*◌, ◌<◌, ◌≤◌, All, length, IfOk};
+ghost use Rattle.std.specs.Prelude.{◌≡◌, ◌*◌, ◌<◌, ◌≤◌, All, length, drop, IfOk};
+ghost use Rattle.epoch_model.specs.Keys.{key_eq};
+ghost use Rattle.table_rows.specs.LentRows.{row_of};
 ghost use Rattle.final_queries.specs.Finals.{HasColumns};
 ghost use Rattle.enclosure_folds.specs.BoundsTables.{IsBoundsTable};
 ghost use Rattle.enclosure_folds.specs.KeyBounds.{HasTriples, goes_on, row_bounds, bounds_in, depth_in, epochs_in, table_bounds};
@@ -8,30 +10,32 @@ ghost use Rattle.enclosure_folds.specs.KeyBounds.{HasTriples, goes_on, row_bound
 use crate::copies::{names_copy, words_copy};
 use crate::laws::triples_give_whole_tables;
 use crate::table::{BoundsRow, BoundsTable};
-use epoch_model::{Mark, Row};
-use final_queries::{Table, TableKind};
+use final_queries::{Mark, RowRef, Rows, Table, TableKind};
 use marple_base::{Seq, Text};
 use std::alloc::{AllocError, Global};
 
-// Whether the next row is of this key too.
 #[tactic(auto, unfolding(epoch_model::specs::Keys::key_eq))]
-fn goes_on(key: &[u64], rows: &[Row]) -> bool
-    ensures { result ≡ goes_on key.now rows.now }
+fn is_same_key(a: &[u64], b: &[u64]) -> bool
+    ensures { result ≡ key_eq a.now b.now }
 {
-    match rows.split_first() {
-        Some((next, _)) => key == next.key.as_slice(),
-        None => false,
-    }
+    a == b
+}
+
+// Whether the row at a place is there and of this key too.
+fn goes_on(key: &[u64], rows: &Rows, next: usize) -> bool
+    ensures { result ≡ goes_on key.now (drop next rows.now) }
+{
+    next < rows.len() && is_same_key(key, rows.get(next).key)
 }
 
 // The bounds that the last row of a key gives.
-fn row_bounds(alloc: Global, states: usize, row: &Row) -> Result<BoundsRow, AllocError>
-    requires { length row.now.values ≡ 3 * states }
-    ensures { IfOk result (λ bounds. bounds ≡ row_bounds states row.now) }
+fn row_bounds(alloc: Global, states: usize, row: &RowRef) -> Result<BoundsRow, AllocError>
+    requires { length row.now.values.now ≡ 3 * states }
+    ensures { IfOk result (λ bounds. bounds ≡ row_bounds states (row_of row.now)) }
 {
-    let key = words_copy(alloc, row.key.as_slice())?;
+    let key = words_copy(alloc, row.key)?;
     let epochs = row.epochs;
-    let (alone, rest) = row.values.as_slice().split_at(states);
+    let (alone, rest) = row.values.split_at(states);
     if row.mark == Mark::Valid {
         let low = words_copy(alloc, alone)?;
         let high = words_copy(alloc, alone)?;
@@ -58,15 +62,16 @@ fn all_bounds(
     alloc: Global,
     keys: usize,
     states: usize,
-    rows: &[Row],
+    rows: &Rows,
 ) -> Result<Seq<BoundsRow>, AllocError>
     requires { All (HasColumns keys (3 * states)) rows.now }
     ensures { IfOk result (λ made. made ≡ bounds_in states rows.now) }
 {
     let mut made = Seq::new(alloc);
-    for i in 0..rows.len() {
-        if !goes_on(rows[i].key.as_slice(), &rows[i + 1..]) {
-            made.push(row_bounds(alloc, states, &rows[i])?)?;
+    for at in 0..rows.len() {
+        let row = rows.get(at);
+        if !goes_on(row.key, rows, at + 1) {
+            made.push(row_bounds(alloc, states, &row)?)?;
         }
     }
     Ok(made)
@@ -102,7 +107,7 @@ fn made_bounds(alloc: Global, table: &Table) -> Result<BoundsTable, AllocError>
         state_names: names_copy(alloc, state_names)?,
         depth: depth_in(table.kind),
         epochs: epochs_in(table.kind),
-        rows: all_bounds(alloc, keys, state_names.len(), table.rows.as_slice())?,
+        rows: all_bounds(alloc, keys, state_names.len(), &table.rows)?,
     })
 }
 

@@ -1,12 +1,11 @@
 //! The rows of a table of bounds that finals may read.
 
-ghost use Rattle.std.specs.Prelude.{◌≡◌, ◌++◌, length, map, filter, IfOk};
+ghost use Rattle.std.specs.Prelude.{◌≡◌, ◌++◌, ◌∷◌, [], length, map, filter, IfOk, OnOk};
 ghost use Rattle.enclosure_folds.specs.BoundsTables.{IsBoundsTable, row_is_exact, exact_row, exact_table};
 
-use crate::copies::{names_copy, push_copies, words_copy};
+use crate::copies::{names_copy, push_copies};
 use crate::table::{BoundsRow, BoundsTable};
-use epoch_model::{Mark, Row};
-use final_queries::{Table, TableKind};
+use final_queries::{Mark, Rows, Table, TableKind};
 use marple_base::{Seq, Text};
 use query_lang::Class;
 use std::alloc::{AllocError, Global};
@@ -18,25 +17,25 @@ pub(crate) fn is_exact(row: &BoundsRow) -> bool
     row.low.as_slice() == row.high.as_slice()
 }
 
-fn row_copy(alloc: Global, row: &BoundsRow) -> Result<Row, AllocError>
-    ensures { IfOk result (λ copy. copy ≡ exact_row row.now) }
+fn push_copy(copies: &mut Rows, row: &BoundsRow) -> Result<(), AllocError>
+    ensures { OnOk result (copies.new ≡ copies.old ++ exact_row row.now ∷ []) }
 {
-    Ok(Row {
-        key: words_copy(alloc, row.key.as_slice())?,
-        mark: Mark::Exact,
-        epoch: 0,
-        epochs: row.epochs,
-        values: words_copy(alloc, row.low.as_slice())?,
-    })
+    copies.push(
+        row.key.as_slice(),
+        Mark::Exact,
+        0,
+        row.epochs,
+        row.low.as_slice(),
+    )
 }
 
-fn row_copies(alloc: Global, rows: &[BoundsRow]) -> Result<Seq<Row>, AllocError>
+fn row_copies(alloc: Global, rows: &[BoundsRow]) -> Result<Rows, AllocError>
     ensures { IfOk result (λ copies. copies ≡ map exact_row (filter row_is_exact rows.now)) }
 {
-    let mut copies = Seq::new(alloc);
+    let mut copies = Rows::new(alloc);
     for row in rows {
         if is_exact(row) {
-            copies.push(row_copy(alloc, row)?)?;
+            push_copy(&mut copies, row)?;
         }
     }
     Ok(copies)

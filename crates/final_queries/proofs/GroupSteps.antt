@@ -1,6 +1,9 @@
 -- A store that holds the rows of a table, one by one, has the rows of the table grouped.
-use Rattle.std.proofs.Common.{◌≡◌, ℕ, false, List, [], ◌∷◌, Some, length, map, refl, ap, ◌∙◌}
+use Rattle.std.proofs.Common.{◌≡◌, ℕ, ◌+◌, Bool, false, List, [], ◌∷◌, ◌++◌, Some, length, map, take, slice_get, refl, sym, ap, ◌∙◌}
 use Rattle.std.specs.List.{flat_map}
+use Rattle.std.proofs.lemmas.List.{map-append, take_more}
+use Rattle.std.proofs.lemmas.List.Elements.{filter-append}
+use Rattle.std.proofs.lemmas.Option.{slice_get_within, get_or_from_slice_get}
 use Rattle.query_lang.specs.declared.fold.TypedFold.{TypedFold}
 use Rattle.query_lang.specs.Folds.{folded, initial_state}
 use Rattle.query_lang.specs.Streams.{values_at}
@@ -11,14 +14,11 @@ use Rattle.epoch_model.specs.Tables.{exact_row, closed_keys}
 use Rattle.epoch_model.proofs.KeyLists.{by_test}
 use Rattle.backing_store.specs.Store.{Store, IsStore}
 use Rattle.backing_store.specs.SortedRows.{sorted_rows}
-use Rattle.backing_store.specs.declared.table.StoreRow.{StoreRow}
 use Rattle.merged_epochs.specs.Laws.{HeldRowsAreTheTables}
 use Rattle.merged_epochs.specs.Merged.{StoreHolds, shown_row}
-use Rattle.final_queries.specs.Finals.{columns_of, plain_row, grouped_key, grouped_args, grouped_rows}
-use Rattle.final_queries.specs.Grouped.{whole_folding, row_epochs, plain_stored}
-
-abbrev plain_of : Row → Row
-plain_of row = plain_row row.key row.values
+use Rattle.final_queries.specs.Finals.{is_read, columns_of, plain_row, grouped_key, grouped_args, grouped_rows}
+use Rattle.final_queries.specs.Grouped.{whole_folding, row_epoch, row_epochs, plain_of}
+use Rattle.final_queries.specs.Joining.{reads}
 
 -- the rows of a key, joined, are the arguments of the rows with that key
 args_of : (keys args : List ℕ) (rows : List Row) (key : Key) → flat_map (λ rs. rs) (lists_of key (row_epochs keys args rows)) ≡ grouped_args keys args rows key
@@ -31,9 +31,9 @@ keys_of : (keys args : List ℕ) (rows : List Row) → map (λ epoch. epoch.key)
 keys_of keys args [] = refl
 keys_of keys args (row ∷ rows) = ap (λ ks. grouped_key keys row ∷ ks) (keys_of keys args rows)
 
-plain_shown : (rows : List StoreRow) → map plain_stored rows ≡ map plain_of (map (shown_row false) rows)
+plain_shown : (rows : List Row) → map plain_of rows ≡ map plain_of (map (shown_row false) rows)
 plain_shown [] = refl
-plain_shown (row ∷ rows) = ap (λ rs. plain_stored row ∷ rs) (plain_shown rows)
+plain_shown (row ∷ rows) = ap (λ rs. plain_of row ∷ rs) (plain_shown rows)
 
 one_each : (f : TypedFold) (keys args : List ℕ) (rows : List Row) (ks : List Key)
     → map plain_of (flat_map (λ k. exact_row (whole_folding f) k (length (lists_of k (row_epochs keys args rows))) (flat_map (λ rs. rs) (lists_of k (row_epochs keys args rows))) ∷ []) ks)
@@ -43,9 +43,17 @@ one_each f keys args rows (k ∷ ks) =
     ap (λ rs. plain_row k (folded f (initial_state f) (flat_map (λ rs. rs) (lists_of k (row_epochs keys args rows)))) ∷ rs) (one_each f keys args rows ks)
     ∙ ap (λ given. plain_row k (folded f (initial_state f) given) ∷ map (λ key. plain_row key (folded f (initial_state f) (grouped_args keys args rows key))) ks) (args_of keys args rows k)
 
+-- the epochs of the rows that are read, with one row more
+pub epochs_more : (keys args : List ℕ) (rows : List Row) (at : ℕ) (row : Row) → slice_get rows at ≡ Some row
+    → row_epochs keys args (reads (take at rows)) ++ row_epochs keys args (reads (row ∷ [])) ≡ row_epochs keys args (reads (take (at + 1) rows))
+epochs_more keys args rows at row here =
+    let test : Row → Bool = λ r. is_read r.mark in
+    let one_more = take_more rows at row (slice_get_within rows at row here) ∙ ap (λ r. take at rows ++ r ∷ []) (get_or_from_slice_get rows at row row here) in
+    sym (ap (row_epochs keys args) (ap reads one_more ∙ filter-append test (take at rows) (row ∷ [])) ∙ map-append (row_epoch keys args) (reads (take at rows)) (reads (row ∷ [])))
+
 -- The rows of the store are those of the grouped table.
 pub rows_grouped : HeldRowsAreTheTables → (f : TypedFold) (keys args : List ℕ) (rows : List Row) (store : Store) → IsStore store → StoreHolds (whole_folding f) store (row_epochs keys args rows)
-    → map plain_stored (sorted_rows store) ≡ grouped_rows keys (Some f) args rows
+    → map plain_of (sorted_rows store) ≡ grouped_rows keys (Some f) args rows
 rows_grouped law f keys args rows store s h =
     let epochs = row_epochs keys args rows in
     plain_shown (sorted_rows store)

@@ -7,3 +7,5 @@ mod GroupRead
 mod AlikeTables
 pub mod StateLengths
 mod MadeRows
+mod ReadRows
+mod RankedRows

@@ -6,7 +6,6 @@ use Rattle.query_lang.specs.Streams.{values_at}
 use Rattle.epoch_model.specs.declared.tables.Row.{Row}
 use Rattle.epoch_model.specs.Machine.{Epoch}
 use Rattle.epoch_model.specs.Tables.{Folding}
-use Rattle.backing_store.specs.declared.table.StoreRow.{StoreRow}
 use Rattle.final_queries.specs.Finals.{columns_of, grouped_key, plain_row}
 
 -- the fold's body, with one row for each key
@@ -21,5 +20,5 @@ abbrev pub row_epochs : List ℕ → List ℕ → List Row → List Epoch
 row_epochs keys args rows = map (row_epoch keys args) rows
 
 -- the row of a final for a row of a store
-abbrev pub plain_stored : StoreRow → Row
-plain_stored row = plain_row row.key row.state
+abbrev pub plain_of : Row → Row
+plain_of row = plain_row row.key row.values

@@ -3,24 +3,25 @@
 ghost use Rattle.std.specs.Prelude.{◌≡◌, ◌+◌, ◌≤◌, ◌++◌, ◌∷◌, [], List, All, Some, length, map, IfOk, OnOk};
 ghost use Rattle.epoch_model.specs.Machine.{Epoch};
 ghost use Rattle.fold_code.specs.Meaning.{IsCodeOf, code_scratch};
+ghost use Rattle.table_rows.specs.LentRows.{row_of};
 ghost use Rattle.merged_epochs.specs.Merged.{StoreHolds};
 ghost use Rattle.query_lang.specs.declared.fold.TypedFold.{TypedFold as AnyFold};
 ghost use Rattle.query_lang.specs.Folds.{IsValidFold, fold_args, initial_state};
 ghost use Rattle.query_lang.specs.TypedQueries.{AreSlots};
 ghost use Rattle.final_queries.specs.Finals.{columns_of, grouped_rows};
-ghost use Rattle.final_queries.specs.Grouped.{whole_folding, row_epochs, plain_stored};
+ghost use Rattle.final_queries.specs.Grouped.{whole_folding, row_epochs, plain_of};
 ghost use Rattle.final_queries.specs.Joining.{reads};
 
 use crate::rows::is_read;
-use crate::value::{columns_into, values_at};
-use backing_store::{BackingStore, StoreRow};
-use epoch_model::{Mark, Row};
+use crate::value::values_into;
+use backing_store::BackingStore;
 use fold_code::{FoldCode, compile};
-use marple_base::{Seq, Steps};
+use marple_base::Steps;
 use merged_epochs::{held_rows_are_the_tables, merged_epochs_are_held};
 use query_lang::TypedFold;
 use std::alloc::{AllocError, Global};
 use std::sync::ledger::Ledger;
+use table_rows::{RowRef, Rows};
 
 // Folds one row of arguments into the state of its key.
 fn fold_args_in<L: Ledger>(
@@ -53,21 +54,21 @@ fn fold_args_in<L: Ledger>(
     Ok(())
 }
 
-// Folds a row into the state of its key, where finals read it. The columns are room to work in.
+// Folds a row into the state of its key, where finals read it. `key` and `taken` are room to work in.
 fn fold_row<L: Ledger>(
-    alloc: Global,
     code: &FoldCode,
     start: &[u64],
     keys: &[u16],
     args: &[u16],
-    row: &Row,
-    columns: &mut Vec<u64>,
+    row: &RowRef,
+    key: &mut Vec<u64>,
+    taken: &mut Vec<u64>,
     store: &mut BackingStore,
     scratch: &mut [u64],
     steps: &mut Steps<L>,
 ) -> Result<(), AllocError>
-    requires keys { AreSlots (length (columns_of row.now)) keys.now }
-    requires args { AreSlots (length (columns_of row.now)) args.now }
+    requires keys { AreSlots (length row.now.columns.now) keys.now }
+    requires args { AreSlots (length row.now.columns.now) args.now }
     requires key_words { length keys.now ≡ store.old.key_words }
     requires start { length start.now ≡ store.old.state_words }
     requires states { code.now.states ≡ store.old.state_words }
@@ -75,7 +76,7 @@ fn fold_row<L: Ledger>(
     requires scratch { length scratch.old ≡ code_scratch code.now }
     ensures ok { OnOk result ((f : AnyFold) (epochs : List Epoch) → IsCodeOf f code.now → initial_state f ≡ start.now
         → StoreHolds (whole_folding f) store.old epochs
-        → StoreHolds (whole_folding f) store.new (epochs ++ row_epochs keys.now args.now (reads (row.now ∷ [])))) }
+        → StoreHolds (whole_folding f) store.new (epochs ++ row_epochs keys.now args.now (reads (row_of row.now ∷ [])))) }
     ensures key_words { store.new.key_words ≡ store.old.key_words }
     ensures state_words { store.new.state_words ≡ store.old.state_words }
     ensures steps { steps.old ≤ steps.new }
@@ -83,9 +84,8 @@ fn fold_row<L: Ledger>(
     if !is_read(row.mark) {
         return Ok(());
     }
-    columns_into(columns, row, steps)?;
-    let key = values_at(alloc, columns.as_slice(), keys, steps)?;
-    let taken = values_at(alloc, columns.as_slice(), args, steps)?;
+    values_into(key, row.columns, keys, steps)?;
+    values_into(taken, row.columns, args, steps)?;
     fold_args_in(
         code,
         start,
@@ -104,7 +104,7 @@ fn fold_rows<L: Ledger>(
     start: &[u64],
     keys: &[u16],
     args: &[u16],
-    rows: &[Row],
+    rows: &Rows,
     width: usize,
     steps: &mut Steps<L>,
 ) -> Result<BackingStore, AllocError>
@@ -119,16 +119,18 @@ fn fold_rows<L: Ledger>(
 {
     let mut store = BackingStore::new(alloc, keys.len(), start.len());
     let mut scratch = vec![in alloc; 0; code.scratch_words()]?;
-    let mut columns = Vec::new(alloc);
-    for row in rows {
+    let mut key = Vec::new(alloc);
+    let mut taken = Vec::new(alloc);
+    for at in 0..rows.len() {
+        let row = rows.get(at);
         fold_row(
-            alloc,
             code,
             start,
             keys,
             args,
-            row,
-            &mut columns,
+            &row,
+            &mut key,
+            &mut taken,
             &mut store,
             &mut scratch,
             steps,
@@ -137,29 +139,15 @@ fn fold_rows<L: Ledger>(
     Ok(store)
 }
 
-// The row of a final for a row of a store.
-fn plain_stored(stored: StoreRow) -> Row
-    ensures { result ≡ plain_stored stored }
+// The rows of a store as those of a final, in their place.
+fn plain_rows(stored: Rows) -> Rows
+    ensures { result ≡ map plain_of stored }
 {
-    let StoreRow { key, state, .. } = stored;
-    Row {
-        key,
-        mark: Mark::Plain,
-        epoch: 0,
-        epochs: 0,
-        values: state,
+    let mut rows = stored;
+    for at in 0..rows.len() {
+        rows.set_plain(at);
     }
-}
-
-// The rows of a final for the rows of a store.
-fn plain_rows(alloc: Global, stored: Seq<StoreRow>) -> Result<Seq<Row>, AllocError>
-    ensures { IfOk result (λ rows. rows ≡ map plain_stored stored) }
-{
-    let mut rows = Vec::with_capacity(alloc, stored.len())?;
-    for row in stored.into_vec() {
-        rows.push(plain_stored(row))?;
-    }
-    Ok(Seq::from_vec(rows))
+    rows
 }
 
 /// A row for each key among the rows that are read, in ascending order of the keys, with the fold over the arguments of
@@ -169,10 +157,10 @@ pub fn grouped<L: Ledger>(
     keys: &[u16],
     f: &TypedFold,
     args: &[u16],
-    rows: &[Row],
+    rows: &Rows,
     width: usize,
     steps: &mut Steps<L>,
-) -> Result<Seq<Row>, AllocError>
+) -> Result<Rows, AllocError>
     requires valid { IsValidFold f.now }
     requires keys { AreSlots width keys.now }
     requires args { AreSlots width args.now }
@@ -186,7 +174,6 @@ pub fn grouped<L: Ledger>(
     let initial = f.initial.as_slice();
     let store = fold_rows(alloc, &code, initial, keys, args, rows, width, steps)?;
     store.known();
-    let stored = store.into_sorted()?;
-    let made = plain_rows(alloc, stored)?;
-    Ok(made)
+    let stored = store.sorted()?;
+    Ok(plain_rows(stored))
 }

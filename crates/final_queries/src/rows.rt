@@ -1,17 +1,20 @@
 // Finals that take one table row by row.
 
-ghost use Rattle.std.specs.Prelude.{◌≡◌, ◌+◌, ◌≤◌, ◌++◌, All, length, map, filter, IfOk};
+ghost use Rattle.std.specs.Prelude.{◌≡◌, ◌+◌, ◌≤◌, ◌++◌, ◌∷◌, [], All, length, map, IfOk, OnOk};
 ghost use Rattle.query_lang.specs.Streams.{expr_value};
 ghost use Rattle.query_lang.specs.Folds.{IsValidTerm};
 ghost use Rattle.query_lang.specs.Terms.{term_of};
-ghost use Rattle.final_queries.specs.Finals.{HasColumns, is_read, plain_row, filtered_rows, mapped_row, mapped_rows};
+ghost use Rattle.table_rows.specs.LentRows.{row_of};
+ghost use Rattle.final_queries.specs.Finals.{HasColumns, is_read, columns_of, plain_row, filtered_rows, mapped_row, mapped_rows};
+ghost use Rattle.final_queries.specs.Joining.{reads};
 
-use crate::value::{columns_into, value_of};
-use epoch_model::{Mark, Row};
-use marple_base::{Seq, Steps};
+use crate::value::value_of;
+use epoch_model::Mark;
+use marple_base::Steps;
 use query_lang::TypedExpr;
 use std::alloc::{AllocError, Global};
 use std::sync::ledger::Ledger;
+use table_rows::{RowRef, Rows};
 
 /// Do finals read a row with this mark?
 pub fn is_read(mark: Mark) -> bool
@@ -23,125 +26,121 @@ pub fn is_read(mark: Mark) -> bool
     }
 }
 
-/// A row of a final, with a step for each word of its key.
-pub fn plain_row<L: Ledger>(
-    alloc: Global,
+/// The number of rows that finals read.
+pub fn read_count(rows: &Rows) -> usize
+    ensures { result ≡ length (reads rows.now) }
+{
+    let mut count = 0;
+    for at in 0..rows.len() {
+        if is_read(rows.get(at).mark) {
+            count += 1;
+        }
+    }
+    count
+}
+
+/// Adds a row of a final, with a step for each word.
+pub fn push_plain<L: Ledger>(
+    made: &mut Rows,
     key: &[u64],
-    values: Vec<u64>,
+    values: &[u64],
     steps: &mut Steps<L>,
-) -> Result<Row, AllocError>
-    ensures row { IfOk result (λ row. row ≡ plain_row key.now values.items) }
+) -> Result<(), AllocError>
+    ensures row { OnOk result (made.new ≡ made.old ++ plain_row key.now values.now ∷ []) }
     ensures steps { steps.old ≤ steps.new }
 {
     steps.tick_many(key.len() as u64);
-    Ok(Row {
-        key: Seq::from_vec(Vec::from_slice(alloc, key)?),
-        mark: Mark::Plain,
-        epoch: 0,
-        epochs: 0,
-        values: Seq::from_vec(values),
-    })
-}
-
-/// The row again, as a row of a final, with a step for each word.
-pub fn plain_copy<L: Ledger>(
-    alloc: Global,
-    row: &Row,
-    steps: &mut Steps<L>,
-) -> Result<Row, AllocError>
-    ensures row { IfOk result (λ copy. copy ≡ plain_row row.now.key row.now.values) }
-    ensures steps { steps.old ≤ steps.new }
-{
-    let values = Vec::from_slice(alloc, row.values.as_slice())?;
     steps.tick_many(values.len() as u64);
-    plain_row(alloc, row.key.as_slice(), values, steps)
+    made.push(key, Mark::Plain, 0, 0, values)
 }
 
 /// The rows where the condition holds.
+#[tactic(auto, using(table_rows::proofs::LentFacts::holds_at))]
 pub fn filtered<L: Ledger>(
     alloc: Global,
     condition: &TypedExpr,
-    rows: &[Row],
+    rows: &Rows,
     keys: usize,
     others: usize,
     steps: &mut Steps<L>,
-) -> Result<Seq<Row>, AllocError>
+) -> Result<Rows, AllocError>
     requires condition { IsValidTerm (keys + others) (term_of condition.now) }
     requires rows { All (HasColumns keys others) rows.now }
-    ensures rows { IfOk result (λ made. made ≡ filtered_rows condition.now (filter (λ row. is_read row.mark) rows.now)) }
+    ensures rows { IfOk result (λ made. made ≡ filtered_rows condition.now (reads rows.now)) }
     ensures steps { steps.old ≤ steps.new }
 {
-    let mut columns = Vec::new(alloc);
-    let mut made = Seq::new(alloc);
-    for row in rows {
-        if is_read(row.mark) {
-            columns_into(&mut columns, row, steps)?;
-            if value_of(condition, columns.as_slice(), steps) != 0 {
-                made.push(plain_copy(alloc, row, steps)?)?;
-            }
+    let mut made = Rows::new(alloc);
+    for at in 0..rows.len() {
+        let row = rows.get(at);
+        if is_read(row.mark) && value_of(condition, row.columns, steps) != 0 {
+            push_plain(&mut made, row.key, row.values, steps)?;
         }
     }
     Ok(made)
 }
 
-// The values of a row, and then those of the expressions, with a step for each word.
-fn mapped_values<L: Ledger>(
-    alloc: Global,
+// Writes the values of a row, and then those of the expressions over its columns, with a step for each word.
+fn mapped_values_into<L: Ledger>(
+    all: &mut Vec<u64>,
     values: &[TypedExpr],
-    row: &Row,
-    columns: &[u64],
+    row: &RowRef,
     steps: &mut Steps<L>,
-) -> Result<Vec<u64>, AllocError>
-    requires { All (λ e. IsValidTerm (length columns.now) (term_of e)) values.now }
-    ensures values { IfOk result (λ made. made.items ≡ row.now.values ++ map (λ e. expr_value e columns.now) values.now) }
+) -> Result<(), AllocError>
+    requires { All (λ e. IsValidTerm (length row.now.columns.now) (term_of e)) values.now }
+    ensures values { OnOk result (all.new.items ≡ row.now.values.now ++ map (λ e. expr_value e row.now.columns.now) values.now) }
     ensures steps { steps.old ≤ steps.new }
 {
-    let mut made = Vec::from_slice(alloc, row.values.as_slice())?;
+    all.clear();
+    all.extend_from_slice(row.values)?;
     steps.tick_many(row.values.len() as u64);
     for e in values {
-        made.push(value_of(e, columns, steps))?;
+        all.push(value_of(e, row.columns, steps))?;
         steps.tick();
     }
-    Ok(made)
+    Ok(())
 }
 
-// The row with the new values behind its own. The columns are room to work in.
+// Adds the row with the new values after its own. `all` is room to work in.
 #[tactic(auto, unfolding(crate::specs::Finals::mapped_row))]
-fn mapped_row<L: Ledger>(
-    alloc: Global,
+fn push_mapped<L: Ledger>(
+    made: &mut Rows,
+    all: &mut Vec<u64>,
     values: &[TypedExpr],
-    row: &Row,
-    columns: &mut Vec<u64>,
+    row: &RowRef,
     steps: &mut Steps<L>,
-) -> Result<Row, AllocError>
-    requires { All (λ e. IsValidTerm (length row.now.key + length row.now.values) (term_of e)) values.now }
-    ensures row { IfOk result (λ made. made ≡ mapped_row values.now row.now) }
+) -> Result<(), AllocError>
+    requires { All (λ e. IsValidTerm (length row.now.columns.now) (term_of e)) values.now }
+    ensures row { OnOk result (made.new ≡ made.old ++ mapped_row values.now (row_of row.now) ∷ []) }
     ensures steps { steps.old ≤ steps.new }
 {
-    columns_into(columns, row, steps)?;
-    let all = mapped_values(alloc, values, row, columns.as_slice(), steps)?;
-    plain_row(alloc, row.key.as_slice(), all, steps)
+    mapped_values_into(all, values, row, steps)?;
+    push_plain(made, row.key, all.as_slice(), steps)
 }
 
-/// Each row with the new values behind its own.
+/// Each row with the new values after its own. Memory is taken once for all rows.
+#[tactic(auto, using(table_rows::proofs::LentFacts::holds_at))]
 pub fn mapped<L: Ledger>(
     alloc: Global,
     values: &[TypedExpr],
-    rows: &[Row],
+    rows: &Rows,
     keys: usize,
     others: usize,
     steps: &mut Steps<L>,
-) -> Result<Seq<Row>, AllocError>
+) -> Result<Rows, AllocError>
     requires values { All (λ e. IsValidTerm (keys + others) (term_of e)) values.now }
     requires rows { All (HasColumns keys others) rows.now }
-    ensures rows { IfOk result (λ made. made ≡ mapped_rows values.now (filter (λ row. is_read row.mark) rows.now)) }
+    ensures rows { IfOk result (λ made. made ≡ mapped_rows values.now (reads rows.now)) }
     ensures steps { steps.old ≤ steps.new }
 {
-    let mut columns = Vec::new(alloc);
-    let mut made = Seq::new(alloc);
-    for row in rows {
+    let count = read_count(rows);
+    let width = keys.saturating_add(others).saturating_add(values.len());
+    let mut all = Vec::new(alloc);
+    let mut made = Rows::new(alloc);
+    made.reserve(count, count.saturating_mul(width))?;
+    for at in 0..rows.len() {
+        let row = rows.get(at);
         if is_read(row.mark) {
-            made.push(mapped_row(alloc, values, row, &mut columns, steps)?)?;
+            push_mapped(&mut made, &mut all, values, &row, steps)?;
         }
     }
     Ok(made)

@@ -14,11 +14,11 @@ use crate::laws::final_tables_are_read;
 use crate::rows::{filtered, mapped};
 use crate::table::{Table, TableKind};
 use crate::top::top;
-use epoch_model::Row;
 use marple_base::{Seq, Steps, Text};
 use query_lang::{Names, TypedExpr, TypedFinal, TypedFinalOp, TypedFold};
 use std::alloc::{AllocError, Global};
 use std::sync::ledger::Ledger;
+use table_rows::Rows;
 
 impl Table {
     // How many columns stand behind the keys.
@@ -35,21 +35,14 @@ fn filter_table<L: Ledger>(
     condition: &TypedExpr,
     table: &Table,
     steps: &mut Steps<L>,
-) -> Result<Seq<Row>, AllocError>
+) -> Result<Rows, AllocError>
     requires table { IsTable table.now }
     requires condition { IsValidTerm (length table.now.columns) (term_of condition.now) }
     ensures rows { IfOk result (λ rows. rows ≡ filtered_rows condition.now (rows_read table.now)) }
     ensures steps { steps.old ≤ steps.new }
 {
     let keys = table.keys as usize;
-    filtered(
-        alloc,
-        condition,
-        table.rows.as_slice(),
-        keys,
-        table.others(),
-        steps,
-    )
+    filtered(alloc, condition, &table.rows, keys, table.others(), steps)
 }
 
 fn map_table<L: Ledger>(
@@ -57,21 +50,14 @@ fn map_table<L: Ledger>(
     values: &[TypedExpr],
     table: &Table,
     steps: &mut Steps<L>,
-) -> Result<Seq<Row>, AllocError>
+) -> Result<Rows, AllocError>
     requires table { IsTable table.now }
     requires values { All (λ e. IsValidTerm (length table.now.columns) (term_of e)) values.now }
     ensures rows { IfOk result (λ rows. rows ≡ mapped_rows values.now (rows_read table.now)) }
     ensures steps { steps.old ≤ steps.new }
 {
     let keys = table.keys as usize;
-    mapped(
-        alloc,
-        values,
-        table.rows.as_slice(),
-        keys,
-        table.others(),
-        steps,
-    )
+    mapped(alloc, values, &table.rows, keys, table.others(), steps)
 }
 
 fn group_table<L: Ledger>(
@@ -81,7 +67,7 @@ fn group_table<L: Ledger>(
     args: &[u16],
     table: &Table,
     steps: &mut Steps<L>,
-) -> Result<Seq<Row>, AllocError>
+) -> Result<Rows, AllocError>
     requires table { IsTable table.now }
     requires valid { IsValidFold f.now }
     requires keys { AreSlots (length table.now.columns) keys.now }
@@ -91,7 +77,7 @@ fn group_table<L: Ledger>(
     ensures steps { steps.old ≤ steps.new }
 {
     let width = table.columns.len();
-    grouped(alloc, keys, f, args, table.rows.as_slice(), width, steps)
+    grouped(alloc, keys, f, args, &table.rows, width, steps)
 }
 
 fn join_tables<L: Ledger>(
@@ -99,13 +85,13 @@ fn join_tables<L: Ledger>(
     left: &Table,
     right: &Table,
     steps: &mut Steps<L>,
-) -> Result<Seq<Row>, AllocError>
+) -> Result<Rows, AllocError>
     requires left { IsTable left.now }
     requires right { IsTable right.now }
     ensures rows { IfOk result (λ rows. rows ≡ joined_rows (rows_read left.now) (rows_read right.now)) }
     ensures steps { steps.old ≤ steps.new }
 {
-    joined(alloc, left.rows.as_slice(), right.rows.as_slice(), steps)
+    joined(alloc, &left.rows, &right.rows, steps)
 }
 
 fn top_of_table<L: Ledger>(
@@ -114,7 +100,7 @@ fn top_of_table<L: Ledger>(
     kept: usize,
     table: &Table,
     steps: &mut Steps<L>,
-) -> Result<Seq<Row>, AllocError>
+) -> Result<Rows, AllocError>
     requires table { IsTable table.now }
     requires column { column < length table.now.columns }
     requires kept { 0 < kept }
@@ -124,7 +110,7 @@ fn top_of_table<L: Ledger>(
     let keys = table.keys as usize;
     top(
         alloc,
-        table.rows.as_slice(),
+        &table.rows,
         column,
         kept,
         keys,
@@ -141,7 +127,7 @@ fn rows_made<L: Ledger>(
     tables: &Seq<Table>,
     names: usize,
     steps: &mut Steps<L>,
-) -> Result<Seq<Row>, AllocError>
+) -> Result<Rows, AllocError>
     requires folds { All IsValidFold folds.now }
     requires valid { IsValidFinal names folds.now (map table_shape tables.now) one.now }
     requires tables { All IsTable tables.now }

@@ -1,6 +1,6 @@
-use epoch_model::Row;
 use marple_base::{Seq, Text};
 use query_lang::Class;
+use table_rows::Rows;
 
 /// A table of a query. Each row has `keys` key words and one value for each other column.
 #[derive(Drop)]
@@ -10,7 +10,7 @@ pub struct Table {
     pub columns: Seq<Text>,
     pub keys: u8,
     pub kind: TableKind,
-    pub rows: Seq<Row>,
+    pub rows: Rows,
 }
 
 #[derive(Clone, Copy, Debug, PartialEq, Eq)]

@@ -3,16 +3,17 @@
 ghost use Rattle.std.specs.Prelude.{◌≡◌, ◌+◌, ◌-◌, ◌^◌, ◌<◌, ◌≤◌, All, Some, length, map, nat_lt, count_by, slice_get};
 ghost use Rattle.std.specs.Prelude.{IfOk};
 ghost use Rattle.epoch_model.specs.Keys.{IsAscending};
-ghost use Rattle.final_queries.specs.Finals.{HasColumns, column_at, columns_of, top_rows};
+ghost use Rattle.table_rows.specs.LentRows.{row_of};
+ghost use Rattle.final_queries.specs.Finals.{HasColumns, top_rows};
 ghost use Rattle.final_queries.specs.Joining.{reads};
 ghost use Rattle.final_queries.specs.Ranks.{rank_of, ranks_from, is_before, is_within};
 
-use crate::rows::{is_read, plain_copy};
-use epoch_model::Row;
-use marple_base::{Seq, Steps};
+use crate::rows::{is_read, push_plain, read_count};
+use marple_base::Steps;
 use std::alloc::{AllocError, Global};
 use std::cmp::Reverse;
 use std::sync::ledger::Ledger;
+use table_rows::{RowRef, Rows};
 
 /// Where a row stands among others: by its column from the greatest word on, and where this is equal by its place, since
 /// rows are in the order of their keys.
@@ -22,25 +23,12 @@ pub struct Rank {
     place: usize,
 }
 
-// The word of a row's column, counted over the key and then the values.
-fn word_at(row: &Row, column: usize) -> u64
-    requires { column < length (columns_of row.now) }
-    ensures { result ≡ column_at column row.now }
-{
-    let keys = row.key.len();
-    if column < keys {
-        *row.key.get(column)
-    } else {
-        *row.values.get(column - keys)
-    }
-}
-
-fn rank_of(row: &Row, column: usize, place: usize) -> Rank
-    requires { column < length (columns_of row.now) }
-    ensures { result ≡ rank_of column place row.now }
+fn rank_of(row: &RowRef, column: usize, place: usize) -> Rank
+    requires { column < length row.now.columns.now }
+    ensures { result ≡ rank_of column place (row_of row.now) }
 {
     Rank {
-        word: Reverse(word_at(row, column)),
+        word: Reverse(row.columns[column]),
         place,
     }
 }
@@ -48,7 +36,7 @@ fn rank_of(row: &Row, column: usize, place: usize) -> Rank
 // The ranks of the rows that are read, with a step for each of their two words.
 fn ranks_of<L: Ledger>(
     alloc: Global,
-    rows: &[Row],
+    rows: &Rows,
     column: usize,
     keys: usize,
     others: usize,
@@ -59,10 +47,11 @@ fn ranks_of<L: Ledger>(
     ensures ranks { IfOk result (λ ranks. ranks.items ≡ ranks_from column 0 rows.now) }
     ensures steps { steps.old ≤ steps.new }
 {
-    let mut ranks = Vec::new(alloc);
+    let mut ranks = Vec::with_capacity(alloc, read_count(rows))?;
     for place in 0..rows.len() {
-        if is_read(rows[place].mark) {
-            ranks.push(rank_of(&rows[place], column, place))?;
+        let row = rows.get(place);
+        if is_read(row.mark) {
+            ranks.push(rank_of(&row, column, place))?;
             steps.tick_many(2);
         }
     }
@@ -95,13 +84,13 @@ fn is_kept(last: Option<Rank>, rank: Rank) -> bool
 /// each rank, of two words each: one in the search for the last that is kept, and one with that.
 pub fn top<L: Ledger>(
     alloc: Global,
-    rows: &[Row],
+    rows: &Rows,
     column: usize,
     kept: usize,
     keys: usize,
     others: usize,
     steps: &mut Steps<L>,
-) -> Result<Seq<Row>, AllocError>
+) -> Result<Rows, AllocError>
     requires column { column < keys + others }
     requires rows { All (HasColumns keys others) rows.now }
     requires order { IsAscending (map (λ row. row.key) (reads rows.now)) }
@@ -111,13 +100,15 @@ pub fn top<L: Ledger>(
 {
     let mut ranks = ranks_of(alloc, rows, column, keys, others, steps)?;
     let last = last_kept(ranks.as_mut_slice(), kept);
-    let mut made = Seq::new(alloc);
+    let count = ranks.len().min(kept);
+    let mut made = Rows::new(alloc);
+    made.reserve(count, count.saturating_mul(keys.saturating_add(others)))?;
     for place in 0..rows.len() {
-        let row = &rows[place];
+        let row = rows.get(place);
         if is_read(row.mark) {
             steps.tick_many(4);
-            if is_kept(last, rank_of(row, column, place)) {
-                made.push(plain_copy(alloc, row, steps)?)?;
+            if is_kept(last, rank_of(&row, column, place)) {
+                push_plain(&mut made, row.key, row.values, steps)?;
             }
         }
     }

@@ -3,3 +3,4 @@ pub mod Tree
 pub mod Code
 pub mod Meaning
 pub mod Additive
+pub mod Moves

@@ -4,7 +4,9 @@
 mod additive;
 mod code;
 mod emit;
+mod finding;
 mod instr;
+mod moves;
 
 pub use additive::is_additive;
 pub use code::{FoldCode, compile};

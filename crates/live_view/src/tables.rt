@@ -52,8 +52,7 @@ fn store_table(
     let columns = columns(alloc, group)?;
     let keys = group.key_names.len() as u8;
     let (class, depth) = (group.program.class, group.program.depth);
-    let stored = store.into_sorted()?;
-    let shown = shown_rows(alloc, stored, row_per_epoch)?;
+    let shown = shown_rows(store.sorted()?, row_per_epoch);
     Ok(Table {
         name,
         columns,

@@ -8,7 +8,7 @@ use Rattle.std.proofs.lemmas.Bool.{true≢false, lt-ltb}
 use Rattle.std.proofs.lemmas.Bool.Decides.{nat_tests}
 use Rattle.epoch_model.specs.declared.tables.Row.{Row}
 use Rattle.epoch_model.specs.declared.tables.Mark.{Mark}
-use Rattle.epoch_model.specs.declared.tables.Mark.TheVariants.{Valid, Invalid}
+use Rattle.epoch_model.specs.declared.tables.Mark.TheVariants.{Plain, Valid, Invalid}
 use Rattle.epoch_model.specs.Keys.{Key, ArgRow, key_eq, has, ascending}
 use Rattle.epoch_model.specs.Machine.{Epoch, lists_of}
 use Rattle.epoch_model.specs.Tables.{Folding, folded, epochs_shown, mark_of, exact_row, epoch_rows, closed_key_rows, closed_keys, closed_rows, closed_epochs}
@@ -17,7 +17,6 @@ use Rattle.epoch_model.proofs.KeyOrder.{ascending-ascends, has-ascending, same_a
 use Rattle.backing_store.specs.Store.{Store, StoredKey, IsStore, AreKeysOf, epochs_of, states_of}
 use Rattle.backing_store.specs.StoreLaws.{keys_of}
 use Rattle.backing_store.specs.SortedRows.{numbered, rows_of, sorted_rows}
-use Rattle.backing_store.specs.declared.table.StoreRow.{StoreRow}
 use Rattle.merged_epochs.specs.Merged.{StoreHolds, stored, shown_row, epochs_in}
 use Rattle.merged_epochs.specs.Laws.{HeldRowsAreTheTables}
 
@@ -64,7 +63,7 @@ mark_shown n = ap (λ (t : Bool). if t then Valid else Invalid) (same_test n)
 each_shown : (f : Folding) (key : Key) (count number : ℕ) (lists : List (List ArgRow)) → map (shown_row true) (numbered key (epochs_shown count) number (map (folded f) lists)) ≡ epoch_rows f key count number lists
 each_shown f key count number [] = refl
 each_shown f key count number (rows ∷ lists) =
-    let first : shown_row true (record { key = key; epoch = number; epochs = epochs_shown count; state = folded f rows }) ≡ record { key = key; mark = mark_of count; epoch = number; epochs = epochs_shown count; values = folded f rows } =
+    let first : shown_row true (record { key = key; mark = Plain; epoch = number; epochs = epochs_shown count; values = folded f rows }) ≡ record { key = key; mark = mark_of count; epoch = number; epochs = epochs_shown count; values = folded f rows } =
     ap (λ (mark : Mark). record { key = key; mark = mark; epoch = number; epochs = epochs_shown count; values = folded f rows }) (mark_shown count) in
     ap (λ (row : Row). row ∷ map (shown_row true) (numbered key (epochs_shown count) (suc number) (map (folded f) lists))) first
     ∙ ap (λ rs. record { key = key; mark = mark_of count; epoch = number; epochs = epochs_shown count; values = folded f rows } ∷ rs) (each_shown f key count (suc number) lists)
@@ -93,7 +92,7 @@ flat_map_alike F G (k ∷ keys) h =
     or_true true = refl
     or_true false = refl
 
-map_flat_map : (F : StoreRow → Row) (G : Key → List StoreRow) (keys : List Key) → map F (flat_map G keys) ≡ flat_map (λ k. map F (G k)) keys
+map_flat_map : (F : Row → Row) (G : Key → List Row) (keys : List Key) → map F (flat_map G keys) ≡ flat_map (λ k. map F (G k)) keys
 map_flat_map F G [] = refl
 map_flat_map F G (k ∷ keys) = map-append F (G k) (flat_map G keys) ∙ ap (λ rs. map F (G k) ++ rs) (map_flat_map F G keys)
 
@@ -119,13 +118,13 @@ sums_shown F G (k ∷ keys) h =
     or_true true = refl
     or_true false = refl
 
-sum_flat_map : (F : StoreRow → ℕ) (G : Key → List StoreRow) (keys : List Key) → sum_by F (flat_map G keys) ≡ sum_by (λ k. sum_by F (G k)) keys
+sum_flat_map : (F : Row → ℕ) (G : Key → List Row) (keys : List Key) → sum_by F (flat_map G keys) ≡ sum_by (λ k. sum_by F (G k)) keys
 sum_flat_map F G [] = refl
 sum_flat_map F G (k ∷ keys) = sum_by-append F (G k) (flat_map G keys) ∙ (ap (λ n. sum_by F (G k) + n) (sum_flat_map F G keys) ∙ sym (sum_by-cons (λ x. sum_by F (G x)) k keys))
 
 ones : (key : Key) (epochs number : ℕ) (states : List (List ℕ)) → sum_by (epochs_in true) (numbered key epochs number states) ≡ length states
 ones key epochs number [] = refl
-ones key epochs number (state ∷ states) = sum_by-cons (epochs_in true) (record { key = key; epoch = number; epochs = epochs; state = state }) (numbered key epochs (suc number) states) ∙ (let e = ones key epochs (suc number) states in omega arith)
+ones key epochs number (state ∷ states) = sum_by-cons (epochs_in true) (record { key = key; mark = Plain; epoch = number; epochs = epochs; values = state }) (numbered key epochs (suc number) states) ∙ (let e = ones key epochs (suc number) states in omega arith)
 
 key_epochs : (f : Folding) (key : Key) (lists : List (List ArgRow)) → 0 < length lists
     → epochs_shown (sum_by (epochs_in f.row_per_epoch) (numbered key (epochs_shown (length lists)) 1 (stored f lists))) ≡ epochs_shown (length lists)

@@ -1,2 +1,3 @@
 mod StoredStates
 mod ClosedRows
+pub mod Showing

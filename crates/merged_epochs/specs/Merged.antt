@@ -6,7 +6,6 @@ use Rattle.epoch_model.specs.Keys.{Key, ArgRow}
 use Rattle.epoch_model.specs.Machine.{Epoch, lists_of}
 use Rattle.epoch_model.specs.Tables.{Folding, folded, epochs_shown, mark_of}
 use Rattle.backing_store.specs.Store.{Store, epochs_of, states_of}
-use Rattle.backing_store.specs.declared.table.StoreRow.{StoreRow}
 
 -- the states that a store holds of a key with these merged row lists: one for each list, or one for all their rows
 abbrev pub stored : Folding → List (List ArgRow) → List (List ℕ)
@@ -22,12 +21,12 @@ pub record StoreHolds (f : Folding) (store : Store) (epochs : List Epoch) : Type
   pub rows : (key : Key) → states_of store key ≡ stored f (lists_of key epochs)
 
 -- the table's row for a row of the store: for one epoch, or for all epochs of its key
-abbrev pub shown_row : Bool → StoreRow → Row
+abbrev pub shown_row : Bool → Row → Row
 shown_row row_per_epoch row =
     if row_per_epoch
-    then record { key = row.key; mark = mark_of row.epochs; epoch = row.epoch; epochs = row.epochs; values = row.state }
-    else record { key = row.key; mark = Exact; epoch = 0; epochs = row.epochs; values = row.state }
+    then record { key = row.key; mark = mark_of row.epochs; epoch = row.epoch; epochs = row.epochs; values = row.values }
+    else record { key = row.key; mark = Exact; epoch = 0; epochs = row.epochs; values = row.values }
 
 -- how many epochs the row is for
-abbrev pub epochs_in : Bool → StoreRow → ℕ
+abbrev pub epochs_in : Bool → Row → ℕ
 epochs_in row_per_epoch row = if row_per_epoch then 1 else row.epochs

@@ -1,69 +1,56 @@
 //! Table rows, from the rows of a store.
 
-ghost use Rattle.std.specs.Prelude.{◌≡◌, IfOk, map, sum_by};
-ghost use Rattle.epoch_model.specs.Tables.{epochs_shown};
+ghost use Rattle.std.specs.Prelude.{◌≡◌, ◌<◌, length, map, slice_get, slice_set, sum_by, Some};
+ghost use Rattle.epoch_model.specs.declared.tables.Row.{Row};
+ghost use Rattle.epoch_model.specs.Tables.{epochs_shown, mark_of};
 ghost use Rattle.merged_epochs.specs.Merged.{epochs_in, shown_row};
 
-use backing_store::StoreRow;
-use epoch_model::{Mark, Row};
-use marple_base::Seq;
-use std::alloc::{AllocError, Global};
+use epoch_model::Mark;
+use table_rows::Rows;
 
 /// The rows of a table, and how many epochs they are for, or the greatest `u64` where that is more.
 #[derive(Drop)]
 pub struct ShownRows {
-    pub rows: Seq<Row>,
+    pub rows: Rows,
     pub epochs: u64,
 }
 
-// The table's row for a row of the store.
-fn shown_row(row: StoreRow, row_per_epoch: bool) -> Row
-    ensures { result ≡ shown_row row_per_epoch row }
+// The mark of a row for one epoch, by how many epochs its key has.
+fn mark_of(epochs: u64) -> Mark
+    ensures { result ≡ mark_of epochs }
 {
-    let StoreRow {
-        key,
-        epoch,
-        epochs,
-        state,
-    } = row;
-    let (mark, epoch) = match (row_per_epoch, epochs) {
-        (false, _) => (Mark::Exact, 0),
-        (true, 1) => (Mark::Valid, epoch),
-        (true, _) => (Mark::Invalid, epoch),
-    };
-    Row {
-        key,
-        mark,
-        epoch,
-        epochs,
-        values: state,
+    match epochs {
+        1 => Mark::Valid,
+        _ => Mark::Invalid,
     }
 }
 
-// How many epochs the row is for.
-fn epochs_in(row: &StoreRow, row_per_epoch: bool) -> u64
-    ensures { result ≡ epochs_in row_per_epoch row.now }
+// Makes a row of the store the table's row, and gives the number of epochs that it is for.
+fn show_row(rows: &mut Rows, at: usize, row_per_epoch: bool) -> u64
+    requires { at < length rows.old }
+    ensures row { (row : Row) → slice_get rows.old at ≡ Some row → rows.new ≡ slice_set rows.old at (shown_row row_per_epoch row) }
+    ensures epochs { (row : Row) → slice_get rows.old at ≡ Some row → result ≡ epochs_in row_per_epoch row }
 {
-    if row_per_epoch { 1 } else { row.epochs }
+    let epochs = rows.epochs(at);
+    if row_per_epoch {
+        let epoch = rows.epoch(at);
+        rows.set_mark(at, mark_of(epochs), epoch);
+        1
+    } else {
+        rows.set_mark(at, Mark::Exact, 0);
+        epochs
+    }
 }
 
 /// The table's rows for the rows of the store.
-pub fn shown_rows(
-    alloc: Global,
-    stored: Seq<StoreRow>,
-    row_per_epoch: bool,
-) -> Result<ShownRows, AllocError>
-    ensures rows { IfOk result (λ shown. shown.rows ≡ map (shown_row row_per_epoch) stored) }
-    ensures epochs { IfOk result (λ shown. shown.epochs ≡ epochs_shown (sum_by (epochs_in row_per_epoch) stored)) }
+pub fn shown_rows(stored: Rows, row_per_epoch: bool) -> ShownRows
+    ensures rows { result.rows ≡ map (shown_row row_per_epoch) stored }
+    ensures epochs { result.epochs ≡ epochs_shown (sum_by (epochs_in row_per_epoch) stored) }
 {
-    let mut rows = Vec::with_capacity(alloc, stored.len())?;
+    let mut rows = stored;
     let mut epochs = 0u64;
-    for row in stored.into_vec() {
-        epochs = epochs.saturating_add(epochs_in(&row, row_per_epoch));
-        rows.push(shown_row(row, row_per_epoch))?;
+    for at in 0..rows.len() {
+        epochs = epochs.saturating_add(show_row(&mut rows, at, row_per_epoch));
     }
-    Ok(ShownRows {
-        rows: Seq::from_vec(rows),
-        epochs,
-    })
+    ShownRows { rows, epochs }
 }

@@ -12,7 +12,7 @@ use final_queries::{Table, TableKind};
 use marple_base::{Seq, Text};
 use merged_epochs::{held_rows_are_the_tables, shown_rows};
 use query_lang::Class;
-use std::alloc::{AllocError, Global};
+use std::alloc::AllocError;
 
 // The names of keys, and then those of states.
 fn column_names(key_names: Seq<Text>, state_names: Seq<Text>) -> Result<Seq<Text>, AllocError>
@@ -27,7 +27,6 @@ fn column_names(key_names: Seq<Text>, state_names: Seq<Text>) -> Result<Seq<Text
 
 /// The table of the epochs that a store holds, of entries of this kind, under these names. The store stays as it is.
 pub fn store_table<K: EpochKind>(
-    alloc: Global,
     kind: &K,
     store: &BackingStore,
     name: Text,
@@ -46,7 +45,7 @@ pub fn store_table<K: EpochKind>(
     store.known();
     let keys = key_names.len() as u8;
     let stored = store.sorted()?;
-    let shown = shown_rows(alloc, stored, kind.row_per_epoch())?;
+    let shown = shown_rows(stored, kind.row_per_epoch());
     Ok(Table {
         name,
         columns: column_names(key_names, state_names)?,

@@ -257,7 +257,6 @@ impl<const WAYS: usize> Group<WAYS> {
         let state_names = copied_texts(alloc, part.state_names.as_slice())?;
         let (class, depth) = (part.program.class, part.program.depth);
         store_table(
-            alloc,
             &self.kind,
             &self.store,
             name,

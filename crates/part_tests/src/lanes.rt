@@ -84,11 +84,13 @@ impl<const WAYS: usize> OneBucket<WAYS> {
         let tables = self.pipeline.close()?;
         assert_eq!(rt; tables.len(), 1);
         let mut rows = Vec::new(alloc);
-        for row in tables.get(0).rows.as_slice() {
+        let shown = &tables.get(0).rows;
+        for at in 0..shown.len() {
+            let row = shown.get(at);
             assert_eq!(rt; row.mark, Mark::Exact);
-            rows.extend_from_slice(row.key.as_slice())?;
+            rows.extend_from_slice(row.key)?;
             rows.push(row.epochs)?;
-            rows.extend_from_slice(row.values.as_slice())?;
+            rows.extend_from_slice(row.values)?;
         }
         Ok(rows)
     }

@@ -1,6 +1,7 @@
 //! The query language: its syntax trees, with and without names, and what folds and expressions mean.
 #![tactic(auto)]
 
+mod eval;
 mod fault;
 mod fold;
 pub mod laws;
@@ -11,6 +12,7 @@ mod token;
 mod typed;
 pub mod typing;
 
+pub use eval::eval_expr;
 pub use fault::{FaultKind, Limit, QueryFault, Span};
 pub use fold::{Op, TypedExpr, TypedFold, TypedStmt};
 pub use names::Names;

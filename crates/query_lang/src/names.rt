@@ -64,6 +64,17 @@ impl Names {
         Ok(at as u32)
     }
 
+    /// The number of a text: that of its name, or the next number where no name has it. It takes no memory.
+    pub fn find(&self, text: &[u8]) -> u32
+        requires { length self.now < 2 ^ 32 }
+        ensures { result ≡ number_in self.now text.now }
+    {
+        match self.texts.get_index_of(text) {
+            Some(at) => at as u32,
+            None => self.texts.len() as u32,
+        }
+    }
+
     /// The text of the name with this number.
     pub fn text(&self, id: u32) -> &[u8]
         requires { id < length self.now }

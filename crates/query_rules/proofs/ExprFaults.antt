@@ -17,10 +17,10 @@ use Rattle.query_lang.specs.TypedExprs.{slot_at, slot_of, is_operand, is_right_c
 use Rattle.query_rules.specs.Asked.{ExprAsks, of_part, of_name, of_call, of_right, of_second}
 use Rattle.query_rules.specs.Demands.{leftmost, leftmost_step, IsOneOf, HasPart, Demand, AColumn, Typed, Two, Constant, Tells, first, later, of_not, of_left, of_argument}
 use Rattle.query_rules.specs.Demands as parts
-use Rattle.query_rules.specs.ExprRules.{Kind, Word, Condition, operand_kind, HasKind}
+use Rattle.query_rules.specs.ExprRules.{Kind, Word, Condition, other_kind, operand_kind, HasKind}
 use Rattle.query_rules.specs.FoldRules.{IsNew}
 use Rattle.query_rules.proofs.ExprComplete.{complete, operand, right, kind_condition, kind_word}
-use Rattle.query_rules.proofs.ExprSound.{kind_of, Each, collected_each}
+use Rattle.query_rules.proofs.ExprSound.{kind_of, Each, collected_each, expr_sound}
 use Rattle.query_rules.proofs.FaultSteps.{at_span, same_fault, no_fault, not_both, by_must, by_next, told}
 use Rattle.query_rules.proofs.FoldNames.{new_among, among_new}
 use Rattle.query_rules.proofs.Steps.{must_ok, same_ok, found_first, nat_other}
@@ -130,16 +130,29 @@ broken_through columns hidden k e l a fault p b = record {
 
 -- ---- kinds and constants
 
-other_kind : (columns hidden : List ℕ) (l : Kind) (a : Expr) (x : Found) → expr_checked columns hidden a ≡ Ok x → (kind_of x.sort ≡ l → ⊥)
-    → (t : TypedExpr) → HasKind columns l a t → ⊥
-other_kind columns hidden l a x is other t h =
-    let g = complete columns hidden l a t h in
-    other (ap (λ (f : Found). kind_of f.sort) (same_ok x g.found (sym is ∙ g.is)) ∙ g.kind)
+turned : (k l : Kind) → (k ≡ l → ⊥) → k ≡ other_kind l
+turned Word Word differs = absurd (differs refl)
+turned Word Condition differs = refl
+turned Condition Word differs = refl
+turned Condition Condition differs = absurd (differs refl)
+
+has_other_kind : (columns hidden : List ℕ) (l : Kind) (a : Expr) (x : Found) → expr_checked columns hidden a ≡ Ok x → (kind_of x.sort ≡ l → ⊥)
+    → (t : TypedExpr) × HasKind columns (other_kind l) a t
+has_other_kind columns hidden l a x is differs =
+    let K : Kind → Type 0 = λ k. HasKind columns k a x.tree in
+    (x.tree, subst K (turned (kind_of x.sort) l differs) (expr_sound columns hidden a x is).rule)
+
+-- an expression is of one kind
+pub one_kind : (columns : List ℕ) (k l : Kind) (e : Expr) (s t : TypedExpr) → HasKind columns k e s → HasKind columns l e t → k ≡ l
+one_kind columns k l e s t p q =
+    let f = complete columns [] k e s p in
+    let g = complete columns [] l e t q in
+    sym f.kind ∙ ap (λ (x : Found). kind_of x.sort) (same_ok f.found g.found (sym f.is ∙ g.is)) ∙ g.kind
 
 kind_told : (columns hidden : List ℕ) (l : Kind) (a : Expr) (x : Found) (fault : QueryFault) → expr_checked columns hidden a ≡ Ok x → at_span WrongKind x.at ≡ fault
     → (kind_of x.sort ≡ l → ⊥) → (known : List Known) → Tells known fault.kind fault.span (Typed columns l a)
 kind_told columns hidden l a x fault is e other known =
-    told known (Typed columns l a) WrongKind x.at fault e (sym (stands_left columns hidden a x is), other_kind columns hidden l a x is other)
+    told known (Typed columns l a) WrongKind x.at fault e (sym (stands_left columns hidden a x is), has_other_kind columns hidden l a x is other)
 
 two_told : (columns hidden : List ℕ) (k : Kind) (e : Expr) (op : Op) (at : Span) (a b : Expr) (x y : Found) (fault : QueryFault)
     → expr_checked columns hidden a ≡ Ok x → expr_checked columns hidden b ≡ Ok y

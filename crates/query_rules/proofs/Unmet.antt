@@ -1,5 +1,5 @@
 -- What a fault tells of something that is asked: it isn't so.
-use Rattle.std.proofs.Common.{ℕ, zero, suc, ◌<◌, List, [], ◌∷◌, subst, inl, inr, arith}
+use Rattle.std.proofs.Common.{◌≡◌, ℕ, zero, suc, ◌<◌, List, [], ◌∷◌, subst, inl, inr, arith}
 use Rattle.query_lang.specs.declared.fault.FaultKind.{FaultKind}
 use Rattle.query_lang.specs.declared.fault.FaultKind.TheVariants as kinds
 use Rattle.query_lang.specs.declared.fault.Limit.{Limit}
@@ -8,8 +8,9 @@ use Rattle.query_lang.specs.declared.typing.Known.{Known}
 use Rattle.query_lang.specs.declared.typing.Meaning.TheVariants as meaning
 use Rattle.query_rules.specs.Context.{IsFree}
 use Rattle.query_rules.specs.Demands.{AStream, ATable, AFold, AQuietFold, Sought, IsSought, Demand, Free, Stands, AColumn, New, Target, Typed, Two, Constant, Kept, Fewer, Same, Apart, SameKeys, ReadsNone, OneEmit, most, Holds, IsUnknown, IsHiddenState, IsTaken, IsOtherKind, IsOtherArity, IsBadConstant, IsOneTooMany, Tells}
-use Rattle.query_rules.specs.ExprRules.{StandsAt}
+use Rattle.query_rules.specs.ExprRules.{Kind, Word, Condition, other_kind, StandsAt}
 use Rattle.query_rules.specs.FoldRules.{IsNew}
+use Rattle.query_rules.proofs.ExprFaults.{one_kind}
 use Rattle.query_rules.proofs.NameFaults.{not_free}
 use Rattle.query_rules.proofs.NameLaws.{meaning_complete}
 
@@ -43,9 +44,13 @@ taken_unmet known at (Same left right span) t h = t.1 h
 taken_unmet known at (Apart others those span) t h = t.1 h
 taken_unmet known at _ t h = absurd t
 
+not_other : (k : Kind) → other_kind k ≡ k → ⊥
+not_other Word e = cc e
+not_other Condition e = cc e
+
 kind_unmet : (known : List Known) (at : Span) (d : Demand) → IsOtherKind known at d → Holds known d → ⊥
 kind_unmet known at (Stands sought x) t h = t.2 h
-kind_unmet known at (Typed columns kind e) t h = t.1 h.0 h.1
+kind_unmet known at (Typed columns kind e) t h = not_other kind (one_kind columns (other_kind kind) kind e t.1.0 h.0 t.1.1 h.1)
 kind_unmet known at (Target states args x) t h = stands_taken states h.0 x.id h.1 t.1
 kind_unmet known at (SameKeys left right span) t h = t.1 h
 kind_unmet known at _ t h = absurd t

@@ -20,7 +20,7 @@ use Rattle.query_lang.specs.declared.typing.StreamView.{StreamView}
 use Rattle.query_lang.specs.declared.typing.TableView.{TableView}
 use Rattle.query_lang.specs.TypedFinals.{key_columns}
 use Rattle.query_rules.specs.Context.{IsFree, IsStream, IsFold, IsTable}
-use Rattle.query_rules.specs.ExprRules.{Kind, Condition, StandsAt, operand_kind, IsRightOperand, HasKind}
+use Rattle.query_rules.specs.ExprRules.{Kind, Condition, StandsAt, operand_kind, IsRightOperand, other_kind, HasKind}
 use Rattle.query_rules.specs.FoldRules.{IsNew}
 use Rattle.query_rules.specs.StreamRules.{AreApart, AreSame}
 
@@ -187,7 +187,7 @@ IsTaken known at _ = ⊥
 -- of two tables differ
 abbrev pub IsOtherKind : List Known → Span → Demand → Type 0
 IsOtherKind known at (Stands sought x) = (x.span ≡ at) × (IsFree known x.id → ⊥) × (IsSought known sought x.id → ⊥)
-IsOtherKind known at (Typed columns kind e) = (leftmost e ≡ at) × ((t : TypedExpr) → HasKind columns kind e t → ⊥)
+IsOtherKind known at (Typed columns kind e) = (leftmost e ≡ at) × ((t : TypedExpr) × HasKind columns (other_kind kind) e t)
 IsOtherKind known at (Target states args x) = (x.span ≡ at) × IsNew x.id states × (IsNew x.id args → ⊥)
 IsOtherKind known at (SameKeys left right span) = (span ≡ at) × (key_columns left ≡ key_columns right → ⊥)
 IsOtherKind known at _ = ⊥

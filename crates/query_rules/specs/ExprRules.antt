@@ -14,6 +14,11 @@ pub data Kind : Type 0 where
   Word : Kind
   Condition : Kind
 
+-- the one that isn't this
+abbrev pub other_kind : Kind → Kind
+other_kind Word = Condition
+other_kind Condition = Word
+
 -- the first of these names that is id stands at this place
 abbrev pub StandsAt : List ℕ → ℕ → ℕ → Type 0
 StandsAt [] place id = ⊥

@@ -2,9 +2,9 @@
 use Rattle.std.proofs.Common.{◌≡◌, ℕ, suc, ◌+◌, ◌<◌, ◌≤◌, Bool, true, false, ◌||◌, cond, List, [], ◌∷◌, ◌++◌, length, map, flat_map, Option, Some, None, Ok, nat_eq, nat_lt, nat_le, ◌&&◌, refl, sym, ap, subst, ◌∙◌, append-nil, append_assoc, arith}
 use Rattle.std.specs.Prelude.{is_some, slice_get, IfSome}
 use Rattle.std.specs.List.{All, list_any}
-use Rattle.std.proofs.lemmas.Bool.{eqb-true, ltb-true}
+use Rattle.std.proofs.lemmas.Bool.{eqb-true}
 use Rattle.std.proofs.lemmas.List.{length-append, length-map, map-append}
-use Rattle.std.proofs.lemmas.List.Elements.{All-nil, All-push, All-head, All-tail, filter_map-append}
+use Rattle.std.proofs.lemmas.List.Elements.{All-push, All-head, All-tail, filter_map-append}
 use Rattle.query_lang.specs.declared.fault.FaultKind.TheVariants.{NameTaken, WrongKind, BadConstant, OverLimit}
 use Rattle.query_lang.specs.declared.fault.Limit.TheVariants.{Groupbys, Keys, States}
 use Rattle.query_lang.specs.declared.fault.Span.{Span}
@@ -45,7 +45,7 @@ use Rattle.query_lang.specs.TypedFinals.{table_at, as_table, table_named, quiet_
 use Rattle.query_lang.specs.TypedQueries.{AreNames}
 use Rattle.query_lang.specs.Typing.{with_fold, item_checked}
 use Rattle.query_types.specs.Fitting.{AreApart, AreDifferent, IsEarly, IsNarrow, FitsTable, FitsStream, FitsMeaning, FitsKnown, Fits}
-use Rattle.query_types.proofs.ApartLaws.{IsFew, or_false, among_both, apart_within, apart_append, apart_push, apart_none, apart_drop, different_push, others_taken}
+use Rattle.query_types.proofs.ApartLaws.{or_false, among_both, apart_within, apart_append, apart_push, apart_none, apart_drop, different_push, others_taken}
 use Rattle.query_types.proofs.ExprLaws.{same_ok, found_first, must_ok}
 use Rattle.query_types.proofs.BodyLaws.{must_not_ok}
 use Rattle.query_types.proofs.ViewLaws.{quiet_known}

@@ -1,10 +1,9 @@
 -- What stands from the start, and what a readable query gives.
-use Rattle.std.proofs.Common.{◌≡◌, ℕ, zero, suc, ◌+◌, ◌<◌, ◌≤◌, ◌^◌, Bool, true, false, not, ◌||◌, cond, nat_eq, List, [], ◌∷◌, ◌++◌, length, map, min, count_by, None, refl, sym, ap, subst, ◌∙◌, codes, arith}
+use Rattle.std.proofs.Common.{◌≡◌, ℕ, ◌+◌, ◌<◌, ◌≤◌, Bool, true, false, not, ◌||◌, cond, nat_eq, List, [], ◌∷◌, length, map, min, count_by, None, refl, sym, ap, subst, ◌∙◌, codes, arith}
 use Rattle.std.specs.List.{All, list_any}
 use Rattle.std.specs.Str.{bytes_eq}
 use Rattle.std.proofs.lemmas.Bool.{eqb-true}
 use Rattle.std.proofs.lemmas.Slice.Eq.{bytes_eq-Decides}
-use Rattle.std.proofs.lemmas.List.{length-append}
 use Rattle.std.proofs.lemmas.List.Elements.{All-nil, All-cons, All-head, All-tail}
 use Rattle.marple_base.specs.declared.field.Field.{Field}
 use Rattle.marple_base.specs.Field.{all_fields, field_name}
@@ -16,14 +15,12 @@ use Rattle.query_lang.specs.declared.typing.Known.{Known}
 use Rattle.query_lang.specs.declared.typing.Meaning.TheVariants as meaning
 use Rattle.query_lang.specs.declared.typing.Origin.TheVariants as origin
 use Rattle.query_lang.specs.declared.typing.StreamColumn.{StreamColumn}
-use Rattle.query_lang.specs.Limits.{IsReadable, IsNumbered}
+use Rattle.query_lang.specs.Limits.{IsReadable}
 use Rattle.query_lang.specs.Names.{number_in, with_name}
 use Rattle.query_lang.specs.Checks.{is_among}
-use Rattle.query_lang.specs.TypedStreams.{column_names}
-use Rattle.query_lang.specs.TypedQueries.{AreNames}
 use Rattle.query_lang.specs.Typing.{field_numbers, given_of, is_groupby, start_of, typed_names, with_fields}
-use Rattle.query_types.specs.Fitting.{AreApart, AreDifferent, AreReady, Fits, FitsKnown, FitsStream}
-use Rattle.query_types.proofs.ApartLaws.{IsFew, both_false, or_false, apart_none, apart_push}
+use Rattle.query_types.specs.Fitting.{AreApart, AreDifferent, AreReady, Fits, FitsKnown}
+use Rattle.query_types.proofs.ApartLaws.{both_false, or_false, apart_none, apart_push}
 use Rattle.query_types.proofs.MadeLaws.{names_of_made}
 use Rattle.query_types.proofs.NameLemmas.{one_more}
 use Rattle.query_types.proofs.ValidLaws.{IsAmong, among_fields, among_self, item_more, numbers_known}

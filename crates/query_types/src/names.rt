@@ -1,7 +1,6 @@
 //! The names of fields.
 
-ghost use Rattle.std.specs.Prelude.{◌≡◌, ◌+◌, ◌<◌, ◌^◌, Some, IfOk, OnOk, length, map, option_map, slice_get};
-ghost use Rattle.std.specs.Str.{bytes_eq};
+ghost use Rattle.std.specs.Prelude.{◌≡◌, ◌+◌, ◌<◌, ◌^◌, IfOk, OnOk, length, map};
 ghost use Rattle.marple_base.specs.Field.{field_name};
 ghost use Rattle.query_lang.specs.Names.{number_in};
 ghost use Rattle.query_lang.specs.Typing.{with_fields};
@@ -22,30 +21,6 @@ pub fn add_fields(names: &mut Names, fields: &[Field]) -> Result<(), AllocError>
     Ok(())
 }
 
-// Does this text stand at this number?
-fn is_name(names: &Names, number: usize, text: &[u8]) -> bool
-    requires within { number < length names.now }
-    requires number { number < 2 ^ 32 }
-    ensures { option_map (bytes_eq text.now) (slice_get names.now number) ≡ Some result }
-{
-    let name = names.text(number as u32);
-    text == name
-}
-
-/// The number of a text among names, or the next number.
-pub fn find_number(names: &Names, text: &[u8]) -> u32
-    requires { length names.now < 2 ^ 32 }
-    ensures { result ≡ number_in names.now text.now }
-{
-    let count = names.len();
-    for i in 0..count {
-        if is_name(names, i, text) {
-            return i as u32;
-        }
-    }
-    count as u32
-}
-
 /// The numbers of fields' names.
 pub fn number_fields(alloc: Global, names: &Names, fields: &[Field]) -> Result<Seq<u32>, AllocError>
     requires { length names.now < 2 ^ 32 }
@@ -53,7 +28,7 @@ pub fn number_fields(alloc: Global, names: &Names, fields: &[Field]) -> Result<S
 {
     let mut numbers = Seq::new(alloc);
     for field in fields {
-        let number = find_number(names, field.name());
+        let number = names.find(field.name());
         numbers.push(number)?;
     }
     Ok(numbers)

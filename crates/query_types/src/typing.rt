@@ -11,7 +11,7 @@ ghost use Rattle.query_types.specs.Fitting.{Fits, AreReady};
 
 use crate::answer::{CheckAnswer, fault};
 use crate::items::check_items;
-use crate::names::{add_fields, find_number, number_fields};
+use crate::names::{add_fields, number_fields};
 use crate::numbers::greatest_in_items;
 use marple_base::{Field, Seq};
 use query_lang::typing::{Earlier, Given, Known, Meaning, Origin, StreamColumn, StreamView};
@@ -98,7 +98,7 @@ fn start_from(alloc: Global, names: &Names, given: &Given) -> Result<Earlier, Al
     ensures { IfOk result (λ start. start ≡ start_of names.now) }
 {
     let stream = packet_stream(alloc, given)?;
-    let name = find_number(names, b"pktstream");
+    let name = names.find(b"pktstream");
     let mut known = Seq::new(alloc);
     known.push(Known {
         name,

@@ -34,15 +34,6 @@ fn result_in(one: &PlanOp, registers: &[u64]) -> u64
     }
 }
 
-// A step for each field.
-fn tick_fields<L: Ledger>(steps: &mut Steps<L>)
-    ensures { steps.new ≡ steps.old + 14 }
-{
-    for _field in 0..14usize {
-        steps.tick();
-    }
-}
-
 // The packet's words in the first registers.
 fn fill_fields<L: Ledger>(words: &[u64], registers: &mut [u64], steps: &mut Steps<L>)
     requires words { length words.now ≡ 14 }
@@ -51,7 +42,7 @@ fn fill_fields<L: Ledger>(words: &[u64], registers: &mut [u64], steps: &mut Step
     ensures steps { steps.new ≡ steps.old + 14 }
 {
     registers[..14].copy_from_slice(words);
-    tick_fields(steps);
+    steps.tick_many(14);
 }
 
 // Each operation's result in its register, one after another: each reads only earlier registers.
@@ -65,8 +56,8 @@ fn fill_results<L: Ledger>(ops: &[PlanOp], registers: &mut [u64], steps: &mut St
 {
     for at in 0..ops.len() {
         registers[14 + at] = result_in(&ops[at], registers);
-        steps.tick();
     }
+    steps.tick_many(ops.len() as u64);
 }
 
 // All registers of a packet.
@@ -100,6 +91,6 @@ pub(crate) fn copy_into<L: Ledger>(
 {
     for at in 0..operands.len() {
         into[at] = operand_in(operands[at], registers);
-        steps.tick();
     }
+    steps.tick_many(operands.len() as u64);
 }

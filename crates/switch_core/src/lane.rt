@@ -31,7 +31,6 @@ use std::sync::ledger::Ledger;
 /// it is made.
 #[derive(Drop)]
 pub struct Lane<K: EpochKind, const WAYS: usize> {
-    alloc: Global,
     front: Front<K, WAYS>,
     store: BackingStore,
 }
@@ -70,11 +69,7 @@ impl<K: EpochKind, const WAYS: usize> Lane<K, WAYS> {
     {
         let store = BackingStore::new(alloc, key_words, kind.state_words());
         let front = Front::new(alloc, kind, buckets, key_words, pipe_records)?;
-        Ok(Lane {
-            alloc,
-            front,
-            store,
-        })
+        Ok(Lane { front, store })
     }
 
     /// What holds of every lane: its words are as many as the kind says.
@@ -200,7 +195,7 @@ impl<K: EpochKind, const WAYS: usize> Lane<K, WAYS> {
         self.store.known();
         let keys = key_names.len() as u8;
         let stored = self.store.sorted()?;
-        let shown = shown_rows(self.alloc, stored, self.front.kind().row_per_epoch())?;
+        let shown = shown_rows(stored, self.front.kind().row_per_epoch());
         Ok(Table {
             name,
             columns: columns(key_names, state_names)?,

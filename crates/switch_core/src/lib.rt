@@ -12,6 +12,7 @@ mod merging;
 mod packet;
 mod pipeline;
 mod places;
+mod registers;
 mod sweeping;
 mod tables;
 

@@ -20,6 +20,7 @@ use crate::front::Merged;
 use crate::lane::Lane;
 use crate::lanes::{all_drained, all_ready, evict_at, merge_at, packet_lanes, sweep_lanes};
 use crate::making::made_lanes;
+use crate::registers::{fill_registers, registers_of};
 use crate::tables::lane_tables;
 use epoch_entry::{AnyEpochs, Entries, entries_suit_folds};
 use final_queries::Table;
@@ -138,10 +139,11 @@ impl<const WAYS: usize> Pipeline<WAYS> {
         depth_is_found();
         entries_suit_folds();
         self.plan.known();
-        self.plan.row(p, &mut self.registers, steps);
+        fill_registers(&self.plan, p, &mut self.registers, steps);
+        let registers = registers_of(&self.plan, p, &self.registers);
         packet_lanes(
             &self.plan,
-            &self.registers,
+            registers,
             &mut self.lanes,
             &mut self.key,
             &mut self.args,

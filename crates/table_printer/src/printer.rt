@@ -1,11 +1,12 @@
 //! Titles, headings and rows.
 ghost use Rattle.std.specs.Prelude.{◌≡◌, ◌≤◌, ◌++◌, ◌∷◌, [], length, map, flat_map, codes, decimal, IfOk, OnOk};
+ghost use Rattle.table_rows.specs.LentRows.{row_of};
 ghost use Rattle.table_printer.specs.TableText.{joined, mark_text, class_text, epoch_text, numbers, line, group_parts, final_parts};
 ghost use Rattle.table_printer.specs.TableText.{row_parts, heading, kind_text, title, table_text};
 ghost use Rattle.table_printer.specs.Parts.{parts_from};
 
 use crate::parts::{push_names, push_number, push_part, push_word, push_words};
-use final_queries::{Mark, Row, Table, TableKind};
+use final_queries::{Mark, RowRef, Table, TableKind};
 use marple_base::Text;
 use query_lang::Class;
 use std::alloc::{AllocError, Global};
@@ -96,7 +97,7 @@ fn push_heading(text: &mut Text, table: &Table) -> Result<(), AllocError>
 }
 
 /// Writes what a groupby's row says of its key's epochs.
-fn push_epoch(text: &mut Text, begins: bool, row: &Row) -> Result<(), AllocError>
+fn push_epoch(text: &mut Text, begins: bool, row: &RowRef) -> Result<(), AllocError>
     ensures { OnOk result (text.new
         ≡ text.old ++ parts_from begins (mark_text row.now.mark ∷ epoch_text row.now.mark row.now.epoch
         ∷ decimal row.now.epochs ∷ [])) }
@@ -110,17 +111,16 @@ fn push_epoch(text: &mut Text, begins: bool, row: &Row) -> Result<(), AllocError
     push_word(text, false, row.epochs)
 }
 
-fn push_row(text: &mut Text, kind: TableKind, row: &Row) -> Result<(), AllocError>
-    ensures { OnOk result (text.new ≡ text.old ++ line (row_parts kind row.now)) }
+fn push_row(text: &mut Text, kind: TableKind, row: &RowRef) -> Result<(), AllocError>
+    ensures { OnOk result (text.new ≡ text.old ++ line (row_parts kind (row_of row.now))) }
 {
-    let key = row.key.as_slice();
-    push_words(text, true, key)?;
-    let mut begins = key.is_empty();
+    push_words(text, true, row.key)?;
+    let mut begins = row.key.is_empty();
     if kind != TableKind::Final {
         push_epoch(text, begins, row)?;
         begins = false;
     }
-    push_words(text, begins, row.values.as_slice())?;
+    push_words(text, begins, row.values)?;
     text.push(b'\n')
 }
 
@@ -131,8 +131,8 @@ pub fn push_table(text: &mut Text, table: &Table) -> Result<(), AllocError>
 {
     push_title(text, table)?;
     push_heading(text, table)?;
-    'rows: for row in table.rows.as_slice() {
-        push_row(text, table.kind, row)?;
+    'rows: for at in 0..table.rows.len() {
+        push_row(text, table.kind, &table.rows.get(at))?;
     }
     Ok(())
 }

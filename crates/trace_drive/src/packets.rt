@@ -16,6 +16,7 @@ pub enum Packets<'a> {
 
 impl<'a> Packets<'a> {
     /// The next packet into `packet`, and whether there was one.
+    #[inline(always)]
     pub fn next_into(&mut self, packet: &mut Packet) -> Result<bool, TraceAnswer>
         ensures packet { result ≡ Ok true → coming self.old ≡ packet.new ∷ coming self.new }
         ensures fault { result ≡ Ok true → fault_of self.new ≡ fault_of self.old }

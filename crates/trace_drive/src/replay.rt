@@ -83,6 +83,7 @@ impl<'a, const WAYS: usize> Replay<'a, WAYS> {
     }
 
     // The next packet, with the merges and the sweep that are due; and whether there was one.
+    #[inline(always)]
     fn step<L: Ledger>(
         &mut self,
         packet: &mut Packet,

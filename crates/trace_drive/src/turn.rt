@@ -88,6 +88,7 @@ fn catch_up<const WAYS: usize, L: Ledger>(
 }
 
 /// A packet, with the sweep and the merges behind it that the clocks tell.
+#[inline(always)]
 pub fn turn<const WAYS: usize, L: Ledger>(
     pipeline: &mut Pipeline<WAYS>,
     refreshes: &mut Clock,

@@ -3,3 +3,4 @@ pub mod ReadingFacts
 pub mod EachFacts
 pub mod ColumnFacts
 pub mod TraceFacts
+pub mod WordFacts

@@ -4,3 +4,4 @@ pub mod Traces
 pub mod Upcoming
 pub mod TraceView
 pub mod Faults
+pub mod Columns

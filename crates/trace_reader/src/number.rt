@@ -60,6 +60,7 @@ fn with_digit(number: u64, digit: u64) -> Option<u64>
 }
 
 // A number of 1 to 19 digits, which always fits.
+#[inline(always)]
 fn digits(text: &[u8]) -> Option<u64>
     requires some { 0 < length text.now }
     requires few { length text.now ≤ 19 }
@@ -76,6 +77,7 @@ fn digits(text: &[u8]) -> Option<u64>
 }
 
 // A number of 1 to 20 digits. Only the last of 20 can pass the most that fits.
+#[inline(always)]
 fn decimal(text: &[u8]) -> Option<u64>
     ensures { result ≡ decimal_word text.now }
 {
@@ -139,8 +141,9 @@ fn quad(text: &[u8]) -> Option<u64>
     Some(((first * 256 + second) * 256 + third) * 256 + fourth)
 }
 
-/// The word of a field's text, if the text is in the field's form.
-pub fn word(field: Field, text: &[u8]) -> Option<u64>
+// The word of a text without blanks at its ends, if it is in the field's form.
+#[inline(never)]
+fn trimmed_word(field: Field, text: &[u8]) -> Option<u64>
     ensures { result ≡ word_of field text.now }
 {
     if let Some(number) = decimal(text) {
@@ -151,4 +154,16 @@ pub fn word(field: Field, text: &[u8]) -> Option<u64>
         Field::Tout if text == b"inf".as_slice() => Some(u64::MAX),
         _ => None,
     }
+}
+
+/// The word of a field's text without the blanks at its ends, if that is in the field's form. Most texts are digits alone,
+/// which have no blanks.
+#[inline(always)]
+pub fn word(field: Field, text: &[u8]) -> Option<u64>
+    ensures { result ≡ word_of field (without_blanks text.now) }
+{
+    if let Some(number) = decimal(text) {
+        return Some(number);
+    }
+    trimmed_word(field, trimmed(text))
 }

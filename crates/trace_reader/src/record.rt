@@ -1,6 +1,6 @@
 //! One record of a trace.
 
-ghost use Rattle.std.specs.Prelude.{◌≡◌, ◌+◌, ◌∷◌, [], Err, IfErr, IfOk, Ok, OnOk, false, true};
+ghost use Rattle.std.specs.Prelude.{◌≡◌, ◌+◌, ◌∷◌, [], Err, IfErr, IfOk, Ok, OnOk, Some, false, true};
 ghost use Rattle.csv.specs.Records.{fields_of};
 ghost use Rattle.trace_reader.specs.Faults.{IsEarly, IsLate};
 ghost use Rattle.trace_reader.specs.Reading.{IsBetweenRecords, records_left};
@@ -8,6 +8,7 @@ ghost use Rattle.marple_base.specs.Field.{field_name};
 ghost use Rattle.trace_reader.specs.Traces as Traces;
 ghost use Rattle.trace_reader.specs.Traces.{column_of, columns_named, columns_of, packet_of, text_at, word_at, words_of};
 
+use crate::columns::Columns;
 use crate::fault::{MAX_RECORDS, TraceAnswer, TraceFault};
 use crate::number::{trimmed, word};
 use csv::{ByteRecord, Reader};
@@ -82,28 +83,23 @@ pub fn columns(header: &ByteRecord, reads: FieldSet) -> Result<[Option<usize>; 1
 }
 
 // The word of a field in a record.
-fn word_of_field(row: &ByteRecord, field: Field, column: Option<usize>) -> Result<u64, Field>
-    ensures { result ≡ word_at (fields_of row.now) field column }
+#[inline(always)]
+fn word_of_field(row: &ByteRecord, field: Field, column: usize) -> Result<u64, Field>
+    ensures { result ≡ word_at (fields_of row.now) field (Some column) }
 {
-    match column {
-        None => Ok(0),
-        Some(column) => word(field, trimmed(text_of(row, column))).ok_or(field),
-    }
+    word(field, text_of(row, column)).ok_or(field)
 }
 
-// The word of each field in a record, into `words`.
-fn words_into(
-    row: &ByteRecord,
-    columns: &[Option<usize>; 14],
-    words: &mut [u64; 14],
-) -> Result<(), Field>
+// The word of each field in a record, into `words`: 0 where it isn't read.
+#[inline(always)]
+fn words_into(row: &ByteRecord, columns: &Columns, words: &mut [u64; 14]) -> Result<(), Field>
     ensures ok { OnOk result (words_of columns.now (fields_of row.now) ≡ Ok words.new) }
     ensures err { IfErr result (λ field. words_of columns.now (fields_of row.now) ≡ Err field) }
 {
-    let fields = Field::ALL;
-    for i in 0..14 {
-        match word_of_field(row, fields[i], columns[i]) {
-            Ok(word) => words[i] = word,
+    *words = [0; 14];
+    for (field, column) in columns.read() {
+        match word_of_field(row, *field, *column) {
+            Ok(word) => words[field.number()] = word,
             Err(field) => return Err(field),
         }
     }
@@ -112,11 +108,12 @@ fn words_into(
 
 /// The packet of data record `n`, into `packet`.
 #[tactic(auto, unfolding(crate::specs::Traces::packet_of))]
+#[inline(always)]
 pub fn packet_into(
     row: &ByteRecord,
     n: u32,
     width: usize,
-    columns: &[Option<usize>; 14],
+    columns: &Columns,
     packet: &mut Packet,
 ) -> Result<(), TraceFault>
     ensures ok { OnOk result (packet_of (record { width = width; columns = columns.now }) n (fields_of row.now) ≡ Ok packet.new) }

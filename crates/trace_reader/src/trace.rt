@@ -5,11 +5,12 @@ ghost use Rattle.trace_reader.specs.Traces.{opening, packets, trace_fault};
 ghost use Rattle.trace_reader.specs.Faults.{IfRefused, IsEarly, IsLate};
 ghost use Rattle.trace_reader.specs.Upcoming.{Gives, IsAtEnd, IsAtFault, IsSetUp, upcoming_of};
 
+use crate::columns::Columns;
 use crate::fault::{MAX_BYTES, MAX_RECORDS, TraceAnswer, TraceFault};
 use crate::record::{columns, next_record, packet_into};
 use csv::{ByteRecord, Reader, ReaderBuilder};
 use marple_base::{FieldSet, Packet};
-use std::alloc::Global;
+use std::alloc::{AllocError, Global};
 use std::marker::Model;
 
 // How far a trace is.
@@ -27,7 +28,7 @@ pub struct Trace<'a> {
     reader: Reader<&'a [u8]>,
     row: ByteRecord,
     width: usize,
-    columns: [Option<usize>; 14],
+    columns: Columns,
     given: u32,
     progress: Progress,
 }
@@ -76,17 +77,20 @@ pub fn open_trace<'a>(
         Ok(false) => Err(TraceAnswer::Refused(TraceFault::NoHeader)),
         Ok(true) => match columns(&row, reads) {
             Err(fault) => Err(TraceAnswer::Refused(fault)),
-            Ok(columns) => {
-                let width = row.len();
-                Ok(Trace {
-                    reader,
-                    row,
-                    width,
-                    columns,
-                    given: 0,
-                    progress: Progress::Reading,
-                })
-            }
+            Ok(columns) => match Columns::new(alloc, columns) {
+                Err(AllocError) => Err(TraceAnswer::Memory),
+                Ok(columns) => {
+                    let width = row.len();
+                    Ok(Trace {
+                        reader,
+                        row,
+                        width,
+                        columns,
+                        given: 0,
+                        progress: Progress::Reading,
+                    })
+                }
+            },
         },
     }
 }
@@ -111,6 +115,7 @@ impl<'a> Trace<'a> {
 
     /// The next packet into `packet`, and whether there was one: the same as `next`, with no copy of the packet.
     /// Where there is none, the words of `packet` are free.
+    #[inline(always)]
     pub fn next_into(&mut self, packet: &mut Packet) -> Result<bool, TraceAnswer>
         ensures packet { result ≡ Ok true → Gives self.old packet.new self.new }
         ensures end { result ≡ Ok false → IsAtEnd self.old × (self.new ≡ self.old) }

@@ -1,5 +1,6 @@
 use Rattle.accepted_rules.proofs.FinalExamples.{final_examples}
 use Rattle.accepted_rules.proofs.FoldExamples.{fold_examples}
+use Rattle.accepted_rules.proofs.ItemExamples.{item_examples}
 use Rattle.accepted_rules.proofs.TypingExamples.{expression_examples, stream_examples}
 use Rattle.accepted_rules.proofs.laws.small_forms.Goals as goal
 
@@ -14,3 +15,6 @@ returns-clause-folds c = fold_examples
 
 pub returns-clause-finals : goal.returns-clause-finals
 returns-clause-finals c = final_examples
+
+pub returns-clause-items : goal.returns-clause-items
+returns-clause-items c = item_examples

@@ -1,52 +1,76 @@
-use Rattle.std.proofs.Common.{◌≡◌, ◌+◌, ◌∙◌, ◌++◌, ◌∷◌, [], Some, length, set, slice_get, sym, ap, refl, arith, take}
+use Rattle.std.proofs.Common.{◌≡◌, ◌+◌, ◌<◌, ◌∙◌, length, map, take, refl, arith}
 use Rattle.std.proofs.Math.ListN.{length-set}
-use Rattle.std.proofs.lemmas.Option.{slice_get_read}
+use Rattle.std.specs.List.{zip}
 use Rattle.std.proofs.lemmas.List.{length-take}
-use Rattle.backing_store.specs.Store.{states_at}
-use Rattle.backing_store.specs.StoreLines.{lines, stored_keys}
-use Rattle.backing_store.specs.declared.table.StoreRow.{StoreRow}
-use Rattle.backing_store.proofs.SortedFacts.{got_some, got_within, row_has_key, same_default, states_few, turn_counts, turn_made}
-use Rattle.backing_store.proofs.StoreFacts.{length-stored}
+use Rattle.std.proofs.lemmas.Option.{slice_get_read}
+use Rattle.backing_store.specs.Store.{states_at, StoredRow}
+use Rattle.backing_store.specs.Stored.{stored}
+use Rattle.backing_store.proofs.SortedFacts.{of_within, row_is, same_default, states_few, turn_counts, turn_made}
+use Rattle.backing_store.proofs.ZipFacts.{zip-stored}
 use Rattle.backing_store.proofs.store.made_rows.Goals as goal
-use Rattle.backing_store.proofs.store.made_rows.Goals.{in-Some+in_ok-store_row+in_ok-push, in_default}
+
+pub index-requires : goal.index-requires
+index-requires c =
+    let rows = c.args.states.now.rows in
+    let keys = c.args.keys.now.keys in
+    let of = c.of-of.result in
+    let within = of_within (length keys) c.args.states.now.width rows c.loop-at.at of c.requires.rows c.of-of.ensures in
+    omega (arith, within, c.loop-at.invariant.size, c.loop-at.given.ok.0)
+
+pub key-requires : goal.key-requires
+key-requires c =
+    let rows = c.args.states.now.rows in
+    let keys = c.args.keys.now.keys in
+    let of = c.of-of.result in
+    let within = of_within (length keys) c.args.states.now.width rows c.loop-at.at of c.requires.rows c.of-of.ensures in
+    within
+
+pub index-kept-requires : goal.index-kept-requires
+index-kept-requires c =
+    let rows = c.args.states.now.rows in
+    let keys = c.args.keys.now.keys in
+    let of = c.of-of.result in
+    let within = of_within (length keys) c.args.states.now.width rows c.loop-at.at of c.requires.rows c.of-of.ensures in
+    omega (arith, within, c.requires.many, c.args.merged.now.ok.0)
+
+pub index_mut-requires : goal.index_mut-requires
+index_mut-requires c =
+    let rows = c.args.states.now.rows in
+    let keys = c.args.keys.now.keys in
+    let of = c.of-of.result in
+    let within = of_within (length keys) c.args.states.now.width rows c.loop-at.at of c.requires.rows c.of-of.ensures in
+    omega (arith, within, c.loop-at.invariant.size, c.loop-at.given.ok.0)
 
 pub overflow_add-epoch : goal.overflow_add-epoch
 overflow_add-epoch c =
-    let of = c.row-item.result.of in
-    let i = c.loop-row.row-index in
-    let given = c.loop-row.given.items in
-    let within = got_within c.args.keys.now.entries of _ (sym c.in-Some.ensures.entry) in
-    let count = same_default given of c.index.result.now 0 (omega (arith, c.loop-row.invariant.size)) ∙ c.loop-row.invariant.counts of within in
-    let few = states_few (take i (lines c.args.rows.now)) of in
-    let front = length-take i (lines c.args.rows.now) in
-    omega (arith, c.index.ensures, c.loop-row-test.true)
+    let rows = c.args.states.now.rows in
+    let keys = c.args.keys.now.keys in
+    let of = c.of-of.result in
+    let within = of_within (length keys) c.args.states.now.width rows c.loop-at.at of c.requires.rows c.of-of.ensures in
+    let given = c.loop-at.given.items in
+    let count = same_default given of c.index.result.now 0 (omega (arith, c.loop-at.invariant.size, within)) ∙ c.loop-at.invariant.counts of within in
+    let few = states_few (take c.loop-at.at rows) of in
+    let front = length-take c.loop-at.at rows in
+    omega (arith, c.index.ensures, c.loop-at-test.true)
 
-pub loop-row-preserved : goal.loop-row-preserved
-loop-row-preserved c =
-    let i = c.loop-row.row-index in
-    let row = c.row-item.result in
-    let rows = c.args.rows.now in
-    let entries = c.args.keys.now.entries in
-    let here : slice_get rows i ≡ Some row = slice_get_read rows (length rows) i row refl c.loop-row-test.true c.row-item.is in
-    elim c.match-get_index.branch [
-      | in-Some+in_ok-store_row+in_ok-push w ↦
-          let at : slice_get entries row.of ≡ Some (w.in-Some.key.now, w.in-Some.merged.now) = sym w.in-Some.ensures.entry in
-          let within = got_within entries row.of _ at in
-          let given = c.loop-row.given.items in
-          let count : w.index.result.now ≡ length (states_at (take i (lines rows)) row.of) =
-          w.index.ensures ∙ same_default given row.of w.index.result.now 0 (omega (arith, c.loop-row.invariant.size)) ∙ c.loop-row.invariant.counts row.of within in
-          let new : c.match-get_index.given.items ≡ set given row.of (length (states_at (take i (lines rows)) row.of) + 1) =
-          ap (λ v. v.items) w.given-is ∙ ap (λ n. set given row.of (n + 1)) count in
-          let made : c.match-get_index.made.items
-          ≡ c.loop-row.made.items ++ record { key = w.in-Some.key.now.items; epoch = length (states_at (take i (lines rows)) row.of) + 1; epochs = w.in-Some.merged.now.epochs; state = row.words.items } ∷ [] =
-          ap (λ v. v.items) w.made-is ∙ w.in_ok-push.ensures.items
-          ∙ ap (λ (r : StoreRow). c.loop-row.made.items ++ r ∷ []) (rw (w.in_ok-store_row.ensures, w.as_slice-key.ensures.value, w.as_slice-state.ensures.value, count) refl) in
-          record {
-            size = ap length new ∙ length-set given row.of (length (states_at (take i (lines rows)) row.of) + 1) ∙ c.loop-row.invariant.size;
-            counts = rw new (turn_counts rows i row given (length entries) here c.loop-row.invariant.size within c.loop-row.invariant.counts);
-            made = rw made (turn_made entries rows i row (w.in-Some.key.now, w.in-Some.merged.now) c.loop-row.made.items c.requires.once at here c.loop-row.invariant.made);
-          }
-      | in_default w ↦
-          let within = row_has_key (length (stored_keys entries)) c.requires.rows.0 rows i row c.requires.rows.1 here in
-          absurd (got_some entries row.of (omega (arith, within, length-stored entries)) (rw w.in_default.is at c.get_index.ensures.entry))
-    ]
+pub loop-at-preserved : goal.loop-at-preserved
+loop-at-preserved c =
+    let rows = c.args.states.now.rows in
+    let keys = c.args.keys.now.keys in
+    let of = c.of-of.result in
+    let within = of_within (length keys) c.args.states.now.width rows c.loop-at.at of c.requires.rows c.of-of.ensures in
+    let at = c.loop-at.at in
+    let given = c.loop-at.given.items in
+    let merged = c.args.merged.now.items in
+    let kept = c.index-kept.result.now in
+    let here = row_is rows at of c.row.result.now c.of-of.ensures c.row.ensures in
+    let count : c.index.result.now ≡ length (states_at (take at rows) of) =
+    c.index.ensures ∙ (same_default given of c.index.result.now 0 (omega (arith, c.loop-at.invariant.size, within)) ∙ c.loop-at.invariant.counts of within) in
+    let low : of < length merged = omega (arith, within, c.requires.many) in
+    let there = zip-stored keys merged of c.key.result.now kept c.key.ensures (slice_get_read merged (length merged) of kept refl low c.index-kept.ensures) in
+    let row : StoredRow = record { key = of; words = c.row.result.now } in
+    record {
+      size = length-set given of (c.index.result.now + 1) ∙ c.loop-at.invariant.size;
+      counts = rw count (turn_counts rows at row given (length keys) here c.loop-at.invariant.size within c.loop-at.invariant.counts);
+      made = rw (c.in_ok-push.ensures.ok, count) (turn_made (map stored (zip keys merged)) rows at row (record { key = c.key.result.now; epochs = kept.epochs }) c.loop-at.made c.requires.once there here c.loop-at.invariant.made);
+    }

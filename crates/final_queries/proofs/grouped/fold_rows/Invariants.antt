@@ -8,9 +8,9 @@ use Rattle.final_queries.specs.Joining.{reads}
 use Rattle.final_queries.proofs.grouped.fold_rows.Given as goal
 
 -- the store holds the rows so far
-abbrev pub invariant-loop-row : goal.invariant-loop-row
-invariant-loop-row g l = record {
-  holds : (f : TypedFold) → IsCodeOf f l.code → initial_state f ≡ l.start → StoreHolds (whole_folding f) l.store (row_epochs l.keys l.args (reads (take l.row-index l.rows)));
+abbrev pub invariant-loop-at : goal.invariant-loop-at
+invariant-loop-at g l = record {
+  holds : (f : TypedFold) → IsCodeOf f l.code → initial_state f ≡ l.start → StoreHolds (whole_folding f) l.store (row_epochs l.keys l.args (reads (take l.at l.rows)));
   key_words : length l.keys ≡ l.store.key_words;
   state_words : length l.start ≡ l.store.state_words;
   scratch : length l.scratch.items ≡ code_scratch l.code;

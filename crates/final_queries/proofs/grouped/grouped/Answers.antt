@@ -1,5 +1,5 @@
 use Rattle.std.proofs.Common.{sym, ap, ◌∙◌, map}
-use Rattle.final_queries.specs.Grouped.{plain_stored}
+use Rattle.final_queries.specs.Grouped.{plain_of}
 use Rattle.final_queries.specs.Joining.{reads}
 use Rattle.final_queries.proofs.GroupSteps.{rows_grouped}
 use Rattle.final_queries.proofs.grouped.grouped.Goals as goal
@@ -7,6 +7,6 @@ use Rattle.final_queries.proofs.grouped.grouped.Goals as goal
 pub returns-clause-rows : goal.returns-clause-rows
 returns-clause-rows g c =
     let f = c.args.f.now in
-    c.in_ok-made.ensures ∙ (ap (map plain_stored) c.in_ok-stored.ensures
+    c.plain_rows.ensures ∙ (ap (map plain_of) c.in_ok-stored.ensures
     ∙ rows_grouped c.held_rows_are_the_tables.ensures f c.args.keys.now c.args.args.now (reads c.args.rows.now) c.in_ok-store.store c.known.ensures
     (c.in_ok-store.ensures.holds f c.in_ok-code.ensures.meaning (sym c.as_slice-initial.ensures)))

@@ -1,10 +1,11 @@
-use Rattle.std.proofs.Common.{◌≡◌, ◌≤◌, ◌++◌, drop, filter}
-use Rattle.final_queries.specs.Finals.{is_read, filtered_rows}
+use Rattle.std.proofs.Common.{◌≡◌, ◌≤◌, ◌++◌, drop}
+use Rattle.final_queries.specs.Finals.{filtered_rows}
+use Rattle.final_queries.specs.Joining.{reads}
 use Rattle.final_queries.proofs.rows.filtered.Given as goal
 
 -- the rows so far, and then those that are left, make the whole
-abbrev pub invariant-loop-row : goal.invariant-loop-row
-invariant-loop-row g l = record {
-  rows : l.made ++ filtered_rows l.condition (filter (λ row. is_read row.mark) (drop l.row-index l.rows)) ≡ filtered_rows l.condition (filter (λ row. is_read row.mark) l.rows);
+abbrev pub invariant-loop-at : goal.invariant-loop-at
+invariant-loop-at g l = record {
+  rows : l.made ++ filtered_rows l.condition (reads (drop l.at l.rows)) ≡ filtered_rows l.condition (reads l.rows);
   steps : l.fn.steps ≤ l.steps;
 }

@@ -14,11 +14,11 @@ returns g c epochs held =
     let known = c.known.ensures in
     let tables = c.held_rows_are_the_tables.ensures in
     let each = c.row_per_epoch.ensures in
-    let rows : c.in_ok-shown.shown.rows ≡ closed_rows f epochs =
-    c.in_ok-shown.ensures.rows ∙ (ap (map (shown_row c.row_per_epoch.result)) c.in_ok-stored.ensures
+    let rows : c.shown_rows-shown.result.rows ≡ closed_rows f epochs =
+    c.shown_rows-shown.ensures.rows ∙ (ap (map (shown_row c.row_per_epoch.result)) c.in_ok-stored.ensures
     ∙ (ap (λ b. map (shown_row b) (sorted_rows store)) each ∙ tables.rows f store epochs known held)) in
-    let count : c.in_ok-shown.shown.epochs ≡ closed_epochs epochs =
-    c.in_ok-shown.ensures.epochs ∙ (ap (λ rs. epochs_shown (sum_by (epochs_in c.row_per_epoch.result) rs)) c.in_ok-stored.ensures
+    let count : c.shown_rows-shown.result.epochs ≡ closed_epochs epochs =
+    c.shown_rows-shown.ensures.epochs ∙ (ap (λ rs. epochs_shown (sum_by (epochs_in c.row_per_epoch.result) rs)) c.in_ok-stored.ensures
     ∙ (ap (λ b. epochs_shown (sum_by (epochs_in b) (sorted_rows store))) each ∙ tables.epochs f store epochs known held)) in
     let heading : Heading = record { name = c.args.name; key_names = c.args.key_names; state_names = c.args.state_names; class = c.args.class; depth = c.args.depth } in
-    table_is heading f epochs c.name.inside.bytes.items c.in_ok-column_names.field-0 c.len-keys.result c.in_ok-shown.shown.epochs c.in_ok-shown.shown.rows c.name.view_is c.in_ok-column_names.ensures c.len-keys.ensures count rows
+    table_is heading f epochs c.name.inside.bytes.items c.in_ok-column_names.field-0 c.len-keys.result c.shown_rows-shown.result.epochs c.shown_rows-shown.result.rows c.name.view_is c.in_ok-column_names.ensures c.len-keys.ensures count rows

@@ -14,7 +14,6 @@ pub loop-at-preserved : goal.loop-at-preserved
 loop-at-preserved g c = record {
   fields = take-set-le 14 c.loop-at.registers _ _ (omega arith) ∙ c.loop-at.invariant.fields;
   results = results_more c.args.ops.now c.loop-at.registers c.loop-at.at _ _ c.requires.sound c.loop-at-test.true (omega arith) c.loop-at.invariant.results c.result_in.ensures;
-  steps = omega arith;
 }
 
 pub returns-clause-results : goal.returns-clause-results

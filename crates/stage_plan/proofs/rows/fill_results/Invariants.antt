@@ -8,5 +8,4 @@ abbrev pub invariant-loop-at : goal.invariant-loop-at
 invariant-loop-at g l = record {
   fields : take 14 l.registers ≡ take 14 l.initial.registers;
   results : (i : ℕ) (one : PlanOp) → i < l.at → slice_get l.ops i ≡ Some one → get_or l.registers (14 + i) 0 ≡ result_of l.registers one;
-  steps : l.steps ≡ l.initial.steps + l.at;
 }

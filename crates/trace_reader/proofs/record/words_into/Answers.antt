@@ -1,28 +1,28 @@
-use Rattle.std.proofs.Common.{arith, rules, refl, sym, None}
+use Rattle.std.proofs.Common.{rules}
 use Rattle.std.proofs.Math.ListN.{length-set}
-use Rattle.std.proofs.lemmas.List.{drop_all}
 use Rattle.csv.specs.Records.{fields_of}
-use Rattle.marple_base.specs.Field.{all_fields}
 use Rattle.marple_base.specs.declared.field.Field.TheVariants as f
-use Rattle.trace_reader.specs.Traces.{each, word_at}
-use Rattle.trace_reader.proofs.EachFacts.{all_written, each_zip_more, error_met, value_written}
+use Rattle.trace_reader.specs.Columns.{read_columns}
+use Rattle.trace_reader.proofs.WordFacts.{field_met, word_written, words_are, words_filled}
 use Rattle.trace_reader.proofs.record.words_into.Goals as goal
+
+pub loop-field-init : goal.loop-field-init
+loop-field-init c =
+    record { filled = words_filled (fields_of c.args.row.now) c.args.columns.now c.read-field-items.ensures.all; size = search rules }
 
 pub returns-in-Err-clause-err : goal.returns-in-Err-clause-err
 returns-in-Err-clause-err c =
-    let step = each_zip_more (λ p. word_at (fields_of c.args.row.now) p.0 p.1) all_fields c.args.columns.now c.loop-i.i f.Switch None c.loop-i-test.true (search rules) in
-    sym (error_met _ _ _ _ _ _ c.loop-i.invariant.filled step c.in-Err.ensures)
+    field_met _ _ (read_columns c.args.columns.now) c.loop-field.field-index (f.Switch, 0) _ _ (search rules) c.loop-field.invariant.filled
+    (rw (← c.read-field-items.ensures.read) c.in-Err.ensures)
 
-pub loop-i-preserved : goal.loop-i-preserved
-loop-i-preserved c =
-    let step = each_zip_more (λ p. word_at (fields_of c.args.row.now) p.0 p.1) all_fields c.args.columns.now c.loop-i.i f.Switch None c.loop-i-test.true (search rules) in
+pub loop-field-preserved : goal.loop-field-preserved
+loop-field-preserved c =
     record {
-      filled = value_written _ _ _ _ c.loop-i.words c.loop-i.i c.in-Ok.word (omega arith) c.loop-i.invariant.filled step c.in-Ok.ensures;
-      size = simp length-set c.loop-i.invariant.size;
+      filled = rw (c.number.ensures.number, c.read-field-items.ensures.read)
+          (word_written _ _ (read_columns c.args.columns.now) c.loop-field.field-index (f.Switch, 0) _ _ (search rules) c.loop-field.invariant.filled
+          (rw (← c.read-field-items.ensures.read) c.in-Ok.ensures));
+      size = simp length-set c.loop-field.invariant.size;
     }
 
 pub returns-clause-ok : goal.returns-clause-ok
-unfolding each
-returns-clause-ok c =
-    let none = drop_all c.loop-i.i all_fields c.loop-i-test.false in
-    sym (all_written _ _ c.loop-i.words c.loop-i.i (omega arith) c.loop-i.invariant.filled (rw none refl))
+returns-clause-ok c = words_are _ _ (read_columns c.args.columns.now) c.loop-field.field-index _ (search rules) c.loop-field.invariant.filled

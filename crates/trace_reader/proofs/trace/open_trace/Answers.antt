@@ -34,8 +34,8 @@ returns-in-Err-columns-clause-refused c =
 pub returns-clause-opened : goal.returns-clause-opened
 returns-clause-opened c =
     let all = sym c.reader_of-reader.ensures.all ∙ c.in-Ok-true.ensures.some c.in-Ok-true.field-0-test in
-    upcoming_good c.args.bytes.now c.args.reads (fields_of c.next_record.new.row) (records_left c.next_record.new.reader) c.in-Ok.columns c.len-width.result
-    c.if-bytes-gt-MAX_BYTES.false all c.in-Ok.ensures.value c.len-width.ensures
+    rw c.in-Ok-new.ensures (upcoming_good c.args.bytes.now c.args.reads (fields_of c.next_record.new.row) (records_left c.next_record.new.reader) c.in-Ok.columns c.len-width.result
+    c.if-bytes-gt-MAX_BYTES.false all c.in-Ok.ensures.value c.len-width.ensures)
 
 pub returns-clause-accepted : goal.returns-clause-accepted
 returns-clause-accepted c =

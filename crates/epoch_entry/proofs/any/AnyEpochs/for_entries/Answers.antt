@@ -19,3 +19,6 @@ returns-in-Other c = record {
       for_bounds f (bounds_sizes p) (bounds_folding p) (bounds_open p) (bounds_absorb p) c.args.entries c.args.program Other is c.in-Bounds.is c.in-Other.is (c.of-in-Other.ensures.kind f is);
   merge = c.of-in-Other.ensures.merge;
 }
+
+pub returns-in-Folds-clause-kind : goal.returns-in-Folds-clause-kind
+returns-in-Folds-clause-kind c = λ f is. rw c.in-Folds.is (c.of.ensures.kind f is)

@@ -24,12 +24,12 @@ returns g c m s =
     let known = c.known-2.ensures in
     let tables = c.held_rows_are_the_tables.ensures in
     let each = c.row_per_epoch.ensures ∙ ap (λ k. (g.K.EpochKind.folding k).row_per_epoch) c.kind.ensures in
-    let rows : c.in_ok-shown.shown.rows ≡ closed_rows f m.closed =
-    c.in_ok-shown.ensures.rows ∙ (ap (map (shown_row c.row_per_epoch.result)) c.in_ok-stored.ensures
+    let rows : c.shown_rows-shown.result.rows ≡ closed_rows f m.closed =
+    c.shown_rows-shown.ensures.rows ∙ (ap (map (shown_row c.row_per_epoch.result)) c.in_ok-stored.ensures
     ∙ (ap (λ b. map (shown_row b) (sorted_rows old.store)) each ∙ tables.rows f old.store m.closed known held)) in
-    let epochs : c.in_ok-shown.shown.epochs ≡ closed_epochs m.closed =
-    c.in_ok-shown.ensures.epochs ∙ (ap (λ rs. epochs_shown (sum_by (epochs_in c.row_per_epoch.result) rs)) c.in_ok-stored.ensures
+    let epochs : c.shown_rows-shown.result.epochs ≡ closed_epochs m.closed =
+    c.shown_rows-shown.ensures.epochs ∙ (ap (λ rs. epochs_shown (sum_by (epochs_in c.row_per_epoch.result) rs)) c.in_ok-stored.ensures
     ∙ (ap (λ b. epochs_shown (sum_by (epochs_in b) (sorted_rows old.store))) each ∙ tables.epochs f old.store m.closed known held)) in
     let heading : Heading = record { name = c.args.name; key_names = c.args.key_names; state_names = c.args.state_names; class = c.args.class; depth = c.args.depth } in
-    table_is heading f m.closed c.name.inside.bytes.items c.in_ok-columns.field-0 c.len-keys.result c.in_ok-shown.shown.epochs c.in_ok-shown.shown.rows c.name.view_is c.in_ok-columns.ensures c.len-keys.ensures epochs rows
+    table_is heading f m.closed c.name.inside.bytes.items c.in_ok-columns.field-0 c.len-keys.result c.shown_rows-shown.result.epochs c.shown_rows-shown.result.rows c.name.view_is c.in_ok-columns.ensures c.len-keys.ensures epochs rows
     ∙ ap (λ x. closed_table heading (g.K.EpochKind.folding x.kind) m.closed) c.self.view_is

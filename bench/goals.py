@@ -1,0 +1,118 @@
+"""The figures that are goals, and whether they are met."""
+
+from __future__ import annotations
+
+from collections.abc import Callable
+from dataclasses import dataclass
+
+from measure import Figure
+
+# The figures of a bench, a race and a program.
+Figures = dict[tuple[str, str, str], Figure]
+Value = Callable[[Figures], float]
+
+
+@dataclass(frozen=True)
+class Goal:
+    """A figure that is to be at most `limit`."""
+
+    bench: str
+    what: str
+    limit: float
+    value: Value
+
+    def measured(self, figures: Figures) -> float | None:
+        """The figure, or None where it wasn't measured."""
+        try:
+            return self.value(figures)
+        except (KeyError, TypeError):
+            return None
+
+
+def times(bench: str, race: str, subject: str, peer: str) -> Value:
+    """The processor time of the subject in those of the peer, by the medians."""
+    return lambda found: found[bench, race, subject].time() / found[bench, race, peer].time()
+
+
+def peaks(bench: str, race: str, subject: str, peer: str) -> Value:
+    """The peak memory of the subject in those of the peer."""
+    return lambda found: found[bench, race, subject].peak() / found[bench, race, peer].peak()
+
+
+def megabytes(bench: str, race: str, subject: str) -> Value:
+    """The peak memory of the subject, in MB."""
+    return lambda found: found[bench, race, subject].peak() / 1000
+
+
+def instructions(bench: str, race: str, subject: str, peer: str) -> Value:
+    """The instructions of the subject in those of the peer."""
+    return lambda found: found[bench, race, subject].instructions / found[bench, race, peer].instructions
+
+
+def own_instructions(bench: str, race: str, packets: int) -> Value:
+    """The instructions of marple for a packet, without those of the crate `csv`."""
+
+    def value(found: Figures) -> float:
+        figure = found[bench, race, "marple"]
+        if not figure.reading:
+            raise KeyError("no instructions of the crate csv were seen")
+        return (figure.instructions - figure.reading) / packets
+
+    return value
+
+
+def growth(bench: str, first: str, last: str, subject: str, peer: str) -> Value:
+    """How much more the time of the subject grows from the first race to the last than that of the peer."""
+
+    def value(found: Figures) -> float:
+        grown = [found[bench, last, name].time() / found[bench, first, name].time() for name in (subject, peer)]
+        return grown[0] / grown[1]
+
+    return value
+
+
+SIZES = ("1024 x 8", "65536 x 1", "1 x 32")
+LEAST, MILLION, MOST = "131,072 packets", "1,048,576 packets", "4,194,304 packets"
+QUERIES = ("count: packets by source", "sum: bytes by flow", "max: longest queue by source")
+OOS = "oos: packets out of sequence by flow"
+FINALS = ("filter", "map", "groupby", "join", "top")
+
+
+def many_goals() -> list[Goal]:
+    """Goals of many keys, for each size of the cache."""
+    found = []
+    for size in SIZES:
+        found += [
+            Goal("many", f"time in `hand`'s, a million keys, {size}", 2.0, times("many", MILLION, size, "hand")),
+            Goal("many", f"memory in `hand`'s, a million keys, {size}", 1.5, peaks("many", MILLION, size, "hand")),
+            Goal("many", f"time in `hand`'s, four million keys, {size}", 2.5, times("many", MOST, size, "hand")),
+            Goal("many", f"MB at four million keys, {size}", 1900, megabytes("many", MOST, size)),
+            Goal("many", f"growth of time in `hand`'s, {size}", 1.0, growth("many", LEAST, MOST, size, "hand")),
+        ]
+    return found
+
+
+def query_goals() -> list[Goal]:
+    """Goals of a packet's path, by instructions."""
+    found = []
+    for query in (*QUERIES, OOS):
+        value = instructions("queries", query, "marple", "limit")
+        found.append(Goal("queries", f"instructions in `limit`'s, {query}", 2.5, value))
+    for query, limit in ((QUERIES[0], 620), (OOS, 1250)):
+        value = own_instructions("queries", query, 100_000)
+        found.append(Goal("queries", f"own instructions for a packet, {query}", limit, value))
+    return found
+
+
+def goals() -> list[Goal]:
+    """All goals."""
+    views = times("views", "65,536 keys", "ten views", "none")
+    finals = {name: times("finals", name, "marple", "Rust") for name in FINALS}
+    return [
+        *many_goals(),
+        Goal("views", "time with ten views in that without", 1.4, views),
+        *(Goal("finals", f"time of `{name}` in Rust's", 2.0, value) for name, value in finals.items()),
+        *query_goals(),
+        Goal("trace", "time of `gen 1000000 1` in Rust's", 1.2, times("trace", "gen", "marple", "Rust")),
+        Goal("trace", "MB of `gen 1000000 1`", 20, megabytes("trace", "gen", "marple")),
+    ]

@@ -1,0 +1,125 @@
+"""The page that a run of all benches gives."""
+
+from __future__ import annotations
+
+import datetime
+import os
+import platform
+import shutil
+import subprocess
+import textwrap
+from pathlib import Path
+
+from goals import Figures, Goal, goals
+from measure import Figure, Race
+from workshop import TOP
+
+
+def output_of(command: list[str]) -> str:
+    """The first line that a command prints, or nothing where it isn't there."""
+    if shutil.which(command[0]) is None:
+        return ""
+    ended = subprocess.run(command, capture_output=True, text=True, cwd=TOP, check=False)
+    return (ended.stdout + ended.stderr).strip().partition("\n")[0]
+
+
+def machine() -> str:
+    """The processors, the memory, the system, and what else ran when the benches began."""
+    lines = Path("/proc/cpuinfo").read_text().splitlines()
+    model = next((line.partition(": ")[2] for line in lines if line.startswith("model name")), platform.machine())
+    memory = os.sysconf("SC_PAGE_SIZE") * os.sysconf("SC_PHYS_PAGES") / 1e9
+    return f"{os.cpu_count()} processors {model}, {memory:.0f} GB, {platform.system()} {platform.release()}"
+
+
+def preface(load: float) -> list[str]:
+    """The day, the machine and the versions."""
+    today = datetime.date.today()
+    versions = [output_of(["rustc", "--version"]), output_of(["rt", "version"]), output_of(["mawk", "-W", "version"])]
+    versions += [output_of([name, "--version"]) for name in ("gawk", "datamash", "valgrind")]
+    versions.append("sqlite3 " + output_of(["sqlite3", "--version"]).partition(" ")[0])
+    commit = output_of(["git", "rev-parse", "--short", "HEAD"])
+    about = [
+        f"{today.day} {today:%B %Y}, commit {commit}. Machine: {machine()}; load {load:.1f} when the run began.",
+        f"Versions: {'; '.join(version for version in versions if version.strip())}.",
+    ]
+    return [
+        *textwrap.wrap(" ".join(about), 119, break_on_hyphens=False),
+        "",
+        "Times are processor time: the median of the runs, with the least and the greatest. The programs of a case run",
+        "in turn, five times each, or three times where a run takes more than 4 s and in `many`. A ratio is the figure",
+        "in the first line of the case divided by that of the line. Instructions are counted by callgrind, of `queries`",
+        "over 100,000 packets.",
+        "",
+    ]
+
+
+def goal_row(goal: Goal, figures: Figures) -> str:
+    """The row of a goal."""
+    value = goal.measured(figures)
+    if value is None:
+        return f"| {goal.bench} | {goal.what} | {goal.limit:g} | not measured | |"
+    shown = f"{value:,.0f}" if goal.limit >= 100 else f"{value:.2f}"
+    return f"| {goal.bench} | {goal.what} | {goal.limit:g} | {shown} | {'yes' if value <= goal.limit else '**no**'} |"
+
+
+def goal_table(figures: Figures) -> list[str]:
+    """All goals, and how many of those that were measured are met."""
+    measured = [(goal, goal.measured(figures)) for goal in goals()]
+    values = [(goal, value) for goal, value in measured if value is not None]
+    met = sum(value <= goal.limit for goal, value in values)
+    heading = ["| Bench | Goal | At most | Measured | Met |", "|---|---|---|---|---|"]
+    rows = [goal_row(goal, figures) for goal, _ in measured]
+    return ["### Goals", "", f"{met} of {len(values)} are met.", "", *heading, *rows, ""]
+
+
+def ratio(subject: float | None, peer: float | None) -> str:
+    """A ratio with two digits, where both figures are there."""
+    return f"{subject / peer:.2f}" if subject is not None and peer else ""
+
+
+def row(case: str, name: str, figure: Figure, subject: Figure | None) -> str:
+    """The row of a program; without a subject it is the subject's own."""
+    counted = "" if figure.instructions is None else f"{figure.instructions / 1e6:,.1f}"
+    ratios = ["", "", ""]
+    if subject is not None:
+        ratios = [
+            ratio(subject.time(), figure.time()),
+            ratio(subject.peak(), figure.peak()),
+            ratio(subject.instructions, figure.instructions),
+        ]
+    time = f"{figure.time():.3f} ({min(figure.seconds):.3f} to {max(figure.seconds):.3f})"
+    cells = [case, name, time, ratios[0], f"{figure.peak() / 1000:,.1f}", ratios[1], counted, ratios[2]]
+    return f"| {' | '.join(cells)} |"
+
+
+def race_rows(race: Race, found: dict[str, Figure]) -> list[str]:
+    """The rows of a race: for each subject its own and those of its peers."""
+    rows = []
+    for subject in race.subjects:
+        rows.append(row(race.name, subject, found[subject], None))
+        rows += [row("", peer, found[peer], found[subject]) for peer in race.peers()]
+    return rows
+
+
+def bench_table(name: str, measured: list[tuple[Race, dict[str, Figure]]]) -> list[str]:
+    """The table of a bench."""
+    heading = [
+        "| Case | Program | Time, s | ratio | Peak, MB | ratio | Instructions, millions | ratio |",
+        "|---|---|---|---|---|---|---|---|",
+    ]
+    rows = [line for race, found in measured for line in race_rows(race, found)]
+    return [f"### {name}", "", *heading, *rows, ""]
+
+
+def whole_page(load: float, measured: dict[str, list[tuple[Race, dict[str, Figure]]]]) -> str:
+    """The page: what it was run on, the goals, and a table for each bench."""
+    figures = {
+        (bench, race.name, program): figure
+        for bench, races in measured.items()
+        for race, found in races
+        for program, figure in found.items()
+    }
+    lines = [*preface(load), *goal_table(figures)]
+    for bench, races in measured.items():
+        lines += bench_table(bench, races)
+    return "\n".join(lines)

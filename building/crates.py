@@ -1,0 +1,94 @@
+"""The crates that the program stands on, as crates.txt lists them, and what each is made from."""
+
+from __future__ import annotations
+
+import hashlib
+import re
+from dataclasses import dataclass
+from pathlib import Path
+from typing import Dict, Iterator, List, Tuple
+
+PROGRAM = "marple"
+SOURCES = ("src", "specs", "proofs")
+
+
+class Unreadable(Exception):
+    """A file of the repository doesn't say what it should."""
+
+
+@dataclass(frozen=True)
+class Crate:
+    """A line of crates.txt: the crate, the repository's crates that it names and the toolchain's libraries."""
+
+    name: str
+    folder: Path
+    crates: Tuple[str, ...]
+    libraries: Tuple[str, ...]
+
+    @property
+    def root(self) -> str:
+        return "src/main.rt" if self.name == PROGRAM else "src/lib.rt"
+
+    def sources(self) -> Iterator[Path]:
+        for part in SOURCES:
+            yield from sorted(it for it in (self.folder / part).rglob("*") if it.is_file())
+
+    def size(self) -> int:
+        return sum(it.stat().st_size for it in self.sources())
+
+
+def read_crates(top: Path) -> Dict[str, Crate]:
+    """Returns the crates of crates.txt, whose lines are NAME: LIBRARY .., by name."""
+    lines = {}
+    for number, text in enumerate((top / "crates.txt").read_text(encoding="utf-8").splitlines(), 1):
+        text = text.partition("#")[0].strip()
+        if text and not re.fullmatch(r"\w+ *:[\w ]*", text):
+            raise Unreadable(f"crates.txt: line {number} isn't NAME: LIBRARY ..")
+        if text:
+            name, _, uses = text.partition(":")
+            lines[name.strip()] = uses.split()
+    return {
+        name: Crate(
+            name,
+            top / "crates" / name,
+            tuple(it for it in uses if it in lines),
+            tuple(it for it in uses if it not in lines),
+        )
+        for name, uses in lines.items()
+    }
+
+
+def needed(crates: Dict[str, Crate], name: str) -> List[Crate]:
+    """Returns the crate of this name and all that it stands on, each after those that it names."""
+    found: Dict[str, Crate] = {}
+
+    def visit(it: str, above: Tuple[str, ...]) -> None:
+        if it in above:
+            raise Unreadable(f"crates.txt: {it} depends on itself")
+        if it not in found:
+            for below in crates[it].crates:
+                visit(below, (*above, it))
+            found[it] = crates[it]
+
+    if name not in crates:
+        raise Unreadable(f"crates.txt: there is no line for {name}")
+    visit(name, ())
+    return list(found.values())
+
+
+def digest(crate: Crate, below: Dict[str, str], toolchain: str) -> str:
+    """Returns a sum of all that the crate's proof is made from: the toolchain, its line, its files, the crates below."""
+    total = hashlib.sha256(repr((toolchain, crate.name, crate.crates, crate.libraries)).encode())
+    for file in crate.sources():
+        content = hashlib.sha256(file.read_bytes()).hexdigest()
+        total.update(f"{file.relative_to(crate.folder)} {content}\n".encode("utf-8", "surrogateescape"))
+    total.update(" ".join(below[it] for it in crate.crates).encode())
+    return total.hexdigest()
+
+
+def digests(order: List[Crate], toolchain: str) -> Dict[str, str]:
+    """Returns each crate's sum, of crates that come lowest first."""
+    sums: Dict[str, str] = {}
+    for crate in order:
+        sums[crate.name] = digest(crate, sums, toolchain)
+    return sums

@@ -1,0 +1,91 @@
+"""The toolchain's commands that prove a crate and build the program.
+
+They are those of `rattle build --help` and `rattle-link --help`, which rt calls too. rt itself takes one crate at a time: it
+locks all crates below the one that it works in, and reads these once for each way that crates.txt gives to them.
+"""
+
+from __future__ import annotations
+
+import os
+import shutil
+import subprocess
+from pathlib import Path
+from typing import Dict, List
+
+from building.crates import PROGRAM, Crate
+
+MISSING = (
+    "rt isn't on this machine's PATH: it is the command of the Rattle toolchain (rattle-kit-13f or rattle-kit-13b), "
+    "in the folder bin of the toolchain"
+)
+# What a proved library leaves for the crates above it, below the crate's folder.
+KEPT = "out/rlib/build"
+INCREMENTAL = "out/incremental"
+TARGET = "x86_64-unknown-linux-gnu"
+
+
+class Missing(Exception):
+    """The toolchain isn't there, or isn't one that this build knows."""
+
+
+def said_by(*words: str) -> str:
+    """Returns the first line that a command of the toolchain writes."""
+    try:
+        ran = subprocess.run(words, stdin=subprocess.DEVNULL, stdout=subprocess.PIPE, check=True)
+    except (OSError, subprocess.CalledProcessError) as error:
+        raise Missing(f"{' '.join(words)} failed: {error}") from error
+    return ran.stdout.decode(errors="replace").partition("\n")[0]
+
+
+class Toolchain:
+    """The folder of the toolchain, and the commands for a crate."""
+
+    def __init__(self) -> None:
+        if not shutil.which("rt"):
+            raise Missing(MISSING)
+        self.version = said_by("rt", "version")
+        self.folder = Path(said_by("rt", "doc")).parent
+        if not os.access(self.folder / "bin/rattle", os.X_OK):
+            raise Missing(f"the toolchain {self.version} has no compiler {self.folder}/bin/rattle")
+
+    def proof(self, crate: Crate, below: List[Crate], jobs: int) -> List[str]:
+        """Returns the command that proves the crate and, only then, writes its library or its object file."""
+        words = [f"{self.folder}/bin/rattle", "build", "--crate-name", crate.name, crate.root]
+        for name in ("std", *crate.libraries):
+            words += ["--extern", f"{name}={self.folder}/rlibs/{name}.rlib"]
+        words += ["-L", f"dependency={self.folder}/rlibs"]
+        named = {it.name: it for it in below}
+        for name in crate.crates:
+            words += ["--extern", f"{name}={named[name].folder}/{KEPT}/{name}.rlib"]
+        for it in below:
+            words += ["-L", f"dependency={it.folder}/{KEPT}"]
+        words += ["--antt-project", f"{self.folder}/rattle/logic/antt-project.json"]
+        words += ["--logic-built", f"{self.folder}/logic_built", "--incremental", INCREMENTAL]
+        # with no label: the crate is refused if it calls C of its own
+        words += ["--links", f"{crate.name}=", "--jobs", str(jobs)]
+        if crate.name == PROGRAM:
+            words += ["--toolchain", f"{self.folder}/toolchain", "--backend", "llvm", "-o", f"out/{PROGRAM}.o"]
+        else:
+            words += ["-o", f"{KEPT}/{crate.name}.rlib"]
+        return words
+
+    def link(self) -> List[str]:
+        """Returns the command that links the program's object file, to out/marple.new."""
+        words = [f"{self.folder}/bin/rattle-link", "--target", TARGET, "--toolchain", f"{self.folder}/toolchain"]
+        words += ["-o", f"out/{PROGRAM}.new", f"out/{PROGRAM}.o"]
+        return [*words, f"{self.folder}/c/libos_c.a", f"{self.folder}/c/liblibc_c.a"]
+
+
+def below(crate: Crate, order: List[Crate]) -> List[Crate]:
+    """Returns the crates below this one, each after those that it names."""
+    named = {it.name: it for it in order}
+    found: Dict[str, Crate] = {}
+
+    def visit(it: Crate) -> None:
+        for name in it.crates:
+            if name not in found:
+                visit(named[name])
+                found[name] = named[name]
+
+    visit(crate)
+    return list(found.values())

@@ -1,0 +1,67 @@
+# Completes the words of marple and marple-explain in bash.
+
+# The options of the command $1.
+_marple_options() {
+    case $1 in
+    run) echo --buckets --ways --pipe --lag --refresh --every ;;
+    net) echo --buckets --ways --pipe --lag ;;
+    enclose | run-plan | trial) echo --buckets --ways --pipe --lag --refresh ;;
+    plan) echo --ways ;;
+    esac
+}
+
+# Fills COMPREPLY with those of the words $2 .. that begin with $1.
+_marple_words() {
+    local typed=$1 word
+    shift
+    COMPREPLY=()
+    for word in "$@"; do
+        [[ $word == "$typed"* ]] && COMPREPLY+=("$word")
+    done
+}
+
+# Fills COMPREPLY with files.
+_marple_files() {
+    compopt -o filenames 2>/dev/null
+    mapfile -t COMPREPLY < <(compgen -f -- "$1")
+}
+
+_marple() {
+    local typed=${COMP_WORDS[COMP_CWORD]} command=${COMP_WORDS[1]} operands=2
+    if ((COMP_CWORD == 1)); then
+        _marple_words "$typed" run net enclose plan compile run-plan gen trial
+        return
+    fi
+    case $command in
+    plan | compile) operands=1 ;;
+    esac
+    if ((COMP_CWORD <= 1 + operands)); then
+        case $command in
+        run | net | enclose | plan | compile | run-plan) _marple_files "$typed" ;;
+        *) COMPREPLY=() ;;
+        esac
+    elif (((COMP_CWORD - operands) % 2 == 0)); then
+        # shellcheck disable=SC2046
+        _marple_words "$typed" $(_marple_options "$command")
+    elif [[ ${COMP_WORDS[COMP_CWORD - 1]} == --ways ]]; then
+        _marple_words "$typed" 1 2 4 8 16 32
+    else
+        COMPREPLY=()
+    fi
+}
+
+_marple_explain() {
+    local typed=${COMP_WORDS[COMP_CWORD]}
+    if ((COMP_CWORD == 1)); then
+        _marple_files "$typed"
+        return
+    fi
+    case ${COMP_WORDS[COMP_CWORD - 1]} in
+    --for) _marple_words "$typed" net enclose compile run-plan ;;
+    --ways) _marple_words "$typed" 1 2 4 8 16 32 ;;
+    *) _marple_words "$typed" --for --ways ;;
+    esac
+}
+
+complete -F _marple marple
+complete -F _marple_explain marple-explain

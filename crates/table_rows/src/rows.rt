@@ -1,0 +1,204 @@
+//! The rows of a table.
+
+ghost use Rattle.std.specs.Prelude.{◌≡◌, ◌<◌, ◌↔◌, ◌++◌, ◌∷◌, [], length, option_map, slice_get, slice_set, filter, Some};
+ghost use Rattle.std.specs.Prelude.{IsTrue, OnOk, OnErr};
+ghost use Rattle.epoch_model.specs.Keys.{Key};
+ghost use Rattle.epoch_model.specs.declared.tables.Row.{Row};
+ghost use Rattle.table_rows.specs.LentRows.{row_of};
+ghost use Rattle.table_rows.specs.RowOrder.{Ascends, is_of};
+
+use crate::lent::RowRef;
+use crate::order::sorted_spans;
+use crate::span::{Span, columns_in, key_in, row_in, values_in};
+use epoch_model::Mark;
+use std::alloc::{AllocError, Global};
+use std::marker::Model;
+
+/// Rows in the order in which they were added, seen as a list of rows.
+#[derive(Drop)]
+pub struct Rows {
+    words: Vec<u64>,
+    spans: Vec<Span>,
+}
+
+impl Model for Rows {
+    ghost use Rattle.std.specs.Prelude.{List};
+    ghost use Rattle.epoch_model.specs.declared.tables.Row.{Row};
+
+    ghost Value = { List Row };
+
+    ghost use Rattle.table_rows.specs.RowsView.{list_of, IsSound};
+
+    ghost view = { list_of };
+
+    ghost invariant = { IsSound };
+}
+
+impl Rows {
+    /// No rows. They take no memory yet.
+    pub fn new(alloc: Global) -> Rows
+        ensures { result ≡ [] }
+    {
+        Rows {
+            words: Vec::new(alloc),
+            spans: Vec::new(alloc),
+        }
+    }
+
+    /// Takes memory for `rows` more rows, of `words` words in all.
+    pub fn reserve(&mut self, rows: usize, words: usize) -> Result<(), AllocError>
+        ensures { self.new ≡ self.old }
+    {
+        self.spans.reserve(rows)?;
+        self.words.reserve(words)
+    }
+
+    /// Adds a row at the end. On an error the rows are unchanged.
+    pub fn push(
+        &mut self,
+        key: &[u64],
+        mark: Mark,
+        epoch: u64,
+        epochs: u64,
+        values: &[u64],
+    ) -> Result<(), AllocError>
+        ensures ok { OnOk result (self.new ≡ self.old ++ record {
+          key = key.now;
+          mark = mark;
+          epoch = epoch;
+          epochs = epochs;
+          values = values.now;
+        } ∷ []) }
+        ensures err { OnErr result (self.new ≡ self.old) }
+    {
+        let start = self.words.len();
+        self.words.extend_from_slice(key)?;
+        self.words.extend_from_slice(values)?;
+        self.spans.push(Span {
+            start,
+            key_words: key.len(),
+            value_words: values.len(),
+            epoch,
+            epochs,
+            mark,
+        })?;
+        Ok(())
+    }
+
+    /// The number of rows.
+    pub fn len(&self) -> usize
+        ensures { result ≡ length self.now }
+    {
+        self.spans.len()
+    }
+
+    /// Are there no rows?
+    pub fn is_empty(&self) -> bool
+        ensures { IsTrue result ↔ (self.now ≡ []) }
+    {
+        self.spans.is_empty()
+    }
+
+    /// The row at a place.
+    #[inline]
+    pub fn get(&self, at: usize) -> RowRef<'_>
+        requires { at < length self.now }
+        ensures { slice_get self.now at ≡ Some (row_of result) }
+    {
+        let span = &self.spans[at];
+        row_in(self.words.as_slice(), span)
+    }
+
+    /// The key of the row at a place.
+    pub fn key(&self, at: usize) -> &[u64]
+        requires { at < length self.now }
+        ensures { option_map (λ row. row.key) (slice_get self.now at) ≡ Some result.now }
+    {
+        let span = &self.spans[at];
+        key_in(self.words.as_slice(), span)
+    }
+
+    /// The values of the row at a place.
+    pub fn values(&self, at: usize) -> &[u64]
+        requires { at < length self.now }
+        ensures { option_map (λ row. row.values) (slice_get self.now at) ≡ Some result.now }
+    {
+        let span = &self.spans[at];
+        values_in(self.words.as_slice(), span)
+    }
+
+    /// The columns of the row at a place: its key, followed by its values.
+    pub fn columns(&self, at: usize) -> &[u64]
+        requires { at < length self.now }
+        ensures { option_map (λ row. row.key ++ row.values) (slice_get self.now at) ≡ Some result.now }
+    {
+        let span = &self.spans[at];
+        columns_in(self.words.as_slice(), span)
+    }
+
+    /// The mark of the row at a place.
+    pub fn mark(&self, at: usize) -> Mark
+        requires { at < length self.now }
+        ensures { option_map (λ row. row.mark) (slice_get self.now at) ≡ Some result }
+    {
+        let span = &self.spans[at];
+        span.mark
+    }
+
+    /// The epoch of the row at a place.
+    pub fn epoch(&self, at: usize) -> u64
+        requires { at < length self.now }
+        ensures { option_map (λ row. row.epoch) (slice_get self.now at) ≡ Some result }
+    {
+        let span = &self.spans[at];
+        span.epoch
+    }
+
+    /// The number of epochs that the row at a place gives for its key.
+    pub fn epochs(&self, at: usize) -> u64
+        requires { at < length self.now }
+        ensures { option_map (λ row. row.epochs) (slice_get self.now at) ≡ Some result }
+    {
+        let span = &self.spans[at];
+        span.epochs
+    }
+
+    /// Gives the row at a place another mark and another epoch.
+    pub fn set_mark(&mut self, at: usize, mark: Mark, epoch: u64)
+        requires { at < length self.old }
+        ensures { (row : Row) → slice_get self.old at ≡ Some row → self.new ≡ slice_set self.old at (record row { mark = mark; epoch = epoch }) }
+    {
+        let span = self.spans[at];
+        self.spans[at] = Span {
+            mark,
+            epoch,
+            ..span
+        };
+    }
+
+    /// Makes the row at a place one of a table made of tables: its mark is Plain, and it is of no epoch.
+    pub fn set_plain(&mut self, at: usize)
+        requires { at < length self.old }
+        ensures { (row : Row) → slice_get self.old at ≡ Some row → self.new ≡ slice_set self.old at (record row { mark = Mark.Plain; epoch = 0; epochs = 0 }) }
+    {
+        let span = self.spans[at];
+        self.spans[at] = Span {
+            mark: Mark::Plain,
+            epoch: 0,
+            epochs: 0,
+            ..span
+        };
+    }
+
+    /// Puts the rows in ascending order of their keys, compared word by word. Rows of one key keep their order. On an
+    /// error the rows are unchanged.
+    pub fn sort(&mut self, alloc: Global) -> Result<(), AllocError>
+        ensures ascends { OnOk result (Ascends self.new) }
+        ensures same { OnOk result ((key : Key) → filter (is_of key) self.new ≡ filter (is_of key) self.old) }
+        ensures err { OnErr result (self.new ≡ self.old) }
+    {
+        let spans = sorted_spans(alloc, self.words.as_slice(), self.spans.as_slice())?;
+        self.spans = spans;
+        Ok(())
+    }
+}

@@ -1,0 +1,232 @@
+"""What the matches say of the captures: which packets belong to the queue, and whether the captures can be believed."""
+
+from collections.abc import Iterable
+from dataclasses import dataclass, field
+from ipaddress import IPv4Address, IPv4Network
+from math import log
+
+from marple_captures.matching import Matches, Pair
+from marple_captures.records import Packet, Spool
+
+MOST_STRANGE = 0.02  # of the packets after the queue may match none before it
+MOST_EARLY = 0.01  # of the matched packets may leave before they came
+CHANCE = 1e-6  # a row of losses less likely than this is no accident
+SMALL = 100_000  # nanoseconds: clocks of two machines rarely agree as well as this
+TOLERANCE = 1_000_000  # nanoseconds by which least latencies differ in any case
+NEVER = 2**63
+TEN = 10  # the other direction may have this many times the bytes of the queue's
+
+
+@dataclass
+class Options:
+    """What the command line says of directions and clocks."""
+
+    before: str
+    after: str
+    networks: list[IPv4Network] = field(default_factory=list)
+    both_directions: bool = False
+    shift: int = 0
+
+
+@dataclass
+class Findings:
+    """Which packets are taken, what is to be said, and why there is no trace if there is none."""
+
+    left_out: set[bytes] = field(default_factory=set)
+    first: int = 0  # packets in places before this one are left out if they came before `begin`,
+    begin: int = 0
+    last: int = NEVER  # and those after this one if they came after `end`
+    end: int = NEVER
+    came: int = 0
+    left: int = 0
+    early: int = 0
+    strange: int = 0
+    expected: int = 0  # packets after the queue that should match
+    notes: list[str] = field(default_factory=list)
+    refusal: str = ""
+
+    @property
+    def takes_all(self) -> bool:
+        """Whether all packets before the queue are in the trace."""
+        return not self.left_out and not self.begin and self.end == NEVER
+
+    def takes(self, slot: int, packet: Packet) -> bool:
+        """Whether the packet in this place is in the trace."""
+        if (slot < self.first and packet.time < self.begin) or (slot > self.last and packet.time > self.end):
+            return False
+        return packet.source + packet.target not in self.left_out
+
+    @property
+    def strange_share(self) -> float:
+        """Which part of the packets after the queue match none before it."""
+        return self.strange / self.expected if self.expected else 0.0
+
+
+def turned(addresses: bytes) -> bytes:
+    """The addresses of the way back."""
+    return addresses[4:] + addresses[:4]
+
+
+def in_words(addresses: bytes) -> str:
+    """A pair of addresses for a message."""
+    return f"{IPv4Address(addresses[:4])} to {IPv4Address(addresses[4:])}"
+
+
+def seconds(time: int) -> str:
+    """Nanoseconds for a message."""
+    return f"{time / 1e9:.6f} s"
+
+
+def packets(number: int) -> str:
+    """A number of packets for a message."""
+    return f"{number} packet" if number == 1 else f"{number} packets"
+
+
+def were(number: int) -> str:
+    """The verb after a number of packets."""
+    return "was" if number == 1 else "were"
+
+
+def other_direction(pairs: dict[bytes, Pair], options: Options) -> set[bytes]:
+    """The pairs of addresses whose packets don't go through the queue, or go the other way."""
+    if options.networks:
+        return {addresses for addresses in pairs if not any(IPv4Address(addresses[:4]) in net for net in options.networks)}
+    on_time = {addresses for addresses, pair in pairs.items() if pair.matched and not pair.is_early}
+    if options.both_directions or not on_time:
+        return set()
+    early = {addresses for addresses, pair in pairs.items() if pair.matched and pair.is_early}
+    unseen = {addresses for addresses, pair in pairs.items() if not pair.matched and turned(addresses) in on_time}
+    return early | unseen
+
+
+def total(pairs: Iterable[Pair], name: str) -> int:
+    """The sum of one count."""
+    return sum(getattr(pair, name) for pair in pairs)
+
+
+def note_direction(findings: Findings, pairs: dict[bytes, Pair]) -> None:
+    """Says what is left out because of its direction."""
+    if not findings.left_out:
+        return
+    out = sorted(findings.left_out)
+    before, after = (total((pairs[addresses] for addresses in out), name) for name in ("before", "after"))
+    more = f" and {len(out) - 1} more" if len(out) > 1 else ""
+    findings.notes.append(f"left out as another direction: {packets(before)} before, {after} after ({in_words(out[0])}{more})")
+
+
+def is_no_accident(row: int, lost: int, came: int) -> bool:
+    """Whether so many losses in a row are unlikely at the loss of the other packets."""
+    return row * log((lost + 1) / (came + 2)) < log(CHANCE)
+
+
+def trim(findings: Findings, matches: Matches, before: Spool, after: Spool, options: Options) -> None:
+    """Leaves out packets that came while the second capture didn't run, and those that left while the first one didn't."""
+    kept = {addresses: pair for addresses, pair in matches.pairs.items() if addresses not in findings.left_out}
+    seen = [pair for pair in kept.values() if pair.matched]
+    if not seen or after.first is None or after.last is None:
+        return
+    begin, end = after.first + options.shift, after.last + options.shift
+    first, last = min(pair.first for pair in seen), max(pair.last for pair in seen)
+    unmatched = [slot for addresses, slot in matches.unmatched_before() if addresses in kept]
+    early = [slot for slot in unmatched if slot < first and before.time_of(slot) < begin]
+    late = [slot for slot in unmatched if slot > last and before.time_of(slot) > end]
+    lost = findings.came - findings.left - len(early) - len(late)
+    rest = findings.came - len(early) - len(late)
+    if is_no_accident(len(early), lost, rest):
+        findings.first, findings.begin = first, begin
+        findings.came -= len(early)
+        findings.notes.append(f"{packets(len(early))} came before {options.after} begins: left out, since nothing says what left then")
+    if is_no_accident(len(late), lost, rest):
+        findings.last, findings.end = last, end
+        findings.came -= len(late)
+        findings.notes.append(f"{packets(len(late))} came after {options.after} ends: left out, since nothing says what left then")
+    began, ended = min(pair.began for pair in seen), max(pair.ended for pair in seen)
+    outside = sum(1 for addresses, time in matches.unmatched_after() if addresses in kept and not began <= time <= ended)
+    if outside:
+        findings.strange -= outside
+        findings.expected -= outside
+        findings.notes.append(f"{packets(outside)} after the queue came before {options.before} begins or after it ends: left out")
+
+
+def other_way_round(pairs: list[Pair], findings: Findings) -> bool:
+    """Whether packets that leave before they come mean swapped files: the losses, or times near 0, tell it from two clocks."""
+    lost = findings.came - findings.left
+    if findings.early < (1 - MOST_EARLY) * findings.left or findings.strange < lost:
+        return False
+    least, greatest = min(pair.least for pair in pairs), max(pair.greatest for pair in pairs)
+    return findings.strange > lost or -greatest <= greatest - least
+
+
+def both_ways(pairs: dict[bytes, Pair]) -> list[bytes]:
+    """The addresses of pairs whose way back is there too."""
+    return [addresses for addresses in pairs if turned(addresses) in pairs and turned(addresses) != addresses]
+
+
+def two_clocks(pairs: dict[bytes, Pair]) -> int | None:
+    """The constant by which all flows are off, if there is one."""
+    floors = {addresses: pair.least for addresses, pair in pairs.items()}
+    spread = max(pair.greatest - pair.least for pair in pairs.values())
+    if max(floors.values()) - min(floors.values()) > max(TOLERANCE, spread):
+        return None
+    ways = both_ways(pairs)
+    if not ways:
+        return -min(floors.values())
+    there = min(floors[addresses] for addresses in ways if addresses < turned(addresses))
+    back = min(floors[addresses] for addresses in ways if addresses > turned(addresses))
+    return -(there + back) // 2
+
+
+def why_early(findings: Findings, pairs: dict[bytes, Pair], options: Options) -> str:
+    """What packets that left before they came mean, with the remedy."""
+    said = f"{findings.early} of {packets(findings.left)} left before they came"
+    if not both_ways(pairs) and other_way_round(list(pairs.values()), findings):
+        return f"{said}: the files are swapped, give {options.after} first"
+    shift = two_clocks(pairs)
+    if shift is None:
+        return f"{said}, by no constant: the captures have clocks that go apart, so take both on one machine"
+    return f"{said}, all flows by one constant: the captures have two clocks, give --shift {shift + options.shift}"
+
+
+def why_refused(findings: Findings, matches: Matches, options: Options) -> str:
+    """Why there is no trace, or nothing."""
+    kept = {addresses: pair for addresses, pair in matches.pairs.items() if addresses not in findings.left_out and pair.matched}
+    if findings.early > MOST_EARLY * findings.left:
+        return why_early(findings, kept, options)
+    chosen = options.networks or options.both_directions
+    if not chosen:
+        size = total(kept.values(), "size")
+        other = total((matches.pairs[addresses] for addresses in findings.left_out), "size")
+        if other > TEN * size:
+            return (f"most bytes are of packets that left before they came ({other} of {other + size}): the files are swapped, "
+                    f"give {options.after} first; or name the senders of the lesser direction by --direction")  # fmt: skip
+        ways = both_ways(kept)
+        if 2 * total((kept[addresses] for addresses in ways), "matched") > findings.left:
+            return why_both({addresses: kept[addresses] for addresses in ways}, options)
+    if findings.strange_share > MOST_STRANGE:
+        return (f"{findings.strange} of {packets(findings.expected)} after the queue match none before it: "
+                "take both captures at one queue, at the same time")  # fmt: skip
+    return ""
+
+
+def why_both(kept: dict[bytes, Pair], options: Options) -> str:
+    """What it means that packets of both directions leave after they came."""
+    shift = two_clocks(kept)
+    if shift is not None and -shift >= SMALL:
+        return (f"packets of both directions leave after they come, by {seconds(-shift)} and more: the captures have two clocks, "
+                f"give --shift {shift + options.shift}; or --both-directions if both pass the queue")  # fmt: skip
+    return "packets of both directions leave after they come: give --both-directions if both pass the queue, or --direction"
+
+
+def judge(matches: Matches, before: Spool, after: Spool, options: Options) -> Findings:
+    """Decides which packets are taken, and whether there is a trace."""
+    findings = Findings(left_out=other_direction(matches.pairs, options))
+    kept = [pair for addresses, pair in matches.pairs.items() if addresses not in findings.left_out]
+    findings.came, findings.left, findings.early = (total(kept, name) for name in ("before", "matched", "early"))
+    findings.expected = total(kept, "after")
+    findings.strange = findings.expected - findings.left
+    note_direction(findings, matches.pairs)
+    if after.first is None:
+        findings.notes.append(f"{options.after} has no packets")
+    trim(findings, matches, before, after, options)
+    findings.refusal = why_refused(findings, matches, options)
+    return findings

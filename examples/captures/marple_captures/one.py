@@ -1,0 +1,44 @@
+"""Makes a trace from one capture, in which no queue can be seen."""
+
+import argparse
+import sys
+from pathlib import Path
+from tempfile import TemporaryDirectory
+
+from marple_captures.findings import packets, were
+from marple_captures.start import add_numbers, start
+from marple_captures.trace import TraceWriter, check_origin, first_second
+from marple_captures.tshark import need_tshark, read_side_by_side
+
+DESCRIPTION = """\
+Makes a trace from one capture, in which no queue can be seen.
+
+The trace has a record for each IPv4 packet of the capture, in its order; its fields are those that trace-from-captures gives,
+but tout is tin, and qsize is 0. What was passed over is counted on standard error. Needs tshark.
+"""
+
+
+def parser() -> argparse.ArgumentParser:
+    """The command line."""
+    words = argparse.ArgumentParser(description=DESCRIPTION, formatter_class=argparse.RawDescriptionHelpFormatter)
+    words.add_argument("capture", metavar="CAPTURE", help="the capture")
+    add_numbers(words)
+    return words
+
+
+def make_trace(name: str, words: argparse.Namespace) -> None:
+    """Reads the capture and writes the trace."""
+    need_tshark()
+    with TemporaryDirectory(prefix="marple-") as folder:
+        (spool,) = read_side_by_side(name, [words.capture], [Path(folder) / "packets"])
+        origin = first_second(spool.read()) if words.origin is None else words.origin
+        check_origin(spool.read(), origin)
+        print(f"{name}: {packets(spool.packets)} {were(spool.packets)} read", file=sys.stderr)
+        if spool.foreign:
+            print(f"{name}: {packets(spool.foreign)} without IPv4 {were(spool.foreign)} passed over", file=sys.stderr)
+        TraceWriter(sys.stdout, words.switch, words.queue, origin).write((packet, packet.time) for packet in spool.read())
+
+
+def main() -> None:
+    """Runs the command."""
+    start(parser(), make_trace)

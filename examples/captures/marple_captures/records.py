@@ -1,0 +1,139 @@
+"""Packets as records of one size, kept in files, so that memory holds those that wait for their match and no others."""
+
+import os
+import struct
+from array import array
+from collections.abc import Callable, Iterator
+from dataclasses import dataclass, field
+from pathlib import Path
+from typing import BinaryIO, NamedTuple
+
+TCP = 6
+UDP = 17
+
+# What is the same in both captures: addresses, ports, sequence number, IP identification, protocol, place of a fragment, length.
+# Then come the bytes of the IP and transport headers, the packet's number in its capture, and nanoseconds since 1970.
+LAYOUT = struct.Struct(">4s4sIIHBHIHIq")
+SHORT_LAYOUT = struct.Struct(">4s4sQHBHIHIq")  # the same, with ports and sequence number in one word
+IDENTITY = 25
+SPLIT = struct.Struct(">25s6xq")
+BLOCK = 4096
+
+
+class Packet(NamedTuple):
+    """The fields of a record, in its order."""
+
+    source: bytes
+    target: bytes
+    ports: int
+    sequence: int
+    identification: int
+    protocol: int
+    offset: int
+    length: int
+    header: int
+    number: int
+    time: int
+
+    @property
+    def payload(self) -> int:
+        """The bytes after the TCP or UDP header, or after the IP header where there is neither."""
+        return max(0, self.length - self.header)
+
+
+@dataclass
+class Spool:
+    """The records of one capture in a file, and what was seen of the capture while they were written."""
+
+    path: Path
+    packets: int = 0
+    foreign: int = 0
+    first: int | None = None
+    last: int | None = None
+    longest: dict[bytes, int] = field(default_factory=dict)  # the length of the longest packet from one address to another
+
+    def blocks(self) -> Iterator[bytes]:
+        """The records as bytes, a few thousand at a time."""
+        with self.path.open("rb") as file:
+            while block := file.read(LAYOUT.size * BLOCK):
+                yield block
+
+    def read(self) -> Iterator[Packet]:
+        """The packets in the order of the capture."""
+        for block in self.blocks():
+            yield from map(Packet._make, LAYOUT.iter_unpack(block))
+
+    def marks(self) -> Iterator[tuple[bytes, int]]:
+        """The identity and the time of each packet, in the order of the capture."""
+        for block in self.blocks():
+            yield from SPLIT.iter_unpack(block)
+
+    def time_of(self, slot: int) -> int:
+        """When the packet in this place came, counted from 0."""
+        with self.path.open("rb") as file:
+            file.seek(slot * LAYOUT.size)
+            return SPLIT.unpack(file.read(LAYOUT.size))[1]
+
+    def rewritten(self, path: Path, change: Callable[[Packet], list[Packet]]) -> "Spool":
+        """A spool at another path in which each packet is replaced by those that `change` makes of it."""
+        other = Spool(path, 0, self.foreign, self.first, self.last, self.longest)
+        with path.open("wb") as file:
+            for packet in self.read():
+                for piece in change(packet):
+                    write_packet(file, piece)
+                    other.packets += 1
+        return other
+
+
+def write_packet(file: BinaryIO, packet: Packet) -> None:
+    """Writes one packet at the end of a file of records."""
+    file.write(LAYOUT.pack(*packet))
+
+
+class Departures:
+    """When each packet before the queue left it: nanoseconds since 1970 in a file, with 0 for a packet that never did.
+
+    A few blocks of the file are in memory, since packets that leave one after the other mostly came so.
+    """
+
+    HELD = 4
+
+    def __init__(self, path: Path, packets: int) -> None:
+        self.path = path
+        self.file = os.open(path, os.O_RDWR | os.O_CREAT | os.O_TRUNC, 0o600)
+        os.ftruncate(self.file, packets * 8)
+        self.packets = packets
+        self.blocks: dict[int, array[int]] = {}
+
+    def __enter__(self) -> "Departures":
+        return self
+
+    def __exit__(self, *_: object) -> None:
+        for number in list(self.blocks):
+            self.store(number)
+        os.close(self.file)
+
+    def put(self, slot: int, time: int) -> None:
+        """Sets the departure of the packet in this place of the spool, counted from 0."""
+        block = self.blocks.get(slot // BLOCK)
+        if block is None:
+            block = self.load(slot // BLOCK)
+        block[slot % BLOCK] = time
+
+    def load(self, number: int) -> "array[int]":
+        """Takes a block into memory, in the place of the one that is longest there."""
+        if len(self.blocks) == self.HELD:
+            self.store(next(iter(self.blocks)))
+        block = self.blocks[number] = array("q")
+        block.frombytes(os.pread(self.file, 8 * BLOCK, 8 * BLOCK * number))
+        return block
+
+    def store(self, number: int) -> None:
+        """Writes a block into the file."""
+        os.pwrite(self.file, self.blocks.pop(number).tobytes(), 8 * BLOCK * number)
+
+    def read(self) -> Iterator[int]:
+        """The departures in the order of the packets."""
+        with self.path.open("rb") as file:
+            while data := file.read(8 * BLOCK):
+                yield from array("q", data)

@@ -1,0 +1,34 @@
+"""What both commands do at their start and end: options that they share, messages, statuses."""
+
+import argparse
+import os
+import signal
+import sys
+from collections.abc import Callable
+from pathlib import Path
+
+from marple_captures import CaptureError
+
+
+def add_numbers(words: argparse.ArgumentParser) -> None:
+    """Adds the options for the columns switch and qid, and for the origin of time."""
+    words.add_argument("--switch", type=int, default=1, metavar="N", help="the number of the switch (1)")
+    words.add_argument("--queue", type=int, default=0, metavar="N", help="the number of the queue in it (0)")
+    words.add_argument("--origin", type=int, metavar="S", help="the second of 1970 at which time begins")
+
+
+def start(words: argparse.ArgumentParser, work: Callable[[str, argparse.Namespace], None]) -> None:
+    """Runs a command with its words, and ends with its status."""
+    name = Path(sys.argv[0]).name
+    try:
+        work(name, words.parse_args())
+        sys.stdout.flush()
+    except CaptureError as error:
+        sys.exit(f"{name}: {error}")
+    except BrokenPipeError:
+        os.dup2(os.open(os.devnull, os.O_WRONLY), sys.stdout.fileno())
+        sys.exit(1)
+    except OSError as error:
+        sys.exit(f"{name}: {error}")
+    except KeyboardInterrupt:
+        sys.exit(128 + signal.SIGINT)

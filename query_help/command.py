@@ -1,0 +1,269 @@
+"""The command `explain`: asks marple about a query, or a query and a trace, and puts its answer into words."""
+
+import argparse
+import os
+import re
+import subprocess
+import sys
+import tempfile
+from dataclasses import dataclass
+from pathlib import Path
+from typing import Optional
+
+from query_help import folds, hints, page, traces
+from query_help.columns import Scope, scope_before
+from query_help.grammar import Binding, Fold, Item, read_query
+from query_help.places import place_of
+from query_help.situations import part_at, situation
+from query_help.tokens import decoded, tokens_of
+
+CAUSES = {
+    "if": "a condition", "forms": "two forms", "min": "min", "decay": "decay", "/": "a division", "%": "a division",
+    "<<": "a shift", ">>": "a shift", "&": "a bit operation", "|": "a bit operation", "^": "a bit operation",
+    "*": "a product", "sadd": "a sum of two",
+}
+EXACT = {"linear": "exact for any cache.", "other": "by epochs: exact only for keys that stay in the cache."}
+UNFIT = {
+    "NotAdditive": "this isn't `x = x + e` or `x = x - e` by the packet alone",
+    "NotMonotone": "this doesn't rise with the state",
+}
+QUERY_REFUSED, TRACE_REFUSED = 4, 5
+COMPLAINT = re.compile("marple: (out of memory|bad command line|cannot (read|write)|query: |trace: )")
+
+
+@dataclass
+class Query:
+    """A query as a file: the name it was given, its bytes, its items, and what they make."""
+
+    name: str
+    data: bytes
+    text: str
+    items: list[Item]
+    scope: Scope
+
+    def place(self, start: int, words: str) -> str:
+        return place_of(self.name, self.data, start, words)
+
+    def groupbys(self) -> list[Binding]:
+        return [item for item in self.items if isinstance(item, Binding) and item.op == "groupby" and not item.final]
+
+    def fold_of(self, groupby: Binding) -> Optional[Fold]:
+        return self.scope.folds.get(groupby.fold.text) if groupby.fold else None
+
+
+@dataclass
+class Answer:
+    """What a call of marple gave."""
+
+    status: int
+    output: str
+    complaint: str
+
+
+def read(name: str) -> Query:
+    data = Path(name).read_bytes()
+    text = decoded(data)
+    items, _ = read_query(text)
+    return Query(name, data, text, items, scope_before(items))
+
+
+def ask(program: str, words: list[str]) -> Answer:
+    """Runs marple. What a launcher says while it builds the program goes on to standard error as it comes."""
+    complaint = ""
+    with tempfile.TemporaryFile() as output:
+        try:
+            process = subprocess.Popen(
+                [program, *words], stdin=subprocess.DEVNULL, stdout=output, stderr=subprocess.PIPE, encoding="latin-1"
+            )
+        except OSError as fault:
+            sys.exit(f"explain: cannot run {program}: {fault.strerror}")
+        with process:
+            for line in process.stderr or ():
+                if COMPLAINT.match(line):
+                    complaint += line
+                else:
+                    print(line, end="", file=sys.stderr, flush=True)
+        output.seek(0)
+        return Answer(process.returncode, output.read().decode("latin-1"), complaint)
+
+
+def plan_words(query: Query, plan: str) -> str:
+    """The text of a plan in words: its size, and which groupbys are exact."""
+    numbers = {line.split()[0]: line.split()[1] for line in plan.splitlines()}
+    stages, operations = (traces.counted(int(numbers[f"{word}s"]), word) for word in ("stage", "operation"))
+    said = f"{stages}, {operations}, at most {numbers['bound']} steps for a packet.\n"
+    others = set()
+    for line in plan.splitlines():
+        if line.startswith("groupby "):
+            _, name, kind, depth = line.split()[:4]
+            if kind == "other":
+                others.add(name)
+            said += f"groupby {name}: {kind}, depth {depth}: {EXACT[kind]}\n"
+    return said + lacking_words(query, others)
+
+
+def lacking_words(query: Query, others: set[str]) -> str:
+    """The finals that lack keys, since they are made from a groupby of class other."""
+    said = ""
+    lacking = set(others)
+    for item in query.items:
+        sources = [name.text for name in item.inputs] if isinstance(item, Binding) and item.final else []
+        source = next((name for name in sources if name in lacking), None)
+        if source:
+            lacking.add(item.name.text)
+            said += (f"final {item.name.text}: made from {source}, so a key that left the cache and came back "
+                     "has no row in it.\n")
+    return said
+
+
+def other_words(query: Query, remedies: dict[str, str]) -> str:
+    """For each fold that isn't linear the places that keep it from being so, each with its remedy."""
+    said = ""
+    done = set()
+    for groupby in query.groupbys():
+        fold = query.fold_of(groupby)
+        if fold is None or fold.name.text in done:
+            continue
+        done.add(fold.name.text)
+        causes = folds.why_other(fold)
+        for at, cause in enumerate(causes):
+            words = CAUSES.get(cause.op, "a condition")
+            said += query.place(cause.start, f"{fold.name.text} isn't linear: {cause_words(cause)}")
+            same = at + 1 < len(causes) and CAUSES.get(causes[at + 1].op) == words
+            if not same:
+                said += remedy_line(remedies, "other", f"by {words}")
+    return said
+
+
+def cause_words(cause: folds.Cause) -> str:
+    carried = f"`{cause.reads}`, which is carried on from packet to packet"
+    if cause.op == "if":
+        return f"the condition reads {carried}"
+    if cause.op == "forms":
+        return "it has sums and maxima"
+    return f"`{cause.op}` of {carried}"
+
+
+def remedy_line(remedies: dict[str, str], fault: str, where: str = "") -> str:
+    words = page.remedy(remedies, fault, where)
+    return f"{words}\n" if words else ""
+
+
+def command_words(query: Query, fault: str, start: int) -> str:
+    """Where the fold of the groupby at the byte has what `net` or `enclose` can't take."""
+    finders = {"NotAdditive": folds.why_not_additive, "NotMonotone": folds.why_not_monotone}
+    for groupby in query.groupbys():
+        fold = query.fold_of(groupby)
+        if groupby.name.start == start and fold and fault in finders:
+            return "".join(query.place(cause.start, UNFIT[fault]) for cause in finders[fault](fold))
+    return ""
+
+
+def argument_words(query: Query, binding: Binding, scope: Scope) -> str:
+    """The arguments of a groupby's fold that are no columns, each where it stands in the fold."""
+    said = ""
+    fold = scope.folds[binding.fold.text]
+    for missing in scope.missing_arguments(binding):
+        token = next(argument for argument in fold.arguments if argument.text == missing)
+        said += query.place(token.start, f"this argument of {fold.name.text} is no column of {binding.inputs[0].text}")
+        said += "".join(f"{hint}\n" for hint in hints.argument_hints(missing, binding, scope))
+    return said
+
+
+def grammar_words(query: Query, fault: str, start: int, remedies: dict[str, str]) -> str:
+    """What is said of a fault of the tokens or of the grammar."""
+    hint = hints.address_hint(query.text, start) if fault == "BadByte" else None
+    if hint:
+        return f"{hint}\n"
+    said = ""
+    _, refused = read_query(query.text)
+    if fault == "UnexpectedToken" and refused and refused.token.start == start:
+        said = "".join(f"{hint}\n" for hint in hints.syntax_hints(refused))
+    return said + remedy_line(remedies, fault)
+
+
+def fault_words(query: Query, fault: str, start: int, remedies: dict[str, str]) -> str:
+    """The place of a query's fault, its remedy, and what may have been meant."""
+    said = query.place(start, fault)
+    if fault in ("BadByte", "UnexpectedToken"):
+        return said + grammar_words(query, fault, start, remedies)
+    part = part_at(query.items, start)
+    scope = scope_before(query.items, part.item.end - 1) if part else query.scope
+    where = situation(fault, part, scope)
+    if part and fault == "UnknownName":
+        if where == "at a groupby's fold":
+            said += argument_words(query, part.item, scope)
+        else:
+            name = next((token.text for token in tokens_of(query.text) if token.start == start), "")
+            said += "".join(f"{hint}\n" for hint in hints.name_hints(name, query.items, part, query.text))
+    return said + command_words(query, fault, start) + remedy_line(remedies, fault, where)
+
+
+class Session:
+    """One call of the command: what it was asked, and where the program and the remedies are."""
+
+    def __init__(self, program: str, remedies: dict[str, str], asked: argparse.Namespace):
+        self.program, self.remedies, self.asked = program, remedies, asked
+
+    def words_for(self, command: str) -> list[str]:
+        """The words of marple. Without a trace an empty one is given, whose fault only an accepted query comes to."""
+        if command == "plan":
+            return ["plan", self.asked.query, "--ways", self.asked.ways]
+        if command == "compile":
+            return ["compile", self.asked.query]
+        return [command, self.asked.query, self.asked.trace or os.devnull]
+
+    def refused(self, answer: Answer) -> int:
+        """Shows why marple didn't do it."""
+        found = re.match(r"marple: query: (.*) at (\d+)$", answer.complaint.strip())
+        if answer.status == QUERY_REFUSED and found:
+            query = read(self.asked.query)
+            sys.stdout.write(fault_words(query, found.group(1), int(found.group(2)), self.remedies))
+        elif answer.status == TRACE_REFUSED and self.asked.trace:
+            words = answer.complaint.strip().removeprefix("marple: trace: ")
+            said, fault, where = traces.explain_trace(Path(self.asked.trace), self.asked.trace, words)
+            sys.stdout.write(said + remedy_line(self.remedies, fault, where))
+        else:
+            sys.stdout.flush()
+            sys.stderr.write(answer.complaint)
+        return answer.status
+
+    def show_plan(self, plan: Answer) -> None:
+        """What marple thinks of a query that it accepts."""
+        query = read(self.asked.query)
+        sys.stdout.write(plan_words(query, plan.output) + other_words(query, self.remedies))
+
+    def run(self) -> int:
+        command = self.asked.command or ("run" if self.asked.trace else "plan")
+        plan = ask(self.program, self.words_for("plan")) if command != "run-plan" else None
+        if plan and plan.status != 0:
+            return self.refused(plan)
+        answer = plan if plan and command == "plan" else ask(self.program, self.words_for(command))
+        if answer.status == TRACE_REFUSED and self.asked.trace:
+            return self.refused(answer)
+        if plan:
+            self.show_plan(plan)
+        if answer.status in (0, TRACE_REFUSED):
+            if command != "plan":
+                print(f"{command} takes it.")
+            return 0
+        if answer.status == QUERY_REFUSED:
+            print(f"{command} refuses it:")
+        return self.refused(answer)
+
+
+def main(folder: Path) -> int:
+    """Runs the command; folder is that of the script, beside which the program is."""
+    sys.setrecursionlimit(20_000)
+    parser = argparse.ArgumentParser(
+        prog=Path(sys.argv[0]).name,
+        description="Says where and why marple refuses a query or a trace, or which of the query's groupbys are exact.",
+    )
+    parser.add_argument("query", metavar="QUERY", help="the query's file, or a plan's with --for run-plan")
+    parser.add_argument("--ways", default="8", help="the cache's ways, for the bound on steps (8)")
+    parser.add_argument("--for", dest="command", choices=("run", "net", "enclose", "compile", "run-plan"),
+                        help="the command that is to take the query too")
+    parser.add_argument("--trace", help="a trace that the query is to be run over too")
+    asked = parser.parse_args()
+    program = os.environ.get("MARPLE") or str(folder / "marple")
+    return Session(program, page.read_remedies(folder), asked).run()

@@ -1,0 +1,52 @@
+# What the scripts of tests/ share. A script reads it first, by `. "$(dirname "$0")/common.sh"`, and has then
+#
+#   top        the folder of the repository
+#   here       the folder of the script
+#   room       an empty folder, removed when the script ends
+#   count      counts one check as passed or failed
+#   finish     prints the counts, the script's last line
+#   need_program   finds the program under test
+#
+# shellcheck shell=sh
+set -u
+here=$(cd "$(dirname "$0")" && pwd) || exit 1
+top=${here%/tests*}
+room=$(mktemp -d) || exit 1
+trap 'rm -rf "$room"' EXIT
+trap 'exit 130' HUP INT TERM
+passed=0
+failed=0
+
+# Sets `marple` to the program under test: $MARPLE, or ./marple of the repository. The latter builds the program where
+# its build is missing or older than its sources, and says on standard error how far it is.
+need_program() {
+    marple=${MARPLE:-$top/marple}
+    case $marple in
+    /*) ;;
+    */*) marple=$PWD/$marple ;;
+    esac
+    if ! command -v "$marple" >/dev/null; then
+        echo "$0: there is no program $marple" >&2
+        exit 1
+    fi
+    "$marple" gen 1 1 >/dev/null
+    [ $? -ne 1 ] || exit 1
+}
+
+# Counts a check by the status $1 of what was checked. The words after it name the check where it failed.
+count() {
+    if [ "$1" -eq 0 ]; then
+        passed=$((passed + 1))
+        return 0
+    fi
+    failed=$((failed + 1))
+    shift
+    echo "$* failed"
+    return 1
+}
+
+# Ends the script: prints `N passed, M failed`, and has status 0 where at least one check passed and none failed.
+finish() {
+    echo "$passed passed, $failed failed"
+    [ "$failed" -eq 0 ] && [ "$passed" -gt 0 ]
+}

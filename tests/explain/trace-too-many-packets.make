@@ -1,0 +1,1 @@
+echo qid; yes 1 | head -n 4194305
