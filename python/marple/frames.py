@@ -44,9 +44,9 @@ def trace_of(frame) -> bytes:
 
 
 def _cell(value) -> str:
-    if isinstance(value, float):
-        if math.isnan(value):
-            return ""
+    if isinstance(value, float) and not math.isnan(value):
         return "inf" if value == math.inf else str(int(value)) if value.is_integer() and value >= 0 else repr(value)
-    text = str(value)
+    text = "" if isinstance(value, float) else str(value)
+    if not text:
+        return '""'  # nothing at all would be an empty line where there are no other columns, and so no record
     return '"' + text.replace('"', '""') + '"' if any(mark in text for mark in '",\r\n') else text

@@ -71,7 +71,7 @@ class ATrace(unittest.TestCase):
         self.assertEqual(marple.run(query, frame)["r"].frame()["d"].to_dict(), {7: 0, 167772161: 1})
 
     def test_of_no_numbers_is_refused(self):
-        for value in (1.5, -1, numpy.nan, "x"):
+        for value in (1.5, -1, numpy.nan, None, "", "x"):
             with self.subTest(value), self.assertRaises(marple.TraceRefused) as refused:
                 marple.run(TOP / "examples" / "count.query", pandas.DataFrame({"srcip": [1, value]}))
             self.assertEqual(refused.exception.shown, "BadNumber(2,srcip)")

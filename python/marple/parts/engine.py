@@ -55,7 +55,7 @@ def local_client(workers: int):
     distributed = _distributed()
     # What fails is reported by the tasks themselves; memory_limit 0 is none, since the runs of the program aren't in its count.
     cluster = distributed.LocalCluster(
-        n_workers=workers, threads_per_worker=1, processes=True, dashboard_address=None, memory_limit=0,
+        n_workers=workers, threads_per_worker=1, processes=True, dashboard_address=":0", memory_limit=0,
         silence_logs=logging.CRITICAL,
     )  # fmt: skip
     return distributed.Client(cluster)
