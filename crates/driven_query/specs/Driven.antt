@@ -35,10 +35,10 @@ pipeline_in (Ways8 p) = p
 pipeline_in (Ways16 p) = p
 pipeline_in (Ways32 p) = p
 
--- the caches have the setting's ways and buckets and these entries, the pipes the setting's places, and caches and pipes are empty
-pub record IsLeftWith (entries : Entries) (setting : Setting) (driven : Driven) : Type 0 where
+-- the caches have the setting's ways and buckets and entries for this purpose, the pipes the setting's places, and caches and pipes are empty
+pub record IsLeftWith (purpose : Entries) (setting : Setting) (driven : Driven) : Type 0 where
   pub ways : ways_in driven ≡ setting.ways
-  pub entries : (pipeline_in driven).entries ≡ entries
+  pub entries : (pipeline_in driven).entries ≡ purpose
   pub buckets : (pipeline_in driven).buckets ≡ setting.buckets
   pub places : HavePlaces setting.pipe (pipeline_in driven).lanes
   pub drained : list_all lane_is_drained (pipeline_in driven).lanes ≡ true
