@@ -41,7 +41,7 @@ def parser() -> argparse.ArgumentParser:
     words.add_argument("--shift", type=int, default=0, metavar="NS", help="add NS nanoseconds to AFTER's times")
     ways = words.add_mutually_exclusive_group()
     ways.add_argument("--direction", type=IPv4Network, action="append", default=[], metavar="NET", dest="networks",
-                      help="take packets from these source addresses alone, as 10.0.1.0/24; may be given several times")  # fmt: skip
+                      help="take packets from these source addresses alone, as 10.0.1.0/24; may be given several times")
     ways.add_argument("--both-directions", action="store_true", help="take the packets of both directions")
     cuts = words.add_mutually_exclusive_group()
     cuts.add_argument("--split", type=int, metavar="BYTES", help="cut packets that are longer than BYTES to this length")
