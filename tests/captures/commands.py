@@ -116,8 +116,13 @@ def check_messages(tally, room: Path) -> None:
         tally.check(done.returncode == 1 and done.stderr.startswith(wanted), name, "a file that is no capture")
         done = example(name, [])
         tally.check(done.returncode == 2 and done.stderr.startswith(f"usage: {name} "), name, "without words")
+        for number in ("-1", "x", "1.5"):
+            done = example(name, ["--switch", number, *words])
+            tally.check(done.returncode == 2 and not done.stdout, name, "with the switch", number)
         check_without_tshark(tally, room, name, words)
         check_elsewhere(tally, room, name, words)
+    done = example("trace-from-captures", ["--split", "120", "before.pcap", "after.pcap"])
+    tally.check(done.returncode == 2 and "--split" in done.stderr, "pieces that are too short")
     check_progress(tally)
 
 
