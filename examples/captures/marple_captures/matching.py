@@ -1,6 +1,7 @@
 """Finds for each packet after the queue the one before it, holding only packets that wait for their match."""
 
 import os
+from array import array
 from bisect import bisect_left
 from collections.abc import Iterator
 from dataclasses import dataclass, field
@@ -79,7 +80,7 @@ class Matcher:
         self.matches = Matches()
         self.departures = departures
         self.spool = os.open(before.path, os.O_RDONLY)
-        self.recent = [0] * RECENT
+        self.recent = array("q", bytes(8 * RECENT))
         self.arrivals = 0
         self.latency = 0
 

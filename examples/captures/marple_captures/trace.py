@@ -41,7 +41,7 @@ class TraceWriter:
             elif left:
                 left = came
             write(f"{start},{number},{quad(source)},{quad(target)},{ports >> 16},{ports & 65535},{protocol},{length},"
-                  f"{max(0, length - header)},{sequence},{came - origin},{left - origin if left else 'inf'},{depth}\n")  # fmt: skip
+                  f"{max(0, length - header)},{sequence},{came - origin},{left - origin if left else 'inf'},{depth}\n")
 
 
 def first_second(packets: Iterator[Fields]) -> int:

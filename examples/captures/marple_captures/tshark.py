@@ -46,7 +46,7 @@ def command(capture: str, simple: bool) -> list[str]:
         columns = ['"protocol","%p"', columns[0], columns[-1]]
         without += ["ip", "ipv6"]
     return ["tshark", "-r", capture, "-n", "-T", "tabs", "-o", "gui.column.format:" + ",".join(columns),
-            "-o", "ip.defragment:FALSE", *chain.from_iterable(("--disable-protocol", name) for name in without)]  # fmt: skip
+            "-o", "ip.defragment:FALSE", *chain.from_iterable(("--disable-protocol", name) for name in without)]
 
 
 def need_tshark() -> None:
@@ -133,7 +133,7 @@ def record_of(line: bytes, number: int) -> tuple[int, bytes]:
     # A fragment after the first has no ports.
     word, size = (0, 0) if offset else transport(protocol, data)
     return moment, SHORT_LAYOUT.pack(address(source), address(target), word, int(identification, 16), protocol, offset,
-                                     int(length), header + size, number, moment)  # fmt: skip
+                                     int(length), header + size, number, moment)
 
 
 def simple_record_of(line: bytes, number: int) -> tuple[int, bytes]:
