@@ -37,7 +37,7 @@ class EveryTable(unittest.TestCase):
 
 class AFrame(unittest.TestCase):
     def test_has_words_keys_and_marks(self):
-        frame = marple.run(CASES / "run-greatest-word" / "query", CASES / "run-greatest-word" / "trace")["r"].frame()
+        frame = marple.run(CASES / "run" / "greatest-word" / "query", CASES / "run" / "greatest-word" / "trace")["r"].frame()
         self.assertEqual({str(frame[name].dtype) for name in frame.columns if name != "mark"}, {"uint64"})
         self.assertEqual(str(frame["mark"].dtype), "category")
         self.assertEqual(list(frame["mark"].cat.categories), ["exact", "valid", "invalid", "within"])
