@@ -15,8 +15,8 @@ SOURCES = ("src", "specs", "proofs")
 
 
 def find_program(program: str | os.PathLike | None = None) -> str:
-    """The path of the program: the one named here or by the environment's MARPLE, whatever it is; else a proved one, that of
-    the checkout that this package stands in, or an installed one on PATH.
+    """The path of the program: the one named here or by the environment's MARPLE, whatever it is; else a proved one,
+    that of the checkout that this package stands in, or an installed one on PATH.
 
     Raises ProgramMissing where there is none.
     """
@@ -39,8 +39,8 @@ def find_program(program: str | os.PathLike | None = None) -> str:
 
 
 def is_current(built: Path) -> bool:
-    """Whether the checkout has this program, and it is no older than what it is made from: crates.txt, and the sources of the
-    crates that it stands on.
+    """Whether the checkout has this program, and it is no older than what it is made from: crates.txt, and the sources
+    of the crates that it stands on.
     """
     try:
         made = built.stat().st_mtime_ns
@@ -87,10 +87,13 @@ class Called:
 
 
 def call(words: Sequence[str], *, program: str | os.PathLike | None, query: bytes = b"") -> Called:
-    """Calls the program with these words. Raises the exception of its status; `query` is the text that a fault points into."""
+    """Calls the program with these words. Raises the exception of its status; `query` is the text that a fault points
+    into.
+    """
     with tempfile.TemporaryFile() as complaint:
+        command = [find_program(program), *words]
         done = subprocess.run(
-            [find_program(program), *words], stdin=subprocess.DEVNULL, stdout=subprocess.PIPE, stderr=complaint, check=False
+            command, stdin=subprocess.DEVNULL, stdout=subprocess.PIPE, stderr=complaint, check=False
         )
         complaint.seek(0)
         text = complaint.read().decode(errors="replace")

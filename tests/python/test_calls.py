@@ -95,7 +95,8 @@ class Statuses(unittest.TestCase):
         self.assertEqual((fault.fault, fault.record, fault.field, fault.path), ("BadNumber", 2, "srcip", None))
         with self.assertRaises(marple.TraceRefused) as refused:
             marple.run(COUNT, b"")
-        self.assertEqual((refused.exception.fault, refused.exception.record, refused.exception.field), ("NoHeader", None, None))
+        fault = refused.exception
+        self.assertEqual((fault.fault, fault.record, fault.field), ("NoHeader", None, None))
 
     def test_of_words(self):
         with self.assertRaises(marple.UsageError):

@@ -49,13 +49,17 @@ class Installed(unittest.TestCase):
 
     def test_leaves_nothing_in_the_checkout(self):
         kept = [path.name for path in (TOP / "python").iterdir()]
-        self.assertEqual(sorted(name for name in kept if name != "__pycache__"), ["marple", "pyproject.toml", "wheel_backend.py"])
+        sources = ["marple", "pyproject.toml", "wheel_backend.py"]
+        self.assertEqual(sorted(name for name in kept if name != "__pycache__"), sources)
 
 
 class TheWheel(unittest.TestCase):
     def test_records_each_file(self):
         folder = Folder(self)
-        build = f"import sys; sys.path.insert(0, {str(TOP / 'python')!r}); import wheel_backend as w; print(w.build_wheel({folder.place.name!r}))"
+        build = (
+            f"import sys; sys.path.insert(0, {str(TOP / 'python')!r})\n"
+            f"import wheel_backend; print(wheel_backend.build_wheel({folder.place.name!r}))"
+        )
         done = subprocess.run([sys.executable, "-B", "-c", build], capture_output=True, text=True, check=True)
         with zipfile.ZipFile(folder.path(done.stdout.strip())) as wheel:
             names = wheel.namelist()
