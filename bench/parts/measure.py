@@ -1,4 +1,4 @@
-"""Times a query over traces in parts with several numbers of workers, beside runs of the program. Writes a page of the figures.
+"""Times a query over traces in parts with several numbers of workers, beside runs of the program. Writes a page of it.
 
 Usage: measure.py QUERY ROOM WORKERS..
 ROOM has the traces, and the file `expected` with the rows that a plain program gives.
@@ -88,8 +88,8 @@ def timed_parts(query: str, room: Path, workers: int) -> tuple[Stages, list[int]
     client = local_client(workers)
     work, stages = room / "work", Stages()
     joined, _, runs = parts.tables_file(
-        Path(query).read_bytes(), sorted(room.glob("traces/*.csv")), by=None, parts=None, client=client, work=work, given={},
-        program=None, piece=parts.PIECE, report=stages.report,
+        Path(query).read_bytes(), sorted(room.glob("traces/*.csv")), by=None, parts=None, client=client, work=work,
+        given={}, program=None, piece=parts.PIECE, report=stages.report,
     )  # fmt: skip
     stages.report("end")
     peaks = [max(client.run(peak).values()), max(ran.peak for ran in runs) // 1024]
@@ -145,19 +145,20 @@ def row_of_parts(workers: int, packets: int, stages: Stages, peaks: list[int], f
 def runs_of_the_program(query: str, room: Path, packets: int) -> str:
     """Runs over some of the packets, and what splitting costs beside them."""
     lines = [
-        f"\nPeak of the process that asks: {peak()} MB. Load after: {load()}. The peak of a run is at least that of the worker",
-        "that starts it, since Linux counts it so.\n",
+        f"\nPeak of the process that asks: {peak()} MB. Load after: {load()}. The peak of a run is at least that of the",
+        "worker that starts it, since Linux counts it so.\n",
         "| One run of the program | Seconds | of the processor | Packets a second | Peak (MB) |",
         "|---|---|---|---|---|",
     ]
     million = min(packets, MILLION)
-    for rows, columns, what in ((million, ALL, "14 columns"), (min(packets, 4 * MILLION), COLUMNS, "the 4 columns that it reads")):
-        seconds, processor, most = timed_run(query, first_rows(room, "first.csv", rows, columns))
-        lines.append(f"| {rows:,} packets, {what} | {seconds:.2f} | {processor:.2f} | {rows / seconds:,.0f} | {most} |")
+    most = min(packets, 4 * MILLION)
+    for rows, columns, what in ((million, ALL, "14 columns"), (most, COLUMNS, "the 4 columns that it reads")):
+        seconds, processor, size = timed_run(query, first_rows(room, "first.csv", rows, columns))
+        lines.append(f"| {rows:,} packets, {what} | {seconds:.2f} | {processor:.2f} | {rows / seconds:,.0f} | {size} |")
     trace = first_rows(room, "first.csv", million, ALL)
     split, run = timed_split(trace, room), timed_run(query, trace)[1]
-    lines.append(f"\nSplitting {million:,} packets of 14 columns takes {split:.2f} s of the processor, {split / run:.2f} times what")
-    lines.append("running them takes.\n")
+    lines.append(f"\nSplitting {million:,} packets of 14 columns takes {split:.2f} s of the processor,")
+    lines.append(f"{split / run:.2f} times what running them takes.\n")
     return "\n".join(lines)
 
 
@@ -165,10 +166,10 @@ def on_paper(record: float, rate: float, workers: int) -> str:
     """What these figures come to for a day of a link of 100 Gbit/s with packets of 1,000 bytes."""
     second = 100e9 / 8 / 1000
     day = second * 86400
-    return f"""On paper, for a day of a link of 100 Gbit/s with packets of 1,000 bytes: {second / 1e6:.1f} million packets a second,
-{day / 1e12:.2f} trillion a day, {day * record / 1e12:.0f} TB of records of {record:.0f} bytes. At {rate / workers:,.0f} packets a second for
-each of {workers} workers that is {second / rate * workers:,.0f} days of one worker, so as many workers would keep pace if they
-didn't slow one another down, which isn't measured here."""
+    return f"""On paper, for a day of a link of 100 Gbit/s with packets of 1,000 bytes: {second / 1e6:.1f} million packets
+a second, {day / 1e12:.2f} trillion a day, {day * record / 1e12:.0f} TB of records of {record:.0f} bytes. At
+{rate / workers:,.0f} packets a second for each of {workers} workers that is {second / rate * workers:,.0f} days of one
+worker, so as many workers would keep pace if they didn't slow one another down, which isn't measured here."""
 
 
 def main() -> None:
