@@ -1,0 +1,48 @@
+-- What finals make of the tables of parts. A table stands here as the rows that finals read of it, and the tables of parts as a
+-- function of the parts' numbers.
+use Rattle.std.specs.Prelude.{◌≡◌, ◌≢◌, ℕ, List, [], ◌∷◌, map, filter, flat_map, slice_index, All, Some}
+use Rattle.epoch_model.specs.declared.tables.Row.{Row}
+use Rattle.epoch_model.specs.Keys.{Key, ascending}
+use Rattle.query_lang.specs.declared.fold.TypedExpr.{TypedExpr}
+use Rattle.query_lang.specs.declared.fold.TypedFold.{TypedFold}
+use Rattle.final_queries.specs.Finals.{is_of_key, plain_row, filtered_rows, mapped_rows, grouped_rows, joined_rows}
+use Rattle.switch_traces.specs.TraceLaws.{AreApart}
+
+-- the rows in the ascending order of their keys, where rows of one key stay in their order
+abbrev pub by_key : List Row → List Row
+by_key rows = flat_map (λ key. filter (is_of_key key) rows) (ascending (map (λ row. row.key) rows))
+
+-- the rows of all these parts, in the order of their keys
+abbrev pub rows_of_all : (ℕ → List Row) → List ℕ → List Row
+rows_of_all rows parts = by_key (flat_map rows parts)
+
+-- each row is in the part of its key
+abbrev pub AreInTheirParts : (Key → ℕ) → (ℕ → List Row) → Type 0
+AreInTheirParts part_of rows = (n : ℕ) → All (λ row. part_of row.key ≡ n) (rows n)
+
+-- `filter` of all rows gives the rows that it gives of each part, in the order of keys.
+abbrev pub FiltersAreOfParts : Type 0
+FiltersAreOfParts = (condition : TypedExpr) (rows : ℕ → List Row) (parts : List ℕ)
+    → filtered_rows condition (rows_of_all rows parts) ≡ rows_of_all (λ n. filtered_rows condition (rows n)) parts
+
+-- So does `map`.
+abbrev pub MapsAreOfParts : Type 0
+MapsAreOfParts = (values : List TypedExpr) (rows : ℕ → List Row) (parts : List ℕ)
+    → mapped_rows values (rows_of_all rows parts) ≡ rows_of_all (λ n. mapped_rows values (rows n)) parts
+
+-- And so does `join` of two tables, where the rows of both are in the parts of their keys.
+abbrev pub JoinsAreOfParts : Type 0
+JoinsAreOfParts = (part_of : Key → ℕ) (left right : ℕ → List Row) (parts : List ℕ) → AreApart parts
+    → AreInTheirParts part_of left → AreInTheirParts part_of right
+    → joined_rows (rows_of_all left parts) (rows_of_all right parts) ≡ rows_of_all (λ n. joined_rows (left n) (right n)) parts
+
+-- A row in each part: its key has the part's number, and then the word 5.
+abbrev pub one_each : ℕ → List Row
+one_each n = plain_row (n ∷ 5 ∷ []) [] ∷ []
+
+-- `groupby` isn't of parts alone. By the second word of these keys it has one row of both parts, and one of each part alone,
+-- whatever the fold.
+abbrev pub GroupbysAreNotOfParts : Type 0
+GroupbysAreNotOfParts = (f : TypedFold) → AreInTheirParts (λ key. slice_index key 0) one_each
+    × (grouped_rows (1 ∷ []) (Some f) [] (rows_of_all one_each (0 ∷ 1 ∷ []))
+    ≢ rows_of_all (λ n. grouped_rows (1 ∷ []) (Some f) [] (one_each n)) (0 ∷ 1 ∷ []))

@@ -1,0 +1,23 @@
+//! Laws of finals over the tables of parts.
+
+ghost use Rattle.trace_parts.specs.FinalParts.{FiltersAreOfParts, MapsAreOfParts, JoinsAreOfParts, GroupbysAreNotOfParts};
+
+/// `filter` of the rows of all parts gives the rows that it gives of each part, in the order of keys.
+pub fn filters_are_of_parts()
+    ensures { FiltersAreOfParts }
+{}
+
+/// So does `map`.
+pub fn maps_are_of_parts()
+    ensures { MapsAreOfParts }
+{}
+
+/// And so does `join` of two tables, where the rows of both are in the parts of their keys.
+pub fn joins_are_of_parts()
+    ensures { JoinsAreOfParts }
+{}
+
+/// `groupby` isn't of parts alone, whatever the fold: here its whole table has one row, and the parts' tables have two.
+pub fn groupbys_are_not_of_parts()
+    ensures { GroupbysAreNotOfParts }
+{}
