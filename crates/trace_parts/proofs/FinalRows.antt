@@ -73,11 +73,11 @@ maps_of_parts values rows parts =
 -- ---- `join`
 
 -- a row with what is found of its key
-abbrev with_found : Row → Option Row → List Row
+abbrev pub with_found : Row → Option Row → List Row
 with_found row None = []
 with_found row (Some other) = plain_row row.key (row.values ++ other.values) ∷ []
 
-abbrev one_joined : List Row → Row → List Row
+abbrev pub one_joined : List Row → Row → List Row
 one_joined right row = with_found row (find (is_of_key row.key) right)
 
 more_found : (row : Row) (o : Option Row) (xs ys : List Row) → xs ≡ ys
@@ -85,7 +85,7 @@ more_found : (row : Row) (o : Option Row) (xs ys : List Row) → xs ≡ ys
 more_found row None xs ys e = e
 more_found row (Some other) xs ys e = ap (λ list. plain_row row.key (row.values ++ other.values) ∷ list) e
 
-joined_each : (right left : List Row) → joined_rows left right ≡ flat_map (one_joined right) left
+pub joined_each : (right left : List Row) → joined_rows left right ≡ flat_map (one_joined right) left
 joined_each right [] = refl
 joined_each right (row ∷ left) =
     more_found row (find (is_of_key row.key) right) (joined_rows left right) (flat_map (one_joined right) left) (joined_each right left)

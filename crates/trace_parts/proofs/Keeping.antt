@@ -61,7 +61,7 @@ others_have_none partition q i kept packets key whole n other =
 
 -- ---- which keys a table has
 
-has_contained : (key : Key) (keys : List Key) → has key keys ≡ true → Contains keys key
+pub has_contained : (key : Key) (keys : List Key) → has key keys ≡ true → Contains keys key
 has_contained key [] e = absurd (false≢true e)
 has_contained key (first ∷ keys) e = by_test (key_eq first key)
     (λ t. (0, omega arith, key_eq-true first key t))

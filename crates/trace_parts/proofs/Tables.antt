@@ -43,7 +43,7 @@ valid_rows partition q i kept packets key whole f g each one =
 
 -- ---- whole tables
 
-has_joined : (key : Key) (xs ys : List Key) → has key (xs ++ ys) ≡ (has key xs || has key ys)
+pub has_joined : (key : Key) (xs ys : List Key) → has key (xs ++ ys) ≡ (has key xs || has key ys)
 has_joined key [] ys = refl
 has_joined key (x ∷ xs) ys = ap (λ b. key_eq x key || b) (has_joined key xs ys) ∙ turn (key_eq x key) (has key xs) (has key ys)
   where

@@ -1,6 +1,23 @@
 //! Laws of finals over the tables of parts.
 
-ghost use Rattle.trace_parts.specs.FinalParts.{FiltersAreOfParts, MapsAreOfParts, JoinsAreOfParts, GroupbysAreNotOfParts};
+ghost use Rattle.trace_parts.specs.FinalParts.{ExactTablesInOrder, FiltersAreOfParts, MapsAreOfParts, JoinsAreOfParts};
+ghost use Rattle.trace_parts.specs.FinalParts.{GroupbysAreNotOfParts, FiltersReadNoEpochs, MapsReadNoEpochs};
+ghost use Rattle.trace_parts.specs.FinalParts.{GroupbysReadNoEpochs, JoinsReadNoEpochs, TopsReadNoEpochs};
+
+/// Where each key has one row, the table of the whole trace has the rows of the parts' tables in the order of their keys, but
+/// for numbers of epochs; and these rows are in the parts of their keys.
+pub fn exact_tables_are_in_order()
+    ensures { ExactTablesInOrder }
+{}
+
+/// No final reads the number of epochs.
+pub fn finals_read_no_epochs()
+    ensures filters { FiltersReadNoEpochs }
+    ensures maps { MapsReadNoEpochs }
+    ensures groupbys { GroupbysReadNoEpochs }
+    ensures joins { JoinsReadNoEpochs }
+    ensures tops { TopsReadNoEpochs }
+{}
 
 /// `filter` of the rows of all parts gives the rows that it gives of each part, in the order of keys.
 pub fn filters_are_of_parts()

@@ -2,7 +2,8 @@
 
 ghost use Rattle.trace_parts.specs.PartLaws.{PartsHaveTheRows, OtherPartsHaveNone, KeysAreOfTheirParts, KeysAreOfNoOtherPart};
 ghost use Rattle.trace_parts.specs.PartLaws.{ExactRowsAreTheParts, ValidRowsFoldTheWhole, FieldsKeepKeys};
-ghost use Rattle.trace_parts.specs.PartLaws.{PartsCutNoMore, ValidRowsAreTheParts, KeysAreOfAllParts, ExactTablesJoin, FieldListsKeepKeys};
+ghost use Rattle.trace_parts.specs.PartLaws.{PartsCutNoMore, ValidRowsAreTheParts, KeysAreOfAllParts, ExactTablesJoin};
+ghost use Rattle.trace_parts.specs.PartLaws.{FieldListsKeepKeys};
 ghost use Rattle.trace_parts.specs.PartLaws.{AdditivePartsAdd, StatesFromZerosAdd, PartWordsAdd, AdditiveTablesJoin};
 
 /// The argument rows that the whole trace gives a key are, in order, those of the key's part alone.
