@@ -84,7 +84,7 @@ less_apart a b e = by_test (key_eq b a)
     unlike : Less ≡ Equal → ⊥
     unlike e = cc
 
-absent_above : (key : Key) (keys : List Key) → AreAbove key keys → has key keys ≡ false
+pub absent_above : (key : Key) (keys : List Key) → AreAbove key keys → has key keys ≡ false
 absent_above key [] above = refl
 absent_above key (first ∷ keys) above =
     ap (λ b. b || has key keys) (less_apart key first above.0) ∙ absent_above key keys above.1

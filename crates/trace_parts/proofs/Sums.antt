@@ -9,7 +9,7 @@ use Rattle.switch_traces.specs.TraceLaws.{AreApart, has_number}
 use Rattle.switch_traces.proofs.Counts.{same_number, not_number, own_number}
 use Rattle.trace_parts.specs.Parts.{Partition, part_at}
 
-zeros_sum : {X : Type 0} (xs : List X) → sum_by (λ x. 0) xs ≡ 0
+pub zeros_sum : {X : Type 0} (xs : List X) → sum_by (λ x. 0) xs ≡ 0
 zeros_sum [] = refl
 zeros_sum (x ∷ xs) = sum_by-cons (λ x. 0) x xs ∙ (ap (λ n. 0 + n) (zeros_sum xs) ∙ none)
   where

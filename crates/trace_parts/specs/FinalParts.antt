@@ -51,6 +51,11 @@ JoinsAreOfParts = (part_of : Key → ℕ) (left right : ℕ → List Row) (parts
     → AreInTheirParts part_of left → AreInTheirParts part_of right
     → joined_rows (rows_of_all left parts) (rows_of_all right parts) ≡ rows_of_all (λ n. joined_rows (left n) (right n)) parts
 
+-- `top` of all rows is `top` of the rows that `top` gives of each part, whatever parts the keys are in.
+abbrev pub TopsAreOfTops : Type 0
+TopsAreOfTops = (column kept : ℕ) (rows : ℕ → List Row) (parts : List ℕ)
+    → top_rows column kept (rows_of_all rows parts) ≡ top_rows column kept (rows_of_all (λ n. top_rows column kept (rows n)) parts)
+
 -- A row in each part: its key has the part's number, and then the word 5.
 abbrev pub one_each : ℕ → List Row
 one_each n = plain_row (n ∷ 5 ∷ []) [] ∷ []

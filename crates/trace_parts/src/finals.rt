@@ -1,8 +1,8 @@
 //! Laws of finals over the tables of parts.
 
 ghost use Rattle.trace_parts.specs.FinalParts.{ExactTablesInOrder, FiltersAreOfParts, MapsAreOfParts, JoinsAreOfParts};
-ghost use Rattle.trace_parts.specs.FinalParts.{GroupbysAreNotOfParts, FiltersReadNoEpochs, MapsReadNoEpochs};
-ghost use Rattle.trace_parts.specs.FinalParts.{GroupbysReadNoEpochs, JoinsReadNoEpochs, TopsReadNoEpochs};
+ghost use Rattle.trace_parts.specs.FinalParts.{TopsAreOfTops, GroupbysAreNotOfParts, FiltersReadNoEpochs};
+ghost use Rattle.trace_parts.specs.FinalParts.{MapsReadNoEpochs, GroupbysReadNoEpochs, JoinsReadNoEpochs, TopsReadNoEpochs};
 
 /// Where each key has one row, the table of the whole trace has the rows of the parts' tables in the order of their keys, but
 /// for numbers of epochs; and these rows are in the parts of their keys.
@@ -32,6 +32,11 @@ pub fn maps_are_of_parts()
 /// And so does `join` of two tables, where the rows of both are in the parts of their keys.
 pub fn joins_are_of_parts()
     ensures { JoinsAreOfParts }
+{}
+
+/// `top` of all rows is `top` of the rows that `top` gives of each part.
+pub fn tops_are_of_tops()
+    ensures { TopsAreOfTops }
 {}
 
 /// `groupby` isn't of parts alone, whatever the fold: here its whole table has one row, and the parts' tables have two.
