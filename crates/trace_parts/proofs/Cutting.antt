@@ -16,7 +16,8 @@ use Rattle.epoch_model.proofs.Cuts.{epochs-pieces, epochs_cut_the_rows_lem}
 use Rattle.epoch_model.proofs.TableRows.{some, joined-some}
 use Rattle.switch_traces.specs.TraceLaws.{rows_used}
 use Rattle.switch_traces.proofs.Counts.{not_number}
-use Rattle.trace_parts.specs.Parts.{Partition, part_at, AreWhole, KeepsKeys}
+use Rattle.net_wide.specs.NetLaws.{AreWhole}
+use Rattle.trace_parts.specs.Parts.{Partition, part_at, KeepsKeys}
 use Rattle.trace_parts.specs.PartLaws.{PartsCutNoMore, ValidRowsAreTheParts}
 use Rattle.trace_parts.proofs.Keeping.{parts_have_rows}
 use Rattle.trace_parts.proofs.Tables.{one_epoch, valid_rows}

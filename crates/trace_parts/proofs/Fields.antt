@@ -32,7 +32,8 @@ use Rattle.query_rules.specs.QueryRules.{HasItem, HasItems, IsTyped, of_none, of
 use Rattle.query_rules.specs.StreamRules.{HasStream}
 use Rattle.query_types.specs.Uses.{use_of, taken_by, uses}
 use Rattle.stage_plan.proofs.StreamRows.{Row, row_at, row_made, rows_from, all_rows, tuple_of, at_last, stream_rows}
-use Rattle.trace_parts.specs.Parts.{KeepsKeys, word_of, by_field, is_named, names_field, columns_made, makes_field, HasFieldKey}
+use Rattle.net_wide.specs.Combining.{columns_made}
+use Rattle.trace_parts.specs.Parts.{KeepsKeys, word_of, by_field, is_named, names_field, makes_field, HasFieldKey}
 use Rattle.trace_parts.specs.PartLaws.{FieldsKeepKeys, FieldListsKeepKeys}
 use Rattle.tuple_laws.proofs.FieldColumns.{AreKnown, all_known}
 use Rattle.trace_parts.proofs.Tells.{packet_tells}

@@ -13,7 +13,8 @@ use Rattle.query_lang.specs.declared.typed.TypedQuery.{TypedQuery}
 use Rattle.final_queries.specs.Finals.{is_of_key}
 use Rattle.switch_traces.specs.TraceLaws.{rows_used, has_number}
 use Rattle.switch_traces.proofs.Counts.{own_number}
-use Rattle.trace_parts.specs.Parts.{Partition, AreWhole, AreTheParts, KeepsKeys, part_uses}
+use Rattle.net_wide.specs.NetLaws.{AreWhole}
+use Rattle.trace_parts.specs.Parts.{Partition, AreTheParts, KeepsKeys, part_uses}
 use Rattle.trace_parts.specs.PartLaws.{but_for_epochs}
 use Rattle.trace_parts.specs.FinalParts.{AreInTheirParts, ExactTablesInOrder}
 use Rattle.trace_parts.proofs.Packetwise.{same_each}

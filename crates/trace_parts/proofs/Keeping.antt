@@ -13,7 +13,8 @@ use Rattle.query_lang.specs.declared.typed.TypedQuery.{TypedQuery}
 use Rattle.query_types.specs.Uses.{uses}
 use Rattle.switch_traces.specs.TraceLaws.{rows_used}
 use Rattle.switch_traces.proofs.Counts.{same_number, not_number}
-use Rattle.trace_parts.specs.Parts.{Partition, part_at, AreWhole, KeepsKeys}
+use Rattle.net_wide.specs.NetLaws.{AreWhole}
+use Rattle.trace_parts.specs.Parts.{Partition, part_at, KeepsKeys}
 use Rattle.trace_parts.specs.PartLaws.{PartsHaveTheRows, OtherPartsHaveNone, KeysAreOfTheirParts, KeysAreOfNoOtherPart}
 use Rattle.trace_parts.proofs.Packetwise.{rows_of_one, rows_packetwise}
 

@@ -26,7 +26,8 @@ use Rattle.query_rules.specs.Context.{StandsFor}
 use Rattle.query_rules.specs.StreamRules.{HasColumns, new_names, OfFilter, OfMap, OfZip, OfGroup, HasStream, key_ids}
 use Rattle.query_rules.proofs.StreamLaws.{zip_is, group_is}
 use Rattle.stage_plan.proofs.StreamRows.{Row, row_at, row_made, at_earlier}
-use Rattle.trace_parts.specs.Parts.{is_named, names_field, columns_made}
+use Rattle.net_wide.specs.Combining.{columns_made}
+use Rattle.trace_parts.specs.Parts.{is_named, names_field}
 use Rattle.tuple_laws.proofs.Views.{AreBelow, others_below}
 use Rattle.trace_parts.proofs.Columns.{picked_names, names_long, names_of_both, slots_below, rest_after}
 use Rattle.trace_parts.proofs.Rows.{RowTells, SlotTells, filter_tells, map_tells, zip_tells, group_tells, slot_tells}

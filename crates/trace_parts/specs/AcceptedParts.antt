@@ -7,7 +7,8 @@ use Rattle.marple_base.specs.declared.field.Field.{Field}
 use Rattle.query_lang.specs.declared.typed.TypedQuery.{TypedQuery}
 use Rattle.query_types.specs.Uses.{uses}
 use Rattle.accepted_query.specs.Accepted.{accepted}
-use Rattle.trace_parts.specs.Parts.{KeepsKeys, AreWhole, AreTheParts, part_uses, by_fields, HasFieldKey}
+use Rattle.net_wide.specs.NetLaws.{AreWhole}
+use Rattle.trace_parts.specs.Parts.{KeepsKeys, AreTheParts, part_uses, by_fields, HasFieldKey}
 use Rattle.trace_parts.specs.PartLaws.{but_for_epochs}
 
 -- this holds of each groupby of an accepted text, and of each partition by fields that are keys of the groupby and that no `map`

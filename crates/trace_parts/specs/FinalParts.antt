@@ -11,7 +11,8 @@ use Rattle.query_lang.specs.declared.typed.TypedQuery.{TypedQuery}
 use Rattle.query_types.specs.Uses.{uses}
 use Rattle.final_queries.specs.Finals.{is_of_key, plain_row, filtered_rows, mapped_rows, grouped_rows, joined_rows, top_rows}
 use Rattle.switch_traces.specs.TraceLaws.{AreApart}
-use Rattle.trace_parts.specs.Parts.{Partition, KeepsKeys, AreWhole, AreTheParts, part_uses}
+use Rattle.net_wide.specs.NetLaws.{AreWhole}
+use Rattle.trace_parts.specs.Parts.{Partition, KeepsKeys, AreTheParts, part_uses}
 use Rattle.trace_parts.specs.PartLaws.{but_for_epochs}
 
 -- the rows in the ascending order of their keys, where rows of one key stay in their order

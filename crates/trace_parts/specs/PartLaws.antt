@@ -17,7 +17,8 @@ use Rattle.query_types.specs.Uses.{uses}
 use Rattle.additive_folds.specs.Amounts.{amount, plus, zeros}
 use Rattle.additive_folds.specs.Laws.{IsAdditiveFrom}
 use Rattle.switch_traces.specs.TraceLaws.{rows_used}
-use Rattle.trace_parts.specs.Parts.{Partition, AreWhole, KeepsKeys, AreTheParts, part_uses, own_uses, whole_rows, part_rows}
+use Rattle.net_wide.specs.NetLaws.{AreWhole}
+use Rattle.trace_parts.specs.Parts.{Partition, KeepsKeys, AreTheParts, part_uses, own_uses, whole_rows, part_rows}
 use Rattle.trace_parts.specs.Parts.{by_field, by_fields, HasFieldKey}
 
 -- this holds of each partition that keeps a groupby's keys, of all whole packets and of each key

@@ -1,12 +1,10 @@
 -- The packets of a trace in parts, by a function of each packet's words, and what it is that parts keep a key whole.
-use Rattle.std.specs.Prelude.{◌≡◌, ℕ, ◌-◌, ◌==◌, Bool, true, false, is_some, List, [], ◌∷◌, length, map, filter, drop, All}
+use Rattle.std.specs.Prelude.{◌≡◌, ℕ, ◌==◌, Bool, true, false, is_some, List, [], ◌∷◌, length, map, filter, All}
 use Rattle.std.specs.Prelude.{Some, slice_get, slice_index}
 use Rattle.std.specs.List.{list_any}
 use Rattle.std.specs.Str.{bytes_eq}
 use Rattle.marple_base.specs.declared.field.Field.{Field}
 use Rattle.marple_base.specs.Field.{field_name, number_of}
-use Rattle.query_lang.specs.declared.typed.TypedOp.{TypedOp}
-use Rattle.query_lang.specs.declared.typed.TypedOp.TheVariants.{Filter, Map, Zip, Group}
 use Rattle.query_lang.specs.declared.typed.TypedQuery.{TypedQuery}
 use Rattle.query_lang.specs.declared.typed.TypedStream.{TypedStream}
 use Rattle.query_lang.specs.Streams.{taking_of}
@@ -14,6 +12,7 @@ use Rattle.epoch_model.specs.Keys.{Key, ArgRow}
 use Rattle.epoch_model.specs.Epochs.{Use}
 use Rattle.query_types.specs.Uses.{uses}
 use Rattle.stage_plan.specs.Shape.{text_at}
+use Rattle.net_wide.specs.Combining.{columns_made}
 use Rattle.switch_traces.specs.TraceLaws.{AreApart, has_number, rows_used}
 
 -- the part that a packet with these words goes to
@@ -23,10 +22,6 @@ Partition = List ℕ → ℕ
 -- the packets of one part, in order
 abbrev pub part_at : Partition → ℕ → List (List ℕ) → List (List ℕ)
 part_at partition n packets = filter (λ words. partition words == n) packets
-
--- the packets have the words of 14 fields
-abbrev pub AreWhole : List (List ℕ) → Type 0
-AreWhole packets = All (λ words. length words ≡ 14) packets
 
 -- The partition keeps the keys of the query's groupby with this number: each packet that gives a key to the groupby goes to the
 -- part of that key.
@@ -74,13 +69,6 @@ is_named field names id = bytes_eq (field_name field) (text_at names id)
 -- whether one of these columns is named as the field
 abbrev pub names_field : Field → List (List ℕ) → List ℕ → Bool
 names_field field names columns = list_any (is_named field names) columns
-
--- the columns that an operator makes new, of all columns of its stream: a `map` makes the last ones, one for each of its values
-abbrev pub columns_made : List ℕ → TypedOp → List ℕ
-columns_made columns (Filter input condition) = []
-columns_made columns (Map input values) = drop (length columns - length values) columns
-columns_made columns (Zip left right slots) = []
-columns_made columns (Group input keys f args) = []
 
 -- whether a `map` of these streams makes a column that is named as the field
 abbrev pub makes_field : Field → List (List ℕ) → List TypedStream → Bool
