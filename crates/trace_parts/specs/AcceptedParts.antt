@@ -1,0 +1,33 @@
+-- What parts give of the groupbys of each accepted text.
+use Rattle.std.specs.Prelude.{◌≡◌, ℕ, false, List, map, flat_map, All, Ok}
+use Rattle.epoch_model.specs.Keys.{Key, ascending}
+use Rattle.epoch_model.specs.Epochs.{Geometry}
+use Rattle.epoch_model.specs.Tables.{Folding, key_rows, keys_used, group_rows}
+use Rattle.marple_base.specs.declared.field.Field.{Field}
+use Rattle.query_lang.specs.declared.typed.TypedQuery.{TypedQuery}
+use Rattle.query_types.specs.Uses.{uses}
+use Rattle.accepted_query.specs.Accepted.{accepted}
+use Rattle.net_wide.specs.NetLaws.{AreWhole}
+use Rattle.trace_parts.specs.Parts.{KeepsKeys, AreTheParts, part_uses, by_fields, HasFieldKey}
+use Rattle.trace_parts.specs.PartLaws.{but_for_epochs}
+
+-- this holds of each groupby of an accepted text, and of each partition by fields that are keys of the groupby and that no `map`
+-- makes
+abbrev pub OfAcceptedTexts : (TypedQuery → ℕ → List Field → (List ℕ → ℕ) → Type 0) → Type 0
+OfAcceptedTexts P = (text : List ℕ) (q : TypedQuery) (i : ℕ) (fields : List Field) (choose : List ℕ → ℕ)
+    → accepted text ≡ Ok q → All (HasFieldKey q i) fields → P q i fields choose
+
+-- Each such partition keeps the groupby's keys.
+abbrev pub AcceptedFieldsKeepKeys : Type 0
+AcceptedFieldsKeepKeys = OfAcceptedTexts (λ q i fields choose. KeepsKeys (by_fields fields choose) q i)
+
+-- So each key has a part, and where each key has one row, the table of the whole trace has, for each key of the parts' tables in
+-- ascending order, the row of the key's part, whatever the caches of each part.
+abbrev pub AcceptedTablesJoin : Type 0
+AcceptedTablesJoin = OfAcceptedTexts (λ q i fields choose. (part_of : Key → ℕ) ×
+    ((packets : List (List ℕ)) (parts : List ℕ) → AreWhole packets → AreTheParts (by_fields fields choose) packets parts
+    → (f : Folding) (g : Geometry) (caches : ℕ → Geometry) → f.row_per_epoch ≡ false
+    → map but_for_epochs (group_rows f g (uses q i packets))
+    ≡ flat_map (λ key. let n = part_of key in
+    map but_for_epochs (key_rows f (caches n) (part_uses (by_fields fields choose) q i packets n) key))
+    (ascending (flat_map (λ n. keys_used (part_uses (by_fields fields choose) q i packets n)) parts))))

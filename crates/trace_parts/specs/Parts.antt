@@ -1,0 +1,87 @@
+-- The packets of a trace in parts, by a function of each packet's words, and what it is that parts keep a key whole.
+use Rattle.std.specs.Prelude.{◌≡◌, ℕ, ◌==◌, Bool, true, false, is_some, List, [], ◌∷◌, length, map, filter, All}
+use Rattle.std.specs.Prelude.{Some, slice_get, slice_index}
+use Rattle.std.specs.List.{list_any}
+use Rattle.std.specs.Str.{bytes_eq}
+use Rattle.marple_base.specs.declared.field.Field.{Field}
+use Rattle.marple_base.specs.Field.{field_name, number_of}
+use Rattle.query_lang.specs.declared.typed.TypedQuery.{TypedQuery}
+use Rattle.query_lang.specs.declared.typed.TypedStream.{TypedStream}
+use Rattle.query_lang.specs.Streams.{taking_of}
+use Rattle.epoch_model.specs.Keys.{Key, ArgRow}
+use Rattle.epoch_model.specs.Epochs.{Use}
+use Rattle.query_types.specs.Uses.{uses}
+use Rattle.stage_plan.specs.Shape.{text_at}
+use Rattle.net_wide.specs.Combining.{columns_made}
+use Rattle.switch_traces.specs.TraceLaws.{AreApart, has_number, rows_used}
+
+-- the part that a packet with these words goes to
+abbrev pub Partition : Type 0
+Partition = List ℕ → ℕ
+
+-- the packets of one part, in order
+abbrev pub part_at : Partition → ℕ → List (List ℕ) → List (List ℕ)
+part_at partition n packets = filter (λ words. partition words == n) packets
+
+-- The partition keeps the keys of the query's groupby with this number: each packet that gives a key to the groupby goes to the
+-- part of that key.
+pub record KeepsKeys (partition : Partition) (q : TypedQuery) (i : ℕ) : Type 0 where
+  pub part_of : Key → ℕ
+  pub goes : (words : List ℕ) → length words ≡ 14 → All (λ u. partition words ≡ part_of u.key) (uses q i (words ∷ []))
+
+-- these are the parts of all packets, and perhaps others, each once
+pub record AreTheParts (partition : Partition) (packets : List (List ℕ)) (parts : List ℕ) : Type 0 where
+  pub apart : AreApart parts
+  pub each : All (λ words. has_number (partition words) parts ≡ true) packets
+
+-- what the groupby takes of one part that runs by itself, and of the part of a key
+abbrev pub part_uses : Partition → TypedQuery → ℕ → List (List ℕ) → ℕ → List Use
+part_uses partition q i packets n = uses q i (part_at partition n packets)
+
+abbrev pub own_uses : (partition : Partition) (q : TypedQuery) (i : ℕ) → KeepsKeys partition q i → List (List ℕ) → Key → List Use
+own_uses partition q i kept packets key = part_uses partition q i packets (kept.part_of key)
+
+-- the argument rows that the groupby gives the key: of the whole trace, and of one part that runs by itself
+abbrev pub whole_rows : TypedQuery → ℕ → Key → List (List ℕ) → List ArgRow
+whole_rows q i key packets = rows_used key (uses q i packets)
+
+abbrev pub part_rows : Partition → TypedQuery → ℕ → Key → List (List ℕ) → ℕ → List ArgRow
+part_rows partition q i key packets n = rows_used key (part_uses partition q i packets n)
+
+-- ---- partitions by a field
+
+-- the packet's word of the field
+abbrev pub word_of : Field → List ℕ → ℕ
+word_of field words = slice_index words (number_of field)
+
+-- by this function of that word
+abbrev pub by_field : Field → (ℕ → ℕ) → Partition
+by_field field choose words = choose (word_of field words)
+
+-- by this function of the packet's words of these fields
+abbrev pub by_fields : List Field → (List ℕ → ℕ) → Partition
+by_fields fields choose words = choose (map (λ field. word_of field words) fields)
+
+-- whether the name with this number is the field's
+abbrev pub is_named : Field → List (List ℕ) → ℕ → Bool
+is_named field names id = bytes_eq (field_name field) (text_at names id)
+
+-- whether one of these columns is named as the field
+abbrev pub names_field : Field → List (List ℕ) → List ℕ → Bool
+names_field field names columns = list_any (is_named field names) columns
+
+-- whether a `map` of these streams makes a column that is named as the field
+abbrev pub makes_field : Field → List (List ℕ) → List TypedStream → Bool
+makes_field field names streams = list_any (λ one. names_field field names (columns_made one.columns one.op)) streams
+
+-- the groupbys of the query, in order
+abbrev pub groupbys : TypedQuery → List TypedStream
+groupbys q = filter (λ one. is_some (taking_of one.op)) q.streams
+
+-- A key of the query's groupby with this number is named as the field, and no `map` makes a column of that name. The columns of a
+-- groupby's stream are its keys.
+pub record HasFieldKey (q : TypedQuery) (i : ℕ) (field : Field) : Type 0 where
+  pub one : TypedStream
+  pub groupby : slice_get (groupbys q) i ≡ Some one
+  pub key : names_field field q.names one.columns ≡ true
+  pub unmade : makes_field field q.names q.streams ≡ false

@@ -1,0 +1,45 @@
+//! Laws of finals over the tables of parts.
+
+ghost use Rattle.trace_parts.specs.FinalParts.{ExactTablesInOrder, FiltersAreOfParts, MapsAreOfParts, JoinsAreOfParts};
+ghost use Rattle.trace_parts.specs.FinalParts.{TopsAreOfTops, GroupbysAreNotOfParts, FiltersReadNoEpochs};
+ghost use Rattle.trace_parts.specs.FinalParts.{MapsReadNoEpochs, GroupbysReadNoEpochs, JoinsReadNoEpochs, TopsReadNoEpochs};
+
+/// Where each key has one row, the table of the whole trace has the rows of the parts' tables in the order of their keys, but
+/// for numbers of epochs; and these rows are in the parts of their keys.
+pub fn exact_tables_are_in_order()
+    ensures { ExactTablesInOrder }
+{}
+
+/// No final reads the number of epochs.
+pub fn finals_read_no_epochs()
+    ensures filters { FiltersReadNoEpochs }
+    ensures maps { MapsReadNoEpochs }
+    ensures groupbys { GroupbysReadNoEpochs }
+    ensures joins { JoinsReadNoEpochs }
+    ensures tops { TopsReadNoEpochs }
+{}
+
+/// `filter` of the rows of all parts gives the rows that it gives of each part, in the order of keys.
+pub fn filters_are_of_parts()
+    ensures { FiltersAreOfParts }
+{}
+
+/// So does `map`.
+pub fn maps_are_of_parts()
+    ensures { MapsAreOfParts }
+{}
+
+/// And so does `join` of two tables, where the rows of both are in the parts of their keys.
+pub fn joins_are_of_parts()
+    ensures { JoinsAreOfParts }
+{}
+
+/// `top` of all rows is `top` of the rows that `top` gives of each part.
+pub fn tops_are_of_tops()
+    ensures { TopsAreOfTops }
+{}
+
+/// `groupby` isn't of parts alone, whatever the fold: here its whole table has one row, and the parts' tables have two.
+pub fn groupbys_are_not_of_parts()
+    ensures { GroupbysAreNotOfParts }
+{}
