@@ -38,12 +38,12 @@ follows_start {ways = ways} net is fresh = record {
 
 -- a switch more
 pub follows_more : {ways : ℕ} (known : List ℕ) (s : ℕ) (packets : List (List ℕ)) (old new : Network ways) → IsNetwork (length (known ++ s ∷ [])) new → Keeps old new
-    → Each (GroupGrows ways old.buckets) (groups_in old) (groups_in new) → NetFollows known packets old → NetFollows (known ++ s ∷ []) packets new
+    → Each (GroupGrows ways old.buckets old.pipe_records) (groups_in old) (groups_in new) → NetFollows known packets old → NetFollows (known ++ s ∷ []) packets new
 follows_more {ways = ways} known s packets old new is keeps grows f = record {
   is = is;
   all_known = λ t seen. let a = f.all_known t seen in let b = place_behind known s t (f.all_known t seen) in let l = length-append known (s ∷ []) in omega arith;
   each = λ n group e.
-      let back = each_back (λ k. GroupGrows ways old.buckets) 0 (groups_in old) (groups_in new) n group grows e in
+      let back = each_back (λ k. GroupGrows ways old.buckets old.pipe_records) 0 (groups_in old) (groups_in new) n group grows e in
       let was = f.each n back.0 back.1 in
       record {
         events = was.events;

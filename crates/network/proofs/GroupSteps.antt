@@ -24,7 +24,7 @@ use Rattle.switch_core.specs.Rows.{Each, EachFrom}
 use Rattle.switch_core.proofs.LanesMade.{group_sound}
 use Rattle.switch_core.proofs.SideBySide.{same_some, each_at, each_long, each_map, got_below}
 use Rattle.network.specs.FrontRuns.{FrontKept}
-use Rattle.network.specs.Groups.{AllWide, AreWide, GroupGrows, GroupView, IsGroup, IsKindOfProgram, AreGroups, GroupRuns, GroupsRun, folding_in, shared_tables}
+use Rattle.network.specs.Groups.{AllHavePlaces, AllWide, AreWide, HavePlaces, GroupGrows, GroupView, IsGroup, IsKindOfProgram, AreGroups, GroupRuns, GroupsRun, folding_in, shared_tables}
 use Rattle.network.specs.Shared.{AllShare, MayShare, SharedRuns}
 use Rattle.network.proofs.SharedSteps.{each_back, still_share}
 
@@ -199,6 +199,13 @@ wide_push buckets key_words places view after adds wide s front e = elim (got_pu
   | inr new ↦ ap (λ (x : FrontOf AnyEpochs). length x.cache.lists) (sym new) ∙ adds.has_buckets
 ]
 
+pub places_push : {kind : AnyEpochs} (buckets key_words places : ℕ) (view after : GroupView) → AddsFront kind buckets key_words places view.fronts after.fronts
+    → HavePlaces places view → HavePlaces places after
+places_push buckets key_words places view after adds have s front e = elim (got_push view.fronts adds.front front s (ap (λ xs. slice_get xs s) (sym adds.added) ∙ e)) [
+  | inl there ↦ have s front there
+  | inr new ↦ ap (λ (x : FrontOf AnyEpochs). x.pipe.places) (sym new) ∙ adds.has_places
+]
+
 -- caches are as wide as they were
 pub wide_ran : (ways buckets : ℕ) (are : ℕ → List SwitchEvent → Type 0) (olds news : List GroupView) → GroupsRun ways are olds news → AllWide buckets olds → AllWide buckets news
 wide_ran ways buckets are olds news ran wide n now e s front f =
@@ -207,14 +214,34 @@ wide_ran ways buckets are olds news ran wide n now e s front f =
     let was = each_back (λ k. FrontKept) 0 group.0.fronts now.fronts s front run.runs.fronts f in
     (was.2 s (omega arith)).buckets ∙ wide n group.0 group.1 s was.0 was.1
 
-pub wide_grown : (ways buckets : ℕ) (olds news : List GroupView) → Each (GroupGrows ways buckets) olds news → AllWide buckets olds → AllWide buckets news
-wide_grown ways buckets olds news grown wide n now e =
-    let group = each_back (λ k. GroupGrows ways buckets) 0 olds news n now grown e in
+pub wide_grown : (ways buckets places : ℕ) (olds news : List GroupView) → Each (GroupGrows ways buckets places) olds news → AllWide buckets olds → AllWide buckets news
+wide_grown ways buckets places olds news grown wide n now e =
+    let group = each_back (λ k. GroupGrows ways buckets places) 0 olds news n now grown e in
     (group.2 n (omega arith)).wide (wide n group.0 group.1)
 
--- without a switch there is no cache
+-- pipes have the places that they had
+pub places_ran : (ways places : ℕ) (are : ℕ → List SwitchEvent → Type 0) (olds news : List GroupView) → GroupsRun ways are olds news → AllHavePlaces places olds → AllHavePlaces places news
+places_ran ways places are olds news ran have n now e s front f =
+    let group = each_back (λ k. GroupRuns ways (are k)) 0 olds news n now ran e in
+    let run = group.2 n (omega arith) in
+    let was = each_back (λ k. FrontKept) 0 group.0.fronts now.fronts s front run.runs.fronts f in
+    (was.2 s (omega arith)).places ∙ have n group.0 group.1 s was.0 was.1
+
+pub places_grown : (ways buckets places : ℕ) (olds news : List GroupView) → Each (GroupGrows ways buckets places) olds news → AllHavePlaces places olds → AllHavePlaces places news
+places_grown ways buckets places olds news grown have n now e =
+    let group = each_back (λ k. GroupGrows ways buckets places) 0 olds news n now grown e in
+    (group.2 n (omega arith)).pipes (have n group.0 group.1)
+
+-- without a switch there is no cache and no pipe
 pub wide_start : (plan : PlanParts) (buckets : ℕ) (groups : List GroupView) → AreGroups plan 0 groups → AllWide buckets groups
 wide_start plan buckets groups are n group e s front f =
+    let own = each_at (λ k g part. IsGroup 0 part (wiring_at plan k) g) 0 n groups plan.groups group are e in
+    let none = (own.2 n (omega arith)).count in
+    let some = got_below group.fronts s front f in
+    absurd (omega arith)
+
+pub places_start : (plan : PlanParts) (places : ℕ) (groups : List GroupView) → AreGroups plan 0 groups → AllHavePlaces places groups
+places_start plan places groups are n group e s front f =
     let own = each_at (λ k g part. IsGroup 0 part (wiring_at plan k) g) 0 n groups plan.groups group are e in
     let none = (own.2 n (omega arith)).count in
     let some = got_below group.fronts s front f in

@@ -119,7 +119,7 @@ impl<const WAYS: usize> Group<WAYS> {
         requires keys { (0 < length part.now.key_names) × (length part.now.key_names ≤ 8) }
         ensures is { OnOk result ((switches registers : ℕ) (wiring : GroupWiring) → IsSoundGroup registers part.now wiring
             → IsGroup switches part.now wiring self.old → IsGroup (switches + 1) part.now wiring self.new) }
-        ensures grows { OnOk result (GroupGrows WAYS buckets self.old self.new) }
+        ensures grows { OnOk result (GroupGrows WAYS buckets pipe_records self.old self.new) }
     {
         entries_are_small();
         entries_suit_folds();

@@ -59,7 +59,7 @@ pub fn add_switch<const WAYS: usize>(
     requires groups { (switches : ℕ) × AreGroups plan.now switches groups.old }
     ensures are { OnOk result ((switches : ℕ) → AreGroups plan.now switches groups.old
         → AreGroups plan.now (switches + 1) groups.new) }
-    ensures grow { OnOk result (Each (GroupGrows WAYS buckets) groups.old groups.new) }
+    ensures grow { OnOk result (Each (GroupGrows WAYS buckets pipe_records) groups.old groups.new) }
 {
     plan.known();
     for i in 0..groups.len() {
@@ -179,6 +179,7 @@ pub fn merge_groups<const WAYS: usize, L: Ledger>(
 ) -> Result<(), AllocError>
     requires { (plan : PlanParts) × (switches : ℕ) × (at < switches) × AreGroups plan switches groups.old }
     ensures runs { OnOk result (GroupsRun WAYS (λ n. MergesAlone) groups.old groups.new) }
+    ensures ready { OnOk result (list_all (is_ready_at at) groups.new ≡ true) }
     ensures steps { steps.old ≤ steps.new }
     ensures cost { steps.new ≤ steps.old + sum_by (group_merge_cost at) groups.old }
 {

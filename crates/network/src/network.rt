@@ -61,6 +61,7 @@ impl<const WAYS: usize> Network<WAYS> {
         ensures is { IfOk result (IsNetwork 0) }
         ensures plan { IfOk result (λ net. net.plan ≡ plan) }
         ensures buckets { IfOk result (λ net. net.buckets ≡ buckets) }
+        ensures pipe { IfOk result (λ net. net.pipe_records ≡ pipe_records) }
         ensures stand { IfOk result (λ net. All (λ group. GroupStands WAYS buckets group [] []) (groups_in net)) }
     {
         let groups = made_groups(alloc, &plan)?;
@@ -85,7 +86,8 @@ impl<const WAYS: usize> Network<WAYS> {
         requires is { (switches : ℕ) × (switches < 64) × IsNetwork switches self.old }
         ensures is { OnOk result ((switches : ℕ) → IsNetwork switches self.old → IsNetwork (switches + 1) self.new) }
         ensures keeps { OnOk result (Keeps self.old self.new) }
-        ensures grow { OnOk result (Each (GroupGrows WAYS self.old.buckets) (groups_in self.old) (groups_in self.new)) }
+        ensures grow { OnOk result (Each (GroupGrows WAYS self.old.buckets self.old.pipe_records) (groups_in self.old)
+            (groups_in self.new)) }
     {
         add_switch(
             self.alloc,
@@ -235,6 +237,7 @@ impl<const WAYS: usize> Network<WAYS> {
         ensures is { OnOk result ((switches : ℕ) → IsNetwork switches self.old → IsNetwork switches self.new) }
         ensures keeps { Keeps self.old self.new }
         ensures runs { OnOk result (GroupsRun WAYS (λ n. MergesAlone) (groups_in self.old) (groups_in self.new)) }
+        ensures ready { OnOk result (list_all (is_ready_at at) (groups_in self.new) ≡ true) }
         ensures steps { steps.old ≤ steps.new }
         ensures cost { steps.new ≤ steps.old + merges_cost at self.old }
     {
@@ -255,6 +258,7 @@ impl<const WAYS: usize> Network<WAYS> {
         ensures keeps { OnOk result (Keeps self.old self.new) }
         ensures runs { OnOk result (GroupsRun WAYS (λ n. IsTurnAt at (taken self.old.plan n packet.now.words))
             (groups_in self.old) (groups_in self.new)) }
+        ensures merged { OnOk result (lag_over ≡ true → list_all (is_ready_at at) (groups_in self.new) ≡ true) }
         ensures steps { steps.old ≤ steps.new }
         ensures cost { steps.new ≤ steps.old + turn_cost at self.old }
     {

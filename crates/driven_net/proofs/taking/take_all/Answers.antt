@@ -15,7 +15,7 @@ packets-init g c =
     record {
       fault = ap (λ ks. first_fault ks 1 (words_of trace.packets) trace.fault) (sym c.new-known.ensures);
       follows = ([], refl, refl, subst (λ ks. NetFollows ks [] c.args.network) (sym c.new-known.ensures) (follows_start c.args.network c.requires.is c.requires.fresh));
-      keeps = record { plan = refl; buckets = refl };
+      keeps = record { plan = refl; buckets = refl; pipe_records = refl };
       since = refl;
       later = omega arith;
     }
@@ -61,7 +61,7 @@ packets-preserved g c =
         ap (λ m. m + 1) f.2 ∙ sym (length-append f.0 (words ∷ [])),
         one.follows f.0 f.3,
       );
-      keeps = record { plan = one.keeps.plan ∙ was.keeps.plan; buckets = one.keeps.buckets ∙ was.keeps.buckets };
+      keeps = record { plan = one.keeps.plan ∙ was.keeps.plan; buckets = one.keeps.buckets ∙ was.keeps.buckets; pipe_records = one.keeps.pipe_records ∙ was.keeps.pipe_records };
       since = c.take_one.auto.since ∙ was.since;
       later = let a = c.take_one.ensures.steps in let b = was.later in omega arith;
     }

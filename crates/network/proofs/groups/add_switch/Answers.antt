@@ -11,7 +11,7 @@ use Rattle.network.proofs.groups.add_switch.Goals as goal
 pub loop-i-init : goal.loop-i-init
 loop-i-init g c = record {
   are = done_start (Grown c.args.plan.now) 0 c.args.groups.now;
-  grow = done_start (λ n. GroupGrows g.row.WAYS c.args.buckets) 0 c.args.groups.now;
+  grow = done_start (λ n. GroupGrows g.row.WAYS c.args.buckets c.args.pipe_records) 0 c.args.groups.now;
   same = untouched_start 0 0 c.args.groups.now;
 }
 
@@ -64,8 +64,8 @@ loop-i-preserved g c =
     (subst (λ p. IsGroup switches p (wiring_at plan i) group) (sym other) is)) in
     record {
       are = done_next (Grown plan) i first groups new c.loop-i.invariant.are (λ x e. subst (λ v. Grown plan i v new) (same_some group x (sym was ∙ e)) grown);
-      grow = done_next (λ n. GroupGrows g.row.WAYS c.args.buckets) i first groups new c.loop-i.invariant.grow
-          (λ x e. subst (λ v. GroupGrows g.row.WAYS c.args.buckets v new) (same_some group x (sym was ∙ e)) c.in_ok-add_switch.ensures.grows);
+      grow = done_next (λ n. GroupGrows g.row.WAYS c.args.buckets c.args.pipe_records) i first groups new c.loop-i.invariant.grow
+          (λ x e. subst (λ v. GroupGrows g.row.WAYS c.args.buckets c.args.pipe_records v new) (same_some group x (sym was ∙ e)) c.in_ok-add_switch.ensures.grows);
       same = untouched_next i first groups new c.loop-i.invariant.same;
     }
 
@@ -79,4 +79,4 @@ pub returns-clause-grow : goal.returns-clause-grow
 returns-clause-grow g c =
     let kept = c.loop-i.auto.groups in
     let end = c.loop-i-test.false in
-    done_end (λ n. GroupGrows g.row.WAYS c.args.buckets) c.loop-i.i c.args.groups.now c.loop-i.groups c.loop-i.invariant.grow (omega arith)
+    done_end (λ n. GroupGrows g.row.WAYS c.args.buckets c.args.pipe_records) c.loop-i.i c.args.groups.now c.loop-i.groups c.loop-i.invariant.grow (omega arith)

@@ -8,6 +8,6 @@ use Rattle.network.proofs.groups.add_switch.Given as goal
 abbrev pub invariant-loop-i : goal.invariant-loop-i
 invariant-loop-i g l = record {
   are : Done (Grown l.plan) l.i l.initial.groups l.groups;
-  grow : Done (λ n. GroupGrows g.row.WAYS l.buckets) l.i l.initial.groups l.groups;
+  grow : Done (λ n. GroupGrows g.row.WAYS l.buckets l.pipe_records) l.i l.initial.groups l.groups;
   same : Untouched l.i l.initial.groups l.groups;
 }
