@@ -1,11 +1,12 @@
 -- A plan over several switches, as contracts see it.
-use Rattle.std.specs.Prelude.{◌≡◌, ℕ, ◌+◌, ◌*◌, ◌<◌, ◌≤◌, List, sum_by}
+use Rattle.std.specs.Prelude.{◌≡◌, ℕ, ◌+◌, ◌*◌, ◌<◌, ◌≤◌, Bool, if◌then◌else◌, None, List, sum_by}
 use Rattle.epoch_model.specs.Machine.{Event}
-use Rattle.stage_plan.specs.Planned.{registers_of}
+use Rattle.stage_plan.specs.Planned.{registers_of, taken}
 use Rattle.switch_core.specs.Pipelines.{HasRooms}
 use Rattle.network.specs.declared.network.Network.{Network}
 use Rattle.network.specs.Events.{GroupsMake}
-use Rattle.network.specs.Groups.{GroupView, AreGroups, AllHavePlaces, AllWide}
+use Rattle.network.specs.Shared.{IsTurnAt}
+use Rattle.network.specs.Groups.{GroupView, GroupsRun, AreGroups, AllHavePlaces, AllWide}
 use Rattle.network.specs.Costs.{group_cost, group_merge_cost}
 
 -- its groupbys
@@ -37,6 +38,12 @@ pub record Keeps {ways : ℕ} (old new : Network ways) : Type 0 where
 pub record NetworkMakes {ways : ℕ} (at : ℕ) (events : ℕ → List Event) (old new : Network ways) : Type 0 where
   pub groups : GroupsMake ways at events (groups_in old) (groups_in new)
   pub keeps : Keeps old new
+
+-- A turn of this switch that broke off: each groupby made the first of its events, all with the packet or all without it, and
+-- merges before and behind it.
+abbrev pub TurnBreaksOff : {ways : ℕ} → ℕ → List ℕ → Network ways → Network ways → Type 0
+TurnBreaksOff {ways = ways} at words old new = (took : Bool)
+    × GroupsRun ways (λ n. IsTurnAt at (if took then taken old.plan n words else None)) (groups_in old) (groups_in new)
 
 -- the most steps that a packet of this switch takes: its registers, and what the switch's front takes at each groupby
 abbrev pub network_cost : {ways : ℕ} → ℕ → Network ways → ℕ

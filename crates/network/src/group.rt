@@ -62,9 +62,9 @@ fn drain_fronts<K: EpochKind, const WAYS: usize, L: Ledger>(
 ) -> Result<(), AllocError>
     requires shares { (f : Folding) × (args : ℕ) × AllShare (λ kind. K.sizes kind) (λ kind. K.folding kind) f args
         fronts.old store.old }
-    ensures runs { OnOk result ((f : Folding) (args : ℕ)
+    ensures runs { (f : Folding) (args : ℕ)
         → AllShare (λ kind. K.sizes kind) (λ kind. K.folding kind) f args fronts.old store.old
-        → SharedRuns (λ kind. K.stands kind) f WAYS NoPackets fronts.old fronts.new store.old store.new) }
+        → SharedRuns (λ kind. K.stands kind) f WAYS NoPackets fronts.old fronts.new store.old store.new }
     ensures drained { OnOk result (list_all (λ front. is_drained front.cache front.pipe) fronts.new ≡ true) }
     ensures steps { steps.old ≤ steps.new }
 {
@@ -145,7 +145,7 @@ impl<const WAYS: usize> Group<WAYS> {
     ) -> Result<(), AllocError>
         requires switch { at < length self.old.fronts }
         requires shares { (args : ℕ) × GroupShares args self.old }
-        ensures runs { OnOk result (GroupRuns WAYS MergesAlone self.old self.new) }
+        ensures runs { GroupRuns WAYS MergesAlone self.old self.new }
         ensures ready { OnOk result (is_ready_at at self.new ≡ true) }
         ensures steps { steps.old ≤ steps.new }
         ensures cost { steps.new ≤ steps.old + group_merge_cost at self.old }
@@ -238,7 +238,7 @@ impl<const WAYS: usize> Group<WAYS> {
     /// Closes all open epochs of all switches, and merges all that are closed.
     pub fn drain<L: Ledger>(&mut self, steps: &mut Steps<L>) -> Result<(), AllocError>
         requires shares { (args : ℕ) × GroupShares args self.old }
-        ensures runs { OnOk result (GroupRuns WAYS NoPackets self.old self.new) }
+        ensures runs { GroupRuns WAYS NoPackets self.old self.new }
         ensures drained { OnOk result (group_is_drained self.new ≡ true) }
         ensures steps { steps.old ≤ steps.new }
     {

@@ -89,7 +89,7 @@ pub fn make_room<const WAYS: usize, L: Ledger>(
     steps: &mut Steps<L>,
 ) -> Result<(), AllocError>
     requires { (plan : PlanParts) × (switches : ℕ) × (at < switches) × AreGroups plan switches groups.old }
-    ensures runs { OnOk result (GroupsRun WAYS (λ n. MergesAlone) groups.old groups.new) }
+    ensures runs { GroupsRun WAYS (λ n. MergesAlone) groups.old groups.new }
     ensures ready { OnOk result (list_all (is_ready_at at) groups.new ≡ true) }
     ensures steps { steps.old ≤ steps.new }
     ensures cost { steps.new ≤ steps.old + sum_by (group_merge_cost at) groups.old }
@@ -178,7 +178,7 @@ pub fn merge_groups<const WAYS: usize, L: Ledger>(
     steps: &mut Steps<L>,
 ) -> Result<(), AllocError>
     requires { (plan : PlanParts) × (switches : ℕ) × (at < switches) × AreGroups plan switches groups.old }
-    ensures runs { OnOk result (GroupsRun WAYS (λ n. MergesAlone) groups.old groups.new) }
+    ensures runs { GroupsRun WAYS (λ n. MergesAlone) groups.old groups.new }
     ensures ready { OnOk result (list_all (is_ready_at at) groups.new ≡ true) }
     ensures steps { steps.old ≤ steps.new }
     ensures cost { steps.new ≤ steps.old + sum_by (group_merge_cost at) groups.old }
@@ -209,7 +209,7 @@ pub fn drain_groups<const WAYS: usize, L: Ledger>(
     steps: &mut Steps<L>,
 ) -> Result<(), AllocError>
     requires groups { (plan : PlanParts) × (switches : ℕ) × AreGroups plan switches groups.old }
-    ensures runs { OnOk result (GroupsRun WAYS (λ n. NoPackets) groups.old groups.new) }
+    ensures runs { GroupsRun WAYS (λ n. NoPackets) groups.old groups.new }
     ensures drained { OnOk result (list_all group_is_drained groups.new ≡ true) }
     ensures steps { steps.old ≤ steps.new }
 {

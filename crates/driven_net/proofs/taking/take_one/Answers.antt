@@ -38,7 +38,7 @@ returns-in-Ok-clause-follows g c packets f =
     let number : switch_number known (switch_in words) ≡ Some at = subst (λ s. switch_number known s ≡ Some at) same c.in_ok-at.ensures.at in
     let after : now ≡ with_switch known (switch_in words) = c.in_ok-at.ensures.known ∙ ap (with_switch known) same in
     let stays = number_stays known (switch_in words) at number in
-    follows_turn now packets words at c.switch_at.new.network c.turn.new.self (c.in-Ok.ensures.is (length now) c.in_ok-at.ensures.is) c.in-Ok.ensures.keeps
+    follows_turn now packets words at c.switch_at.new.network c.turn.new.self (c.turn.ensures.is (length now) c.in_ok-at.ensures.is) c.turn.ensures.keeps
     (ap (λ ks. place_among ks (switch_in words)) after ∙ stays.0) (subst (λ ks. at < length ks) (sym after) stays.1) c.in-Ok.ensures.runs (c.in_ok-at.ensures.follows packets f)
 
 pub strikes-lag_over-requires : goal.strikes-lag_over-requires
