@@ -1,7 +1,10 @@
 -- Groupbys side by side.
-use Rattle.std.proofs.Common.{◌≡◌, ℕ, zero, suc, ◌+◌, ◌<◌, ◌≤◌, true, List, [], ◌∷◌, ◌++◌, ◌⊎◌, inl, inr, Some, length, take, refl, sym, ap, ◌∙◌, subst, arith, length-append}
+use Rattle.std.proofs.Common.{◌≡◌, ℕ, zero, suc, ◌+◌, ◌<◌, ◌≤◌, nat_lt, true, List, [], ◌∷◌, ◌++◌, ◌⊎◌, inl, inr, Some, length, take, refl, sym, ap, ◌∙◌, subst, arith, length-append}
 use Rattle.std.proofs.Math.Logic.{∥∥₁_elim}
 use Rattle.std.proofs.Props.{props}
+use Rattle.std.proofs.Math.Seq.{take-append_seam, take-length}
+use Rattle.std.proofs.lemmas.Bool.Decides.{nat_tests}
+use Rattle.epoch_model.proofs.KeyLists.{by_test}
 use Rattle.fold_class.specs.Program.{IsProgram, IsProgramOf}
 use Rattle.query_lang.specs.declared.fold.TypedFold.{TypedFold}
 use Rattle.backing_store.specs.Store.{Store}
@@ -24,7 +27,7 @@ use Rattle.switch_core.specs.Rows.{Each, EachFrom}
 use Rattle.switch_core.proofs.LanesMade.{group_sound}
 use Rattle.switch_core.proofs.SideBySide.{same_some, each_at, each_long, each_map, got_below}
 use Rattle.network.specs.FrontRuns.{FrontKept}
-use Rattle.network.specs.Groups.{AllHavePlaces, AllWide, AreWide, HavePlaces, GroupGrows, GroupView, IsGroup, IsKindOfProgram, AreGroups, GroupRuns, GroupsRun, folding_in, shared_tables}
+use Rattle.network.specs.Groups.{AllHavePlaces, AllWide, AreWide, HavePlaces, GroupGrows, GroupView, IsGroup, IsKindOfProgram, AreGroups, GroupRuns, GroupsRun, folding_in, shared_tables, with_first}
 use Rattle.network.specs.Shared.{AllShare, MayShare, SharedRuns}
 use Rattle.network.proofs.SharedSteps.{each_back, still_share}
 
@@ -205,6 +208,44 @@ places_push buckets key_words places view after adds have s front e = elim (got_
   | inl there ↦ have s front there
   | inr new ↦ ap (λ (x : FrontOf AnyEpochs). x.pipe.places) (sym new) ∙ adds.has_places
 ]
+
+pub others_push : {kind : AnyEpochs} (buckets key_words places : ℕ) (view after : GroupView) → AddsFront kind buckets key_words places view.fronts after.fronts
+    → after.kind ≡ view.kind → after.store ≡ view.store → with_first (length view.fronts) after ≡ view
+others_push buckets key_words places view after adds kind store =
+    ap (λ k. record { kind = k; fronts = take (length view.fronts) after.fronts; store = after.store }) kind
+    ∙ (ap (λ s. record view { fronts = take (length view.fronts) after.fronts; store = s }) store
+    ∙ ap (λ xs. record view { fronts = xs }) (ap (take (length view.fronts)) adds.added ∙ take-append_seam view.fronts (adds.front ∷ [])))
+
+-- a groupby with all its fronts
+pub all_first : (group : GroupView) → with_first (length group.fronts) group ≡ group
+all_first group = ap (λ xs. record group { fronts = xs }) (take-length group.fronts)
+
+-- the groupbys so far have their fronts and perhaps one more, and the others are unchanged
+pub others_so_far : (i k : ℕ) (olds news : List GroupView) → EachFrom (λ n (a b : GroupView). n < i → with_first (length a.fronts) b ≡ a) k olds news
+    → EachFrom (λ n (a b : GroupView). i ≤ n → b ≡ a) k olds news → EachFrom (λ n (a b : GroupView). with_first (length a.fronts) b ≡ a) k olds news
+others_so_far i k [] [] done same = tt
+others_so_far i k [] (b ∷ news) done same = absurd done
+others_so_far i k (a ∷ olds) [] done same = absurd done
+others_so_far i k (a ∷ olds) (b ∷ news) done same = (
+  by_test (nat_lt k i)
+      (λ t. done.0 (let l : k < i = grind (arith, nat_tests) in l))
+      (λ t. ap (with_first (length a.fronts)) (same.0 (let l : i ≤ k = grind (arith, nat_tests) in l)) ∙ all_first a),
+  others_so_far i (suc k) olds news done.1 same.1,
+)
+
+-- groupbys whose last front goes again are the old ones
+pub kept_back : (plan : PlanParts) (switches k : ℕ) (olds mids news : List GroupView) (parts : List GroupPlan)
+    → EachFrom (λ n group part. IsGroup switches part (wiring_at plan n) group) k olds parts
+    → EachFrom (λ n (a b : GroupView). with_first (length a.fronts) b ≡ a) k olds mids → EachFrom (λ n (a b : GroupView). b ≡ with_first switches a) k mids news → news ≡ olds
+kept_back plan switches k [] [] [] parts are others kept = refl
+kept_back plan switches k [] [] (c ∷ news) parts are others kept = absurd kept
+kept_back plan switches k [] (b ∷ mids) news parts are others kept = absurd others
+kept_back plan switches k (a ∷ olds) [] news parts are others kept = absurd others
+kept_back plan switches k (a ∷ olds) (b ∷ mids) [] parts are others kept = absurd kept
+kept_back plan switches k (a ∷ olds) (b ∷ mids) (c ∷ news) [] are others kept = absurd are
+kept_back plan switches k (a ∷ olds) (b ∷ mids) (c ∷ news) (p ∷ parts) are others kept =
+    let first : c ≡ a = kept.0 ∙ (ap (λ n. with_first n b) (sym are.0.count) ∙ others.0) in
+    ap (λ x. x ∷ news) first ∙ ap (λ xs. a ∷ xs) (kept_back plan switches (suc k) olds mids news parts are.1 others.1 kept.1)
 
 -- caches are as wide as they were
 pub wide_ran : (ways buckets : ℕ) (are : ℕ → List SwitchEvent → Type 0) (olds news : List GroupView) → GroupsRun ways are olds news → AllWide buckets olds → AllWide buckets news

@@ -23,6 +23,7 @@ ghost use Rattle.switch_core.specs.PlanLanes.{lane_cost, lane_merge_cost};
 ghost use Rattle.net_wide.specs.Sharing.{AtSwitch};
 ghost use Rattle.network.specs.Shared.{AllShare, MergesAlone, NoPackets, SharedRuns};
 ghost use Rattle.network.specs.Groups.{GroupGrows, GroupRuns, GroupShares, GroupStands, IsGroup, folding_in, group_is_drained};
+ghost use Rattle.network.specs.Groups.{with_first};
 ghost use Rattle.network.specs.Events.{AreAllMerged, GroupMakes, GroupMakesAll, is_ready_at};
 ghost use Rattle.network.specs.Costs.{AtLaneIn, group_merge_cost};
 
@@ -120,12 +121,20 @@ impl<const WAYS: usize> Group<WAYS> {
         ensures is { OnOk result ((switches registers : ℕ) (wiring : GroupWiring) → IsSoundGroup registers part.now wiring
             → IsGroup switches part.now wiring self.old → IsGroup (switches + 1) part.now wiring self.new) }
         ensures grows { OnOk result (GroupGrows WAYS buckets pipe_records self.old self.new) }
+        ensures err { OnErr result (self.new ≡ self.old) }
     {
         entries_are_small();
         entries_suit_folds();
         let kind = AnyEpochs::of(part.program.copy(alloc)?);
         let keys = part.key_names.len();
         add_front(alloc, &mut self.fronts, kind, buckets, keys, pipe_records)
+    }
+
+    /// Keeps the caches and pipes of the first switches, so many, and drops those of the others.
+    pub fn keep_switches(&mut self, switches: usize)
+        ensures { self.new ≡ with_first switches self.old }
+    {
+        self.fronts.truncate(switches);
     }
 
     /// Whether the pipe of a switch has room for a record.

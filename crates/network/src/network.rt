@@ -82,11 +82,13 @@ impl<const WAYS: usize> Network<WAYS> {
         })
     }
 
-    /// Makes the caches and pipes of the next switch. There are at most 64.
+    /// Makes the caches and pipes of the next switch. There are at most 64. After a refusal of memory all is unchanged.
     pub fn add_switch(&mut self) -> Result<(), AllocError>
         requires is { (switches : ℕ) × (switches < 64) × IsNetwork switches self.old }
         ensures is { OnOk result ((switches : ℕ) → IsNetwork switches self.old → IsNetwork (switches + 1) self.new) }
-        ensures keeps { OnOk result (Keeps self.old self.new) }
+        ensures keeps { Keeps self.old self.new }
+        ensures err { OnErr result (groups_in self.new ≡ groups_in self.old) }
+        ensures still { OnErr result ((switches : ℕ) → IsNetwork switches self.old → IsNetwork switches self.new) }
         ensures grow { OnOk result (Each (GroupGrows WAYS self.old.buckets self.old.pipe_records) (groups_in self.old)
             (groups_in self.new)) }
     {
@@ -94,6 +96,7 @@ impl<const WAYS: usize> Network<WAYS> {
             self.alloc,
             &self.plan,
             &mut self.groups,
+            self.switches as usize,
             self.buckets,
             self.pipe_records,
         )?;
