@@ -5,7 +5,6 @@ use Rattle.std.specs.List.{list_any, cons_option}
 use Rattle.std.proofs.lemmas.List.{length_push, get_or-map}
 use Rattle.std.proofs.lemmas.Option.{same_Some}
 use Rattle.std.proofs.lemmas.List.Elements.{All-nil, All-cons, All-head, All-tail, All-push, All-weaker}
-use Rattle.epoch_model.specs.Keys.{Key}
 use Rattle.epoch_model.specs.Epochs.{Use}
 use Rattle.epoch_model.proofs.KeyLists.{by_test}
 use Rattle.marple_base.specs.declared.field.Field.{Field}
@@ -33,8 +32,8 @@ use Rattle.query_rules.specs.StreamRules.{HasStream}
 use Rattle.query_types.specs.Uses.{use_of, taken_by, uses}
 use Rattle.stage_plan.proofs.StreamRows.{Row, row_at, row_made, rows_from, all_rows, tuple_of, at_last, stream_rows}
 use Rattle.net_wide.specs.Combining.{columns_made}
-use Rattle.trace_parts.specs.Parts.{KeepsKeys, word_of, by_field, is_named, names_field, makes_field, HasFieldKey}
-use Rattle.trace_parts.specs.PartLaws.{FieldsKeepKeys, FieldListsKeepKeys}
+use Rattle.trace_parts.specs.Parts.{word_of, is_named, names_field, makes_field, groupbys, first_named, part_by, HasFieldKey}
+use Rattle.trace_parts.specs.PartLaws.{FieldsKeepKeys, FieldListsKeepKeys, FieldListsGiveTheParts}
 use Rattle.tuple_laws.proofs.FieldColumns.{AreKnown, all_known}
 use Rattle.trace_parts.proofs.Tells.{packet_tells}
 use Rattle.trace_parts.proofs.Rows.{RowTells, SlotTells, rows_last}
@@ -163,13 +162,13 @@ module _ (field : Field) (names : List (List ℕ)) (folds : List TypedFold) (fiv
 
 -- ---- keys
 
--- the slot of a column that is named as the field
+-- the first column that is named as the field is there
 named_at : (field : Field) (names : List (List ℕ)) (columns : List ℕ) → names_field field names columns ≡ true
-    → (j : ℕ) × (j < length columns) × (is_named field names (slice_index columns j) ≡ true)
+    → (first_named field names columns < length columns) × (is_named field names (slice_index columns (first_named field names columns)) ≡ true)
 named_at field names [] e = cc e
 named_at field names (id ∷ columns) e = by_test (is_named field names id)
-    (λ t. (0, omega arith, t))
-    (λ t. let more = named_at field names columns (rw t at e) in (suc more.0, omega (arith, more.1), more.2))
+    (λ t. rw t (omega arith, t))
+    (λ t. let more = named_at field names columns (rw t at e) in rw t (omega (arith, more.0), more.1))
 
 -- this holds of the stream, and it is the groupby whose taking has this number
 abbrev IsAt : (TypedStream → Type 0) → List TypedStream → ℕ → TypedStream → Type 0
@@ -195,73 +194,89 @@ groupby_at P (s ∷ streams) i one all e = go (λ k at. groupby_at P streams k o
     go more (Some t) is (suc k) e = more k e
 
 -- the keys that a packet's row gives
-key_tells : (t : Taking) (value j : ℕ) (choose : ℕ → ℕ) (o : Row) → j < length t.keys → SlotTells value (slice_index t.keys j) o
-    → All (λ u. choose value ≡ choose (slice_index u.key j)) (map (use_of t) (tuple_of 1 o ++ []))
-key_tells t value j choose None lt h = All-nil (λ (u : Use). choose value ≡ choose (slice_index u.key j))
-key_tells t value j choose (Some row) lt h =
-    All-cons (λ (u : Use). choose value ≡ choose (slice_index u.key j)) (use_of t (record { packet = 1; row = row })) []
-    (ap choose (sym (get_or-map (λ slot. slice_index row slot) t.keys j 0 0 lt ∙ h)))
-    (All-nil (λ (u : Use). choose value ≡ choose (slice_index u.key j)))
+key_tells : (t : Taking) (value j : ℕ) (o : Row) → j < length t.keys → SlotTells value (slice_index t.keys j) o
+    → All (λ u. value ≡ slice_index u.key j) (map (use_of t) (tuple_of 1 o ++ []))
+key_tells t value j None lt h = All-nil (λ (u : Use). value ≡ slice_index u.key j)
+key_tells t value j (Some row) lt h =
+    All-cons (λ (u : Use). value ≡ slice_index u.key j) (use_of t (record { packet = 1; row = row })) []
+    (sym (get_or-map (λ slot. slice_index row slot) t.keys j 0 0 lt ∙ h))
+    (All-nil (λ (u : Use). value ≡ slice_index u.key j))
 
 -- what the rows of each whole packet tell of an operator
 abbrev AlwaysTells : TypedQuery → Field → List ℕ → TypedOp → Type 0
 AlwaysTells q field columns op =
     (words : List ℕ) → length words ≡ 14 → KeysTell field q.names (word_of field words) (all_rows q words) columns op
 
-kept_by : (q : TypedQuery) (i : ℕ) (field : Field) (choose : ℕ → ℕ) (columns : List ℕ) (op : TypedOp)
-    → slice_get (takings q.streams) i ≡ taking_of op → is_some (taking_of op) ≡ true → names_field field q.names columns ≡ true
-    → AlwaysTells q field columns op → KeepsKeys (by_field field choose) q i
-kept_by q i field choose columns (typed.Filter input condition) at is named tells = cc is
-kept_by q i field choose columns (typed.Map input values) at is named tells = cc is
-kept_by q i field choose columns (typed.Zip left right slots) at is named tells = cc is
-kept_by q i field choose columns (typed.Group input keys f args) at is named tells =
-    let slot = named_at field q.names columns named in
-    let t : Taking = record { input = input; keys = keys; fold_number = f; args = args } in record {
-      part_of = λ key. choose (slice_index key slot.0);
-      goes = λ words size.
-          let here = tells words size in
-          let lt : slot.0 < length keys = omega (arith, slot.1, here.2) in
-          subst (All (λ (u : Use). choose (word_of field words) ≡ choose (slice_index u.key slot.0)))
-          (sym (ap (taken_by q (words ∷ [])) at ∙ ap (map (use_of t)) (stream_rows q input (words ∷ []))))
-          (key_tells t (word_of field words) slot.0 choose (row_at (all_rows q words) input) lt (here.1 slot.0 lt slot.2));
-    }
+-- each key that a packet gives to the groupby has the packet's word of the field, in the first column of its name
+abbrev GivesWords : TypedQuery → ℕ → Field → List ℕ → Type 0
+GivesWords q i field columns = (words : List ℕ) → length words ≡ 14
+    → All (λ u. word_of field words ≡ slice_index u.key (first_named field q.names columns)) (uses q i (words ∷ []))
 
--- in each typed query a partition by a field keeps the keys of groupbys that have a key of that name
-pub fields_keep : FieldsKeepKeys
-fields_keep query q i field choose h key =
+gives_words : (q : TypedQuery) (i : ℕ) (field : Field) (columns : List ℕ) (op : TypedOp)
+    → slice_get (takings q.streams) i ≡ taking_of op → is_some (taking_of op) ≡ true → names_field field q.names columns ≡ true
+    → AlwaysTells q field columns op → GivesWords q i field columns
+gives_words q i field columns (typed.Filter input condition) at is named tells = cc is
+gives_words q i field columns (typed.Map input values) at is named tells = cc is
+gives_words q i field columns (typed.Zip left right slots) at is named tells = cc is
+gives_words q i field columns (typed.Group input keys f args) at is named tells = λ words size.
+    let slot = first_named field q.names columns in
+    let is_there = named_at field q.names columns named in
+    let t : Taking = record { input = input; keys = keys; fold_number = f; args = args } in
+    let here = tells words size in
+    let lt : slot < length keys = omega (arith, is_there.0, here.2) in
+    subst (All (λ (u : Use). word_of field words ≡ slice_index u.key slot))
+    (sym (ap (taken_by q (words ∷ [])) at ∙ ap (map (use_of t)) (stream_rows q input (words ∷ []))))
+    (key_tells t (word_of field words) slot (row_at (all_rows q words) input) lt (here.1 slot lt is_there.1))
+
+-- so in each typed query
+field_gives : (query : Query) (q : TypedQuery) (i : ℕ) (field : Field) → IsTyped query q → (has : HasFieldKey q i field)
+    → GivesWords q i field has.one.columns
+field_gives query q i field h key =
     let names = typed_names query.names in
     let given = given_of names query.items in
     let made : AreMade (five_fields given.fields) names h.items = all_made given names [] query.items h.items h.typed tt in
     let t : TypedQuery = query_with names h.items in
-    let K : TypedQuery → Type 0 = λ z. HasFieldKey z i field → KeepsKeys (by_field field choose) z i in
-    let kept : K t = λ has.
+    let K : TypedQuery → Type 0 = λ z. (has : HasFieldKey z i field) → GivesWords z i field has.one.columns in
+    let gives : K t = λ has.
     let at = groupby_at (λ one. AlwaysTells t field one.columns one.op) t.streams i has.one
     (λ k d lt words size. (rows_tell field names t.folds (five_fields given.fields) (all_known query.names) words size h.items made has.unmade).keys k d lt)
     has.groupby in
-    kept_by t i field choose has.one.columns has.one.op at.1 at.2 has.key at.0 in
-    subst K (sym h.is) kept key
+    gives_words t i field has.one.columns has.one.op at.1 at.2 has.key at.0 in
+    subst K (sym h.is) gives key
+
+pub fields_keep : FieldsKeepKeys
+fields_keep query q i field choose h has = record {
+  part_of = λ key. choose (slice_index key (first_named field q.names has.one.columns));
+  goes = λ words size k d lt. ap choose (field_gives query q i field h has words size k d lt);
+}
 
 -- ---- several fields
 
--- what keys have of several words of packets
-record Read (q : TypedQuery) (i : ℕ) (fields : List Field) : Type 0 where
-  words_in : Key → List ℕ
-  reads : (words : List ℕ) → length words ≡ 14 → All (λ u. map (λ field. word_of field words) fields ≡ words_in u.key) (uses q i (words ∷ []))
+all_give : (query : Query) (q : TypedQuery) (i : ℕ) → IsTyped query q → (one : TypedStream) → slice_get (groupbys q) i ≡ Some one
+    → (fields : List Field) → All (HasFieldKey q i) fields → (words : List ℕ) → length words ≡ 14
+    → All (λ u. map (λ field. word_of field words) fields ≡ map (λ field. slice_index u.key (first_named field q.names one.columns)) fields)
+    (uses q i (words ∷ []))
+all_give query q i h one at [] all words size k d lt = refl
+all_give query q i h one at (field ∷ fields) all words size k d lt =
+    let has : HasFieldKey q i field = All-head (HasFieldKey q i) field fields all in
+    let same : has.one ≡ one = same_Some has.one one (sym has.groupby ∙ at) in
+    let u : Use = slice_index_or (uses q i (words ∷ [])) k d in
+    let rest = all_give query q i h one at fields (All-tail (HasFieldKey q i) field fields all) words size k d lt in
+    ap (λ word. word ∷ map (λ f. word_of f words) fields)
+    (field_gives query q i field h has words size k d lt ∙ ap (λ (s : TypedStream). slice_index u.key (first_named field q.names s.columns)) same)
+    ∙ ap (λ list. slice_index u.key (first_named field q.names one.columns) ∷ list) rest
 
-read_each : (query : Query) (q : TypedQuery) (i : ℕ) → IsTyped query q → (fields : List Field) → All (HasFieldKey q i) fields → Read q i fields
-read_each query q i h [] all = record { words_in = λ key. []; reads = λ words size k d lt. refl }
-read_each query q i h (field ∷ fields) all =
-    let one : KeepsKeys (by_field field (λ word. word)) q i = fields_keep query q i field (λ word. word) h (All-head (HasFieldKey q i) field fields all) in
-    let rest = read_each query q i h fields (All-tail (HasFieldKey q i) field fields all) in record {
-      words_in = λ key. one.part_of key ∷ rest.words_in key;
-      reads = λ words size k d lt.
-          ap (λ word. word ∷ map (λ f. word_of f words) fields) (one.goes words size k d lt)
-          ∙ ap (λ list. one.part_of (slice_index_or (uses q i (words ∷ [])) k d).key ∷ list) (rest.reads words size k d lt);
-    }
+pub field_lists_give : FieldListsGiveTheParts
+field_lists_give query q i fields choose one h all at = (
+  record {
+    part_of = part_by q.names one.columns fields choose;
+    goes = λ words size k d lt. ap choose (all_give query q i h one at fields all words size k d lt);
+  },
+  λ key. refl,
+)
 
 pub field_lists_keep : FieldListsKeepKeys
-field_lists_keep query q i fields choose h all =
-    let read = read_each query q i h fields all in record {
-      part_of = λ key. choose (read.words_in key);
-      goes = λ words size k d lt. ap choose (read.reads words size k d lt);
-    }
+field_lists_keep query q i [] choose h all = record { part_of = λ key. choose []; goes = λ words size k d lt. refl }
+field_lists_keep query q i (field ∷ fields) choose h all =
+    let has : HasFieldKey q i field = All-head (HasFieldKey q i) field fields all in
+    (field_lists_give query q i (field ∷ fields) choose has.one h all has.groupby).0

@@ -1,6 +1,6 @@
 -- A trace's parts, each run by itself, give what the whole trace gives.
 use Rattle.std.specs.Prelude.{◌≡◌, ◌≢◌, ◌↔◌, ℕ, ◌+◌, ◌-◌, ◌%◌, ◌^◌, ◌<◌, ◌≤◌, true, false, List, [], ◌∷◌}
-use Rattle.std.specs.Prelude.{length, map, flat_map, fold, slice_index, sum_by, All, Contains}
+use Rattle.std.specs.Prelude.{Some, slice_get, length, map, flat_map, fold, slice_index, sum_by, All, Contains}
 use Rattle.epoch_model.specs.declared.tables.Mark.TheVariants.{Exact, Valid}
 use Rattle.epoch_model.specs.declared.tables.Row.{Row}
 use Rattle.epoch_model.specs.Keys.{Key, ArgRow, ascending}
@@ -11,6 +11,7 @@ use Rattle.marple_base.specs.declared.field.Field.{Field}
 use Rattle.query_lang.specs.declared.fold.TypedFold.{TypedFold}
 use Rattle.query_lang.specs.declared.query.Query.{Query}
 use Rattle.query_lang.specs.declared.typed.TypedQuery.{TypedQuery}
+use Rattle.query_lang.specs.declared.typed.TypedStream.{TypedStream}
 use Rattle.query_lang.specs.Folds.{fold_states, body, folded}
 use Rattle.query_rules.specs.QueryRules.{IsTyped}
 use Rattle.query_types.specs.Uses.{uses}
@@ -19,7 +20,7 @@ use Rattle.additive_folds.specs.Laws.{IsAdditiveFrom}
 use Rattle.switch_traces.specs.TraceLaws.{rows_used}
 use Rattle.net_wide.specs.NetLaws.{AreWhole}
 use Rattle.trace_parts.specs.Parts.{Partition, KeepsKeys, AreTheParts, part_uses, own_uses, whole_rows, part_rows}
-use Rattle.trace_parts.specs.Parts.{by_field, by_fields, HasFieldKey}
+use Rattle.trace_parts.specs.Parts.{by_field, by_fields, groupbys, part_by, HasFieldKey}
 
 -- this holds of each partition that keeps a groupby's keys, of all whole packets and of each key
 abbrev pub WhereKeysAreKept : ((partition : Partition) (q : TypedQuery) (i : ℕ) → KeepsKeys partition q i → List (List ℕ) → Key
@@ -154,3 +155,10 @@ FieldsKeepKeys = (query : Query) (q : TypedQuery) (i : ℕ) (field : Field) (cho
 abbrev pub FieldListsKeepKeys : Type 0
 FieldListsKeepKeys = (query : Query) (q : TypedQuery) (i : ℕ) (fields : List Field) (choose : List ℕ → ℕ)
     → IsTyped query q → All (HasFieldKey q i) fields → KeepsKeys (by_fields fields choose) q i
+
+-- Such a partition sends a key to the part that its words of these fields give, by the names of the groupby's keys: so two
+-- groupbys whose keys have the same names have the same part for each key.
+abbrev pub FieldListsGiveTheParts : Type 0
+FieldListsGiveTheParts = (query : Query) (q : TypedQuery) (i : ℕ) (fields : List Field) (choose : List ℕ → ℕ) (one : TypedStream)
+    → IsTyped query q → All (HasFieldKey q i) fields → slice_get (groupbys q) i ≡ Some one
+    → (kept : KeepsKeys (by_fields fields choose) q i) × ((key : Key) → kept.part_of key ≡ part_by q.names one.columns fields choose key)

@@ -1,6 +1,6 @@
 -- The packets of a trace in parts, by a function of each packet's words, and what it is that parts keep a key whole.
 use Rattle.std.specs.Prelude.{◌≡◌, ℕ, ◌==◌, Bool, true, false, is_some, List, [], ◌∷◌, length, map, filter, All}
-use Rattle.std.specs.Prelude.{Some, slice_get, slice_index}
+use Rattle.std.specs.Prelude.{suc, if◌then◌else◌, Some, slice_get, slice_index}
 use Rattle.std.specs.List.{list_any}
 use Rattle.std.specs.Str.{bytes_eq}
 use Rattle.marple_base.specs.declared.field.Field.{Field}
@@ -73,6 +73,15 @@ names_field field names columns = list_any (is_named field names) columns
 -- whether a `map` of these streams makes a column that is named as the field
 abbrev pub makes_field : Field → List (List ℕ) → List TypedStream → Bool
 makes_field field names streams = list_any (λ one. names_field field names (columns_made one.columns one.op)) streams
+
+-- the place of the first of these columns that is named as the field
+abbrev pub first_named : Field → List (List ℕ) → List ℕ → ℕ
+first_named field names [] = 0
+first_named field names (id ∷ columns) = if is_named field names id then 0 else suc (first_named field names columns)
+
+-- the part of a key whose words are of these columns: by this function of its words of the fields
+abbrev pub part_by : List (List ℕ) → List ℕ → List Field → (List ℕ → ℕ) → Key → ℕ
+part_by names columns fields choose key = choose (map (λ field. slice_index key (first_named field names columns)) fields)
 
 -- the groupbys of the query, in order
 abbrev pub groupbys : TypedQuery → List TypedStream

@@ -3,7 +3,7 @@
 ghost use Rattle.trace_parts.specs.PartLaws.{PartsHaveTheRows, OtherPartsHaveNone, KeysAreOfTheirParts, KeysAreOfNoOtherPart};
 ghost use Rattle.trace_parts.specs.PartLaws.{ExactRowsAreTheParts, ValidRowsFoldTheWhole, FieldsKeepKeys};
 ghost use Rattle.trace_parts.specs.PartLaws.{PartsCutNoMore, ValidRowsAreTheParts, KeysAreOfAllParts, ExactTablesJoin};
-ghost use Rattle.trace_parts.specs.PartLaws.{FieldListsKeepKeys};
+ghost use Rattle.trace_parts.specs.PartLaws.{FieldListsKeepKeys, FieldListsGiveTheParts};
 ghost use Rattle.trace_parts.specs.PartLaws.{AdditivePartsAdd, StatesFromZerosAdd, PartWordsAdd, AdditiveTablesJoin};
 
 /// The argument rows that the whole trace gives a key are, in order, those of the key's part alone.
@@ -55,8 +55,9 @@ pub fn additive_parts_add()
 {}
 
 /// Each partition by a field keeps the keys of a groupby that has a key of that name, where no `map` makes such a
-/// column; and so does each partition by several such fields.
+/// column; and so does each partition by several such fields. A key's part is then that of its words of these fields.
 pub fn fields_keep_keys()
     ensures one { FieldsKeepKeys }
     ensures several { FieldListsKeepKeys }
+    ensures parts { FieldListsGiveTheParts }
 {}
