@@ -1,5 +1,5 @@
 -- The tables of a network at the end of a trace.
-use Rattle.std.proofs.Common.{◌≡◌, ℕ, zero, suc, ◌+◌, ◌<◌, true, List, [], ◌∷◌, ◌++◌, Option, Some, None, length, map, drop, get_or, refl, sym, ap, ◌∙◌, subst, arith}
+use Rattle.std.proofs.Common.{◌≡◌, ℕ, zero, suc, ◌+◌, ◌<◌, true, List, [], ◌∷◌, ◌++◌, Some, None, length, map, drop, refl, sym, ap, ◌∙◌, subst, arith}
 use Rattle.std.specs.Prelude.{slice_get}
 use Rattle.std.specs.List.{All, list_all}
 use Rattle.std.proofs.lemmas.List.Elements.{All-nil, All-cons}
@@ -24,7 +24,6 @@ use Rattle.stage_plan.specs.Planned.{IsPlanOf, fold_at, taken, wiring_at}
 use Rattle.stage_plan.specs.Shape.{group_shape}
 use Rattle.stage_plan.specs.Sound.{PlanParts}
 use Rattle.query_tables.specs.Tables.{printed}
-use Rattle.switch_core.specs.Closing.{is_drained}
 use Rattle.switch_core.specs.Pipelines.{heading_of}
 use Rattle.switch_core.specs.Rows.{EachFrom}
 use Rattle.switch_core.proofs.LaneFacts.{all_at}

@@ -1,5 +1,5 @@
 -- A trace that can't be opened has that fault for several switches too.
-use Rattle.std.proofs.Common.{◌≡◌, List, ℕ, Option, Some, Result, Ok, Err, refl, ap}
+use Rattle.std.proofs.Common.{◌≡◌, List, ℕ, Some, Result, Err, ap}
 use Rattle.marple_base.specs.declared.field.FieldSet.{FieldSet}
 use Rattle.trace_reader.specs.Faults.{IfRefused}
 use Rattle.trace_reader.specs.Reading.{records}

@@ -1,6 +1,6 @@
 -- What a run of one switch's front makes of the fronts of all.
 use Rattle.std.proofs.Common.{◌≡◌, ◌≢◌, ℕ, zero, suc, ◌+◌, ◌<◌, Bool, true, false, ◌==◌, List, [], ◌∷◌, ◌++◌, length, filter, take, map, set, Option, Some, None, refl, sym, ap, subst, ◌∙◌, arith, append-nil, append_assoc}
-use Rattle.std.specs.Prelude.{slice_get, flat_map, if◌then◌else◌}
+use Rattle.std.specs.Prelude.{slice_get, flat_map}
 use Rattle.std.specs.List.{list_all}
 use Rattle.std.proofs.lemmas.Bool.Decides.{nat_tests}
 use Rattle.std.proofs.lemmas.List.{map-append}
@@ -21,13 +21,13 @@ use Rattle.switch_core.specs.FrontParts.{FrontOf}
 use Rattle.switch_core.specs.Lanes.{Standing, FrontStands}
 use Rattle.switch_core.specs.Rows.{Each, EachFrom}
 use Rattle.switch_core.proofs.LaneFacts.{got_set}
-use Rattle.switch_core.proofs.SideBySide.{same_some, each_set, each_at, each_long, untouched_start}
+use Rattle.switch_core.proofs.SideBySide.{same_some, each_set}
 use Rattle.additive_folds.specs.Network.{SwitchEvent, SwitchEpoch, all_events, events_at, all_epochs, epochs_at, machine_at}
 use Rattle.switch_traces.specs.Traces.{from_switch, without_merges, unless_merge, unrefreshed}
 use Rattle.switch_traces.proofs.Runs.{events_append}
 use Rattle.net_wide.specs.Sharing.{FrontsStand, epochs_from}
-use Rattle.network.specs.FrontRuns.{FrontKept, StoreKept, FrontRuns, RunsTo}
-use Rattle.network.specs.Shared.{SharedStand, LedOn, SharedRuns, NoPackets, MergesAlone, IsTurnAt, MayShare, AllShare}
+use Rattle.network.specs.FrontRuns.{FrontKept, StoreKept, FrontRuns}
+use Rattle.network.specs.Shared.{SharedStand, SharedRuns, NoPackets, MergesAlone, IsTurnAt, AllShare}
 use Rattle.network.proofs.FrontSteps.{kept_on, store_on, fits_on, no_packets_on}
 
 -- alike foldings say the same of a store

@@ -1,4 +1,4 @@
-use Rattle.std.proofs.Common.{◌≡◌, ◌^◌, [], ◌∷◌, sym, ap, ◌∙◌}
+use Rattle.std.proofs.Common.{◌^◌, [], ◌∷◌, sym, ap, ◌∙◌}
 use Rattle.std.specs.Prelude.{bit_or}
 use Rattle.std.proofs.lemmas.List.Sums.{fold-append}
 use Rattle.marple_base.specs.declared.field.Field.TheVariants.{Switch}

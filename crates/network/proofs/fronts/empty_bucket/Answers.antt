@@ -1,4 +1,4 @@
-use Rattle.std.proofs.Common.{◌≡◌, ◌-◌, [], length, take, refl, ap, ◌∙◌, arith, get_or-set_other}
+use Rattle.std.proofs.Common.{◌-◌, [], length, take, refl, ap, ◌∙◌, arith, get_or-set_other}
 use Rattle.epoch_model.specs.Timeline.{NoPacket}
 use Rattle.bucket_cache.specs.Caches.{list_at}
 use Rattle.switch_core.specs.Lanes.{Standing}

@@ -1,4 +1,4 @@
-use Rattle.std.proofs.Common.{◌≡◌, ℕ, length}
+use Rattle.std.proofs.Common.{◌≡◌, length}
 use Rattle.switch_core.proofs.SideBySide.{Done, Untouched}
 use Rattle.network.specs.Groups.{GroupGrows, GroupView, with_first}
 use Rattle.network.proofs.GroupSteps.{Grown}

@@ -1,4 +1,3 @@
-use Rattle.std.proofs.Common.{lit<}
 use Rattle.network.proofs.GroupSteps.{kept_back}
 use Rattle.network.proofs.groups.add_switch.Goals as goal
 

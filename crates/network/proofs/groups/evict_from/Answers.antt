@@ -1,4 +1,4 @@
-use Rattle.std.proofs.Common.{◌≡◌, ◌<◌, Some, length, get_or, set, sym, ap, ◌∙◌, subst, lit<}
+use Rattle.std.proofs.Common.{get_or, sym, ap, ◌∙◌, lit<}
 use Rattle.std.specs.Prelude.{slice_get}
 use Rattle.epoch_model.specs.Machine.{Evict}
 use Rattle.switch_core.proofs.SideBySide.{same_some}

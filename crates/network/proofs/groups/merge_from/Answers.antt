@@ -1,4 +1,4 @@
-use Rattle.std.proofs.Common.{◌≡◌, ◌<◌, true, Some, length, get_or, set, sym, ap, ◌∙◌, lit<}
+use Rattle.std.proofs.Common.{◌≡◌, true, length, get_or, set, sym, ap, ◌∙◌, lit<}
 use Rattle.std.specs.Prelude.{slice_get}
 use Rattle.epoch_model.specs.Machine.{Merge}
 use Rattle.stage_plan.specs.Planned.{wiring_at}

@@ -1,4 +1,4 @@
-use Rattle.std.proofs.Common.{◌≡◌, ◌<◌, ◌≤◌, ◌+◌, ℕ, length, take, get_or, refl, sym, ◌∙◌, subst, arith, lit<}
+use Rattle.std.proofs.Common.{◌≡◌, ◌<◌, ◌+◌, ℕ, length, take, get_or, refl, sym, ◌∙◌, subst, arith, lit<}
 use Rattle.std.specs.Prelude.{sum_by}
 use Rattle.std.proofs.Math.Facts.{Fits-below}
 use Rattle.epoch_model.specs.Driving.{event_of}

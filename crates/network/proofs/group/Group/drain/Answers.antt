@@ -1,4 +1,4 @@
-use Rattle.std.proofs.Common.{◌++◌, length, drop, sym, ◌∙◌, subst, lit<}
+use Rattle.std.proofs.Common.{length, drop, sym, ◌∙◌, subst, lit<}
 use Rattle.epoch_entry.specs.contracts.any.AnyEpochsEpochKind.TheImpl.{ghosts}
 use Rattle.switch_core.proofs.LaneFacts.{whole_written}
 use Rattle.network.specs.Shared.{AllShare, NoPackets}

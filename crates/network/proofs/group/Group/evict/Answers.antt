@@ -1,6 +1,5 @@
-use Rattle.std.proofs.Common.{◌≡◌, ◌<◌, ◌++◌, ◌==◌, not, Some, length, drop, sym, ap, ◌∙◌, subst, lit<}
+use Rattle.std.proofs.Common.{◌<◌, length, drop, sym, ap, ◌∙◌, subst, lit<}
 use Rattle.std.specs.Prelude.{slice_get}
-use Rattle.bucket_cache.specs.Caches.{list_at}
 use Rattle.switch_core.proofs.LaneFacts.{whole_written}
 use Rattle.net_wide.specs.Sharing.{AtSwitch}
 use Rattle.network.specs.Groups.{GroupView}

@@ -1,4 +1,4 @@
-use Rattle.std.proofs.Common.{refl, sym, ◌∙◌, subst}
+use Rattle.std.proofs.Common.{refl, sym, subst}
 use Rattle.network.specs.Shared.{MergesAlone}
 use Rattle.network.specs.Groups.{GroupRuns}
 use Rattle.network.proofs.MakeSteps.{group_none, merge_runs}

@@ -1,6 +1,6 @@
 use Rattle.switch_core.proofs.LaneTables.{class_fits}
 use Rattle.network.specs.Groups.{folding_in}
-use Rattle.std.proofs.Common.{sym, ap, subst, ◌∙◌, ◌≡◌}
+use Rattle.std.proofs.Common.{sym, subst, ◌≡◌}
 use Rattle.epoch_entry.specs.Foldings.{per_epoch}
 use Rattle.network.proofs.group.Group.table.Goals as goal
 

@@ -1,4 +1,4 @@
-use Rattle.std.proofs.Common.{length, sym, ◌∙◌}
+use Rattle.std.proofs.Common.{sym, ◌∙◌}
 use Rattle.switch_core.proofs.SideBySide.{each_long}
 use Rattle.network.proofs.network.Network.lanes.Goals as goal
 

@@ -1,4 +1,4 @@
-use Rattle.std.proofs.Common.{◌≡◌, ◌<◌, ◌++◌, ℕ, List, [], Some, true, length, take, drop, refl, sym, ap, ◌∙◌, subst, lit<}
+use Rattle.std.proofs.Common.{◌≡◌, ◌<◌, ◌++◌, ℕ, List, [], true, length, take, drop, refl, sym, ap, ◌∙◌, subst, lit<}
 use Rattle.std.specs.Prelude.{slice_get}
 use Rattle.epoch_model.specs.Machine.{Event, Merge}
 use Rattle.switch_core.specs.Pipelines.{event_at}

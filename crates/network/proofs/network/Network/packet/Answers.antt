@@ -1,4 +1,4 @@
-use Rattle.std.proofs.Common.{◌≡◌, ◌+◌, ◌≤◌, ◌++◌, ℕ, List, length, take, drop, refl, sym, ap, ◌∙◌, subst, arith}
+use Rattle.std.proofs.Common.{◌≡◌, ◌+◌, ◌≤◌, ℕ, List, length, drop, refl, ap, ◌∙◌, subst, arith}
 use Rattle.std.specs.Prelude.{sum_by}
 use Rattle.epoch_model.specs.Driving.{event_of}
 use Rattle.epoch_model.specs.Machine.{Event}
@@ -7,7 +7,7 @@ use Rattle.stage_plan.specs.Registers.{taken_at}
 use Rattle.switch_core.specs.Pipelines.{packet_events}
 use Rattle.switch_core.proofs.LaneFacts.{whole_written}
 use Rattle.switch_traces.specs.Traces.{from_switch}
-use Rattle.network.specs.Events.{GroupsMake, OthersStay, StoresStay}
+use Rattle.network.specs.Events.{GroupsMake, StoresStay}
 use Rattle.network.specs.Costs.{group_cost}
 use Rattle.network.specs.Networks.{network_cost}
 use Rattle.network.proofs.CostSteps.{groups_within}

@@ -1,4 +1,4 @@
-use Rattle.std.proofs.Common.{◌≡◌, ℕ, ◌+◌, ◌*◌, ◌≤◌, true, false, List, [], ◌++◌, ap, ◌∙◌, subst, arith, lit<}
+use Rattle.std.proofs.Common.{◌≡◌, ℕ, ◌+◌, ◌*◌, ◌≤◌, true, false, List, ap, ◌∙◌, arith, lit<}
 use Rattle.std.specs.Prelude.{sum_by}
 use Rattle.epoch_model.specs.Machine.{Event}
 use Rattle.stage_plan.specs.Planned.{registers_of, taken}
@@ -10,7 +10,7 @@ use Rattle.network.specs.Events.{GroupsMake}
 use Rattle.network.specs.Groups.{GroupsRun}
 use Rattle.network.specs.Costs.{group_cost}
 use Rattle.network.specs.declared.network.Network.{Network}
-use Rattle.network.specs.Networks.{IsNetwork, Keeps, TurnBreaksOff, groups_in, merges_cost, network_cost}
+use Rattle.network.specs.Networks.{Keeps, TurnBreaksOff, groups_in, merges_cost, network_cost}
 use Rattle.network.proofs.CostSteps.{costs_kept, merges_kept}
 use Rattle.network.proofs.SharedSteps.{turn_behind}
 use Rattle.network.proofs.MakeSteps.{groups_on, if_err, if_ok, makes_runs}
