@@ -89,7 +89,7 @@ def proved_program(shop: Workshop) -> str:
 
     The sources of `program` carry one more suffix, since the gate reads the sources of `crates` alone.
     """
-    line = (shop.here / "program/crates.txt").read_text()
+    line = (shop.here / "program/needs.txt").read_text()
     (name, used), *_ = uses_of(line).items()
     all_crates = (TOP / "crates.txt").read_text()
     below = crates_below(uses_of(all_crates), used)
@@ -98,7 +98,7 @@ def proved_program(shop: Workshop) -> str:
     for crate in below:
         copy_library(crate, crates)
     shutil.copytree(shop.here / "program", crates / name)
-    (crates / name / "crates.txt").unlink()
+    (crates / name / "needs.txt").unlink()
     for file in [*(crates / name).rglob("*.txt")]:
         file.rename(file.with_suffix(""))
     shutil.copy(TOP / "HANDLES", shop.room)

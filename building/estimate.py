@@ -61,6 +61,11 @@ def clock_seconds(seconds: float, jobs: int) -> float:
     return seconds * (NOT_SHARED + (1 - NOT_SHARED) / jobs)
 
 
+def still_to_go(whole: float, elapsed: float) -> float:
+    """Returns what is left of a proof that should take so long. One that takes longer has a tenth of its time still to go."""
+    return max(whole - elapsed, elapsed / 10)
+
+
 def jobs_of(chain: float, work: float, places: int, ready: int, idle: int) -> int:
     """Returns the jobs for the crate that is begun next, the first of those that are ready, where so many places are idle.
 

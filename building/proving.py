@@ -14,7 +14,7 @@ from pathlib import Path
 from typing import Dict, List, Set
 
 from building.crates import PROGRAM, Crate, digest, digests
-from building.estimate import Cost, chains, clock_seconds, jobs_of, pace, seconds_to_go, time_to_go
+from building.estimate import Cost, chains, clock_seconds, jobs_of, pace, seconds_to_go, still_to_go, time_to_go
 from building.machine import Machine
 from building.progress import Progress
 from building.toolchain import KEPT, Toolchain, below
@@ -31,7 +31,7 @@ class Failed(Exception):
     """A crate isn't proved, or the program isn't built."""
 
 
-@dataclass
+@dataclass(frozen=True, eq=False)
 class Proof:
     """A proof that is under way."""
 
@@ -210,11 +210,16 @@ class Proving:
         return f"{self.so_far()}: " + ", ".join(f"{it.crate.name} {now - it.began:.0f} s" for it in self.running)
 
     def seconds_to_go(self) -> float:
-        speed = pace(self.table_seconds, self.measured_seconds)
+        elapsed = {it: time.monotonic() - it.began for it in self.running}
+        whole = {it: clock_seconds(self.costs[it.crate.name].seconds, it.jobs) for it in self.running}
+        # what takes longer than the table says counts before it is done
+        late = [it for it in self.running if elapsed[it] > whole[it]]
+        speed = pace(
+            self.table_seconds + sum(whole[it] for it in late), self.measured_seconds + sum(elapsed[it] for it in late)
+        )
         left = {it.name: speed * self.costs[it.name].seconds for it in self.waiting()}
         for it in self.running:
-            whole = speed * clock_seconds(self.costs[it.crate.name].seconds, it.jobs)
-            left[it.crate.name] = max(whole - (time.monotonic() - it.began), 1.0)
+            left[it.crate.name] = still_to_go(speed * whole[it], elapsed[it])
         running = {it.crate.name: it.jobs for it in self.running}
         return seconds_to_go(self.order, left, running, self.machine.processors)
 

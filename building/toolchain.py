@@ -6,7 +6,6 @@ locks all crates below the one that it works in, and reads these once for each w
 
 from __future__ import annotations
 
-import os
 import shutil
 import subprocess
 from pathlib import Path
@@ -18,6 +17,8 @@ MISSING = (
     "rt isn't on this machine's PATH: it is the command of the Rattle toolchain (rattle-kit-13f or rattle-kit-13b), "
     "in the folder bin of the toolchain"
 )
+# What the compiler is called with.
+FLAGS = "--crate-name --extern -L --antt-project --logic-built --incremental --links --jobs --toolchain --backend".split()
 # What a proved library leaves for the crates above it, below the crate's folder.
 KEPT = "out/rlib/build"
 INCREMENTAL = "out/incremental"
@@ -29,12 +30,12 @@ class Missing(Exception):
 
 
 def said_by(*words: str) -> str:
-    """Returns the first line that a command of the toolchain writes."""
+    """Returns what a command of the toolchain writes."""
     try:
         ran = subprocess.run(words, stdin=subprocess.DEVNULL, stdout=subprocess.PIPE, check=True)
     except (OSError, subprocess.CalledProcessError) as error:
         raise Missing(f"{' '.join(words)} failed: {error}") from error
-    return ran.stdout.decode(errors="replace").partition("\n")[0]
+    return ran.stdout.decode(errors="replace")
 
 
 class Toolchain:
@@ -43,10 +44,15 @@ class Toolchain:
     def __init__(self) -> None:
         if not shutil.which("rt"):
             raise Missing(MISSING)
-        self.version = said_by("rt", "version")
-        self.folder = Path(said_by("rt", "doc")).parent
-        if not os.access(self.folder / "bin/rattle", os.X_OK):
-            raise Missing(f"the toolchain {self.version} has no compiler {self.folder}/bin/rattle")
+        self.version = said_by("rt", "version").strip()
+        self.folder = Path(said_by("rt", "doc").strip()).parent
+        known = said_by(f"{self.folder}/bin/rattle", "build", "--help")
+        lacking = [it for it in FLAGS if f"{it} " not in known]
+        if lacking:
+            raise Missing(
+                f"the compiler of {self.version} has no {', '.join(lacking)}: "
+                "`rt all check`, and then `rt run` in crates/marple, prove and build the program too"
+            )
 
     def proof(self, crate: Crate, below: List[Crate], jobs: int) -> List[str]:
         """Returns the command that proves the crate and, only then, writes its library or its object file."""

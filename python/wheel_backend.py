@@ -34,7 +34,8 @@ def metadata() -> str:
 
 
 def write_wheel(folder: str, files: dict[str, bytes]) -> str:
-    """Writes a wheel of these files into the folder, with its metadata and the record of all files. Returns its name."""
+    """Writes a wheel of these files into the folder, with its metadata and the record of all files. Returns its name.
+    """
     info = f"marple-{version()}.dist-info"
     files = files | {
         f"{info}/METADATA": metadata().encode(),

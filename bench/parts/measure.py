@@ -1,4 +1,4 @@
-"""Times a query over traces in parts with several numbers of workers, beside runs of the program. Writes a page of the figures.
+"""Times a query over traces in parts with several numbers of workers, beside runs of the program. Writes a page of it.
 
 Usage: measure.py QUERY ROOM WORKERS..
 ROOM has the traces, and the file `expected` with the rows that a plain program gives.
@@ -12,6 +12,7 @@ import shutil
 import subprocess
 import sys
 import time
+from dataclasses import dataclass
 from pathlib import Path
 
 from marple import find_program, parts
@@ -19,6 +20,7 @@ from marple.parts.engine import local_client
 from marple.parts.records import Span, read_header
 from marple.parts.splitting import Splitting, write_piece
 
+ALL = "1-14"
 COLUMNS = "4,9,10,11"  # those that the query reads
 MILLION = 1_000_000
 
@@ -86,8 +88,8 @@ def timed_parts(query: str, room: Path, workers: int) -> tuple[Stages, list[int]
     client = local_client(workers)
     work, stages = room / "work", Stages()
     joined, _, runs = parts.tables_file(
-        Path(query).read_bytes(), sorted(room.glob("traces/*.csv")), by=None, parts=None, client=client, work=work, given={},
-        program=None, piece=parts.PIECE, report=stages.report,
+        Path(query).read_bytes(), sorted(room.glob("traces/*.csv")), by=None, parts=None, client=client, work=work,
+        given={}, program=None, piece=parts.PIECE, report=stages.report,
     )  # fmt: skip
     stages.report("end")
     peaks = [max(client.run(peak).values()), max(ran.peak for ran in runs) // 1024]
@@ -106,48 +108,80 @@ def load() -> str:
     return f"{os.getloadavg()[0]:.1f}"
 
 
-def main() -> None:
-    query, room, numbers = sys.argv[1], Path(sys.argv[2]), [int(word) for word in sys.argv[3:]]
-    packets = sum(int(line.split(b",")[1]) for line in open(room / "expected", "rb"))
-    keys = sum(1 for _ in open(room / "expected", "rb"))
-    size = sum(path.stat().st_size for path in room.glob("traces/*.csv"))
-    print("# A query over traces in parts\n")
-    print("`run.sh` writes this page. It counts packets, bytes and unexpected sequence numbers of each source")
-    print(f"(`keys.query`) over {packets:,} packets of {keys:,} keys, {size / 1e9:.2f} GB, and compares the rows with those of a")
-    print("plain C program (`plain.c`), all of which were the same.\n")
-    print(f"{time.strftime('%d %B %Y')}, {os.cpu_count()} processors, {platform.machine()}; load before: {load()}.\n")
-    print("| Workers | Seconds | Packets a second | Look, split, run, join (s) | Beside one worker | Peak of a worker, of a run (MB) |")
-    print("|---|---|---|---|---|---|")
-    first = None
-    for number in numbers:
-        stages, peaks = timed_parts(query, room, number)
-        first = first or stages.end
-        shown = ", ".join(f"{seconds:.1f}" for seconds in stages.seconds().values())
-        print(f"| {number} | {stages.end:.1f} | {packets / stages.end:,.0f} | {shown} | {first / stages.end:.2f} | {peaks[0]}, {peaks[1]} |")
-    print(f"\nPeak of the process that asks: {peak()} MB. Load after: {load()}. The peak of a run is at least that of the worker")
-    print("that starts it, since Linux counts it so.\n")
-    print("| One run of the program | Seconds | of the processor | Packets a second | Peak (MB) |")
-    print("|---|---|---|---|---|")
+@dataclass(frozen=True)
+class Traces:
+    """What the traces have, by the rows of the plain program."""
+
+    packets: int
+    keys: int
+    bytes: int
+
+    @staticmethod
+    def of(room: Path) -> "Traces":
+        with open(room / "expected", "rb") as file:
+            counts = [int(line.split(b",")[1]) for line in file]
+        return Traces(sum(counts), len(counts), sum(path.stat().st_size for path in room.glob("traces/*.csv")))
+
+
+def heading(traces: Traces) -> str:
+    return f"""# A query over traces in parts
+
+`run.sh` writes this page. It counts packets, bytes and unexpected sequence numbers of each source (`keys.query`) over
+{traces.packets:,} packets of {traces.keys:,} keys, {traces.bytes / 1e9:.2f} GB, and compares the rows with those of a plain
+C program (`plain.c`), all of which were the same.
+
+{time.strftime("%d %B %Y")}, {os.cpu_count()} processors, {platform.machine()}; load before: {load()}.
+
+| Workers | Seconds | Packets a second | Look, split, run, join (s) | Beside one worker | Peak: worker, run (MB) |
+|---|---|---|---|---|---|"""
+
+
+def row_of_parts(workers: int, packets: int, stages: Stages, peaks: list[int], first: float) -> str:
+    shown = ", ".join(f"{seconds:.1f}" for seconds in stages.seconds().values())
+    rate = packets / stages.end
+    return f"| {workers} | {stages.end:.1f} | {rate:,.0f} | {shown} | {first / stages.end:.2f} | {peaks[0]}, {peaks[1]} |"
+
+
+def runs_of_the_program(query: str, room: Path, packets: int) -> str:
+    """Runs over some of the packets, and what splitting costs beside them."""
+    lines = [
+        f"\nPeak of the process that asks: {peak()} MB. Load after: {load()}. The peak of a run is at least that of the",
+        "worker that starts it, since Linux counts it so.\n",
+        "| One run of the program | Seconds | of the processor | Packets a second | Peak (MB) |",
+        "|---|---|---|---|---|",
+    ]
     million = min(packets, MILLION)
-    for rows, columns, what in ((million, "1-14", "14 columns"), (min(packets, 4 * MILLION), COLUMNS, "the 4 columns that it reads")):
-        trace = first_rows(room, "first.csv", rows, columns)
-        seconds, processor, most = timed_run(query, trace)
-        print(f"| {rows:,} packets, {what} | {seconds:.2f} | {processor:.2f} | {rows / seconds:,.0f} | {most} |")
-    trace = first_rows(room, "first.csv", million, "1-14")
-    splits, runs = timed_split(trace, room), timed_run(query, trace)[1]
-    print(f"\nSplitting {million:,} packets of 14 columns takes {splits:.2f} s of the processor, {splits / runs:.2f} times what")
-    print("running them takes.\n")
-    print_on_paper(size / packets, packets / stages.end, numbers[-1])
+    most = min(packets, 4 * MILLION)
+    for rows, columns, what in ((million, ALL, "14 columns"), (most, COLUMNS, "the 4 columns that it reads")):
+        seconds, processor, size = timed_run(query, first_rows(room, "first.csv", rows, columns))
+        lines.append(f"| {rows:,} packets, {what} | {seconds:.2f} | {processor:.2f} | {rows / seconds:,.0f} | {size} |")
+    trace = first_rows(room, "first.csv", million, ALL)
+    split, run = timed_split(trace, room), timed_run(query, trace)[1]
+    lines.append(f"\nSplitting {million:,} packets of 14 columns takes {split:.2f} s of the processor,")
+    lines.append(f"{split / run:.2f} times what running them takes.\n")
+    return "\n".join(lines)
 
 
-def print_on_paper(record: float, rate: float, workers: int) -> None:
+def on_paper(record: float, rate: float, workers: int) -> str:
     """What these figures come to for a day of a link of 100 Gbit/s with packets of 1,000 bytes."""
     second = 100e9 / 8 / 1000
     day = second * 86400
-    print(f"On paper, for a day of a link of 100 Gbit/s with packets of 1,000 bytes: {second / 1e6:.1f} million packets a second,")
-    print(f"{day / 1e12:.2f} trillion a day, {day * record / 1e12:.0f} TB of records of {record:.0f} bytes. At {rate / workers:,.0f} packets a second for each")
-    print(f"of {workers} workers that is {day / rate * workers / 86400:,.0f} days of one worker, so as many workers would keep pace if they didn't")
-    print("slow one another down, as none of this measures.")
+    return f"""On paper, for a day of a link of 100 Gbit/s with packets of 1,000 bytes: {second / 1e6:.1f} million packets
+a second, {day / 1e12:.2f} trillion a day, {day * record / 1e12:.0f} TB of records of {record:.0f} bytes. At
+{rate / workers:,.0f} packets a second for each of {workers} workers that is {second / rate * workers:,.0f} days of one
+worker, so as many workers would keep pace if they didn't slow one another down, which isn't measured here."""
+
+
+def main() -> None:
+    query, room, numbers = sys.argv[1], Path(sys.argv[2]), [int(word) for word in sys.argv[3:]]
+    traces, first, stages = Traces.of(room), None, None
+    print(heading(traces))
+    for number in numbers:
+        stages, peaks = timed_parts(query, room, number)
+        first = first or stages.end
+        print(row_of_parts(number, traces.packets, stages, peaks, first))
+    print(runs_of_the_program(query, room, traces.packets))
+    print(on_paper(traces.bytes / traces.packets, traces.packets / stages.end, numbers[-1]))
 
 
 if __name__ == "__main__":

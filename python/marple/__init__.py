@@ -27,6 +27,6 @@ from marple.version import __version__
 
 __all__ = [
     "Answer", "Groupby", "InputError", "Mark", "MarpleError", "OutOfMemory", "OutputError", "Plan", "ProgramFailed",
-    "ProgramMissing", "QueryRefused", "Table", "TraceRefused", "UsageError", "View", "__version__", "compile", "enclose",
-    "find_program", "gen", "net", "plan", "read_tables", "run", "run_plan",
+    "ProgramMissing", "QueryRefused", "Table", "TraceRefused", "UsageError", "View", "__version__", "compile",
+    "enclose", "find_program", "gen", "net", "plan", "read_tables", "run", "run_plan",
 ]

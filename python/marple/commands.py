@@ -17,8 +17,8 @@ Trace = str | bytes | os.PathLike  # or a pandas.DataFrame
 
 
 def run(
-    query: Query, trace, *, buckets: int | None = None, ways: int | None = None, pipe: int | None = None, lag: int | None = None,
-    refresh: int | None = None, every: int | None = None, program: str | os.PathLike | None = None,
+    query: Query, trace, *, buckets: int | None = None, ways: int | None = None, pipe: int | None = None,
+    lag: int | None = None, refresh: int | None = None, every: int | None = None, program: str | os.PathLike | None = None,
 ) -> Answer:  # fmt: skip
     """The tables of the query over the packets of the trace; with `every` also its views.
 
@@ -31,16 +31,16 @@ def run(
 
 
 def net(
-    query: Query, trace, *, buckets: int | None = None, ways: int | None = None, pipe: int | None = None, lag: int | None = None,
-    program: str | os.PathLike | None = None,
+    query: Query, trace, *, buckets: int | None = None, ways: int | None = None, pipe: int | None = None,
+    lag: int | None = None, program: str | os.PathLike | None = None,
 ) -> Answer:  # fmt: skip
     """The tables of the query, where each switch has caches of its own. Otherwise as `run`."""
     return _tables("net", query, trace, {"buckets": buckets, "ways": ways, "pipe": pipe, "lag": lag}, program)
 
 
 def enclose(
-    query: Query, trace, *, buckets: int | None = None, ways: int | None = None, pipe: int | None = None, lag: int | None = None,
-    refresh: int | None = None, program: str | os.PathLike | None = None,
+    query: Query, trace, *, buckets: int | None = None, ways: int | None = None, pipe: int | None = None,
+    lag: int | None = None, refresh: int | None = None, program: str | os.PathLike | None = None,
 ) -> Answer:  # fmt: skip
     """The tables of the query, where a fold that isn't linear shows bounds. Otherwise as `run`."""
     given = {"buckets": buckets, "ways": ways, "pipe": pipe, "lag": lag, "refresh": refresh}
@@ -48,8 +48,8 @@ def enclose(
 
 
 def run_plan(
-    plan: Query, trace, *, buckets: int | None = None, ways: int | None = None, pipe: int | None = None, lag: int | None = None,
-    refresh: int | None = None, program: str | os.PathLike | None = None,
+    plan: Query, trace, *, buckets: int | None = None, ways: int | None = None, pipe: int | None = None,
+    lag: int | None = None, refresh: int | None = None, program: str | os.PathLike | None = None,
 ) -> Answer:  # fmt: skip
     """The tables of a plan's text, which is a path, or a text of several lines. Otherwise as `run`."""
     given = {"buckets": buckets, "ways": ways, "pipe": pipe, "lag": lag, "refresh": refresh}

@@ -42,8 +42,8 @@ class OutputError(MarpleError):
 class QueryRefused(MarpleError):
     """The query, or the plan's text, is refused.
 
-    kind: the fault, as `UnknownName` or `OverLimit(nodes)`; offset: the byte where it stands, from 0; line, column: the same
-    place, both counted from 1, the column in bytes; shown: the line with a caret below the place.
+    kind: the fault, as `UnknownName` or `OverLimit(nodes)`; offset: the byte where it stands, from 0; line, column: the
+    same place, both counted from 1, the column in bytes; shown: the line with a caret below the place.
     """
 
     status = 4
@@ -66,8 +66,8 @@ class QueryRefused(MarpleError):
 class TraceRefused(MarpleError):
     """The trace is refused.
 
-    fault: its name, as `BadNumber`; record: the number of the data record from 1, or None; field: the field's name, or None;
-    path: the file, where a run over several files says which.
+    fault: its name, as `BadNumber`; record: the number of the data record from 1, or None; field: the field's name, or
+    None; path: the file, where a run over several files says which.
     """
 
     status = 5

@@ -35,8 +35,9 @@ def frame_of(table: Table):
 def trace_of(frame) -> bytes:
     """A DataFrame as a trace: its columns with their names, and a line for each row.
 
-    Whole numbers that are floats are written as whole numbers, and an infinite one as `inf`: a packet that was dropped has no
-    `tout`, so that pandas keeps the column as floats.
+    Whole numbers that are floats are written as whole numbers, and an infinite one as `inf`: a packet that was dropped
+    has no `tout`, so that pandas keeps the column as floats. Those are whole up to 2^53: of later times read the
+    column as text (`dtype=str`).
     """
     columns = {name: [_cell(value) for value in frame[name].tolist()] for name in frame.columns}
     lines = [",".join(map(str, columns)), *map(",".join, zip(*columns.values(), strict=True))]
@@ -44,9 +45,9 @@ def trace_of(frame) -> bytes:
 
 
 def _cell(value) -> str:
-    if isinstance(value, float):
-        if math.isnan(value):
-            return ""
+    if isinstance(value, float) and not math.isnan(value):
         return "inf" if value == math.inf else str(int(value)) if value.is_integer() and value >= 0 else repr(value)
-    text = str(value)
+    text = "" if isinstance(value, float) else str(value)
+    if not text:
+        return '""'  # nothing at all would be an empty line where there are no other columns, and so no record
     return '"' + text.replace('"', '""') + '"' if any(mark in text for mark in '",\r\n') else text

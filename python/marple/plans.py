@@ -10,7 +10,9 @@ FIELDS = (
 
 @dataclass(frozen=True)
 class Groupby:
-    """A groupby in a plan. kind: `linear` or `other`; depth: how many packets back its fold looks; keys, args, states: how many."""
+    """A groupby in a plan. kind: `linear` or `other`; depth: how many packets back its fold looks; keys, args, states:
+    how many.
+    """
 
     name: str
     kind: str
@@ -22,7 +24,9 @@ class Groupby:
 
 @dataclass(frozen=True)
 class Plan:
-    """The stages of a query. stages: the operations of each; bound: the most steps of a packet; text: as it was written."""
+    """The stages of a query. stages: the operations of each; bound: the most steps of a packet; text: as it was
+    written.
+    """
 
     stages: tuple[int, ...]
     groupbys: tuple[Groupby, ...]
@@ -48,8 +52,8 @@ def read_plan(text: str) -> Plan:
 class Group:
     """A groupby in the text of a plan.
 
-    keys: the names of its keys, each with the field that it is, or None where it is computed; states: the names of the state
-    variables, each with its start; body: the tokens of the fold's body.
+    keys: the names of its keys, each with the field that it is, or None where it is computed; states: the names of the
+    state variables, each with its start; body: the tokens of the fold's body.
     """
 
     name: str
@@ -94,8 +98,8 @@ class Unread(ValueError):
 
 
 def only_adds(body: tuple[str, ...]) -> bool:
-    """Whether each assignment of the body adds to its own variable, or takes away from it, what packets alone give, and no
-    condition reads a variable: the additive folds of docs/LANGUAGE.md.
+    """Whether each assignment of the body adds to its own variable, or takes away from it, what packets alone give, and
+    no condition reads a variable: the additive folds of docs/LANGUAGE.md.
     """
     walk = _Body(body)
     adds = walk.statements()
@@ -124,8 +128,8 @@ class _Body:
             raise Unread(" ".join(self.tokens))
 
     def statements(self, free: bool = True) -> bool:
-        """Whether the statements up to a closing brace, or to the end, only add; `free` where no condition around them reads a
-        state variable.
+        """Whether the statements up to a closing brace, or to the end, only add; `free` where no condition around them
+        reads a state variable.
         """
         adds = True
         while not self.at_end() and self.tokens[self.at] != "}":

@@ -11,12 +11,12 @@ from pathlib import Path
 from marple.faults import ProgramMissing, refusal_of
 
 CHECKOUT = Path(__file__).resolve().parents[2]
-SOURCES = (".rt", ".antt")
+SOURCES = ("src", "specs", "proofs")
 
 
 def find_program(program: str | os.PathLike | None = None) -> str:
-    """The path of the program: the one named here or by the environment's MARPLE, whatever it is; else a proved one, that of
-    the checkout that this package stands in, or an installed one on PATH.
+    """The path of the program: the one named here or by the environment's MARPLE, whatever it is; else a proved one,
+    that of the checkout that this package stands in, or an installed one on PATH.
 
     Raises ProgramMissing where there is none.
     """
@@ -39,21 +39,35 @@ def find_program(program: str | os.PathLike | None = None) -> str:
 
 
 def is_current(built: Path) -> bool:
-    """Whether the checkout has this program, and no source is newer."""
+    """Whether the checkout has this program, and it is no older than what it is made from: crates.txt, and the sources
+    of the crates that it stands on.
+    """
     try:
         made = built.stat().st_mtime_ns
+        crates = _crates_below("marple", (CHECKOUT / "crates.txt").read_text())
     except OSError:
         return False
-    if not os.access(built, os.X_OK) or not (CHECKOUT / "crates.txt").is_file():
-        return False
-    if (CHECKOUT / "crates.txt").stat().st_mtime_ns > made:
-        return False
-    for folder, folders, files in os.walk(CHECKOUT / "crates"):
-        folders[:] = [name for name in folders if name != "out"]
-        for name in files:
-            if name.endswith(SOURCES) and os.stat(os.path.join(folder, name)).st_mtime_ns > made:
-                return False
-    return True
+    places = [CHECKOUT / "crates.txt"]
+    for name in crates:
+        for part in SOURCES:
+            folder = CHECKOUT / "crates" / name / part
+            places += [folder, *folder.rglob("*")] if folder.is_dir() else []
+    return os.access(built, os.X_OK) and all(place.stat().st_mtime_ns <= made for place in places)
+
+
+def _crates_below(name: str, listed: str) -> set[str]:
+    """The crate and all that it stands on, by the lines `name: name ..` of crates.txt."""
+    uses = {}
+    for line in listed.splitlines():
+        crate, _, others = line.partition("#")[0].partition(":")
+        uses[crate.strip()] = others.split()
+    below, waiting = set(), [name]
+    while waiting:
+        one = waiting.pop()
+        if one in uses and one not in below:
+            below.add(one)
+            waiting += uses[one]
+    return below
 
 
 def installed_program() -> str | None:
@@ -73,10 +87,13 @@ class Called:
 
 
 def call(words: Sequence[str], *, program: str | os.PathLike | None, query: bytes = b"") -> Called:
-    """Calls the program with these words. Raises the exception of its status; `query` is the text that a fault points into."""
+    """Calls the program with these words. Raises the exception of its status; `query` is the text that a fault points
+    into.
+    """
     with tempfile.TemporaryFile() as complaint:
+        command = [find_program(program), *words]
         done = subprocess.run(
-            [find_program(program), *words], stdin=subprocess.DEVNULL, stdout=subprocess.PIPE, stderr=complaint, check=False
+            command, stdin=subprocess.DEVNULL, stdout=subprocess.PIPE, stderr=complaint, check=False
         )
         complaint.seek(0)
         text = complaint.read().decode(errors="replace")

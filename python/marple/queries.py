@@ -68,7 +68,7 @@ class Items:
             if name not in wanted:
                 wanted.add(name)
                 reached += tables[name].inputs if tables[name].final else ()
-        return tuple(item for item in self.items if item.name in wanted and item.operator != "print" and item.name in tables)
+        return tuple(item for item in tables.values() if item.name in wanted)
 
     def keys_of(self, name: str) -> tuple[str, ...]:
         """The names of the keys of a table."""
@@ -76,8 +76,8 @@ class Items:
         return item.keys if item.operator == "groupby" else self.keys_of(item.inputs[0])
 
     def printing(self, names: list[str]) -> bytes:
-        """The query without its finals, that prints these groupbys; no longer than it is. The prints stand where the last of its
-        finals and prints does, since all groupbys that these are made from come earlier.
+        """The query without its finals, that prints these groupbys; no longer than it is. The prints stand where the
+        last of its finals and prints does, since all groupbys that these are made from come earlier.
         """
         text, at, prints = b"", 0, b"".join(b"print %s;" % name.encode() for name in names)
         left_out = [item for item in self.items if item.final or item.operator == "print"]

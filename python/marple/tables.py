@@ -33,10 +33,10 @@ class TableFault(ValueError):
 class Table:
     """A printed table.
 
-    name; kind: `linear` or `other`, the class of the groupby's fold, `bounds` or `final`; depth: of the fold, None for a final;
-    epochs: over all keys, None for a final; keys: the names of the key columns, None for a final whose query isn't known;
-    columns: the names of all columns; rows: a tuple of int for each row, as long as `columns`. In the column `mark` stands a
-    `Mark`, and in the column `epoch` 0 where the table has `*`.
+    name; kind: `linear` or `other`, the class of the groupby's fold, `bounds` or `final`; depth: of the fold, None for
+    a final; epochs: over all keys, None for a final; keys: the names of the key columns, None for a final whose query
+    isn't known; columns: the names of all columns; rows: a tuple of int for each row, as long as `columns`. In the
+    column `mark` stands a `Mark`, and in the column `epoch` 0 where the table has `*`.
     """
 
     name: str

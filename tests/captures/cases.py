@@ -55,6 +55,14 @@ def other_protocols() -> Case:
     return world.case("other-protocols", messages=[world.counts(), "25 packets without IPv4 were passed over"])
 
 
+def no_link() -> Case:
+    """A tunnel's device, whose packets have no link header: tshark has to say what they are."""
+    world, _ = busy(16, 60)
+    for frame in world.before + world.after:
+        frame.data, frame.length = frame.data[14:], frame.length - 14
+    return world.case("no-link", messages=[world.counts()], checked=False, dissected=True, link=101)
+
+
 def fragments() -> Case:
     """Datagrams in three fragments beside TCP."""
     world = World(5)
@@ -89,7 +97,8 @@ def alike(world: World) -> str:
     count = 0
     for place, row in enumerate(world.rows):
         same = [other for other in world.rows if other is not row and other.packet == row.packet]
-        count += row.left is not None and any(other.came < row.left and (other.left is None or other.left > row.left) for other in same)
+        if row.left is not None:
+            count += any(other.came < row.left and (other.left is None or other.left > row.left) for other in same)
     return f"{count} packets were told from others alike by the time in the queue"
 
 
@@ -158,7 +167,8 @@ def bulk(name: str, seed: int, sent: int, **how) -> tuple[World, Case]:
     time = START
     for number in range(60):
         time += int(world.random.expovariate(1 / (sent * 2.6e6)))
-        rows = world.send(time, world.next_packet("10.0.1.1", sent * 1448 - (700 if number % 7 == 3 else 0)), piece=1448, join=join_runs)
+        packet = world.next_packet("10.0.1.1", sent * 1448 - (700 if number % 7 == 3 else 0))
+        rows = world.send(time, packet, piece=1448, join=join_runs)
         together = join_runs([(row.left, row.packet) for row in rows if row.left is not None])
         for row in rows:
             ends = [at for at, part in together if part.sequence <= row.packet.sequence < part.sequence + part.payload]
@@ -170,8 +180,8 @@ def both_ends() -> Case:
     """Offload at both ends: nowhere are the packets as they were on the link."""
     world, case = bulk("both-ends", 11, 10)
     joins = [frame for frame in case.after if frame.length > 1514]
-    before = [row for row in world.rows]
-    return replace(case, messages=[world.counts(), joined("before", 60, len(before)), joined("after", len(joins), pieces_of(joins))])
+    cut = [joined("before", 60, len(world.rows)), joined("after", len(joins), pieces_of(joins))]
+    return replace(case, messages=[world.counts(), *cut])
 
 
 def pieces_of(frames: list[Frame]) -> int:
@@ -235,6 +245,6 @@ def late_before() -> Case:
 
 def trace_cases() -> Iterator[Case]:
     """Cases that have a trace without an option."""
-    for make in (ordinary, one_sided, tagged, other_protocols, fragments, twice, wrapped, nothing_left, offload, datagrams,
-                 both_ends, joined_after, late_after, early_end, late_before):  # fmt: skip
+    for make in (ordinary, one_sided, tagged, other_protocols, no_link, fragments, twice, wrapped, nothing_left, offload,
+                 datagrams, both_ends, joined_after, late_after, early_end, late_before):
         yield make()

@@ -75,7 +75,8 @@ def parsed(number: int, time: int, data: bytes) -> Seen:
         if protocol == 6:
             sequence = struct.unpack_from(">I", data, header + 4)[0]
             rest = (data[header + 12] >> 4) * 4
-    return Seen(number, time, (source, target, *ports, protocol), identification, place & 0x1FFF, sequence, length, length - header - rest)
+    flow = (source, target, *ports, protocol)
+    return Seen(number, time, flow, identification, place & 0x1FFF, sequence, length, length - header - rest)
 
 
 def cut(packets: list[Seen], longest: int, payload: int) -> list[Seen]:
@@ -88,8 +89,9 @@ def cut(packets: list[Seen], longest: int, payload: int) -> list[Seen]:
         header = packet.length - packet.payload
         for number in range((packet.payload + payload - 1) // payload):
             part = min(payload, packet.payload - number * payload)
-            found.append(replace(packet, identification=(packet.identification + number) & 0xFFFF, payload=part, length=header + part,
-                                 sequence=packet.sequence + number * payload if packet.flow[4] == 6 else 0))  # fmt: skip
+            sequence = packet.sequence + number * payload if packet.flow[4] == 6 else 0
+            identification = (packet.identification + number) & 0xFFFF
+            found.append(replace(packet, identification=identification, payload=part, length=header + part, sequence=sequence))
     return found
 
 
@@ -121,8 +123,8 @@ def trace(before: Path, after: Path, senders: str, longest: int, payload: int, o
     for place, packet in enumerate(came):
         inside = sum(1 for other in range(place) if times.get(other, 0) > packet.time)
         out = times[place] - second if place in times else "inf"
-        words = (1, 0, packet.number, *packet.flow, packet.length, packet.payload, packet.sequence, packet.time - second, out, inside)
-        lines.append(",".join(map(str, words)))
+        words = (1, 0, packet.number, *packet.flow, packet.length, packet.payload, packet.sequence)
+        lines.append(",".join(map(str, (*words, packet.time - second, out, inside))))
     return "\n".join(lines) + "\n"
 
 

@@ -105,16 +105,24 @@ def check_messages(tally, room: Path) -> None:
     """What is said of words, files and tools that aren't right, and where a script stands."""
     for name, words in (("trace-from-captures", ["before.pcap", "after.pcap"]), ("trace-from-capture", ["before.pcap"])):
         done = example(name, ["--origin", "1795789730", *words])
-        tally.same((done.returncode, done.stderr.splitlines()[-1]), (1, f"{name}: packet 1 came before the origin"), "an origin too late")
+        said = (done.returncode, done.stderr.splitlines()[-1])
+        tally.same(said, (1, f"{name}: packet 1 came before the origin"), "an origin too late")
         done = example(name, ["nowhere.pcap", *words[1:]])
-        tally.same((done.returncode, done.stderr), (1, f"{name}: cannot read nowhere.pcap: No such file or directory\n"), "a missing capture")
+        wanted = f"{name}: cannot read nowhere.pcap: No such file or directory\n"
+        tally.same((done.returncode, done.stderr), (1, wanted), "a missing capture")
         (room / "text").write_text("no capture\n")
         done = example(name, [str(room / "text"), *words[1:]])
-        tally.check(done.returncode == 1 and done.stderr.startswith(f"{name}: tshark cannot read {room}/text: "), name, "a file that is no capture")
+        wanted = f"{name}: tshark cannot read {room}/text: "
+        tally.check(done.returncode == 1 and done.stderr.startswith(wanted), name, "a file that is no capture")
         done = example(name, [])
         tally.check(done.returncode == 2 and done.stderr.startswith(f"usage: {name} "), name, "without words")
+        for number in ("-1", "x", "1.5"):
+            done = example(name, ["--switch", number, *words])
+            tally.check(done.returncode == 2 and not done.stdout, name, "with the switch", number)
         check_without_tshark(tally, room, name, words)
         check_elsewhere(tally, room, name, words)
+    done = example("trace-from-captures", ["--split", "120", "before.pcap", "after.pcap"])
+    tally.check(done.returncode == 2 and "--split" in done.stderr, "pieces that are too short")
     check_progress(tally)
 
 
@@ -124,7 +132,8 @@ def check_without_tshark(tally, room: Path, name: str, words: list[str]) -> None
     tools.mkdir(exist_ok=True)
     (tools / "python3").unlink(missing_ok=True)
     (tools / "python3").symlink_to(sys.executable)
-    done = subprocess.run([sys.executable, str(SCRIPTS / name), *words], cwd=SCRIPTS, env={"PATH": str(tools)}, text=True, capture_output=True)
+    words = [sys.executable, str(SCRIPTS / name), *words]
+    done = subprocess.run(words, cwd=SCRIPTS, env={"PATH": str(tools)}, text=True, capture_output=True)
     wanted = f"{name}: needs tshark (on Debian and Ubuntu: apt-get install tshark)\n"
     tally.same((done.returncode, done.stderr), (1, wanted), "without tshark")
 
@@ -152,16 +161,17 @@ def check_progress(tally) -> None:
     os.close(terminal)
     shown = os.read(reader, 65536).decode()
     os.close(reader)
-    tally.check(re.search(r"\rtrace-from-captures: [\d,]+ and [\d,]+ packets were read\r", shown) is not None, "progress on a terminal")
+    line = re.search(r"\rtrace-from-captures: [\d,]+ and [\d,]+ packets were read\r", shown)
+    tally.check(line is not None, "progress on a terminal")
 
 
 def peak(room: Path, waiting: int) -> int:
     """The most memory in bytes that the script needs while `waiting` packets wait for their match."""
     folder = room / f"waiting-{waiting}"
     folder.mkdir()
-    line = "{}\t18000000{:02}.{:09}\t10.0.1.1\t10.0.2.2\t6\t20\t1500\t0x{:04x}\t0\t9c411389{:08x}000000018010\n"
+    line = "0x0800\t18000000{:02}.{:09}\t450005dc{:04x}0000400600000a0001010a0002029c411389{:08x}000000018010\n"
     with gzip.open(folder / "before.gz", "wt", compresslevel=1) as file:
-        file.writelines(line.format(n + 1, n // 10**6, n % 10**6 * 1000, n % 65536, n * 1448) for n in range(waiting))
+        file.writelines(line.format(n // 10**6, n % 10**6 * 1000, n % 65536, n * 1448) for n in range(waiting))
     gzip.open(folder / "after.gz", "wt").close()
     (folder / "before.pcap").touch()
     (folder / "after.pcap").touch()

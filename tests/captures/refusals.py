@@ -7,18 +7,25 @@ from cases import MSECS, busy, left_out, offload, ordinary
 from synthesize import START, Case, Packet, Row, World
 
 SWAPPED = "the files are swapped, give before.pcap.gz first"
+CONSTANT = "all flows by one constant: the captures have two clocks, give --shift"
+
+
+def both_leave(shift: int) -> str:
+    """What is said where both directions leave after they come."""
+    return (f"packets of both directions leave after they come, by {-shift / 1e9:.6f} s and more: the captures have "
+            f"two clocks, give --shift {shift}; or --both-directions if both pass the queue")
 
 
 def refused(case: Case, name: str, reason: str, options: tuple[str, ...] = ()) -> Case:
     """The same captures with what the script says last of them."""
     return replace(case, name=name, status=1, messages=[f"no trace: {reason} (--force makes one all the same)"],
-                   captures=case.name if options else "", options=list(options))  # fmt: skip
+                   captures=case.name if options else "", options=list(options))
 
 
-def told(case: Case, name: str, options: tuple[str, ...], messages: list[str] | None = None, rows: list[Row] | None = None) -> Case:
-    """The same captures with options by which they have a trace."""
-    return replace(case, name=name, status=0, options=list(options), messages=case.messages if messages is None else messages,
-                   captures=case.name, checked=case.checked and not options[0] == "--shift", rows=case.rows if rows is None else rows)  # fmt: skip
+def told(case: Case, name: str, options: tuple[str, ...], **changes) -> Case:
+    """The same captures with options by which they have a trace, of which the checker isn't told the clocks."""
+    checked = case.checked and options[0] != "--shift"
+    return replace(case, name=name, status=0, options=list(options), captures=case.name, checked=checked, **changes)
 
 
 def clock(case: Case, name: str, by: int) -> Case:
@@ -49,8 +56,8 @@ def swapped_files() -> Iterator[Case]:
     world, answers = busy(23, answers=True)
     case = replace(world.case("swapped-with-answers"), swapped=True)
     size = sum(row.packet.length for row in case.rows if row.left is not None)
-    yield refused(case, case.name, f"most bytes are of packets that left before they came ({size} of {size + 52 * answers}): {SWAPPED}; "
-                  "or name the senders of the lesser direction by --direction")  # fmt: skip
+    reason = f"most bytes are of packets that left before they came ({size} of {size + 52 * answers}): {SWAPPED}"
+    yield refused(case, case.name, f"{reason}; or name the senders of the lesser direction by --direction")
 
 
 def two_clocks() -> Iterator[Case]:
@@ -61,8 +68,7 @@ def two_clocks() -> Iterator[Case]:
     for name, by in (("clock-slow", -1500 * MSECS), ("clock-a-little-slow", -least - 3 * MSECS)):
         case = clock(right, name, by)
         early = sum(1 for latency in latencies(right) if latency + by < 0)
-        reason = f"{early} of {left} packets left before they came, all flows by one constant: the captures have two clocks, give --shift"
-        yield refused(case, name, f"{reason} {-least - by}")
+        yield refused(case, name, f"{early} of {left} packets left before they came, {CONSTANT} {-least - by}")
         yield told(case, f"{name}-shifted", ("--shift", str(-least - by)), rows=moved(right, -least))
 
 
@@ -75,10 +81,9 @@ def two_clocks_with_answers() -> Iterator[Case]:
         case = clock(right, name, by)
         shift = -(least + by + by - 50_000) // 2
         if by < 0:
-            reason = f"{left} of {left} packets left before they came, all flows by one constant: the captures have two clocks, give --shift {shift}"
+            reason = f"{left} of {left} packets left before they came, {CONSTANT} {shift}"
         else:
-            reason = (f"packets of both directions leave after they come, by {-shift / 1e9:.6f} s and more: the captures have two clocks, "
-                      f"give --shift {shift}; or --both-directions if both pass the queue")  # fmt: skip
+            reason = both_leave(shift)
         yield refused(case, name, reason)
         yield told(case, f"{name}-shifted", ("--shift", str(shift)), rows=moved(right, by + shift))
 
@@ -87,10 +92,11 @@ def many_clocks() -> Case:
     """A flow that is off by more than the others: no constant mends it."""
     world, _ = busy(26)
     odd = bytes((10, 0, 1, 3))
-    world.after = [replace(frame, time=frame.time - (3000 if frame.data[26:30] == odd else 1500) * MSECS) for frame in world.after]
+    for frame in world.after:
+        frame.time -= (3000 if frame.data[26:30] == odd else 1500) * MSECS
     left = sum(1 for row in world.rows if row.left is not None)
     return refused(world.case("many-clocks"), "many-clocks", f"{left} of {left} packets left before they came, by no constant: "
-                   "the captures have clocks that go apart, so take both on one machine")  # fmt: skip
+                   "the captures have clocks that go apart, so take both on one machine")
 
 
 def both_directions() -> Iterator[Case]:
@@ -105,15 +111,15 @@ def both_directions() -> Iterator[Case]:
         world.send(time, packet)
     case = world.case("both-directions", messages=[world.counts()])
     shift = -(2 * min(latencies(case))) // 2
-    yield refused(case, case.name, f"packets of both directions leave after they come, by {-shift / 1e9:.6f} s and more: the captures "
-                  f"have two clocks, give --shift {shift}; or --both-directions if both pass the queue")  # fmt: skip
-    yield replace(told(case, "both-directions-told", ("--both-directions",)), senders="0.0.0.0/0")
+    yield refused(case, case.name, both_leave(shift))
+    yield told(case, "both-directions-told", ("--both-directions",), senders="0.0.0.0/0")
     rows = [row for row in case.rows if row.packet.source == "10.0.2.2"]
     left = sum(1 for row in rows if row.left is not None)
     seen = sum(1 for row in case.rows if row.left is not None) - left
     messages = [f"{len(rows)} packets came, {left} left, {len(rows) - left} never did",
-                left_out(len(case.rows) - len(rows), seen, "10.0.1.1 to 10.0.2.2")]  # fmt: skip
-    yield replace(told(case, "one-direction-told", ("--direction", "10.0.2.0/24"), messages, rows), senders="10.0.2.0/24")
+                left_out(len(case.rows) - len(rows), seen, "10.0.1.1 to 10.0.2.2")]
+    options = ("--direction", "10.0.2.0/24")
+    yield told(case, "one-direction-told", options, messages=messages, rows=rows, senders="10.0.2.0/24")
 
 
 def strangers() -> Case:
@@ -123,7 +129,18 @@ def strangers() -> Case:
     world.after = other.after
     count = sum(1 for row in other.rows if row.left is not None)
     return refused(world.case("strangers"), "strangers", f"{count} of {count} packets after the queue match none before it: "
-                   "take both captures at one queue, at the same time")  # fmt: skip
+                   "take both captures at one queue, at the same time")
+
+
+def few_in_common() -> Case:
+    """A second capture of another queue that has a few of the packets too, at its end."""
+    world, _ = busy(30)
+    other, _ = busy(31, 80)
+    common = sorted(world.after, key=lambda frame: frame.time)[-5:]
+    others = [replace(frame, time=frame.time + 60 * MSECS) for frame in other.after]
+    world.after = others + common
+    return refused(world.case("few-in-common"), "few-in-common", f"{len(others)} of {len(others) + 5} packets after the "
+                   "queue match none before it: take both captures at one queue, at the same time")
 
 
 def splits() -> Iterator[Case]:
@@ -132,7 +149,7 @@ def splits() -> Iterator[Case]:
     strange = sum(1 for row in case.rows if row.left is not None and is_piece(case, row))
     expected = sum(1 for row in case.rows if row.left is not None)
     yield refused(case, "no-split", f"{strange} of {expected} packets after the queue match none before it: "
-                  "take both captures at one queue, at the same time", ("--no-split",))  # fmt: skip
+                  "take both captures at one queue, at the same time", ("--no-split",))
     yield told(case, "split", ("--split", "1500"))
 
 
@@ -149,4 +166,5 @@ def refusal_cases() -> Iterator[Case]:
     yield many_clocks()
     yield from both_directions()
     yield strangers()
+    yield few_in_common()
     yield from splits()

@@ -15,6 +15,7 @@ from pathlib import Path
 START = 1_800_000_000 * 10**9 + 250_000_000  # nanoseconds since 1970 at which cases begin
 SNAPSHOT = 96
 TCP, UDP = 6, 17
+Tags = tuple[int | None, int | None]  # the VLANs before and after the queue
 RECEIVER = "10.0.2.2"
 
 
@@ -47,7 +48,7 @@ class Packet:
         tag = struct.pack(">HH", 0x8100, vlan) if vlan is not None else b""
         place = (0x2000 if self.more else 0) | self.offset // 8
         ip = struct.pack(">BBHHHBBH4s4s", 0x45, 0, self.length, self.identification, place, 64, self.protocol, 0,
-                         IPv4Address(self.source).packed, IPv4Address(self.target).packed)  # fmt: skip
+                         IPv4Address(self.source).packed, IPv4Address(self.target).packed)
         transport = b""
         if not self.offset and self.protocol == TCP:
             transport = struct.pack(">HHIIBBHHH", *self.ports, self.sequence, 1, 0x80, 0x10, 1000, 0, 0) + bytes(12)
@@ -59,7 +60,10 @@ class Packet:
         """The packet as segmentation cuts it."""
         return [replace(self, identification=(self.identification + number) % 65536, payload=min(size, self.payload - at),
                         sequence=self.sequence + at if self.protocol == TCP else 0)
-                for number, at in enumerate(range(0, self.payload, size))] or [self]  # fmt: skip
+                for number, at in enumerate(range(0, self.payload, size))] or [self]
+
+
+Leaving = list[tuple[int, Packet]]  # packets with their departures
 
 
 @dataclass
@@ -98,11 +102,13 @@ class Case:
     longest: int = 1500
     payload: int = 1448
     checked: bool = True  # whether the checker knows enough
+    dissected: bool = False  # whether tshark has to dissect IP
+    link: int = 1  # the kind of the link: Ethernet
 
     def write(self, folder: Path) -> None:
         """Writes both captures."""
         for name, frames in (("before", self.before), ("after", self.after)):
-            write_capture(folder / f"{name}.pcap.gz", frames)
+            write_capture(folder / f"{name}.pcap.gz", frames, self.link)
 
     def trace(self) -> str:
         """The trace that is right for these captures."""
@@ -115,7 +121,7 @@ class Case:
             ports = (0, 0) if packet.offset else packet.ports
             left = "inf" if row.left is None else row.left - second
             lines.append(f"1,0,{numbers[id(row.frame)]},{packet.source},{packet.target},{ports[0]},{ports[1]},{packet.protocol},"
-                         f"{packet.length},{packet.payload},{packet.sequence},{row.came - second},{left},{depth}")  # fmt: skip
+                         f"{packet.length},{packet.payload},{packet.sequence},{row.came - second},{left},{depth}")
         return "".join(line + "\n" for line in lines)
 
 
@@ -124,10 +130,10 @@ def by_time(frames: list[Frame]) -> list[Frame]:
     return sorted(frames, key=lambda frame: frame.time)
 
 
-def write_capture(path: Path, frames: list[Frame]) -> None:
+def write_capture(path: Path, frames: list[Frame], link: int) -> None:
     """Writes a compressed capture with times in nanoseconds."""
     with gzip.GzipFile(path, "wb", mtime=0) as file:
-        file.write(struct.pack("<IHHiIII", 0xA1B23C4D, 2, 4, 0, 0, SNAPSHOT, 1))
+        file.write(struct.pack("<IHHiIII", 0xA1B23C4D, 2, 4, 0, 0, SNAPSHOT, link))
         for frame in by_time(frames):
             seconds, part = divmod(frame.time, 10**9)
             file.write(struct.pack("<IIII", seconds, part, len(frame.data), frame.length) + frame.data)
@@ -162,8 +168,8 @@ class World:
         tap.append(frame)
         return frame
 
-    def send(self, time: int, packet: Packet, piece: int = 0, seen: bool = True, vlans: tuple[int | None, int | None] = (None, None),
-             join: Callable[[list[tuple[int, Packet]]], list[tuple[int, Packet]]] = lambda left: left) -> list[Row]:  # fmt: skip
+    def send(self, time: int, packet: Packet, piece: int = 0, seen: bool = True, vlans: Tags = (None, None),
+             join: Callable[[Leaving], Leaving] = lambda left: left) -> list[Row]:
         """Sends a packet through the queue, which cuts it into pieces; a receiver may join those that left."""
         frame = self.see(self.before, time, packet, vlans[0])
         rows = []
@@ -195,7 +201,8 @@ class World:
         time, count = START, 0
         for _ in range(packets):
             time += int(self.random.expovariate(1 / mean))
-            rows = self.send(time, self.next_packet(f"10.0.1.{self.random.randint(1, 3)}", self.random.choice((100, 700, 1448))), **how)
+            packet = self.next_packet(f"10.0.1.{self.random.randint(1, 3)}", self.random.choice((100, 700, 1448)))
+            rows = self.send(time, packet, **how)
             count += self.answer(rows) if answers else 0
         return count
 

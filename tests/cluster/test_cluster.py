@@ -104,8 +104,8 @@ class LargeTraces(OnACluster):
         with open(self.folder.path("expected"), "wb") as file:
             subprocess.run([plain, "count", *traces], stdout=file, check=True)
         joined, choice, _ = parts.tables_file(
-            (BENCH / "keys.query").read_bytes(), traces, by=None, parts=4, client=self.client, work=self.folder.path("work"),
-            given={}, program=None, piece=parts.PIECE, report=lambda line: None,
+            (BENCH / "keys.query").read_bytes(), traces, by=None, parts=4, client=self.client,
+            work=self.folder.path("work"), given={}, program=None, piece=parts.PIECE, report=lambda line: None,
         )  # fmt: skip
         self.assertEqual(choice.by, ("srcip",))
         with open(joined, "rb") as own, open(self.folder.path("expected"), "rb") as expected:

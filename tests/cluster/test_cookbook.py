@@ -33,14 +33,16 @@ class SeveralCaptures(unittest.TestCase):
         environment = os.environ | {"PATH": path, "MPLBACKEND": "agg"}
         ran, compared, done = 0, 0, None
         for before, block in blocks():
-            if before == "prints":
+            if before == "gives the tables":
                 self.assertEqual(done.stdout, block)
                 compared += 1
             elif before.endswith("says on standard error"):
                 self.assertEqual(done.stderr, block)
                 compared += 1
             elif "PYTHONPATH=python " in block or block.startswith("examples/captures/"):
-                done = subprocess.run(block, shell=True, cwd=folder.place.name, env=environment, capture_output=True, text=True, check=False)
+                done = subprocess.run(
+                    block, shell=True, cwd=folder.place.name, env=environment, capture_output=True, text=True, check=False
+                )
                 self.assertEqual(done.returncode, 0, done.stderr)
                 ran += 1
         self.assertEqual((ran, compared), (3, 2))

@@ -37,7 +37,8 @@ class EveryTable(unittest.TestCase):
 
 class AFrame(unittest.TestCase):
     def test_has_words_keys_and_marks(self):
-        frame = marple.run(CASES / "run-greatest-word" / "query", CASES / "run-greatest-word" / "trace")["r"].frame()
+        folder = CASES / "run" / "greatest-word"
+        frame = marple.run(folder / "query", folder / "trace")["r"].frame()
         self.assertEqual({str(frame[name].dtype) for name in frame.columns if name != "mark"}, {"uint64"})
         self.assertEqual(str(frame["mark"].dtype), "category")
         self.assertEqual(list(frame["mark"].cat.categories), ["exact", "valid", "invalid", "within"])
@@ -51,7 +52,8 @@ class AFrame(unittest.TestCase):
         self.assertEqual(str(frame["c"].dtype), "uint64")
 
     def test_of_several_keys(self):
-        frame = marple.run(TOP / "examples" / "cookbook" / "loss.query", TOP / "examples" / "captures" / "queue.csv")["loss"].frame()
+        trace = TOP / "examples" / "captures" / "queue.csv"
+        frame = marple.run(TOP / "examples" / "cookbook" / "loss.query", trace)["loss"].frame()
         self.assertEqual(list(frame.index.names), ["srcip", "dstip", "srcport", "dstport", "proto"])
         self.assertEqual(int(frame.loc[(167772418, 167772674, 40002, 5002, 6), "lost"]), 80)
 
@@ -71,7 +73,7 @@ class ATrace(unittest.TestCase):
         self.assertEqual(marple.run(query, frame)["r"].frame()["d"].to_dict(), {7: 0, 167772161: 1})
 
     def test_of_no_numbers_is_refused(self):
-        for value in (1.5, -1, numpy.nan, "x"):
+        for value in (1.5, -1, numpy.nan, None, "", "x"):
             with self.subTest(value), self.assertRaises(marple.TraceRefused) as refused:
                 marple.run(TOP / "examples" / "count.query", pandas.DataFrame({"srcip": [1, value]}))
             self.assertEqual(refused.exception.shown, "BadNumber(2,srcip)")
@@ -91,7 +93,8 @@ class SplitByColumns(unittest.TestCase):
         for module in (numpy, None):
             self.addCleanup(setattr, splitting, "numpy", splitting.numpy)
             splitting.numpy = module
-            piece = splitting.write_piece(Splitting(names, columns, 7, 1), [Span(path, read.end, read.size, False)], folder.path("piece"))
+            spans = [Span(path, read.end, read.size, False)]
+            piece = splitting.write_piece(Splitting(names, columns, 7, 1), spans, folder.path("piece"))
             with open(piece.path, "rb") as file:
                 found.append((file.read(), piece.rounds))
         self.assertEqual(found[0], found[1])

@@ -11,8 +11,8 @@ CASES = TOP / "tests" / "cases"
 
 
 def cases() -> list[Path]:
-    """The folders of the end-to-end cases."""
-    return sorted(folder for folder in CASES.iterdir() if (folder / "args").is_file())
+    """The folders of the end-to-end cases, each below that of its command."""
+    return sorted(file.parent for file in CASES.glob("*/*/args"))
 
 
 def content(folder: Path, name: str) -> bytes:

@@ -14,6 +14,7 @@ from marple import program
 
 COUNT = "def count([c],[]) { c = c + 1; }\nr = groupby(pktstream, [srcip], count);\nprint r;\n"
 CALLS = {"run": marple.run, "net": marple.net, "enclose": marple.enclose, "run-plan": marple.run_plan}
+CRATES = {"base": "proofs", "laws": "src", "reader": "specs", "marple": "src"}  # each with a folder of sources
 KNOWN = ("--buckets", "--ways", "--pipe", "--lag", "--refresh", "--every")
 
 
@@ -94,7 +95,8 @@ class Statuses(unittest.TestCase):
         self.assertEqual((fault.fault, fault.record, fault.field, fault.path), ("BadNumber", 2, "srcip", None))
         with self.assertRaises(marple.TraceRefused) as refused:
             marple.run(COUNT, b"")
-        self.assertEqual((refused.exception.fault, refused.exception.record, refused.exception.field), ("NoHeader", None, None))
+        fault = refused.exception
+        self.assertEqual((fault.fault, fault.record, fault.field), ("NoHeader", None, None))
 
     def test_of_words(self):
         with self.assertRaises(marple.UsageError):
@@ -135,7 +137,7 @@ class Statuses(unittest.TestCase):
 
 class OtherCommands(unittest.TestCase):
     def test_plan(self):
-        folder = CASES / "plan-history-and-final"
+        folder = CASES / "plan" / "history-and-final"
         plan = marple.plan(folder / "query")
         self.assertEqual(plan.text.encode(), content(folder, "stdout"))
         lines = plan.text.splitlines()
@@ -149,20 +151,20 @@ class OtherCommands(unittest.TestCase):
         self.assertEqual(shown, [line for line in lines if line.startswith("groupby ")])
 
     def test_plan_takes_ways(self):
-        query = (CASES / "plan-count-one-way" / "query").read_bytes()
-        self.assertEqual(marple.plan(query, ways=1).text.encode(), content(CASES / "plan-count-one-way", "stdout"))
+        folder = CASES / "plan" / "count-one-way"
+        self.assertEqual(marple.plan(content(folder, "query"), ways=1).text.encode(), content(folder, "stdout"))
 
     def test_compile_then_run(self):
         query = TOP / "examples" / "cookbook" / "depth.query"
         trace = TOP / "examples" / "captures" / "queue.csv"
         plan = marple.compile(query)
         self.assertEqual(plan, (TOP / "examples" / "cookbook" / "depth.plan").read_text())
-        expected = content(CASES / "cookbook-depth", "stdout").decode()
+        expected = content(CASES / "run" / "cookbook-depth", "stdout").decode()
         self.assertEqual(marple.run_plan(plan, trace).text, expected)
         self.assertEqual(marple.run_plan(query.with_suffix(".plan"), trace).text, expected)
 
     def test_gen(self):
-        self.assertEqual(marple.gen(2, 1), content(CASES / "gen-two-packets", "stdout"))
+        self.assertEqual(marple.gen(2, 1), content(CASES / "gen" / "two-packets", "stdout"))
 
 
 class TheProgram(unittest.TestCase):
@@ -171,43 +173,50 @@ class TheProgram(unittest.TestCase):
     def setUp(self):
         self.folder = Folder(self)
         top = Path(self.folder.path("top"))
-        (top / "crates" / "marple" / "out").mkdir(parents=True)
-        (top / "crates.txt").write_text("marple:\n")
-        self.source = top / "crates" / "marple" / "main.rt"
-        self.source.write_text("")
+        self.sources = {name: top / "crates" / name / part / "lib.rt" for name, part in CRATES.items()}
+        for source in self.sources.values():
+            source.parent.mkdir(parents=True)
+            source.write_text("")
+        self.crates = top / "crates.txt"
+        self.crates.write_text("base: # the lowest\nlaws: base\nreader: base\nmarple: reader\n")
         self.built = top / "crates" / "marple" / "out" / "marple"
-        (top / "bin").mkdir()
         self.installed = top / "bin" / "marple"
-        for name, value in (("MARPLE", ""), ("PATH", str(top / "bin"))):
-            patch = mock.patch.dict(os.environ, {name: value})
+        for program_file in (self.built, self.installed):
+            program_file.parent.mkdir(parents=True)
+        for patch in (
+            mock.patch.dict(os.environ, {"MARPLE": "", "PATH": str(top / "bin")}),
+            mock.patch.object(program, "CHECKOUT", top),
+        ):
             patch.start()
             self.addCleanup(patch.stop)
-        patch = mock.patch.object(program, "CHECKOUT", top)
-        patch.start()
-        self.addCleanup(patch.stop)
-
-    def make(self, path: Path, content: bytes = b"\x7fELF", time: int = 1000) -> None:
-        path.write_bytes(content)
-        path.chmod(path.stat().st_mode | stat.S_IXUSR)
-        os.utime(path, (time, time))
-
-    def age_sources(self) -> None:
-        for path in (self.source, self.source.parents[2] / "crates.txt"):
+        for path in (self.crates, *(place for source in self.sources.values() for place in (source, source.parent))):
             os.utime(path, (500, 500))
 
+    def make(self, path: Path, content: bytes = b"\x7fELF") -> None:
+        path.write_bytes(content)
+        path.chmod(path.stat().st_mode | stat.S_IXUSR)
+        os.utime(path, (1000, 1000))
+
     def test_is_the_checkout_s(self):
-        self.age_sources()
         self.make(self.built)
         self.assertEqual(program.find_program(), str(self.built))
 
-    def test_is_not_older_than_a_source(self):
-        self.age_sources()
+    def test_is_not_older_than_what_it_is_made_from(self):
         self.make(self.built)
-        os.utime(self.source, (2000, 2000))
-        with self.assertRaises(marple.ProgramMissing):
-            program.find_program()
+        base = self.sources["base"]
+        for path in (self.crates, base, base.parent, self.sources["reader"], self.sources["marple"]):
+            os.utime(path, (2000, 2000))
+            with self.subTest(path=path.relative_to(self.crates.parent)), self.assertRaises(marple.ProgramMissing):
+                program.find_program()
+            os.utime(path, (500, 500))
+        os.utime(base, (2000, 2000))
         self.make(self.installed)
         self.assertEqual(program.find_program(), str(self.installed))
+
+    def test_may_be_older_than_crates_that_it_does_not_stand_on(self):
+        self.make(self.built)
+        os.utime(self.sources["laws"], (2000, 2000))
+        self.assertEqual(program.find_program(), str(self.built))
 
     def test_is_no_script_on_path(self):
         self.make(self.installed, b"#!/bin/sh\n")

@@ -22,8 +22,8 @@ def shown(query: bytes) -> str:
 
 
 class EveryQuery(unittest.TestCase):
-    """Each query of the cases and the cookbook that the program accepts. The list `choices` was made by a reader of queries of
-    its own, which knows types and columns.
+    """Each query of the cases and the cookbook that the program accepts. The list `choices` was made by another reader
+    of queries, which knows types and columns.
     """
 
     def test_is_chosen_for(self):
@@ -37,9 +37,12 @@ class Choices(unittest.TestCase):
         self.assertEqual(shown(COUNT + items), expected, items)
 
     def test_are_of_printed_tables_alone(self):
-        self.check(b"r = groupby(pktstream, [srcip, qid], count); s = groupby(pktstream, [dstip, qid], most); print r;", "qid,srcip")
-        self.check(b"r = groupby(pktstream, [srcip], count); s = groupby(pktstream, [dstip], most); print r; print s;", "FieldNeeded")
-        self.check(b"r = groupby(pktstream, [srcip], count); s = groupby(pktstream, [dstip], count); print r; print s;", "sums")
+        two = b"r = groupby(pktstream, [srcip, qid], count); s = groupby(pktstream, [dstip, qid], most);"
+        self.check(two + b"print r;", "qid,srcip")
+        self.check(two + b"print r; print s;", "qid")
+        two = b"r = groupby(pktstream, [srcip], count); s = groupby(pktstream, [dstip], %s); print r; print s;"
+        self.check(two % b"most", "FieldNeeded")
+        self.check(two % b"count", "sums")
 
     def test_follow_finals(self):
         two = b"r = groupby(pktstream, [srcip, qid], most); s = groupby(pktstream, [qid, srcip], count);"
@@ -53,19 +56,23 @@ class Choices(unittest.TestCase):
         self.check(one + b"final t = groupby(r, [m], count); final u = filter(t, c > 1); print u;", "FinalGroupby")
 
     def test_of_sums_print_no_final(self):
-        self.check(b"m = map(pktstream, [all = 0]); r = groupby(m, [all], count); print r;", "sums")
-        self.check(b"m = map(pktstream, [all = 0]); r = groupby(m, [all], count); final t = top(r, c, 1); print t;", "FieldNeeded")
-        self.check(b"m = map(pktstream, [all = 0]); r = groupby(m, [all], most); print r;", "FieldNeeded")
+        one = b"m = map(pktstream, [all = 0]); r = groupby(m, [all], %s);"
+        self.check(one % b"count" + b"print r;", "sums")
+        self.check(one % b"count" + b"final t = top(r, c, 1); print t;", "FieldNeeded")
+        self.check(one % b"most" + b"print r;", "FieldNeeded")
 
     def test_go_by_names_of_fields(self):
         self.check(b"m = map(pktstream, [from = srcip]); r = groupby(m, [from], most); print r;", "FieldNeeded")
-        chain = b"b = groupby(pktstream, [srcip, qid], pass); m = map(b, [dstip = srcip]); r = groupby(m, [dstip, qid], count);"
-        fold = b"def pass([],[]) { emit(); }\n"
-        self.check(fold + chain + b"print r;", "qid")
-        self.check(fold + chain + b"print b;", "qid,srcip")
+        chain = (
+            b"def pass([],[]) { emit(); }\n"
+            b"b = groupby(pktstream, [srcip, qid], pass); m = map(b, [dstip = srcip]); r = groupby(m, [dstip, qid], count);"
+        )
+        self.check(chain + b"print r;", "qid")
+        self.check(chain + b"print b;", "qid,srcip")
 
     def test_pass_over_comments(self):
-        self.check(b"# print s; final t = groupby(\nr = groupby(pktstream, [ #dstip\nsrcip], most);# }\nprint r;# 5tuple", "srcip")
+        items = b"# print s; final t = groupby(\nr = groupby(pktstream, [ #dstip\nsrcip], most);# }\nprint r;# 5tuple"
+        self.check(items, "srcip")
 
     def test_of_the_longest_query(self):
         """The text by which the program is asked for the keys is no longer than the query."""
@@ -102,19 +109,21 @@ class Refusals(unittest.TestCase):
     def test_say_what_would_make_it_possible(self):
         text = self.refused(
             FieldNeeded,
-            b"r = groupby(pktstream, [srcip], most); s = groupby(pktstream, [dstip], most); t = groupby(pktstream, [srcip], count);"
-            b" print r; print s; print t;",
+            b"r = groupby(pktstream, [srcip], most); s = groupby(pktstream, [dstip], most);"
+            b"t = groupby(pktstream, [srcip], count); print r; print s; print t;",
         )
         self.assertIn("group s by srcip too", text)
         self.assertIn("make the fold of r, s additive", text)
-        text = self.refused(FieldNeeded, b"m = map(pktstream, [a = 0]); r = groupby(m, [a], count); final t = top(r, c, 1); print t;")
+        one = b"m = map(pktstream, [a = 0]); r = groupby(m, [a], count);"
+        text = self.refused(FieldNeeded, one + b"final t = top(r, c, 1); print t;")
         self.assertIn("group r by srcip too, or print no final", text)
 
     def test_name_the_final(self):
-        text = self.refused(FinalGroupby, b"r = groupby(pktstream, [srcip], most); final t = groupby(r, [m], count); print t;")
+        one = b"r = groupby(pktstream, [srcip], most);"
+        text = self.refused(FinalGroupby, one + b"final t = groupby(r, [m], count); print t;")
         self.assertTrue(text.startswith("FinalGroupby: t groups rows"), text)
         self.assertIn("print r", text)
-        text = self.refused(FinalOfTop, b"r = groupby(pktstream, [srcip], most); final t = top(r, m, 2); final u = filter(t, m > 1); print u;")
+        text = self.refused(FinalOfTop, one + b"final t = top(r, m, 2); final u = filter(t, m > 1); print u;")
         self.assertTrue(text.startswith("FinalOfTop: u is made from t"), text)
 
 
@@ -142,15 +151,19 @@ class Bodies(unittest.TestCase):
             self.assertIs(only_adds(tuple(body.split())), adds, body)
 
     def test_of_another_form_are_refused(self):
-        for body in ("set", "set s0", "set s0 add s0", "set s0 pow s0 #2", "if gt a0 #2 { }", "set s0 #1 }", "loop", "set s0 b1"):
+        for body in (
+            "set", "set s0", "set s0 add s0", "set s0 pow s0 #2", "if gt a0 #2 { }", "set s0 #1 }", "loop", "set s0 b1",
+        ):  # fmt: skip
             with self.subTest(body), self.assertRaises(Unread):
                 only_adds(tuple(body.split()))
 
 
 class AnotherQuery(unittest.TestCase):
     def test_is_not_read(self):
-        for text in (b"r = sample(pktstream, 3);", b"r = groupby(pktstream, srcip, f);", b"print r;", b"def f([],[]) {", b"$", b"r;",
-                     b"r = groupby(map(pktstream, [a = 1]), [a], f);", b"table r = groupby(pktstream, [a], f);"):  # fmt: skip
+        for text in (
+            b"r = sample(pktstream, 3);", b"r = groupby(pktstream, srcip, f);", b"print r;", b"def f([],[]) {", b"$",
+            b"r;", b"r = groupby(map(pktstream, [a = 1]), [a], f);", b"table r = groupby(pktstream, [a], f);",
+        ):  # fmt: skip
             with self.subTest(text), self.assertRaises(UnreadQuery):
                 read_query(text)
 

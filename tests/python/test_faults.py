@@ -17,7 +17,10 @@ RECORDS = {
     2: (b"1,2\n", b"7,8\r\n", b"10.0.0.1,4\n", b'"3",5\n', b" 9 ,010\n", b"\n", b"12,3\r", b'"1\n2",3\n'),
     3: (b"y,2,1\n", b'"a,b",3,9\n', b'"c""\n",4,3\r\n', b"\r\n", b"z,5,10.1.1.1\r", b',8,"7"\n'),
 }
-FAULTS = {2: (b"1\n", b"1,2,3\n", b"x,2\n", b"1,inf\n", b'"1,2\n', b",\n"), 3: (b"y,2\n", b"y,x,1\n", b"y,2,1.2\n", b"a,b,c,d\n")}
+FAULTS = {
+    2: (b"1\n", b"1,2,3\n", b"x,2\n", b"1,inf\n", b'"1,2\n', b",\n"),
+    3: (b"y,2\n", b"y,x,1\n", b"y,2,1.2\n", b"a,b,c,d\n"),
+}
 
 
 def answer_of(call, *arguments, **options) -> tuple:
@@ -79,7 +82,8 @@ class SeveralFiles(unittest.TestCase):
         records[333] = b"3,x\n"
         with mock.patch.multiple(job, PACKETS=20, ROOM=4, AGAIN=4):
             lines: list[str] = []
-            fault = self.refused([HEADERS[0] + b"".join(records[:200]), HEADERS[0] + b"".join(records[200:])], piece=500, report=lines.append)
+            traces = [HEADERS[0] + b"".join(own) for own in (records[:200], records[200:])]
+            fault = self.refused(traces, piece=500, report=lines.append)
         self.assertTrue(any("splitting it again" in line for line in lines), lines)
         self.check(fault, 1, "BadNumber(134,tin)")
 

@@ -1,7 +1,11 @@
-"""The package installs by pip from the checkout, without a network, and answers as it does there."""
+"""The package installs from the checkout, without a network, and answers as it does there: by pip where there is one, and
+otherwise by its wheel, which is unpacked.
+"""
 
+import importlib.util
 import subprocess
 import sys
+import sysconfig
 import unittest
 import venv
 import zipfile
@@ -14,6 +18,16 @@ import marple
 VERSION = (TOP / "VERSION").read_text().strip()
 
 
+def built_wheel(folder: Folder) -> str:
+    """The path of the wheel that the package's own backend builds."""
+    build = (
+        f"import sys; sys.path.insert(0, {str(TOP / 'python')!r})\n"
+        f"import wheel_backend; print(wheel_backend.build_wheel({folder.place.name!r}))"
+    )
+    done = subprocess.run([sys.executable, "-B", "-c", build], capture_output=True, text=True, check=True)
+    return folder.path(done.stdout.strip())
+
+
 class Installed(unittest.TestCase):
     @classmethod
     def setUpClass(cls):
@@ -21,10 +35,15 @@ class Installed(unittest.TestCase):
         cls.place = Path(cls.folder.path("venv"))
         venv.create(cls.place, with_pip=False)
         cls.python = str(cls.place / "bin" / "python")
-        pip = [sys.executable, "-m", "pip", "--python", cls.python, "install", "--no-index", "--quiet", str(TOP / "python")]
-        done = subprocess.run(pip, capture_output=True, text=True, check=False)
-        cls.text = done.stdout + done.stderr
-        cls.status = done.returncode
+        cls.status, cls.text = 0, ""
+        if importlib.util.find_spec("pip"):
+            pip = [sys.executable, "-m", "pip", "--python", cls.python, "install", "--no-index", "--quiet"]
+            done = subprocess.run([*pip, str(TOP / "python")], capture_output=True, text=True, check=False)
+            cls.status, cls.text = done.returncode, done.stdout + done.stderr
+        else:
+            place = sysconfig.get_path("purelib", "venv", {"base": str(cls.place)})
+            with zipfile.ZipFile(built_wheel(cls.folder)) as wheel:
+                wheel.extractall(place)
 
     @classmethod
     def addCleanup(cls, call):
@@ -49,15 +68,14 @@ class Installed(unittest.TestCase):
 
     def test_leaves_nothing_in_the_checkout(self):
         kept = [path.name for path in (TOP / "python").iterdir()]
-        self.assertEqual(sorted(name for name in kept if name != "__pycache__"), ["marple", "pyproject.toml", "wheel_backend.py"])
+        sources = ["marple", "pyproject.toml", "wheel_backend.py"]
+        self.assertEqual(sorted(name for name in kept if name != "__pycache__"), sources)
 
 
 class TheWheel(unittest.TestCase):
     def test_records_each_file(self):
         folder = Folder(self)
-        build = f"import sys; sys.path.insert(0, {str(TOP / 'python')!r}); import wheel_backend as w; print(w.build_wheel({folder.place.name!r}))"
-        done = subprocess.run([sys.executable, "-B", "-c", build], capture_output=True, text=True, check=True)
-        with zipfile.ZipFile(folder.path(done.stdout.strip())) as wheel:
+        with zipfile.ZipFile(built_wheel(folder)) as wheel:
             names = wheel.namelist()
             record = wheel.read(f"marple-{VERSION}.dist-info/RECORD").decode().splitlines()
         sources = {str(path.relative_to(TOP / "python")) for path in (TOP / "python" / "marple").rglob("*.py")}

@@ -76,7 +76,8 @@ class JoinedTables(unittest.TestCase):
                     self.assertEqual(epochs_of(own).keys(), epochs_of(table).keys())
                     self.assertLessEqual(valid_rows(table).items(), valid_rows(own).items())
                     self.assertLessEqual(valid_rows(own).items(), valid_rows(apart[table.name]).items())
-                    self.assertTrue(all(own_epochs <= epochs_of(table)[key] for key, own_epochs in epochs_of(own).items()))
+                    most = epochs_of(table)
+                    self.assertTrue(all(epochs <= most[key] for key, epochs in epochs_of(own).items()))
         self.assertGreater(others, 10)
 
     def test_of_fields_asked_for(self):

@@ -19,14 +19,15 @@ TRACE = (300, 3)
 
 
 class Logged:
-    """The program, with a log of the commands that it was called with; a run fails whose number stands in the file `fails`."""
+    """The program, with a log of its commands; a run fails whose number stands in the file `fails`."""
 
     def __init__(self, folder: Folder):
         self.log, self.fails = Path(folder.path("log")), Path(folder.path("fails"))
         self.fails.write_text("none")
         number = f"$(grep -c '^run' {self.log})"
         fail = f'[ "$1" = run ] && [ "{number}" = "$(cat {self.fails})" ] && echo "marple: out of memory" >&2 && exit 1'
-        self.path = folder.write("program", f'#!/bin/sh\necho "$1" >>{self.log}\n{fail}\nexec {find_program()} "$@"\n'.encode())
+        text = f'#!/bin/sh\necho "$1" >>{self.log}\n{fail}\nexec {find_program()} "$@"\n'
+        self.path = folder.write("program", text.encode())
         os.chmod(self.path, 0o755)
 
     def runs(self) -> int:

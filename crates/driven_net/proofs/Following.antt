@@ -1,25 +1,23 @@
 -- A network that follows the packets of a trace.
-use Rattle.std.proofs.Common.{◌≡◌, ℕ, zero, suc, ◌+◌, ◌<◌, List, [], ◌∷◌, ◌++◌, length, map, ◌⊎◌, inl, inr, Option, Some, refl, sym, ap, ◌∙◌, subst, arith, length-append, append_assoc, append-nil}
-use Rattle.std.specs.Prelude.{slice_get}
+use Rattle.std.proofs.Common.{◌≡◌, ℕ, ◌<◌, List, [], ◌∷◌, ◌++◌, length, inl, inr, refl, sym, ap, ◌∙◌, subst, arith, length-append, append_assoc, append-nil}
 use Rattle.std.specs.List.{All}
 use Rattle.std.proofs.lemmas.Bool.{true≢false}
 use Rattle.std.proofs.lemmas.List.{map-append}
-use Rattle.epoch_model.specs.Driving.{Taken, event_of}
+use Rattle.epoch_model.specs.Driving.{event_of}
 use Rattle.epoch_entry.specs.contracts.any.AnyEpochsEpochKind.TheImpl.{ghosts}
 use Rattle.stage_plan.specs.Planned.{taken}
 use Rattle.switch_core.specs.Rows.{Each}
-use Rattle.additive_folds.specs.Network.{SwitchEvent}
 use Rattle.switch_traces.specs.Traces.{Step, from_switch, given, without_merges}
 use Rattle.net_wide.specs.NetTables.{switch_in}
 use Rattle.net_wide.specs.Numbering.{place_among}
 use Rattle.net_wide.proofs.SameTexts.{at_place}
-use Rattle.net_ends.specs.NetEnds.{IsSeen, steps_of}
+use Rattle.net_ends.specs.NetEnds.{steps_of}
 use Rattle.network.specs.declared.network.Network.{Network}
 use Rattle.network.specs.Networks.{IsNetwork, Keeps, groups_in}
 use Rattle.network.specs.Shared.{SharedStand, IsTurnAt}
-use Rattle.network.specs.Groups.{GroupGrows, GroupRuns, GroupStands, GroupsRun, GroupView}
+use Rattle.network.specs.Groups.{GroupGrows, GroupRuns, GroupStands, GroupsRun}
 use Rattle.network.proofs.SharedSteps.{each_back, merges_out}
-use Rattle.driven_net.specs.Follows.{GroupFollows, NetFollows}
+use Rattle.driven_net.specs.Follows.{NetFollows}
 use Rattle.driven_net.proofs.Known.{place_behind, seen_last, steps_same}
 
 given_last : (steps : List Step) (one : Step) → given (steps ++ one ∷ []) ≡ given steps ++ from_switch one.switch (event_of one.taken)
@@ -38,12 +36,12 @@ follows_start {ways = ways} net is fresh = record {
 
 -- a switch more
 pub follows_more : {ways : ℕ} (known : List ℕ) (s : ℕ) (packets : List (List ℕ)) (old new : Network ways) → IsNetwork (length (known ++ s ∷ [])) new → Keeps old new
-    → Each (GroupGrows ways old.buckets) (groups_in old) (groups_in new) → NetFollows known packets old → NetFollows (known ++ s ∷ []) packets new
+    → Each (GroupGrows ways old.buckets old.pipe_records) (groups_in old) (groups_in new) → NetFollows known packets old → NetFollows (known ++ s ∷ []) packets new
 follows_more {ways = ways} known s packets old new is keeps grows f = record {
   is = is;
   all_known = λ t seen. let a = f.all_known t seen in let b = place_behind known s t (f.all_known t seen) in let l = length-append known (s ∷ []) in omega arith;
   each = λ n group e.
-      let back = each_back (λ k. GroupGrows ways old.buckets) 0 (groups_in old) (groups_in new) n group grows e in
+      let back = each_back (λ k. GroupGrows ways old.buckets old.pipe_records) 0 (groups_in old) (groups_in new) n group grows e in
       let was = f.each n back.0 back.1 in
       record {
         events = was.events;

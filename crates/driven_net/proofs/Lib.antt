@@ -1,3 +1,4 @@
+mod Counting
 mod Known
 mod Following
 mod Ends

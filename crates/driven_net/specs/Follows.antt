@@ -1,5 +1,5 @@
 -- A network that is as far as the packets of a trace.
-use Rattle.std.specs.Prelude.{◌≡◌, ℕ, ◌<◌, List, [], length, slice_get, Some}
+use Rattle.std.specs.Prelude.{◌≡◌, ℕ, ◌<◌, List, length, slice_get, Some}
 use Rattle.stage_plan.specs.Planned.{taken}
 use Rattle.additive_folds.specs.Network.{SwitchEvent, SwitchEpoch}
 use Rattle.switch_traces.specs.Traces.{Step, given, without_merges}

@@ -1,2 +1,3 @@
 pub mod NetTraces
 pub mod Follows
+pub mod Lags

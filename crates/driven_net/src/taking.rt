@@ -1,17 +1,20 @@
 //! The packets of a trace, each at its switch.
 
-ghost use Rattle.std.specs.Prelude.{◌≡◌, ◌+◌, ◌<◌, ◌≤◌, ℕ, List, [], ◌∷◌, ◌++◌, All, None, Some, true};
-ghost use Rattle.std.specs.Prelude.{length};
+ghost use Rattle.std.specs.Prelude.{◌≡◌, ◌+◌, ◌<◌, ◌≤◌, ℕ, suc, List, [], ◌∷◌, ◌++◌, All, None, Some, true};
+ghost use Rattle.std.specs.Prelude.{length, slice_get};
 ghost use Rattle.std.specs.Prelude.{IfErr, IfOk, OnOk};
 ghost use Rattle.network.specs.Groups.{GroupStands};
 ghost use Rattle.network.specs.Networks.{IsNetwork, Keeps, groups_in};
 ghost use Rattle.net_wide.specs.NetTables.{switch_in};
 ghost use Rattle.net_wide.specs.Numbering.{switch_number, with_switch};
+ghost use Rattle.epoch_model.specs.Epochs.{is_refresh};
+ghost use Rattle.trace_drive.specs.Clocks.{HasCounted};
 ghost use Rattle.trace_drive.specs.Drives.{words_of};
 ghost use Rattle.trace_reader.specs.Faults.{IfRefused};
 ghost use Rattle.trace_reader.specs.Traces.{most_records};
 ghost use Rattle.trace_reader.specs.declared.fault.TraceFault.TheVariants.{TooManySwitches as SwitchFault};
 ghost use Rattle.driven_net.specs.Follows.{NetFollows};
+ghost use Rattle.driven_net.specs.Lags.{AreLagClocks, CountsAt, MergesAt};
 ghost use Rattle.driven_net.specs.NetTraces.{first_fault};
 
 use marple_base::{Field, Packet, Seq, Steps};
@@ -19,6 +22,7 @@ use net_wide::number_switch;
 use network::Network;
 use std::alloc::{AllocError, Global};
 use std::sync::ledger::Ledger;
+use trace_drive::Clock;
 use trace_reader::{Trace, TraceAnswer, TraceFault};
 
 // The number of a packet's switch. A switch that is new gets caches and pipes, unless it is the 65th.
@@ -57,41 +61,46 @@ fn switch_at<const WAYS: usize, L: Ledger>(
     Ok(at)
 }
 
-// Whether this was the last of so many packets of its switch.
-fn strikes(since: &mut [u32], at: usize, lag: u32) -> bool
-    requires { at < length since.old }
+// Counts a packet of a switch. Whether the switch's lag is over with it.
+fn strikes(clocks: &mut [Clock], at: usize) -> bool
+    requires at { at < 64 }
+    requires clocks { (lag : ℕ) × AreLagClocks lag clocks.old }
+    ensures clocks { (lag : ℕ) → AreLagClocks lag clocks.old → AreLagClocks lag clocks.new }
+    ensures counts { CountsAt at clocks.old clocks.new }
+    ensures strikes { (lag number : ℕ) (clock : Clock) → AreLagClocks lag clocks.old → slice_get clocks.old at ≡ Some clock
+        → HasCounted number clock → result ≡ is_refresh lag (suc number) }
 {
-    since[at] = since[at].saturating_add(1);
-    if since[at] < lag {
-        return false;
-    }
-    since[at] = 0;
-    true
+    let clock = &mut clocks[at];
+    clock.strikes()
 }
 
 // A packet at its switch.
 fn take_one<const WAYS: usize, L: Ledger>(
     network: &mut Network<WAYS>,
     known: &mut Seq<u64>,
-    since: &mut [u32],
+    clocks: &mut [Clock],
     packet: &Packet,
     number: u32,
-    lag: u32,
     steps: &mut Steps<L>,
 ) -> Result<(), TraceAnswer>
     requires is { IsNetwork (length known.old) network.old }
-    requires since { length since.old ≡ 64 }
+    requires clocks { (lag : ℕ) × AreLagClocks lag clocks.old }
     ensures known { OnOk result (known.new ≡ with_switch known.old (switch_in packet.now.words)) }
     ensures numbered { OnOk result ((at : ℕ) × (switch_number known.old (switch_in packet.now.words) ≡ Some at)) }
     ensures keeps { OnOk result (Keeps network.old network.new) }
     ensures follows { OnOk result ((packets : List (List ℕ)) → NetFollows known.old packets network.old
         → NetFollows known.new (packets ++ packet.now.words ∷ []) network.new) }
+    ensures clocks { (lag : ℕ) → AreLagClocks lag clocks.old → AreLagClocks lag clocks.new }
+    ensures counts { OnOk result ((at : ℕ) → switch_number known.old (switch_in packet.now.words) ≡ Some at
+        → CountsAt at clocks.old clocks.new) }
+    ensures merged { OnOk result ((lag at : ℕ) → AreLagClocks lag clocks.old
+        → switch_number known.old (switch_in packet.now.words) ≡ Some at → MergesAt lag at clocks.old network.new) }
     ensures refused { IfErr result (λ answer. IfRefused answer (λ fault.
         (fault ≡ SwitchFault number) × (switch_number known.old (switch_in packet.now.words) ≡ None))) }
     ensures steps { steps.old ≤ steps.new }
 {
     let at = switch_at(network, known, packet.get(Field::Switch), number, steps)?;
-    let lag_over = strikes(since, at as usize, lag);
+    let lag_over = strikes(clocks, at as usize);
     match network.turn(at, packet, lag_over, steps) {
         Ok(()) => Ok(()),
         Err(AllocError) => Err(TraceAnswer::Memory),
@@ -120,7 +129,7 @@ pub(crate) fn take_all<const WAYS: usize, L: Ledger>(
     let mut trace = trace;
     let mut network = network;
     let mut known = Seq::new(alloc);
-    let mut since = [0u32; 64];
+    let mut clocks = [Clock::new(lag); 64];
     let mut packet = Packet { words: [0; 14] };
     let mut number = 0;
     'packets: while trace.next_into(&mut packet)? {
@@ -128,10 +137,9 @@ pub(crate) fn take_all<const WAYS: usize, L: Ledger>(
         take_one(
             &mut network,
             &mut known,
-            &mut since,
+            &mut clocks,
             &packet,
             number,
-            lag,
             steps,
         )?;
     }

@@ -1,6 +1,6 @@
 //! What a query prints over several switches, with the ways that a setting names.
 
-ghost use Rattle.std.specs.Prelude.{◌≡◌, ◌*◌, ◌<◌, ◌≤◌, None, Some, [], length, IfErr, IfOk};
+ghost use Rattle.std.specs.Prelude.{◌≡◌, ◌*◌, ◌<◌, ◌≤◌, ℕ, List, None, Some, [], length, IfErr, IfOk};
 ghost use Rattle.query_lang.specs.TypedQueries.{IsValidQuery};
 ghost use Rattle.stage_plan.specs.Planned.{IsPlanOf};
 ghost use Rattle.query_run.specs.Runs.{AreWhole};
@@ -11,6 +11,9 @@ ghost use Rattle.net_wide.specs.Combining.{net_fault};
 ghost use Rattle.net_wide.specs.NetTables.{net_text};
 ghost use Rattle.net_wide.specs.NetLaws.{TellsSwitches};
 ghost use Rattle.command_line.specs.Command.{IsNetSetting, ways_number};
+ghost use Rattle.network.specs.Groups.{AllHavePlaces};
+ghost use Rattle.network.specs.Networks.{groups_in};
+ghost use Rattle.driven_net.specs.Follows.{NetFollows};
 ghost use Rattle.driven_net.specs.NetTraces.{first_fault};
 
 use crate::ending::end_text;
@@ -19,9 +22,39 @@ use accepted_query::AcceptedQuery;
 use command_line::{NetSetting, Ways};
 use marple_base::{Steps, Text};
 use network::Network;
+use stage_plan::Plan;
 use std::alloc::{AllocError, Global};
 use std::sync::ledger::Ledger;
 use trace_reader::{Trace, TraceAnswer};
+
+// The plan's network after all packets of the trace, with caches and pipes of the setting's sizes.
+fn network_after<const WAYS: usize, L: Ledger>(
+    alloc: Global,
+    setting: NetSetting,
+    plan: Plan,
+    trace: Trace<'_>,
+    steps: &mut Steps<L>,
+) -> Result<Network<WAYS>, TraceAnswer>
+    requires ways { 0 < WAYS }
+    requires buckets { 0 < setting.buckets }
+    requires places { setting.buckets * WAYS ≤ 65536 }
+    requires pipe { (0 < setting.pipe) × (setting.pipe ≤ 65536) }
+    requires few { length trace.packets ≤ most_records }
+    ensures accepted { IfOk result (λ network. first_fault [] 1 (words_of trace.entry.packets) trace.entry.fault ≡ None) }
+    ensures plan { IfOk result (λ network. network.plan ≡ plan) }
+    ensures buckets { IfOk result (λ network. network.buckets ≡ setting.buckets) }
+    ensures pipe_places { IfOk result (λ network. AllHavePlaces setting.pipe (groups_in network)) }
+    ensures follows { IfOk result (λ network. (known : List ℕ) × NetFollows known (words_of trace.entry.packets) network) }
+    ensures refused { IfErr result (λ answer. IfRefused answer (λ fault.
+        first_fault [] 1 (words_of trace.entry.packets) trace.entry.fault ≡ Some fault)) }
+    ensures steps { steps.old ≤ steps.new }
+{
+    let fresh = match Network::<WAYS>::new(alloc, plan, setting.buckets, setting.pipe) {
+        Ok(fresh) => fresh,
+        Err(AllocError) => return Err(TraceAnswer::Memory),
+    };
+    take_all(alloc, fresh, setting.lag, trace, steps)
+}
 
 // What the query prints over the trace's packets, with caches of so many ways.
 fn text_with<const WAYS: usize, L: Ledger>(
@@ -48,11 +81,7 @@ fn text_with<const WAYS: usize, L: Ledger>(
     ensures steps { steps.old ≤ steps.new }
 {
     let AcceptedQuery { typed, plan } = query;
-    let fresh = match Network::<WAYS>::new(alloc, plan, setting.buckets, setting.pipe) {
-        Ok(fresh) => fresh,
-        Err(AllocError) => return Err(TraceAnswer::Memory),
-    };
-    let mut network = take_all(alloc, fresh, setting.lag, trace, steps)?;
+    let mut network = network_after::<WAYS, L>(alloc, setting, plan, trace, steps)?;
     match end_text(alloc, &typed, &mut network, steps) {
         Ok(text) => Ok(text),
         Err(AllocError) => Err(TraceAnswer::Memory),

@@ -7,6 +7,7 @@ use Rattle.command_line.specs.declared.setting.Ways.{Ways}
 use Rattle.command_line.specs.declared.setting.Ways.TheVariants.{One, Two, Four, Eight, Sixteen, ThirtyTwo}
 use Rattle.driven_query.specs.declared.driven.Driven.{Driven}
 use Rattle.driven_query.specs.declared.driven.Driven.TheVariants.{Ways1, Ways2, Ways4, Ways8, Ways16, Ways32}
+use Rattle.epoch_entry.specs.declared.purpose.Entries.{Entries}
 use Rattle.epoch_entry.specs.declared.purpose.Entries.TheVariants.{Folds}
 use Rattle.epoch_model.specs.Epochs.{Geometry}
 use Rattle.query_run.specs.Runs.{AreWhole}
@@ -34,13 +35,17 @@ pipeline_in (Ways8 p) = p
 pipeline_in (Ways16 p) = p
 pipeline_in (Ways32 p) = p
 
--- the caches have the setting's ways and buckets and entries for folds, the pipes the setting's places, and caches and pipes are empty
-pub record IsLeftBy (setting : Setting) (driven : Driven) : Type 0 where
+-- the caches have the setting's ways and buckets and entries for this purpose, the pipes the setting's places, and caches and pipes are empty
+pub record IsLeftWith (purpose : Entries) (setting : Setting) (driven : Driven) : Type 0 where
   pub ways : ways_in driven ≡ setting.ways
-  pub entries : (pipeline_in driven).entries ≡ Folds
+  pub entries : (pipeline_in driven).entries ≡ purpose
   pub buckets : (pipeline_in driven).buckets ≡ setting.buckets
   pub places : HavePlaces setting.pipe (pipeline_in driven).lanes
   pub drained : list_all lane_is_drained (pipeline_in driven).lanes ≡ true
+
+-- the same, with entries for folds
+abbrev pub IsLeftBy : Setting → Driven → Type 0
+IsLeftBy setting driven = IsLeftWith Folds setting driven
 
 -- The packets that the generator makes have the words of all fields.
 abbrev pub MadePacketsAreWhole : Type 0

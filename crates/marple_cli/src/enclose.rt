@@ -33,6 +33,6 @@ pub fn enclose<I: Inputs, O: Sink, L: Ledger>(
 {
     let query = query_for_bounds(alloc, inputs)?;
     let bytes = read_trace(alloc, inputs)?;
-    enclose_over_trace(alloc, setting, query, bytes.as_slice(), out, steps)?;
+    let _driven = enclose_over_trace(alloc, setting, query, bytes.as_slice(), out, steps)?;
     Ok(())
 }

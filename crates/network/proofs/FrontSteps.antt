@@ -72,6 +72,11 @@ module _ {K : Type 0} (means : Standing) (f : Folding) (ways : ℕ) where
     };
   }
 
+  -- nothing changed
+  pub runs_same : (P : List Event → Type 0) (a b : FrontOf K) (s t : Store) → P [] → (b ≡ a) × (t ≡ s) → FrontRuns means f ways P a b s t
+  runs_same P a b s t p same =
+      subst (λ x. FrontRuns means f ways P a x s t) (sym same.0) (subst (λ x. FrontRuns means f ways P a a s x) (sym same.1) (runs_none P a s p))
+
   -- an event that merges nothing
   runs_event : (P : List Event → Type 0) (event : Event) (a b : FrontOf K) (s : Store)
       → ((g : Geometry) (m : Machine) → m.merged ≤ length m.closed → take (step g m event).merged (step g m event).closed ≡ take m.merged m.closed)

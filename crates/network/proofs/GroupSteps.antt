@@ -1,7 +1,10 @@
 -- Groupbys side by side.
-use Rattle.std.proofs.Common.{◌≡◌, ℕ, zero, suc, ◌+◌, ◌<◌, ◌≤◌, true, List, [], ◌∷◌, ◌++◌, ◌⊎◌, inl, inr, Some, length, take, refl, sym, ap, ◌∙◌, subst, arith, length-append}
+use Rattle.std.proofs.Common.{◌≡◌, ℕ, zero, suc, ◌+◌, ◌<◌, ◌≤◌, nat_lt, true, List, [], ◌∷◌, ◌++◌, ◌⊎◌, inl, inr, Some, length, take, refl, sym, ap, ◌∙◌, subst, arith, length-append}
 use Rattle.std.proofs.Math.Logic.{∥∥₁_elim}
 use Rattle.std.proofs.Props.{props}
+use Rattle.std.proofs.Math.Seq.{take-append_seam, take-length}
+use Rattle.std.proofs.lemmas.Bool.Decides.{nat_tests}
+use Rattle.epoch_model.proofs.KeyLists.{by_test}
 use Rattle.fold_class.specs.Program.{IsProgram, IsProgramOf}
 use Rattle.query_lang.specs.declared.fold.TypedFold.{TypedFold}
 use Rattle.backing_store.specs.Store.{Store}
@@ -24,7 +27,7 @@ use Rattle.switch_core.specs.Rows.{Each, EachFrom}
 use Rattle.switch_core.proofs.LanesMade.{group_sound}
 use Rattle.switch_core.proofs.SideBySide.{same_some, each_at, each_long, each_map, got_below}
 use Rattle.network.specs.FrontRuns.{FrontKept}
-use Rattle.network.specs.Groups.{AllWide, AreWide, GroupGrows, GroupView, IsGroup, IsKindOfProgram, AreGroups, GroupRuns, GroupsRun, folding_in, shared_tables}
+use Rattle.network.specs.Groups.{AllHavePlaces, AllWide, AreWide, HavePlaces, GroupGrows, GroupView, IsGroup, IsKindOfProgram, AreGroups, GroupRuns, GroupsRun, folding_in, shared_tables, with_first}
 use Rattle.network.specs.Shared.{AllShare, MayShare, SharedRuns}
 use Rattle.network.proofs.SharedSteps.{each_back, still_share}
 
@@ -199,6 +202,51 @@ wide_push buckets key_words places view after adds wide s front e = elim (got_pu
   | inr new ↦ ap (λ (x : FrontOf AnyEpochs). length x.cache.lists) (sym new) ∙ adds.has_buckets
 ]
 
+pub places_push : {kind : AnyEpochs} (buckets key_words places : ℕ) (view after : GroupView) → AddsFront kind buckets key_words places view.fronts after.fronts
+    → HavePlaces places view → HavePlaces places after
+places_push buckets key_words places view after adds have s front e = elim (got_push view.fronts adds.front front s (ap (λ xs. slice_get xs s) (sym adds.added) ∙ e)) [
+  | inl there ↦ have s front there
+  | inr new ↦ ap (λ (x : FrontOf AnyEpochs). x.pipe.places) (sym new) ∙ adds.has_places
+]
+
+pub others_push : {kind : AnyEpochs} (buckets key_words places : ℕ) (view after : GroupView) → AddsFront kind buckets key_words places view.fronts after.fronts
+    → after.kind ≡ view.kind → after.store ≡ view.store → with_first (length view.fronts) after ≡ view
+others_push buckets key_words places view after adds kind store =
+    ap (λ k. record { kind = k; fronts = take (length view.fronts) after.fronts; store = after.store }) kind
+    ∙ (ap (λ s. record view { fronts = take (length view.fronts) after.fronts; store = s }) store
+    ∙ ap (λ xs. record view { fronts = xs }) (ap (take (length view.fronts)) adds.added ∙ take-append_seam view.fronts (adds.front ∷ [])))
+
+-- a groupby with all its fronts
+pub all_first : (group : GroupView) → with_first (length group.fronts) group ≡ group
+all_first group = ap (λ xs. record group { fronts = xs }) (take-length group.fronts)
+
+-- the groupbys so far have their fronts and perhaps one more, and the others are unchanged
+pub others_so_far : (i k : ℕ) (olds news : List GroupView) → EachFrom (λ n (a b : GroupView). n < i → with_first (length a.fronts) b ≡ a) k olds news
+    → EachFrom (λ n (a b : GroupView). i ≤ n → b ≡ a) k olds news → EachFrom (λ n (a b : GroupView). with_first (length a.fronts) b ≡ a) k olds news
+others_so_far i k [] [] done same = tt
+others_so_far i k [] (b ∷ news) done same = absurd done
+others_so_far i k (a ∷ olds) [] done same = absurd done
+others_so_far i k (a ∷ olds) (b ∷ news) done same = (
+  by_test (nat_lt k i)
+      (λ t. done.0 (let l : k < i = grind (arith, nat_tests) in l))
+      (λ t. ap (with_first (length a.fronts)) (same.0 (let l : i ≤ k = grind (arith, nat_tests) in l)) ∙ all_first a),
+  others_so_far i (suc k) olds news done.1 same.1,
+)
+
+-- groupbys whose last front goes again are the old ones
+pub kept_back : (plan : PlanParts) (switches k : ℕ) (olds mids news : List GroupView) (parts : List GroupPlan)
+    → EachFrom (λ n group part. IsGroup switches part (wiring_at plan n) group) k olds parts
+    → EachFrom (λ n (a b : GroupView). with_first (length a.fronts) b ≡ a) k olds mids → EachFrom (λ n (a b : GroupView). b ≡ with_first switches a) k mids news → news ≡ olds
+kept_back plan switches k [] [] [] parts are others kept = refl
+kept_back plan switches k [] [] (c ∷ news) parts are others kept = absurd kept
+kept_back plan switches k [] (b ∷ mids) news parts are others kept = absurd others
+kept_back plan switches k (a ∷ olds) [] news parts are others kept = absurd others
+kept_back plan switches k (a ∷ olds) (b ∷ mids) [] parts are others kept = absurd kept
+kept_back plan switches k (a ∷ olds) (b ∷ mids) (c ∷ news) [] are others kept = absurd are
+kept_back plan switches k (a ∷ olds) (b ∷ mids) (c ∷ news) (p ∷ parts) are others kept =
+    let first : c ≡ a = kept.0 ∙ (ap (λ n. with_first n b) (sym are.0.count) ∙ others.0) in
+    ap (λ x. x ∷ news) first ∙ ap (λ xs. a ∷ xs) (kept_back plan switches (suc k) olds mids news parts are.1 others.1 kept.1)
+
 -- caches are as wide as they were
 pub wide_ran : (ways buckets : ℕ) (are : ℕ → List SwitchEvent → Type 0) (olds news : List GroupView) → GroupsRun ways are olds news → AllWide buckets olds → AllWide buckets news
 wide_ran ways buckets are olds news ran wide n now e s front f =
@@ -207,14 +255,34 @@ wide_ran ways buckets are olds news ran wide n now e s front f =
     let was = each_back (λ k. FrontKept) 0 group.0.fronts now.fronts s front run.runs.fronts f in
     (was.2 s (omega arith)).buckets ∙ wide n group.0 group.1 s was.0 was.1
 
-pub wide_grown : (ways buckets : ℕ) (olds news : List GroupView) → Each (GroupGrows ways buckets) olds news → AllWide buckets olds → AllWide buckets news
-wide_grown ways buckets olds news grown wide n now e =
-    let group = each_back (λ k. GroupGrows ways buckets) 0 olds news n now grown e in
+pub wide_grown : (ways buckets places : ℕ) (olds news : List GroupView) → Each (GroupGrows ways buckets places) olds news → AllWide buckets olds → AllWide buckets news
+wide_grown ways buckets places olds news grown wide n now e =
+    let group = each_back (λ k. GroupGrows ways buckets places) 0 olds news n now grown e in
     (group.2 n (omega arith)).wide (wide n group.0 group.1)
 
--- without a switch there is no cache
+-- pipes have the places that they had
+pub places_ran : (ways places : ℕ) (are : ℕ → List SwitchEvent → Type 0) (olds news : List GroupView) → GroupsRun ways are olds news → AllHavePlaces places olds → AllHavePlaces places news
+places_ran ways places are olds news ran have n now e s front f =
+    let group = each_back (λ k. GroupRuns ways (are k)) 0 olds news n now ran e in
+    let run = group.2 n (omega arith) in
+    let was = each_back (λ k. FrontKept) 0 group.0.fronts now.fronts s front run.runs.fronts f in
+    (was.2 s (omega arith)).places ∙ have n group.0 group.1 s was.0 was.1
+
+pub places_grown : (ways buckets places : ℕ) (olds news : List GroupView) → Each (GroupGrows ways buckets places) olds news → AllHavePlaces places olds → AllHavePlaces places news
+places_grown ways buckets places olds news grown have n now e =
+    let group = each_back (λ k. GroupGrows ways buckets places) 0 olds news n now grown e in
+    (group.2 n (omega arith)).pipes (have n group.0 group.1)
+
+-- without a switch there is no cache and no pipe
 pub wide_start : (plan : PlanParts) (buckets : ℕ) (groups : List GroupView) → AreGroups plan 0 groups → AllWide buckets groups
 wide_start plan buckets groups are n group e s front f =
+    let own = each_at (λ k g part. IsGroup 0 part (wiring_at plan k) g) 0 n groups plan.groups group are e in
+    let none = (own.2 n (omega arith)).count in
+    let some = got_below group.fronts s front f in
+    absurd (omega arith)
+
+pub places_start : (plan : PlanParts) (places : ℕ) (groups : List GroupView) → AreGroups plan 0 groups → AllHavePlaces places groups
+places_start plan places groups are n group e s front f =
     let own = each_at (λ k g part. IsGroup 0 part (wiring_at plan k) g) 0 n groups plan.groups group are e in
     let none = (own.2 n (omega arith)).count in
     let some = got_below group.fronts s front f in

@@ -1,5 +1,5 @@
 -- What an event of one switch makes of a groupby, and of all groupbys side by side.
-use Rattle.std.proofs.Common.{◌≡◌, ◌≢◌, ℕ, suc, ◌<◌, ◌≤◌, ◌==◌, nat_lt, true, false, List, [], ◌∷◌, ◌++◌, length, set, Option, Some, None, Result, Ok, Err, OnOk, refl, sym, ap, subst, ◌∙◌, arith, append-nil}
+use Rattle.std.proofs.Common.{◌≡◌, ◌≢◌, ℕ, suc, ◌<◌, ◌≤◌, ◌==◌, nat_lt, true, false, List, [], ◌∷◌, ◌++◌, length, set, Option, Some, None, Result, Ok, Err, OnOk, OnErr, refl, sym, ap, subst, ◌∙◌, arith, append-nil}
 use Rattle.std.specs.Prelude.{slice_get}
 use Rattle.std.proofs.lemmas.Bool.{lt-ltb}
 use Rattle.std.proofs.lemmas.Bool.Decides.{nat_tests}
@@ -75,6 +75,19 @@ groups_on ways P Q R first mid last h one two =
 pub groups_none : (ways k : ℕ) (P : ℕ → List SwitchEvent → Type 0) (groups : List GroupView) → ((n : ℕ) → P n []) → EachFrom (λ n. GroupRuns ways (P n)) k groups groups
 groups_none ways k P [] h = tt
 groups_none ways k P (x ∷ groups) h = (group_none ways (P k) x (h k), groups_none ways (suc k) P groups h)
+
+-- the groupbys so far ran, and the others are as they were
+pub run_so_far : (ways i k : ℕ) (P : List SwitchEvent → Type 0) (olds news : List GroupView) → P [] → EachFrom (λ n a b. n < i → GroupRuns ways P a b) k olds news
+    → EachFrom (λ n a b. i ≤ n → b ≡ a) k olds news → EachFrom (λ n. GroupRuns ways P) k olds news
+run_so_far ways i k P [] [] p done same = tt
+run_so_far ways i k P [] (b ∷ news) p done same = absurd done
+run_so_far ways i k P (a ∷ olds) [] p done same = absurd done
+run_so_far ways i k P (a ∷ olds) (b ∷ news) p done same = (
+  by_test (nat_lt k i)
+      (λ t. done.0 (let l : k < i = grind (arith, nat_tests) in l))
+      (λ t. subst (GroupRuns ways P a) (sym (same.0 (let l : i ≤ k = grind (arith, nat_tests) in l))) (group_none ways P a p)),
+  run_so_far ways i (suc k) P olds news p done.1 same.1,
+)
 
 -- events of a switch are a run of all its groupby's fronts
 
@@ -236,6 +249,15 @@ pub ready_at : (at : ℕ) (group : GroupView) → at < length group.fronts → A
 ready_at at group within room =
     let here = got_some group.fronts at within in
     ap has_room here.1 ∙ lt-ltb (length here.0.pipe.records) here.0.pipe.places (room here.0 here.1)
+
+-- what holds anyway holds after a refusal too
+pub if_err : {X E : Type 0} (P : Type 0) (r : Result X E) → P → OnErr r P
+if_err P (Ok x) p = tt
+if_err P (Err e) p = p
+
+pub if_ok : {X E : Type 0} (P : Type 0) (r : Result X E) → P → OnOk r P
+if_ok P (Ok x) p = p
+if_ok P (Err e) p = tt
 
 pub on_three : {X E : Type 0} (P Q R S : Type 0) (r : Result X E) → (P → Q → R → S) → OnOk r P → OnOk r Q → OnOk r R → OnOk r S
 on_three P Q R S (Ok x) h p q r = h p q r

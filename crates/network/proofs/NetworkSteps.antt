@@ -7,10 +7,10 @@ use Rattle.switch_core.proofs.LaneFacts.{whole_written}
 use Rattle.switch_traces.specs.Traces.{from_switch}
 use Rattle.network.specs.declared.network.Network.{Network}
 use Rattle.network.specs.Shared.{IsTurnAt, MergesAlone}
-use Rattle.network.specs.Groups.{AllWide, AreGroups, GroupsRun, GroupView}
+use Rattle.network.specs.Groups.{AllHavePlaces, AllWide, AreGroups, GroupsRun, GroupView}
 use Rattle.network.specs.Events.{GroupsMake}
 use Rattle.network.specs.Networks.{IsNetwork, Keeps, groups_in}
-use Rattle.network.proofs.GroupSteps.{still_groups, wide_ran}
+use Rattle.network.proofs.GroupSteps.{places_ran, still_groups, wide_ran}
 use Rattle.network.proofs.MakeSteps.{groups_on, makes_runs}
 use Rattle.network.proofs.SharedSteps.{turn_between}
 
@@ -23,6 +23,7 @@ still_network {ways = ways} are switches old new plan buckets count records room
   few = is.few;
   groups = subst (λ p. AreGroups p switches (groups_in new)) (sym plan) (still_groups ways switches are old.plan (groups_in old) (groups_in new) ran is.groups);
   wide = subst (λ b. AllWide b (groups_in new)) (sym buckets) (wide_ran ways old.buckets are (groups_in old) (groups_in new) ran is.wide);
+  pipes = subst (λ n. AllHavePlaces n (groups_in new)) (sym records) (places_ran ways old.pipe_records are (groups_in old) (groups_in new) ran is.pipes);
   rooms = rooms;
   some_ways = is.some_ways;
   some_buckets = subst (λ b. 0 < b) (sym buckets) is.some_buckets;

@@ -1,5 +1,5 @@
 -- The groupbys of a plan over several switches.
-use Rattle.std.specs.Prelude.{◌≡◌, ℕ, Bool, List, [], ◌∷◌, length, slice_get, Some}
+use Rattle.std.specs.Prelude.{◌≡◌, ℕ, Bool, List, [], ◌∷◌, length, slice_get, take, Some}
 use Rattle.std.specs.List.{list_all}
 use Rattle.fold_class.specs.declared.program.FoldProgram.{FoldProgram}
 use Rattle.fold_class.specs.Program.{IsProgramOf}
@@ -80,10 +80,25 @@ AreWide buckets group =
 abbrev pub AllWide : ℕ → List GroupView → Type 0
 AllWide buckets groups = (n : ℕ) (group : GroupView) → slice_get groups n ≡ Some group → AreWide buckets group
 
--- A groupby has a front more, for the next switch, which had no event.
-pub record GroupGrows (ways buckets : ℕ) (old new : GroupView) : Type 0 where
+-- each of its pipes has so many places
+abbrev pub HavePlaces : ℕ → GroupView → Type 0
+HavePlaces places group =
+    (s : ℕ) (front : FrontOf AnyEpochs) → slice_get group.fronts s ≡ Some front → front.pipe.places ≡ places
+
+-- each pipe of each groupby has so many places
+abbrev pub AllHavePlaces : ℕ → List GroupView → Type 0
+AllHavePlaces places groups = (n : ℕ) (group : GroupView) → slice_get groups n ≡ Some group → HavePlaces places group
+
+-- the groupby with the fronts of its first switches, so many
+abbrev pub with_first : ℕ → GroupView → GroupView
+with_first switches group = record group { fronts = take switches group.fronts }
+
+-- A groupby has a front more, for the next switch, which had no event; without it, it is the old one.
+pub record GroupGrows (ways buckets places : ℕ) (old new : GroupView) : Type 0 where
   pub kind : new.kind ≡ old.kind
   pub wide : AreWide buckets old → AreWide buckets new
+  pub pipes : HavePlaces places old → HavePlaces places new
+  pub others : with_first (length old.fronts) new ≡ old
   pub stands : (events : List SwitchEvent) (merged : List SwitchEpoch) → GroupStands ways buckets old events merged
       → GroupStands ways buckets new events merged
 

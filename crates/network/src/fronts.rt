@@ -28,8 +28,8 @@ fn merge_once<K: EpochKind, const WAYS: usize, L: Ledger>(
     steps: &mut Steps<L>,
 ) -> Result<Merged, AllocError>
     requires { FitsStore (K.sizes front.old.kind) front.old.cache store.old }
-    ensures runs { OnOk result (FrontRuns (K.stands front.old.kind) (K.folding front.old.kind) WAYS AreMerges
-        front.old front.new store.old store.new) }
+    ensures runs { FrontRuns (K.stands front.old.kind) (K.folding front.old.kind) WAYS AreMerges
+        front.old front.new store.old store.new }
     ensures fits { FitsStore (K.sizes front.new.kind) front.new.cache store.new }
     ensures ready { OnOk result (length front.new.pipe.records < front.new.pipe.places) }
     ensures empty { result ≡ Ok Merged.Empty → length front.new.pipe.records ≡ 0 }
@@ -48,8 +48,8 @@ fn make_room<K: EpochKind, const WAYS: usize, L: Ledger>(
     steps: &mut Steps<L>,
 ) -> Result<(), AllocError>
     requires { FitsStore (K.sizes front.old.kind) front.old.cache store.old }
-    ensures runs { OnOk result (FrontRuns (K.stands front.old.kind) (K.folding front.old.kind) WAYS AreMerges
-        front.old front.new store.old store.new) }
+    ensures runs { FrontRuns (K.stands front.old.kind) (K.folding front.old.kind) WAYS AreMerges
+        front.old front.new store.old store.new }
     ensures fits { FitsStore (K.sizes front.new.kind) front.new.cache store.new }
     ensures ready { OnOk result (length front.new.pipe.records < front.new.pipe.places) }
     ensures cache { front.new.cache ≡ front.old.cache }
@@ -108,8 +108,8 @@ fn empty_bucket<K: EpochKind, const WAYS: usize, L: Ledger>(
 ) -> Result<(), AllocError>
     requires fits { FitsStore (K.sizes front.old.kind) front.old.cache store.old }
     requires range { bucket < length front.old.cache.lists }
-    ensures runs { OnOk result (FrontRuns (K.stands front.old.kind) (K.folding front.old.kind) WAYS NoPacket
-        front.old front.new store.old store.new) }
+    ensures runs { FrontRuns (K.stands front.old.kind) (K.folding front.old.kind) WAYS NoPacket
+        front.old front.new store.old store.new }
     ensures empty { OnOk result (length (list_at front.new.cache bucket) ≡ 0) }
     ensures others { (other : ℕ) → other ≢ bucket → list_at front.new.cache other ≡ list_at front.old.cache other }
     ensures steps { steps.old ≤ steps.new }
@@ -129,8 +129,8 @@ fn sweep<K: EpochKind, const WAYS: usize, L: Ledger>(
     steps: &mut Steps<L>,
 ) -> Result<(), AllocError>
     requires fits { FitsStore (K.sizes front.old.kind) front.old.cache store.old }
-    ensures runs { OnOk result (FrontRuns (K.stands front.old.kind) (K.folding front.old.kind) WAYS NoPacket
-        front.old front.new store.old store.new) }
+    ensures runs { FrontRuns (K.stands front.old.kind) (K.folding front.old.kind) WAYS NoPacket
+        front.old front.new store.old store.new }
     ensures held { OnOk result (held_in front.new.cache ≡ 0) }
     ensures steps { steps.old ≤ steps.new }
 {
@@ -147,8 +147,8 @@ fn empty_pipe<K: EpochKind, const WAYS: usize, L: Ledger>(
     steps: &mut Steps<L>,
 ) -> Result<(), AllocError>
     requires fits { FitsStore (K.sizes front.old.kind) front.old.cache store.old }
-    ensures runs { OnOk result (FrontRuns (K.stands front.old.kind) (K.folding front.old.kind) WAYS NoPacket
-        front.old front.new store.old store.new) }
+    ensures runs { FrontRuns (K.stands front.old.kind) (K.folding front.old.kind) WAYS NoPacket
+        front.old front.new store.old store.new }
     ensures empty { OnOk result (length front.new.pipe.records ≡ 0) }
     ensures cache { front.new.cache ≡ front.old.cache }
     ensures steps { steps.old ≤ steps.new }
@@ -164,8 +164,8 @@ pub fn drain<K: EpochKind, const WAYS: usize, L: Ledger>(
     steps: &mut Steps<L>,
 ) -> Result<(), AllocError>
     requires fits { FitsStore (K.sizes front.old.kind) front.old.cache store.old }
-    ensures runs { OnOk result (FrontRuns (K.stands front.old.kind) (K.folding front.old.kind) WAYS NoPacket
-        front.old front.new store.old store.new) }
+    ensures runs { FrontRuns (K.stands front.old.kind) (K.folding front.old.kind) WAYS NoPacket
+        front.old front.new store.old store.new }
     ensures drained { OnOk result (is_drained front.new.cache front.new.pipe ≡ true) }
     ensures steps { steps.old ≤ steps.new }
 {

@@ -23,6 +23,7 @@ ghost use Rattle.switch_core.specs.PlanLanes.{lane_cost, lane_merge_cost};
 ghost use Rattle.net_wide.specs.Sharing.{AtSwitch};
 ghost use Rattle.network.specs.Shared.{AllShare, MergesAlone, NoPackets, SharedRuns};
 ghost use Rattle.network.specs.Groups.{GroupGrows, GroupRuns, GroupShares, GroupStands, IsGroup, folding_in, group_is_drained};
+ghost use Rattle.network.specs.Groups.{with_first};
 ghost use Rattle.network.specs.Events.{AreAllMerged, GroupMakes, GroupMakesAll, is_ready_at};
 ghost use Rattle.network.specs.Costs.{AtLaneIn, group_merge_cost};
 
@@ -62,9 +63,9 @@ fn drain_fronts<K: EpochKind, const WAYS: usize, L: Ledger>(
 ) -> Result<(), AllocError>
     requires shares { (f : Folding) × (args : ℕ) × AllShare (λ kind. K.sizes kind) (λ kind. K.folding kind) f args
         fronts.old store.old }
-    ensures runs { OnOk result ((f : Folding) (args : ℕ)
+    ensures runs { (f : Folding) (args : ℕ)
         → AllShare (λ kind. K.sizes kind) (λ kind. K.folding kind) f args fronts.old store.old
-        → SharedRuns (λ kind. K.stands kind) f WAYS NoPackets fronts.old fronts.new store.old store.new) }
+        → SharedRuns (λ kind. K.stands kind) f WAYS NoPackets fronts.old fronts.new store.old store.new }
     ensures drained { OnOk result (list_all (λ front. is_drained front.cache front.pipe) fronts.new ≡ true) }
     ensures steps { steps.old ≤ steps.new }
 {
@@ -119,13 +120,21 @@ impl<const WAYS: usize> Group<WAYS> {
         requires keys { (0 < length part.now.key_names) × (length part.now.key_names ≤ 8) }
         ensures is { OnOk result ((switches registers : ℕ) (wiring : GroupWiring) → IsSoundGroup registers part.now wiring
             → IsGroup switches part.now wiring self.old → IsGroup (switches + 1) part.now wiring self.new) }
-        ensures grows { OnOk result (GroupGrows WAYS buckets self.old self.new) }
+        ensures grows { OnOk result (GroupGrows WAYS buckets pipe_records self.old self.new) }
+        ensures err { OnErr result (self.new ≡ self.old) }
     {
         entries_are_small();
         entries_suit_folds();
         let kind = AnyEpochs::of(part.program.copy(alloc)?);
         let keys = part.key_names.len();
         add_front(alloc, &mut self.fronts, kind, buckets, keys, pipe_records)
+    }
+
+    /// Keeps the caches and pipes of the first switches, so many, and drops those of the others.
+    pub fn keep_switches(&mut self, switches: usize)
+        ensures { self.new ≡ with_first switches self.old }
+    {
+        self.fronts.truncate(switches);
     }
 
     /// Whether the pipe of a switch has room for a record.
@@ -145,7 +154,7 @@ impl<const WAYS: usize> Group<WAYS> {
     ) -> Result<(), AllocError>
         requires switch { at < length self.old.fronts }
         requires shares { (args : ℕ) × GroupShares args self.old }
-        ensures runs { OnOk result (GroupRuns WAYS MergesAlone self.old self.new) }
+        ensures runs { GroupRuns WAYS MergesAlone self.old self.new }
         ensures ready { OnOk result (is_ready_at at self.new ≡ true) }
         ensures steps { steps.old ≤ steps.new }
         ensures cost { steps.new ≤ steps.old + group_merge_cost at self.old }
@@ -238,7 +247,7 @@ impl<const WAYS: usize> Group<WAYS> {
     /// Closes all open epochs of all switches, and merges all that are closed.
     pub fn drain<L: Ledger>(&mut self, steps: &mut Steps<L>) -> Result<(), AllocError>
         requires shares { (args : ℕ) × GroupShares args self.old }
-        ensures runs { OnOk result (GroupRuns WAYS NoPackets self.old self.new) }
+        ensures runs { GroupRuns WAYS NoPackets self.old self.new }
         ensures drained { OnOk result (group_is_drained self.new ≡ true) }
         ensures steps { steps.old ≤ steps.new }
     {

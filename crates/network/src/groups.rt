@@ -15,7 +15,7 @@ ghost use Rattle.switch_core.specs.Pipelines.{event_at};
 ghost use Rattle.switch_core.specs.PlanLanes.{lane_merge_cost};
 ghost use Rattle.switch_core.specs.Rows.{Each};
 ghost use Rattle.network.specs.Shared.{MergesAlone, NoPackets};
-ghost use Rattle.network.specs.Groups.{AreGroups, GroupGrows, GroupStands, GroupsRun, StoresHold, group_is_drained, shared_tables};
+ghost use Rattle.network.specs.Groups.{AreGroups, GroupGrows, GroupStands, GroupsRun, StoresHold, group_is_drained, shared_tables, with_first};
 ghost use Rattle.network.specs.Events.{AreAllMerged, AtFront, AtGroup, GroupsMake, StoresStay, is_ready_at};
 ghost use Rattle.network.specs.Costs.{AtSwitchLane, group_cost, group_merge_cost};
 
@@ -44,8 +44,8 @@ pub fn made_groups<const WAYS: usize>(
     Ok(groups)
 }
 
-/// Makes caches and pipes of the next switch, for each groupby.
-pub fn add_switch<const WAYS: usize>(
+// Makes caches and pipes of the next switch, for each groupby up to one that finds no memory.
+fn add_fronts<const WAYS: usize>(
     alloc: Global,
     plan: &Plan,
     groups: &mut [Group<WAYS>],
@@ -59,7 +59,8 @@ pub fn add_switch<const WAYS: usize>(
     requires groups { (switches : ℕ) × AreGroups plan.now switches groups.old }
     ensures are { OnOk result ((switches : ℕ) → AreGroups plan.now switches groups.old
         → AreGroups plan.now (switches + 1) groups.new) }
-    ensures grow { OnOk result (Each (GroupGrows WAYS buckets) groups.old groups.new) }
+    ensures grow { OnOk result (Each (GroupGrows WAYS buckets pipe_records) groups.old groups.new) }
+    ensures others { Each (λ old new. with_first (length old.fronts) new ≡ old) groups.old groups.new }
 {
     plan.known();
     for i in 0..groups.len() {
@@ -67,6 +68,44 @@ pub fn add_switch<const WAYS: usize>(
         group.add_switch(alloc, plan.group(i as u32), buckets, pipe_records)?;
     }
     Ok(())
+}
+
+// Keeps the caches and pipes of the first switches, so many, at each groupby.
+fn keep_switches<const WAYS: usize>(groups: &mut [Group<WAYS>], switches: usize)
+    ensures { Each (λ old new. new ≡ with_first switches old) groups.old groups.new }
+{
+    for i in 0..groups.len() {
+        let group = &mut groups[i];
+        group.keep_switches(switches);
+    }
+}
+
+/// Makes caches and pipes of the next switch, after so many, for each groupby; after a refusal of memory for none.
+pub fn add_switch<const WAYS: usize>(
+    alloc: Global,
+    plan: &Plan,
+    groups: &mut [Group<WAYS>],
+    switches: usize,
+    buckets: u32,
+    pipe_records: u32,
+) -> Result<(), AllocError>
+    requires ways { 0 < WAYS }
+    requires buckets { 0 < buckets }
+    requires places { buckets * WAYS ≤ 65536 }
+    requires pipe { (0 < pipe_records) × (pipe_records ≤ 65536) }
+    requires groups { AreGroups plan.now switches groups.old }
+    ensures are { OnOk result ((switches : ℕ) → AreGroups plan.now switches groups.old
+        → AreGroups plan.now (switches + 1) groups.new) }
+    ensures grow { OnOk result (Each (GroupGrows WAYS buckets pipe_records) groups.old groups.new) }
+    ensures err { OnErr result (groups.new ≡ groups.old) }
+{
+    match add_fronts(alloc, plan, groups, buckets, pipe_records) {
+        Ok(()) => Ok(()),
+        Err(AllocError) => {
+            keep_switches(groups, switches);
+            Err(AllocError)
+        }
+    }
 }
 
 /// Whether the pipe of a switch has room for a record at every groupby.
@@ -89,7 +128,7 @@ pub fn make_room<const WAYS: usize, L: Ledger>(
     steps: &mut Steps<L>,
 ) -> Result<(), AllocError>
     requires { (plan : PlanParts) × (switches : ℕ) × (at < switches) × AreGroups plan switches groups.old }
-    ensures runs { OnOk result (GroupsRun WAYS (λ n. MergesAlone) groups.old groups.new) }
+    ensures runs { GroupsRun WAYS (λ n. MergesAlone) groups.old groups.new }
     ensures ready { OnOk result (list_all (is_ready_at at) groups.new ≡ true) }
     ensures steps { steps.old ≤ steps.new }
     ensures cost { steps.new ≤ steps.old + sum_by (group_merge_cost at) groups.old }
@@ -178,7 +217,8 @@ pub fn merge_groups<const WAYS: usize, L: Ledger>(
     steps: &mut Steps<L>,
 ) -> Result<(), AllocError>
     requires { (plan : PlanParts) × (switches : ℕ) × (at < switches) × AreGroups plan switches groups.old }
-    ensures runs { OnOk result (GroupsRun WAYS (λ n. MergesAlone) groups.old groups.new) }
+    ensures runs { GroupsRun WAYS (λ n. MergesAlone) groups.old groups.new }
+    ensures ready { OnOk result (list_all (is_ready_at at) groups.new ≡ true) }
     ensures steps { steps.old ≤ steps.new }
     ensures cost { steps.new ≤ steps.old + sum_by (group_merge_cost at) groups.old }
 {
@@ -208,7 +248,7 @@ pub fn drain_groups<const WAYS: usize, L: Ledger>(
     steps: &mut Steps<L>,
 ) -> Result<(), AllocError>
     requires groups { (plan : PlanParts) × (switches : ℕ) × AreGroups plan switches groups.old }
-    ensures runs { OnOk result (GroupsRun WAYS (λ n. NoPackets) groups.old groups.new) }
+    ensures runs { GroupsRun WAYS (λ n. NoPackets) groups.old groups.new }
     ensures drained { OnOk result (list_all group_is_drained groups.new ≡ true) }
     ensures steps { steps.old ≤ steps.new }
 {

@@ -15,7 +15,8 @@ ghost use Rattle.network.specs.Shared.{IsTurnAt, MergesAlone, NoPackets};
 ghost use Rattle.network.specs.Groups.{GroupGrows, GroupStands, GroupsRun, StoresHold, group_is_drained, shared_tables};
 ghost use Rattle.network.specs.Events.{AreAllMerged, AtFront, AtGroup, OthersStay, StoresStay, is_ready_at};
 ghost use Rattle.network.specs.Costs.{AtSwitchLane};
-ghost use Rattle.network.specs.Networks.{IsNetwork, Keeps, NetworkMakes, groups_in, merges_cost, network_cost, turn_cost};
+ghost use Rattle.network.specs.Networks.{IsNetwork, Keeps, NetworkMakes, TurnBreaksOff, groups_in};
+ghost use Rattle.network.specs.Networks.{merges_cost, network_cost, turn_cost};
 
 use crate::group::Group;
 use crate::groups::{
@@ -61,6 +62,7 @@ impl<const WAYS: usize> Network<WAYS> {
         ensures is { IfOk result (IsNetwork 0) }
         ensures plan { IfOk result (λ net. net.plan ≡ plan) }
         ensures buckets { IfOk result (λ net. net.buckets ≡ buckets) }
+        ensures pipe { IfOk result (λ net. net.pipe_records ≡ pipe_records) }
         ensures stand { IfOk result (λ net. All (λ group. GroupStands WAYS buckets group [] []) (groups_in net)) }
     {
         let groups = made_groups(alloc, &plan)?;
@@ -80,17 +82,21 @@ impl<const WAYS: usize> Network<WAYS> {
         })
     }
 
-    /// Makes the caches and pipes of the next switch. There are at most 64.
+    /// Makes the caches and pipes of the next switch. There are at most 64. After a refusal of memory all is unchanged.
     pub fn add_switch(&mut self) -> Result<(), AllocError>
         requires is { (switches : ℕ) × (switches < 64) × IsNetwork switches self.old }
         ensures is { OnOk result ((switches : ℕ) → IsNetwork switches self.old → IsNetwork (switches + 1) self.new) }
-        ensures keeps { OnOk result (Keeps self.old self.new) }
-        ensures grow { OnOk result (Each (GroupGrows WAYS self.old.buckets) (groups_in self.old) (groups_in self.new)) }
+        ensures keeps { Keeps self.old self.new }
+        ensures err { OnErr result (groups_in self.new ≡ groups_in self.old) }
+        ensures still { OnErr result ((switches : ℕ) → IsNetwork switches self.old → IsNetwork switches self.new) }
+        ensures grow { OnOk result (Each (GroupGrows WAYS self.old.buckets self.old.pipe_records) (groups_in self.old)
+            (groups_in self.new)) }
     {
         add_switch(
             self.alloc,
             &self.plan,
             &mut self.groups,
+            self.switches as usize,
             self.buckets,
             self.pipe_records,
         )?;
@@ -219,9 +225,9 @@ impl<const WAYS: usize> Network<WAYS> {
     // Merges a record of a switch at each groupby where its pipe is full.
     fn make_room<L: Ledger>(&mut self, at: u32, steps: &mut Steps<L>) -> Result<(), AllocError>
         requires { (switches : ℕ) × (at < switches) × IsNetwork switches self.old }
-        ensures is { OnOk result ((switches : ℕ) → IsNetwork switches self.old → IsNetwork switches self.new) }
+        ensures is { (switches : ℕ) → IsNetwork switches self.old → IsNetwork switches self.new }
         ensures keeps { Keeps self.old self.new }
-        ensures runs { OnOk result (GroupsRun WAYS (λ n. MergesAlone) (groups_in self.old) (groups_in self.new)) }
+        ensures runs { GroupsRun WAYS (λ n. MergesAlone) (groups_in self.old) (groups_in self.new) }
         ensures ready { OnOk result (list_all (is_ready_at at) (groups_in self.new) ≡ true) }
         ensures steps { steps.old ≤ steps.new }
         ensures cost { steps.new ≤ steps.old + merges_cost at self.old }
@@ -232,9 +238,10 @@ impl<const WAYS: usize> Network<WAYS> {
     // Merges a record of a switch at each groupby that has one.
     fn catch_up<L: Ledger>(&mut self, at: u32, steps: &mut Steps<L>) -> Result<(), AllocError>
         requires { (switches : ℕ) × (at < switches) × IsNetwork switches self.old }
-        ensures is { OnOk result ((switches : ℕ) → IsNetwork switches self.old → IsNetwork switches self.new) }
+        ensures is { (switches : ℕ) → IsNetwork switches self.old → IsNetwork switches self.new }
         ensures keeps { Keeps self.old self.new }
-        ensures runs { OnOk result (GroupsRun WAYS (λ n. MergesAlone) (groups_in self.old) (groups_in self.new)) }
+        ensures runs { GroupsRun WAYS (λ n. MergesAlone) (groups_in self.old) (groups_in self.new) }
+        ensures ready { OnOk result (list_all (is_ready_at at) (groups_in self.new) ≡ true) }
         ensures steps { steps.old ≤ steps.new }
         ensures cost { steps.new ≤ steps.old + merges_cost at self.old }
     {
@@ -242,7 +249,8 @@ impl<const WAYS: usize> Network<WAYS> {
     }
 
     /// A packet of a switch with the merges around it: where one of its pipes is full, that lane merges a record; then the
-    /// packet; and each lane merges a record where the lag is over. No memory is taken but by a store for a new key.
+    /// packet; and each lane merges a record where the lag is over. No memory is taken but by a store for a new key. After a
+    /// refusal of memory the first of these events were made.
     pub fn turn<L: Ledger>(
         &mut self,
         at: u32,
@@ -251,10 +259,12 @@ impl<const WAYS: usize> Network<WAYS> {
         steps: &mut Steps<L>,
     ) -> Result<(), AllocError>
         requires is { (switches : ℕ) × (at < switches) × IsNetwork switches self.old }
-        ensures is { OnOk result ((switches : ℕ) → IsNetwork switches self.old → IsNetwork switches self.new) }
-        ensures keeps { OnOk result (Keeps self.old self.new) }
+        ensures is { (switches : ℕ) → IsNetwork switches self.old → IsNetwork switches self.new }
+        ensures keeps { Keeps self.old self.new }
         ensures runs { OnOk result (GroupsRun WAYS (λ n. IsTurnAt at (taken self.old.plan n packet.now.words))
             (groups_in self.old) (groups_in self.new)) }
+        ensures err { OnErr result (TurnBreaksOff at packet.now.words self.old self.new) }
+        ensures merged { OnOk result (lag_over ≡ true → list_all (is_ready_at at) (groups_in self.new) ≡ true) }
         ensures steps { steps.old ≤ steps.new }
         ensures cost { steps.new ≤ steps.old + turn_cost at self.old }
     {
@@ -266,12 +276,13 @@ impl<const WAYS: usize> Network<WAYS> {
         self.catch_up(at, steps)
     }
 
-    /// Closes all open epochs of all switches and merges all that are closed.
+    /// Closes all open epochs of all switches and merges all that are closed. After a refusal of memory the first of these
+    /// evictions and merges were made.
     pub fn drain<L: Ledger>(&mut self, steps: &mut Steps<L>) -> Result<(), AllocError>
         requires is { (switches : ℕ) × IsNetwork switches self.old }
-        ensures is { OnOk result ((switches : ℕ) → IsNetwork switches self.old → IsNetwork switches self.new) }
-        ensures keeps { OnOk result (Keeps self.old self.new) }
-        ensures runs { OnOk result (GroupsRun WAYS (λ n. NoPackets) (groups_in self.old) (groups_in self.new)) }
+        ensures is { (switches : ℕ) → IsNetwork switches self.old → IsNetwork switches self.new }
+        ensures keeps { Keeps self.old self.new }
+        ensures runs { GroupsRun WAYS (λ n. NoPackets) (groups_in self.old) (groups_in self.new) }
         ensures drained { OnOk result (list_all group_is_drained (groups_in self.new) ≡ true) }
         ensures steps { steps.old ≤ steps.new }
     {

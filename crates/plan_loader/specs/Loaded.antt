@@ -5,9 +5,9 @@ use Rattle.plan_file.specs.declared.made.Made.{Made}
 use Rattle.plan_file.specs.declared.lexemes.Lexeme.{Lexeme}
 use Rattle.plan_file.specs.Bodies.{IsBody}
 use Rattle.plan_file.specs.Texts.{Says}
-use Rattle.stage_plan.specs.Planned.{shape_of}
+use Rattle.stage_plan.specs.Planned.{plan_bound, shape_of}
 use Rattle.plan_loader.specs.declared.loaded.LoadedPlan.{LoadedPlan}
-use Rattle.plan_loader.specs.Meaning.{text_shape}
+use Rattle.plan_loader.specs.Meaning.{text_bound, text_shape}
 use Rattle.plan_loader.specs.Parts.{IsPlanFrom, IsSoundMade}
 use Rattle.plan_loader.specs.Reading.{block_written, stmts_for}
 
@@ -23,6 +23,10 @@ pub record IsLoaded (text : List ℕ) (loaded : LoadedPlan) : Type 0 where
   pub made : Made
   pub says : Says text made
   pub from : IsLoadedFrom made loaded
+
+-- Of a packet the plan takes at most as many steps as the text says, with caches of so many ways.
+abbrev pub HasBoundOf : List ℕ → LoadedPlan → Type 0
+HasBoundOf text loaded = (made : Made) (ways : ℕ) → Says text made → plan_bound loaded.plan ways ≡ text_bound made ways
 
 -- The tokens of a body write its statements, and these are made again of them.
 pub record BodiesAreRead : Type 0 where

@@ -2,7 +2,7 @@
 
 ghost use Rattle.std.specs.Prelude.{ℕ, IfOk, MatchResult};
 ghost use Rattle.plan_file.specs.Texts.{IsBadAt, IsOnlyAnswer, IsRefused};
-ghost use Rattle.plan_loader.specs.Loaded.{IsLoaded, IsLoadedFrom};
+ghost use Rattle.plan_loader.specs.Loaded.{HasBoundOf, IsLoaded, IsLoadedFrom};
 ghost use Rattle.plan_loader.specs.Parts.{IsSoundMade};
 
 use crate::groups::{set_read, wired_groups};
@@ -35,6 +35,7 @@ fn plan_of(alloc: Global, made: Made) -> Result<LoadedPlan, AllocError>
 /// nowhere if it is valid, and else at one place.
 pub fn read_plan(alloc: Global, text: &[u8]) -> Result<LoadedPlan, PlanFileAnswer>
     ensures answer { MatchResult result (IsLoaded text.now) (IsRefused text.now) }
+    ensures bound { IfOk result (HasBoundOf text.now) }
     ensures exact { MatchResult result (λ loaded. (place : ℕ) → IsBadAt text.now place → ⊥) (IsOnlyAnswer text.now) }
 {
     match read_text(alloc, text) {

@@ -9,6 +9,7 @@ mod replay;
 mod schedule;
 mod turn;
 
+pub use clock::Clock;
 pub use packets::Packets;
 pub use replay::{Replay, drive};
 pub use schedule::Schedule;

@@ -44,7 +44,7 @@ def pieces(packet: Packet, size: int) -> list[Packet]:
         found.append(packet._replace(
             identification=(packet.identification + number) % 65536,
             sequence=(packet.sequence + start) % 2**32 if packet.protocol == TCP else 0,
-            length=packet.header + min(size, packet.payload - start)))  # fmt: skip
+            length=packet.header + min(size, packet.payload - start)))
     return found
 
 
@@ -111,9 +111,12 @@ def long_starts(joined: Spool, is_long: Callable[[Packet], bool]) -> dict[bytes,
 
 def as_the_other_shows(joined: Spool, apart: Spool) -> SizeFor | None:
     """Cuts packets of `joined` that are longer than any of `apart`, to the length of those that begin there where they begin."""
-    longest = max(apart.longest.values(), default=0)
-    limits = {addresses: apart.longest.get(addresses, longest) for addresses in joined.longest}
-    if all(length <= limits[addresses] for addresses, length in joined.longest.items()) or not longest:
+    longest = apart.longest
+    if not longest or joined.longest <= min(longest, ETHERNET):
+        return None
+    lengths_apart, lengths_joined = apart.longest_of_pairs(), joined.longest_of_pairs()
+    limits = {addresses: lengths_apart.get(addresses, longest) for addresses in lengths_joined}
+    if all(length <= limits[addresses] for addresses, length in lengths_joined.items()):
         return None
 
     def is_long(packet: Packet) -> bool:

@@ -5,15 +5,14 @@ from dataclasses import dataclass, field
 from ipaddress import IPv4Address, IPv4Network
 from math import log
 
-from marple_captures.matching import Matches, Pair
-from marple_captures.records import Packet, Spool
+from marple_captures.matching import NEVER, Matches, Pair
+from marple_captures.records import Fields, Spool
 
 MOST_STRANGE = 0.02  # of the packets after the queue may match none before it
 MOST_EARLY = 0.01  # of the matched packets may leave before they came
 CHANCE = 1e-6  # a row of losses less likely than this is no accident
 SMALL = 100_000  # nanoseconds: clocks of two machines rarely agree as well as this
 TOLERANCE = 1_000_000  # nanoseconds by which least latencies differ in any case
-NEVER = 2**63
 TEN = 10  # the other direction may have this many times the bytes of the queue's
 
 
@@ -50,11 +49,11 @@ class Findings:
         """Whether all packets before the queue are in the trace."""
         return not self.left_out and not self.begin and self.end == NEVER
 
-    def takes(self, slot: int, packet: Packet) -> bool:
+    def takes(self, slot: int, fields: Fields) -> bool:
         """Whether the packet in this place is in the trace."""
-        if (slot < self.first and packet.time < self.begin) or (slot > self.last and packet.time > self.end):
+        if (slot < self.first and fields[-1] < self.begin) or (slot > self.last and fields[-1] > self.end):
             return False
-        return packet.source + packet.target not in self.left_out
+        return fields[0] + fields[1] not in self.left_out
 
     @property
     def strange_share(self) -> float:
@@ -127,20 +126,32 @@ def trim(findings: Findings, matches: Matches, before: Spool, after: Spool, opti
         return
     begin, end = after.first + options.shift, after.last + options.shift
     first, last = min(pair.first for pair in seen), max(pair.last for pair in seen)
-    unmatched = [slot for addresses, slot in matches.unmatched_before() if addresses in kept]
-    early = [slot for slot in unmatched if slot < first and before.time_of(slot) < begin]
-    late = [slot for slot in unmatched if slot > last and before.time_of(slot) > end]
-    lost = findings.came - findings.left - len(early) - len(late)
-    rest = findings.came - len(early) - len(late)
-    if is_no_accident(len(early), lost, rest):
+    early = late = 0
+    for addresses, slot in matches.unmatched_before():
+        if addresses in kept:
+            early += slot < first and before.time_of(slot) < begin
+            late += slot > last and before.time_of(slot) > end
+    lost = findings.came - findings.left - early - late
+    rest = findings.came - early - late
+    if is_no_accident(early, lost, rest):
         findings.first, findings.begin = first, begin
-        findings.came -= len(early)
-        findings.notes.append(f"{packets(len(early))} came before {options.after} begins: left out, since nothing says what left then")
-    if is_no_accident(len(late), lost, rest):
+        findings.came -= early
+        findings.notes.append(f"{packets(early)} came before {options.after} begins: left out, since nothing says what left then")
+    if is_no_accident(late, lost, rest):
         findings.last, findings.end = last, end
-        findings.came -= len(late)
-        findings.notes.append(f"{packets(len(late))} came after {options.after} ends: left out, since nothing says what left then")
+        findings.came -= late
+        findings.notes.append(f"{packets(late)} came after {options.after} ends: left out, since nothing says what left then")
+    trim_after(findings, matches, kept, before, options)
+
+
+def trim_after(findings: Findings, matches: Matches, kept: dict[bytes, Pair], before: Spool, options: Options) -> None:
+    """Leaves out packets after the queue that came before the first capture began, or after it ended."""
+    seen = [pair for pair in kept.values() if pair.matched]
+    if before.first is None or before.last is None:
+        return
     began, ended = min(pair.began for pair in seen), max(pair.ended for pair in seen)
+    began = min(began, before.first + max(pair.greatest for pair in seen))
+    ended = max(ended, before.last)
     outside = sum(1 for addresses, time in matches.unmatched_after() if addresses in kept and not began <= time <= ended)
     if outside:
         findings.strange -= outside
@@ -198,13 +209,13 @@ def why_refused(findings: Findings, matches: Matches, options: Options) -> str:
         other = total((matches.pairs[addresses] for addresses in findings.left_out), "size")
         if other > TEN * size:
             return (f"most bytes are of packets that left before they came ({other} of {other + size}): the files are swapped, "
-                    f"give {options.after} first; or name the senders of the lesser direction by --direction")  # fmt: skip
+                    f"give {options.after} first; or name the senders of the lesser direction by --direction")
         ways = both_ways(kept)
         if 2 * total((kept[addresses] for addresses in ways), "matched") > findings.left:
             return why_both({addresses: kept[addresses] for addresses in ways}, options)
     if findings.strange_share > MOST_STRANGE:
         return (f"{findings.strange} of {packets(findings.expected)} after the queue match none before it: "
-                "take both captures at one queue, at the same time")  # fmt: skip
+                "take both captures at one queue, at the same time")
     return ""
 
 
@@ -213,7 +224,7 @@ def why_both(kept: dict[bytes, Pair], options: Options) -> str:
     shift = two_clocks(kept)
     if shift is not None and -shift >= SMALL:
         return (f"packets of both directions leave after they come, by {seconds(-shift)} and more: the captures have two clocks, "
-                f"give --shift {shift + options.shift}; or --both-directions if both pass the queue")  # fmt: skip
+                f"give --shift {shift + options.shift}; or --both-directions if both pass the queue")
     return "packets of both directions leave after they come: give --both-directions if both pass the queue, or --direction"
 
 

@@ -1,12 +1,14 @@
 """Finds for each packet after the queue the one before it, holding only packets that wait for their match."""
 
 import os
+from array import array
 from bisect import bisect_left
 from collections.abc import Iterator
 from dataclasses import dataclass, field
 
-from marple_captures.records import IDENTITY, LAYOUT, SPLIT, Departures, Spool
+from marple_captures.records import LAYOUT, SPLIT, Departures, Spool
 
+NEVER = 2**63  # nanoseconds: later than any packet
 RECENT = 65536  # the arrivals whose times are in memory; earlier ones are read from the spool
 
 
@@ -78,7 +80,7 @@ class Matcher:
         self.matches = Matches()
         self.departures = departures
         self.spool = os.open(before.path, os.O_RDONLY)
-        self.recent = [0] * RECENT
+        self.recent = array("q", bytes(8 * RECENT))
         self.arrivals = 0
         self.latency = 0
 
@@ -168,16 +170,19 @@ class Matcher:
 
 def match(before: Spool, after: Spool, departures: Departures, shift: int) -> Matches:
     """Matches two spools, read side by side by time; `shift` is added to the times after the queue."""
-    end = (b"\0" * IDENTITY, None)
-    arrivals, leavings = before.marks(), after.marks()
+    end = (b"", NEVER)
     with Matcher(before, departures) as matcher:
+        arrive, leave = matcher.arrive, matcher.leave
+        arrivals = before.marks()
         arriving, came = next(arrivals, end)
-        leaving, left = next(leavings, end)
-        while came is not None or left is not None:
-            if left is None or (came is not None and came <= left + shift):
-                matcher.arrive(arriving, came)
+        for leaving, left in after.marks():
+            left += shift
+            while came <= left:
+                arrive(arriving, came)
                 arriving, came = next(arrivals, end)
-            else:
-                matcher.leave(leaving, left + shift)
-                leaving, left = next(leavings, end)
+            leave(leaving, left)
+        if came != NEVER:
+            arrive(arriving, came)
+            for arriving, came in arrivals:
+                arrive(arriving, came)
         return matcher.finished()

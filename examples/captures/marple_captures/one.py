@@ -31,12 +31,12 @@ def make_trace(name: str, words: argparse.Namespace) -> None:
     need_tshark()
     with TemporaryDirectory(prefix="marple-") as folder:
         (spool,) = read_side_by_side(name, [words.capture], [Path(folder) / "packets"])
-        origin = first_second(spool.read()) if words.origin is None else words.origin
-        check_origin(spool.read(), origin)
+        origin = first_second(spool.fields()) if words.origin is None else words.origin
+        check_origin(spool.fields(), origin)
         print(f"{name}: {packets(spool.packets)} {were(spool.packets)} read", file=sys.stderr)
         if spool.foreign:
             print(f"{name}: {packets(spool.foreign)} without IPv4 {were(spool.foreign)} passed over", file=sys.stderr)
-        TraceWriter(sys.stdout, words.switch, words.queue, origin).write((packet, packet.time) for packet in spool.read())
+        TraceWriter(sys.stdout, words.switch, words.queue, origin).write((fields, fields[-1]) for fields in spool.fields())
 
 
 def main() -> None:

@@ -4,7 +4,8 @@ import os
 import struct
 from array import array
 from collections.abc import Callable, Iterator
-from dataclasses import dataclass, field
+from dataclasses import dataclass
+from functools import cached_property
 from pathlib import Path
 from typing import BinaryIO, NamedTuple
 
@@ -17,7 +18,10 @@ LAYOUT = struct.Struct(">4s4sIIHBHIHIq")
 SHORT_LAYOUT = struct.Struct(">4s4sQHBHIHIq")  # the same, with ports and sequence number in one word
 IDENTITY = 25
 SPLIT = struct.Struct(">25s6xq")
+LENGTH = struct.Struct(">21xI14x")
 BLOCK = 4096
+
+Fields = tuple[bytes, bytes, int, int, int, int, int, int, int, int, int]  # a packet's, where no names are needed
 
 
 class Packet(NamedTuple):
@@ -50,7 +54,6 @@ class Spool:
     foreign: int = 0
     first: int | None = None
     last: int | None = None
-    longest: dict[bytes, int] = field(default_factory=dict)  # the length of the longest packet from one address to another
 
     def blocks(self) -> Iterator[bytes]:
         """The records as bytes, a few thousand at a time."""
@@ -60,13 +63,30 @@ class Spool:
 
     def read(self) -> Iterator[Packet]:
         """The packets in the order of the capture."""
+        return map(Packet._make, self.fields())
+
+    def fields(self) -> Iterator[Fields]:
+        """The same, each as a plain tuple."""
         for block in self.blocks():
-            yield from map(Packet._make, LAYOUT.iter_unpack(block))
+            yield from LAYOUT.iter_unpack(block)
 
     def marks(self) -> Iterator[tuple[bytes, int]]:
         """The identity and the time of each packet, in the order of the capture."""
         for block in self.blocks():
             yield from SPLIT.iter_unpack(block)
+
+    @cached_property
+    def longest(self) -> int:
+        """The length of the longest packet."""
+        return max((max(LENGTH.iter_unpack(block)) for block in self.blocks()), default=(0,))[0]
+
+    def longest_of_pairs(self) -> dict[bytes, int]:
+        """The length of the longest packet from one address to another."""
+        found: dict[bytes, int] = {}
+        for packet in self.read():
+            addresses = packet.source + packet.target
+            found[addresses] = max(packet.length, found.get(addresses, 0))
+        return found
 
     def time_of(self, slot: int) -> int:
         """When the packet in this place came, counted from 0."""
@@ -76,7 +96,7 @@ class Spool:
 
     def rewritten(self, path: Path, change: Callable[[Packet], list[Packet]]) -> "Spool":
         """A spool at another path in which each packet is replaced by those that `change` makes of it."""
-        other = Spool(path, 0, self.foreign, self.first, self.last, self.longest)
+        other = Spool(path, 0, self.foreign, self.first, self.last)
         with path.open("wb") as file:
             for packet in self.read():
                 for piece in change(packet):

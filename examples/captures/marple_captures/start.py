@@ -10,11 +10,18 @@ from pathlib import Path
 from marple_captures import CaptureError
 
 
+def natural(text: str) -> int:
+    """A number of a command line that isn't negative."""
+    if not text.isdecimal():
+        raise argparse.ArgumentTypeError(f"not a natural number: {text}")
+    return int(text)
+
+
 def add_numbers(words: argparse.ArgumentParser) -> None:
     """Adds the options for the columns switch and qid, and for the origin of time."""
-    words.add_argument("--switch", type=int, default=1, metavar="N", help="the number of the switch (1)")
-    words.add_argument("--queue", type=int, default=0, metavar="N", help="the number of the queue in it (0)")
-    words.add_argument("--origin", type=int, metavar="S", help="the second of 1970 at which time begins")
+    words.add_argument("--switch", type=natural, default=1, metavar="N", help="the number of the switch (1)")
+    words.add_argument("--queue", type=natural, default=0, metavar="N", help="the number of the queue in it (0)")
+    words.add_argument("--origin", type=natural, metavar="S", help="the second of 1970 at which time begins")
 
 
 def start(words: argparse.ArgumentParser, work: Callable[[str, argparse.Namespace], None]) -> None:

@@ -7,7 +7,7 @@ from socket import inet_ntoa
 from typing import TextIO
 
 from marple_captures import CaptureError
-from marple_captures.records import Packet
+from marple_captures.records import Fields
 
 HEADER = "switch,qid,uid,srcip,dstip,srcport,dstport,proto,pkt_len,payload_len,tcpseq,tin,tout,qsize"
 SECOND = 1_000_000_000
@@ -29,11 +29,10 @@ class TraceWriter:
         self.inside: list[int] = []
         file.write(HEADER + "\n")
 
-    def write(self, packets: Iterable[tuple[Packet, int]]) -> None:
+    def write(self, packets: Iterable[tuple[Fields, int]]) -> None:
         """Writes packets with their departures, where 0 means that there was none."""
         write, start, origin, inside = self.file.write, self.start, self.origin, self.inside
-        for packet, left in packets:
-            source, target, ports, sequence, _, protocol, _, length, header, number, came = packet
+        for (source, target, ports, sequence, _, protocol, _, length, header, number, came), left in packets:
             while inside and inside[0] <= came:
                 heappop(inside)
             depth = len(inside)
@@ -42,16 +41,16 @@ class TraceWriter:
             elif left:
                 left = came
             write(f"{start},{number},{quad(source)},{quad(target)},{ports >> 16},{ports & 65535},{protocol},{length},"
-                  f"{max(0, length - header)},{sequence},{came - origin},{left - origin if left else 'inf'},{depth}\n")  # fmt: skip
+                  f"{max(0, length - header)},{sequence},{came - origin},{left - origin if left else 'inf'},{depth}\n")
 
 
-def first_second(packets: Iterator[Packet]) -> int:
+def first_second(packets: Iterator[Fields]) -> int:
     """The second of 1970 in which the first packet came, or 0 where there is none."""
-    return next((packet.time // SECOND for packet in packets), 0)
+    return next((fields[-1] // SECOND for fields in packets), 0)
 
 
-def check_origin(packets: Iterable[Packet], origin: int) -> None:
+def check_origin(packets: Iterable[Fields], origin: int) -> None:
     """Refuses an origin that a packet comes before."""
-    for packet in packets:
-        if packet.time < origin * SECOND:
-            raise CaptureError(f"packet {packet.number} came before the origin")
+    for *_, number, came in packets:
+        if came < origin * SECOND:
+            raise CaptureError(f"packet {number} came before the origin")

@@ -1,7 +1,9 @@
 """Reads captures by tshark: one line of columns for each packet, of which a record is made.
 
-Columns of the packet list are several times cheaper than `-T fields`, for which tshark formats each field of each packet. TCP
-and UDP aren't dissected: their ports, sequence number and header length stand at fixed places of the payload's first bytes.
+Columns of the packet list are several times cheaper than `-T fields`, for which tshark formats each field of each packet, and
+cheaper still where it dissects nothing above the link: a header of 20 bytes is read here. Where a capture holds anything that
+isn't so simple (other links, IP options, tunnels, very short snapshots), tshark dissects IP too, for all captures. TCP and UDP
+it never dissects: what a record needs of them stands in the first bytes of the payload.
 """
 
 import shutil
@@ -9,25 +11,42 @@ import subprocess
 import sys
 import tempfile
 import time
-from collections.abc import Iterator
+from collections.abc import Iterable, Iterator
+from contextlib import ExitStack
 from functools import lru_cache
-from itertools import islice
+from itertools import chain, islice
 from pathlib import Path
 from socket import inet_aton
+from struct import Struct
 from types import TracebackType
+from typing import BinaryIO
 
 from marple_captures import CaptureError
-from marple_captures.records import SHORT_LAYOUT, TCP, UDP, Spool
+from marple_captures.records import LAYOUT, SHORT_LAYOUT, TCP, UDP, Spool
 
 FIELDS = ("frame.time_epoch", "ip.src", "ip.dst", "ip.proto", "ip.hdr_len", "ip.len", "ip.id", "ip.frag_offset", "data.data")
+TCP_SIZES = [4 * int(chr(digit), 16) if chr(digit) in "0123456789abcdef" else 0 for digit in range(256)]  # of a header's length
+IP_HEADER = Struct(">BxHHHxB2x4s4sI")  # of 20 bytes, with the ports after it
+SHORTEST = 66  # hexadecimal digits of an IP header of 20 bytes and of TCP's first 13
+IPV4 = (b"0x0800", b"0x0021")  # what tshark says of a link's payload that it doesn't dissect: as Ethernet and as PPP number it
+IPV6 = (b"0x86dd", b"0x0057")
+IP_IN_IPV6 = b"04"
 TURN = 512  # lines that are read of one capture before the next one has its turn
 
 
-def command(capture: str) -> list[str]:
-    """The words that make tshark write the packet's number and FIELDS, separated by tabs, for each packet of a capture."""
-    columns = ['"number","%m"'] + [f'"{field}","%Cus:{field}:1:U"' for field in FIELDS]
+class NotSimple(Exception):
+    """A packet for which tshark has to dissect IP."""
+
+
+def command(capture: str, simple: bool) -> list[str]:
+    """The words that make tshark write columns, separated by tabs, for each packet of a capture."""
+    columns = [f'"{field}","%Cus:{field}:1:U"' for field in FIELDS]
+    without = ["tcp", "udp"]
+    if simple:
+        columns = ['"protocol","%p"', columns[0], columns[-1]]
+        without += ["ip", "ipv6"]
     return ["tshark", "-r", capture, "-n", "-T", "tabs", "-o", "gui.column.format:" + ",".join(columns),
-            "-o", "ip.defragment:FALSE", "--disable-protocol", "tcp", "--disable-protocol", "udp"]  # fmt: skip
+            "-o", "ip.defragment:FALSE", *chain.from_iterable(("--disable-protocol", name) for name in without)]
 
 
 def need_tshark() -> None:
@@ -39,7 +58,7 @@ def need_tshark() -> None:
 class Reading:
     """A tshark that reads one capture."""
 
-    def __init__(self, capture: str) -> None:
+    def __init__(self, capture: str, simple: bool) -> None:
         self.capture = capture
         try:
             with open(capture, "rb"):
@@ -47,7 +66,7 @@ class Reading:
         except OSError as error:
             raise CaptureError(f"cannot read {capture}: {error.strerror}") from error
         self.complaints = tempfile.TemporaryFile()
-        self.process = subprocess.Popen(command(capture), stdout=subprocess.PIPE, stderr=self.complaints)
+        self.process = subprocess.Popen(command(capture, simple), stdout=subprocess.PIPE, stderr=self.complaints)
 
     def __enter__(self) -> "Reading":
         return self
@@ -100,26 +119,49 @@ def number_of(data: bytes, start: int, digits: int) -> int:
 def transport(protocol: int, data: bytes) -> tuple[int, int]:
     """Ports and sequence number in one word, and the bytes of the transport header."""
     if protocol == TCP:
-        if len(data) > 26:
-            return int(data[:16], 16), 4 * int(data[24:25], 16)
         return number_of(data, 0, 8) << 32 | number_of(data, 8, 8), 4 * number_of(data, 24, 1)
     return (number_of(data, 0, 8) << 32, 8) if protocol == UDP else (0, 0)
 
 
-def record_of(line: bytes) -> tuple[int, bytes]:
-    """The time of a line's packet, and its record: empty where it has no IPv4 header."""
-    try:
-        number, epoch, source, target, protocol_text, header_text, length, identification, offset_text, data = line.split(b"\t")
-        moment = int(epoch[:-10] + epoch[-9:]) if epoch[-10:-9] == b"." else nanoseconds(epoch)
-        if not source:
-            return moment, b""
-        protocol, offset, header = head(protocol_text, offset_text, header_text)
-        # A fragment after the first has no ports.
-        word, size = transport(protocol, data) if offset == 0 else (0, 0)
-        return moment, SHORT_LAYOUT.pack(address(source), address(target), word, int(identification, 16), protocol, offset,
-                                         int(length), header + size, int(number), moment)  # fmt: skip
-    except (ValueError, OSError) as error:
-        raise CaptureError(f"tshark wrote a line that isn't understood: {line.decode(errors='replace').strip()}") from error
+def record_of(line: bytes, number: int) -> tuple[int, bytes]:
+    """The time of a packet of which tshark dissected IP, and its record: empty where it has no IPv4 header."""
+    epoch, source, target, protocol_text, header_text, length, identification, offset_text, data = line.split(b"\t")
+    moment = nanoseconds(epoch)
+    if not source:
+        return moment, b""
+    protocol, header, offset = head(protocol_text, header_text, offset_text)
+    # A fragment after the first has no ports.
+    word, size = (0, 0) if offset else transport(protocol, data)
+    return moment, SHORT_LAYOUT.pack(address(source), address(target), word, int(identification, 16), protocol, offset,
+                                     int(length), header + size, number, moment)
+
+
+def simple_record_of(line: bytes, number: int) -> tuple[int, bytes]:
+    """The same of a packet of which tshark dissected the link."""
+    kind, epoch, data = line.split(b"\t")
+    moment = int(epoch[:-10] + epoch[-9:]) if epoch[-10:-9] == b"." else nanoseconds(epoch)
+    if kind not in IPV4:
+        if len(data) > 1 and (not kind.startswith(b"0x") or (kind in IPV6 and data[12:14] in (IP_IN_IPV6, b"\n"))):
+            raise NotSimple
+        return moment, b""
+    digits = len(data) - 1
+    if digits < SHORTEST:
+        data = data[:-1].ljust(SHORTEST, b"0")
+    first, length, identification, place, protocol, source, target, ports = IP_HEADER.unpack(bytes.fromhex(data[:48].decode()))
+    offset = place & 0x1FFF
+    if first != 0x45 or length < 20 or digits < 40:
+        raise NotSimple
+    sequence, header = 0, 20
+    if offset or protocol not in (TCP, UDP):  # a fragment after the first has no ports
+        ports = 0
+    elif digits < (SHORTEST if protocol == TCP else 48):
+        raise NotSimple
+    elif protocol == TCP:
+        sequence = int(data[48:56], 16)
+        header += TCP_SIZES[data[64]]
+    else:
+        header += 8
+    return moment, LAYOUT.pack(source, target, ports, sequence, identification, protocol, offset, length, header, number, moment)
 
 
 class Progress:
@@ -144,49 +186,46 @@ class Progress:
             print("\r\033[K", end="", file=sys.stderr, flush=True)
 
 
-def fill(spool: Spool, lines: Iterator[bytes], file) -> bool:
+def fill(spool: Spool, lines: Iterable[bytes], file: BinaryIO, simple: bool) -> bool:
     """Writes the records of some lines; whether there were any."""
-    found = False
-    for line in lines:
-        found = True
-        moment, record = record_of(line)
-        if spool.first is None:
-            spool.first = moment
-        spool.last = moment
-        if not record:
-            spool.foreign += 1
-            continue
-        file.write(record)
-        spool.packets += 1
-        addresses = record[:8]
-        length = int.from_bytes(record[21:25])
-        if length > spool.longest.get(addresses, 0):
-            spool.longest[addresses] = length
-    return found
+    record = simple_record_of if simple else record_of
+    line = b""
+    found = []
+    try:
+        for number, line in enumerate(lines, spool.packets + spool.foreign + 1):
+            found.append(record(line, number))
+    except (ValueError, OSError) as error:
+        raise CaptureError(f"tshark wrote a line that isn't understood: {line.decode(errors='replace').strip()}") from error
+    if not found:
+        return False
+    if spool.first is None:
+        spool.first = found[0][0]
+    spool.last = found[-1][0]
+    records = [record for _, record in found if record]
+    file.write(b"".join(records))
+    spool.packets += len(records)
+    spool.foreign += len(found) - len(records)
+    return True
 
 
 def read_side_by_side(name: str, captures: list[str], paths: list[Path]) -> list[Spool]:
     """Reads captures at the same time, each by a tshark of its own, into spools at these paths."""
+    try:
+        return read_all(name, captures, paths, simple=True)
+    except NotSimple:
+        return read_all(name, captures, paths, simple=False)
+
+
+def read_all(name: str, captures: list[str], paths: list[Path], simple: bool) -> list[Spool]:
+    """Reads all captures, dissecting IP or not."""
     spools = [Spool(path) for path in paths]
     progress = Progress(name, spools)
-    readings: list[Reading] = []
-    try:
-        for capture in captures:
-            readings.append(Reading(capture))
-        turns = [(spool, reading.lines(), spool.path.open("wb")) for spool, reading in zip(spools, readings)]
+    with ExitStack() as stack:
+        stack.callback(progress.clear)
+        readings = [stack.enter_context(Reading(capture, simple)) for capture in captures]
+        files = [stack.enter_context(path.open("wb")) for path in paths]
+        turns = [(spool, reading.lines(), file) for spool, reading, file in zip(spools, readings, files, strict=True)]
         while turns:
-            turns = [turn for turn in turns if take_turn(*turn)]
+            turns = [turn for turn in turns if fill(turn[0], islice(turn[1], TURN), turn[2], simple)]
             progress.show()
-    finally:
-        progress.clear()
-        for reading in readings:
-            reading.__exit__(None, None, None)
     return spools
-
-
-def take_turn(spool: Spool, lines: Iterator[bytes], file) -> bool:
-    """Reads some lines of one capture; whether it may have more."""
-    if fill(spool, islice(lines, TURN), file):
-        return True
-    file.close()
-    return False

@@ -11,17 +11,18 @@ from marple_captures import CaptureError, cutting
 from marple_captures.cutting import Cut, SizeFor
 from marple_captures.findings import Findings, Options, judge, packets, were
 from marple_captures.matching import Matches, match
-from marple_captures.records import Departures, Packet, Spool
-from marple_captures.start import add_numbers, start
+from marple_captures.records import Departures, Fields, Spool
+from marple_captures.start import add_numbers, natural, start
 from marple_captures.trace import TraceWriter, check_origin, first_second
 from marple_captures.tshark import need_tshark, read_side_by_side
 
+LONGEST_HEADERS = 120  # bytes of an IP header and of a TCP header
 DESCRIPTION = """\
 Makes a trace from two captures, one before a queue and one after it.
 
 The trace has a record for each IPv4 packet of BEFORE that goes through the queue, in its order:
-  tin, tout   nanoseconds since the whole second in which BEFORE begins, or since the second S of 1970, which makes traces
-              of several queues fit together; tout is inf where AFTER doesn't have the packet
+  tin, tout   nanoseconds since the whole second in which the first IPv4 packet of BEFORE came, or since the second S of
+              1970, which makes traces of several queues fit together; tout is inf where AFTER doesn't have the packet
   qsize       how many earlier packets had come and not yet left at tin
   uid         the packet's number in BEFORE, as Wireshark shows it
   pkt_len     the bytes from the IP header on; payload_len those after the TCP or UDP header
@@ -30,6 +31,13 @@ sequence number and length are the same; of several alike, for the one that was 
 left last. What was read and what was done to it is said on standard error. Where the captures can't be believed there is
 no trace, and the status is 1. Needs tshark.
 """
+
+
+def piece_length(text: str) -> int:
+    """The length of a piece: more than the longest headers."""
+    if natural(text) <= LONGEST_HEADERS:
+        raise argparse.ArgumentTypeError(f"not above {LONGEST_HEADERS}, which headers may need: {text}")
+    return int(text)
 
 
 def parser() -> argparse.ArgumentParser:
@@ -41,10 +49,10 @@ def parser() -> argparse.ArgumentParser:
     words.add_argument("--shift", type=int, default=0, metavar="NS", help="add NS nanoseconds to AFTER's times")
     ways = words.add_mutually_exclusive_group()
     ways.add_argument("--direction", type=IPv4Network, action="append", default=[], metavar="NET", dest="networks",
-                      help="take packets from these source addresses alone, as 10.0.1.0/24; may be given several times")  # fmt: skip
+                      help="take packets from these source addresses alone, as 10.0.1.0/24; may be given several times")
     ways.add_argument("--both-directions", action="store_true", help="take the packets of both directions")
     cuts = words.add_mutually_exclusive_group()
-    cuts.add_argument("--split", type=int, metavar="BYTES", help="cut packets that are longer than BYTES to this length")
+    cuts.add_argument("--split", type=piece_length, metavar="BYTES", help="cut packets that are longer than BYTES to this length")
     cuts.add_argument("--no-split", action="store_true", help="cut no packets")
     words.add_argument("--force", action="store_true", help="write a trace of captures that can't be believed")
     return words
@@ -59,13 +67,13 @@ class Attempt:
             self.matches: Matches = match(cut.before, cut.after, self.departures, options.shift)
         self.findings: Findings = judge(self.matches, cut.before, cut.after, options)
 
-    def taken(self) -> Iterator[tuple[Packet, int]]:
+    def taken(self) -> Iterator[tuple[Fields, int]]:
         """The packets of the trace with their departures."""
-        everything = zip(self.cut.before.read(), self.departures.read(), strict=True)
+        everything = zip(self.cut.before.fields(), self.departures.read(), strict=True)
         if self.findings.takes_all:
             return everything
         takes = self.findings.takes
-        return ((packet, left) for slot, (packet, left) in enumerate(everything) if takes(slot, packet))
+        return ((fields, left) for slot, (fields, left) in enumerate(everything) if takes(slot, fields))
 
 
 def ways_to_cut(before: Spool, after: Spool, words: argparse.Namespace) -> Iterator[tuple[SizeFor | None, SizeFor | None]]:
@@ -77,8 +85,7 @@ def ways_to_cut(before: Spool, after: Spool, words: argparse.Namespace) -> Itera
         yield size_for, size_for
     else:
         yield cutting.as_the_other_shows(before, after), cutting.as_the_other_shows(after, before)
-        longest = min(max(spool.longest.values(), default=0) for spool in (before, after))
-        if longest > cutting.ETHERNET:
+        if min(before.longest, after.longest) > cutting.ETHERNET:
             size_for = cutting.to_ethernet(before, after)
             yield size_for, size_for
 
@@ -129,7 +136,7 @@ def make_trace(name: str, words: argparse.Namespace) -> None:
     with TemporaryDirectory(prefix="marple-") as folder:
         room = Path(folder)
         spools = read_side_by_side(name, [words.before, words.after], [room / "before", room / "after"])
-        origin = first_second(spools[0].read()) if words.origin is None else words.origin
+        origin = first_second(spools[0].fields()) if words.origin is None else words.origin
         attempt = best_attempt(spools, room, words, options)
         for note in notes(attempt, spools[0].foreign):
             print(f"{name}: {note}", file=sys.stderr)
@@ -139,5 +146,5 @@ def make_trace(name: str, words: argparse.Namespace) -> None:
         if refusal:
             print(f"{name}: by force: {refusal}", file=sys.stderr)
         if words.origin is not None:
-            check_origin((packet for packet, _ in attempt.taken()), origin)
+            check_origin((fields for fields, _ in attempt.taken()), origin)
         TraceWriter(sys.stdout, words.switch, words.queue, origin).write(attempt.taken())

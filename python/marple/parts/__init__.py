@@ -33,15 +33,17 @@ from marple.program import find_program
 from marple.tables import Answer, read_tables
 
 __all__ = [
-    "Choice", "FieldNeeded", "FieldRefused", "FinalGroupby", "FinalOfTop", "HeadersDiffer", "KeyTooLarge", "OptionRefused",
-    "PartsAnswer", "PartsRefused", "QueryUnread", "RecordTooLong", "WorkTaken", "choose", "run", "tables_file",
+    "Choice", "FieldNeeded", "FieldRefused", "FinalGroupby", "FinalOfTop", "HeadersDiffer", "KeyTooLarge",
+    "OptionRefused", "PartsAnswer", "PartsRefused", "QueryUnread", "RecordTooLong", "WorkTaken", "choose", "run", "tables_file",
 ]
 
 PIECE = 64 << 20
 
 
 class PartsAnswer(Answer):
-    """The tables over all traces. by: the fields that the parts were made by, none where states add; parts: how many runs."""
+    """The tables over all traces. by: the fields that the parts were made by, none where states add; parts: how many
+    runs.
+    """
 
     by: tuple[str, ...] = ()
     parts: int = 0
@@ -55,19 +57,20 @@ def run(
 ) -> PartsAnswer:  # fmt: skip
     """The tables of the query over the packets of all traces, in their order, by runs over parts of them.
 
-    query: a path, or a text, which has a `;`. traces: paths of files with one header. by: fields to split by; by default all
-    that the query allows. parts: how many at least. client: a distributed.Client, whose workers see the traces and the folder
-    at the same paths; without one the tasks run one after another here. work: a folder for what is made on the way, where a
-    second call with the same arguments goes on; by default one that is deleted at the end. The options are those of the
-    program for each part. piece: how many bytes a task splits. report: takes lines of progress.
-    Raises what `marple.run` raises, where a TraceRefused has the file in `path`, and PartsRefused.
+    query: a path, or a text, which has a `;`. traces: paths of files with one header. by: fields to split by; by
+    default all that the query allows. parts: how many at least. client: a distributed.Client, whose workers see the
+    traces and the folder at the same paths; without one the tasks run one after another here. work: a folder for what
+    is made on the way, where a second call with the same arguments goes on; by default one that is deleted at the end.
+    The options are those of the program for each part. piece: how many bytes a task splits. report: takes lines of
+    progress. Raises what `marple.run` raises, where a TraceRefused has the file in `path`, and PartsRefused.
     """
     given = {"buckets": buckets, "ways": ways, "pipe": pipe, "lag": lag}
     text = query_text(query)
     with folder_of(work) as folder:
         joined, choice, runs = tables_file(
-            text, traces, by=by, parts=parts, client=client, work=folder, given=given, program=program, piece=piece, report=report
-        )
+            text, traces, by=by, parts=parts, client=client, work=folder, given=given, program=program, piece=piece,
+            report=report,
+        )  # fmt: skip
         with open(joined, "rb") as file:
             answer = PartsAnswer(list(read_tables(file.read(), keys_of_finals(text)).values()))
     answer.by, answer.parts = choice.by, len(runs)

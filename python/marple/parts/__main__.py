@@ -19,8 +19,8 @@ NUMBERED = ("refresh", "every")  # they count the packets of the whole
 
 
 class Progress:
-    """Writes lines of progress: one that is rewritten at a terminal; elsewhere the end of each stage, and in between one line
-    in ten seconds.
+    """Writes lines of progress: one that is rewritten at a terminal; elsewhere the end of each stage, and in between
+    one line in ten seconds.
     """
 
     EVERY = 10

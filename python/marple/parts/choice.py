@@ -13,8 +13,8 @@ from marple.queries import Item, Items, UnreadQuery, read_query
 class Join:
     """How a printed table is put together from those of the parts.
 
-    keys: how many columns are its keys; best: of a `top`, the column and the number of rows; starts: where states add, those
-    of the state variables.
+    keys: how many columns are its keys; best: of a `top`, the column and the number of rows; starts: where states add,
+    those of the state variables.
     """
 
     name: str
@@ -25,7 +25,8 @@ class Join:
 
 @dataclass(frozen=True)
 class Choice:
-    """by: the fields whose numbers decide the part, or none where the packets may go to any part; joins: of the tables."""
+    """by: the fields whose numbers decide the part, or none where the packets may go to any part; joins: of the tables.
+    """
 
     by: tuple[str, ...]
     joins: tuple[Join, ...]
@@ -54,7 +55,8 @@ def choose(query: bytes, by: tuple[str, ...] | None, program: str | os.PathLike 
         return _by_fields(items, fields, "keys of every groupby that is printed or read")
     if not sums or any(item.final for item in needed):
         raise FieldNeeded(_field_needed(groups, sums))
-    joins = [Join(group.name, len(group.keys), starts=tuple(group.states.values())) for group in _printed(items, groups)]
+    printed = _printed(items, groups)
+    joins = [Join(group.name, len(group.keys), starts=tuple(group.states.values())) for group in printed]
     return Choice((), tuple(joins), "no field is a key of every groupby, and all states add")
 
 
@@ -93,14 +95,14 @@ def _refuse_finals(needed: tuple[Item, ...]) -> None:
     for item in needed:
         if item.final and item.operator == "groupby":
             raise FinalGroupby(
-                f"{item.name} groups rows of a table, which may be of several parts: print {item.inputs[0]}, and group its rows "
-                "where they are put together"
+                f"{item.name} groups rows of a table, which may be of several parts: print {item.inputs[0]}, and group its "
+                "rows where they are put together"
             )
         for name in item.inputs:
             if item.final and name in tops:
                 raise FinalOfTop(
-                    f"{item.name} is made from {name}, which has the best rows of the whole and not of a part: print {name}, and "
-                    f"do what {item.name} does with its rows"
+                    f"{item.name} is made from {name}, which has the best rows of the whole and not of a part: "
+                    f"print {name}, and do what {item.name} does with its rows"
                 )
 
 
@@ -125,4 +127,5 @@ def _field_needed(groups: list[Group], sums: bool) -> str:
     if sums:
         return f"{text}, or print no final (the folds add, so that groupbys alone may run over any pieces)"
     others = ", ".join(group.name for group in groups if not only_adds(group.body))
-    return f"{text}, or make the fold of {others} additive (x = x + e, where e and the conditions read no state) and print no final"
+    form = "x = x + e, where e and the conditions read no state"
+    return f"{text}, or make the fold of {others} additive ({form}) and print no final"

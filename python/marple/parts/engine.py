@@ -39,7 +39,8 @@ class OnCluster:
     def each(self, task: Callable, calls: Iterable[tuple], counted: Counted) -> list:
         from distributed import as_completed
 
-        # Not pure: what a task gives also depends on files, which an earlier run of the same call may have left otherwise.
+        # Not pure: what a task gives also depends on files, which an earlier run of the same call may have left
+        # otherwise.
         futures = [self.client.submit(task, *call, pure=False) for call in calls]
         try:
             for done, future in enumerate(as_completed(futures), 1):
@@ -53,9 +54,10 @@ class OnCluster:
 def local_client(workers: int):
     """A client of a cluster on this machine, of so many processes."""
     distributed = _distributed()
-    # What fails is reported by the tasks themselves; memory_limit 0 is none, since the runs of the program aren't in its count.
+    # What fails is reported by the tasks themselves; memory_limit 0 is none, since the runs of the program aren't in
+    # its count.
     cluster = distributed.LocalCluster(
-        n_workers=workers, threads_per_worker=1, processes=True, dashboard_address=None, memory_limit=0,
+        n_workers=workers, threads_per_worker=1, processes=True, dashboard_address=":0", memory_limit=0,
         silence_logs=logging.CRITICAL,
     )  # fmt: skip
     return distributed.Client(cluster)

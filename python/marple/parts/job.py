@@ -188,7 +188,8 @@ class Job:
             for part in parts
         ]
         runs = self.engine.each(run_part, calls, self._count("ran"))
-        failed = [_refusal(ran, self.query, part.place) for ran, part in zip(runs, parts, strict=True) if ran.status != 0]
+        pairs = zip(runs, parts, strict=True)
+        failed = [_refusal(ran, self.query, part.place) for ran, part in pairs if ran.status != 0]
         others = [one for one in failed if not isinstance(one, TraceRefused)]
         if failed:
             order = {path: number for number, path in enumerate(self.traces)}
@@ -213,7 +214,8 @@ def _difference(mine: dict, theirs: dict) -> str:
 
 
 def _spans(path: str, begins: list[int], end: int, quote: int | None) -> list[Span]:
-    """The spans of a trace: from each beginning to the next, and one from the last before the first quote to the end."""
+    """The spans of a trace: from each beginning to the next, and one from the last before the first quote to the end.
+    """
     cuts = [at for at in begins if at < end]
     if quote is not None:
         cuts = [at for at in cuts if at <= quote]

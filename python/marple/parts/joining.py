@@ -75,8 +75,8 @@ class _Waiting:
 
 
 def merged(tables: Iterable[PartTable], keys: int) -> Iterator[tuple[list[Key], list[bytes]]]:
-    """The rows of all tables in ascending order of their keys, with these, in lists; rows of one key stand in one list, but for
-    those of one table, and in the order of their table.
+    """The rows of all tables in ascending order of their keys, with these, in lists; rows of one key stand in one list,
+    but for those of one table, and in the order of their table.
     """
     waiting = [_Waiting(table, key_reader(keys)) for table in tables]
     while waiting := [one for one in waiting if one.rows]:
@@ -126,7 +126,9 @@ def _best(join: Join, columns: bytes, tables: list[PartTable]) -> list[bytes]:
 
 
 def _sums(join: Join, tables: list[PartTable]) -> Iterator[list[bytes]]:
-    """A row for each key: each state is its start and what the parts' states are above it, modulo 2^64; epochs are summed."""
+    """A row for each key: each state is its start and what the parts' states are above it, modulo 2^64; epochs are
+    summed.
+    """
     for keys, rows in merged(tables, join.keys):
         sums: dict[Key, list[int]] = {}
         for key, row in zip(keys, rows, strict=True):

@@ -12,8 +12,8 @@ from marple.parts.tasks import find_record
 
 @dataclass
 class Source:
-    """What one task splits: spans of a trace, of which `before` records of its file come earlier; or the records of a part in
-    one piece of an earlier split.
+    """What one task splits: spans of a trace, of which `before` records of its file come earlier; or the records of a
+    part in one piece of an earlier split.
     """
 
     spans: Sequence[Span]
@@ -31,7 +31,9 @@ class Source:
 
 @dataclass
 class Part:
-    """The records of one run. number: the part's in its split; place: the file and record of the one with a number, from 1."""
+    """The records of one run. number: the part's in its split; place: the file and record of the one with a number,
+    from 1.
+    """
 
     name: str
     number: int

@@ -32,7 +32,9 @@ class Span:
 
 @dataclass(frozen=True)
 class Header:
-    """The first record of a trace. text: as it stands there; names: its columns; end: where the data begin; size: of the file."""
+    """The first record of a trace. text: as it stands there; names: its columns; end: where the data begin; size: of
+    the file.
+    """
 
     text: bytes
     names: tuple[str, ...]
@@ -108,7 +110,9 @@ def record_sizes(span: Span) -> Iterator[list[int]]:
 
 
 def quoted_records(span: Span) -> Iterator[tuple[bytes, list[str]]]:
-    """The records of a span that may have quotes: the text of each, with an end, and its fields, whose characters are bytes."""
+    """The records of a span that may have quotes: the text of each, with an end, and its fields, whose characters are
+    bytes.
+    """
     last = None
     for text, fields in _records(_lines(span), span.path):
         if not fields:
@@ -156,7 +160,9 @@ def _bound(size: int, path: str) -> None:
 
 
 def closed(text: bytes) -> bytes:
-    """The text of a record so that another record may follow: with an end, and with the quote that the end of a file closed."""
+    """The text of a record so that another record may follow: with an end, and with the quote that the end of a file
+    closed.
+    """
     lines = iter([*text.splitlines(True), b"\n"])
     next(_records(lines))
     if next(lines, None) is None:

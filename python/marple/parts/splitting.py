@@ -28,8 +28,8 @@ REMEMBERED = 1 << 18  # how many texts of keys are remembered with their parts
 class Splitting:
     """A function from records to parts: by the numbers of these fields, which stand in these columns.
 
-    level: how often the records were split before, since each level has a function of its own. A record in which a field is
-    missing or is no number goes to part 0, where the program finds the fault.
+    level: how often the records were split before, since each level has a function of its own. A record in which a
+    field is missing or is no number goes to part 0, where the program finds the fault.
     """
 
     fields: tuple[str, ...]
@@ -86,8 +86,8 @@ def _parts_of_texts(splitting: Splitting, records: list[bytes]) -> list[int]:
 
 
 def _parts_of_columns(splitting: Splitting, text, ends, records: list[bytes]) -> list[int]:
-    """The parts of the records of a text, which have these ends, column by column. What isn't 1 to 19 digits is read record by
-    record.
+    """The parts of the records of a text, which have these ends, column by column. What isn't 1 to 19 digits is read
+    record by record.
     """
     starts = numpy.concatenate(([0], ends[:-1] + 1))
     commas = numpy.flatnonzero(text == 44)
@@ -142,7 +142,9 @@ def with_parts(splitting: Splitting, span: Span) -> Iterator[tuple[list[bytes], 
 
 @dataclass(frozen=True)
 class Round:
-    """What was written at one time: where it begins in the file, and the bytes and records of each part, part after part."""
+    """What was written at one time: where it begins in the file, and the bytes and records of each part, part after
+    part.
+    """
 
     start: int
     bytes: tuple[int, ...]
@@ -164,9 +166,8 @@ class Piece:
 
     def spans(self, part: int) -> list[Span]:
         """Where the records of a part stand, in order."""
-        return [
-            Span(self.path, one.places[part], one.places[part + 1], self.quoted) for one in self.rounds if one.bytes[part]
-        ]
+        own = [one.places[part : part + 2] for one in self.rounds if one.bytes[part]]
+        return [Span(self.path, start, end, self.quoted) for start, end in own]
 
     def records(self, part: int) -> int:
         """How many records the part has in this piece."""

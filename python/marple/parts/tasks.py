@@ -16,8 +16,8 @@ END = re.compile(rb"[\r\n]")
 
 @dataclass(frozen=True)
 class Looked:
-    """What stands in a stretch of a file: the first place at which a record may begin, the number of line ends, and the first
-    quote, each None where there is none.
+    """What stands in a stretch of a file: the first place at which a record may begin, the number of line ends, and the
+    first quote, each None where there is none.
     """
 
     begins: int | None
@@ -26,8 +26,8 @@ class Looked:
 
 
 def look(path: str, start: int, end: int) -> Looked:
-    """Looks through the bytes of a file from start to end. A record begins after a line end; where quotes come earlier in the
-    file, perhaps not.
+    """Looks through the bytes of a file from start to end. A record begins after a line end; where quotes come earlier
+    in the file, perhaps not.
     """
     begins = quote = None
     ends = 0
@@ -121,10 +121,12 @@ class Ran:
 
 
 def run_part(words: Sequence[str], header: bytes, spans: Sequence[Span], packets: int, path: str) -> Ran:
-    """Runs the program over the header and the records of the spans. A second call finds what the first one did, if that gave
-    tables.
+    """Runs the program over the header and the records of the spans. A second call finds what the first one did, if
+    that gave tables.
     """
-    made = keep(f"{path}.json", lambda: asdict(_run_part(words, header, spans, packets, path)), lambda made: made["status"] == 0)
+    made = keep(
+        f"{path}.json", lambda: asdict(_run_part(words, header, spans, packets, path)), lambda made: made["status"] == 0
+    )
     return Ran(**(made | {"tables": tuple(made["tables"])}))
 
 

@@ -74,3 +74,6 @@ returns-clause-written g c =
     let ends = ends_at c.args.typed.now c.args.plan c.in_ok-fresh.fresh c.in_ok-pipeline.pipeline of words c.requires.valid c.requires.plan c.in_ok-fresh.ensures.plan c.in_ok-pipeline.ensures.keeps.plan
     (c.requires.buckets, c.requires.ways) c.requires.whole c.in_ok-pipeline.ensures.machines in
     subst (Appends (g.O.Sink.taken c.args.out.now) (g.O.Sink.taken c.write_all.new.out)) (c.as_slice.ensures ∙ c.in_ok-text.ensures.text of words ends) c.in_ok-write_all.ensures.ok
+
+pub returns-clause-pipe_places : goal.returns-clause-pipe_places
+returns-clause-pipe_places g c = c.in_ok-pipeline.ensures.pipe_places c.args.schedule.pipe c.in_ok-fresh.ensures.pipe_places

@@ -13,7 +13,7 @@ print_tables-requires-clause-shapes g c =
     let r = c.requires.follows in
     let same : c.in_ok-tables.tables ≡ net_tables q (caches_of old.buckets g.row.WAYS) r.1 =
     end_tables c.alike_foldings_make_one_table.ensures c.ends_are_the_net_tables.ensures q r.0 r.1 old c.drain.new.self c.in_ok-tables.tables c.requires.valid c.requires.combines c.requires.tells c.requires.plan r.2 r.3
-    c.in_ok-drain.ensures.keeps (c.in_ok-drain.ensures.is (length r.0) r.3.is) c.in_ok-drain.ensures.runs c.in_ok-drain.ensures.drained c.in_ok-tables.ensures in
+    c.drain.ensures.keeps (c.drain.ensures.is (length r.0) r.3.is) c.drain.ensures.runs c.in_ok-drain.ensures.drained c.in_ok-tables.ensures in
     ap (map table_shape) same
     ∙ (c.net_tables_are_read.ensures q old.plan (caches_of old.buckets g.row.WAYS) r.1 c.requires.valid c.requires.plan (subst IsSoundPlan c.plan.ensures c.known.ensures) r.2).1
 
@@ -24,7 +24,7 @@ print_tables-requires-clause-tables g c =
     let r = c.requires.follows in
     let same : c.in_ok-tables.tables ≡ net_tables q (caches_of old.buckets g.row.WAYS) r.1 =
     end_tables c.alike_foldings_make_one_table.ensures c.ends_are_the_net_tables.ensures q r.0 r.1 old c.drain.new.self c.in_ok-tables.tables c.requires.valid c.requires.combines c.requires.tells c.requires.plan r.2 r.3
-    c.in_ok-drain.ensures.keeps (c.in_ok-drain.ensures.is (length r.0) r.3.is) c.in_ok-drain.ensures.runs c.in_ok-drain.ensures.drained c.in_ok-tables.ensures in
+    c.drain.ensures.keeps (c.drain.ensures.is (length r.0) r.3.is) c.drain.ensures.runs c.in_ok-drain.ensures.drained c.in_ok-tables.ensures in
     subst (All IsTable) (sym same)
     (c.net_tables_are_read.ensures q old.plan (caches_of old.buckets g.row.WAYS) r.1 c.requires.valid c.requires.plan (subst IsSoundPlan c.plan.ensures c.known.ensures) r.2).0
 
@@ -34,5 +34,5 @@ returns-clause-text g c known packets whole f =
     let old = c.args.network.now in
     text_is q old.buckets g.row.WAYS packets c.in_ok-tables.tables c.in_ok-text.text
     (end_tables c.alike_foldings_make_one_table.ensures c.ends_are_the_net_tables.ensures q known packets old c.drain.new.self c.in_ok-tables.tables c.requires.valid c.requires.combines c.requires.tells c.requires.plan whole f
-    c.in_ok-drain.ensures.keeps (c.in_ok-drain.ensures.is (length known) f.is) c.in_ok-drain.ensures.runs c.in_ok-drain.ensures.drained c.in_ok-tables.ensures)
+    c.drain.ensures.keeps (c.drain.ensures.is (length known) f.is) c.drain.ensures.runs c.in_ok-drain.ensures.drained c.in_ok-tables.ensures)
     c.in_ok-text.ensures.text

@@ -1,6 +1,6 @@
-use Rattle.std.proofs.Common.{◌≡◌, ◌≢◌, ◌+◌, ◌<◌, ◌++◌, [], ◌∷◌, Some, length, sym, ◌∙◌, subst, arith, length-append}
+use Rattle.std.proofs.Common.{◌≡◌, ◌≢◌, ◌++◌, [], ◌∷◌, Some, length, sym, ◌∙◌, subst, arith, length-append}
 use Rattle.std.proofs.lemmas.Bool.Decides.{nat_tests}
-use Rattle.net_wide.specs.Numbering.{place_among, switch_number, with_switch}
+use Rattle.net_wide.specs.Numbering.{place_among, switch_number}
 use Rattle.network.specs.Networks.{IsNetwork}
 use Rattle.driven_net.specs.Follows.{NetFollows}
 use Rattle.driven_net.proofs.Known.{number_is, known_same, known_more}

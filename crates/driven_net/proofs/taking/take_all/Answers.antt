@@ -6,6 +6,7 @@ use Rattle.net_wide.specs.NetTables.{switch_in}
 use Rattle.net_wide.specs.Numbering.{with_switch}
 use Rattle.driven_net.specs.Follows.{NetFollows}
 use Rattle.driven_net.specs.NetTraces.{fault_at, first_fault}
+use Rattle.driven_net.proofs.Counting.{lag_clocks}
 use Rattle.driven_net.proofs.Following.{follows_start}
 use Rattle.driven_net.proofs.taking.take_all.Goals as goal
 
@@ -15,8 +16,8 @@ packets-init g c =
     record {
       fault = ap (λ ks. first_fault ks 1 (words_of trace.packets) trace.fault) (sym c.new-known.ensures);
       follows = ([], refl, refl, subst (λ ks. NetFollows ks [] c.args.network) (sym c.new-known.ensures) (follows_start c.args.network c.requires.is c.requires.fresh));
-      keeps = record { plan = refl; buckets = refl };
-      since = refl;
+      keeps = record { plan = refl; buckets = refl; pipe_records = refl };
+      clocks = lag_clocks c.args.lag c.new-clocks.result c.new-clocks.ensures.every c.new-clocks.ensures.counted;
       later = omega arith;
     }
 
@@ -61,7 +62,7 @@ packets-preserved g c =
         ap (λ m. m + 1) f.2 ∙ sym (length-append f.0 (words ∷ [])),
         one.follows f.0 f.3,
       );
-      keeps = record { plan = one.keeps.plan ∙ was.keeps.plan; buckets = one.keeps.buckets ∙ was.keeps.buckets };
-      since = c.take_one.auto.since ∙ was.since;
+      keeps = record { plan = one.keeps.plan ∙ was.keeps.plan; buckets = one.keeps.buckets ∙ was.keeps.buckets; pipe_records = one.keeps.pipe_records ∙ was.keeps.pipe_records };
+      clocks = c.take_one.ensures.clocks c.args.lag was.clocks;
       later = let a = c.take_one.ensures.steps in let b = was.later in omega arith;
     }

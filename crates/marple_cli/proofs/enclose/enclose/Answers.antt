@@ -32,8 +32,8 @@ returns-in_err-bytes-clause-ends g c =
     not_read g.O.Sink.taken g.O.Sink.faults command before middle after accepts (reads_of q) (λ found. found.fault) text refl refl (enclose_is before q known c.args.setting) c.in_ok-query.ensures.trace_kept
     c.args.out.now c.from_residual-in_err-bytes.result c.in_err-bytes.field-0.0 c.from_residual-in_err-bytes.ensures.1 c.in_err-bytes.ensures.err
 
-pub returns-in_err-enclose_over_trace-clause-ends : goal.returns-in_err-enclose_over_trace-clause-ends
-returns-in_err-enclose_over_trace-clause-ends g c =
+pub returns-in_err-_driven-clause-ends : goal.returns-in_err-_driven-clause-ends
+returns-in_err-_driven-clause-ends g c =
     let before : Which → Input = g.I.Inputs.input c.args.inputs.now in
     let middle : Which → Input = g.I.Inputs.input c.query_for_bounds.new.inputs in
     let after : Which → Input = g.I.Inputs.input c.read_trace.new.inputs in
@@ -44,7 +44,7 @@ returns-in_err-enclose_over_trace-clause-ends g c =
     let text = λ (found : Contents). enclose_text q (geometry_of c.args.setting) (words_of found.packets) in
     broken_off g.O.Sink.taken g.O.Sink.faults command before middle after accepts (reads_of q) (λ found. found.fault) text refl refl (enclose_is before q known c.args.setting) c.in_ok-query.ensures.trace_kept
     c.in_ok-bytes.bytes c.as_slice.result.now c.in_ok-bytes.ensures.ok c.as_slice.ensures c.args.out.now c.enclose_over_trace.new.out
-    c.from_residual-in_err-enclose_over_trace.result c.in_err-enclose_over_trace.field-0.0 c.from_residual-in_err-enclose_over_trace.ensures.1 c.in_err-enclose_over_trace.ensures.breaks_off
+    c.from_residual-in_err-_driven.result c.in_err-_driven.field-0.0 c.from_residual-in_err-_driven.ensures.1 c.in_err-_driven.ensures.breaks_off
 
 pub returns-clause-ends : goal.returns-clause-ends
 returns-clause-ends g c =
@@ -58,4 +58,4 @@ returns-clause-ends g c =
     let text = λ (found : Contents). enclose_text q (geometry_of c.args.setting) (words_of found.packets) in
     whole_written g.O.Sink.taken g.O.Sink.faults command before middle after accepts (reads_of q) (λ found. found.fault) text refl refl (enclose_is before q known c.args.setting) c.in_ok-query.ensures.trace_kept
     c.in_ok-bytes.bytes c.as_slice.result.now c.in_ok-bytes.ensures.ok c.as_slice.ensures c.args.out.now c.enclose_over_trace.new.out
-    c.in_ok-enclose_over_trace.ensures.accepted c.in_ok-enclose_over_trace.ensures.written
+    c.in_ok-_driven.ensures.accepted c.in_ok-_driven.ensures.written

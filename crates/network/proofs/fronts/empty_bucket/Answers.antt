@@ -24,7 +24,7 @@ returns-then-not-evict-clause-runs g c =
     let new = c.evict.new.self in
     let store = c.make_room.new.store in
     then_sweeps stands folding g.row.WAYS first mid new c.args.store.now store store
-    (then_merges stands folding g.row.WAYS first c.loop-front.front mid c.args.store.now c.loop-front.store store c.loop-front.invariant.runs c.in_ok-make_room.ensures.runs)
+    (then_merges stands folding g.row.WAYS first c.loop-front.front mid c.args.store.now c.loop-front.store store c.loop-front.invariant.runs c.make_room.ensures.runs)
     (runs_evict (g.K.EpochKind.stands mid.kind) (g.K.EpochKind.folding mid.kind) g.row.WAYS c.args.bucket mid new store c.evict.ensures.makes)
 
 pub loop-front-preserved : goal.loop-front-preserved
@@ -38,7 +38,7 @@ loop-front-preserved g c =
     let store = c.make_room.new.store in
     record {
       runs = then_sweeps stands folding g.row.WAYS first mid new c.args.store.now store store
-          (then_merges stands folding g.row.WAYS first c.loop-front.front mid c.args.store.now c.loop-front.store store c.loop-front.invariant.runs c.in_ok-make_room.ensures.runs)
+          (then_merges stands folding g.row.WAYS first c.loop-front.front mid c.args.store.now c.loop-front.store store c.loop-front.invariant.runs c.make_room.ensures.runs)
           (runs_evict (g.K.EpochKind.stands mid.kind) (g.K.EpochKind.folding mid.kind) g.row.WAYS bucket mid new store c.evict.ensures.makes);
       others = λ other apart.
           ap (λ x. list_at x other) c.evict.ensures.cache
@@ -46,3 +46,9 @@ loop-front-preserved g c =
           ∙ (ap (λ x. list_at x other) c.make_room.ensures.cache ∙ c.loop-front.invariant.others other apart));
       later = let a = c.make_room.ensures.steps in let b = c.evict.ensures.at_least in let i = c.loop-front.invariant.later in omega arith;
     }
+
+pub returns-in_err-make_room-clause-runs : goal.returns-in_err-make_room-clause-runs
+returns-in_err-make_room-clause-runs g c =
+    let stands : g.row.K.Denot → Standing = λ kind. g.K.EpochKind.stands kind in
+    let folding : g.row.K.Denot → Folding = λ kind. g.K.EpochKind.folding kind in
+    then_merges stands folding g.row.WAYS c.args.front.now c.loop-front.front c.make_room.new.front c.args.store.now c.loop-front.store c.make_room.new.store c.loop-front.invariant.runs c.make_room.ensures.runs

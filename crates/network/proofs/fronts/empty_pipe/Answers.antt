@@ -17,7 +17,7 @@ records-preserved g c =
     let was = c.records.invariant in
     record {
       runs = then_merges (λ kind. g.K.EpochKind.stands kind) (λ kind. g.K.EpochKind.folding kind) g.row.WAYS c.args.front.now c.records.front c.merge_once.new.front
-          c.args.store.now c.records.store c.merge_once.new.store was.runs c.in_ok-merge_once.ensures.runs;
+          c.args.store.now c.records.store c.merge_once.new.store was.runs c.merge_once.ensures.runs;
       cache = c.merge_once.ensures.cache ∙ was.cache;
       later = let a = was.later in let b = c.merge_once.ensures.steps in omega arith;
     }
@@ -25,4 +25,9 @@ records-preserved g c =
 pub returns-clause-runs : goal.returns-clause-runs
 returns-clause-runs g c =
     then_merges (λ kind. g.K.EpochKind.stands kind) (λ kind. g.K.EpochKind.folding kind) g.row.WAYS c.args.front.now c.records.front c.merge_once.new.front
-    c.args.store.now c.records.store c.merge_once.new.store c.records.invariant.runs c.in_ok-merge_once.ensures.runs
+    c.args.store.now c.records.store c.merge_once.new.store c.records.invariant.runs c.merge_once.ensures.runs
+
+pub returns-in_err-merge_once-clause-runs : goal.returns-in_err-merge_once-clause-runs
+returns-in_err-merge_once-clause-runs g c =
+    then_merges (λ kind. g.K.EpochKind.stands kind) (λ kind. g.K.EpochKind.folding kind) g.row.WAYS c.args.front.now c.records.front c.merge_once.new.front
+    c.args.store.now c.records.store c.merge_once.new.store c.records.invariant.runs c.merge_once.ensures.runs

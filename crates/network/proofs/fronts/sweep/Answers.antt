@@ -22,7 +22,7 @@ loop-bucket-preserved g c =
     let new = c.empty_bucket.new.front in
     record {
       runs = then_sweeps (λ kind. g.K.EpochKind.stands kind) (λ kind. g.K.EpochKind.folding kind) g.row.WAYS c.args.front.now c.loop-bucket.front new
-          c.args.store.now c.loop-bucket.store c.empty_bucket.new.store was.runs c.in_ok-empty_bucket.ensures.runs;
+          c.args.store.now c.loop-bucket.store c.empty_bucket.new.store was.runs c.empty_bucket.ensures.runs;
       empty = λ other below. ⊎_elim
           (λ (e : other ≡ bucket). ap (λ b. length (list_at new.cache b)) e ∙ c.in_ok-empty_bucket.ensures.empty)
           (λ (apart : other ≡ bucket → ⊥). ap length (c.empty_bucket.ensures.others other apart) ∙ was.empty other (omega arith))
@@ -37,3 +37,8 @@ returns-clause-held g c =
     let a = c.loop-bucket-test.false in let b = c.loop-bucket.auto.bucket-end in let n = c.buckets-bucket-end.ensures.number ∙ ap (λ x. length x.lists) c.cache.ensures in omega arith in
     let same = c.loop-bucket.invariant.runs.kept.buckets in
     empty_held c.loop-bucket.front.cache.lists (λ b l. c.loop-bucket.invariant.empty b (omega arith))
+
+pub returns-in_err-empty_bucket-clause-runs : goal.returns-in_err-empty_bucket-clause-runs
+returns-in_err-empty_bucket-clause-runs g c =
+    then_sweeps (λ kind. g.K.EpochKind.stands kind) (λ kind. g.K.EpochKind.folding kind) g.row.WAYS c.args.front.now c.loop-bucket.front c.empty_bucket.new.front
+    c.args.store.now c.loop-bucket.store c.empty_bucket.new.store c.loop-bucket.invariant.runs c.empty_bucket.ensures.runs

@@ -55,7 +55,7 @@ loop-i-preserved g c =
           let ran = c.loop-i.invariant.runs f args share in
           let own = still_share sizes folding f args first fronts before store ran.fronts ran.store share i was here in
           shared_on stands f g.row.WAYS NoPackets NoPackets NoPackets first fronts (set fronts i now) before store after no_packets_behind ran
-          (one_runs stands folding g.row.WAYS i NoPacket fronts was now here f NoPackets store after (no_packets_at i) own.alike c.in_ok-drain.ensures.runs);
+          (one_runs stands folding g.row.WAYS i NoPacket fronts was now here f NoPackets store after (no_packets_at i) own.alike c.drain.ensures.runs);
       drained = λ s front less e. by_test (s == i)
           (λ t. let at : s ≡ i = grind (arith, nat_tests) in
           let same = same_some front now (sym e ∙ (ap (λ n. slice_get (set fronts i now) n) at ∙ got_set fronts i now below)) in
@@ -72,3 +72,24 @@ returns-clause-drained g c =
     let end = c.loop-i-test.false in
     all_pass (λ front. is_drained front.cache front.pipe) fronts
     (λ s front e. c.loop-i.invariant.drained s front (let b = got_within fronts s front e in omega arith) e)
+
+pub returns-in_err-drain-clause-runs : goal.returns-in_err-drain-clause-runs
+returns-in_err-drain-clause-runs g c f args share =
+    let i = c.loop-i.i in
+    let first = c.args.fronts.now in
+    let fronts = c.loop-i.fronts in
+    let was = get_or fronts i c.index-fronts-i.result in
+    let now = c.drain.new.front in
+    let before = c.args.store.now in
+    let store = c.loop-i.store in
+    let after = c.drain.new.store in
+    let kept = c.loop-i.auto.fronts in
+    let below : i < length fronts = let b = c.loop-i-test.true in omega arith in
+    let here = got_here fronts i c.index-fronts-i.result below in
+    let sizes : g.row.K.Denot → Sizes = λ kind. g.K.EpochKind.sizes kind in
+    let folding : g.row.K.Denot → Folding = λ kind. g.K.EpochKind.folding kind in
+    let stands : g.row.K.Denot → Standing = λ kind. g.K.EpochKind.stands kind in
+    let ran = c.loop-i.invariant.runs f args share in
+    let own = still_share sizes folding f args first fronts before store ran.fronts ran.store share i was here in
+    shared_on stands f g.row.WAYS NoPackets NoPackets NoPackets first fronts (set fronts i now) before store after no_packets_behind ran
+    (one_runs stands folding g.row.WAYS i NoPacket fronts was now here f NoPackets store after (no_packets_at i) own.alike c.drain.ensures.runs)

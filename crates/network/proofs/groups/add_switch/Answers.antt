@@ -1,82 +1,8 @@
-use Rattle.std.proofs.Common.{◌≡◌, ◌<◌, ◌+◌, length, get_or, sym, ◌∙◌, subst, arith, lit<}
-use Rattle.std.proofs.Math.Facts.{Fits-below}
-use Rattle.stage_plan.specs.Planned.{wiring_at}
-use Rattle.stage_plan.specs.Sound.{IsSoundGroup}
-use Rattle.switch_core.proofs.SideBySide.{same_some, each_long, done_start, untouched_start, done_next, untouched_next, untouched_was, done_end}
-use Rattle.net_wide.proofs.Sharing.{got_here}
-use Rattle.network.specs.Groups.{GroupGrows, IsGroup}
-use Rattle.network.proofs.GroupSteps.{Grown, all_grown, part_of}
+use Rattle.std.proofs.Common.{lit<}
+use Rattle.network.proofs.GroupSteps.{kept_back}
 use Rattle.network.proofs.groups.add_switch.Goals as goal
 
-pub loop-i-init : goal.loop-i-init
-loop-i-init g c = record {
-  are = done_start (Grown c.args.plan.now) 0 c.args.groups.now;
-  grow = done_start (λ n. GroupGrows g.row.WAYS c.args.buckets) 0 c.args.groups.now;
-  same = untouched_start 0 0 c.args.groups.now;
-}
-
-pub overflow_cast-i : goal.overflow_cast-i
-overflow_cast-i g c =
-    let many = c.known.ensures.most_groups in
-    let long : length c.args.groups.now ≡ length c.args.plan.now.groups = each_long _ 0 c.args.groups.now c.args.plan.now.groups c.requires.groups.1 in
-    let kept = c.loop-i.auto.groups in
-    let below = c.loop-i-test.true in
-    Fits-below {n = 8} tt (omega arith)
-
-pub group-requires : goal.group-requires
-group-requires g c =
-    let long : length c.args.groups.now ≡ length c.args.plan.now.groups = each_long _ 0 c.args.groups.now c.args.plan.now.groups c.requires.groups.1 in
-    let kept = c.loop-i.auto.groups in
-    let below = c.loop-i-test.true in
-    omega arith
-
-pub add_switch-requires : goal.add_switch-requires
-add_switch-requires g c =
-    let i = c.loop-i.i in
-    let first = c.args.groups.now in
-    let group = get_or c.loop-i.groups i c.index-groups-i.result in
-    let kept = c.loop-i.auto.groups in
-    let below : i < length c.loop-i.groups = let b = c.loop-i-test.true in omega arith in
-    let was = untouched_was i first c.loop-i.groups group c.loop-i.invariant.same (omega arith) (got_here c.loop-i.groups i c.index-groups-i.result below) in
-    let own = part_of c.args.plan.now c.requires.groups.0 i first group c.known.ensures c.requires.groups.1 was in
-    let same = same_some own.part c.group.result.now (sym own.there ∙ c.group.ensures) in
-    let sound = subst (λ p. IsSoundGroup own.registers p (wiring_at c.args.plan.now i)) same own.sound in
-    (lit< tt, (c.requires.ways, (c.requires.buckets, (c.requires.places, (c.requires.pipe, (sound.program, (sound.some_keys, sound.most_keys)))))))
-
-pub loop-i-preserved : goal.loop-i-preserved
-loop-i-preserved g c =
-    let i = c.loop-i.i in
-    let plan = c.args.plan.now in
-    let first = c.args.groups.now in
-    let groups = c.loop-i.groups in
-    let group = get_or groups i c.index-groups-i.result in
-    let new = c.add_switch.new.self in
-    let kept = c.loop-i.auto.groups in
-    let below : i < length groups = let b = c.loop-i-test.true in omega arith in
-    let was = untouched_was i first groups group c.loop-i.invariant.same (omega arith) (got_here groups i c.index-groups-i.result below) in
-    let own = part_of plan c.requires.groups.0 i first group c.known.ensures c.requires.groups.1 was in
-    let grown : Grown plan i group new =
-    λ switches part there is.
-    let one = same_some own.part part (sym own.there ∙ there) in
-    let other = same_some c.group.result.now part (sym c.group.ensures ∙ there) in
-    subst (λ p. IsGroup (switches + 1) p (wiring_at plan i) new) other
-    (c.in_ok-add_switch.ensures.is switches own.registers (wiring_at plan i) (subst (λ p. IsSoundGroup own.registers p (wiring_at plan i)) (one ∙ sym other) own.sound)
-    (subst (λ p. IsGroup switches p (wiring_at plan i) group) (sym other) is)) in
-    record {
-      are = done_next (Grown plan) i first groups new c.loop-i.invariant.are (λ x e. subst (λ v. Grown plan i v new) (same_some group x (sym was ∙ e)) grown);
-      grow = done_next (λ n. GroupGrows g.row.WAYS c.args.buckets) i first groups new c.loop-i.invariant.grow
-          (λ x e. subst (λ v. GroupGrows g.row.WAYS c.args.buckets v new) (same_some group x (sym was ∙ e)) c.in_ok-add_switch.ensures.grows);
-      same = untouched_next i first groups new c.loop-i.invariant.same;
-    }
-
-pub returns-clause-are : goal.returns-clause-are
-returns-clause-are g c switches are =
-    let kept = c.loop-i.auto.groups in
-    let end = c.loop-i-test.false in
-    all_grown c.args.plan.now switches c.args.groups.now c.loop-i.groups are (done_end (Grown c.args.plan.now) c.loop-i.i c.args.groups.now c.loop-i.groups c.loop-i.invariant.are (omega arith))
-
-pub returns-clause-grow : goal.returns-clause-grow
-returns-clause-grow g c =
-    let kept = c.loop-i.auto.groups in
-    let end = c.loop-i-test.false in
-    done_end (λ n. GroupGrows g.row.WAYS c.args.buckets) c.loop-i.i c.args.groups.now c.loop-i.groups c.loop-i.invariant.grow (omega arith)
+pub returns-in-Err-clause-err : goal.returns-in-Err-clause-err
+returns-in-Err-clause-err g c =
+    kept_back c.args.plan.now c.args.switches 0 c.args.groups.now c.add_fronts.new.groups c.keep_switches.new.groups c.args.plan.now.groups c.requires.groups
+    c.add_fronts.ensures.others c.keep_switches.ensures

@@ -9,6 +9,7 @@ use Rattle.net_wide.proofs.Sharing.{got_here}
 use Rattle.network.specs.Shared.{NoPackets}
 use Rattle.network.specs.Groups.{GroupRuns, IsGroup, group_is_drained}
 use Rattle.network.proofs.SharedSteps.{got_other, got_within, all_pass}
+use Rattle.network.proofs.MakeSteps.{run_so_far}
 use Rattle.network.proofs.groups.drain_groups.Goals as goal
 
 pub loop-i-init : goal.loop-i-init
@@ -43,7 +44,7 @@ loop-i-preserved g c =
     let was = untouched_was i first groups group c.loop-i.invariant.same (omega arith) (got_here groups i c.index-groups-i.result below) in
     record {
       runs = done_next (λ n. GroupRuns g.row.WAYS NoPackets) i first groups new c.loop-i.invariant.runs
-          (λ x e. subst (λ v. GroupRuns g.row.WAYS NoPackets v new) (same_some group x (sym was ∙ e)) c.in_ok-drain.ensures.runs);
+          (λ x e. subst (λ v. GroupRuns g.row.WAYS NoPackets v new) (same_some group x (sym was ∙ e)) c.drain.ensures.runs);
       same = untouched_next i first groups new c.loop-i.invariant.same;
       drained = λ s x less e. by_test (s == i)
           (λ t. let at : s ≡ i = grind (arith, nat_tests) in
@@ -66,3 +67,18 @@ returns-clause-drained g c =
     let kept = c.loop-i.auto.groups in
     let end = c.loop-i-test.false in
     all_pass group_is_drained groups (λ s x e. c.loop-i.invariant.drained s x (let b = got_within groups s x e in omega arith) e)
+
+pub returns-in_err-drain-clause-runs : goal.returns-in_err-drain-clause-runs
+returns-in_err-drain-clause-runs g c =
+    let i = c.loop-i.i in
+    let first = c.args.groups.now in
+    let groups = c.loop-i.groups in
+    let group = get_or groups i c.index-groups-i.result in
+    let new = c.drain.new.self in
+    let kept = c.loop-i.auto.groups in
+    let below : i < length groups = let b = c.loop-i-test.true in omega arith in
+    let was = untouched_was i first groups group c.loop-i.invariant.same (omega arith) (got_here groups i c.index-groups-i.result below) in
+    run_so_far g.row.WAYS (i + 1) 0 NoPackets first (set groups i new) tt
+    (done_next (λ n. GroupRuns g.row.WAYS NoPackets) i first groups new c.loop-i.invariant.runs
+    (λ x e. subst (λ v. GroupRuns g.row.WAYS NoPackets v new) (same_some group x (sym was ∙ e)) c.drain.ensures.runs))
+    (untouched_next i first groups new c.loop-i.invariant.same)

@@ -1,4 +1,4 @@
-use Rattle.std.proofs.Common.{◌≡◌, ◌<◌, ◌+◌, ◌==◌, true, false, length, take, get_or, set, sym, ap, ◌∙◌, subst, arith, lit<}
+use Rattle.std.proofs.Common.{◌≡◌, ◌<◌, ◌+◌, ◌==◌, true, false, length, take, get_or, set, refl, sym, ap, ◌∙◌, subst, arith, lit<}
 use Rattle.std.specs.Prelude.{slice_get, sum_by}
 use Rattle.std.proofs.lemmas.Bool.Decides.{nat_tests}
 use Rattle.epoch_model.proofs.KeyLists.{by_test}
@@ -13,7 +13,7 @@ use Rattle.network.specs.Events.{is_ready_at}
 use Rattle.network.specs.Costs.{group_merge_cost}
 use Rattle.network.proofs.CostSteps.{within_next}
 use Rattle.network.proofs.SharedSteps.{got_other, got_within, all_pass}
-use Rattle.network.proofs.MakeSteps.{merge_runs, shares_at, switch_within}
+use Rattle.network.proofs.MakeSteps.{run_so_far, shares_at, switch_within}
 use Rattle.network.proofs.groups.make_room.Goals as goal
 
 pub loop-i-init : goal.loop-i-init
@@ -48,7 +48,7 @@ loop-i-preserved g c =
     let was = untouched_was i first groups group c.loop-i.invariant.same (omega arith) (got_here groups i c.index-groups-i.result below) in
     record {
       runs = done_next (λ n. GroupRuns g.row.WAYS MergesAlone) i first groups new c.loop-i.invariant.runs
-          (λ x e. subst (λ v. GroupRuns g.row.WAYS MergesAlone v new) (same_some group x (sym was ∙ e)) c.in_ok-make_room.ensures.runs);
+          (λ x e. subst (λ v. GroupRuns g.row.WAYS MergesAlone v new) (same_some group x (sym was ∙ e)) c.make_room.ensures.runs);
       same = untouched_next i first groups new c.loop-i.invariant.same;
       ready = λ s x less e. by_test (s == i)
           (λ t. let at : s ≡ i = grind (arith, nat_tests) in
@@ -92,3 +92,18 @@ returns-in_err-make_room-clause-cost g c =
     c.loop-i.invariant.cost c.make_room.ensures.cost in
     let all = sum_within most (i + 1) first in
     omega arith
+
+pub returns-in_err-make_room-clause-runs : goal.returns-in_err-make_room-clause-runs
+returns-in_err-make_room-clause-runs g c =
+    let i = c.loop-i.i in
+    let first = c.args.groups.now in
+    let groups = c.loop-i.groups in
+    let group = get_or groups i c.index-groups-i.result in
+    let new = c.make_room.new.self in
+    let kept = c.loop-i.auto.groups in
+    let below : i < length groups = let b = c.loop-i-test.true in omega arith in
+    let was = untouched_was i first groups group c.loop-i.invariant.same (omega arith) (got_here groups i c.index-groups-i.result below) in
+    run_so_far g.row.WAYS (i + 1) 0 MergesAlone first (set groups i new) refl
+    (done_next (λ n. GroupRuns g.row.WAYS MergesAlone) i first groups new c.loop-i.invariant.runs
+    (λ x e. subst (λ v. GroupRuns g.row.WAYS MergesAlone v new) (same_some group x (sym was ∙ e)) c.make_room.ensures.runs))
+    (untouched_next i first groups new c.loop-i.invariant.same)

@@ -1,4 +1,4 @@
-use Rattle.std.proofs.Common.{◌≡◌, ◌<◌, ◌+◌, ◌==◌, true, false, length, take, get_or, set, sym, ap, ◌∙◌, subst, arith, lit<}
+use Rattle.std.proofs.Common.{◌≡◌, ◌<◌, ◌+◌, ◌==◌, true, false, length, take, get_or, set, refl, sym, ap, ◌∙◌, subst, arith, lit<}
 use Rattle.std.specs.Prelude.{slice_get, sum_by}
 use Rattle.std.proofs.lemmas.Bool.Decides.{nat_tests}
 use Rattle.epoch_model.proofs.KeyLists.{by_test}
@@ -13,13 +13,14 @@ use Rattle.network.specs.Events.{is_ready_at}
 use Rattle.network.specs.Costs.{group_merge_cost}
 use Rattle.network.proofs.CostSteps.{within_next}
 use Rattle.network.proofs.SharedSteps.{got_other, got_within, all_pass}
-use Rattle.network.proofs.MakeSteps.{merge_runs, shares_at, switch_within}
+use Rattle.network.proofs.MakeSteps.{group_none, merge_runs, run_so_far, shares_at, switch_within}
 use Rattle.network.proofs.groups.merge_groups.Goals as goal
 
 pub loop-i-init : goal.loop-i-init
 loop-i-init g c = record {
   runs = done_start (λ n. GroupRuns g.row.WAYS MergesAlone) 0 c.args.groups.now;
   same = untouched_start 0 0 c.args.groups.now;
+  ready = λ s group below e. absurd (omega arith);
   later = omega arith;
   cost = omega arith;
 }
@@ -49,6 +50,12 @@ loop-i-preserved g c =
       runs = done_next (λ n. GroupRuns g.row.WAYS MergesAlone) i first groups new c.loop-i.invariant.runs
           (λ x e. subst (λ v. GroupRuns g.row.WAYS MergesAlone v new) (same_some group x (sym was ∙ e)) (merge_runs g.row.WAYS c.args.at group new c.in_ok-_merged.ensures.makes));
       same = untouched_next i first groups new c.loop-i.invariant.same;
+      ready = λ s x less e. by_test (s == i)
+          (λ t. let at : s ≡ i = grind (arith, nat_tests) in
+          let same = same_some x new (sym e ∙ (ap (λ n. slice_get (set groups i new) n) at ∙ got_set groups i new below)) in
+          ap (is_ready_at c.args.at) same ∙ c.in_ok-_merged.ensures.ready)
+          (λ t. let apart : s ≡ i → ⊥ = grind (arith, nat_tests) in
+          c.loop-i.invariant.ready s x (let a = apart in omega arith) (sym (got_other groups i s new apart) ∙ e));
       later = let a = c.merge.ensures.steps in let b = c.loop-i.invariant.later in omega arith;
       cost =
           let most = group_merge_cost c.args.at in
@@ -61,6 +68,13 @@ returns-clause-runs g c =
     let kept = c.loop-i.auto.groups in
     let end = c.loop-i-test.false in
     done_end (λ n. GroupRuns g.row.WAYS MergesAlone) c.loop-i.i c.args.groups.now c.loop-i.groups c.loop-i.invariant.runs (omega arith)
+
+pub returns-clause-ready : goal.returns-clause-ready
+returns-clause-ready g c =
+    let groups = c.loop-i.groups in
+    let kept = c.loop-i.auto.groups in
+    let end = c.loop-i-test.false in
+    all_pass (is_ready_at c.args.at) groups (λ s x e. c.loop-i.invariant.ready s x (let b = got_within groups s x e in omega arith) e)
 
 pub returns-clause-cost : goal.returns-clause-cost
 returns-clause-cost g c = omega (arith, sum_within (group_merge_cost c.args.at) c.loop-i.i c.args.groups.now, c.loop-i.invariant.cost)
@@ -78,3 +92,18 @@ returns-in_err-_merged-clause-cost g c =
     c.loop-i.invariant.cost c.merge.ensures.most in
     let all = sum_within most (i + 1) first in
     omega arith
+
+pub returns-in_err-_merged-clause-runs : goal.returns-in_err-_merged-clause-runs
+returns-in_err-_merged-clause-runs g c =
+    let i = c.loop-i.i in
+    let first = c.args.groups.now in
+    let groups = c.loop-i.groups in
+    let group = get_or groups i c.index-groups-i.result in
+    let new = c.merge.new.self in
+    let kept = c.loop-i.auto.groups in
+    let below : i < length groups = let b = c.loop-i-test.true in omega arith in
+    let was = untouched_was i first groups group c.loop-i.invariant.same (omega arith) (got_here groups i c.index-groups-i.result below) in
+    run_so_far g.row.WAYS (i + 1) 0 MergesAlone first (set groups i new) refl
+    (done_next (λ n. GroupRuns g.row.WAYS MergesAlone) i first groups new c.loop-i.invariant.runs
+    (λ x e. subst (λ v. GroupRuns g.row.WAYS MergesAlone v new) (same_some group x (sym was ∙ e)) (subst (GroupRuns g.row.WAYS MergesAlone group) (sym c.in_err-_merged.ensures.err) (group_none g.row.WAYS MergesAlone group refl))))
+    (untouched_next i first groups new c.loop-i.invariant.same)

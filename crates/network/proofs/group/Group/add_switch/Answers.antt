@@ -1,4 +1,4 @@
-use Rattle.std.proofs.Common.{ℕ, ◌+◌, ◌≤◌, List, length, refl, sym, subst, arith, lit<}
+use Rattle.std.proofs.Common.{◌≡◌, ℕ, ◌+◌, ◌≤◌, List, length, refl, sym, ap, ◌∙◌, subst, arith, lit<}
 use Rattle.std.proofs.Math.Logic.{∥∥₁_elim}
 use Rattle.std.proofs.Props.{props}
 use Rattle.fold_class.specs.Program.{IsProgram, IsProgramOf}
@@ -6,12 +6,12 @@ use Rattle.epoch_entry.specs.declared.purpose.Entries.TheVariants.{Folds}
 use Rattle.epoch_entry.specs.contracts.any.AnyEpochsEpochKind.TheImpl.{ghosts}
 use Rattle.stage_plan.specs.declared.group.GroupWiring.{GroupWiring}
 use Rattle.stage_plan.specs.Sound.{IsSoundGroup}
-use Rattle.switch_core.proofs.LaneFacts.{on_ok}
+use Rattle.switch_core.proofs.LaneFacts.{on_err, on_ok}
 use Rattle.switch_core.proofs.LaneMakes.{on_both}
 use Rattle.additive_folds.specs.Network.{SwitchEvent, SwitchEpoch}
 use Rattle.net_wide.specs.Sharing.{AddsFront, FrontsStand}
 use Rattle.network.specs.Groups.{GroupGrows, GroupView, IsGroup}
-use Rattle.network.proofs.GroupSteps.{grown_group, wide_push}
+use Rattle.network.proofs.GroupSteps.{grown_group, others_push, places_push, wide_push}
 use Rattle.network.proofs.group.Group.add_switch.Goals as goal
 
 pub of-kind-requires : goal.of-kind-requires
@@ -51,11 +51,21 @@ returns-clause-grows g c =
     let new = c.add_front.new.fronts.items in
     let after : GroupView = record { kind = p.kind; fronts = new; store = p.store } in
     on_both ((events : List SwitchEvent) (merged : List SwitchEpoch) → FrontsStand ghosts.stands g.row.WAYS c.args.buckets p.fronts.items events merged → FrontsStand ghosts.stands g.row.WAYS c.args.buckets new events merged)
-    (AddsFront c.of-kind.result c.args.buckets c.len-keys.result c.args.pipe_records p.fronts.items new) (GroupGrows g.row.WAYS c.args.buckets c.args.self.now after) c.add_front.result
-    (λ stand adds. subst (λ v. GroupGrows g.row.WAYS c.args.buckets v after) c.self.view_is
-    (let grows : GroupGrows g.row.WAYS c.args.buckets view after = record {
+    (AddsFront c.of-kind.result c.args.buckets c.len-keys.result c.args.pipe_records p.fronts.items new) (GroupGrows g.row.WAYS c.args.buckets c.args.pipe_records c.args.self.now after) c.add_front.result
+    (λ stand adds. subst (λ v. GroupGrows g.row.WAYS c.args.buckets c.args.pipe_records v after) c.self.view_is
+    (let grows : GroupGrows g.row.WAYS c.args.buckets c.args.pipe_records view after = record {
       kind = refl;
       wide = wide_push c.args.buckets c.len-keys.result c.args.pipe_records view after adds;
+      pipes = places_push c.args.buckets c.len-keys.result c.args.pipe_records view after adds;
+      others = others_push c.args.buckets c.len-keys.result c.args.pipe_records view after adds refl refl;
       stands = λ events merged s. record { fronts = stand events merged s.fronts; store = s.store };
     } in grows))
     c.add_front.ensures.stand c.add_front.ensures.adds
+
+pub returns-clause-err : goal.returns-clause-err
+returns-clause-err g c =
+    let p = c.self.inside in
+    let view : GroupView = record { kind = p.kind; fronts = p.fronts.items; store = p.store } in
+    let new = c.add_front.new.fronts.items in
+    on_err (new ≡ p.fronts.items) (record view { fronts = new } ≡ c.args.self.now) c.add_front.result
+    (λ same. ap (λ xs. record view { fronts = xs }) same ∙ c.self.view_is) c.add_front.ensures.err

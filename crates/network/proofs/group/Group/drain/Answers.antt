@@ -1,9 +1,8 @@
-use Rattle.std.proofs.Common.{◌++◌, ℕ, length, drop, sym, ◌∙◌, subst, lit<}
-use Rattle.epoch_model.specs.Tables.{Folding}
+use Rattle.std.proofs.Common.{◌++◌, length, drop, sym, ◌∙◌, subst, lit<}
 use Rattle.epoch_entry.specs.contracts.any.AnyEpochsEpochKind.TheImpl.{ghosts}
-use Rattle.switch_core.proofs.LaneFacts.{on_ok, whole_written}
-use Rattle.network.specs.Shared.{AllShare, NoPackets, SharedRuns}
-use Rattle.network.specs.Groups.{GroupRuns, GroupView, folding_in}
+use Rattle.switch_core.proofs.LaneFacts.{whole_written}
+use Rattle.network.specs.Shared.{AllShare, NoPackets}
+use Rattle.network.specs.Groups.{GroupView, folding_in}
 use Rattle.network.proofs.GroupSteps.{group_runs}
 use Rattle.network.proofs.group.Group.drain.Goals as goal
 
@@ -24,7 +23,5 @@ returns-clause-runs g c =
     let share = subst (λ (v : GroupView). AllShare ghosts.sizes ghosts.folding (folding_in v) r.0 v.fronts v.store) (sym c.self.view_is) r.1 in
     let given = subst (λ xs. AllShare ghosts.sizes ghosts.folding (folding_in view) r.0 xs p.store) (sym c.deref_mut.ensures.value) share in
     let whole = whole_written new (drop (length new) p.fronts.items) p.fronts.len (c.drain_fronts.auto.fronts ∙ c.deref_mut.ensures.len) in
-    on_ok ((f : Folding) (args : ℕ) → AllShare ghosts.sizes ghosts.folding f args c.deref_mut.result.now p.store → SharedRuns ghosts.stands f g.row.WAYS NoPackets c.deref_mut.result.now new p.store c.drain_fronts.new.store)
-    (GroupRuns g.row.WAYS NoPackets c.args.self.now (record { kind = p.kind; fronts = _; store = c.drain_fronts.new.store })) c.drain_fronts.result
-    (λ ran. group_runs g.row.WAYS NoPackets c.args.self.now view c.self.view_is c.deref_mut.result.now new _ c.drain_fronts.new.store c.deref_mut.ensures.value whole (ran (folding_in view) r.0 given))
-    c.drain_fronts.ensures.runs
+    group_runs g.row.WAYS NoPackets c.args.self.now view c.self.view_is c.deref_mut.result.now new _ c.drain_fronts.new.store c.deref_mut.ensures.value whole
+    (c.drain_fronts.ensures.runs (folding_in view) r.0 given)

@@ -33,7 +33,7 @@ returns-clause-makes g c =
     record {
       groups = ran_whole (GroupsMake g.row.WAYS c.args.at (event_at c.args.lane (Evict c.args.bucket))) net.groups.items c.deref_mut.result.now c.evict_from.new.groups net.groups.len
           c.deref_mut.ensures.value (c.evict_from.auto.groups ∙ c.deref_mut.ensures.len) c.evict_from.ensures.makes;
-      keeps = record { plan = refl; buckets = refl };
+      keeps = record { plan = refl; buckets = refl; pipe_records = refl };
     }
 
 pub returns-clause-others : goal.returns-clause-others

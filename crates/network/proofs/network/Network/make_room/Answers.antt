@@ -1,6 +1,5 @@
 use Rattle.std.proofs.Common.{◌+◌, ◌≤◌, refl, ◌∙◌, subst}
 use Rattle.std.specs.Prelude.{sum_by}
-use Rattle.switch_core.proofs.LaneFacts.{on_ok}
 use Rattle.network.specs.Shared.{MergesAlone}
 use Rattle.network.specs.Groups.{GroupsRun}
 use Rattle.network.specs.Costs.{group_merge_cost}
@@ -8,14 +7,12 @@ use Rattle.network.proofs.NetworkSteps.{ran_whole, still_network}
 use Rattle.network.proofs.network.Network.make_room.Goals as goal
 
 pub returns-clause-is : goal.returns-clause-is
-returns-clause-is g c =
+returns-clause-is g c switches is =
     let net = c.args.self.now in
     let before = c.deref_mut.result.now in
     let new = c.make_room.new.groups in
-    on_ok (GroupsRun g.row.WAYS (λ n. MergesAlone) before new) _ c.make_room.result
-    (λ ran switches is. still_network (λ n. MergesAlone) switches net _ refl refl refl refl is.rooms
-    (ran_whole (GroupsRun g.row.WAYS (λ n. MergesAlone)) net.groups.items before new net.groups.len c.deref_mut.ensures.value (c.make_room.auto.groups ∙ c.deref_mut.ensures.len) ran) is)
-    c.make_room.ensures.runs
+    still_network (λ n. MergesAlone) switches net _ refl refl refl refl is.rooms
+    (ran_whole (GroupsRun g.row.WAYS (λ n. MergesAlone)) net.groups.items before new net.groups.len c.deref_mut.ensures.value (c.make_room.auto.groups ∙ c.deref_mut.ensures.len) c.make_room.ensures.runs) is
 
 pub returns-clause-cost : goal.returns-clause-cost
 returns-clause-cost g c = subst (λ xs. c.make_room.new.steps ≤ c.args.steps.now + sum_by (group_merge_cost c.args.at) xs) c.deref_mut.ensures.value c.make_room.ensures.cost

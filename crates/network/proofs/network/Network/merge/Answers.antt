@@ -28,7 +28,7 @@ returns-clause-makes g c =
     on_ok (made before new) (NetworkMakes c.args.at (event_at c.args.lane Merge) net _) c.merge_from.result
     (λ m. record {
       groups = ran_whole made net.groups.items before new net.groups.len c.deref_mut.ensures.value (c.merge_from.auto.groups ∙ c.deref_mut.ensures.len) m;
-      keeps = record { plan = refl; buckets = refl };
+      keeps = record { plan = refl; buckets = refl; pipe_records = refl };
     }) c.merge_from.ensures.makes
 
 pub returns-clause-others : goal.returns-clause-others

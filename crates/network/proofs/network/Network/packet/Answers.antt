@@ -28,7 +28,7 @@ returns-clause-makes g c =
     record {
       groups = ran_whole (GroupsMake g.row.WAYS c.args.at (packet_events net.plan c.args.packet.now.words)) net.groups.items before new net.groups.len
           c.deref_mut-2.ensures.value (c.packet_groups.auto.groups ∙ c.deref_mut-2.ensures.len) taken;
-      keeps = record { plan = refl; buckets = refl };
+      keeps = record { plan = refl; buckets = refl; pipe_records = refl };
     }
 
 pub returns-clause-others : goal.returns-clause-others

@@ -1,0 +1,33 @@
+use Rattle.std.proofs.Common.{◌≡◌, ◌<◌, length, get_or, sym, ap, ◌∙◌, arith}
+use Rattle.switch_core.proofs.SideBySide.{same_some, done_start, untouched_start, done_next, untouched_next, untouched_was, done_end}
+use Rattle.net_wide.proofs.Sharing.{got_here}
+use Rattle.network.specs.Groups.{GroupView, with_first}
+use Rattle.network.proofs.groups.keep_switches.Goals as goal
+
+pub loop-i-init : goal.loop-i-init
+loop-i-init g c = record {
+  kept = done_start (λ n (a b : GroupView). b ≡ with_first c.args.switches a) 0 c.args.groups.now;
+  same = untouched_start 0 0 c.args.groups.now;
+}
+
+pub loop-i-preserved : goal.loop-i-preserved
+loop-i-preserved g c =
+    let i = c.loop-i.i in
+    let first = c.args.groups.now in
+    let groups = c.loop-i.groups in
+    let group = get_or groups i c.index-groups-i.result in
+    let new = c.keep_switches.new.self in
+    let kept = c.loop-i.auto.groups in
+    let below : i < length groups = let b = c.loop-i-test.true in omega arith in
+    let was = untouched_was i first groups group c.loop-i.invariant.same (omega arith) (got_here groups i c.index-groups-i.result below) in
+    record {
+      kept = done_next (λ n (a b : GroupView). b ≡ with_first c.args.switches a) i first groups new c.loop-i.invariant.kept
+          (λ x e. c.keep_switches.ensures ∙ ap (with_first c.args.switches) (same_some group x (sym was ∙ e)));
+      same = untouched_next i first groups new c.loop-i.invariant.same;
+    }
+
+pub returns : goal.returns
+returns g c =
+    let kept = c.loop-i.auto.groups in
+    let end = c.loop-i-test.false in
+    done_end (λ n (a b : GroupView). b ≡ with_first c.args.switches a) c.loop-i.i c.args.groups.now c.loop-i.groups c.loop-i.invariant.kept (omega arith)
