@@ -6,7 +6,7 @@ ghost use Rattle.marple_base.specs.MemoryInputs.{memory_input};
 ghost use Rattle.marple_base.specs.declared.inputs.Which.TheVariants.{Query, Trace};
 
 use marple_base::{FailAt, MemoryInputs, MemorySink, Seq, Steps, Text};
-use marple_cli::{Driven, Status, marple};
+use marple_cli::{Status, marple};
 use std::alloc::{AllocError, Global};
 use std::marker::Brand;
 use std::sync::ledger::{Blank, Ledger};
@@ -25,13 +25,12 @@ pub struct Outside<'a> {
     pub failing_complaints: &'a [u64],
 }
 
-/// How a call ended, what its sinks took, and the steps that it counted.
+/// How a call ended, and what its sinks took.
 #[derive(Drop)]
 pub struct Told {
     pub status: Status,
     pub text: Text,
     pub complaint: Text,
-    pub steps: u64,
 }
 
 /// The words of a command line, parted by blanks.
@@ -89,55 +88,35 @@ fn parts_of(alloc: Global, line: &str, outside: &Outside<'_>) -> Result<Parts, A
     })
 }
 
-fn run<L: Ledger>(
-    alloc: Global,
-    parts: &mut Parts,
-    driven: &mut Option<Driven>,
-    blank: Blank,
-) -> (Status, u64)
+fn run<L: Ledger>(alloc: Global, parts: &mut Parts, blank: Blank) -> Status
     requires query { IsClosed (memory_input parts.old.inputs Query) }
     requires trace { IsClosed (memory_input parts.old.inputs Trace) }
     requires name { blank.name ≡ L.name }
     requires share { blank.parts ≡ L.parts }
     requires whole { 0 < blank.parts }
 {
+    let mut driven = None;
     let mut steps = Steps::<L>::new(blank);
-    let status = marple(
+    marple(
         alloc,
         parts.words.as_slice(),
         &mut parts.inputs,
         &mut parts.out,
         &mut parts.err,
-        driven,
+        &mut driven,
         &mut steps,
-    );
-    (status, steps.shown())
-}
-
-/// Calls the program with the words of a line, where this pipeline was left before.
-pub fn called_after(
-    alloc: Global,
-    line: &str,
-    outside: &Outside<'_>,
-    driven: &mut Option<Driven>,
-) -> Result<Told, AllocError>
-    requires { 0 < outside.now.most }
-{
-    let mut parts = parts_of(alloc, line, outside)?;
-    let (status, steps) = run::<Brand>(alloc, &mut parts, driven, Blank::new(1));
-    Ok(Told {
-        status,
-        text: Text::from_slice(alloc, parts.out.taken())?,
-        complaint: Text::from_slice(alloc, parts.err.taken())?,
-        steps,
-    })
+    )
 }
 
 /// Calls the program with the words of a line.
 pub fn called(alloc: Global, line: &str, outside: &Outside<'_>) -> Result<Told, AllocError>
     requires { 0 < outside.now.most }
 {
-    let mut driven = None;
-    let told = called_after(alloc, line, outside, &mut driven)?;
-    Ok(told)
+    let mut parts = parts_of(alloc, line, outside)?;
+    let status = run::<Brand>(alloc, &mut parts, Blank::new(1));
+    Ok(Told {
+        status,
+        text: Text::from_slice(alloc, parts.out.taken())?,
+        complaint: Text::from_slice(alloc, parts.err.taken())?,
+    })
 }
