@@ -1,4 +1,4 @@
-//! One bucket of those whose parts lie one after another.
+//! One of the buckets whose parts are stored one after another.
 
 ghost use Rattle.std.specs.Prelude.{◌≡◌, ◌+◌, ◌-◌, ◌<◌, ◌≤◌, length, take, false, slice_set};
 ghost use Rattle.bucket_cache.specs.Buckets.{has_key};

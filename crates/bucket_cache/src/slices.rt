@@ -40,7 +40,7 @@ pub fn move_to_front<L: Ledger>(order: &mut [u16], at: usize, steps: &mut Steps<
     }
 }
 
-/// One of the rows of this width that lie one after another.
+/// One of the rows of this width, which are stored one after another.
 pub fn row(words: &[u64], width: usize, at: usize) -> &[u64]
     requires { at * width + width ≤ length words.now }
     ensures { result.now ≡ take width (drop (at * width) words.now) }

@@ -12,7 +12,7 @@ use crate::slices;
 use marple_base::{Steps, copy_words};
 use std::sync::ledger::Ledger;
 
-/// Where the key stands among the ways in use.
+/// Where the key is among the ways in use.
 #[inline(always)]
 fn find_key<L: Ledger>(
     order: &[u16],
@@ -42,7 +42,7 @@ fn find_key<L: Ledger>(
     None
 }
 
-/// Moves a way to the front and gives it the key. Answers the way.
+/// Moves a way to the front and gives it the key. Returns the way.
 fn put<L: Ledger>(
     order: &mut [u16],
     words: &mut [u64],

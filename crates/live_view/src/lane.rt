@@ -14,8 +14,8 @@ use std::alloc::{AllocError, Global};
 use std::sync::ledger::Ledger;
 use switch_core::Lane;
 
-/// A store of its own memory with all epochs of a lane: those that its store holds, then those that wait in its pipe, and
-/// then the open ones. The lane stays as it is.
+/// A separate store with all epochs of a lane: those that its store holds, then those that wait in its pipe, and
+/// then the open ones. The lane is unchanged.
 pub fn full_store<K: EpochKind, const WAYS: usize, L: Ledger>(
     alloc: Global,
     lane: &Lane<K, WAYS>,

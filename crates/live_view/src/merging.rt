@@ -1,4 +1,4 @@
-//! The epochs of a pipe and of a cache, merged into a store behind those that it holds.
+//! The epochs of a pipe and of a cache, merged into a store after those that it holds.
 
 ghost use Rattle.std.specs.Prelude.{◌≡◌, ◌+◌, ◌<◌, ◌≤◌, List, [], ◌∷◌, ◌++◌, length, reverse, OnOk};
 ghost use Rattle.epoch_model.specs.Machine.{Epoch, Machine};
@@ -17,7 +17,7 @@ use std::alloc::AllocError;
 use std::sync::ledger::Ledger;
 use switch_core::merge_entry;
 
-/// Merges the records of a pipe, the oldest first. The pipe stays as it is.
+/// Merges the records of a pipe, the oldest first. The pipe is unchanged.
 pub fn merge_pipe<K: EpochKind, L: Ledger>(
     kind: &K,
     store: &mut BackingStore,
@@ -77,7 +77,7 @@ fn merge_bucket<K: EpochKind, const WAYS: usize, L: Ledger>(
     Ok(())
 }
 
-/// Merges the open epochs of a cache, each as one epoch more. The cache stays as it is.
+/// Merges the open epochs of a cache, each as one more epoch. The cache is unchanged.
 pub fn merge_cache<K: EpochKind, const WAYS: usize, L: Ledger>(
     kind: &K,
     store: &mut BackingStore,

@@ -21,7 +21,7 @@ use std::alloc::{AllocError, Global};
 use std::sync::ledger::Ledger;
 use switch_core::{Lane, Pipeline};
 
-// The names of a groupby's keys and then those of its states, in memory of their own.
+// The names of a groupby's keys and then those of its states, in separate memory.
 fn columns(alloc: Global, group: &GroupPlan) -> Result<Seq<Text>, AllocError>
     ensures { IfOk result (λ columns. columns ≡ group.now.key_names ++ group.now.state_names) }
 {
@@ -63,7 +63,7 @@ fn store_table(
 }
 
 /// The table that a lane would give for its groupby if the trace ended here: of its closed epochs, and of each open one as
-/// one epoch more. The lane stays as it is.
+/// one more epoch. The lane is unchanged.
 pub fn view_lane<K: EpochKind, const WAYS: usize, L: Ledger>(
     alloc: Global,
     group: &GroupPlan,
@@ -84,7 +84,7 @@ pub fn view_lane<K: EpochKind, const WAYS: usize, L: Ledger>(
 }
 
 /// One table for each groupby, in order: those that the pipeline would give if the trace ended here. It may be anywhere in
-/// a trace, with records in its pipes and epochs in its caches, and stays as it is.
+/// a trace, with records in its pipes and epochs in its caches, and is unchanged.
 pub fn view<const WAYS: usize, L: Ledger>(
     alloc: Global,
     p: &Pipeline<WAYS>,
