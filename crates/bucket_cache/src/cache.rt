@@ -99,7 +99,7 @@ impl<const WAYS: usize> BucketCache<WAYS> {
         ensures touched { Touches WAYS key.now (list_at self.old bucket) result (list_at self.new bucket) }
         ensures rest { self.new ≡ with_list self.old bucket (list_at self.new bucket) }
         ensures sound { IsSoundCache WAYS self.new }
-        ensures at_least { steps.old ≤ steps.new }
+        ensures steps { steps.old ≤ steps.new }
         ensures cost { steps.new ≤ steps.old + touch_cost WAYS self.old.key_words result }
     {
         touch_bucket(

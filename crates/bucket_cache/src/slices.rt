@@ -12,7 +12,7 @@ use std::sync::ledger::Ledger;
 pub fn same_words<L: Ledger>(a: &[u64], b: &[u64], steps: &mut Steps<L>) -> bool
     requires { length a.now ≡ length b.now }
     ensures answer { result ≡ key_eq a.now b.now }
-    ensures at_least { steps.old ≤ steps.new }
+    ensures steps { steps.old ≤ steps.new }
     ensures cost { steps.new ≤ steps.old + length a.now }
 {
     for i in 0..a.len() {

@@ -35,7 +35,7 @@ pub fn merge_pipe<K: EpochKind, L: Ledger>(
         → StoreHolds (K.folding kind.now) store.old epochs → StoreHolds (K.folding kind.now) store.new (epochs ++ waiting)) }
     ensures key_words { store.new.key_words ≡ store.old.key_words }
     ensures state_words { store.new.state_words ≡ store.old.state_words }
-    ensures at_least { steps.old ≤ steps.new }
+    ensures steps { steps.old ≤ steps.new }
 {
     for i in 0..pipe.len() {
         pipe.nth_into(i, room);
@@ -65,7 +65,7 @@ fn merge_bucket<K: EpochKind, const WAYS: usize, L: Ledger>(
         → StoreHolds (K.folding kind.now) store.old epochs → StoreHolds (K.folding kind.now) store.new (epochs ++ reverse opened)) }
     ensures key_words { store.new.key_words ≡ store.old.key_words }
     ensures state_words { store.new.state_words ≡ store.old.state_words }
-    ensures at_least { steps.old ≤ steps.new }
+    ensures steps { steps.old ≤ steps.new }
 {
     for i in (0..WAYS).rev() {
         let Some(place) = cache.place(bucket, i) else {
@@ -93,7 +93,7 @@ pub fn merge_cache<K: EpochKind, const WAYS: usize, L: Ledger>(
         → StoreHolds (K.folding kind.now) store.old epochs → StoreHolds (K.folding kind.now) store.new (epochs ++ open_epochs m)) }
     ensures key_words { store.new.key_words ≡ store.old.key_words }
     ensures state_words { store.new.state_words ≡ store.old.state_words }
-    ensures at_least { steps.old ≤ steps.new }
+    ensures steps { steps.old ≤ steps.new }
 {
     for bucket in 0..cache.buckets() {
         merge_bucket(kind, store, cache, bucket, initial, scratch, steps)?;

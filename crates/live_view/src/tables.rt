@@ -75,7 +75,7 @@ pub fn view_lane<K: EpochKind, const WAYS: usize, L: Ledger>(
     ensures table { IfOk result (λ table. (m : Machine)
         → LaneStands (K.stands lane.now.kind) (K.folding lane.now.kind) lane.now.cache lane.now.pipe lane.now.store m
         → table ≡ closed_table (heading_of group.now) (K.folding lane.now.kind) (all_epochs m)) }
-    ensures at_least { steps.old ≤ steps.new }
+    ensures steps { steps.old ≤ steps.new }
 {
     lane.known();
     let store = full_store(alloc, lane, group.key_names.len(), steps)?;
@@ -92,7 +92,7 @@ pub fn view<const WAYS: usize, L: Ledger>(
 ) -> Result<Seq<Table>, AllocError>
     ensures tables { IfOk result (λ tables. (machines : List Machine)
         → PipelineStands p.now machines → tables ≡ tables_seen p.now.plan.groups (map folding_at p.now.lanes) machines) }
-    ensures at_least { steps.old ≤ steps.new }
+    ensures steps { steps.old ≤ steps.new }
 {
     entries_are_small();
     p.known();

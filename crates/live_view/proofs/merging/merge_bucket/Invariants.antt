@@ -15,5 +15,5 @@ invariant-loop-i g l =
           → StoreHolds f l.store (epochs ++ reverse (drop l.i opened));
       key_words : l.store.key_words ≡ first.key_words;
       state_words : l.store.state_words ≡ first.state_words;
-      at_least : l.initial.steps ≤ l.steps;
+      steps : l.initial.steps ≤ l.steps;
     }
