@@ -1,4 +1,4 @@
--- Rows that lie one after another in one list of words.
+-- Rows that are stored one after another in one list of words.
 use Rattle.std.proofs.Common.{◌≡◌, ◌≢◌, ℕ, zero, suc, ◌+◌, ◌-◌, ◌*◌, ◌<◌, ◌≤◌, List, [], ◌∷◌, ◌++◌, length, take, drop, sym, ap, ap₂, ◌∙◌, arith, length-drop, Option, Some, None, slice_get}
 use Rattle.std.proofs.lemmas.List.{drop-append-le, take-append-le, drop_at, take_all}
 use Rattle.bucket_cache.specs.Slices.{rows_of}
@@ -7,7 +7,7 @@ use Rattle.std.specs.Option.{IfNone}
 use Rattle.bucket_cache.proofs.FlatRows.{row_fits, get-rows_of, length-rows_of}
 use Rattle.backing_store.specs.Marks.{row_at}
 
--- a place at which a row lies within the words
+-- a place at which a row is within the words
 pub row_within : (at count width : ℕ) (words : List ℕ) → at < count → length words ≡ count * width → at * width + width ≤ length words
 row_within at count width words low flat = let fits = row_fits at count width low in omega arith
 

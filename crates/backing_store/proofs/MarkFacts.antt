@@ -28,7 +28,7 @@ two_places marks mark a b once order at_a at_b =
     let apart = apart_from_distinct eqb marks a b 0 once order low in
     true≢false (sym (eq-eqb mark mark refl) ∙ rw (get_or_from_slice_get marks a mark 0 at_a, get_or_from_slice_get marks b mark 0 at_b) at apart)
 
--- no two places have one mark
+-- no two places have the same mark
 pub one_place : (marks : List ℕ) (mark a b : ℕ) → IsDistinct eqb marks → slice_get marks a ≡ Some mark → slice_get marks b ≡ Some mark → a ≡ b
 one_place marks mark a b once at_a at_b = elim (cases_eq a b) [
   | inl e ↦ e
@@ -131,7 +131,7 @@ get_pushed : (xs : List ℕ) (x : ℕ) → get_or (xs ++ x ∷ []) (length xs) 0
 get_pushed [] x = refl
 get_pushed (y ∷ xs) x = get_pushed xs x
 
--- one key more, with a mark of its own
+-- one key more, with a mark that no other key has
 pub keys_more : (width : ℕ) (words marks : List ℕ) (key : Key) (mark : ℕ) → AreKeys width words marks → length key ≡ width → IsMarkOf marks key mark
     → AreKeys width (words ++ key) (marks ++ mark ∷ [])
 keys_more width words marks key mark keys long of =

@@ -19,7 +19,7 @@ set_value_at (e ∷ es) (suc at) value = e ∷ set_value_at es at value
 abbrev pub Entry : Type 0
 Entry = List ℕ × Merged
 
--- the first entry of the key stands at this place
+-- the first entry of the key is at this place
 abbrev pub FirstAt : List ℕ → List Entry → ℕ → Type 0
 FirstAt key [] i = ⊥
 FirstAt key (e ∷ es) zero = key_eq key e.0 ≡ true

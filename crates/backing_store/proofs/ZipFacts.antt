@@ -37,7 +37,7 @@ zip-value (k ∷ keys) [] at m same here = absurd (omega (arith, same))
 zip-value (k ∷ keys) (n ∷ merged) zero m same here = here
 zip-value (k ∷ keys) (n ∷ merged) (suc at) m same here = zip-value keys merged at m (omega (arith, same)) here
 
--- a key that stands at a place has a number
+-- a key at a place has a number
 has_number : (keys : List Key) (merged : List Merged) (at : ℕ) (key : Key) → length merged ≡ length keys → slice_get keys at ≡ Some key
     → number_of (map stored (zip keys merged)) key < length (map stored (zip keys merged))
 has_number [] [] at key same here = cc here

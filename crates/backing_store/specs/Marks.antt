@@ -13,7 +13,7 @@ unfoldable pub fingerprint : Key → ℕ
 fingerprint (word ∷ []) = word
 fingerprint key = finish (fold write initial (slice u64 key))
 
--- the mark that is so many steps after a mark
+-- the mark that is a number of steps after a mark
 abbrev pub mark_after : ℕ → ℕ → ℕ
 mark_after mark steps = (mark + steps) % 2 ^ 64
 
@@ -21,7 +21,7 @@ mark_after mark steps = (mark + steps) % 2 ^ 64
 abbrev pub IsTaken : List ℕ → ℕ → Type 0
 IsTaken marks mark = (at : ℕ) × (slice_get marks at ≡ Some mark)
 
--- so many marks from this one on are taken
+-- this many marks from this one on are taken
 abbrev pub AreTaken : List ℕ → ℕ → ℕ → Type 0
 AreTaken marks mark count = (step : ℕ) → step < count → IsTaken marks (mark_after mark step)
 

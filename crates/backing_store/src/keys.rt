@@ -84,7 +84,7 @@ impl Keys {
         add_key(self.width, &mut self.words, &mut self.marks, key)
     }
 
-    /// The same keys in memory of their own.
+    /// A copy of the keys, in separate memory.
     pub fn copy(&self) -> Result<Keys, AllocError>
         ensures { IfOk result (λ copy. copy ≡ self.now) }
     {

@@ -1,4 +1,4 @@
-//! Marks, by which keys are found: each key has one of its own.
+//! Marks, by which keys are found: no two keys have the same.
 
 ghost use Rattle.std.specs.Prelude.{◌≡◌, ◌≢◌, ℕ, ◌+◌, ◌<◌, ◌++◌, false, length, nat_eq};
 ghost use Rattle.std.specs.Prelude.{IfSome, IfNone, OnOk, OnErr};

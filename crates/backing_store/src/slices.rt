@@ -1,4 +1,4 @@
-//! Rows of one width that lie one after another.
+//! Rows of one width, stored one after another.
 
 ghost use Rattle.std.specs.Prelude.{◌≡◌, ◌+◌, ◌*◌, ◌≤◌, length};
 ghost use Rattle.epoch_model.specs.Keys.{key_eq};

@@ -106,7 +106,7 @@ impl States {
         self.words.slice_mut(start..end)
     }
 
-    /// The same rows in memory of their own.
+    /// A copy of the rows, in separate memory.
     pub fn copy(&self) -> Result<States, AllocError>
         ensures { IfOk result (λ copy. copy ≡ self.now) }
     {

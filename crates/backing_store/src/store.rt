@@ -96,8 +96,8 @@ impl BackingStore {
         let _merged = &self.merged;
     }
 
-    /// Counts an epoch of a key, and answers the place of the key's last row. A key without a row gets one, and
-    /// each key does where `row_per_epoch` is set. All memory is taken first.
+    /// Counts an epoch of a key, and returns the place of the key's last row. A key without a row gets one, and
+    /// each key does where `row_per_epoch` is set. All memory is allocated first.
     pub fn row_for(
         &mut self,
         key: &[u64],
@@ -176,7 +176,7 @@ impl BackingStore {
         Ok(rows)
     }
 
-    /// A store of its own memory with the same keys and rows.
+    /// A copy of the store, in separate memory.
     pub fn copy(&self) -> Result<BackingStore, AllocError>
         ensures { IfOk result (λ copy. copy ≡ self.now) }
     {

@@ -13,7 +13,7 @@ use Rattle.bucket_cache.specs.Buckets.{Pair, has_key, place_of, places_of, witho
 use Rattle.bucket_cache.proofs.Fronts.{length-at_front, take-at_front, map-at_front, take_more-at_front, All-at_front, AllPairs-at_front}
 use Rattle.bucket_cache.proofs.PairLists.{has-at, place-at, front-pair, once-front, has-front, once-take}
 
--- what `find_key` tells of a way
+-- what `find_key` says about a way
 abbrev pub Matches : List Key → List ℕ → ℕ → Key → Bool → Type 0
 Matches keys ways at key answer = key_eq (get_or keys (get_or ways at 0) []) key ≡ answer
 

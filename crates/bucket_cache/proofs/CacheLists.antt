@@ -36,7 +36,7 @@ same_row one two width place a b c d = ⊎_elim
 nothing : Recency
 nothing = record { first = 0; ways = 0; key_words = 0; pairs = [] }
 
--- a fact on each bucket's list, also past the last bucket
+-- a fact about each bucket's list, also past the last bucket
 on_lists : (buckets : List Recency) (P : ℕ → List Pair → Type 0) → ((b : ℕ) → P b []) → ((b : ℕ) → b < length buckets → P b (get_or buckets b nothing).pairs) → (b : ℕ) → P b (get_or (lists_of buckets) b [])
 on_lists buckets P none some b = by_test (nat_lt b (length buckets))
     (λ t. let l = ltb-true b (length buckets) t in subst (P b) (sym (get_or-map (λ (r : Recency). r.pairs) buckets b nothing [] l)) (some b l))
@@ -50,7 +50,7 @@ in_lists ways kw ew buckets entries s = on_lists buckets (λ b ps. All (IsIn (b 
     (λ b l. let h = s.each b nothing l in let r = get_or buckets b nothing in
     subst (λ n. All (IsIn (b * ways) n) r.pairs) h.of_ways (subst (λ n. All (IsIn n r.ways) r.pairs) h.of_first h.sound.places))
 
--- the fact on a pair, by its number in the list
+-- the fact about a pair, by its number in the list
 at_pair : (P : Pair → Type 0) (pairs : List Pair) (i : ℕ) (p : Pair) → All P pairs → slice_get pairs i ≡ Some p → P p
 at_pair P pairs i p a e = subst P (get_or_from_slice_get pairs i p p e) (a i p (some-get pairs i p e))
 

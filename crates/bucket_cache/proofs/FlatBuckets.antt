@@ -1,4 +1,4 @@
--- Buckets whose parts lie one after another.
+-- Buckets whose parts are stored one after another.
 use Rattle.std.proofs.Common.{◌≡◌, ℕ, zero, suc, ◌+◌, ◌-◌, ◌*◌, ◌<◌, ◌≤◌, List, [], ◌∷◌, ◌++◌, length, map, take, drop, get_or, set, refl, sym, ap, ap₂, ◌∙◌, subst, arith, ⊎_elim, length-set, length-drop, get_or-set_same, get_or-set_other}
 use Rattle.std.proofs.lemmas.Bool.{cases_eq}
 use Rattle.std.proofs.lemmas.List.{length-take-le, length-append, length-map, map-set, get_or-map, set-get_or}
@@ -77,7 +77,7 @@ bucket-is ways kw b used order words are h =
     subst (λ o. IsBucket (b * ways) kw (get_or used b 0) o (rows_of kw ways (take (ways * kw) (drop (b * (ways * kw)) words)))) (get-rows_of ways (length used) order b [] h)
     (subst (λ w. IsBucket (b * ways) kw (get_or used b 0) (get_or (orders_of ways used order) b []) (rows_of kw ways w)) (get-rows_of (ways * kw) (length used) words b [] h) (are.each b h))
 
--- a row of the flat parts lies within them, and is as long as its width
+-- a row of the flat parts is within them, and is as long as its width
 pub row-lies : (width b count : ℕ) (xs : List ℕ) → b < count → length xs ≡ count * width → b * width + width ≤ length xs
 row-lies width b count xs h e = let f = row_fits b count width h in omega arith
 
@@ -101,7 +101,7 @@ length-with_row width b count row xs h e w =
     let end = length-append row (drop width (drop (b * width) xs)) in
     omega arith
 
--- a fact on the parts of each bucket, after those of one were written over
+-- a fact about the parts of each bucket, after those of one were written over
 each-set : (P : ℕ → ℕ → List ℕ → List ℕ → Type 0) (b u' : ℕ) (o' w' : List ℕ) (used : List ℕ) (orders rows : List (List ℕ)) → length orders ≡ length used → length rows ≡ length used → b < length used
     → ((k : ℕ) → k < length used → P k (get_or used k 0) (get_or orders k []) (get_or rows k [])) → P b u' o' w'
     → (k : ℕ) → k < length used → P k (get_or (set used b u') k 0) (get_or (set orders b o') k []) (get_or (set rows b w') k [])
@@ -155,7 +155,7 @@ written-list ways kw b u' o' w' used order words are h lo lw =
     ap (λ ls. get_or ls b []) (written-lists ways kw b u' o' w' used order words are h lo lw)
     ∙ get_or-set_same (lists_in ways kw used order words) b (pairs_at (b * ways) (rows_of kw ways w') (take u' o')) [] (omega arith)
 
--- A bucket's parts as they are lent: `o` is its row of the order, and `w` its row of the words.
+-- The parts of a bucket, lent: `o` is its row of the order, and `w` its row of the words.
 pub lent-bucket : (ways kw b : ℕ) (used order words o w : List ℕ) → AreBuckets ways kw used order words → b < length used
     → o ≡ take ways (drop (b * ways) order) → w ≡ take (ways * kw) (drop (b * (ways * kw)) words) → IsBucket (b * ways) kw (get_or used b 0) o (rows_of kw (length o) w)
 lent-bucket ways kw b used order words o w are h eo ew =

@@ -1,4 +1,4 @@
--- A cache whose buckets lie one after another.
+-- A cache whose buckets are stored one after another.
 use Rattle.std.proofs.Common.{◌≡◌, ℕ, ◌*◌, ◌<◌, ◌≤◌, List, ◌++◌, length, take, drop, get_or, [], sym, ap, ◌∙◌, subst, refl}
 use Rattle.std.proofs.lemmas.List.{take_at}
 use Rattle.bucket_cache.specs.Slices.{rows_of}

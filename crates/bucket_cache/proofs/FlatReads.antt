@@ -1,4 +1,4 @@
--- What is read of the buckets that lie one after another.
+-- What is read from buckets that are stored one after another.
 use Rattle.std.proofs.Common.{◌≡◌, ℕ, ◌+◌, ◌-◌, ◌*◌, ◌<◌, ◌≤◌, List, [], ◌++◌, Some, None, length, take, drop, get_or, set, replicate, sym, ap, ap₂, ◌∙◌, subst, arith, take-append-drop, drop-drop, get_or-drop, get_or-take, take-take}
 use Rattle.std.specs.Prelude.{slice_get, sum_by, ◌/◌, ◌%◌}
 use Rattle.std.proofs.lemmas.List.{drop-take, get_or-replicate, length-replicate, get_or_default, get_or-map}
@@ -14,7 +14,7 @@ use Rattle.bucket_cache.proofs.FlatBuckets.{length-buckets_of, get-buckets_of, l
 use Rattle.bucket_cache.proofs.CacheLists.{pair_home, place_in, bucket_in_range, empty_lists, held_more}
 use Rattle.bucket_cache.proofs.FlatCaches.{shaped}
 
--- a number within a bucket's row stands in the flat order, and names a way
+-- a number within a bucket's row is in the flat order, and names a way
 pub record Stands (ways b i : ℕ) (order : List ℕ) : Type 0 where
   pub room : b * ways + ways ≤ 65536
   pub below : i < ways

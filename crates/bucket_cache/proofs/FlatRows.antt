@@ -1,10 +1,10 @@
--- Rows that lie one after another in one list of words.
+-- Rows that are stored one after another in one list of words.
 use Rattle.std.proofs.Common.{◌≡◌, ℕ, zero, suc, ◌+◌, ◌-◌, ◌*◌, ◌<◌, ◌≤◌, List, ◌∷◌, ◌++◌, length, take, drop, get_or, set, refl, sym, ap, ap₂, ◌∙◌, arith, All, drop-drop, length-drop, append_assoc}
 use Rattle.std.proofs.lemmas.List.{length-take-le, take_at, drop_at}
 use Rattle.std.proofs.Math.Seq.{take-add}
 use Rattle.bucket_cache.specs.Slices.{rows_of}
 
--- a row of a way below the number of ways lies within the words
+-- the row of a way below the number of ways is within the words
 pub row_fits : (way ways width : ℕ) → way < ways → way * width + width ≤ ways * width
 row_fits way zero width h = absurd (omega arith)
 row_fits zero (suc ways) width h = omega arith
@@ -32,7 +32,7 @@ rows_of-words width count words e k d h =
     let long = length-rows_of width count words in
     row_width count k width words (get_or (rows_of width count words) k d) (omega arith) e (get-rows_of width count words k d (omega arith))
 
--- a row is written over, and the others are as they were
+-- a row is written over, and the others are unchanged
 pub set-rows_of : (width count : ℕ) (words : List ℕ) (at : ℕ) (key : List ℕ) → at < count → length words ≡ count * width → length key ≡ width
     → rows_of width count (take (at * width) words ++ (key ++ drop width (drop (at * width) words))) ≡ set (rows_of width count words) at key
 set-rows_of width zero words at key h e w = absurd (omega arith)

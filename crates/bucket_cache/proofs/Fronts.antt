@@ -46,7 +46,7 @@ map-at_front f at xs =
     ∙ ap₂ (λ ys zs. ys ++ zs) (sym (take-map f 1 (drop at xs)) ∙ ap (take 1) (sym (drop-map f at xs)))
     (map-append f (take at xs) (drop (at + 1) xs) ∙ ap₂ (λ ys zs. ys ++ zs) (sym (take-map f at xs)) (sym (drop-map f (at + 1) xs)))
 
--- the element from just behind the first n comes to their front
+-- the element just after the first n comes to their front
 pub take_more-at_front : {X : Type 0} (n : ℕ) (d : X) (xs : List X) → n < length xs → take (n + 1) (at_front n xs) ≡ get_or xs n d ∷ take n xs
 take_more-at_front n d xs h =
     ap (λ k. take k (at_front n xs)) (let e : n + 1 ≡ suc n = omega arith in e)
@@ -56,7 +56,7 @@ take_more-at_front n d xs h =
 pub All-at_front : {X : Type 0} (P : X → Type 0) (at : ℕ) (xs : List X) → All P xs → All P (at_front at xs)
 All-at_front P at xs a = All-append P (take 1 (drop at xs)) (take at xs ++ drop (at + 1) xs) (All-take P 1 (drop at xs) (All-drop P at xs a)) (All-append P (take at xs) (drop (at + 1) xs) (All-take P at xs a) (All-drop P (at + 1) xs a))
 
--- where the element at a place stood before
+-- where the element at a place was before
 abbrev pub source : ℕ → ℕ → ℕ
 source at zero = at
 source at (suc k) = cond (ltb k at) k (suc k)

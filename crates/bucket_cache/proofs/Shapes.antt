@@ -9,7 +9,7 @@ pub record IsHome (ways key_words first : ℕ) (r : Recency) : Type 0 where
   pub of_key_words : r.key_words ≡ key_words
   pub sound : IsSound r
 
--- the buckets have their places one after another, with an entry for each
+-- the places of each bucket begin where those of the one before it end, and each has an entry
 pub record IsShaped (ways key_words entry_words : ℕ) (buckets : List Recency) (entries : List (List ℕ)) : Type 0 where
   pub some : 0 < ways
   pub each : (bucket : ℕ) (d : Recency) → bucket < length buckets

@@ -18,7 +18,7 @@ entry_at cache place = slice_index_or cache.entries place []
 abbrev pub with_list : Cache → ℕ → List Pair → Cache
 with_list cache bucket pairs = record cache { lists = slice_set cache.lists bucket pairs }
 
--- Each bucket has distinct keys of the cache's number of words, no more of them than ways, at places of its own; a
+-- Each bucket has distinct keys of the cache's number of words, no more of them than ways, at the bucket's own places; a
 -- place is that of one pair at most; and each place of a bucket has an entry of the cache's number of words.
 pub record IsSoundCache (ways : ℕ) (cache : Cache) : Type 0 where
   pub few : (bucket : ℕ) → length (list_at cache bucket) ≤ ways

@@ -17,7 +17,7 @@ IsLeast pairs place = least_place pairs ≡ Some place
 abbrev pub with_front : Key → ℕ → List Pair → List Pair
 with_front key place pairs = record { key = key; place = place } ∷ pairs
 
--- A touch of the key in a bucket of so many ways leads from the old pairs to the new ones.
+-- A touch of the key in a bucket with this number of ways leads from the old pairs to the new ones.
 abbrev pub Touches : ℕ → Key → List Pair → Touch → List Pair → Type 0
 Touches ways key old (Hit place) new =
     (has_key key old ≡ true) × (place_of key old ≡ Some place) × (new ≡ with_front key place (without_key key old))

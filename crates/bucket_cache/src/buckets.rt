@@ -1,4 +1,4 @@
-//! One bucket of those whose parts lie one after another.
+//! One of the buckets whose parts are stored one after another.
 
 ghost use Rattle.std.specs.Prelude.{◌≡◌, ◌+◌, ◌-◌, ◌<◌, ◌≤◌, length, take, false, slice_set};
 ghost use Rattle.bucket_cache.specs.Buckets.{has_key};
@@ -30,7 +30,7 @@ pub fn touch_bucket<L: Ledger>(
     ensures rest { lists_in ways (length key.now) used.new order.new words.new
         ≡ slice_set (lists_in ways (length key.now) used.old order.old words.old) bucket
         (list_in ways (length key.now) used.new order.new words.new bucket) }
-    ensures at_least { steps.old ≤ steps.new }
+    ensures steps { steps.old ≤ steps.new }
     ensures cost { steps.new ≤ steps.old + touch_cost ways (length key.now) result }
 {
     let first = bucket * ways;

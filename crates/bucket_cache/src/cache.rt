@@ -18,7 +18,7 @@ use std::marker::Model;
 use std::sync::ledger::Ledger;
 
 /// Buckets of keys by recent use, at most `WAYS` in each, with the words of an entry at each key's place.
-/// Only `new` takes memory.
+/// Only `new` allocates memory.
 #[derive(Drop)]
 pub struct BucketCache<const WAYS: usize> {
     key_words: usize,
@@ -51,7 +51,7 @@ impl<const WAYS: usize> Model for BucketCache<WAYS> {
 impl<const WAYS: usize> BucketCache<WAYS> {
     ghost use Rattle.bucket_cache.specs.LendingCaches.{LendsCacheEntry};
 
-    /// A cache with no pair, for keys and entries of so many words.
+    /// A cache with no pair, for keys and entries of these numbers of words.
     pub fn new(
         alloc: Global,
         buckets: u32,
@@ -99,7 +99,7 @@ impl<const WAYS: usize> BucketCache<WAYS> {
         ensures touched { Touches WAYS key.now (list_at self.old bucket) result (list_at self.new bucket) }
         ensures rest { self.new ≡ with_list self.old bucket (list_at self.new bucket) }
         ensures sound { IsSoundCache WAYS self.new }
-        ensures at_least { steps.old ≤ steps.new }
+        ensures steps { steps.old ≤ steps.new }
         ensures cost { steps.new ≤ steps.old + touch_cost WAYS self.old.key_words result }
     {
         touch_bucket(
@@ -164,7 +164,7 @@ impl<const WAYS: usize> BucketCache<WAYS> {
         }
     }
 
-    /// The least recently used pair of a bucket goes.
+    /// Removes the least recently used pair of a bucket.
     pub fn drop_entry<L: Ledger>(&mut self, bucket: u32, steps: &mut Steps<L>)
         requires range { bucket < length self.old.lists }
         requires some { 0 < length (list_at self.old bucket) }

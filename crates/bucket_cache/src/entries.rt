@@ -8,7 +8,7 @@ ghost use Rattle.bucket_cache.specs.LendingRows.{LendsEntry};
 use std::alloc::{AllocError, Global};
 use std::marker::Model;
 
-/// Words of a fixed number at each place.
+/// A fixed number of words at each place.
 #[derive(Drop)]
 pub struct Entries {
     rows: Vec<Vec<u64>>,
@@ -23,7 +23,7 @@ impl Model for Entries {
 }
 
 impl Entries {
-    /// So many entries of so many zeros.
+    /// Entries of zeros: how many, and of how many words.
     pub fn new(alloc: Global, places: usize, entry_words: usize) -> Result<Entries, AllocError>
         ensures { IfOk result (λ entries. entries ≡ replicate places (replicate entry_words 0)) }
     {

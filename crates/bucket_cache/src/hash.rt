@@ -6,8 +6,8 @@ ghost use Rattle.epoch_model.specs.Keys.{bucket_of as bucket_of_key};
 use marple_base::Steps;
 use std::sync::ledger::Ledger;
 
-/// The bucket of a key, of so many: from 0, each word is xored into the hash, which is then multiplied by an odd constant,
-/// and the high half of the hash is taken modulo the number of buckets.
+/// The bucket of a key: from 0, each word is xored into the hash, which is then multiplied by an odd constant, and the
+/// high half of the hash is taken modulo the number of buckets.
 pub fn bucket_of<L: Ledger>(key: &[u64], buckets: u32, steps: &mut Steps<L>) -> u32
     requires { 0 < buckets }
     ensures bucket { result ≡ bucket_of_key buckets key.now }

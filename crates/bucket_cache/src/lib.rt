@@ -1,5 +1,5 @@
 //! A cache of keys in buckets, each bucket a list of keys by recent use, with the words of an entry at each key's place.
-//! All of its memory is taken when it is made.
+//! All of its memory is allocated when it is made.
 #![tactic(auto)]
 
 ghost use Rattle.bucket_cache.specs.Bounds.{UsesAreBounded};

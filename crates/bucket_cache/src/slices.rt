@@ -12,7 +12,7 @@ use std::sync::ledger::Ledger;
 pub fn same_words<L: Ledger>(a: &[u64], b: &[u64], steps: &mut Steps<L>) -> bool
     requires { length a.now ≡ length b.now }
     ensures answer { result ≡ key_eq a.now b.now }
-    ensures at_least { steps.old ≤ steps.new }
+    ensures steps { steps.old ≤ steps.new }
     ensures cost { steps.new ≤ steps.old + length a.now }
 {
     for i in 0..a.len() {
@@ -40,7 +40,7 @@ pub fn move_to_front<L: Ledger>(order: &mut [u16], at: usize, steps: &mut Steps<
     }
 }
 
-/// One of the rows of this width that lie one after another.
+/// One of the rows of this width, which are stored one after another.
 pub fn row(words: &[u64], width: usize, at: usize) -> &[u64]
     requires { at * width + width ≤ length words.now }
     ensures { result.now ≡ take width (drop (at * width) words.now) }

@@ -12,7 +12,7 @@ use crate::slices;
 use marple_base::{Steps, copy_words};
 use std::sync::ledger::Ledger;
 
-/// Where the key stands among the ways in use.
+/// Where the key is among the ways in use.
 #[inline(always)]
 fn find_key<L: Ledger>(
     order: &[u16],
@@ -30,7 +30,7 @@ fn find_key<L: Ledger>(
     ensures none { IfNone result ((at : ℕ) → at < used
         → key_eq (slice_index_or (rows_of (length key.now) (length order.now) words.now)
         (slice_index order.now at) []) key.now ≡ false) }
-    ensures at_least { steps.old ≤ steps.new }
+    ensures steps { steps.old ≤ steps.new }
     ensures cost { steps.new ≤ steps.old + used * length key.now }
 {
     for i in 0..used {
@@ -42,7 +42,7 @@ fn find_key<L: Ledger>(
     None
 }
 
-/// Moves a way to the front and gives it the key. Answers the way.
+/// Moves a way to the front and gives it the key. Returns the way.
 fn put<L: Ledger>(
     order: &mut [u16],
     words: &mut [u64],
@@ -82,7 +82,7 @@ pub fn touch_ways<L: Ledger>(
     ensures touched { Touches (length order.old) key.now
         (pairs_at first (rows_of (length key.now) (length order.old) words.old) (take used.old order.old)) result
         (pairs_at first (rows_of (length key.now) (length order.old) words.new) (take used.new order.new)) }
-    ensures at_least { steps.old ≤ steps.new }
+    ensures steps { steps.old ≤ steps.new }
     ensures cost { steps.new ≤ steps.old + touch_cost (length order.old) (length key.now) result }
 {
     match find_key(order, *used, words, key, steps) {

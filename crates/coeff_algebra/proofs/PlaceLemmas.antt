@@ -1,4 +1,4 @@
--- Where the elements of a table stand in words.
+-- Where the elements of a table are in the words.
 use Rattle.std.proofs.Common.{◌≡◌, ◌≢◌, ℕ, ◌+◌, ◌-◌, ◌*◌, ◌<◌, ◌≤◌, Bool, true, false, nat_lt, List, ◌++◌, length, take, drop, refl, sym, ap, ◌∙◌, subst, arith, length-take}
 use Rattle.std.proofs.lemmas.Bool.Decides.{nat_tests}
 use Rattle.std.proofs.lemmas.List.{drop-take, take_at, drop_at}

@@ -1,4 +1,4 @@
--- A semiring with words in it, and what its elements keep to.
+-- A semiring with words in it, and what holds of its elements.
 use Rattle.std.specs.Prelude.{◌≡◌, ℕ, ◌≤◌, List, length}
 use Rattle.query_lang.specs.Words.{IsWord}
 

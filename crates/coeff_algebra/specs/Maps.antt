@@ -22,11 +22,11 @@ module _ {C : Type 0} (k : Elements C) where
   abbrev pub HasWord : ℕ → (ℕ → C) → Type 0
   HasWord n row = (j : ℕ) × (j ≤ n) × IsWordOf k (row j)
 
--- the words at a place, where each place has so many
+-- the words at a place, where each place has the same number of words
 abbrev pub stored_at : ℕ → List ℕ → ℕ → List ℕ
 stored_at size ws place = take size (drop (place * size) ws)
 
--- the words of row i and column j, where a map of dimension n stands row by row
+-- the words of row i and column j, where a map of dimension n is stored row by row
 abbrev pub stored_entry : ℕ → ℕ → List ℕ → ℕ → ℕ → List ℕ
 stored_entry size n ws i j = stored_at size ws (i * (n + 1) + j)
 

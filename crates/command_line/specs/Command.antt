@@ -124,7 +124,7 @@ generation_of packets start =
 abbrev pub run_with : Options → Option Command
 run_with options = option_map (λ setting. Run setting (unwrap_or options.every 0)) (setting_of options)
 
--- run QUERY TRACE [options]. Any words may stand for the operands
+-- run QUERY TRACE [options]. Any words can be the operands
 abbrev pub asked_run : List (List ℕ) → Option Command
 asked_run (query ∷ trace ∷ options) = option_and_then run_with (options_from no_options options)
 asked_run words = None
@@ -151,7 +151,7 @@ abbrev pub asked_net : List (List ℕ) → Option Command
 asked_net (query ∷ trace ∷ options) = option_map Net (net_setting_from options)
 asked_net words = None
 
--- the setting that the words behind two operands say, where they name no views
+-- the setting that the words after two operands give, where they name no views
 abbrev pub setting_behind : List (List ℕ) → Option Setting
 setting_behind (first ∷ second ∷ options) = setting_from options
 setting_behind words = None

@@ -8,7 +8,7 @@ use crate::number::number_within;
 use crate::options::{net_setting_from, options_of, setting_from};
 use crate::setting::{NetSetting, Setting, Ways, ways_of};
 
-/// The packets that the generator makes: how many, and the state of its draws at first.
+/// The packets that the generator makes: how many, and the number that they are drawn from.
 #[derive(Clone, Copy, Debug, PartialEq, Eq)]
 pub struct Generation {
     pub packets: u32,
@@ -18,7 +18,7 @@ pub struct Generation {
 /// What a command line asks for. Its operands are words by their places.
 #[derive(Clone, Copy, Debug, PartialEq, Eq)]
 pub enum Command {
-    /// Writes the tables of a query over a trace, and before them a view behind every so many packets: none, where that is 0.
+    /// Writes the tables of a query over a trace, and before them a view after each this many packets: none where that is 0.
     Run(Setting, u32),
     /// Writes the stages of a query, and the bound on its steps for these ways.
     Plan(Ways),
@@ -26,7 +26,7 @@ pub enum Command {
     Gen(Generation),
     /// Writes the tables of a fixed query over the generator's packets.
     Trial(Generation, Setting),
-    /// Writes the tables of a query over a trace, where each switch has caches of its own and all of them share one store.
+    /// Writes the tables of a query over a trace, where each switch has separate caches and all of them share one store.
     Net(NetSetting),
     /// Writes bounds of a query's folds over a trace, where they aren't exact.
     Enclose(Setting),
@@ -101,7 +101,7 @@ fn net_of(words: &[String]) -> Option<Command>
     Some(Command::Net(net_setting_from(options)?))
 }
 
-// The setting that the words behind two operands say.
+// The setting that the words after two operands give.
 fn setting_behind(words: &[String]) -> Option<Setting>
     ensures setting { result ≡ setting_behind (map string_bytes words.now) }
     ensures within { IfSome result IsSetting }

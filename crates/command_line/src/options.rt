@@ -53,7 +53,7 @@ impl Options {
         Some(options)
     }
 
-    // What they say of caches and pipes, where a cache has few enough places.
+    // What they give for caches and pipes, where a cache has few enough places.
     pub(crate) fn setting(self) -> Option<Setting>
         requires within { AreWithin self }
         ensures setting { result ≡ setting_of self }
@@ -73,7 +73,8 @@ impl Options {
         })
     }
 
-    // What they say of the caches and pipes of each of several switches, where these are small enough, and nothing else is said.
+    // What they give for the caches and pipes of each of several switches, where these are small enough, and nothing else
+    // is given.
     fn net_setting(self) -> Option<NetSetting>
         requires within { AreWithin self }
         ensures setting { result ≡ net_setting_of self }
@@ -112,7 +113,7 @@ pub(crate) fn options_of(words: &[String]) -> Option<Options>
     Some(options)
 }
 
-/// The setting that pairs of words say, where they name no views.
+/// The setting that pairs of words give, where they name no views.
 pub(crate) fn setting_from(words: &[String]) -> Option<Setting>
     ensures setting { result ≡ setting_from (map string_bytes words.now) }
     ensures within { IfSome result IsSetting }
@@ -124,7 +125,7 @@ pub(crate) fn setting_from(words: &[String]) -> Option<Setting>
     options.setting()
 }
 
-/// The setting of each of several switches that pairs of words say.
+/// The setting of each of several switches that pairs of words give.
 pub(crate) fn net_setting_from(words: &[String]) -> Option<NetSetting>
     ensures setting { result ≡ net_setting_from (map string_bytes words.now) }
     ensures within { IfSome result IsNetSetting }

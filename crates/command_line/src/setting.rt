@@ -1,4 +1,4 @@
-//! What the options of a run say.
+//! What the options of a run give.
 
 ghost use Rattle.std.specs.Prelude.{◌≡◌};
 ghost use Rattle.command_line.specs.Command.{ways_number, ways_of, ways_with};
@@ -40,9 +40,9 @@ pub struct Setting {
     pub ways: Ways,
     /// The most records that wait in the pipe of each groupby.
     pub pipe: u32,
-    /// Every how many packets a record of each groupby is merged.
+    /// A record of each groupby is merged after every `lag` packets.
     pub lag: u32,
-    /// Every how many packets the caches are emptied, or 0 where they are emptied at the end alone.
+    /// The caches are emptied after every `refresh` packets, or at the end alone where this is 0.
     pub refresh: u32,
 }
 
@@ -54,7 +54,7 @@ pub struct NetSetting {
     pub ways: Ways,
     /// The most records that wait in the pipe that a switch has for each groupby.
     pub pipe: u32,
-    /// Every how many packets of a switch a record of each of its pipes is merged.
+    /// A record of each pipe of a switch is merged after every `lag` packets of that switch.
     pub lag: u32,
 }
 
@@ -78,7 +78,7 @@ fn ways_with(n: u32) -> Option<Ways>
     }
 }
 
-/// The ways that a word says.
+/// The ways that a word gives.
 pub fn ways_of(word: &[u8]) -> Option<Ways>
     ensures { result ≡ ways_of word.now }
 {

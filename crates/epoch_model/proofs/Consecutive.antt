@@ -112,7 +112,7 @@ since-skip : (key : Key) (xs ys : List Use) (one : Use) → NotUsed key xs → i
 since-skip key [] ys one a e = rw e refl
 since-skip key (x ∷ xs) ys one a e = rw a.0 (ap (λ us. x ∷ us) (since-skip key xs ys one a.1 e))
 
--- the uses behind the latest one, from it back
+-- the uses from the latest one back: those after a use, the use, and those before it
 back : (before between : List Use) (one : Use) → reverse (before ++ one ∷ between) ≡ reverse between ++ one ∷ reverse before
 back before between one =
     reverse-append before (one ∷ between) ∙ (ap (λ us. us ++ reverse before) (reverse-cons one between) ∙ append_assoc (reverse between) (one ∷ []) (reverse before))

@@ -1,4 +1,4 @@
--- What a program needs that makes the events of a trace one after another.
+-- What a program needs that makes the events of a trace in sequence.
 use Rattle.std.proofs.Common.{◌≡◌, ◌<◌, ◌≤◌, ◌-◌, ℕ, zero, suc, true, false, List, [], ◌∷◌, length, refl, sym, ap, ap₂, ◌∙◌, subst, arith, length-set, length-take}
 use Rattle.std.specs.Prelude.{nat_lt, ◌==◌, ◌+◌, Option, Some, None, slice_index_or}
 use Rattle.std.proofs.lemmas.Bool.{ltb-true, ltb-false, lt-ltb, ne_eqb, eq-eqb}

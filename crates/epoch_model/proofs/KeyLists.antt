@@ -1,4 +1,4 @@
--- Lists of keys: which keys they have, each key once, and what stands before a key.
+-- Lists of keys: which keys they have, each key once, and what comes before a key.
 use Rattle.std.proofs.Common.{◌≡◌, ℕ, zero, suc, Bool, true, false, cond, ◌&&◌, ◌||◌, List, [], ◌∷◌, length, take, ltb, refl, sym, ap, ◌∙◌, subst, arith}
 use Rattle.std.specs.Prelude.{nat_lt}
 use Rattle.std.specs.Cmp.Lexicographic.{bytes_decides}
@@ -32,7 +32,7 @@ key_eq-sym_false a b e = by_test (key_eq b a) (λ h. absurd (key_eq-not a b e (s
 pub apart : (a b c : Key) → key_eq a b ≡ false → key_eq a c ≡ true → key_eq b c ≡ false
 apart a b c e h = by_test (key_eq b c) (λ i. absurd (key_eq-not a b e (key_eq-true a c h ∙ sym (key_eq-true b c i)))) (λ i. i)
 
--- what stands before the key
+-- what comes before the key
 abbrev pub before : Key → List Key → List Key
 before key [] = []
 before key (x ∷ xs) = cond (key_eq x key) [] (x ∷ before key xs)
@@ -83,7 +83,7 @@ has-distinct k (x ∷ xs) = by_test (key_eq x k)
     (λ e. rw e refl)
     (λ e. rw e (has-others_other x k (distinct xs) e ∙ has-distinct k xs))
 
--- what stands before k doesn't mind whether another key is left out before or after
+-- what comes before k is the same whether another key is left out before or after
 pub before-others : (k x : Key) (xs : List Key) → key_eq x k ≡ false → before k (others x xs) ≡ others x (before k xs)
 before-others k x [] h = refl
 before-others k x (y ∷ ys) h = by_test (key_eq y x)
@@ -103,7 +103,7 @@ ltb-suc m n = by_test (ltb m n)
     (λ e. let l = ltb-true m n e in lt-ltb (suc m) (suc n) (omega arith) ∙ sym e)
     (λ e. let l = ltb-false m n e in le-ltb (suc m) (suc n) (omega arith) ∙ sym e)
 
--- a front of n keys has k exactly where fewer than n stand before k
+-- the first n keys have k exactly where fewer than n come before k
 pub has-take : (n : ℕ) (k : Key) (xs : List Key) → has k (take n xs) ≡ (has k xs && nat_lt (length (before k xs)) n)
 has-take zero k xs = by_test (has k xs)
     (λ e. rw e (sym (le-ltb (length (before k xs)) 0 (omega arith))))
@@ -119,7 +119,7 @@ front_known_at n k x xs h e =
     let front : has k (take n xs) ≡ false = has-take n k xs ∙ ap (λ t. t && nat_lt (length (before k xs)) n) gone in
     others_absent k (take n xs) front ∙ ap (take n) (sym (others_absent k xs gone))
 
--- k to the front of the first n keys
+-- k is moved to the front of the first n keys
 pub front_known : (n : ℕ) (k : Key) (xs : List Key) → IsDistinct xs → has k (take (suc n) xs) ≡ true → others k (take (suc n) xs) ≡ take n (others k xs)
 front_known n k [] d h = absurd (false≢true h)
 front_known zero k (x ∷ xs) d h = by_test (key_eq x k)

@@ -50,7 +50,7 @@ with_key-ascends key (first ∷ keys) s = by_order (key_cmp key first)
     (λ e. rw e s)
     (λ e. rw e (above-with_key first key keys (key_cmp-greater key first e) s.0, with_key-ascends key keys s.1))
 
--- a disjunct that stands twice, and two disjuncts the other way round
+-- a disjunct that occurs twice, and two disjuncts the other way round
 or_twice : (a b : Bool) → (a || b) ≡ (a || (a || b))
 or_twice true b = refl
 or_twice false b = refl

@@ -62,7 +62,7 @@ row_lists-set_alike g m bucket k epochs l h = ⊎_elim
     (row_lists-set_other g m bucket k epochs)
     (cases_eq (bucket_of g.buckets k) bucket)
 
--- an open epoch stands in a bucket of the machine
+-- an open epoch is in a bucket of the machine
 pub in_range : (m : Machine) (bucket : ℕ) → nat_lt 0 (length (open_in m bucket)) ≡ true → bucket < length m.recent
 in_range m bucket h = by_test (nat_lt bucket (length m.recent))
     (λ t. ltb-true bucket (length m.recent) t)

@@ -1,4 +1,4 @@
--- Where merges fall decides nothing on epochs.
+-- Where merges fall makes no difference to epochs.
 use Rattle.std.proofs.Common.{◌≡◌, ℕ, [], ◌∷◌, length, refl, sym, ap, ap₂, ◌∙◌}
 use Rattle.std.specs.Prelude.{nat_lt}
 use Rattle.epoch_model.specs.Keys.{Key, ArgRow, bucket_of}

@@ -25,7 +25,7 @@ pub packet_full : (g : Geometry) (m : Machine) (k : Key) (row : ArgRow) → is_o
     → packet g m k row ≡ set_open (evict m (own g k)) (own g k) (with_new k row (open_in (evict m (own g k)) (own g k)))
 packet_full g m k row h l = rw (h, l) refl
 
--- a fact on the machine after a packet, by the three cases
+-- a fact about the machine after a packet, by the three cases
 pub packet_cases : (g : Geometry) (m : Machine) (k : Key) (row : ArgRow) (P : Machine → Type 0)
     → (is_open k (open_in m (own g k)) ≡ true → P (set_open m (own g k) (with_row k row (open_in m (own g k)))))
     → (is_open k (open_in m (own g k)) ≡ false → nat_lt (length (open_in m (own g k))) g.ways ≡ true → P (set_open m (own g k) (with_new k row (open_in m (own g k)))))
@@ -130,7 +130,7 @@ packet-open_other g m k row bucket n = packet_cases g m k row (λ x. open_in x b
     (λ e l. open_in-set_other m (own g k) bucket (with_new k row (open_in m (own g k))) n)
     (λ e l. open_in-set_other (evict m (own g k)) (own g k) bucket (with_new k row (open_in (evict m (own g k)) (own g k))) n ∙ evict-open_other m (own g k) bucket n)
 
--- the front of w keys, of a front of one more that hasn't the key
+-- the first w keys, where the first w + 1 don't have the key
 front_of : (w : ℕ) (k : Key) (xs : List Key) → has k (take (suc w) xs) ≡ false → take w (others k xs) ≡ take w xs
 front_of w k xs h =
     let shorter : take w (take (suc w) xs) ≡ take w xs = take-take w (suc w) xs (omega arith) in

@@ -38,7 +38,7 @@ refresh_between-earlier refresh p earlier (suc n) l h = by_test (nat_le p n && i
     (λ e. or_right (nat_le earlier n && is_refresh refresh n) (refresh_between refresh earlier n)
     (refresh_between-earlier refresh p earlier n l (sym (ap (λ t. t || refresh_between refresh p n) e) ∙ h)))
 
--- behind a use before the last refresh there is none after it
+-- before a use that is before the last refresh, no use is after that refresh
 pub fresh_keys-stale : (g : Geometry) (now bucket p : ℕ) (earlier : List Use) → AtMost p earlier → refresh_between g.refresh p now ≡ true → fresh_keys g now bucket earlier ≡ []
 fresh_keys-stale g now bucket p [] a h = refl
 fresh_keys-stale g now bucket p (u ∷ earlier) a h =

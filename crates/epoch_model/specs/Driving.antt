@@ -1,4 +1,4 @@
--- What a program needs that makes the events of a trace one after another, with merges where it likes.
+-- What a program needs that makes the events of a trace in sequence, with merges anywhere.
 use Rattle.std.specs.Prelude.{◌≡◌, ℕ, suc, ◌<◌, List, [], ◌∷◌, ◌++◌, length, Option, Some, None, slice_index_or}
 use Rattle.std.specs.Prelude.{if◌then◌else◌}
 use Rattle.epoch_model.specs.Keys.{Key, ArgRow}
@@ -18,7 +18,7 @@ pub record EventsKeepAlike : Type 0 where
   pub on_bucket : (m n : Machine) (bucket : ℕ) → SameEpochs m n → SameEpochs (empty_bucket m bucket) (empty_bucket n bucket)
   pub on_sweep : (m n : Machine) (buckets : ℕ) → SameEpochs m n → SameEpochs (empty_buckets buckets m) (empty_buckets buckets n)
 
--- A bucket is emptied by evictions until it has no open epoch, and the buckets one after another.
+-- A bucket is emptied by evictions until it has no open epoch, and the buckets are emptied in turn.
 pub record BucketsEmptyByEvictions : Type 0 where
   pub start : (m : Machine) → empty_buckets 0 m ≡ m
   pub first : (m : Machine) (bucket : ℕ) → empty_bucket (evict m bucket) bucket ≡ empty_bucket m bucket

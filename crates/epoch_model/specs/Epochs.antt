@@ -9,7 +9,7 @@ pub record Use : Type 0 where
   pub key : Key
   pub row : ArgRow
 
--- the cache's buckets, the most keys that a bucket holds, and every how many packets the cache is emptied (0: never)
+-- the cache's buckets, the most keys that a bucket holds, and the number of packets after which the cache is emptied each time (0: never)
 pub record Geometry : Type 0 where
   pub buckets : ℕ
   pub ways : ℕ

@@ -21,7 +21,7 @@ key_eq a b = pointwise nat_eq a b
 unfoldable pub key_cmp : Key → Key → Ordering
 key_cmp a b = slice_cmp nat_cmp a b
 
--- the number that the words lead to from h
+-- the hash of the words, begun with h
 abbrev pub mixed : ℕ → Key → ℕ
 mixed h [] = h
 mixed h (word ∷ words) = mixed ((bit_xor h word * 0x9E3779B97F4A7C15) % 2 ^ 64) words

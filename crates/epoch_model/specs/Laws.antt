@@ -6,7 +6,7 @@ use Rattle.epoch_model.specs.Epochs.{Use, Geometry, is_use_of, in_one_epoch, ont
 use Rattle.epoch_model.specs.Machine.{Machine, Event, Packet, Evict, Merge, run, merge, empty_machine, open_in, row_lists, lists_of, end_of}
 use Rattle.epoch_model.specs.Timeline.{Turn, NoPacket, AreTurns, all_events, all_uses}
 
--- A bucket and a way are there.
+-- There is at least one bucket and one way.
 abbrev pub HasRoom : Geometry → Type 0
 HasRoom g = (0 < g.buckets) × (0 < g.ways)
 

@@ -1,4 +1,4 @@
--- The machine that cache, pipe and store of a groupby stand for, and its events.
+-- The machine that the cache, pipe and store of a groupby represent, and its events.
 use Rattle.std.specs.Prelude.{ℕ, zero, suc, Bool, List, [], ◌∷◌, ◌++◌, filter, map, length, replicate, take, drop, not}
 use Rattle.std.specs.Prelude.{◌==◌, ◌+◌, ◌-◌, nat_lt, slice_index_or, slice_set, if◌then◌else◌}
 use Rattle.std.specs.List.{list_any}

@@ -26,7 +26,7 @@ keys_given (Merge ∷ events) = keys_given events
 
 -- After any events that leave no epoch open, wherever evictions and merges fall: with one table row for a key, each key
 -- of the packets has the row whose state is the fold over all argument rows of its packets. Only the number of epochs
--- beside it is of the closed epochs.
+-- beside it depends on the closed epochs.
 abbrev pub ExactRowsFoldAllPackets : Type 0
 ExactRowsFoldAllPackets = (f : Folding) (g : Geometry) (events : List Event) → HasRoom g → f.row_per_epoch ≡ false
     → IsSwept (run g events (empty_machine g))

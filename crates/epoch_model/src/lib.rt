@@ -65,7 +65,7 @@ pub fn closed_give_the_table()
     ensures { ClosedGiveTheTable }
 {}
 
-/// Where a key has one row, no placing of evictions and merges changes its state.
+/// Where a key has one row, its state is the same wherever evictions and merges fall.
 pub fn exact_rows_fold_all_packets()
     ensures { ExactRowsFoldAllPackets }
 {}

@@ -2,7 +2,7 @@
 
 use marple_base::Seq;
 
-/// What a row of a table says of its key.
+/// What a row of a table says about its key.
 #[derive(Clone, Copy, Debug, PartialEq, Eq)]
 pub enum Mark {
     /// The fold over all packets of the key.

@@ -9,7 +9,7 @@ use Rattle.evict_pipe.specs.Rings.{IsPipe}
 pub keeps_all : {X : Type 0} (room : ℕ) (xs : List X) → length xs ≤ room → keep_last room xs ≡ xs
 keeps_all room xs h = ap (λ n. drop n xs) (let e : length xs - room ≡ 0 = omega arith in e)
 
--- a row that is first has a place, and its words stand there
+-- a row that is first has a place, and its words are there
 pub first_row : {X : Type 0} (f : X → List ℕ) (xs : List X) (x : X) → Some x ≡ slice_get xs 0 → (0 < length xs) × (Some (f x) ≡ slice_get (map f xs) 0)
 first_row f [] x e = cc
 first_row f (y ∷ xs) x e = (omega arith, ap (λ y. Some (f y)) (same x y e))

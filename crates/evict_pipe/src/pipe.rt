@@ -11,7 +11,7 @@ use std::alloc::{AllocError, Global};
 use std::marker::Model;
 use std::sync::ledger::Ledger;
 
-/// Records of a fixed number of words, first in, first out. Only `new` takes memory: a row is in use or free.
+/// Records of a fixed number of words, first in, first out. Only `new` allocates memory: a row is in use or free.
 #[derive(Drop)]
 pub struct EvictPipe {
     record_words: usize,
@@ -34,7 +34,7 @@ impl Model for EvictPipe {
 }
 
 impl EvictPipe {
-    /// An empty pipe of so many places for records of so many words.
+    /// An empty pipe: how many records it has room for, and how many words each has.
     pub fn new(alloc: Global, records: u32, record_words: usize) -> Result<EvictPipe, AllocError>
         requires places { (0 < records) × (records ≤ 65536) }
         requires words { (0 < record_words) × (record_words ≤ 512) }
@@ -61,7 +61,7 @@ impl EvictPipe {
         self.held.len() as u32
     }
 
-    /// Whether a place is free.
+    /// Is a place free?
     pub fn has_room(&self) -> bool
         ensures { result ≡ nat_lt (length self.now.records) self.now.places }
     {
@@ -110,7 +110,7 @@ impl EvictPipe {
         into.copy_from_slice(row);
     }
 
-    /// The oldest record goes.
+    /// Removes the oldest record.
     pub fn drop_front(&mut self)
         requires { 0 < length self.old.records }
         ensures { self.new ≡ with_records self.old (drop 1 self.old.records) }

@@ -68,7 +68,7 @@ empty_below (suc n) m below =
     ∙ ap (λ es. flat_map (λ es. reverse es) (take n m.recent) ++ es) (append-nil (reverse epochs)))))) in
     ap (λ x. empty_bucket x n) (empty_below n m (omega arith)) ∙ (evict_all (length (open_in before n)) before n refl ∙ ap₂ (λ r c. machine r c m.merged) recent closed)
 
--- Once all buckets are emptied no epoch is open, and each open one is closed behind the closed ones.
+-- Once all buckets are emptied no epoch is open, and each epoch that was open is closed after the closed ones.
 pub empty_all : (m : Machine) (buckets : ℕ) → length m.recent ≡ buckets → empty_buckets buckets m ≡ machine (map (λ epochs. []) m.recent) (all_epochs m) m.merged
 empty_all m buckets long =
     let whole : take buckets m.recent ≡ m.recent = take_all buckets m.recent (omega arith) in

@@ -1,4 +1,4 @@
--- The tables of lanes, one after another.
+-- The tables of lanes, in order.
 use Rattle.std.proofs.Common.{◌≡◌, ◌+◌, ◌<◌, ◌≤◌, ℕ, zero, suc, List, [], ◌∷◌, ◌++◌, Some, length, map, take, refl, sym, ap, ◌∙◌, subst, arith}
 use Rattle.std.specs.Prelude.{slice_get}
 use Rattle.std.proofs.Math.Logic.{∥∥₁_elim}
@@ -22,7 +22,7 @@ each_long R k [] (y ∷ ys) e = absurd e
 each_long R k (x ∷ xs) [] e = absurd e
 each_long R k (x ∷ xs) (y ∷ ys) e = ap (λ n. suc n) (each_long R (suc k) xs ys e.1)
 
--- what stands at the same place in both lists belongs together
+-- what is at the same place in both lists belongs together
 pub each_at : {X Y : Type 0} (R : ℕ → X → Y → Type 0) (k i : ℕ) (xs : List X) (ys : List Y) (x : X) → EachFrom R k xs ys → slice_get xs i ≡ Some x
     → (y : Y) × (slice_get ys i ≡ Some y) × ((n : ℕ) → n ≡ k + i → R n x y)
 each_at {X = X} R k i [] ys x e h = absurd (none i h)

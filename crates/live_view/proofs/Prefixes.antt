@@ -1,4 +1,4 @@
--- A machine after the first packets doesn't depend on those behind them.
+-- A machine after the first packets doesn't depend on those after them.
 use Rattle.std.proofs.Common.{◌≡◌, ◌≤◌, ◌<◌, ℕ, zero, suc, List, length, take, refl, sym, ap, ap₂, ◌∙◌, arith, length-take}
 use Rattle.std.specs.Prelude.{Option, None}
 use Rattle.std.proofs.lemmas.List.{get_or-take}

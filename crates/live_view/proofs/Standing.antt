@@ -1,4 +1,4 @@
--- Which epochs are merged by a loop over what stands for them.
+-- Which epochs are merged by a loop over what represents them.
 use Rattle.std.proofs.Common.{◌≡◌, ◌<◌, ◌≤◌, ◌+◌, ℕ, zero, suc, List, [], ◌∷◌, ◌++◌, Some, None, length, take, drop, get_or, flat_map, reverse, refl, sym, ap, ◌∙◌, subst, arith, append-nil, append_assoc}
 use Rattle.std.specs.Prelude.{slice_get, All}
 use Rattle.std.proofs.lemmas.List.{reverse-append, take_more}
@@ -15,7 +15,7 @@ records_long stands kw [] (e ∷ epochs) s = absurd s
 records_long stands kw (r ∷ records) [] s = absurd s
 records_long stands kw (r ∷ records) (e ∷ epochs) s = ap (λ n. suc n) (records_long stands kw records epochs s.1)
 
--- the record at a place stands for the epoch that comes next
+-- the record at a place represents the epoch that comes next
 pub record_next : (stands : Standing) (kw : ℕ) (records : List (List ℕ)) (epochs : List Epoch) (i : ℕ) → RecordsStand stands kw records epochs → i < length records
     → (e : Epoch) × (take (i + 1) epochs ≡ take i epochs ++ e ∷ []) × RecordStands stands kw (get_or records i []) e
 record_next stands kw records epochs i s below =
@@ -35,7 +35,7 @@ pairs_long R [] (e ∷ epochs) s = absurd s
 pairs_long R (p ∷ pairs) [] s = absurd s
 pairs_long R (p ∷ pairs) (e ∷ epochs) s = ap (λ n. suc n) (pairs_long R pairs epochs s.1)
 
--- the pair of a place stands for the epoch before those behind it
+-- the pair of a place represents the epoch before those after it
 pub pair_before : (R : Pair → Epoch → Type 0) (pairs : List Pair) (epochs : List Epoch) (i place : ℕ) → PairsStand R pairs epochs → slice_get (places_of pairs) i ≡ Some place
     → (p : Pair) × (e : Epoch) × (slice_get pairs i ≡ Some p) × (p.place ≡ place) × R p e × (drop i epochs ≡ e ∷ drop (i + 1) epochs)
 pair_before R pairs epochs i place s found =

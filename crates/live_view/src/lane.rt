@@ -14,8 +14,8 @@ use std::alloc::{AllocError, Global};
 use std::sync::ledger::Ledger;
 use switch_core::Lane;
 
-/// A store of its own memory with all epochs of a lane: those that its store holds, then those that wait in its pipe, and
-/// then the open ones. The lane stays as it is.
+/// A separate store with all epochs of a lane: those that its store holds, then those that wait in its pipe, and
+/// then the open ones. The lane is unchanged.
 pub fn full_store<K: EpochKind, const WAYS: usize, L: Ledger>(
     alloc: Global,
     lane: &Lane<K, WAYS>,
@@ -27,7 +27,7 @@ pub fn full_store<K: EpochKind, const WAYS: usize, L: Ledger>(
     ensures holds { IfOk result (λ store. (m : Machine)
         → LaneStands (K.stands lane.now.kind) (K.folding lane.now.kind) lane.now.cache lane.now.pipe lane.now.store m
         → StoreHolds (K.folding lane.now.kind) store (all_epochs m)) }
-    ensures at_least { steps.old ≤ steps.new }
+    ensures steps { steps.old ≤ steps.new }
 {
     lane.known();
     let (kind, pipe, cache) = (lane.kind(), lane.pipe(), lane.cache());

@@ -1,5 +1,5 @@
-//! Views of a running trace: the tables that the lanes would give if the trace ended here, while caches and pipes stay as
-//! they are.
+//! Views of a running trace: the tables that the lanes would give if the trace ended here. Caches and pipes stay
+//! unchanged.
 #![tactic(auto)]
 
 mod lane;

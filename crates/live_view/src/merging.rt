@@ -1,4 +1,4 @@
-//! The epochs of a pipe and of a cache, merged into a store behind those that it holds.
+//! The epochs of a pipe and of a cache, merged into a store after those that it holds.
 
 ghost use Rattle.std.specs.Prelude.{◌≡◌, ◌+◌, ◌<◌, ◌≤◌, List, [], ◌∷◌, ◌++◌, length, reverse, OnOk};
 ghost use Rattle.epoch_model.specs.Machine.{Epoch, Machine};
@@ -17,7 +17,7 @@ use std::alloc::AllocError;
 use std::sync::ledger::Ledger;
 use switch_core::merge_entry;
 
-/// Merges the records of a pipe, the oldest first. The pipe stays as it is.
+/// Merges the records of a pipe, the oldest first. The pipe is unchanged.
 pub fn merge_pipe<K: EpochKind, L: Ledger>(
     kind: &K,
     store: &mut BackingStore,
@@ -35,7 +35,7 @@ pub fn merge_pipe<K: EpochKind, L: Ledger>(
         → StoreHolds (K.folding kind.now) store.old epochs → StoreHolds (K.folding kind.now) store.new (epochs ++ waiting)) }
     ensures key_words { store.new.key_words ≡ store.old.key_words }
     ensures state_words { store.new.state_words ≡ store.old.state_words }
-    ensures at_least { steps.old ≤ steps.new }
+    ensures steps { steps.old ≤ steps.new }
 {
     for i in 0..pipe.len() {
         pipe.nth_into(i, room);
@@ -65,7 +65,7 @@ fn merge_bucket<K: EpochKind, const WAYS: usize, L: Ledger>(
         → StoreHolds (K.folding kind.now) store.old epochs → StoreHolds (K.folding kind.now) store.new (epochs ++ reverse opened)) }
     ensures key_words { store.new.key_words ≡ store.old.key_words }
     ensures state_words { store.new.state_words ≡ store.old.state_words }
-    ensures at_least { steps.old ≤ steps.new }
+    ensures steps { steps.old ≤ steps.new }
 {
     for i in (0..WAYS).rev() {
         let Some(place) = cache.place(bucket, i) else {
@@ -77,7 +77,7 @@ fn merge_bucket<K: EpochKind, const WAYS: usize, L: Ledger>(
     Ok(())
 }
 
-/// Merges the open epochs of a cache, each as one epoch more. The cache stays as it is.
+/// Merges the open epochs of a cache, each as one more epoch. The cache is unchanged.
 pub fn merge_cache<K: EpochKind, const WAYS: usize, L: Ledger>(
     kind: &K,
     store: &mut BackingStore,
@@ -93,7 +93,7 @@ pub fn merge_cache<K: EpochKind, const WAYS: usize, L: Ledger>(
         → StoreHolds (K.folding kind.now) store.old epochs → StoreHolds (K.folding kind.now) store.new (epochs ++ open_epochs m)) }
     ensures key_words { store.new.key_words ≡ store.old.key_words }
     ensures state_words { store.new.state_words ≡ store.old.state_words }
-    ensures at_least { steps.old ≤ steps.new }
+    ensures steps { steps.old ≤ steps.new }
 {
     for bucket in 0..cache.buckets() {
         merge_bucket(kind, store, cache, bucket, initial, scratch, steps)?;

@@ -21,7 +21,7 @@ use std::alloc::{AllocError, Global};
 use std::sync::ledger::Ledger;
 use switch_core::{Lane, Pipeline};
 
-// The names of a groupby's keys and then those of its states, in memory of their own.
+// The names of a groupby's keys and then those of its states, in separate memory.
 fn columns(alloc: Global, group: &GroupPlan) -> Result<Seq<Text>, AllocError>
     ensures { IfOk result (λ columns. columns ≡ group.now.key_names ++ group.now.state_names) }
 {
@@ -63,7 +63,7 @@ fn store_table(
 }
 
 /// The table that a lane would give for its groupby if the trace ended here: of its closed epochs, and of each open one as
-/// one epoch more. The lane stays as it is.
+/// one more epoch. The lane is unchanged.
 pub fn view_lane<K: EpochKind, const WAYS: usize, L: Ledger>(
     alloc: Global,
     group: &GroupPlan,
@@ -75,7 +75,7 @@ pub fn view_lane<K: EpochKind, const WAYS: usize, L: Ledger>(
     ensures table { IfOk result (λ table. (m : Machine)
         → LaneStands (K.stands lane.now.kind) (K.folding lane.now.kind) lane.now.cache lane.now.pipe lane.now.store m
         → table ≡ closed_table (heading_of group.now) (K.folding lane.now.kind) (all_epochs m)) }
-    ensures at_least { steps.old ≤ steps.new }
+    ensures steps { steps.old ≤ steps.new }
 {
     lane.known();
     let store = full_store(alloc, lane, group.key_names.len(), steps)?;
@@ -84,7 +84,7 @@ pub fn view_lane<K: EpochKind, const WAYS: usize, L: Ledger>(
 }
 
 /// One table for each groupby, in order: those that the pipeline would give if the trace ended here. It may be anywhere in
-/// a trace, with records in its pipes and epochs in its caches, and stays as it is.
+/// a trace, with records in its pipes and epochs in its caches, and is unchanged.
 pub fn view<const WAYS: usize, L: Ledger>(
     alloc: Global,
     p: &Pipeline<WAYS>,
@@ -92,7 +92,7 @@ pub fn view<const WAYS: usize, L: Ledger>(
 ) -> Result<Seq<Table>, AllocError>
     ensures tables { IfOk result (λ tables. (machines : List Machine)
         → PipelineStands p.now machines → tables ≡ tables_seen p.now.plan.groups (map folding_at p.now.lanes) machines) }
-    ensures at_least { steps.old ≤ steps.new }
+    ensures steps { steps.old ≤ steps.new }
 {
     entries_are_small();
     p.known();

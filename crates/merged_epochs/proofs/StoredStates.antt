@@ -1,4 +1,4 @@
--- An epoch more of a key in a store: what it counts, and what its states are.
+-- One more epoch of a key in a store: what it counts, and what its states are.
 use Rattle.std.proofs.Common.{◌≡◌, ℕ, zero, suc, ◌+◌, ◌<◌, ◌==◌, true, false, List, [], ◌∷◌, ◌++◌, Some, length, map, fold, refl, sym, ap, ◌∙◌, subst, arith, length-append}
 use Rattle.std.specs.List.{filter, flat_map}
 use Rattle.std.specs.Prelude.{slice_get, option_map, if◌then◌else◌}
@@ -17,7 +17,7 @@ use Rattle.backing_store.specs.StoreLaws.{EpochsAreCounted, RowsAreAdded, LastRo
 use Rattle.merged_epochs.specs.Merged.{stored}
 use Rattle.merged_epochs.specs.Laws.{MergedEpochsAreHeld}
 
--- the rows of an epoch more of a key
+-- the rows of one more epoch of a key
 
 lists_more_same : (key : Key) (rows : List ArgRow) (epochs : List Epoch) → key_eq key key ≡ true → lists_of key (epochs ++ record { key = key; rows = rows } ∷ []) ≡ lists_of key epochs ++ rows ∷ []
 lists_more_same key rows epochs same =

@@ -8,7 +8,7 @@ use Rattle.backing_store.specs.StoreLending.{with_words_at}
 use Rattle.backing_store.specs.SortedRows.{sorted_rows}
 use Rattle.merged_epochs.specs.Merged.{StoreHolds, shown_row, epochs_in}
 
--- One epoch of a key was counted, and its rows folded into the words of the key's last row: the store holds that epoch behind the others.
+-- One epoch of a key was counted, and its rows folded into the words of the key's last row: the store holds that epoch after the others.
 abbrev pub MergedEpochsAreHeld : Type 0
 MergedEpochsAreHeld = (f : Folding) (old middle new : Store) (key : Key) (place : ℕ) (was now : List ℕ) (rows : List ArgRow)
     → IsStore old → IsStore middle → length key ≡ old.key_words → length f.initial ≡ old.state_words

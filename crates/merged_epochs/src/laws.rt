@@ -4,7 +4,7 @@ ghost use Rattle.merged_epochs.specs.Laws.{MergedEpochsAreHeld, HeldRowsAreTheTa
 
 use backing_store::{epochs_are_counted, last_rows_are_written, rows_are_added};
 
-/// A store that counted an epoch of a key, and has its rows folded into the key's last row, holds that epoch behind
+/// A store that counted an epoch of a key, and has its rows folded into the key's last row, holds that epoch after
 /// those that it held.
 pub fn merged_epochs_are_held()
     ensures { MergedEpochsAreHeld }

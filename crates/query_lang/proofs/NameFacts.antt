@@ -1,4 +1,4 @@
--- Where a text stands among names.
+-- Where a text is among names.
 use Rattle.std.proofs.Common.{◌≡◌, ℕ, zero, suc, ◌+◌, Bool, true, false, cond, not, ◌||◌, List, [], ◌∷◌, ◌++◌, length, map, slice_get, Some, None, refl, sym, ap, ◌∙◌, arith, add-one, add_comm, Vec, Global, position}
 use Rattle.std.specs.List.{list_any, position_or_len}
 use Rattle.std.specs.List.{IsDistinct, AllByRecursion}
@@ -57,7 +57,7 @@ last_of : (names : List (List ℕ)) (text : List ℕ) → slice_get (names ++ te
 last_of [] text = refl
 last_of (n ∷ names) text = last_of names text
 
--- a name's text stands at its number
+-- a name's text is at its number
 pub has_number : (names : List (List ℕ)) (text : List ℕ) → slice_get (with_name names text) (number_in names text) ≡ Some text
 has_number names text = go (list_any (bytes_eq text) names) refl
   where
@@ -82,7 +82,7 @@ with_inserted keys after v text e h k =
 abbrev same_key : Key → Key → Bool
 same_key a b = bytes_eq a.items b.items
 
--- a text that no key has stands nowhere
+-- a text that no key has is at no number
 elsewhere : (k : Key) (keys : List Key) → AllByRecursion (λ (y : Key). same_key k y ≡ false) keys → (j : ℕ) → slice_get (texts_of keys) j ≡ Some k.items → ⊥
 elsewhere k [] all j h = cc h
 elsewhere k (y ∷ keys) all zero h =

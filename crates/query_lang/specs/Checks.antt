@@ -1,4 +1,4 @@
--- Checks one after another: the first fault is the answer.
+-- Checks in sequence: the first fault is the answer.
 use Rattle.std.specs.Prelude.{ℕ, ◌+◌, Bool, nat_eq, List, [], ◌∷◌, ◌++◌, Option, Some, None, Result, Ok, Err}
 use Rattle.std.specs.Prelude.{if◌then◌else◌}
 use Rattle.std.specs.List.{list_any}
@@ -18,15 +18,15 @@ abbrev pub and_then : {A B : Type 0} → Checked A → (A → Checked B) → Che
 and_then (Ok x) next = next x
 and_then (Err fault) next = Err fault
 
--- the next check where the test holds, and else this fault
+-- the next check where the test holds, and otherwise this fault
 abbrev pub must : {A : Type 0} → Bool → FaultKind → Span → Checked A → Checked A
 must test kind span next = if test then next else refused kind span
 
--- this fault where the test holds, and else the next check
+-- this fault where the test holds, and otherwise the next check
 abbrev pub must_not : {A : Type 0} → Bool → FaultKind → Span → Checked A → Checked A
 must_not test kind span next = if test then refused kind span else next
 
--- what checks find, one after another behind what was found before
+-- what checks find in sequence, after what was found before
 abbrev pub collected : {A : Type 0} → List A → List (Checked A) → Checked (List A)
 collected found [] = Ok found
 collected found (Ok x ∷ rest) = collected (found ++ x ∷ []) rest

@@ -110,7 +110,7 @@ abbrev pub name_piece : Option Word → ℕ → Piece
 name_piece None len = pieces.Name len
 name_piece (Some w) len = pieces.Token (kinds.Word w) len
 
--- a word that begins with so many digits
+-- a word, and the number of digits that it begins with
 abbrev pub word_piece : List ℕ → ℕ → Piece
 word_piece w digits =
     if nat_eq digits (length w) then number_piece (below_limit (digits_value 10 w)) (length w) else
@@ -127,7 +127,7 @@ abbrev pub mark_at : ℕ → List ℕ → Piece
 mark_at a [] = piece_of_mark None (one_mark a)
 mark_at a (b ∷ bytes) = piece_of_mark (two_mark a b) (one_mark a)
 
--- what stands first
+-- what comes first
 abbrev pub piece : List ℕ → Piece
 piece [] = pieces.Blank 0
 piece (b ∷ bytes) =
@@ -147,7 +147,7 @@ with_front t (Err fault) = Err fault
 abbrev pub token_at : TokenKind → ℕ → ℕ → Token
 token_at kind start end = record { kind = kind; span = record { start = start; end = end } }
 
--- a fault that stands at a byte
+-- a fault at a byte
 abbrev pub fault_at : FaultKind → ℕ → QueryFault
 fault_at kind at = record { kind = kind; span = record { start = at; end = at } }
 
@@ -159,7 +159,7 @@ cut_piece (pieces.Name n) at names bytes next =
 cut_piece (pieces.Token kind n) at names bytes next = with_front (token_at kind at (at + n)) (next n names)
 cut_piece (pieces.Fault kind n) at names bytes next = Err (fault_at kind (at + n))
 
--- The tokens of these bytes, which stand at an offset behind these names, with the end as the last one; or the first fault.
+-- The tokens of these bytes, which begin at an offset and come after these names, with the end as the last one; or the first fault.
 -- The number bounds the pieces: each takes a byte at least, so as many as there are bytes are enough.
 unfoldable pub cut : ℕ → ℕ → List (List ℕ) → List ℕ → Cut
 cut zero at names bytes = Ok (token_at kinds.End at at ∷ [], names)

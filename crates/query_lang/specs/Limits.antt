@@ -45,7 +45,7 @@ abbrev pub IsNumberedFinal : ℕ → FinalOp → Type 0
 IsNumberedFinal names (final.Map input columns) = AreNumbered names columns
 IsNumberedFinal names _ = Unit {0}
 
--- the names that an item gives are among so many
+-- the names that an item gives are among this many
 abbrev pub IsNumbered : ℕ → Item → Type 0
 IsNumbered names (item.Fold d) = (d.name.id < names) × All (λ state. state.name.id < names) d.states
     × All (λ arg. arg.id < names) d.args
@@ -72,6 +72,6 @@ HasKeys _ = Unit {0}
 pub record IsReadable (q : Query) : Type 0 where
   pub limits : All KeepsLimits q.items
   pub names : All (IsNumbered (length q.names)) q.items
-  -- between two names of a text stands a byte at least, and a text has at most 65,536
+  -- between two names of a text is at least one byte, and a text has at most 65,536
   pub few : length q.names ≤ 32768
   pub keys : All HasKeys q.items

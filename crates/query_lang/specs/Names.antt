@@ -11,6 +11,6 @@ number_in names text = position_or_len (bytes_eq text) names
 abbrev pub with_name : List (List ℕ) → List ℕ → List (List ℕ)
 with_name names text = if list_any (bytes_eq text) names then names else names ++ text ∷ []
 
--- no text stands at two places, so equal numbers are those of equal texts
+-- no text is at two places, so equal numbers are those of equal texts
 abbrev pub AreOnce : List (List ℕ) → Type 0
 AreOnce names = (i j : ℕ) (text : List ℕ) → slice_get names i ≡ Some text → slice_get names j ≡ Some text → i ≡ j

@@ -32,7 +32,7 @@ expr_value e row = term_value (term_of e) row
 abbrev pub filter_stream : TypedExpr → List Tuple → List Tuple
 filter_stream condition input = filter (λ t. holds (expr_value condition t.row)) input
 
--- `map`: each row with the new values behind it
+-- `map`: each row with the new values after it
 abbrev pub map_stream : List TypedExpr → List Tuple → List Tuple
 map_stream values input = map (λ t. record { packet = t.packet; row = t.row ++ map (λ e. expr_value e t.row) values }) input
 

@@ -15,7 +15,7 @@ use Rattle.query_lang.specs.declared.typing.Sort.TheVariants.{Number, Word, Cond
 use Rattle.query_lang.specs.Folds.{gives_condition}
 use Rattle.query_lang.specs.Checks.{Checked, refused, and_then, must, collected, is_among, place_of}
 
--- the slot of a name: its place among the columns. Else it is a hidden state, which is not read while packets pass, or unknown.
+-- the slot of a name: its place among the columns. Otherwise it is a hidden state, which is not read while packets pass, or unknown.
 -- A column is found before a hidden state
 abbrev pub slot_at : Option ℕ → Bool → Span → Checked ℕ
 slot_at (Some slot) is_hidden span = Ok slot
@@ -29,7 +29,7 @@ abbrev pub is_condition_sort : Sort → Bool
 is_condition_sort Condition = true
 is_condition_sort _ = false
 
--- an operator between conditions; every other one stands between words
+-- an operator between conditions; every other one is between words
 abbrev pub joins_conditions : Op → Bool
 joins_conditions Both = true
 joins_conditions Either = true

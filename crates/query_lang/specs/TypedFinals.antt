@@ -27,7 +27,7 @@ use Rattle.query_lang.specs.Checks.{Checked, refused, and_then, must, must_not, 
 use Rattle.query_lang.specs.TypedExprs.{slot_of, condition_of}
 use Rattle.query_lang.specs.TypedStreams.{meaning_of, begun, fold_named, new_columns, no_new_columns, keys_checked, arguments_of}
 
--- a name that has to stand for a table: a groupby or a final
+-- a name that has to denote a table: a groupby or a final
 abbrev pub table_at : Option TableView → Span → Checked TableView
 table_at None span = refused WrongKind span
 table_at (Some table) span = Ok table
@@ -41,12 +41,12 @@ as_table (Some (meaning.Final table)) span = Ok table
 abbrev pub table_named : List Known → Name → Checked TableView
 table_named known name = as_table (meaning_of known name.id) name.span
 
--- the number of a table, where the query has so many groupbys: the groupbys come first
+-- the number of a table, after the number of the query's groupbys: the groupbys come first
 abbrev pub table_number : ℕ → PrintOf → ℕ
 table_number groups (place.Group number) = number
 table_number groups (place.Final number) = groups + number
 
--- `5tuple` stands for the fields srcip, dstip, srcport, dstport and proto, which are the five from the fourth on
+-- `5tuple` means the fields srcip, dstip, srcport, dstport and proto, which are the five from the fourth on
 abbrev pub five_fields : List ℕ → List ℕ
 five_fields fields = take 5 (drop 3 fields)
 

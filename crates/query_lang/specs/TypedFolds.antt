@@ -55,7 +55,7 @@ abbrev pub first_of : List (Option Span) → Option Span
 first_of [] = None
 first_of (found ∷ rest) = or_else found (first_of rest)
 
--- where the first state variable of an expression stands, in the order of the text
+-- where the first state variable of an expression is, in the order of the text
 abbrev pub state_step : List ℕ → expr.Expr-F (Option Span) → Option Span
 state_step states (expr.Number n span) = None
 state_step states (expr.Named name) = (if is_among name.id states then Some name.span else None)
@@ -101,7 +101,7 @@ abbrev pub in_order : List Adding → Adding
 in_order [] outer found = Ok found
 in_order (one ∷ rest) outer found = and_then (one outer found) (λ more. in_order rest outer more)
 
--- a block of its own, behind an `emit` that may stand before it
+-- a block inside a statement, after the `emit` that comes before it, if there is one
 abbrev pub new_block : List Adding → Enclosing → Option TypedExpr → Checked Body
 new_block block outer emit = in_order block outer (record { statements = []; emit = emit })
 

@@ -1,4 +1,4 @@
--- Which typed queries are valid: what they name is there, conditions, words and constants stand where they may, and the limits are kept.
+-- Which typed queries are valid: what they name is there, conditions, words and constants are where they are allowed, and the limits are kept.
 use Rattle.std.specs.Prelude.{◌≡◌, ℕ, zero, suc, ◌+◌, ◌-◌, ◌<◌, ◌≤◌, true, false, List, [], ◌∷◌}
 use Rattle.std.specs.Prelude.{◌++◌, length, map, sum_by, All, slice_get, Option, Some, None, option_map, unwrap_or}
 use Rattle.query_lang.specs.declared.fold.TypedExpr.{TypedExpr}
@@ -16,7 +16,7 @@ use Rattle.query_lang.specs.Terms.{term_of}
 use Rattle.query_lang.specs.Folds.{IsValidTerm, is_condition, term_nodes, IsValidFold, fold_states, fold_args}
 use Rattle.query_lang.specs.Streams.{Taking, takings}
 
--- an expression over a row of so many slots
+-- an expression over a row of this many slots
 abbrev pub IsValidExpr : ℕ → TypedExpr → Type 0
 IsValidExpr slots e = IsValidTerm slots (term_of e) × (term_nodes (term_of e) ≤ 512)
 
@@ -47,7 +47,7 @@ abbrev pub stream_width : List TypedStream → ℕ → ℕ
 stream_width streams zero = 14
 stream_width streams (suc i) = unwrap_or (option_map (λ one. length one.columns) (slice_get streams i)) 0
 
--- an operator on the streams before it, which makes rows of so many slots
+-- an operator on the streams before it, which makes rows of this many slots
 abbrev pub IsValidOp : List TypedFold → List TypedStream → ℕ → TypedOp → Type 0
 IsValidOp folds before width (op.Filter input condition) =
     (input ≤ length before) × IsValidCondition (stream_width before input) condition × (width ≡ stream_width before input)
@@ -59,11 +59,11 @@ IsValidOp folds before width (op.Zip left right slots) =
 IsValidOp folds before width (op.Group input keys f args) =
     (input ≤ length before) × IsValidGroup folds (stream_width before input) keys f args × (width ≡ length keys)
 
--- a name among so many
+-- a name among this many
 abbrev pub AreNames : ℕ → List ℕ → Type 0
 AreNames names list = All (λ id. id < names) list
 
--- a stream behind others
+-- a stream after others
 pub record IsValidStream (names : ℕ) (folds : List TypedFold) (before : List TypedStream) (one : TypedStream) : Type 0 where
   pub name : one.name.id < names
   pub columns : AreNames names one.columns
@@ -120,7 +120,7 @@ IsValidFinalOp folds tables made (final.Top input column kept) =
     (input < length tables) × (column < (shape_at tables input).width) × (0 < kept) × (kept ≤ 65536)
     × (made ≡ shape_at tables input)
 
--- a final behind the groupbys and other finals
+-- a final after the groupbys and other finals
 pub record IsValidFinal (names : ℕ) (folds : List TypedFold) (tables : List Shape) (one : TypedFinal) : Type 0 where
   pub name : one.name.id < names
   pub columns : AreNames names one.columns

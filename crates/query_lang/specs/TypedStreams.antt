@@ -30,7 +30,7 @@ use Rattle.query_lang.specs.declared.typing.StreamColumn.{StreamColumn}
 use Rattle.query_lang.specs.Checks.{Checked, refused, and_then, must, must_not, collected, is_among}
 use Rattle.query_lang.specs.TypedExprs.{slot_of, condition_of, word_of}
 
--- what a name stands for, of the names that earlier items have
+-- what a name denotes, of the names that earlier items have
 abbrev pub meaning_of : List Known → ℕ → Option Meaning
 meaning_of [] id = None
 meaning_of (one ∷ rest) id = if nat_eq one.name id then Some one.meaning else meaning_of rest id
@@ -41,7 +41,7 @@ begun earlier name =
     must_not (is_some (meaning_of earlier.known name.id)) NameTaken name.span (
     must (nat_lt (length earlier.streams + length earlier.finals) 32) (OverLimit Bindings) name.span (Ok tt))
 
--- a name that has to stand for a stream
+-- a name that has to denote a stream
 abbrev pub as_stream : Option Meaning → Span → Checked StreamView
 as_stream None span = refused UnknownName span
 as_stream (Some (meaning.Stream stream)) span = Ok stream
@@ -51,7 +51,7 @@ as_stream (Some (meaning.Final table)) span = refused WrongKind span
 abbrev pub stream_named : List Known → Name → Checked StreamView
 stream_named known name = as_stream (meaning_of known name.id) name.span
 
--- a name that has to stand for a fold
+-- a name that has to denote a fold
 abbrev pub as_fold : Option Meaning → Span → Checked FoldView
 as_fold None span = refused UnknownName span
 as_fold (Some (meaning.Fold f)) span = Ok f
@@ -100,7 +100,7 @@ others_from slot names (column ∷ rest) =
 abbrev pub columns_at : List StreamColumn → List ℕ → List StreamColumn
 columns_at columns slots = filter_map (λ slot. slice_get columns slot) slots
 
--- a key's names: `5tuple` stands for five fields
+-- a key's names: `5tuple` means five fields
 abbrev pub key_names : List ℕ → Key → List Name
 key_names five (Named name) = name ∷ []
 key_names five (FiveTuple span) = map (λ id. record { id = id; span = span }) five
@@ -117,7 +117,7 @@ keys_from columns hidden found (key ∷ rest) =
 abbrev pub keys_checked : List ℕ → List ℕ → List ℕ → List Key → Checked Picked
 keys_checked five columns hidden keys = keys_from columns hidden (record { names = []; slots = [] }) (flat_map (key_names five) keys)
 
--- The slots of a fold's arguments among the columns, and no state variable has the name of a key. The faults stand at the fold's name.
+-- The slots of a fold's arguments among the columns, and no state variable has the name of a key. The faults are at the fold's name.
 abbrev pub arguments_of : List ℕ → List ℕ → List ℕ → FoldView → Span → Checked (List ℕ)
 arguments_of columns hidden keys f span =
     and_then (collected [] (map (λ id. slot_of columns hidden (record { id = id; span = span })) f.args)) (λ slots.
@@ -130,11 +130,11 @@ filtered earlier input e =
     and_then (condition_of (column_names source.columns) source.hidden e) (λ condition.
     Ok (record { op = typed.Filter source.number condition; columns = source.columns; hidden = source.hidden; table = None })))
 
--- the number of the stream behind those that earlier items make; `pktstream` is number 0
+-- the number of the stream after those that earlier items make; `pktstream` is number 0
 abbrev pub next_stream : Earlier → ℕ
 next_stream earlier = length earlier.streams + 1
 
--- `map` adds its columns behind those of its input
+-- `map` adds its columns after those of its input
 abbrev pub mapped : Earlier → Name → List Column → Checked MadeStream
 mapped earlier input columns =
     and_then (stream_named earlier.known input) (λ source.
@@ -146,7 +146,7 @@ mapped earlier input columns =
       table = None;
     })))
 
--- `zip` has the columns of the left, and then those of the right that the left hasn't got
+-- `zip` has the columns of the left, and then those of the right that the left doesn't have
 abbrev pub zipped : Earlier → Name → Name → Checked MadeStream
 zipped earlier first second =
     and_then (stream_named earlier.known first) (λ left.

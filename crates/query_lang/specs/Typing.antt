@@ -53,12 +53,12 @@ item_checked given earlier (item.Stream d) = stream_checked (five_fields given.f
 item_checked given earlier (item.Final d) = final_checked given earlier d
 item_checked given earlier (item.Print name) = print_checked earlier name
 
--- items in order, each behind those before it
+-- items in order, each after those before it
 abbrev pub items_checked : Given → Earlier → List Item → Checked Earlier
 items_checked given earlier [] = Ok earlier
 items_checked given earlier (one ∷ rest) = and_then (item_checked given earlier one) (λ more. items_checked given more rest)
 
--- the names with those of all fields, each behind the others where it is new
+-- the names with those of all fields, each after the others where it is new
 abbrev pub with_fields : List (List ℕ) → List Field → List (List ℕ)
 with_fields names fields = fold (λ known f. with_name known (field_name f)) names fields
 
@@ -81,7 +81,7 @@ is_groupby _ = false
 abbrev pub given_of : List (List ℕ) → List Item → Given
 given_of names items = record { fields = field_numbers names; groups = min (count_by is_groupby items) 8 }
 
--- The stream of all packets, whose columns are the fields, stands from the start.
+-- The stream of all packets, whose columns are the fields, is there from the start.
 abbrev pub start_of : List (List ℕ) → Earlier
 start_of names = record {
   known = record {

@@ -1,4 +1,4 @@
-//! Places in a query's text, and the faults that stand there.
+//! Places in a query's text, and the faults at them.
 
 /// Bytes of the text, from `start` up to `end`.
 #[derive(Clone, Copy, Debug, PartialEq, Eq)]
@@ -7,7 +7,7 @@ pub struct Span {
     pub end: u32,
 }
 
-/// The first fault of a query, and where it stands. A fault at a token has the token's span, and any other one has the
+/// The first fault of a query, and where it is. A fault at a token has the token's span, and any other one has the
 /// byte's offset at both ends.
 #[derive(Clone, Copy, Debug, PartialEq, Eq)]
 pub struct QueryFault {
@@ -22,13 +22,13 @@ pub enum FaultKind {
     QueryTooLong,
     /// A byte that begins no token; or the first byte that isn't a digit, of a word that begins with one and isn't `5tuple`.
     BadByte,
-    /// No query goes on with this token.
+    /// No query continues with this token.
     UnexpectedToken,
     /// A number of 2^64 or more.
     NumberTooLarge,
-    /// A name that stands for nothing here.
+    /// A name that means nothing here.
     UnknownName,
-    /// A name that stands for something else already.
+    /// A name that means something else already.
     NameTaken,
     /// A word for a condition, a fold for a stream, and the like.
     WrongKind,
@@ -38,7 +38,7 @@ pub enum FaultKind {
     BadConstant,
     /// A fold's state is read while packets pass.
     StateOnLine,
-    /// More of something than there may be.
+    /// More of something than is allowed.
     OverLimit(Limit),
     /// A query that prints no table.
     NothingPrinted,
@@ -49,11 +49,11 @@ pub enum FaultKind {
     NotMonotone,
     /// A final in a query whose plan is written as a text.
     FinalInPlan,
-    /// A line of a plan's text that isn't valid behind the lines before it.
+    /// A line of a plan's text that isn't valid after the lines before it.
     BadPlan,
 }
 
-/// What there may be only so many of.
+/// What there is a limit for.
 #[derive(Clone, Copy, Debug, PartialEq, Eq)]
 pub enum Limit {
     Groupbys,

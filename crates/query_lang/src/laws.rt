@@ -1,9 +1,9 @@
-//! Laws about names and about the cutting of a text.
+//! Laws about names, and about cutting a text into tokens.
 
 ghost use Rattle.std.specs.Prelude.{◌≡◌, ℕ, ◌≤◌, List, [], ◌∷◌, length};
 ghost use Rattle.query_lang.specs.Lexis.{cut, piece, TakesSome};
 
-/// What stands first in a text takes a byte at least and no more than there are, and a fault stands within the text.
+/// What comes first in a text takes at least one byte and no more than there are, and a fault is within the text.
 pub fn pieces_take_bytes()
     ensures { (b : ℕ) (bytes : List ℕ) → TakesSome (piece (b ∷ bytes)) (length (b ∷ bytes)) }
 {}

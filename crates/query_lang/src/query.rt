@@ -5,7 +5,7 @@ use crate::fold::Op;
 use crate::names::Names;
 use marple_base::{Boxed, Seq};
 
-/// A name, by its number among the names of the text, where it stands.
+/// A name, by its number among the names of the text, and where it is.
 #[derive(Clone, Copy, PartialEq, Eq, Debug)]
 pub struct Name {
     pub id: u32,
@@ -103,7 +103,7 @@ pub struct Column {
     pub value: Expr,
 }
 
-/// A key of a groupby; `5tuple` stands for five.
+/// A key of a groupby; `5tuple` means five.
 #[derive(Clone, Copy, PartialEq, Eq, Debug)]
 pub enum Key {
     Named(Name),

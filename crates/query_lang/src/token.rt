@@ -1,4 +1,4 @@
-//! Tokens of a query's text, with where they stand.
+//! Tokens of a query's text, and where they are.
 
 use crate::fault::{FaultKind, Span};
 
@@ -60,7 +60,7 @@ pub enum Mark {
     Bang,
 }
 
-/// What stands in the text.
+/// What a token is.
 #[derive(Clone, Copy, Debug, PartialEq, Eq)]
 pub enum TokenKind {
     /// A name, whose text is that of the span. Names are numbered from 0 by first appearance in the text.
@@ -74,14 +74,14 @@ pub enum TokenKind {
     End,
 }
 
-/// A token, and where it stands.
+/// A token, and where it is.
 #[derive(Clone, Copy, Debug, PartialEq, Eq)]
 pub struct Token {
     pub kind: TokenKind,
     pub span: Span,
 }
 
-/// What stands first in some bytes, and how many of them it takes.
+/// What comes first in some bytes, and how many of them it takes.
 #[derive(Clone, Copy, Debug, PartialEq, Eq)]
 pub enum Piece {
     /// A blank or a comment.
@@ -89,6 +89,6 @@ pub enum Piece {
     Name(usize),
     /// A token of any other kind.
     Token(TokenKind, usize),
-    /// A fault, which stands so many bytes on.
+    /// A fault, and how many bytes on it is.
     Fault(FaultKind, usize),
 }

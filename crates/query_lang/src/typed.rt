@@ -12,7 +12,7 @@ pub enum Class {
     Other,
 }
 
-/// A query that was checked. Its names are those of the text, and then the names of fields that the text hasn't got, in
+/// A query that was checked. Its names are those of the text, and then the names of fields that the text doesn't have, in
 /// the order of the fields.
 #[derive(Drop)]
 pub struct TypedQuery {

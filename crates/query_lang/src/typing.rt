@@ -1,11 +1,11 @@
-//! What the names of a query stand for, as they are known where an item is checked.
+//! What the names of a query denote, as far as is known where an item is checked.
 
 use crate::fault::Span;
 use crate::fold::{TypedExpr, TypedFold, TypedStmt};
 use crate::typed::{PrintOf, TypedFinal, TypedFinalOp, TypedOp, TypedStream};
 use marple_base::Seq;
 
-/// What an expression gives: a number that stands in the text, another word, or a condition.
+/// What an expression gives: a number written in the text, another word, or a condition.
 #[derive(Clone, Copy, Debug, PartialEq, Eq)]
 pub enum Sort {
     Number(u64),
@@ -63,7 +63,7 @@ pub struct NewColumns {
     pub values: Seq<TypedExpr>,
 }
 
-/// A fold as its name tells it. Folds are numbered from 0.
+/// A fold that a name denotes. Folds are numbered from 0.
 #[derive(Drop)]
 pub struct FoldView {
     pub number: u16,
@@ -72,7 +72,7 @@ pub struct FoldView {
     pub emits: bool,
 }
 
-/// A table as its name tells it: its columns are the keys, and then the rest.
+/// A table that a name denotes: its columns are the keys, and then the rest.
 #[derive(Drop)]
 pub struct TableView {
     pub place: PrintOf,
@@ -80,7 +80,7 @@ pub struct TableView {
     pub keys: u8,
 }
 
-/// A stream as its name tells it, with the state variables that may not be read while packets pass, and the table where
+/// A stream that a name denotes, with the state variables that may not be read while packets pass, and the table where
 /// the stream is a groupby's.
 #[derive(Drop)]
 pub struct StreamView {
@@ -90,7 +90,7 @@ pub struct StreamView {
     pub table: Option<TableView>,
 }
 
-/// What a name stands for.
+/// What a name denotes.
 #[derive(Drop)]
 pub enum Meaning {
     Fold(FoldView),
@@ -98,7 +98,7 @@ pub enum Meaning {
     Final(TableView),
 }
 
-/// A name, and what it stands for.
+/// A name, and what it denotes.
 #[derive(Drop)]
 pub struct Known {
     pub name: u32,
@@ -122,7 +122,7 @@ pub struct MadeFinal {
     pub keys: u8,
 }
 
-/// What the items before some place give: what their names stand for, how many of them are groupbys, and their typed forms.
+/// What the items before some place give: what their names denote, how many of them are groupbys, and their typed forms.
 #[derive(Drop)]
 pub struct Earlier {
     pub known: Seq<Known>,

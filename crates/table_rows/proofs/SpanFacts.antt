@@ -54,7 +54,7 @@ rows_pushed words key values spans span within start key_long values_long =
     map-append (row_in ((words ++ key) ++ values)) spans (span ∷ [])
     ∙ ap₂ (λ (rows : List Row) (new : Row). rows ++ new ∷ []) same (ap₂ row new_key new_values)
 
--- a row's columns lie one after another
+-- a row's columns are stored one after another
 pub columns-row_in : (words : List ℕ) (start key_words value_words : ℕ)
     → take key_words (drop start words) ++ take value_words (drop (start + key_words) words) ≡ take (key_words + value_words) (drop start words)
 columns-row_in words start key_words value_words =

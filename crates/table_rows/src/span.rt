@@ -1,4 +1,4 @@
-//! Where a row's words lie, and what stands beside them.
+//! Where a row's words are, and what is kept beside them.
 
 ghost use Rattle.std.specs.Prelude.{◌≡◌, ◌+◌, ◌≤◌, length, take, drop};
 ghost use Rattle.table_rows.specs.LentRows.{row_of};
@@ -18,7 +18,7 @@ pub struct Span {
     pub mark: Mark,
 }
 
-/// At most `count` of the words from `start` on, and fewer only where the words end before.
+/// At most `count` of the words from `start` on, and fewer only where the words end earlier.
 pub fn part(words: &[u64], start: usize, count: usize) -> &[u64]
     ensures { result.now ≡ take count (drop start words.now) }
 {

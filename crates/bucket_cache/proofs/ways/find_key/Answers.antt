@@ -37,7 +37,7 @@ loop-i-preserved g c =
           (λ (e : at ≡ i). subst (λ n. key_eq (get_or rows (get_or order n 0) []) key ≡ false) (sym e) this)
           (λ (d : at ≡ i → ⊥). c.loop-i.invariant.none at (let l : at < i = below at i h d in l))
           (cases_eq at i);
-      at_least = let a = c.same_words.ensures.at_least in let b = c.loop-i.invariant.at_least in omega arith;
+      steps = let a = c.same_words.ensures.steps in let b = c.loop-i.invariant.steps in omega arith;
       cost = omega arith;
     }
   where

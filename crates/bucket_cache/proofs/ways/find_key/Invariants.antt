@@ -6,6 +6,6 @@ use Rattle.bucket_cache.proofs.ways.find_key.Given as goal
 abbrev pub invariant-loop-i : goal.invariant-loop-i
 invariant-loop-i g l = record {
   none : (at : ℕ) → at < l.i → key_eq (get_or (rows_of (length l.key) (length l.order) l.words) (get_or l.order at 0) []) l.key ≡ false;
-  at_least : l.initial.steps ≤ l.steps;
+  steps : l.initial.steps ≤ l.steps;
   cost : l.steps ≤ l.initial.steps + l.i * length l.key;
 }

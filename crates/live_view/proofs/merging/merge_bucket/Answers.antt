@@ -17,7 +17,7 @@ loop-i-init g c =
           subst (StoreHolds f c.args.store.now) (sym (ap (λ es. epochs ++ reverse es) (drop_all g.row.WAYS opened (omega arith)) ∙ append-nil epochs)) holds;
       key_words = refl;
       state_words = refl;
-      at_least = omega arith;
+      steps = omega arith;
     }
 
 pub key-key-requires : goal.key-key-requires
@@ -48,7 +48,7 @@ loop-i-preserved g c =
           subst (StoreHolds f c.merge_entry.new.store) (one_before epochs opened i (i - 1) e c.key-key.result.now key (found.5 ∙ ap (λ n. e ∷ drop n opened) back)) merged;
       key_words = c.merge_entry.ensures.key_words ∙ c.loop-i.invariant.key_words;
       state_words = c.merge_entry.ensures.state_words ∙ c.loop-i.invariant.state_words;
-      at_least = let a = c.merge_entry.ensures.at_least in let b = c.loop-i.invariant.at_least in omega arith;
+      steps = let a = c.merge_entry.ensures.at_least in let b = c.loop-i.invariant.steps in omega arith;
     }
 
 pub loop-i-preserved-in_default : goal.loop-i-preserved-in_default
@@ -64,7 +64,7 @@ loop-i-preserved-in_default g c =
           subst (λ es. StoreHolds f c.loop-i.store (epochs ++ reverse es)) here (c.loop-i.invariant.held opened epochs stand holds);
       key_words = c.loop-i.invariant.key_words;
       state_words = c.loop-i.invariant.state_words;
-      at_least = c.loop-i.invariant.at_least;
+      steps = c.loop-i.invariant.steps;
     }
 
 pub returns-clause-held : goal.returns-clause-held

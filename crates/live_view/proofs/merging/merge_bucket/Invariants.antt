@@ -5,7 +5,7 @@ use Rattle.merged_epochs.specs.Merged.{StoreHolds}
 use Rattle.switch_core.specs.Lanes.{PairStands, PairsStand}
 use Rattle.live_view.proofs.merging.merge_bucket.Given as goal
 
--- the epochs behind this one are merged
+-- the epochs after this one are merged
 abbrev pub invariant-loop-i : goal.invariant-loop-i
 invariant-loop-i g l =
     let first = l.initial.store in
@@ -15,5 +15,5 @@ invariant-loop-i g l =
           → StoreHolds f l.store (epochs ++ reverse (drop l.i opened));
       key_words : l.store.key_words ≡ first.key_words;
       state_words : l.store.state_words ≡ first.state_words;
-      at_least : l.initial.steps ≤ l.steps;
+      steps : l.initial.steps ≤ l.steps;
     }

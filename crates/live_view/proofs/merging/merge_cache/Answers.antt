@@ -17,7 +17,7 @@ loop-bucket-preserved g c =
           subst (StoreHolds f c.merge_bucket.new.store) (bucket_behind epochs m.recent bucket there) merged;
       key_words = c.merge_bucket.ensures.key_words ∙ c.loop-bucket.invariant.key_words;
       state_words = c.merge_bucket.ensures.state_words ∙ c.loop-bucket.invariant.state_words;
-      at_least = let a = c.merge_bucket.ensures.at_least in let b = c.loop-bucket.invariant.at_least in omega arith;
+      steps = let a = c.merge_bucket.ensures.steps in let b = c.loop-bucket.invariant.steps in omega arith;
     }
 
 pub returns-clause-held : goal.returns-clause-held

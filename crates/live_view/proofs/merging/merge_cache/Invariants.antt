@@ -14,5 +14,5 @@ invariant-loop-bucket g l =
           → StoreHolds f l.store (epochs ++ flat_map (λ es. reverse es) (take l.bucket m.recent));
       key_words : l.store.key_words ≡ first.key_words;
       state_words : l.store.state_words ≡ first.state_words;
-      at_least : l.initial.steps ≤ l.steps;
+      steps : l.initial.steps ≤ l.steps;
     }

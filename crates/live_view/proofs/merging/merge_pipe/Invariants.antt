@@ -13,5 +13,5 @@ invariant-loop-i g l =
       held : (waiting epochs : List Epoch) → RecordsStand (g.K.EpochKind.stands l.kind) first.key_words l.pipe.records waiting → StoreHolds f first epochs → StoreHolds f l.store (epochs ++ take l.i waiting);
       key_words : l.store.key_words ≡ first.key_words;
       state_words : l.store.state_words ≡ first.state_words;
-      at_least : l.initial.steps ≤ l.steps;
+      steps : l.initial.steps ≤ l.steps;
     }

@@ -37,7 +37,7 @@ loop-i-preserved g c =
           let next = seen_next p.plan.groups p.lanes machines i c.group.result.now lane found.0 at c.lane.ensures found.1 in
           c.in_ok-push.ensures.ok ∙ (ap (λ ts. ts ++ c.in_ok-view_lane.field-0 ∷ []) (c.loop-i.invariant.tables machines stand)
           ∙ (ap (λ t. take i (tables_seen p.plan.groups (map folding_at p.lanes) machines) ++ t ∷ []) table ∙ sym next));
-      at_least = let a = c.view_lane.ensures.at_least in let b = c.loop-i.invariant.at_least in omega arith;
+      steps = let a = c.view_lane.ensures.steps in let b = c.loop-i.invariant.steps in omega arith;
     }
 
 pub returns-clause-tables : goal.returns-clause-tables
