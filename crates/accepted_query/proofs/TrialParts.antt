@@ -58,7 +58,7 @@ trial_names = codes "count" ∷ codes "c" ∷ codes "lost" ∷ codes "d" ∷ cod
     ∷ codes "tcpseq" ∷ codes "payload_len" ∷ codes "deepest" ∷ codes "m" ∷ codes "qsize" ∷ codes "a" ∷ codes "pktstream"
     ∷ codes "srcip" ∷ codes "b" ∷ codes "switch" ∷ codes "e" ∷ codes "g" ∷ codes "big" ∷ codes "odd" ∷ codes "deep" ∷ []
 
--- the items behind the folds
+-- the items after the folds
 abbrev pub trial_rest : List Item
 trial_rest = (item.Stream (record {
   name = (named 13 256 257);

@@ -8,7 +8,7 @@ use Rattle.accepted_query.specs.Accepted.{accepted, staged}
 use Rattle.accepted_query.specs.declared.answer.QueryAnswer.{QueryAnswer}
 use Rattle.accepted_query.specs.declared.answer.QueryAnswer.TheVariants.{Refused, Memory}
 
--- a refusal tells the text's first fault
+-- a refusal gives the text's first fault
 abbrev pub IsAnswerTo : List ℕ → QueryAnswer → Type 0
 IsAnswerTo text (Refused fault) = accepted text ≡ Err fault
 IsAnswerTo text Memory = ⊤

@@ -1,4 +1,4 @@
-//! What the acceptance of a query answers where it isn't accepted.
+//! What is answered where a query isn't accepted.
 
 use query_lang::QueryFault;
 
@@ -7,6 +7,6 @@ use query_lang::QueryFault;
 pub enum QueryAnswer {
     /// The text's first fault.
     Refused(QueryFault),
-    /// There was no memory.
+    /// Memory ran out.
     Memory,
 }

@@ -1,4 +1,4 @@
-//! Parsing, typing and planning, one after another.
+//! Parsing, typing and planning, in sequence.
 
 ghost use Rattle.std.specs.Prelude.{◌≡◌, Ok, IfOk, IfErr};
 ghost use Rattle.query_lang.specs.Limits.{IsReadable};

@@ -59,7 +59,7 @@ rows_are rows some few = record {
 
 -- ---- refused
 
--- an operator makes no table where something isn't so that it asks
+-- an operator makes no table where something that it asks isn't so
 unmet : (op : FinalOp) (d : Demand) → FinalAsks (five_fields three_groupbys.fields) tables op d → (Holds tables d → ⊥) → MakesNoTable op
 unmet op d asked fails = λ made h. fails (final_meets three_groupbys tables op made d h asked)
 

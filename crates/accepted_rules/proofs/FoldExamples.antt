@@ -92,7 +92,7 @@ else_reads = seen (typed.Not typed_below_9) _ (term_not typed_below_9) (of_two L
 
 -- ---- refused
 
--- a fold has no form where something isn't so that it asks
+-- a fold has no form where something that it asks isn't so
 unmet : (d : FoldDef) (q : Demand) → FoldAsks d q → (Holds [] q → ⊥) → HasNoFold d
 unmet d q asked fails = λ f h. fails (fold_meets [] d f q h asked)
 

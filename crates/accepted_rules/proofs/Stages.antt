@@ -17,7 +17,7 @@ Fits depth = depth ≤ 64
 abbrev operations : List StreamDepths → List ℕ
 operations streams = flat_map (λ (one : StreamDepths). one.operations) streams
 
--- the depths of the streams behind these
+-- the depths of the streams after these
 abbrev behind : List TypedFold → List StreamDepths → List TypedStream → List StreamDepths
 behind folds depths [] = []
 behind folds depths (one ∷ list) = depths_made folds depths one.op ∷ behind folds (depths ++ depths_made folds depths one.op ∷ []) list

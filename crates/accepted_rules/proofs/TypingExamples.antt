@@ -133,7 +133,7 @@ expression_examples = record {
 pub no_place : (names : List ℕ) (id : ℕ) → place_of names id ≡ None → (place : ℕ) × StandsAt names place id → ⊥
 no_place names id none h = let same : (let o : Option ℕ = None in o) ≡ Some h.0 = sym none ∙ stands_place names id h.0 h.1 in cc same
 
--- what stands on the right of `0 <`
+-- what is on the right of `0 <`
 pub right_of_0 : (id : ℕ) → HasPart Condition (is_above_0 id) Word (Named (called id))
 right_of_0 id = parts.of_right Condition Lt here (Number 0 here) (Named (called id)) Word (Named (called id)) (parts.whole Word (Named (called id)))
 
@@ -167,7 +167,7 @@ field id slot is = place_stands field_names id slot is
 new : (id : ℕ) (names : List ℕ) → is_among id names ≡ false → IsNew id names
 new id names is = among_new id names is
 
--- an operator makes nothing where something isn't so that it asks
+-- an operator makes nothing where something that it asks isn't so
 unmet : (op : StreamOp) (d : Demand) → StreamAsks [] items_before 1 (called 20) op d → (Holds items_before d → ⊥) → MakesNothing op
 unmet op d asked fails = λ made h. fails (stream_meets [] items_before 4 1 (called 20) op made d h asked)
 

@@ -29,9 +29,9 @@ AcceptedByRules = (text : List ℕ) (t : TypedQuery) → (accepted text ≡ Ok t
 abbrev pub AcceptedOnce : Type 0
 AcceptedOnce = (text : List ℕ) (t u : TypedQuery) → IsAcceptedAs text t → IsAcceptedAs text u → t ≡ u
 
--- The rule that a query breaks, as the fault says it. An item has no typed form behind those before it, which have theirs: something is
+-- The rule that a query breaks, as the fault says it. An item has no typed form after those before it, which have theirs: something is
 -- asked of one of its tokens that isn't so, and a fault of this kind at this token says that. Or all items have typed forms, none prints a
--- table, and the fault stands at the end.
+-- table, and the fault is at the end.
 pub data BreaksRule (q : Query) (fault : QueryFault) : Type 0 where
   of_item : Breaks (λ known demand. Tells known fault.kind fault.span demand) q → BreaksRule q fault
   of_end : fault ≡ record { kind = NothingPrinted; span = q.end } → PrintsNothing q → BreaksRule q fault

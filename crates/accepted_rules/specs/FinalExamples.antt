@@ -56,7 +56,7 @@ tables =
 abbrev pub three_groupbys : Given
 three_groupbys = record { fields = []; groups = 3 }
 
--- behind these the operator makes this
+-- after these the operator makes this
 abbrev pub MakesTable : FinalOp → MadeFinal → Type 0
 MakesTable op made = HasFinal three_groupbys tables op made
 
@@ -67,7 +67,7 @@ MakesNoTable op = (made : MadeFinal) → MakesTable op made → ⊥
 abbrev pub table_by : ℕ → ℕ → ℕ → FinalOp
 table_by input id fold_id = Group (called input) (key.Named (called id) ∷ []) (called fold_id)
 
--- so many rows, by the variable 3
+-- that many rows, by the variable 3
 abbrev pub first_rows : ℕ → FinalOp
 first_rows rows = Top (called 10) (called 3) rows here
 
@@ -75,7 +75,7 @@ abbrev pub MakesRows : ℕ → Type 0
 MakesRows rows = MakesTable (first_rows rows) (record { op = made_by.Top 0 1 rows; columns = 1 ∷ 3 ∷ []; keys = 1 })
 
 pub record FinalExamples : Type 0 where
-  -- a filter on the fold's variable, of a groupby and of a final; tables of finals are numbered behind those of groupbys
+  -- a filter on the fold's variable, of a groupby and of a final; tables of finals are numbered after those of groupbys
   pub filter_of_a_groupby : MakesTable (Filter (called 10) (is_above_0 3)) (record {
     op = made_by.Filter 0 (typed.Binary Lt (typed.Number 0) (typed.Slot 1));
     columns = 1 ∷ 3 ∷ [];

@@ -27,7 +27,7 @@ fold_over states args body = record {
 abbrev pub a_fold : List Stmt → FoldDef
 a_fold body = fold_over (1 ∷ []) (2 ∷ []) body
 
--- its typed form, of so many nodes and statements
+-- its typed form, of that many nodes and statements
 abbrev pub typed_fold : List TypedStmt → Option TypedExpr → ℕ → ℕ → TypedFold
 typed_fold body emit nodes statements = record {
   name = called 20;

@@ -49,7 +49,7 @@ a_groupby = record {
 abbrev pub a_final : MadeFinal
 a_final = record { op = final_made_by.Top 0 1 5; columns = 1 ∷ 3 ∷ []; keys = 1 }
 
--- the last stands first
+-- the last one first
 abbrev pub one_of_each : List Entry
 one_of_each = APrint (called 11) (place.Group 0) ∷ AFinal (called 12) a_final ∷ AStream (called 11) a_groupby ∷ AFold a_count ∷ []
 

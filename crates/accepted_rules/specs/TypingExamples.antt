@@ -25,7 +25,7 @@ use Rattle.query_lang.specs.declared.typing.StreamView.{StreamView}
 use Rattle.query_rules.specs.ExprRules.{Kind, Word, Condition, HasKind}
 use Rattle.query_rules.specs.StreamRules.{HasStream}
 
--- where it stands doesn't matter here
+-- where it is doesn't matter here
 abbrev pub here : Span
 here = record { start = 0; end = 0 }
 
@@ -169,7 +169,7 @@ items_before =
     ∷ record { name = 16; meaning = meaning.Stream zipped }
     ∷ []
 
--- behind these the operator makes this, as stream 4 and behind one groupby
+-- after these the operator makes this, as stream 4 and after one groupby
 abbrev pub Makes : StreamOp → MadeStream → Type 0
 Makes op made = HasStream [] items_before 4 1 op made
 
@@ -221,7 +221,7 @@ pub record StreamExamples : Type 0 where
     hidden = 3 ∷ [];
     table = None;
   })
-  -- a new column, behind those of the input
+  -- a new column, after those of the input
   pub map_of_a_sum : Makes (Map (called 12) (new_column 5 (Binary Add here first second) ∷ [])) (record {
     op = made_by.Map 3 (typed.Binary Add (typed.Slot 0) (typed.Slot 1) ∷ []);
     columns = a_field 1 ∷ a_field 2 ∷ record { name = 5; origin = origin.Map 4 } ∷ [];
@@ -249,7 +249,7 @@ pub record StreamExamples : Type 0 where
     hidden = 3 ∷ [];
     table = Some (record { place = place.Group 1; columns = 1 ∷ 3 ∷ []; keys = 1 });
   })
-  -- no key stands twice, a key is a column and no state, the fold's arguments are columns, and its variables have no key's name
+  -- no key is given twice, a key is a column and no state, the fold's arguments are columns, and its variables have no key's name
   pub key_twice : MakesNothing (Group (called 12) (key.Named (called 1) ∷ key.Named (called 1) ∷ []) (called 13))
   pub key_without_a_column : MakesNothing (grouped_by 12 5 13)
   pub key_is_a_state : MakesNothing (grouped_by 10 3 14)

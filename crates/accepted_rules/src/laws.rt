@@ -18,7 +18,7 @@ pub fn accepted_once()
 {}
 
 /// A text is refused with a fault that is the first of the grammar; or that says what an item asks that isn't so, or that
-/// nothing is printed; or that stands at a stream that is too deep. It is refused with none where it is accepted.
+/// nothing is printed; or that is at a stream that is too deep. It is refused with none where it is accepted.
 pub fn refused_by_rules()
     ensures { RefusedByRules }
 {}

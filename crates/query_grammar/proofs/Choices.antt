@@ -1,4 +1,4 @@
--- One parser or the other, one at most, and one that stops at a bracket.
+-- One parser or the other, at most one, and one that stops at a bracket.
 use Rattle.std.proofs.Common.{◌≡◌, Bool, true, false, cond, List, [], ◌∷◌, ◌++◌, Option, Some, None, refl, sym, ap, subst, ◌∙◌, inl, inr, ◌⊎◌}
 use Rattle.query_lang.specs.declared.fault.Span.{Span}
 use Rattle.query_lang.specs.declared.token.Token.{Token}

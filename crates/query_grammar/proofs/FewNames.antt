@@ -1,4 +1,4 @@
--- A text has so few names that a byte can stand between any two of them.
+-- A text has so few names that a byte fits between any two of them.
 use Rattle.std.proofs.Common.{◌≡◌, ℕ, zero, suc, ◌+◌, ◌*◌, ◌<◌, ◌≤◌, Bool, true, false, cond, List, [], ◌∷◌, ◌++◌, length, take, drop, Option, Some, None, Ok, Err, refl, sym, ap, ◌∙◌, arith}
 use Rattle.std.specs.Prelude.{nat_eq, codes}
 use Rattle.std.specs.List.{list_any, prefix_len}
@@ -29,7 +29,7 @@ begins_once (b ∷ bytes) = go (is_word_byte b)
     go true = omega arith
     go false = omega arith
 
--- behind a word no word begins
+-- no word begins right after a word
 behind_word : (bytes : List ℕ) → word_begins (drop (prefix_len is_word_byte bytes) bytes) ≡ 0
 behind_word [] = refl
 behind_word (b ∷ bytes) = go (is_word_byte b) refl (behind_word bytes)
@@ -83,7 +83,7 @@ Pair = List Token × List (List ℕ)
 same_found : (a b : Pair) → ◌≡◌ {A = Cut} (Ok a) (Ok b) → a ≡ b
 same_found a b e = cc
 
--- what stands behind the first token of a cut text
+-- what comes after the first token of a cut text
 behind_front : (t : Token) (o : Cut) (found : Pair) → with_front t o ≡ Ok found → (got : Pair) × (o ≡ Ok got) × (got.1 ≡ found.1)
 behind_front t (Ok got) found e = (got, refl, ap (λ (p : Pair). p.1) (same_found (t ∷ got.0, got.1) found e))
 behind_front t (Err fault) found e = absurd cc
@@ -95,7 +95,7 @@ one_more known w = go (list_any (bytes_eq w) known)
     go true = omega arith
     go false = omega (arith, length-append known (w ∷ []))
 
--- so many names come of these bytes behind the known ones
+-- these bytes add that many names to the known ones
 abbrev AreFew : List (List ℕ) → List ℕ → Pair → Type 0
 AreFew known bytes found = 2 * length found.1 ≤ 2 * length known + length bytes + word_begins bytes
 

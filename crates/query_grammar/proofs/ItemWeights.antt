@@ -26,7 +26,7 @@ use Rattle.query_grammar.proofs.Weights.{total, sum_total, is_node, is_statement
 
 -- ---- what a limit leaves
 
--- leaves behind these counts keep the limits
+-- leaves that are counted from these counts on keep the limits
 abbrev Bounded : List Leaf → Counts → Counts → Type 0
 Bounded w c e = leaves_by is_opening w ≡ 0 → pays Limited c w ≡ Some e → c.nodes ≤ 512 → c.statements ≤ 64 → (c.nodes + leaves_by is_node w ≤ 512) × (c.statements + leaves_by is_statement w ≤ 64)
 
@@ -66,7 +66,7 @@ pays_part c e u w h = go (pays Limited c u) refl (sym (pays-append Limited c u w
     go None p k = absurd cc
     go (Some m) p k = (m, p, k)
 
--- ---- a first token, and what is counted behind it
+-- ---- a first token, and what is counted after it
 
 pub record Opens {A : Type 0} (L : Language A) (f g : A → ℕ) : Type 0 where
   pub is : (w : List Leaf) (v : A) → L w v → (l : Leaf) × (x : List Leaf) × (w ≡ l ∷ x) × (l.role ≡ Opening) × Weight x (f v) (g v)

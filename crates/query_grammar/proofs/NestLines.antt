@@ -102,7 +102,7 @@ unfolding stmt_at
 nests_stmt zero = nests_statement (Expression 1) (Expression 0) (Statement_at 0) (nests_expr zero) (nests_blocked (Parens (Expression 0)) (sign marks.OpenParen) refl) (nests_blocked (Block (Statement_at 0)) (sign marks.OpenBrace) refl) (nests_blocked Closing (sign marks.OpenParen) refl)
 nests_stmt (suc e) = nests_statement (Expression (suc (suc e))) (Expression (suc e)) (Statement_at (suc e)) (nests_expr (suc e)) (nests_parens (nests_expr e)) (nests_block (Statement_at (suc e)) (nests_stmt e)) (nests_empty e)
 
--- ---- items, which stand in no bracket
+-- ---- items, which are in no bracket
 
 nests_variable : (e : ℕ) → Nests StateVariable (state_variable Limited) 0 0 e
 nests_variable e = nests_mapped (nests_then (nests_name {e = e}) (nests_once (among (32 ∷ [])) (nests_after (sign marks.Assign) refl nests_number)) refl)

@@ -25,7 +25,7 @@ closed-append : (xs ys : List Token) → closed (xs ++ ys) ≡ closed xs + close
 closed-append [] ys = omega arith
 closed-append (x ∷ xs) ys = omega (arith, closed-append xs ys)
 
--- behind so many opened and closed brackets, none of these is open with e others
+-- after that many opened and closed brackets, none of these is open together with e others
 abbrev pub Shallow : ℕ → ℕ → ℕ → List Token → Type 0
 Shallow e o c [] = Unit {0}
 Shallow e o c (t ∷ ts) = (opens (kind t) + o ≤ c + e) × Shallow e (o + opens (kind t)) (c + closes (kind t)) ts
@@ -50,7 +50,7 @@ shallow_at o c (x ∷ front) more t h e = omega (arith, shallow_at (o + opens (k
 pub shallow_is : (ts : List Token) → Shallow 64 0 0 ts → IsShallow ts
 shallow_is ts h = λ front more t e o. omega (arith, shallow_at 0 0 front more t (subst (λ (x : List Token). Shallow 64 0 0 x) e h) o)
 
--- what was read opens so many brackets more than it closes, and none that would be one too many
+-- what was read opens that many brackets more than it closes, and none that would be one too many
 pub record Level_is (up down e : ℕ) (ts rest : List Token) : Type 0 where
   pub front : List Token
   pub split : ts ≡ front ++ rest
@@ -78,7 +78,7 @@ abbrev pub LevelMeets : {A : Type 0} → ℕ → ℕ → ℕ → List Token → 
 LevelMeets up down e ts (Done v c rest) = Level_is up down e ts rest
 LevelMeets up down e ts (Stopped k rest) = StopLevel e ts k rest
 
--- (the language is there so that antt finds the arguments of the lemmas)
+-- (the language is an argument so that antt finds those of the lemmas)
 pub record Nests {A : Type 0} (L : List Leaf → A → Type 0) (p : Parser A) (up down e : ℕ) : Type 0 where
   pub meets : (c : Counts) (ts : List Token) → LevelMeets up down e ts (p c ts)
 
@@ -121,7 +121,7 @@ reached_of e ts Nodes rest g = g
 reached_of e ts Statements rest g = g
 reached_of e ts Nesting rest g = record { front = g.0.front; split = g.0.split; shallow = g.0.shallow }
 
--- what a token of this role may stop for
+-- why a parser may stop at a token of this role
 stop_here : (e : ℕ) (ts : List Token) (role : Role) → StopLevel e ts (limit_of role) ts
 stop_here e ts Plain = none_reached e ts
 stop_here e ts Node = none_reached e ts

@@ -96,7 +96,7 @@ pub data Begins (starts : Token → Bool) : Bool → List Leaf → Type 0 where
   nothing : Begins starts true []
   something : {nullable : Bool} → (l : Leaf) → (others : List Leaf) → starts l.token ≡ true → Begins starts nullable (l ∷ others)
 
--- the parser meets the language. Its words begin with tokens of starts; it reads on at tokens of goes_on
+-- the parser meets the language. Its words begin with tokens of `starts`; it reads on at tokens of `goes_on`
 pub record Parses {A : Type 0} (m : Limits) (L : List Leaf → A → Type 0) (p : Parser A) (starts goes_on : Token → Bool) (nullable : Bool) : Type 0 where
   pub meets : (c : Counts) (ts : List Token) → Meets m L p c ts (p c ts)
   pub complete : (c : Counts) (w : List Leaf) (v : A) (rest : List Token) → L w v → next_is goes_on rest ≡ false → Reads m p c w v rest

@@ -1,4 +1,4 @@
--- Where two ways to part a list stand to each other.
+-- How two ways to split a list relate to each other.
 use Rattle.std.proofs.Common.{◌≡◌, List, [], ◌∷◌, ◌++◌, refl, sym, ap, ◌∙◌}
 use Rattle.std.proofs.lemmas.List.{append-nil}
 
@@ -22,7 +22,7 @@ splits [] b u v e = after u refl e
 splits (x ∷ a) b [] v e = before (x ∷ a) refl (sym e)
 splits (x ∷ a) b (z ∷ u) v e = one_longer x z a b u v (head_is x z (a ++ b) (u ++ v) e) (splits a b u v (tail_is x z (a ++ b) (u ++ v) e))
 
--- where l of u ++ l ∷ x stands in a ++ b: in a, first behind it, or later
+-- where l of u ++ l ∷ x is in a ++ b: in a, right after it, or later
 pub data Place {X : Type 0} (a b u : List X) (l : X) (x : List X) : Type 0 where
   inside : (y : List X) → a ≡ u ++ l ∷ y → x ≡ y ++ b → Place a b u l x
   at_end : a ≡ u → b ≡ l ∷ x → Place a b u l x

@@ -103,7 +103,7 @@ total_append : {X : Type 0} (f : X → ℕ) (u w : List X) → total f (u ++ w) 
 total_append f [] w = omega arith
 total_append f (x ∷ u) w = omega (arith, total_append f u w)
 
--- so many nodes and statements, and no first token of an item
+-- that many nodes and statements, and no first token of an item
 pub record Weight (w : List Leaf) (n s : ℕ) : Type 0 where
   pub nodes : leaves_by is_node w ≡ n
   pub statements : leaves_by is_statement w ≡ s
@@ -286,7 +286,7 @@ weigh_emission = weigh_meaning (λ v. 0 + (0 + 0)) (λ v. 1 + (0 + 0)) stmt_node
 pub weigh_block : {S : Language Stmt} → Weighs S stmt_nodes stmt_count → Weighs (Block S) (total stmt_nodes) (total stmt_count)
 weigh_block p = weigh_between (sign marks.OpenBrace) (sign marks.CloseBrace) (total stmt_nodes) (total stmt_count) (weigh_repeated stmt_nodes stmt_count p)
 
--- what an `if` and its block weigh, and what stands after an `else`
+-- what an `if` and its block weigh, and what comes after an `else`
 abbrev branch_nodes : Expr × List Stmt → ℕ
 branch_nodes v = expr_nodes v.0 + total stmt_nodes v.1
 

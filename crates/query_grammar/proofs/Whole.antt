@@ -21,7 +21,7 @@ use Rattle.query_grammar.proofs.Nests.{Shallow, shallow_is, StopLevel, LevelMeet
 use Rattle.query_grammar.proofs.Splits.{Place, inside, at_end, beyond, place, head_is, tail_is}
 use Rattle.query_grammar.proofs.Runs.{Value, depth, run, met, halted_of, found_of, leveled, StopFacts, stop_facts, stop_shallow, same_stop, tokens_cons, Run, whole, halts, run_of, begins_of, begins_front, pays_is, no_stop}
 
--- ---- outcomes apart
+-- ---- outcomes that differ
 
 done_or_stopped : (q : Value) (c : Counts) (rest : List Token) (k : Stop) (ts : List Token) → ◌≡◌ {A = Outcome Value} (Done q c rest) (Stopped k ts) → ⊥
 done_or_stopped q c rest k ts e = absurd cc
@@ -85,7 +85,7 @@ module _ (ts : List Token) where
           big (inl lt) = omega arith
           big (inr le) = grind (arith, h)
 
-  -- the leaf at which a parser stops for a limit
+  -- the leaf at which a parser stops because of a limit
   grammatical : (k k' : Stop) (t : Token) (more : List Token) → (h : Halted Limited (Query (depth 0)) (query Limited 63 62) no_counts ts k (t ∷ more)) → (g : StopsFirst Limited k' h.counts h.more (t ∷ more))
       → IsShallow (tokens_of h.front) → IsGrammatical (tokens_of h.front) t g.0 h.counts
   grammatical k k' t more h g shallow = record {
@@ -131,7 +131,7 @@ none_right : (y more : List Leaf) → [] ≡ y ++ more → more ≡ []
 none_right [] more e = sym e
 none_right (l ∷ y) more e = absurd cc
 
--- a parser doesn't stop behind the end
+-- a parser doesn't stop after the end
 never_at : (ts : List Token) (k : Stop) → HasEnd ts → run ts ≡ Stopped k [] → (h : Halted Limited (Query (depth 0)) (query Limited 63 62) no_counts ts k []) → ⊥
 never_at ts k end e h = go (place h.front h.more h.begins.0 (record { role = Plain; token = h.begins.4.0 }) [] (h.begins.2 ∙ ap (λ (w : List Leaf). h.begins.0 ++ w) h.begins.4.1))
   where
@@ -227,7 +227,7 @@ of_role_of Nodes = refl
 of_role_of Statements = refl
 of_role_of Nesting = refl
 
--- a leaf passes one limit at most
+-- a leaf passes at most one limit
 one_limit : (k k' : Stop) (c c' : Counts) (l l' : Leaf) → l ≡ l' → Stops Limited k c l → Stops Limited k' c' l' → k' ≡ k
 one_limit k k' c c' l l' e h h' =
     sym (of_role_of k') ∙ ap of_role (sym (stops_role k' c' l' h') ∙ ap (λ (x : Leaf). x.role) (sym e) ∙ stops_role k c l h) ∙ of_role_of k

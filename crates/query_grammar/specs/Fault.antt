@@ -1,4 +1,4 @@
--- Which fault stands at which token: the first at which no query goes on, or at which a limit is passed.
+-- Which fault is at which token: the first at which no query goes on, or at which a limit is passed.
 use Rattle.std.specs.Prelude.{◌≡◌, ℕ, ◌+◌, ◌<◌, ◌≤◌, List, [], ◌∷◌, ◌++◌, Option, Some, option_and_then}
 use Rattle.std.specs.Prelude.{if◌then◌else◌}
 use Rattle.query_lang.specs.declared.fault.Span.{Span}
@@ -58,7 +58,7 @@ abbrev pub counted : Limits → Counts → List Leaf → Option Counts
 counted m c [] = Some c
 counted m c (l ∷ leaves) = option_and_then (λ d. counted m d leaves) (charge m l.role c)
 
--- The tokens begin a query, no limit is passed in them, and these are the counts behind them.
+-- The tokens begin a query, no limit is passed in them, and these are the counts after them.
 pub record IsSound (ts : List Token) (c : Counts) : Type 0 where
   pub leaves : List Leaf
   pub tokens : tokens_of leaves ≡ ts
@@ -66,7 +66,7 @@ pub record IsSound (ts : List Token) (c : Counts) : Type 0 where
   pub within : counted Limited no_counts leaves ≡ Some c
   pub shallow : IsShallow ts
 
--- So do they with the token t behind them, which counts as the leaf's role says.
+-- And so do they with the token t after them, which counts as the leaf's role says.
 pub record IsGrammatical (front : List Token) (t : Token) (leaf : Leaf) (c : Counts) : Type 0 where
   pub leaves : List Leaf
   pub tokens : tokens_of leaves ≡ front
@@ -75,13 +75,13 @@ pub record IsGrammatical (front : List Token) (t : Token) (leaf : Leaf) (c : Cou
   pub shallow : IsShallow front
   pub token : leaf.token ≡ t
 
--- The fault stands at the token t, after the tokens front, at each of which none stands.
+-- The fault is at the token t, after the tokens front, none of which has a fault.
 abbrev pub StandsAt : Stop → List Token → Token → Type 0
 -- no query's tokens begin with those up to and including t
 StandsAt Unexpected front t = (c : Counts) × IsSound front c × (BeginsQuery (front ++ t ∷ []) → ⊥)
--- t is grammatical there, and is a node behind 512 of its item
+-- t is grammatical there, and is a node after 512 others of its item
 StandsAt Nodes front t = (c : Counts) × (leaf : Leaf) × IsGrammatical front t leaf c × (leaf.role ≡ Node) × (512 ≤ c.nodes)
--- t is grammatical there, and begins a statement behind 64 of its fold
+-- t is grammatical there, and begins a statement after 64 others of its fold
 StandsAt Statements front t = (c : Counts) × (leaf : Leaf) × IsGrammatical front t leaf c × (leaf.role ≡ Statement)
     × (64 ≤ c.statements)
 -- t is grammatical there, and is a bracket that would be the 65th open at once

@@ -51,7 +51,7 @@ abbrev pub listed : {A : Type 0} → Option (List A) → List A
 listed None = []
 listed (Some xs) = xs
 
--- what stands after an `else` is the last, or another `if`
+-- after an `else` comes the last block, or another `if`
 abbrev pub is_last : {A B : Type 0} → B → A ⊎ B
 is_last b = inr b
 
@@ -316,6 +316,6 @@ ItemOf d = Either (Fold d) (Either (Stream (Expression d) (Expression d)) (Eithe
 abbrev pub Query : ℕ → Language (List Item × Span)
 Query d = Then (Repeated (ItemOf d)) (Token_of kinds.End)
 
--- The tokens are those of a query with these items, whose end stands there.
+-- The tokens are those of a query with these items, whose end is there.
 abbrev pub Derives : List Token → List Item × Span → Type 0
 Derives ts query = (d : ℕ) × (leaves : List Leaf) × (tokens_of leaves ≡ ts) × Query d leaves query

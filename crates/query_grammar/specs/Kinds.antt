@@ -1,4 +1,4 @@
--- Kinds of tokens by number, and which tokens a word of the grammar stands for.
+-- Kinds of tokens by number, and which tokens a word of the grammar represents.
 use Rattle.std.specs.Prelude.{ℕ, Bool, true, false, Option, Some, None, List, [], ◌∷◌, nat_eq, if◌then◌else◌}
 use Rattle.query_lang.specs.declared.fault.Span.{Span}
 use Rattle.query_lang.specs.declared.fold.Op.{Op}

@@ -23,7 +23,7 @@ tokens_of word = map (λ (l : Leaf). l.token) word
 abbrev pub Language : Type 0 → Type 1
 Language A = List Leaf → A → Type 0
 
--- one token that takes has a value for
+-- one token for which takes has a value
 abbrev pub Word : {A : Type 0} → Role → (Token → Option A) → List Leaf → A → Type 0
 Word role takes word a = (t : Token) × (word ≡ record { role = role; token = t } ∷ []) × (takes t ≡ Some a)
 

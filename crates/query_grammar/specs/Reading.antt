@@ -1,4 +1,4 @@
--- The parser of each line, by the next token. What it is given says how many more brackets may be opened.
+-- The parser of each line, by the next token. Its argument says how many more brackets may be opened.
 use Rattle.std.specs.Prelude.{ℕ, ◌-◌, ◌^◌, zero, suc, List, [], ◌∷◌, Option, Some, None, ◌⊎◌}
 use Rattle.query_lang.specs.declared.fault.Span.{Span}
 use Rattle.query_lang.specs.declared.query.Name.{Name}
@@ -127,7 +127,7 @@ conjunction m p = level m both_ops (comparison m p)
 abbrev pub disjunction : Limits → Parser Expr → Parser Expr
 disjunction m p = level m either_ops (conjunction m p)
 
--- a primary and an expression in which at most so many brackets may be opened
+-- a primary and an expression in which at most that many brackets may be opened
 unfoldable pub expr_at : Limits → ℕ → Parser Expr
 expr_at Limited zero = disjunction Limited (primary Limited (blocked (sign marks.OpenParen)) (blocked (sign marks.OpenParen)))
 expr_at Unlimited zero = disjunction Unlimited (atom Unlimited)
@@ -164,12 +164,12 @@ abbrev pub if_statement : Limits → Parser Expr → Parser (List Stmt) → Pars
 if_statement m condition b = mapped (λ v. stmts.If v.0.1.0 v.0.1.1 (else_of v.1.0 v.1.1))
     (followed_by (if_part m condition b) (chained (among (6 ∷ [])) (else_part m condition b)))
 
--- a statement, of an expression, a condition in its bracket, a block in its brace, and an emit's brackets
+-- a statement, of an expression, a condition in its bracket, a block in its braces, and an emit's brackets
 abbrev pub statement : Limits → Parser Expr → Parser Expr → Parser (List Stmt) → Parser (Span × Span) → Parser Stmt
 statement m value condition b empty = either (among (0 ∷ [])) (assignment m value)
     (either (among (5 ∷ [])) (if_statement m condition b) (emission m empty))
 
--- a statement in which at most so many brackets may be opened
+-- a statement in which at most that many brackets may be opened
 unfoldable pub stmt_at : Limits → ℕ → Parser Stmt
 stmt_at Limited zero = statement Limited (expr_at Limited zero) (blocked (sign marks.OpenParen))
     (blocked (sign marks.OpenBrace)) (blocked (sign marks.OpenParen))

@@ -22,7 +22,7 @@ kind_of Nodes = OverLimit limits.Nodes
 kind_of Statements = OverLimit limits.Statements
 kind_of Nesting = OverLimit limits.Nesting
 
--- a fault that stands at a token has its span
+-- a fault at a token has the token's span
 abbrev pub fault_of : Stop → Token → QueryFault
 fault_of k t = record { kind = kind_of k; span = t.span }
 

@@ -25,12 +25,12 @@ pub fn one_meaning()
     ensures { (ts : List Token) (p q : List Item × Span) → Derives ts p → Derives ts q → p ≡ q }
 {}
 
-/// What parsing gives is a query that the tokens derive within all limits, or a fault that stands at the token that is named.
+/// What parsing gives is a query that the tokens derive within all limits, or a fault at the token that it names.
 pub fn first_fault()
     ensures { (ts : List Token) → HasEnd ts → Says ts (parsed ts) }
 {}
 
-/// A fault that stands at a token is what parsing gives, whatever follows the token.
+/// A fault at a token is what parsing gives, whatever follows the token.
 pub fn fault_is_found()
     ensures { (k : Stop) (front : List Token) (t : Token) (more : List Token) → StandsAt k front t
         → parsed (front ++ t ∷ more) ≡ Stopped k (t ∷ more) }

@@ -1,5 +1,5 @@
-//! The grammar of queries: which tokens are a query and what they mean, which fault is the first, and parsers by the next
-//! token that give the one or the other.
+//! The grammar of queries: which tokens are a query and what they mean, which fault is the first, and parsers that go by the next
+//! token and give the one or the other.
 #![tactic(auto)]
 
 pub mod laws;

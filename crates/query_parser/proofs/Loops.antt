@@ -1,4 +1,4 @@
--- One turn of a loop that reads the same thing again and again.
+-- One turn of a loop that reads the same thing repeatedly.
 use Rattle.std.proofs.Common.{◌≡◌, ℕ, zero, suc, ◌+◌, ◌-◌, ◌<◌, ◌≤◌, Bool, true, false, List, [], ◌∷◌, ◌++◌, length, refl, sym, ap, ◌∙◌, arith, append_assoc, inl, inr, ◌⊎◌}
 use Rattle.query_lang.specs.declared.token.Token.{Token}
 use Rattle.query_grammar.specs.declared.stop.Counts.{Counts}
@@ -67,7 +67,7 @@ module _ {A : Type 0} (starts : Token → Bool) (p : Parser A) (total : Outcome 
       go [] = refl
       go (x ∷ xs) = ap (λ (ys : List A). x ∷ ys) (go xs)
 
--- a first one, and more behind it
+-- a first one, and more after it
 module _ {A B C : Type 0} (f : A × List B → C) (starts : Token → Bool) (p : Parser A) (q : Parser B) where
   pub begins_with : (c : Counts) (ts : List Token) (a : A) (d : Counts) (rest : List Token) → p c ts ≡ Done a d rest
       → finished (λ others. f (a, others)) (turns (length rest - 0) starts q d rest) ≡ mapped f (followed_by p (repeated starts q)) c ts
@@ -77,7 +77,7 @@ module _ {A B C : Type 0} (f : A × List B → C) (starts : Token → Bool) (p :
       go (Done others c rest) = refl
       go (Stopped k r) = refl
 
--- ---- what stands before an expression is put on from the last on
+-- ---- what comes before an expression is added beginning with the last
 
 pub negated_more : (spans : List Span) (last : Span) (e : Expr) → negated (spans ++ last ∷ []) e ≡ negated spans (exprs.Not last e)
 negated_more [] last e = refl

@@ -25,7 +25,7 @@ pub empty_more : (e : ℕ) (c : Counts) (ts : List Token) → 0 < e → empty_at
 empty_more zero c ts h = grind (arith, h)
 empty_more (suc e) c ts h = refl
 
--- ---- the branches are put together from the last on
+-- ---- the branches are put together beginning with the last
 
 pub else_none : (branches : List (Expr × List Stmt)) → else_of branches None ≡ else_of branches (Some [])
 else_none [] = refl

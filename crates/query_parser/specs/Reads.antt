@@ -97,7 +97,7 @@ operands_of levels.Comparison p = bit_or Limited p
 operands_of levels.Both p = comparison Limited p
 operands_of levels.Either p = conjunction Limited p
 
--- an operator of a level, and what stands behind it
+-- an operator of a level, and what comes after it
 abbrev pub operation_of : Level → Parser Expr → Parser ((Op × Span) × Expr)
 operation_of l p = followed_by (word Limited Node (operator (ops_of l))) (operands_of l p)
 
@@ -109,7 +109,7 @@ abbrev pub comparison_of : Parser Expr → Parser Expr
 comparison_of p = mapped (λ v. compared v.0 v.1)
     (followed_by (operands_of levels.Comparison p) (at_most_once (among (kinds_of comparing_ops)) (operation_of levels.Comparison p)))
 
--- An expression in its bracket, the list of a call, and a primary, in which at most so many brackets may be opened.
+-- An expression in its bracket, the list of a call, and a primary, in which at most that many brackets may be opened.
 abbrev pub bracket_at : ℕ → Parser Expr
 bracket_at zero = blocked (sign marks.OpenParen)
 bracket_at (suc e) = parens Limited (expr_at Limited e)
@@ -123,7 +123,7 @@ primary_at e = primary Limited (bracket_at e) (arguments_at e)
 
 -- ---- statements
 
--- a block in its brace, and the brackets of an emit, where at most so many brackets may be opened
+-- a block in its braces, and the brackets of an emit, where at most that many brackets may be opened
 abbrev pub block_at : ℕ → Parser (List Stmt)
 block_at zero = blocked (sign marks.OpenBrace)
 block_at (suc e) = block Limited (stmt_at Limited e)
@@ -135,7 +135,7 @@ empty_at (suc e) = empty_parens Limited
 abbrev pub else_part_at : ℕ → Parser ((Expr × List Stmt) ⊎ List Stmt)
 else_part_at e = else_part Limited (bracket_at e) (block_at e)
 
--- what stands after an `else`
+-- what comes after an `else`
 abbrev pub part_of : ElsePart → (Expr × List Stmt) ⊎ List Stmt
 part_of (parts.Another branch) = inl branch
 part_of (parts.Last body) = inr body

@@ -1,4 +1,4 @@
-//! Expressions. What each function is given says how many brackets may still be opened.
+//! Expressions. An argument of each function says how many brackets may still be opened.
 
 ghost use Rattle.std.specs.Prelude.{◌≡◌, ℕ, [], ◌∷◌, ◌^◌, ◌-◌, IfOk};
 ghost use Rattle.query_grammar.specs.Grammar.{negated as negated_by, functions};
@@ -36,14 +36,14 @@ fn binary(alloc: Global, op: (Op, Span), left: Expr, right: Expr) -> Result<Expr
     ))
 }
 
-/// An expression behind a `!`.
+/// An expression after a `!`.
 fn not(alloc: Global, span: Span, inner: Expr) -> Result<Expr, AllocError>
     ensures { IfOk result (λ e. e ≡ exprs.Not span inner) }
 {
     Ok(Expr::Not(span, Boxed::new(alloc, inner)?))
 }
 
-/// The expression behind these `!`, the first of which is the outermost.
+/// The expression after these `!`, the first of which is the outermost.
 fn negated(alloc: Global, bangs: Seq<Span>, inner: Expr) -> Result<Expr, AllocError>
     ensures { IfOk result (λ e. e ≡ negated_by bangs inner) }
 {
@@ -142,7 +142,7 @@ pub fn bracketed(alloc: Global, brackets: u32, counts: Counts, rest: &[Token]) -
     Ok((inner, counts, rest))
 }
 
-/// A comma, and an expression behind it.
+/// A comma, and an expression after it.
 #[cycle(expr)]
 fn next_expression(alloc: Global, brackets: u32, counts: Counts, rest: &[Token]) -> Read<'_, Expr>
     ensures { Gives result (after Limited (sign marks.Comma) (expr_at Limited brackets) counts rest.now) }
@@ -258,7 +258,7 @@ fn operand(
     }
 }
 
-/// An operator of this level, and the operand behind it.
+/// An operator of this level, and the operand after it.
 #[cycle(expr)]
 fn operation(
     alloc: Global,
@@ -274,7 +274,7 @@ fn operation(
     Ok(((op, right), counts, rest))
 }
 
-/// Operands with operators of this level between them, which group from the left. No comparisons are read so.
+/// Operands with operators of this level between them, which group from the left. Comparisons are not read this way.
 #[cycle(expr)]
 fn level(alloc: Global, of: Level, brackets: u32, counts: Counts, rest: &[Token]) -> Read<'_, Expr>
     ensures { Gives result (level_of of (primary_at brackets) counts rest.now) }
@@ -292,7 +292,7 @@ fn level(alloc: Global, of: Level, brackets: u32, counts: Counts, rest: &[Token]
     Ok((left, counts, rest))
 }
 
-/// One comparison at most.
+/// At most one comparison.
 #[cycle(expr)]
 fn comparison(alloc: Global, brackets: u32, counts: Counts, rest: &[Token]) -> Read<'_, Expr>
     ensures { Gives result (comparison_of (primary_at brackets) counts rest.now) }

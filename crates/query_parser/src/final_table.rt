@@ -15,7 +15,7 @@ use query_grammar::Counts;
 use query_lang::{FinalDef, FinalOp, Item, Mark, Name, Span, Token, Word};
 use std::alloc::Global;
 
-/// A column, and behind a comma how many rows are kept.
+/// A column, and after a comma how many rows are kept.
 fn column_and_count(counts: Counts, rest: &[Token]) -> Seen<'_, (Name, (u64, Span))>
     ensures { Sees result (followed_by (plain_name Limited)
         (after Limited (sign marks.Comma) (word Limited Plain number_of)) counts rest.now) }

@@ -39,7 +39,7 @@ impl<'a> From<AllocError> for Halt<'a> {
     }
 }
 
-/// A value, what the item has counted up to its end, and the tokens behind it.
+/// A value, what the item has counted up to its end, and the tokens after it.
 pub type Read<'a, T> = Result<(T, Counts, &'a [Token]), Halt<'a>>;
 
 /// The same of what is read without memory: it fails only at a fault.

@@ -32,21 +32,21 @@ fn is_blank_at(b: u8) -> bool
     matches!(b, b' ' | b'\t' | b'\n' | b'\r')
 }
 
-/// How many bytes of a word stand first.
+/// How many of the first bytes are those of a word.
 fn word_len(bytes: &[u8]) -> usize
     ensures { result ≡ prefix_len is_word_byte bytes.now }
 {
     bytes.iter().take_while(|b| is_word_byte_at(**b)).count()
 }
 
-/// How many digits stand first.
+/// How many of the first bytes are digits.
 fn digits_len(bytes: &[u8]) -> usize
     ensures { result ≡ prefix_len is_digit bytes.now }
 {
     bytes.iter().take_while(|b| is_digit_at(**b)).count()
 }
 
-/// How many bytes stand before the end of the line.
+/// How many bytes there are before the end of the line.
 fn line_len(bytes: &[u8]) -> usize
     ensures value { result ≡ prefix_len is_not_line_feed bytes.now }
     ensures within { result ≤ length bytes.now }
@@ -178,7 +178,7 @@ fn digit_of(b: u8) -> u64
     u64::from(b - b'0')
 }
 
-/// What a word is, which begins with so many digits.
+/// What a word is that begins with that many digits.
 fn piece_of_word(w: &[u8], digits: usize) -> Piece
     requires digits { (k : ℕ) → k < digits → is_digit (slice_index w.now k) ≡ true }
     requires within { digits ≤ length w.now }
@@ -218,7 +218,7 @@ fn piece_of_mark(a: u8, rest: &[u8]) -> Piece
     }
 }
 
-/// What stands first.
+/// What the text begins with.
 fn piece_of(bytes: &[u8]) -> Piece
     requires { length bytes.now ≤ 65536 }
     ensures value { result ≡ piece bytes.now }
@@ -240,7 +240,7 @@ fn piece_of(bytes: &[u8]) -> Piece
     piece_of_word(&bytes[..len], digits_len(bytes))
 }
 
-/// The tokens of a text, the end being the last one, and its names, whose numbers the tokens have.
+/// The tokens of a text, the last of which is the end, and its names, whose numbers the tokens have.
 #[derive(Drop)]
 pub struct Lexed {
     pub tokens: Seq<Token>,
@@ -259,7 +259,7 @@ fn token_from(kind: TokenKind, start: usize, end: usize) -> Token
     Token { kind, span }
 }
 
-/// A fault that stands at a byte.
+/// A fault at a byte.
 pub fn fault_from(kind: FaultKind, at: usize) -> QueryFault
     requires { at ≤ 65536 }
     ensures { result ≡ fault_at kind at }

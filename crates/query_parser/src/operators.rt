@@ -13,7 +13,7 @@ use crate::word::{is_mark, is_word};
 use query_grammar::{Counts, Stop};
 use query_lang::{Mark, Op, Span, Token, TokenKind, Word};
 
-/// Operators that bind alike, from the closest on. Those of one level group from the left, but for comparisons, which
+/// Operators that bind alike, beginning with the closest. Those of one level group from the left, but for comparisons, which
 /// don't group.
 #[derive(Clone, Copy, Debug, PartialEq, Eq)]
 pub enum Level {

@@ -1,4 +1,4 @@
-//! Reads a query's text: first its length is tested, then it is cut into tokens, and then those are read.
+//! Reads a query's text: its length is tested, then it is cut into tokens, and then these are read.
 
 ghost use Rattle.std.specs.Prelude.{◌≡◌, IfOk};
 ghost use Rattle.query_grammar.specs.Reading.{parsed};
@@ -76,7 +76,7 @@ fn read_text(alloc: Global, text: &[u8]) -> Result<Query, ParseAnswer>
 }
 
 /// The query of a text, or the first fault: of its length, then of the lexis, then of the grammar with its limits on
-/// nodes, statements and open brackets. `Memory` comes for want of memory alone.
+/// nodes, statements and open brackets. `Memory` is given only where memory runs out.
 pub fn parse(alloc: Global, text: &[u8]) -> Result<Query, ParseAnswer>
     ensures given { Answers result (parsed_text text.now) }
     ensures query { IfOk result (λ q. IsQueryOf text.now q) }

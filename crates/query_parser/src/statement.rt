@@ -1,4 +1,4 @@
-//! Statements and blocks. What each function is given says how many brackets may still be opened.
+//! Statements and blocks. An argument of each function says how many brackets may still be opened.
 
 ghost use Rattle.std.specs.Prelude.{◌≡◌, ℕ, [], ◌∷◌, IfOk};
 ghost use Rattle.query_grammar.specs.Kinds.{among};
@@ -19,10 +19,10 @@ use query_grammar::Counts;
 use query_lang::{Expr, Mark, Span, Stmt, Token, Word};
 use std::alloc::{AllocError, Global};
 
-/// A condition, and the block behind it.
+/// A condition, and the block after it.
 type Branch = (Expr, Seq<Stmt>);
 
-/// What stands behind an `else`: another branch, or the last block.
+/// What comes after an `else`: another branch, or the last block.
 #[derive(Drop)]
 enum ElsePart {
     Another(Branch),
@@ -40,7 +40,7 @@ fn assignment(alloc: Global, brackets: u32, counts: Counts, rest: &[Token]) -> R
     Ok((Stmt::Assign(name, value), counts, rest))
 }
 
-/// The empty brackets behind `emit`, and the semicolon.
+/// The empty brackets after `emit`, and the semicolon.
 #[tactic(auto, using(crate::proofs::Statements::empty_more))]
 fn no_arguments(brackets: u32, counts: Counts, rest: &[Token]) -> Seen<'_, (Span, Span)>
     ensures { Sees result (empty_at brackets counts rest.now) }
@@ -85,7 +85,7 @@ fn only_if(alloc: Global, branch: Branch, otherwise: Seq<Stmt>) -> Result<Seq<St
     Ok(block)
 }
 
-/// The block for what stands behind the first branch of an `if`: each further branch is an `if` in the block of the one
+/// The block for what comes after the first branch of an `if`: each further branch is an `if` in the block of the one
 /// before it.
 fn else_of(
     alloc: Global,
@@ -204,7 +204,7 @@ fn statements(alloc: Global, brackets: u32, counts: Counts, rest: &[Token]) -> R
     Ok((found, counts, rest))
 }
 
-/// A block in its brace, inside of which so many brackets may be opened.
+/// A block in its braces, in which that many brackets may be opened.
 #[cycle(stmt)]
 pub fn block_within(
     alloc: Global,
@@ -220,7 +220,7 @@ pub fn block_within(
     Ok((found, counts, rest))
 }
 
-/// A block in its brace.
+/// A block in its braces.
 #[cycle(stmt)]
 #[tactic(auto, using(crate::proofs::Statements::block_more))]
 fn block(alloc: Global, brackets: u32, counts: Counts, rest: &[Token]) -> Read<'_, Seq<Stmt>>

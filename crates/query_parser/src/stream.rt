@@ -1,4 +1,4 @@
-//! Streams, and the operators that make them. A filter's expression stands in one bracket, and a map's in two.
+//! Streams, and the operators that make them. A filter's expression is in one bracket, and a map's in two.
 
 ghost use Rattle.std.specs.Prelude.{◌≡◌, [], ◌∷◌};
 ghost use Rattle.query_grammar.specs.Kinds.{sign, keyword as keyword_of};
@@ -23,7 +23,7 @@ const WITHIN_FILTER: u32 = 63;
 /// How many brackets may be opened inside the two of a map's columns.
 const WITHIN_COLUMNS: u32 = 62;
 
-/// A comma, and a condition behind it.
+/// A comma, and a condition after it.
 fn comma_condition(alloc: Global, counts: Counts, rest: &[Token]) -> Read<'_, Expr>
     ensures { Gives result (after Limited (sign marks.Comma) (expr_at Limited 63) counts rest.now) }
 {
@@ -32,7 +32,7 @@ fn comma_condition(alloc: Global, counts: Counts, rest: &[Token]) -> Read<'_, Ex
     Ok((value, counts, rest))
 }
 
-/// In parentheses, a name, and a condition behind a comma.
+/// In parentheses, a name, and a condition after a comma.
 fn filter_operands(alloc: Global, counts: Counts, rest: &[Token]) -> Read<'_, (Name, Expr)>
     ensures { Gives result (parens Limited
         (followed_by (plain_name Limited) (after Limited (sign marks.Comma) (expr_at Limited 63))) counts rest.now) }
@@ -53,7 +53,7 @@ pub fn filter(alloc: Global, counts: Counts, rest: &[Token]) -> Read<'_, (Name, 
     Ok((operands, counts, rest))
 }
 
-/// A new column: its name, and its value behind `=`.
+/// A new column: its name, and its value after `=`.
 fn column(alloc: Global, counts: Counts, rest: &[Token]) -> Read<'_, Column>
     ensures { Gives result (column_of Limited (expr_at Limited 62) counts rest.now) }
 {
@@ -63,7 +63,7 @@ fn column(alloc: Global, counts: Counts, rest: &[Token]) -> Read<'_, Column>
     Ok((Column { name, value }, counts, rest))
 }
 
-/// A comma, and a column behind it.
+/// A comma, and a column after it.
 fn comma_column(alloc: Global, counts: Counts, rest: &[Token]) -> Read<'_, Column>
     ensures { Gives result (after Limited (sign marks.Comma) (column_of Limited (expr_at Limited 62)) counts rest.now) }
 {
@@ -91,7 +91,7 @@ fn columns(alloc: Global, counts: Counts, rest: &[Token]) -> Read<'_, Seq<Column
     Ok((found, counts, rest))
 }
 
-/// Columns in square brackets, behind a comma.
+/// Columns in square brackets, after a comma.
 fn comma_columns(alloc: Global, counts: Counts, rest: &[Token]) -> Read<'_, Seq<Column>>
     ensures { Gives result (after Limited (sign marks.Comma)
         (brackets Limited (separated Limited (column_of Limited (expr_at Limited 62)))) counts rest.now) }
@@ -103,7 +103,7 @@ fn comma_columns(alloc: Global, counts: Counts, rest: &[Token]) -> Read<'_, Seq<
     Ok((found, counts, rest))
 }
 
-/// In parentheses, a name, and columns behind a comma.
+/// In parentheses, a name, and columns after a comma.
 fn map_operands(alloc: Global, counts: Counts, rest: &[Token]) -> Read<'_, (Name, Seq<Column>)>
     ensures { Gives result (parens Limited
         (followed_by (plain_name Limited)
@@ -150,7 +150,7 @@ fn key(counts: Counts, rest: &[Token]) -> Seen<'_, Key>
     Ok((Key::FiveTuple(span), counts, rest))
 }
 
-/// A comma, and a key behind it.
+/// A comma, and a key after it.
 fn comma_key(counts: Counts, rest: &[Token]) -> Seen<'_, Key>
     ensures { Sees result (after Limited (sign marks.Comma) (key_of Limited) counts rest.now) }
 {
@@ -178,7 +178,7 @@ fn keys(alloc: Global, counts: Counts, rest: &[Token]) -> Read<'_, Seq<Key>>
     Ok((found, counts, rest))
 }
 
-/// Keys in square brackets, and the name of a fold behind a comma.
+/// Keys in square brackets, and the name of a fold after a comma.
 fn keys_and_fold(alloc: Global, counts: Counts, rest: &[Token]) -> Read<'_, (Seq<Key>, Name)>
     ensures { Gives result (followed_by (brackets Limited (separated Limited (key_of Limited)))
         (after Limited (sign marks.Comma) (plain_name Limited)) counts rest.now) }

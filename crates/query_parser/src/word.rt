@@ -134,7 +134,7 @@ pub fn name(role: Role, counts: Counts, rest: &[Token]) -> Seen<'_, Name>
     }
 }
 
-/// A comma, and a name behind it.
+/// A comma, and a name after it.
 pub fn comma_name(counts: Counts, rest: &[Token]) -> Seen<'_, Name>
     ensures { Sees result (after Limited (sign marks.Comma) (plain_name Limited) counts rest.now) }
 {
@@ -143,7 +143,7 @@ pub fn comma_name(counts: Counts, rest: &[Token]) -> Seen<'_, Name>
     Ok((next, counts, rest))
 }
 
-/// A number, and where it stands.
+/// A number, and where it is.
 pub fn number(role: Role, counts: Counts, rest: &[Token]) -> Seen<'_, (u64, Span)>
     ensures { Sees result (word Limited (role_of role) number_of counts rest.now) }
 {

@@ -1,4 +1,4 @@
--- What a fault in a fold's body tells.
+-- What a fault in a fold's body says.
 use Rattle.std.proofs.Common.{◌≡◌, ℕ, Bool, true, false, cond, List, [], ◌∷◌, ◌++◌, map, Option, Some, None, Ok, Err, ◌⊎◌, refl, sym, ap, subst, ◌∙◌, inl, inr}
 use Rattle.std.specs.Prelude.{is_some}
 use Rattle.query_lang.specs.declared.fault.FaultKind.TheVariants.{UnknownName, WrongKind, WrongArity, StateOnLine}
@@ -134,7 +134,7 @@ elsewhere _ others _ _ _ (parts.in_first outer c a b rest around s h) =
 elsewhere _ others _ _ _ (parts.in_second outer c a b rest around s h) =
     let m = elsewhere (c ∷ outer) (c ∷ others) b around s h in (m.0, parts.in_second others c a b rest m.0 s m.1)
 
--- ---- an `emit` that was found stands somewhere before
+-- ---- an `emit` that was found is somewhere before
 
 abbrev Emits : Body → Body → List Stmt → Type 0
 Emits found made ss = is_some made.emit ≡ true → (is_some found.emit ≡ true) ⊎ HasEmit ss
@@ -226,7 +226,7 @@ all_emit states args (s ∷ ss) outer found made e =
 
 -- ---- the fault
 
--- what a fault in a block tells, behind an `emit` or none
+-- what a fault in a block says, after an `emit` or without one
 pub data BlockTold (states args : List ℕ) (outer : List Expr) (ss : List Stmt) (has : Bool) (known : List Known) (fault : QueryFault) : Type 0 where
   at_statement : (around : List Expr) (s : Stmt) → StandsIn outer ss around s → Broken (StmtAsks states args around s) known fault
       → BlockTold states args outer ss has known fault

@@ -1,4 +1,4 @@
--- What a fault in an expression tells.
+-- What a fault in an expression says.
 use Rattle.std.proofs.Common.{◌≡◌, ℕ, ◌+◌, Bool, true, false, nat_eq, cond, List, [], ◌∷◌, ◌++◌, length, map, Option, Some, None, Ok, Err, refl, sym, ap, subst, ◌∙◌, arith}
 use Rattle.query_lang.specs.declared.fault.FaultKind.TheVariants.{UnknownName, WrongKind, WrongArity, BadConstant, StateOnLine}
 use Rattle.query_lang.specs.declared.fault.QueryFault.{QueryFault}
@@ -114,7 +114,7 @@ asks_through columns hidden k e l a _ p (of_call m op span arguments h) = of_cal
 asks_through columns hidden k e l a _ p (of_right m op span x y h) = of_right m op span x y (through k e l a m (whole.Binary op span x y) p h)
 asks_through columns hidden k e l a _ p (of_second m op span x y h) = of_second m op span x y (through k e l a m (whole.Call op span (x ∷ y ∷ [])) p h)
 
--- something that an expression asks, of which the fault tells that it isn't so
+-- something that an expression asks, of which the fault says that it isn't so
 pub record ExprBroken (columns hidden : List ℕ) (k : Kind) (e : Expr) (fault : QueryFault) : Type 0 where
   pub demand : Demand
   pub asks : ExprAsks columns hidden k e demand

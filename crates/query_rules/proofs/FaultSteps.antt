@@ -35,14 +35,14 @@ pub by_next : {A B P : Type 0} (first : Checked A) (next : A → Checked B) (fau
 by_next (Ok x) next fault e bad good = good x refl e
 by_next (Err found) next fault e bad good = bad (cc e)
 
--- what a fault at a span tells is what the fault tells
+-- what a fault at a span says is what the fault says
 pub told : (known : List Known) (demand : Demand) (kind : FaultKind) (span : Span) (fault : QueryFault) → at_span kind span ≡ fault
     → Tells known kind span demand → Tells known fault.kind fault.span demand
 told known demand kind span fault e tells =
     let T : QueryFault → Type 0 = λ f. Tells known f.kind f.span demand in
     subst T e tells
 
--- something that is asked, of which the fault tells that it isn't so
+-- something that is asked, of which the fault says that it isn't so
 pub record Broken (Asks : Demand → Type 0) (known : List Known) (fault : QueryFault) : Type 0 where
   pub demand : Demand
   pub asks : Asks demand

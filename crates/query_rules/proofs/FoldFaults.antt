@@ -1,4 +1,4 @@
--- What a fault in a fold tells.
+-- What a fault in a fold says.
 use Rattle.std.proofs.Common.{◌≡◌, ℕ, false, ◌||◌, List, [], ◌∷◌, ◌++◌, length, map, Err, suc, refl, sym, ap, subst, ◌∙◌, append_assoc, arith}
 use Rattle.std.specs.Prelude.{nat_lt}
 use Rattle.query_lang.specs.declared.fault.FaultKind.TheVariants.{NameTaken, WrongArity, OverLimit}

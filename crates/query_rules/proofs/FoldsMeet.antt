@@ -61,7 +61,7 @@ none_inside states e is x h =
 module _ (states args : List ℕ) where
   -- ---- statements of a block that was checked
 
-  -- where no state variable was met, none stands in the conditions around
+  -- where no state variable was met, none is in the conditions around
   abbrev Clean : List Expr → Enclosing → Type 0
   Clean around outer = outer.state ≡ None → EachIs (λ c. state_in states c ≡ None) around
 

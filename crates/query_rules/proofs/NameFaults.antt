@@ -1,4 +1,4 @@
--- What a fault at the name of an item, at a new column, at a key and at a fold's arguments tells.
+-- What a fault at the name of an item, at a new column, at a key and at a fold's arguments says.
 use Rattle.std.proofs.Common.{◌≡◌, ℕ, suc, ◌≤◌, true, false, ◌||◌, List, [], ◌∷◌, ◌++◌, length, map, Option, Some, None, Ok, Err, refl, sym, ap, subst, ◌∙◌, append_assoc, inl, inr, arith}
 use Rattle.std.specs.Prelude.{is_some, nat_lt}
 use Rattle.std.specs.List.{list_any}

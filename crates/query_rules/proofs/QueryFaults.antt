@@ -1,4 +1,4 @@
--- What a query's fault tells.
+-- What a query's fault says.
 use Rattle.std.proofs.Common.{◌≡◌, ℕ, suc, ◌+◌, true, false, List, [], ◌∷◌, ◌++◌, length, Ok, Err, refl, sym, ap, subst, ◌∙◌, inl, inr, ◌⊎◌, arith}
 use Rattle.std.specs.Prelude.{is_some, nat_lt}
 use Rattle.query_lang.specs.declared.fault.FaultKind.{FaultKind}
@@ -96,7 +96,7 @@ item_told given names items (item.Print x) fault e =
       tells = told (known_in names items) (New (printed_in items) x.id x.span) NameTaken x.span fault at (refl, not_new x.id (printed_in items) among);
     }) (λ none e. no_fault _ fault e))
 
--- where all is so that an item asks, the check finds no fault
+-- where all that an item asks is so, the check finds no fault
 pub all_met : (given : Given) (names : List (List ℕ)) (items : List Entry) (i : Item)
     → ((demand : Demand) → ItemAsks (five_fields given.fields) names items i demand → Holds (known_in names items) demand)
     → (one : Entry) × HasItem given names items i one
@@ -110,7 +110,7 @@ all_met given names items i met = go (item_checked given (earlier_of names items
 
 -- ---- whole queries
 
--- the first item that has no typed form, behind those before
+-- the first item that has no typed form, after those before
 record AtItem (given : Given) (names : List (List ℕ)) (before : List Entry) (list : List Item) (fault : QueryFault) : Type 0 where
   pub front : List Item
   pub one : Item
@@ -148,7 +148,7 @@ at_item given names before (i ∷ list) fault e =
       told = others.told;
     })
 
--- what a fault tells, at an item or at the end
+-- what a fault says, at an item or at the end
 abbrev IsTold : Query → QueryFault → Type 0
 IsTold q fault = Breaks (λ known d. Tells known fault.kind fault.span d) q ⊎ ((at_span NothingPrinted q.end ≡ fault) × PrintsNothing q)
 
@@ -183,7 +183,7 @@ fault_told q fault e =
     inr (at, record { all = all.0; typed = all.1; none = empty (prints_in all.0) (ap (λ (z : Earlier). nat_lt 0 (length z.prints)) (sym all.2) ∙ none) }))
     (λ some e. no_fault _ fault e))
 
--- a fault of another kind than *NothingPrinted* stands at an item
+-- a fault of another kind than *NothingPrinted* is at an item
 pub at_some_item : (q : Query) (kind : FaultKind) (at : Span) → (NothingPrinted ≡ kind → ⊥) → HasFault kind at q → Breaks (λ known d. Tells known kind at d) q
 at_some_item q kind at other e = go (fault_told q (at_span kind at) e)
   where

@@ -1,4 +1,4 @@
--- What a fault in a stream's and in a final's operator tells.
+-- What a fault in the operator of a stream or a final says.
 use Rattle.std.proofs.Common.{◌≡◌, ℕ, ◌≤◌, true, ◌&&◌, List, [], Ok, Err, refl, ap, subst, arith}
 use Rattle.std.specs.Prelude.{flat_map, nat_lt, nat_le}
 use Rattle.std.specs.List.{list_any}

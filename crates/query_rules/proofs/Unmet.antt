@@ -1,4 +1,4 @@
--- What a fault tells of something that is asked: it isn't so.
+-- What a fault says of something that is asked: it isn't so.
 use Rattle.std.proofs.Common.{◌≡◌, ℕ, zero, suc, ◌<◌, List, [], ◌∷◌, subst, inl, inr, arith}
 use Rattle.query_lang.specs.declared.fault.FaultKind.{FaultKind}
 use Rattle.query_lang.specs.declared.fault.FaultKind.TheVariants as kinds

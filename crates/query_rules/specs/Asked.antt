@@ -1,4 +1,4 @@
--- What each part of a query asks, behind the items before it.
+-- What each part of a query asks, after the items before it.
 use Rattle.std.specs.Prelude.{◌≡◌, ℕ, ◌+◌, List, [], ◌∷◌, ◌++◌, length, map, flat_map}
 use Rattle.query_lang.specs.declared.fault.Limit.TheVariants as limits
 use Rattle.query_lang.specs.declared.fault.Span.{Span}
@@ -85,13 +85,13 @@ pub data KeysAsk (columns hidden : List ℕ) (keys : List Name) : Demand → Typ
   of_limit : (front : List Name) (key : Name) (back : List Name) → keys ≡ front ++ key ∷ back
       → KeysAsk columns hidden keys (Fewer limits.Keys (length front) key.span)
 
--- a fold over these columns by these keys, whose name stands here
+-- a fold over these columns by these keys, whose name is here
 pub data ArgumentsAsk (columns hidden keys : List ℕ) (f : FoldView) (span : Span) : Demand → Type 0 where
   of_argument : (front : List ℕ) (id : ℕ) (back : List ℕ) → f.args ≡ front ++ id ∷ back
       → ArgumentsAsk columns hidden keys f span (AColumn columns hidden id span)
   of_states : ArgumentsAsk columns hidden keys f span (Apart f.states keys span)
 
--- the stream with this name, behind so many groupbys
+-- the stream with this name, after that many groupbys
 pub data StreamAsks (five : List ℕ) (known : List Known) (groups : ℕ) (name : Name) : StreamOp → Demand → Type 0 where
   of_filtered : (input : Name) (e : Expr) → StreamAsks five known groups name (stream.Filter input e) (Stands AStream input)
   of_condition : (input : Name) (e : Expr) (source : StreamView) (demand : Demand) → IsStream known input.id source
@@ -149,7 +149,7 @@ pub data FinalAsks (five : List ℕ) (known : List Known) : FinalOp → Demand �
       → FinalAsks five known (final.Top input column rows span) (AColumn source.columns [] column.id column.span)
   of_rows : (input column : Name) (rows : ℕ) (span : Span) → FinalAsks five known (final.Top input column rows span) (Kept rows span)
 
--- What an item asks behind these.
+-- What an item asks after these.
 pub data ItemAsks (five : List ℕ) (names : List (List ℕ)) (items : List Entry) : Item → Demand → Type 0 where
   of_fold_name : (d : FoldDef) → ItemAsks five names items (item.Fold d) (Free d.name)
   of_fold : (d : FoldDef) (demand : Demand) → FoldAsks d demand → ItemAsks five names items (item.Fold d) demand

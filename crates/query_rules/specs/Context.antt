@@ -28,7 +28,7 @@ pub data Entry : Type 0 where
   AFinal : Name → MadeFinal → Entry
   APrint : Name → PrintOf → Entry
 
--- ---- what is in the items, of which the last stands first
+-- ---- what is in the items, which are listed with the last one first
 
 abbrev pub folds_in : List Entry → List TypedFold
 folds_in [] = []
@@ -67,7 +67,7 @@ printed_in (AStream name made ∷ items) = printed_in items
 printed_in (AFinal name made ∷ items) = printed_in items
 printed_in (APrint name table ∷ items) = printed_in items ++ name.id ∷ []
 
--- how many groupbys on line
+-- how many groupbys run while packets pass
 abbrev pub groups_in : List Entry → ℕ
 groups_in [] = 0
 groups_in (AFold f ∷ items) = groups_in items

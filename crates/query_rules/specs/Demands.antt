@@ -54,11 +54,11 @@ pub data HasPart : Kind → Expr → Kind → Expr → Type 0 where
   of_argument : (k : Kind) (op : Op) (span : Span) (arguments : List Expr) (a : Expr) (l : Kind) (part : Expr)
       → IsOneOf a arguments → HasPart (operand_kind op) a l part → HasPart k (expr.Call op span arguments) l part
 
--- a name that stands in an expression
+-- a name in an expression
 abbrev pub StandsInside : Name → Expr → Type 0
 StandsInside x e = (k l : Kind) × HasPart k e l (expr.Named x)
 
--- a statement that stands in a block, and the conditions around it, the innermost first, from those around the block on
+-- a statement in a block, and the conditions around it, the innermost first, from those around the block on
 pub data StandsIn : List Expr → List Stmt → List Expr → Stmt → Type 0 where
   first : (around : List Expr) (s : Stmt) (rest : List Stmt) → StandsIn around (s ∷ rest) around s
   later : (outer : List Expr) (other : Stmt) (rest : List Stmt) (around : List Expr) (s : Stmt)
@@ -68,11 +68,11 @@ pub data StandsIn : List Expr → List Stmt → List Expr → Stmt → Type 0 wh
   in_second : (outer : List Expr) (c : Expr) (a b rest : List Stmt) (around : List Expr) (s : Stmt)
       → StandsIn (c ∷ outer) b around s → StandsIn outer (stmt.If c a b ∷ rest) around s
 
--- some `emit` stands in the block
+-- some `emit` is in the block
 abbrev pub HasEmit : List Stmt → Type 0
 HasEmit block = (around : List Expr) × (span : Span) × StandsIn [] block around (stmt.Emit span)
 
--- the `emit` here has another one before it in the block
+-- the `emit` here comes after another one in the block
 pub data FollowsEmit (span : Span) : List Stmt → Type 0 where
   behind : (s : Stmt) (rest : List Stmt) (around : List Expr) → HasEmit (s ∷ []) → StandsIn [] rest around (stmt.Emit span)
       → FollowsEmit span (s ∷ rest)
@@ -125,7 +125,7 @@ pub data Demand : Type 0 where
   Apart : List ℕ → List ℕ → Span → Demand
   -- two tables have the same keys
   SameKeys : TableView → TableView → Span → Demand
-  -- no state variable stands in a condition around an `emit`
+  -- no state variable is in a condition around an `emit`
   ReadsNone : List ℕ → Expr → Demand
   -- no `emit` of a fold's body follows another
   OneEmit : List Stmt → Demand
@@ -142,7 +142,7 @@ most limits.Nodes = 512
 most limits.Nesting = 64
 most limits.Stages = 64
 
--- What is asked is so, behind items of which this is known.
+-- What is asked is so, after items of which this is known.
 abbrev pub Holds : List Known → Demand → Type 0
 Holds known (Free x) = IsFree known x.id
 Holds known (Stands sought x) = IsSought known sought x.id
@@ -169,7 +169,7 @@ IsUnknown known at (AColumn columns hidden id span) = (span ≡ at) × IsNew id 
 IsUnknown known at (Target states args x) = (x.span ≡ at) × IsNew x.id states × IsNew x.id args
 IsUnknown known at _ = ⊥
 
--- *StateOnLine*: no column has the name, but a hidden state of the input; or a state variable stands in a condition around an `emit`
+-- *StateOnLine*: no column has the name, but a hidden state of the input; or a state variable is in a condition around an `emit`
 abbrev pub IsHiddenState : Span → Demand → Type 0
 IsHiddenState at (AColumn columns hidden id span) = (span ≡ at) × IsNew id columns × (IsNew id hidden → ⊥)
 IsHiddenState at (ReadsNone states c) = (x : Name) × StandsInside x c × (x.span ≡ at) × (IsNew x.id states → ⊥)
@@ -192,13 +192,13 @@ IsOtherKind known at (Target states args x) = (x.span ≡ at) × IsNew x.id stat
 IsOtherKind known at (SameKeys left right span) = (span ≡ at) × (key_columns left ≡ key_columns right → ⊥)
 IsOtherKind known at _ = ⊥
 
--- *WrongArity*: a function hasn't two arguments, or an `emit` has another one before it
+-- *WrongArity*: a function doesn't have two arguments, or an `emit` has another one before it
 abbrev pub IsOtherArity : Span → Demand → Type 0
 IsOtherArity at (Two arguments span) = (span ≡ at) × (length arguments ≡ 2 → ⊥)
 IsOtherArity at (OneEmit body) = FollowsEmit at body
 IsOtherArity at _ = ⊥
 
--- *BadConstant*: the divisor isn't a number other than 0, the shift no number below 64, or the rows kept are 0 or more than 65,536
+-- *BadConstant*: the divisor isn't a number other than 0, the shift isn't a number below 64, or the rows kept are 0 or more than 65,536
 abbrev pub IsBadConstant : Span → Demand → Type 0
 IsBadConstant at (Constant op e) = (leftmost e ≡ at) × (IsRightOperand op e → ⊥)
 IsBadConstant at (Kept rows span) = (span ≡ at) × ((1 ≤ rows) × (rows ≤ 65536) → ⊥)

@@ -19,7 +19,7 @@ abbrev pub other_kind : Kind → Kind
 other_kind Word = Condition
 other_kind Condition = Word
 
--- the first of these names that is id stands at this place
+-- the first of these names that is id is at this place
 abbrev pub StandsAt : List ℕ → ℕ → ℕ → Type 0
 StandsAt [] place id = ⊥
 StandsAt (name ∷ rest) zero id = name ≡ id
@@ -43,7 +43,7 @@ result_kind Both = Condition
 result_kind Either = Condition
 result_kind _ = Word
 
--- a number that stands in the text, and of which this holds
+-- a number in the text, and of which this holds
 abbrev pub IsNumberWith : (ℕ → Type 0) → Expr → Type 0
 IsNumberWith Q e = (n : ℕ) × (span : Span) × (e ≡ expr.Number n span) × Q n
 

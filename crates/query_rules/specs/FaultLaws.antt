@@ -1,4 +1,4 @@
--- Where a query's fault stands, and what it says, in the words of the rules.
+-- Where a query's fault is, and what it says, in the words of the rules.
 use Rattle.std.specs.Prelude.{◌≡◌, ◌↔◌, ℕ, List, [], ◌∷◌, ◌++◌, Err}
 use Rattle.query_lang.specs.declared.fault.FaultKind.{FaultKind}
 use Rattle.query_lang.specs.declared.fault.FaultKind.TheVariants as kinds
@@ -20,11 +20,11 @@ use Rattle.query_rules.specs.QueryRules.{HasItem, HasItems}
 abbrev pub given_in : Query → Given
 given_in q = given_of (typed_names q.names) q.items
 
--- these items, the first of the query, have typed forms, each behind those before it
+-- these items, the first of the query, have typed forms, each after those before it
 abbrev pub AreTypedItems : Query → List Item → List Entry → Type 0
 AreTypedItems q items typed = HasItems (given_in q) (typed_names q.names) [] items typed
 
--- An item of the query has no typed form behind those before it, which have one: something is asked of a token of it that isn't so, and
+-- An item of the query has no typed form after those before it, which have one: something is asked of a token of it that isn't so, and
 -- this is said of that.
 pub record Breaks (Says : List Known → Demand → Type 0) (q : Query) : Type 0 where
   pub front : List Item
@@ -72,7 +72,7 @@ abbrev pub OverLimits : Type 0
 OverLimits = (limit : Limit) (q : Query) (at : Span) → HasFault (kinds.OverLimit limit) at q
     → Breaks (λ known d. IsOneTooMany limit at d) q
 
--- *NothingPrinted* stands at the end.
+-- *NothingPrinted* is at the end.
 abbrev pub NothingsPrinted : Type 0
 NothingsPrinted = (q : Query) (at : Span) → HasFault kinds.NothingPrinted at q → (at ≡ q.end) × PrintsNothing q
 
@@ -91,7 +91,7 @@ IsOfTyping _ = ⊥
 abbrev pub OnlyTheseKinds : Type 0
 OnlyTheseKinds = (q : Query) (fault : QueryFault) → checked q ≡ Err fault → IsOfTyping fault.kind
 
--- An item has a typed form behind others exactly where all is so that it asks.
+-- An item has a typed form after others exactly where all that it asks is so.
 abbrev pub DemandsAreRules : Type 0
 DemandsAreRules = (given : Given) (names : List (List ℕ)) (items : List Entry) (i : Item)
     → ((one : Entry) × HasItem given names items i one)

@@ -81,7 +81,7 @@ pub record OfTop (groups : ℕ) (known : List Known) (input column : Name) (kept
   pub few : kept ≤ 65536
   pub is : made ≡ record { op = made_by.Top (table_number groups source.place) slot kept; columns = source.columns; keys = source.keys }
 
--- What a final's operator makes, where the query has so many groupbys on line.
+-- What a final's operator makes, where the query has that many groupbys that run while packets pass.
 abbrev pub HasFinal : Given → List Known → FinalOp → MadeFinal → Type 0
 HasFinal given known (ops.Filter input e) made = OfFilter given.groups known input e made
 HasFinal given known (ops.Map input columns) made = OfMap given.groups known input columns made

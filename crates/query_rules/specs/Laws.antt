@@ -39,7 +39,7 @@ ConditionsAgree = (columns hidden : List ℕ) (e : Expr) (tree : TypedExpr)
 abbrev pub FoldsAgree : Type 0
 FoldsAgree = (d : FoldDef) (f : TypedFold) → HasFold d f ↔ (fold_checked d ≡ Ok f)
 
--- What a stream's operator makes behind some items by the rules is what the check makes of it.
+-- What a stream's operator makes after some items by the rules is what the check makes of it.
 abbrev pub StreamsAgree : Type 0
 StreamsAgree = (five : List ℕ) (names : List (List ℕ)) (items : List Entry) (name : Name) (op : StreamOp) (made : MadeStream)
     → HasStream five (known_in names items) (length (streams_in items) + 1) (groups_in items) op made

@@ -51,14 +51,14 @@ pub record OfPrint (names : List (List ℕ)) (items : List Entry) (name : Name) 
   pub once : IsNew name.id (printed_in items)
   pub is : one ≡ APrint name table.place
 
--- an item behind these has this typed form
+-- an item after these has this typed form
 abbrev pub HasItem : Given → List (List ℕ) → List Entry → Item → Entry → Type 0
 HasItem given names items (item.Fold d) one = OfFold names items d one
 HasItem given names items (item.Stream d) one = OfStream (five_fields given.fields) names items d one
 HasItem given names items (item.Final d) one = OfFinal given names items d one
 HasItem given names items (item.Print name) one = OfPrint names items name one
 
--- items in order, each behind those before it: from the typed items before to those with these
+-- items in order, each after those before it: from the typed items before to those with these
 pub data HasItems (given : Given) (names : List (List ℕ)) : List Entry → List Item → List Entry → Type 0 where
   of_none : (before : List Entry) → HasItems given names before [] before
   of_more : (before : List Entry) (i : Item) (one : Entry) (rest : List Item) (all : List Entry)

@@ -77,7 +77,7 @@ AreAt columns [] (one ∷ others) = ⊥
 AreAt columns (slot ∷ slots) [] = ⊥
 AreAt columns (slot ∷ slots) (one ∷ others) = (slice_get columns slot ≡ Some one) × AreAt columns slots others
 
--- the slots of the columns that have none of these names, in order, where the first column stands at this slot
+-- the slots of the columns that have none of these names, in order, where the first column has this slot
 pub data AreOthers (names : List ℕ) : ℕ → List StreamColumn → List ℕ → Type 0 where
   of_none : (slot : ℕ) → AreOthers names slot [] []
   of_named : (slot : ℕ) (column : StreamColumn) (rest : List StreamColumn) (slots : List ℕ)
@@ -143,7 +143,7 @@ pub record OfGroup (five : List ℕ) (known : List Known) (groups : ℕ) (input 
     table = Some (record { place = place.Group groups; columns = key_ids five keys ++ f.states; keys = length (key_ids five keys) });
   }
 
--- What the operator of the stream with this number makes, behind so many groupbys.
+-- What the operator of the stream with this number makes, after that many groupbys.
 abbrev pub HasStream : List ℕ → List Known → ℕ → ℕ → StreamOp → MadeStream → Type 0
 HasStream five known number groups (ops.Filter input e) made = OfFilter known input e made
 HasStream five known number groups (ops.Map input columns) made = OfMap known number input columns made

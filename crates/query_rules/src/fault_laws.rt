@@ -1,9 +1,9 @@
-//! Laws of faults: where a query's fault stands and what it says, in the words of the rules.
+//! Laws of faults: where a query's fault is and what it says, in the words of the rules.
 
 ghost use Rattle.query_rules.specs.FaultLaws.{UnknownNames, StatesOnLine, NamesTaken, WrongKinds, WrongArities, BadConstants};
 ghost use Rattle.query_rules.specs.FaultLaws.{OverLimits, NothingsPrinted, OnlyTheseKinds, DemandsAreRules};
 
-/// What a fault of each kind says. But for *NothingPrinted*, it stands in the first item that has no typed form behind those
+/// What a fault of each kind says. Except *NothingPrinted*, it is in the first item that has no typed form after those
 /// before it, and says what is asked there and isn't so.
 pub fn faults_break_rules()
     ensures unknown_name { UnknownNames }
@@ -17,8 +17,8 @@ pub fn faults_break_rules()
     ensures no_other { OnlyTheseKinds }
 {}
 
-/// An item has a typed form behind others exactly where all is so that it asks. So whatever a fault says that isn't so leaves the
-/// item without a form, and nothing else does: a filter on a fold's state, say, or a key that stands twice.
+/// An item has a typed form after others exactly where all that it asks is so. So whatever a fault says isn't so leaves the
+/// item without a form, and nothing else does: a filter on a fold's state, say, or a key that is given twice.
 pub fn demands_are_rules()
     ensures { DemandsAreRules }
 {}

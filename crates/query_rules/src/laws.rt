@@ -18,7 +18,7 @@ pub fn folds_agree()
     ensures { FoldsAgree }
 {}
 
-/// What a stream's operator makes behind some items by the rules is what the check makes of it.
+/// What a stream's operator makes after some items by the rules is what the check makes of it.
 pub fn streams_agree()
     ensures { StreamsAgree }
 {}

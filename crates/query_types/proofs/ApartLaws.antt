@@ -60,7 +60,7 @@ member_below (x ∷ xs) h q e = go (nat_eq q x) refl (λ k. member_below xs (All
 pub apart_within : (ids : List ℕ) → AreApart ids → length ids ≤ 65536
 apart_within ids h = length-le_from_distinct_below ids 65536 (distinct ids h.once) (member_below ids h.below)
 
--- ---- one list behind another
+-- ---- one list after another
 
 pub among_both : (x : ℕ) (xs ys : List ℕ) → is_among x xs ≡ false → is_among x ys ≡ false → is_among x (xs ++ ys) ≡ false
 among_both x xs ys h k = list_any-append (λ name. nat_eq name x) xs ys ∙ both_false (is_among x xs) (is_among x ys) h k
@@ -127,7 +127,7 @@ others_apart ids (x ∷ xs) h = go (is_among x ids) (others_apart ids xs (record
     go true k = k
     go false k = record { below = All-cons IsFew x (others ids xs) (All-head IsFew x xs h.below) k.below; once = (others_without ids x xs h.once.0, k.once) }
 
--- what stands at a place, and what stands behind it
+-- what is at a place, and what comes after it
 get_drop : {A : Type 0} (xs : List A) (n : ℕ) (x : A) (rest : List A) → drop n xs ≡ x ∷ rest → (slice_get xs n ≡ Some x) × (drop (n + 1) xs ≡ rest)
 get_drop [] zero x rest e = cc e
 get_drop [] (suc n) x rest e = cc e

@@ -55,12 +55,12 @@ followed_valid states args n k m j (Fork c x y rest) b va vb =
     let h = followed_valid states args (block_nodes rest) (block_count rest) m j rest b vr vb in
     record { valid = (va.valid.0, va.valid.1, va.valid.2, va.valid.3, h.valid); nodes = omega (arith, h.nodes, va.nodes); count = omega (arith, h.count, va.count) }
 
--- what is found of a block, from so many nodes and statements
+-- what is found of a block with that many nodes and statements
 pub record IsBody (states args most_nodes most_count : ℕ) (body : Body) : Type 0 where
   pub block : IsBlockIn states args most_nodes most_count (block_of body.statements)
   pub emit : IfSome body.emit (λ e. IsValidEmit states args (term_of e))
 
--- the conditions around a statement, from so many nodes in so many choices
+-- the conditions around a statement, with that many nodes in that many choices
 pub record IsAround (states args most_nodes depth : ℕ) (outer : Enclosing) : Type 0 where
   pub condition : IfSome outer.condition (λ e. IsConditionIn (states + args) (most_nodes + 2 * depth) e)
   pub reads : outer.state ≡ None → IfSome outer.condition (λ e. ReadsArguments states (term_of e))

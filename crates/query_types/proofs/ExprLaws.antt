@@ -26,7 +26,7 @@ IsNumberOf (Number n) t = t ≡ Literal n
 IsNumberOf Word t = Unit {0}
 IsNumberOf Condition t = Unit {0}
 
--- what is found over so many slots, from so many nodes
+-- what is found over that many slots, of that many nodes
 pub record IsFound (slots most : ℕ) (found : Found) : Type 0 where
   pub term : IsValidTerm slots (term_of found.tree)
   pub sort : is_condition (term_of found.tree) ≡ is_condition_sort found.sort
@@ -119,7 +119,7 @@ negated_valid span slots n a found va e =
       nodes = omega (arith, ap term_nodes is, va.nodes);
     })
 
--- what is found of each of some expressions, from so many nodes each
+-- what is found of each of some expressions, of that many nodes each
 abbrev AreFound : ℕ → List ℕ → List Found → Type 0
 AreFound slots [] [] = Unit {0}
 AreFound slots [] (f ∷ fs) = ⊥
@@ -203,7 +203,7 @@ expr_valid columns hidden = ind-Expr (IsSound columns hidden) (λ x y is.
     let L : expr.Expr-F Expr → Type 0 = λ z. IsSoundLayer columns hidden z in
     of_layer columns hidden x (subst L is (step columns hidden y)))
 
--- a condition over so many slots, from so many nodes
+-- a condition over that many slots, of that many nodes
 pub record IsConditionIn (slots most : ℕ) (e : TypedExpr) : Type 0 where
   pub term : IsValidTerm slots (term_of e)
   pub condition : is_condition (term_of e) ≡ true

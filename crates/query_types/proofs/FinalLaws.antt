@@ -1,4 +1,4 @@
--- What a final's operator makes is valid behind the tables before it, in the whole query.
+-- What a final's operator makes is valid after the tables before it, in the whole query.
 use Rattle.std.proofs.Common.{◌≡◌, ℕ, zero, suc, ◌+◌, ◌<◌, ◌≤◌, ◌^◌, Bool, true, false, ◌&&◌, List, [], ◌∷◌, ◌++◌, length, map, flat_map, drop, Option, Some, None, Ok, nat_eq, nat_lt, nat_le, refl, sym, ap, subst, ◌∙◌, append-nil, length-drop, arith}
 use Rattle.std.specs.Prelude.{is_some, slice_get, unwrap_or}
 use Rattle.std.specs.List.{list_any}

@@ -1,4 +1,4 @@
--- What the check of items keeps, by which each number fits its type.
+-- What the check of items keeps, with which each number fits its type.
 use Rattle.std.proofs.Common.{◌≡◌, ℕ, suc, ◌+◌, ◌<◌, ◌≤◌, Bool, true, false, ◌||◌, cond, List, [], ◌∷◌, ◌++◌, length, map, flat_map, Option, Some, None, Ok, nat_eq, nat_lt, nat_le, ◌&&◌, refl, sym, ap, subst, ◌∙◌, append-nil, append_assoc, arith}
 use Rattle.std.specs.Prelude.{is_some, slice_get, IfSome}
 use Rattle.std.specs.List.{All, list_any}

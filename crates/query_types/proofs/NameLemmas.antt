@@ -1,4 +1,4 @@
--- How many names there are with one more.
+-- How many names there are with one added.
 use Rattle.std.proofs.Common.{◌≡◌, ℕ, ◌+◌, ◌≤◌, Bool, true, false, cond, List, [], ◌∷◌, ◌++◌, length, ap, arith}
 use Rattle.std.specs.Str.{bytes_eq}
 use Rattle.std.specs.List.{list_any}
@@ -12,6 +12,6 @@ one_more names text = go (list_any (bytes_eq text) names)
     go true = omega arith
     go false = omega (arith, length-append names (text ∷ []))
 
--- a name more, where there were so many
+-- one more name than before
 pub still_room : (names after : List (List ℕ)) (text : List ℕ) (n : ℕ) → after ≡ with_name names text → length names ≤ n → length after ≤ n + 1
 still_room names after text n is h = omega (arith, h, ap length is, one_more names text)

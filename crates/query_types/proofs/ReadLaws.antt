@@ -1,4 +1,4 @@
--- An expression in which no state variable stands reads arguments alone.
+-- An expression with no state variable in it reads arguments alone.
 use Rattle.std.proofs.Common.{◌≡◌, ℕ, ◌+◌, ◌≤◌, Bool, true, false, ◌||◌, cond, List, [], ◌∷◌, ◌++◌, length, map, Option, Some, None, Ok, Err, nat_eq, refl, sym, ap, subst, ◌∙◌, append_assoc, append-nil, arith}
 use Rattle.query_lang.specs.declared.fault.FaultKind.TheVariants.{WrongKind, BadConstant}
 use Rattle.query_lang.specs.declared.fault.Span.{Span}

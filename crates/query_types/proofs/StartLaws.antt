@@ -1,4 +1,4 @@
--- What stands from the start, and what a readable query gives.
+-- What a query begins with, and what a readable query gives.
 use Rattle.std.proofs.Common.{◌≡◌, ℕ, ◌+◌, ◌<◌, ◌≤◌, Bool, true, false, not, ◌||◌, cond, nat_eq, List, [], ◌∷◌, length, map, min, count_by, None, refl, sym, ap, subst, ◌∙◌, codes, arith}
 use Rattle.std.specs.List.{All, list_any}
 use Rattle.std.specs.Str.{bytes_eq}

@@ -143,7 +143,7 @@ quiet_known known name x e =
     let N : FoldView → Type 0 = λ z. (fold_named known name ≡ Ok z) × (z.emits ≡ false) in
     subst N same (first.1, quiet.0)
 
--- the first items of a list stay where they are, and the next one comes behind them
+-- the first items of a list stay where they are, and the next one comes after them
 pub get_front : {A : Type 0} (xs rest : List A) (i : ℕ) → i < length xs → slice_get (xs ++ rest) i ≡ slice_get xs i
 get_front [] rest i h = absurd (omega arith)
 get_front (x ∷ xs) rest zero h = refl

@@ -20,7 +20,7 @@ pub record IsScope (scope : Scope) : Type 0 where
   pub width : length scope.columns.now ≤ 65536
   pub states : length scope.states.now ≤ 65536
 
--- an assignment behind the statements before it
+-- an assignment after the statements before it
 abbrev pub assigned : List ℕ → List ℕ → Name → Expr → Body → Checked Body
 assigned states args name e found =
     and_then (target_of states args name) (λ v.

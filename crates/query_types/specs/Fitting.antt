@@ -1,4 +1,4 @@
--- What holds of the items before some place, by which each number of a column, a stream, a table or a fold fits its type.
+-- What holds of the items before some place, with which each number of a column, a stream, a table or a fold fits its type.
 use Rattle.std.specs.Prelude.{◌≡◌, ℕ, ◌+◌, ◌<◌, ◌≤◌, ◌^◌, false, List, [], ◌∷◌, length, map, All, IfSome}
 use Rattle.query_lang.specs.declared.query.Item.{Item}
 use Rattle.query_lang.specs.declared.typed.PrintOf.{PrintOf}

@@ -1,4 +1,4 @@
--- What the operators of finals make of inputs that were looked up, where the query has so many groupbys.
+-- What the operators of finals make of inputs that were looked up, where the query has that many groupbys.
 use Rattle.std.specs.Prelude.{ℕ, List, ◌++◌, length}
 use Rattle.query_lang.specs.declared.typed.TypedFinalOp.TheVariants as typed
 use Rattle.query_lang.specs.declared.typing.FoldView.{FoldView}

@@ -1,4 +1,4 @@
--- The greatest number that stands in an expression, a statement or an item.
+-- The greatest number in an expression, a statement or an item.
 use Rattle.std.specs.Prelude.{ℕ, List, [], ◌∷◌, map, max}
 use Rattle.query_lang.specs.declared.query.Expr.{Expr, fold-Expr}
 use Rattle.query_lang.specs.declared.query.Expr.TheOpen as expr

@@ -14,14 +14,14 @@ use Rattle.query_types.specs.Uses.{uses}
 abbrev pub use_at : ℕ → List ℕ → List ℕ → Use
 use_at packet key row = record { packet = packet; key = key; row = row }
 
--- a groupby by the first word behind a filter on the second, which is above 0; the argument is the second word
+-- a groupby by the first word after a filter on the second, which is above 0; the argument is the second word
 abbrev pub FilteredUses : Type 0
 FilteredUses = (q : TypedQuery) (f : TypedFold) (first second : TypedStream) (condition : TypedExpr)
     → HasParts first second q f → first.op ≡ Filter 0 condition → second.op ≡ Group 1 (0 ∷ []) 0 (1 ∷ [])
     → term_of condition ≡ Operation Lt (Literal 0) (Read 1)
     → uses q 0 three_packets ≡ use_at 1 (5 ∷ []) (1 ∷ []) ∷ use_at 3 (5 ∷ []) (3 ∷ []) ∷ []
 
--- a groupby behind a map that adds the sum of both words, which is the argument
+-- a groupby after a map that adds the sum of both words, which is the argument
 abbrev pub MappedUses : Type 0
 MappedUses = (q : TypedQuery) (f : TypedFold) (first second : TypedStream) (sum : TypedExpr)
     → HasParts first second q f → first.op ≡ Map 0 (sum ∷ []) → second.op ≡ Group 1 (0 ∷ []) 0 (2 ∷ [])
@@ -29,7 +29,7 @@ MappedUses = (q : TypedQuery) (f : TypedFold) (first second : TypedStream) (sum 
     → uses q 0 three_packets ≡ use_at 1 (5 ∷ []) (6 ∷ []) ∷ use_at 2 (7 ∷ []) (7 ∷ []) ∷ use_at 3 (5 ∷ []) (8 ∷ [])
     ∷ []
 
--- a groupby by both words behind a zip of the packets with themselves; it has no argument
+-- a groupby by both words after a zip of the packets with themselves; it has no argument
 abbrev pub ZippedUses : Type 0
 ZippedUses = (q : TypedQuery) (f : TypedFold) (first second : TypedStream)
     → HasParts first second q f → first.op ≡ Zip 0 0 [] → second.op ≡ Group 1 (0 ∷ 1 ∷ []) 0 []

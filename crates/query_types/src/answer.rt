@@ -10,7 +10,7 @@ use std::alloc::AllocError;
 pub enum CheckAnswer {
     /// The query's first fault.
     Refused(QueryFault),
-    /// There was no memory.
+    /// Memory ran out.
     Memory,
 }
 
@@ -36,14 +36,14 @@ impl From<AllocError> for CheckAnswer {
     }
 }
 
-/// A fault that stands here.
+/// A fault here.
 pub fn fault(kind: FaultKind, span: Span) -> QueryFault
     ensures { result ≡ record { kind = kind; span = span } }
 {
     QueryFault { kind, span }
 }
 
-/// The answer for a fault that stands here.
+/// The answer for a fault here.
 pub fn refused(kind: FaultKind, span: Span) -> CheckAnswer
     ensures { result ≡ CheckAnswer.Refused (record { kind = kind; span = span }) }
 {

@@ -41,7 +41,7 @@ fn find_target(scope: Scope<'_>, name: Name) -> Result<u16, QueryFault>
     }
 }
 
-// Where the first state variable of an expression stands.
+// Where the first state variable of an expression is.
 fn find_state(states: &[u32], e: &Expr) -> Option<Span>
     ensures { result ≡ state_in states.now e.now }
 {
@@ -181,7 +181,7 @@ fn open_choice(
     Ok(Boxed::new(alloc, choice)?)
 }
 
-// The statements so far, in place of which there are none: those of a block inside follow.
+// Takes the statements so far, and leaves none: those of a block inside follow.
 fn take_statements(alloc: Global, found: &mut Body) -> Seq<TypedStmt>
     ensures statements { result ≡ found.old.statements }
     ensures block { found.new ≡ record { statements = []; emit = found.old.emit } }
@@ -189,7 +189,7 @@ fn take_statements(alloc: Global, found: &mut Body) -> Seq<TypedStmt>
     mem::replace(&mut found.statements, Seq::new(alloc))
 }
 
-// A choice behind the statements before it, where the second block is found.
+// A choice after the statements before it, where the second block is found.
 fn close_choice(
     found: &mut Body,
     choice: Boxed<Choice>,
@@ -251,7 +251,7 @@ fn add_assignment(
     Ok(())
 }
 
-/// One statement behind those before it in its block, under the conditions that enclose it.
+/// One statement after those before it in its block, under the conditions that enclose it.
 pub fn check_stmt(
     alloc: Global,
     scope: Scope<'_>,
@@ -287,7 +287,7 @@ pub fn check_stmt(
     }
 }
 
-// The statements of a fold behind those before them.
+// The statements of a fold after those before them.
 fn check_all(
     alloc: Global,
     scope: Scope<'_>,

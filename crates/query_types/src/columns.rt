@@ -155,7 +155,7 @@ fn list_keys(alloc: Global, five: &[u32], keys: &[Key]) -> Result<Seq<Name>, All
     Ok(names)
 }
 
-// The names that one key stands for, behind others.
+// The names that one key stands for, after others.
 fn add_key(names: &mut Seq<Name>, five: &[u32], key: Key) -> Result<(), AllocError>
     ensures { OnOk result (names.new ≡ names.old ++ key_names five.now key) }
 {
@@ -246,7 +246,7 @@ fn has_key_state(f: &FoldView, keys: &[u32]) -> bool
     false
 }
 
-/// The columns that are a fold's arguments, where no state variable has the name of a key. The faults stand at the fold's name.
+/// The columns that are a fold's arguments, where no state variable has the name of a key. The faults are at the fold's name.
 pub fn check_arguments(
     alloc: Global,
     columns: &[u32],

@@ -32,7 +32,7 @@ pub fn copy_words(alloc: Global, words: &[u32]) -> Result<Seq<u32>, AllocError>
     Ok(Seq::from_vec(Vec::from_slice(alloc, words)?))
 }
 
-/// One list of names behind another.
+/// One list of names after another.
 pub fn names_of_both(alloc: Global, first: &[u32], second: &[u32]) -> Result<Seq<u32>, AllocError>
     ensures { IfOk result (λ names. names ≡ first.now ++ second.now) }
 {

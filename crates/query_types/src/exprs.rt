@@ -59,7 +59,7 @@ fn is_condition(sort: Sort) -> bool
     }
 }
 
-// May this stand beside the operator?
+// Is this allowed beside the operator?
 fn fits(op: Op, sort: Sort) -> bool
     ensures { result ≡ is_operand op sort }
 {
@@ -69,7 +69,7 @@ fn fits(op: Op, sort: Sort) -> bool
     }
 }
 
-// May this stand to the right of the operator, where it fits?
+// Is this allowed to the right of the operator, where it fits?
 fn fits_right(op: Op, sort: Sort) -> bool
     ensures { result ≡ is_right_constant op sort }
 {

@@ -88,7 +88,7 @@ fn table_columns(
     check_columns(alloc, source.columns.as_slice(), &[], columns)
 }
 
-// A map: it adds its columns behind those of its input.
+// A map: it adds its columns after those of its input.
 fn made_map(
     alloc: Global,
     groups: u16,

@@ -81,7 +81,7 @@ fn check_print(earlier: &mut Earlier, name: Name) -> Result<(), CheckAnswer>
     Ok(())
 }
 
-// One item behind those before it.
+// One item after those before it.
 fn check_item(
     alloc: Global,
     given: &Given,
@@ -104,7 +104,7 @@ fn check_item(
     }
 }
 
-// One item behind those before it, by which each number still fits.
+// One item after those before it, with which each number still fits.
 fn check_next(
     alloc: Global,
     given: &Given,
@@ -122,7 +122,7 @@ fn check_next(
     Ok(())
 }
 
-/// The items in order, each behind those before it.
+/// The items in order, each after those before it.
 pub fn check_items(
     alloc: Global,
     given: &Given,

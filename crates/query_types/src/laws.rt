@@ -2,7 +2,7 @@
 
 ghost use Rattle.query_types.specs.UseExamples.{FilteredUses, MappedUses, ZippedUses, FedUses};
 
-/// A groupby behind a filter, behind a map and behind a zip, and a groupby that feeds another.
+/// A groupby after a filter, after a map and after a zip, and a groupby that feeds another.
 pub fn small_uses()
     ensures filter { FilteredUses }
     ensures map { MappedUses }

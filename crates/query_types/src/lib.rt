@@ -1,4 +1,4 @@
-//! The typing of queries: names get numbers and slots, and the first fault is told. And what the groupbys of a typed query take
+//! The typing of queries: names get numbers and slots, and the first fault is given. And what the groupbys of a typed query take
 //! from the packets.
 #![tactic(auto)]
 

@@ -9,7 +9,7 @@ use marple_base::{Field, Seq};
 use query_lang::Names;
 use std::alloc::{AllocError, Global};
 
-/// The names of these fields behind others, where they are new.
+/// The names of these fields after others, where they are new.
 #[tactic(auto, using(crate::proofs::NameLemmas::still_room))]
 pub fn add_fields(names: &mut Names, fields: &[Field]) -> Result<(), AllocError>
     requires { length names.old + length fields.now < 2 ^ 32 }

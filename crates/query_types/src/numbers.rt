@@ -6,7 +6,7 @@ ghost use Rattle.query_types.specs.Numbers.{item_number};
 
 use query_lang::{Column, Expr, FinalOp, Item, Stmt, StreamOp};
 
-/// The greatest number that stands in an expression.
+/// The greatest number in an expression.
 pub fn greatest_in_expr(e: &Expr) -> u64
     ensures { result ≡ greatest_number e.now }
 {
@@ -30,7 +30,7 @@ pub fn greatest_in_expr(e: &Expr) -> u64
     }
 }
 
-// The greatest number that stands in a statement.
+// The greatest number in a statement.
 fn greatest_in_stmt(s: &Stmt) -> u64
     ensures { result ≡ greatest_in s.now }
 {
@@ -52,7 +52,7 @@ fn greatest_in_stmt(s: &Stmt) -> u64
     }
 }
 
-/// The greatest number that stands in the statements of a fold.
+/// The greatest number in the statements of a fold.
 pub fn greatest_in_body(body: &[Stmt]) -> u64
     ensures { result ≡ greatest_of (map greatest_in body.now) }
 {
@@ -64,7 +64,7 @@ pub fn greatest_in_body(body: &[Stmt]) -> u64
     most
 }
 
-// The greatest number that stands in new columns.
+// The greatest number in new columns.
 fn greatest_in_columns(columns: &[Column]) -> u64
     ensures { result ≡ columns_number columns.now }
 {
@@ -76,7 +76,7 @@ fn greatest_in_columns(columns: &[Column]) -> u64
     most
 }
 
-// The greatest number that stands in a stream's operator.
+// The greatest number in a stream's operator.
 fn greatest_in_stream(op: &StreamOp) -> u64
     ensures { result ≡ stream_number op.now }
 {
@@ -87,7 +87,7 @@ fn greatest_in_stream(op: &StreamOp) -> u64
     }
 }
 
-// The greatest number that stands in the expressions of a final's operator.
+// The greatest number in the expressions of a final's operator.
 fn greatest_in_final(op: &FinalOp) -> u64
     ensures { result ≡ final_number op.now }
 {
@@ -98,7 +98,7 @@ fn greatest_in_final(op: &FinalOp) -> u64
     }
 }
 
-// The greatest number that stands in an item's expressions.
+// The greatest number in an item's expressions.
 fn greatest_in_item(item: &Item) -> u64
     ensures { result ≡ item_number item.now }
 {
@@ -110,7 +110,7 @@ fn greatest_in_item(item: &Item) -> u64
     }
 }
 
-/// The greatest number that stands in the expressions of items.
+/// The greatest number in the expressions of items.
 pub fn greatest_in_items(items: &[Item]) -> u64
     ensures { result ≡ greatest_of (map item_number items.now) }
 {

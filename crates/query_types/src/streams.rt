@@ -106,7 +106,7 @@ fn stream_columns(
     check_columns(alloc, names.as_slice(), source.hidden.as_slice(), columns)
 }
 
-// Columns that the map of the stream with this number makes, behind others.
+// Columns that the map of the stream with this number makes, after others.
 fn add_map_columns(
     columns: &mut Seq<StreamColumn>,
     number: u16,
@@ -123,7 +123,7 @@ fn add_map_columns(
     Ok(())
 }
 
-// A map: it adds its columns behind those of its input.
+// A map: it adds its columns after those of its input.
 fn made_map(
     alloc: Global,
     source: &StreamView,
@@ -143,7 +143,7 @@ fn made_map(
     })
 }
 
-// The number of the stream behind those before it.
+// The number of the stream after those before it.
 fn next_number(earlier: &Earlier) -> u16
     requires { length earlier.now.streams + length earlier.now.finals < 32 }
     ensures { result ≡ next_stream earlier.now }
@@ -182,7 +182,7 @@ fn slots_of_right(
     other_slots(alloc, names.as_slice(), right.columns.as_slice())
 }
 
-// A zip: the columns of the left, and then those of the right that the left hasn't got.
+// A zip: the columns of the left, and then those of the right that the left doesn't have.
 fn made_zip(
     alloc: Global,
     left: &StreamView,
@@ -362,7 +362,7 @@ fn check_operator(
     }
 }
 
-// The number of groupbys behind a stream, where it has this table.
+// The number of groupbys after a stream, where it has this table.
 fn groups_with(groups: u16, table: &Option<TableView>) -> u16
     requires { groups < 32 }
     ensures { result ≡ groups + (if is_some table.now then 1 else 0) }

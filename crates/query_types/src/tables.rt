@@ -10,7 +10,7 @@ use crate::exprs::has_name;
 use query_lang::PrintOf;
 use query_lang::typing::TableView;
 
-/// The number of a table, where the query has so many groupbys.
+/// The number of a table, where the query has that many groupbys.
 pub fn number_of_table(groups: u16, place: PrintOf) -> u16
     requires groups { groups ≤ 8 }
     requires place { IsEarly place }
@@ -31,7 +31,7 @@ fn keys_of(table: &TableView) -> &[u32]
     if keys <= all.len() { &all[..keys] } else { all }
 }
 
-/// The columns of a table behind its keys.
+/// The columns of a table after its keys.
 pub fn others_of(table: &TableView) -> &[u32]
     ensures { result.now ≡ other_columns table.now }
 {

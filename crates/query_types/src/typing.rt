@@ -91,7 +91,7 @@ fn packet_stream(alloc: Global, given: &Given) -> Result<StreamView, AllocError>
     })
 }
 
-// What stands from the start.
+// What a query begins with.
 fn start_from(alloc: Global, names: &Names, given: &Given) -> Result<Earlier, AllocError>
     requires names { length names.now < 2 ^ 32 }
     requires fields { given.now.fields ≡ field_numbers names.now }
@@ -131,7 +131,7 @@ fn end_with(names: Names, end: Span, earlier: Earlier) -> Result<TypedQuery, Que
     })
 }
 
-// The items behind what stands from the start.
+// The items after what a query begins with.
 fn check_from(
     alloc: Global,
     given: &Given,
@@ -203,8 +203,8 @@ fn check_query(alloc: Global, q: Query) -> Result<TypedQuery, CheckAnswer>
 
 /// The typed query, or the first fault: items in the order of the text, and the checks of an item in their order. A query that
 /// was parsed is readable. What is given is valid: names, slots, streams and folds that it names are there, conditions,
-/// words and constants stand where they may, and the limits are kept. Its names are those of the query and then those of the
-/// fields that the query hasn't got. `Memory` comes for want of memory alone.
+/// words and constants are where they are allowed, and the limits are kept. Its names are those of the query and then those of the
+/// fields that the query doesn't have. `Memory` is given only where memory runs out.
 pub fn check(alloc: Global, q: Query) -> Result<TypedQuery, CheckAnswer>
     requires { IsReadable q }
     ensures given { Answers result (checked q) }

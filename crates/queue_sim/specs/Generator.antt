@@ -3,7 +3,7 @@ use Rattle.std.specs.Prelude.{ℕ, suc, zero, ◌+◌, ◌-◌, ◌*◌, ◌/◌
 use Rattle.std.specs.Prelude.{if◌then◌else◌, List, [], ◌∷◌, ◌++◌, filter, length, max, Option, Some, None, unwrap_or}
 use Rattle.marple_base.specs.declared.field.Packet.{Packet}
 
--- the state of the draws after so many of them
+-- the state of the draws after n of them
 abbrev pub next_state : ℕ → ℕ
 next_state x = (x * 1103515245 + 12345) % 2 ^ 31
 
@@ -15,14 +15,14 @@ state_after start (suc n) = next_state (state_after start n)
 abbrev pub draw : ℕ → ℕ → ℕ
 draw start n = state_after start n / 2 ^ 16
 
--- what four draws in a row say of a packet
+-- what four consecutive draws say of a packet
 pub record Drawn : Type 0 where
   pub gap : ℕ  -- the time since the packet before it
   pub flow : ℕ  -- its flow, of 64
   pub payload : ℕ  -- the bytes that it carries
-  pub skipped : ℕ  -- how many of its flow's numbers it leaves out
+  pub skipped : ℕ  -- how many numbers of its flow it leaves out
 
--- what is drawn after so many draws
+-- what is drawn after that many draws
 abbrev pub drawn_after : ℕ → ℕ → Drawn
 drawn_after start draws = record {
   gap = draw start (draws + 1) % 50;
@@ -44,7 +44,7 @@ pub record Arrival : Type 0 where
 abbrev pub switch_of : ℕ → ℕ
 switch_of flow = flow % 4
 
--- the bytes of a packet that carries so many
+-- the length of a packet with this payload
 abbrev pub packet_length : ℕ → ℕ
 packet_length payload = payload + 40
 
@@ -53,7 +53,7 @@ abbrev pub last_time : List Arrival → ℕ
 last_time [] = 0
 last_time (arrival ∷ earlier) = arrival.time
 
--- the number at which a flow goes on: behind the last byte of its last packet
+-- the number at which a flow goes on: after the last byte of its last packet
 abbrev pub next_number : ℕ → List Arrival → ℕ
 next_number flow [] = 0
 next_number flow (arrival ∷ earlier) = if arrival.flow == flow then arrival.seq + arrival.payload else next_number flow earlier
@@ -111,7 +111,7 @@ packet_of n a = record {
       ∷ a.time ∷ unwrap_or a.tout (2 ^ 64 - 1) ∷ a.qsize ∷ [];
 }
 
--- these packets in the order of their coming, numbered to n
+-- these packets in the order in which they come, numbered up to n
 abbrev pub packets_from : List Arrival → List Packet
 packets_from [] = []
 packets_from (arrival ∷ earlier) = packets_from earlier ++ packet_of (length (arrival ∷ earlier)) arrival ∷ []

@@ -17,7 +17,7 @@ texts_of [] words = []
 texts_of (field ∷ fields) [] = []
 texts_of (field ∷ fields) (word ∷ words) = word_text field word ∷ texts_of fields words
 
--- parts behind another one, each with a comma before it
+-- further parts, each with a comma before it
 abbrev pub continued : List (List ℕ) → List ℕ
 continued [] = []
 continued (part ∷ parts) = 44 ∷ (part ++ continued parts)

@@ -1,4 +1,4 @@
-//! Numbers that look random.
+//! Pseudo-random numbers.
 
 ghost use Rattle.std.specs.Prelude.{◌≡◌, ℕ, ◌+◌, ◌/◌, ◌^◌, ◌<◌};
 ghost use Rattle.queue_sim.specs.Draws.{IsDrawn};
@@ -21,7 +21,7 @@ pub struct Drawn {
 }
 
 impl Draws {
-    /// The draws behind this start.
+    /// The draws from this start on.
     pub fn new(start: u32) -> Draws
         requires { start < 2 ^ 31 }
         ensures { result.state ≡ start }
@@ -40,7 +40,7 @@ impl Draws {
         self.state >> 16
     }
 
-    /// Four draws, of which those before them were `draws`.
+    /// Four draws, after `draws` others.
     #[tactic(auto, unfolding(crate::specs::Generator::state_after))]
     pub fn next_packet(&mut self) -> Drawn
         ensures drawn { (start draws : ℕ) → self.old.state ≡ state_after start draws

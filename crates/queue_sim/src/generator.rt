@@ -54,7 +54,7 @@ fn packet_of(number: u64, time: u64, seq: u64, drawn: Drawn, place: Place) -> Pa
     }
 }
 
-// The number at which a packet of a flow begins. The flow goes on behind it.
+// The number at which a packet of a flow begins. The flow goes on after its payload.
 fn next_seq(flows: &mut [u64; 64], drawn: Drawn) -> u64
     requires flow { drawn.flow < 64 }
     requires fits { slice_index_or flows.old drawn.flow 0 + drawn.skipped + drawn.payload < 2 ^ 64 }

@@ -108,7 +108,7 @@ increasing from end (t ∷ u ∷ tuples) h = go (increasing (suc t.packet) end (
         subst (λ next. slice_index (packet_numbers (t ∷ u ∷ tuples)) (suc k) < slice_index (packet_numbers (t ∷ u ∷ tuples)) next)
         (let same : suc (k + 1) ≡ suc k + 1 = omega arith in same) (more k (omega (arith, lt)))
 
--- these numbers lie between those two, both counted in
+-- these numbers lie between those two, which are included
 abbrev LieBetween : ℕ → ℕ → List ℕ → Type 0
 LieBetween from last numbers = All (λ n. (from ≤ n) × (n ≤ last)) numbers
 

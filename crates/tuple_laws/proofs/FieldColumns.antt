@@ -14,7 +14,7 @@ use Rattle.query_lang.specs.Typing.{with_fields, typed_names, field_numbers}
 use Rattle.query_rules.proofs.Steps.{nat_same}
 use Rattle.tuple_laws.proofs.Views.{AreDistinct}
 
--- ---- each field's name stands at its number
+-- ---- each field's name is at its number
 
 abbrev IsAmong : List ℕ → List (List ℕ) → Type 0
 IsAmong text names = list_any (bytes_eq text) names ≡ true
@@ -54,12 +54,12 @@ among_fields : (text : List ℕ) (fields : List Field) (names : List (List ℕ))
 among_fields text [] names h = h
 among_fields text (f ∷ rest) names h = among_fields text rest (with_name names (field_name f)) (among_more text (field_name f) names h)
 
--- a text that is among names stands at its number
+-- a text that is among names is at its number
 stands_at_number : (names : List (List ℕ)) (text : List ℕ) → IsAmong text names → slice_get names (number_in names text) ≡ Some text
 stands_at_number names text h = ap (λ b. slice_get (cond b names (names ++ text ∷ [])) (number_in names text)) (sym h)
     ∙ has_number names text
 
--- each field's name stands at its number
+-- each field's name is at its number
 abbrev pub AreKnown : List (List ℕ) → List Field → Type 0
 AreKnown names [] = Unit {0}
 AreKnown names (f ∷ fields) = (slice_get names (number_in names (field_name f)) ≡ Some (field_name f)) × AreKnown names fields

@@ -42,7 +42,7 @@ use Rattle.tuple_laws.proofs.Views.{View, AreDistinct, AreBelow, mapped_columns,
 
 -- ---- what names stand for
 
--- a name of a stream tells its columns
+-- a name of a stream gives its columns
 abbrev pub TellsColumns : List View → Meaning → Type 0
 TellsColumns views (meaning.Stream s) = slice_get views s.number ≡ Some s.columns
 TellsColumns views (meaning.Fold f) = Unit {0}
@@ -236,7 +236,7 @@ module _ (views : List View) (earlier : Earlier) (told : AllTell views earlier.k
 
 -- ---- items
 
--- the columns of the streams so far, behind those of the packets
+-- the columns of the streams so far, after those of the packets
 pub record HasViews (fields : View) (earlier : Earlier) : Type 0 where
   pub views : List View
   pub made : AreMade (fields ∷ []) earlier.streams views

@@ -19,7 +19,7 @@ abbrev pub AreDistinct : List ℕ → Type 0
 AreDistinct [] = Unit {0}
 AreDistinct (id ∷ ids) = (is_among id ids ≡ false) × AreDistinct ids
 
--- these slots are below so many
+-- these slots are below this bound
 abbrev pub AreBelow : ℕ → List ℕ → Type 0
 AreBelow n [] = Unit {0}
 AreBelow n (slot ∷ slots) = (slot < n) × AreBelow n slots

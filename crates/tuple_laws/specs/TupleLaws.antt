@@ -11,7 +11,7 @@ use Rattle.tuple_laws.specs.Columns.{columns_of, IsZip, value_under}
 abbrev pub packet_numbers : List Tuple → List ℕ
 packet_numbers tuples = map (λ t. t.packet) tuples
 
--- A stream has one tuple at most for each packet, and its tuples stand in the order of the packets.
+-- A stream has at most one tuple for each packet, and its tuples are in the order of the packets.
 abbrev pub PacketsAscend : Type 0
 PacketsAscend = (q : TypedQuery) (number : ℕ) (packets : List (List ℕ))
     → IsStrictlyIncreasing (packet_numbers (stream q number packets))

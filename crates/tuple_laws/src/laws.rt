@@ -5,7 +5,7 @@ ghost use Rattle.tuple_laws.specs.TupleLaws.{ZippedColumnsAgree, ZipsKeepTheFirs
 
 use query_rules::queries_agree;
 
-/// A stream has one tuple at most for each packet, and its tuples stand in the order of the packets.
+/// A stream has at most one tuple for each packet, and its tuples are in the order of the packets.
 pub fn packets_ascend()
     ensures { PacketsAscend }
 {}

@@ -139,7 +139,7 @@ emission_holds = meaning_holds is_word_stmt any_holds (λ a h. word_at _ _ (emit
 pub block_holds : {S : Language Stmt} → Holds S is_word_stmt → Holds (Block S) (All is_word_stmt)
 block_holds p = between_holds (All is_word_stmt) (sign marks.OpenBrace) (sign marks.CloseBrace) (repeated_holds is_word_stmt p)
 
--- an `if` and its block, and what stands after an `else`
+-- an `if` and its block, and what comes after an `else`
 abbrev branch_word : Expr × List Stmt → Type 0
 branch_word v = is_word_expr v.0 × All is_word_stmt v.1
 

@@ -3,7 +3,7 @@ use Rattle.query_lang.specs.Lexis.{cut, tokens_of}
 use Rattle.query_parser.proofs.Cuts.{with_all}
 use Rattle.query_parser.proofs.lexer.cut_text.Given as goal
 
--- the tokens so far, and those of the bytes that are left, are those of the text; and each turn has at most one name more
+-- the tokens so far, and those of the bytes that are left, are those of the text; and each turn adds at most one name
 abbrev pub invariant-loop : goal.invariant-loop
 invariant-loop l = record {
   within : l.at ≤ length l.text;
