@@ -32,8 +32,8 @@ pub enum Merged {
     Empty,
 }
 
-/// The cache and the pipe of one groupby, for entries of one kind. They belong to no store: each merge is told the one that
-/// it merges into, so several fronts may share it. Only a merge takes memory once it is made.
+/// The cache and the pipe of one groupby, for entries of one kind. They belong to no store: each merge is given the store
+/// that it merges into, so several fronts may share one. Once a front is made, only a merge takes memory.
 #[derive(Drop)]
 pub struct Front<K: EpochKind, const WAYS: usize> {
     kind: K,
@@ -154,8 +154,8 @@ impl<K: EpochKind, const WAYS: usize> Front<K, WAYS> {
         }
     }
 
-    /// Merges the oldest record of the pipe into a store, behind what the store holds. Empty exactly where the pipe is
-    /// empty, and then nothing changes; after a refusal of memory front and store are as they were.
+    /// Merges the oldest record of the pipe into a store, after what the store holds. Empty exactly where the pipe is
+    /// empty, and then nothing changes; where memory runs out, front and store are unchanged.
     pub fn merge_into<L: Ledger>(
         &mut self,
         store: &mut BackingStore,

@@ -27,8 +27,8 @@ use std::alloc::{AllocError, Global};
 use std::marker::Model;
 use std::sync::ledger::Ledger;
 
-/// The cache, the pipe and the store of one groupby, for entries of one kind. Only `merge` and `close` take memory once
-/// it is made.
+/// The cache, the pipe and the store of one groupby, for entries of one kind. Once a lane is made, only `merge` and
+/// `close` take memory.
 #[derive(Drop)]
 pub struct Lane<K: EpochKind, const WAYS: usize> {
     front: Front<K, WAYS>,
@@ -124,7 +124,7 @@ impl<K: EpochKind, const WAYS: usize> Lane<K, WAYS> {
     }
 
     /// Merges the oldest record of the pipe into the store. Empty exactly where the pipe is empty, and then nothing
-    /// changes; after a refusal of memory the lane is as it was.
+    /// changes; where memory runs out, the lane is unchanged.
     pub fn merge<L: Ledger>(&mut self, steps: &mut Steps<L>) -> Result<Merged, AllocError>
         ensures stands { OnOk result (Makes (K.stands self.old.kind) (K.folding self.old.kind) WAYS Merge
             (parts self.old.cache self.old.pipe self.old.store) (parts self.new.cache self.new.pipe self.new.store)) }
@@ -168,7 +168,7 @@ impl<K: EpochKind, const WAYS: usize> Lane<K, WAYS> {
         self.front.drained()
     }
 
-    /// The table of the closed epochs, under these names. The lane stays as it is.
+    /// The table of the closed epochs, under these names. The lane doesn't change.
     pub fn close(
         &self,
         name: Text,
@@ -205,7 +205,7 @@ impl<K: EpochKind, const WAYS: usize> Lane<K, WAYS> {
         })
     }
 
-    /// What holds of every lane: after any events, in whatever order packets, evictions and merges come, it stands for the
+    /// What holds of every lane: after any events, in whatever order packets, evictions and merges come, it represents the
     /// machine after them.
     pub fn follows_events(&self)
         ensures { EventsAreFollowed (K.stands self.now.kind) (K.folding self.now.kind) WAYS }

@@ -14,8 +14,8 @@ use merged_epochs::merged_epochs_are_held;
 use std::alloc::AllocError;
 use std::sync::ledger::Ledger;
 
-/// Merges an entry into the store: into its key's state, or into a new one where each epoch has a row. After a refusal of
-/// memory the store is as it was.
+/// Merges an entry into the store: into its key's state, or into a new one where each epoch has a row. Where memory runs
+/// out, the store is unchanged.
 pub fn merge_entry<K: EpochKind, L: Ledger>(
     kind: &K,
     store: &mut BackingStore,

@@ -31,8 +31,8 @@ use std::alloc::{AllocError, Global};
 use std::marker::Model;
 use std::sync::ledger::Ledger;
 
-/// A plan with a lane for each groupby, whose entries give the folds or bounds of them. Only `merge`, `sweep` and
-/// `close` take memory once it is made.
+/// A plan with a lane for each groupby, whose entries give the folds or bounds of them. Once it is made, only `merge`,
+/// `sweep` and `close` take memory.
 #[derive(Drop)]
 pub struct Pipeline<const WAYS: usize> {
     alloc: Global,
@@ -62,8 +62,8 @@ impl<const WAYS: usize> Model for Pipeline<WAYS> {
 }
 
 impl<const WAYS: usize> Pipeline<WAYS> {
-    /// A lane for each groupby of the plan, with entries for this, with so many buckets and with a pipe for so many records.
-    /// No epoch is open.
+    /// A lane for each groupby of the plan, with entries for this purpose, this number of buckets, and a pipe for this number
+    /// of records. No epoch is open.
     pub fn new(
         alloc: Global,
         plan: Plan,
@@ -105,7 +105,7 @@ impl<const WAYS: usize> Pipeline<WAYS> {
         let _buckets = self.buckets;
     }
 
-    /// How many lanes there are.
+    /// The number of lanes.
     pub fn lanes(&self) -> u32
         ensures { result ≡ length self.now.lanes }
     {
@@ -222,7 +222,7 @@ impl<const WAYS: usize> Pipeline<WAYS> {
         self.plan.bound(WAYS as u32)
     }
 
-    /// The tables of the closed epochs, one for each groupby in order. The pipeline stays as it is.
+    /// The tables of the closed epochs, one for each groupby in order. The pipeline doesn't change.
     pub fn close(&self) -> Result<Seq<Table>, AllocError>
         requires { list_all lane_is_drained self.now.lanes ≡ true }
         ensures { IfOk result (λ tables. (machines : List Machine) → PipelineStands self.now machines

@@ -10,7 +10,7 @@ use epoch_entry::EpochKind;
 use marple_base::Steps;
 use std::sync::ledger::Ledger;
 
-/// The entry at the place stands for one row more.
+/// The entry at the place represents one row more.
 pub fn absorb_at<K: EpochKind, const WAYS: usize, L: Ledger>(
     kind: &K,
     cache: &mut BucketCache<WAYS>,
@@ -33,7 +33,7 @@ pub fn absorb_at<K: EpochKind, const WAYS: usize, L: Ledger>(
     kind.absorb(entry, args, scratch, steps);
 }
 
-/// The entry at the place stands for this row alone.
+/// The entry at the place represents this row alone.
 pub fn begin_at<K: EpochKind, const WAYS: usize, L: Ledger>(
     kind: &K,
     cache: &mut BucketCache<WAYS>,

@@ -5,7 +5,7 @@ use Rattle.switch_core.specs.Rows.{Each}
 use Rattle.switch_core.proofs.SideBySide.{Done, Untouched}
 use Rattle.switch_core.proofs.lanes.sweep_lanes.Given as goal
 
--- the lanes so far are swept, and the others are as they were
+-- the lanes so far are swept, and the others are unchanged
 abbrev pub invariant-loop-i : goal.invariant-loop-i
 invariant-loop-i g l = record {
   leads : Done (λ n. LaneIsSwept) l.i (map lane_view l.initial.lanes) (map lane_view l.lanes);
