@@ -54,7 +54,7 @@ pub trait EpochKind: Drop {
     fn open<L: Ledger>(&self, entry: &mut [u64], steps: &mut Steps<L>)
         requires { length entry.old ≡ (sizes self.now).entry }
         ensures opened { stands self.now entry.new [] }
-        ensures at_least { steps.old ≤ steps.new }
+        ensures steps { steps.old ≤ steps.new }
         ensures cost { steps.new ≤ steps.old + open_bound self.now };
 
     /// Makes the entry represent one row more.
@@ -69,7 +69,7 @@ pub trait EpochKind: Drop {
         requires args { length args.now ≡ (sizes self.now).args }
         requires scratch { length scratch.old ≡ (sizes self.now).scratch }
         ensures absorbed { (rows : List ArgRow) → stands self.now entry.old rows → stands self.now entry.new (rows ++ args.now ∷ []) }
-        ensures at_least { steps.old ≤ steps.new }
+        ensures steps { steps.old ≤ steps.new }
         ensures cost { steps.new ≤ steps.old + absorb_bound self.now };
 
     /// Folds the rows that the entry represents into a state; where each epoch has a row, into the initial one.
@@ -85,6 +85,6 @@ pub trait EpochKind: Drop {
         requires scratch { length scratch.old ≡ (sizes self.now).scratch }
         ensures merged { (rows : List ArgRow) → stands self.now entry.now rows → MayTake (folding self.now) state.old
             → state.new ≡ fold (folding self.now).step state.old rows }
-        ensures at_least { steps.old ≤ steps.new }
+        ensures steps { steps.old ≤ steps.new }
         ensures cost { steps.new ≤ steps.old + merge_bound self.now };
 }

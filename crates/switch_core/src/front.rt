@@ -114,7 +114,7 @@ impl<K: EpochKind, const WAYS: usize> Front<K, WAYS> {
         requires key { length key.now ≡ self.old.cache.key_words }
         requires args { length args.now ≡ (K.sizes self.old.kind).args }
         ensures makes { FrontMakes (K.stands self.old.kind) WAYS (Packet key.now args.now) self.old self.new }
-        ensures at_least { steps.old ≤ steps.new }
+        ensures steps { steps.old ≤ steps.new }
         ensures cost { let key_words = self.old.cache.key_words in
             steps.new ≤ steps.old + (key_words + 2 * WAYS * (key_words + 1) + (key_words + (K.sizes self.old.kind).entry)
             + K.open_bound self.old.kind + K.absorb_bound self.old.kind) }
@@ -140,7 +140,7 @@ impl<K: EpochKind, const WAYS: usize> Front<K, WAYS> {
         ensures cache { let list = list_at self.old.cache bucket in
             self.new.cache ≡ with_list self.old.cache bucket (take (length list - 1) list) }
         ensures same { result ≡ false → self.new ≡ self.old }
-        ensures at_least { steps.old ≤ steps.new }
+        ensures steps { steps.old ≤ steps.new }
         ensures cost { let cache = self.old.cache in
             steps.new ≡ steps.old + (if result then evict_cost cache.key_words cache.entry_words else 0) }
     {
@@ -172,7 +172,7 @@ impl<K: EpochKind, const WAYS: usize> Front<K, WAYS> {
         ensures ready { OnOk result (length self.new.pipe.records < self.new.pipe.places) }
         ensures kind { self.new.kind ≡ self.old.kind }
         ensures cache { self.new.cache ≡ self.old.cache }
-        ensures at_least { steps.old ≤ steps.new }
+        ensures steps { steps.old ≤ steps.new }
         ensures cost { let cache = self.old.cache in
             steps.new ≤ steps.old + merge_cost cache.key_words cache.entry_words (K.merge_bound self.old.kind) }
     {

@@ -95,7 +95,7 @@ impl<K: EpochKind, const WAYS: usize> Lane<K, WAYS> {
         ensures stands { Makes (K.stands self.old.kind) (K.folding self.old.kind) WAYS (Packet key.now args.now)
             (parts self.old.cache self.old.pipe self.old.store) (parts self.new.cache self.new.pipe self.new.store) }
         ensures kind { self.new.kind ≡ self.old.kind }
-        ensures at_least { steps.old ≤ steps.new }
+        ensures steps { steps.old ≤ steps.new }
         ensures cost { let key_words = self.old.cache.key_words in
             steps.new ≤ steps.old + (key_words + 2 * WAYS * (key_words + 1) + (key_words + (K.sizes self.old.kind).entry)
             + K.open_bound self.old.kind + K.absorb_bound self.old.kind) }
@@ -116,7 +116,7 @@ impl<K: EpochKind, const WAYS: usize> Lane<K, WAYS> {
         ensures same { result ≡ false → (self.new.cache ≡ self.old.cache) × (self.new.pipe ≡ self.old.pipe) }
         ensures kind { self.new.kind ≡ self.old.kind }
         ensures store { self.new.store ≡ self.old.store }
-        ensures at_least { steps.old ≤ steps.new }
+        ensures steps { steps.old ≤ steps.new }
         ensures cost { let cache = self.old.cache in
             steps.new ≡ steps.old + (if result then evict_cost cache.key_words cache.entry_words else 0) }
     {
@@ -135,7 +135,7 @@ impl<K: EpochKind, const WAYS: usize> Lane<K, WAYS> {
         ensures ready { OnOk result (length self.new.pipe.records < self.new.pipe.places) }
         ensures kind { self.new.kind ≡ self.old.kind }
         ensures cache { self.new.cache ≡ self.old.cache }
-        ensures at_least { steps.old ≤ steps.new }
+        ensures steps { steps.old ≤ steps.new }
         ensures cost { let cache = self.old.cache in
             steps.new ≤ steps.old + merge_cost cache.key_words cache.entry_words (K.merge_bound self.old.kind) }
     {

@@ -26,7 +26,7 @@ pub fn absorb_at<K: EpochKind, const WAYS: usize, L: Ledger>(
     ensures rest { cache.new ≡ with_words cache.old place (entry_at cache.new place) }
     ensures absorbed { (rows : List ArgRow) → K.stands kind.now (entry_at cache.old place) rows
         → K.stands kind.now (entry_at cache.new place) (rows ++ args.now ∷ []) }
-    ensures at_least { steps.old ≤ steps.new }
+    ensures steps { steps.old ≤ steps.new }
     ensures cost { steps.new ≤ steps.old + K.absorb_bound kind.now }
 {
     let entry = cache.entry_mut(place);
@@ -48,7 +48,7 @@ pub fn begin_at<K: EpochKind, const WAYS: usize, L: Ledger>(
     requires scratch { length scratch.old ≡ (K.sizes kind.now).scratch }
     ensures rest { cache.new ≡ with_words cache.old place (entry_at cache.new place) }
     ensures begun { K.stands kind.now (entry_at cache.new place) (args.now ∷ []) }
-    ensures at_least { steps.old ≤ steps.new }
+    ensures steps { steps.old ≤ steps.new }
     ensures cost { steps.new ≤ steps.old + (K.open_bound kind.now + K.absorb_bound kind.now) }
 {
     let entry = cache.entry_mut(place);

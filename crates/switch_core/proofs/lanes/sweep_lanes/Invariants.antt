@@ -12,6 +12,6 @@ invariant-loop-i g l = record {
   runs : Done (λ n. LaneRunsSweep g.row.WAYS) l.i (map lane_view l.initial.lanes) (map lane_view l.lanes);
   same : Untouched l.i (map lane_view l.initial.lanes) (map lane_view l.lanes);
   makes : Each (LaneSweeps g.row.WAYS) (map lane_view l.initial.lanes) (map lane_view l.lanes);
-  at_least : l.initial.steps ≤ l.steps;
+  steps : l.initial.steps ≤ l.steps;
   cost : l.steps ≤ l.initial.steps + sum_by lane_sweep_cost (take l.i (map lane_view l.initial.lanes));
 }
