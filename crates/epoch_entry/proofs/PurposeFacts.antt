@@ -36,7 +36,7 @@ module _ (f : TypedFold) (sizes : Sizes) (folding : Folding) (opening absorbing 
     absorb = omega (arith, h.absorb);
   }
 
-  -- a state is no larger than an entry, and a run of the code no dearer than absorbing
+  -- a state is no larger than an entry, and a run of the code takes no more steps than absorbing
   few_words : fold_states f ≤ entry_bound f
   few_words = omega arith
 

@@ -1,4 +1,4 @@
--- The words of an entry, by the program of a fold, and what they stand for.
+-- The words of an entry, by the program of a fold, and what they represent.
 use Rattle.std.specs.Prelude.{◌≡◌, ℕ, ◌+◌, ◌*◌, ◌<◌, ◌≤◌, max, false, true, List, length, take, drop}
 use Rattle.std.specs.Prelude.{slice_index, All}
 use Rattle.query_lang.specs.declared.fold.TypedFold.{TypedFold}
@@ -17,7 +17,7 @@ use Rattle.fold_class.specs.Step.{list_of, dimension}
 use Rattle.epoch_entry.specs.Kinds.{Sizes}
 use Rattle.epoch_entry.specs.Identity.{unit_at}
 
--- an argument row of so many words
+-- an argument row with this number of words
 pub record IsRow (args : ℕ) (row : ArgRow) : Type 0 where
   pub long : length row ≡ args
   pub words : AreWords row
@@ -48,7 +48,7 @@ abbrev pub other_merge : FoldProgram → ℕ
 other_merge p = length p.layout.initial
 
 -- Of a linear fold: the number of logged rows, a log, the history, and the map of the rows after the log, whose
--- elements have so many words.
+-- elements have this many words.
 
 -- how many linear variables there are
 abbrev pub linear_rank : FoldProgram → ℕ
@@ -94,7 +94,7 @@ history_of p words = take (history_words p) (drop (log_words p) (drop 1 words))
 abbrev pub map_of : FoldProgram → List ℕ → List ℕ
 map_of p words = drop (history_words p) (drop (log_words p) (drop 1 words))
 
--- the first rows of a log, of so many words each
+-- the first rows of a log, each of this many words
 abbrev pub logged_rows : ℕ → ℕ → List ℕ → List ArgRow
 logged_rows args count log = list_of count (stored_at args log)
 
@@ -106,7 +106,7 @@ module _ {C : Type 0} (k : Elements C) (from_words : List ℕ → C) (size : ℕ
     table = table_of from_words size (linear_rank p) map';
   }
 
-  -- the parts stand for a list of argument rows. Where all of these are logged, the map keeps each word; and that of a translation has
+  -- the parts represent a list of argument rows. Where all of these are logged, the map keeps each word; and that of a translation has
   -- the identity beside its last column
   pub record PartsStand (p : FoldProgram) (count : ℕ) (log history map' : List ℕ) (rows : List ArgRow) : Type 0 where
     pub fit : All (IsRow p.layout.args) rows

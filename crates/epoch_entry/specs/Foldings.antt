@@ -11,7 +11,7 @@ use Rattle.fold_class.specs.Kinds.{class_of, algebra_of}
 use Rattle.fold_class.specs.Rows.{element_size}
 use Rattle.epoch_entry.specs.Kinds.{Sizes}
 
--- whether each epoch of a fold of this class has a row of its own
+-- whether each epoch of a fold of this class has a separate row
 abbrev pub per_epoch : Class → Bool
 per_epoch Linear = false
 per_epoch Class.Other = true

@@ -9,6 +9,6 @@ pub record Sizes : Type 0 where
   pub state : ℕ  -- of a state
   pub scratch : ℕ  -- of the room that absorbing and merging work in
 
--- An entry is merged into any state, but where each epoch has a row of its own only into the initial one.
+-- An entry is merged into any state; where each epoch has a separate row, only into the initial one.
 abbrev pub MayTake : Folding → List ℕ → Type 0
 MayTake f state = f.row_per_epoch ≡ true → state ≡ f.initial

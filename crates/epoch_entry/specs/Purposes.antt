@@ -28,7 +28,7 @@ runs_of Folds = 1
 runs_of Bounds = 3
 
 -- what is the same of a fold's entries for every purpose: the words of an argument row and whether each epoch has a row; and their
--- bounds, by so many runs
+-- bounds, by this many runs
 pub record SuitsFold (runs : ℕ) (f : TypedFold) (sizes : Sizes) (folding : Folding) (opening absorbing : ℕ) : Type 0 where
   pub args : sizes.args ≡ fold_args f
   pub row_per_epoch : folding.row_per_epoch ≡ per_epoch (class_of f)

@@ -10,8 +10,8 @@ use fold_class::FoldProgram;
 use marple_base::{Steps, copy_words};
 use std::sync::ledger::Ledger;
 
-/// Entries that are three states of the fold one after another, run side by side: from the initial state, from zeros and
-/// from the greatest words. Where such an epoch is merged, its states become a row of its own.
+/// Entries that are three states of the fold in sequence, run side by side: from the initial state, from zeros and
+/// from the greatest words. Where such an epoch is merged, its states become a separate row.
 #[derive(Drop)]
 pub struct BoundsEpochs {
     program: FoldProgram,

@@ -8,16 +8,16 @@ ghost use Rattle.epoch_entry.specs.Kinds.{Sizes, MayTake};
 use marple_base::Steps;
 use std::sync::ledger::Ledger;
 
-/// A kind of entry: fixed words that stand for the argument rows of an open epoch, and that can be merged into a
+/// A kind of entry: fixed words that represent the argument rows of an open epoch, and that can be merged into a
 /// stored state once the epoch is closed. No call takes memory.
 pub trait EpochKind: Drop {
-    /// How many words an argument row, an entry, a state and the scratch room have.
+    /// The numbers of words of an argument row, an entry, a state and the scratch room.
     ghost sizes: { Self → Sizes };
 
     /// The step from a state and an argument row to a state, the initial state, and whether each epoch has a row.
     ghost folding: { Self → Folding };
 
-    /// An entry stands for a list of argument rows.
+    /// An entry represents a list of argument rows.
     ghost stands: { Self → List ℕ → List ArgRow → Type 0 };
 
     /// The most steps that opening an entry takes.
@@ -41,7 +41,7 @@ pub trait EpochKind: Drop {
     fn scratch_words(&self) -> usize
         ensures { result ≡ (sizes self.now).scratch };
 
-    /// Whether each epoch has a row of its own in the store.
+    /// Whether each epoch has a separate row in the store.
     fn row_per_epoch(&self) -> bool
         ensures { result ≡ (folding self.now).row_per_epoch };
 
@@ -50,14 +50,14 @@ pub trait EpochKind: Drop {
         requires { length state.old ≡ (sizes self.now).state }
         ensures { state.new ≡ (folding self.now).initial };
 
-    /// Makes the entry stand for no rows.
+    /// Makes the entry represent no rows.
     fn open<L: Ledger>(&self, entry: &mut [u64], steps: &mut Steps<L>)
         requires { length entry.old ≡ (sizes self.now).entry }
         ensures opened { stands self.now entry.new [] }
-        ensures at_least { steps.old ≤ steps.new }
+        ensures steps { steps.old ≤ steps.new }
         ensures cost { steps.new ≤ steps.old + open_bound self.now };
 
-    /// Makes the entry stand for one row more.
+    /// Makes the entry represent one row more.
     fn absorb<L: Ledger>(
         &self,
         entry: &mut [u64],
@@ -69,10 +69,10 @@ pub trait EpochKind: Drop {
         requires args { length args.now ≡ (sizes self.now).args }
         requires scratch { length scratch.old ≡ (sizes self.now).scratch }
         ensures absorbed { (rows : List ArgRow) → stands self.now entry.old rows → stands self.now entry.new (rows ++ args.now ∷ []) }
-        ensures at_least { steps.old ≤ steps.new }
+        ensures steps { steps.old ≤ steps.new }
         ensures cost { steps.new ≤ steps.old + absorb_bound self.now };
 
-    /// Folds the rows that the entry stands for into a state; where each epoch has a row, into the initial one.
+    /// Folds the rows that the entry represents into a state; where each epoch has a row, into the initial one.
     fn merge<L: Ledger>(
         &self,
         entry: &[u64],
@@ -85,6 +85,6 @@ pub trait EpochKind: Drop {
         requires scratch { length scratch.old ≡ (sizes self.now).scratch }
         ensures merged { (rows : List ArgRow) → stands self.now entry.now rows → MayTake (folding self.now) state.old
             → state.new ≡ fold (folding self.now).step state.old rows }
-        ensures at_least { steps.old ≤ steps.new }
+        ensures steps { steps.old ≤ steps.new }
         ensures cost { steps.new ≤ steps.old + merge_bound self.now };
 }

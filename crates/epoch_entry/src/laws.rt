@@ -7,8 +7,8 @@ pub fn entries_are_small()
     ensures { EntriesAreSmall }
 {}
 
-/// The entries of a fold, whatever they are for, take its argument rows, and are as large and cost as much as so many runs
-/// of it.
+/// The entries of a fold, for any purpose, take its argument rows, and have at most the words and the steps of as many runs
+/// of the fold as the purpose has.
 pub fn entries_suit_folds()
     ensures { EntriesSuitFolds }
 {}

@@ -9,8 +9,8 @@ use fold_class::FoldProgram;
 use marple_base::{Steps, copy_words};
 use std::sync::ledger::Ledger;
 
-/// Entries that are the fold's state, from the initial state on. Where such an epoch is merged, its state becomes a row
-/// of its own.
+/// Entries that are the fold's state, from the initial state on. Where such an epoch is merged, its state becomes a
+/// separate row.
 #[derive(Drop)]
 pub struct OtherEpochs {
     program: FoldProgram,

@@ -1,4 +1,4 @@
-// Three states of a fold, one after another.
+// Three states of a fold in sequence.
 
 ghost use Rattle.std.specs.Prelude.{◌≡◌, ◌+◌, ◌*◌, length, replicate};
 ghost use Rattle.fold_code.specs.Meaning.{code_step, code_steps, code_scratch};

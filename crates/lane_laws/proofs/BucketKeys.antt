@@ -1,4 +1,4 @@
--- The keys of a bucket are those of the open epochs that it stands for.
+-- The keys of a bucket are those of the open epochs that it represents.
 use Rattle.std.proofs.Common.{◌≡◌, ℕ, ◌<◌, ◌≤◌, ◌||◌, List, [], ◌∷◌, length, map, get_or, sym, refl, ap, subst, ◌∙◌, arith}
 use Rattle.std.specs.Prelude.{All}
 use Rattle.std.proofs.lemmas.List.{length-map, get_or-map}
@@ -42,7 +42,7 @@ all_keys Q pairs epochs e all = λ k d lt.
     let epochs_at : get_or (map (λ epoch. epoch.key) epochs) k [] ≡ (get_or epochs k other).key = get_or-map (λ epoch. epoch.key) epochs k other [] within in
     subst Q (sym epochs_at ∙ ap (λ keys. get_or keys k []) (sym e) ∙ pairs_at) (all k other within)
 
--- a cache that stands for a machine has the keys of the machine's buckets
+-- a cache that represents a machine has the keys of the machine's buckets
 pub keys_in_buckets : (stands : Standing) (ways : ℕ) (cache : Cache) (m : Machine) → CacheStands stands cache m → IsWellFormed (geometry ways cache) m
     → HasKeysInBuckets ways cache
 keys_in_buckets stands ways cache m s w = record {

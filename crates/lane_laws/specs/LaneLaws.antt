@@ -1,4 +1,4 @@
--- What holds of a lane that stands for a machine.
+-- What holds of a lane that represents a machine.
 use Rattle.std.specs.Prelude.{◌≡◌, ◌≤◌, ℕ, List, length, All}
 use Rattle.epoch_model.specs.Keys.{bucket_of}
 use Rattle.epoch_model.specs.Laws.{HasRoom}
@@ -14,7 +14,7 @@ pub record HasKeysInBuckets (ways : ℕ) (cache : Cache) : Type 0 where
   pub once : (bucket : ℕ) → AreOnce (list_at cache bucket)
   pub home : (bucket : ℕ) → All (λ pair. bucket_of (length cache.lists) pair.key ≡ bucket) (list_at cache bucket)
 
--- A lane that stands for the machine after some events has the keys of its cache in their buckets.
+-- A lane that represents the machine after some events has the keys of its cache in their buckets.
 abbrev pub LanesKeepKeysInBuckets : Type 0
 LanesKeepKeysInBuckets = (ways : ℕ) (lane : LaneView) (events : List Event)
     → HasRoom (geometry ways lane.cache)

@@ -37,7 +37,7 @@ previous_right ops at number stage d lt late is named = record {
   stage_is = (let s = stage_at ops at d lt in let n : operand_stage ops (Register (14 + number)) ≡ stage = ap (operand_stage ops) (sym named.register) ∙ named.stage_is in omega arith);
 }
 
--- one of the operands stands in the stage before
+-- one of the operands is in the stage before
 pub some_previous : (ops : List PlanOp) (at : ℕ) (d : PlanOp) → AreSoundOps ops → at < length ops → 1 < operand_stage ops (Register (14 + at)) →
     (operand_stage ops (get_or ops at d).left ≡ (get_or ops at d).stage - 1 → ⊥) → (operand_stage ops (get_or ops at d).right ≡ (get_or ops at d).stage - 1 → ⊥) → ⊥
 some_previous ops at d sound lt late l r =
@@ -89,7 +89,7 @@ chain_more ops list at p lt e before = record {
     move : (x y u v : ℕ) → x ≡ u → y ≡ v → Follows (slice_get ops u) v → Follows (slice_get ops x) y
     move x y u v p q h = let P : ℕ → Type 0 = λ z. Follows (slice_get ops z) y in let Q : ℕ → Type 0 = λ z. Follows (slice_get ops u) z in subst P (sym p) (subst Q (sym q) h)
 
--- the last operation stands in the last stage
+-- the last operation is in the last stage
 pub chain_is : (ops : List PlanOp) (list : List ℕ) (at : ℕ) → AreSoundOps ops → at + 1 ≡ length ops → EndsAt ops list at → IsChain ops list
 chain_is ops list at sound last e = elim ((slice_get_cases ops at).1) [
   | inl found ↦

@@ -19,7 +19,7 @@ use Rattle.stage_plan.specs.Counting.{HasInputs, HasFold, emit_most, op_most}
 use Rattle.stage_plan.specs.Grouping.{FitsGroup}
 use Rattle.stage_plan.specs.Making.{made_by, all_made}
 
--- a valid stream behind so many others
+-- a valid stream after this many others
 record IsBehind (names : ℕ) (folds : List TypedFold) (streams : ℕ) (one : TypedStream) : Type 0 where
   pub before : List TypedStream
   pub long : length before ≡ streams
@@ -94,7 +94,7 @@ stands q list i one valid same lt is =
     let here : one ≡ get_or q.streams i one = is ∙ ap (λ l. get_or l i one) same in
     subst (λ (x : TypedStream). Stands q i x.op) (sym here) (stands_at q valid i one (omega (arith, ap length same)))
 
--- so many operations more fit
+-- this many more operations fit
 pub op_fits : (q : TypedQuery) (folds : List TypedFold) (i : ℕ) (op : TypedOp) → folds ≡ q.folds → Stands q i op → op_most folds op ≤ 641
 op_fits q folds i op same s = subst (λ (l : List TypedFold). op_most l op ≤ 641) (sym same) s.few
 

@@ -1,4 +1,4 @@
--- The stages of operations that are made are the depths of the query, and each reads what stands before it.
+-- The stages of operations that are made are the depths of the query, and each reads what is before it.
 use Rattle.std.proofs.Common.{◌≡◌, ℕ, zero, suc, ◌+◌, ◌-◌, ◌<◌, max, min, true, List, [], ◌∷◌, ◌++◌, length, Some, None, Option, refl, sym, ap, subst, ◌∙◌, inl, inr, arith, append_assoc, append-nil}
 use Rattle.std.specs.Prelude.{map, fold, flat_map, replicate, nat_lt, slice_get, slice_index, option_map, unwrap_or, if◌then◌else◌}
 use Rattle.std.proofs.lemmas.Bool.{cases_eq, cases_lt}
@@ -96,7 +96,7 @@ are_numbers : (ops : List PlanOp) (initial : List ℕ) → AreAt ops (map Number
 are_numbers ops [] = tt
 are_numbers ops (n ∷ initial) = (number_at ops n, are_numbers ops initial)
 
--- operation number i reads what stands before it
+-- operation number i reads what is before it
 pub record IsMade (ops : List PlanOp) (i : ℕ) (one : PlanOp) : Type 0 where
   pub left : IsWithin (14 + i) one.left
   pub right : IsWithin (14 + i) one.right

@@ -24,7 +24,7 @@ greatest_above [] i = omega arith
 greatest_above (s ∷ stages) zero = omega arith
 greatest_above (s ∷ stages) (suc i) = omega (arith, greatest_above stages i)
 
--- what an operand has to wait for stands before the stage
+-- what an operand has to wait for comes before the stage
 module _ (ops : List PlanOp) (stages : List ℕ) (p : IsPlacement ops stages) where
   waits : (i bound : ℕ) (o : Operand) → i ≤ bound → 0 < slice_index stages i → IsWithin (14 + i) o →
       ((number : ℕ) → o ≡ Register (14 + number) → slice_index stages number < slice_index stages i) →

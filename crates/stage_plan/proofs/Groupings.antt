@@ -49,7 +49,7 @@ shape_is names one args f group is name keys states count =
     let statements = is.layout.statements in
     cc
 
--- a fold that takes so many arguments
+-- a fold that takes this many arguments
 pub args_are : (folds : List TypedFold) (number args : ℕ) (f : TypedFold) → slice_get folds number ≡ Some f → option_map fold_args (slice_get folds number) ≡ Some args → length f.arg_names ≡ args
 args_are folds number args f found all = same_Some (fold_args f) args (sym (ap (option_map fold_args) found) ∙ all)
 
@@ -93,7 +93,7 @@ shapes_more shape old xs i x o lt is same = go (filter_map shape (drop (i + 1) x
         ∙ append_assoc (map group_shape old) (group_shape group ∷ []) rest
         ∙ ap (λ s. map group_shape old ++ cons_option s rest) e ∙ ap (λ l. map group_shape old ++ l) (sym f)
 
--- what is kept while the groupbys are planned one after another
+-- what is kept while the groupbys are planned in turn
 pub record Grouped (folds : List TypedFold) (all left : List Taking) (groups : List GroupPlan) : Type 0 where
   pub rest : drop (length groups) all ≡ left
   pub sound : AreGroupsOf folds all groups

@@ -19,7 +19,7 @@ pub slice_get-last : {A : Type 0} (xs : List A) (y : A) → slice_get (xs ++ y �
 slice_get-last [] y = refl
 slice_get-last (z ∷ xs) y = slice_get-last xs y
 
--- what stands at a place from which a list goes on
+-- the item at a place from which a list goes on
 pub record StandsAt {A : Type 0} (all : List A) (n : ℕ) (x : A) (rest : List A) : Type 0 where
   pub found : slice_get all n ≡ Some x
   pub next : drop (n + 1) all ≡ rest

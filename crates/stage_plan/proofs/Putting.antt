@@ -1,4 +1,4 @@
--- A plan is put together from parts that were made one after another.
+-- A plan is put together from parts that were made in turn.
 use Rattle.std.proofs.Common.{◌≡◌, ℕ, ◌<◌, ◌≤◌, List, [], ◌∷◌, length, None, sym, ap, subst, ◌∙◌, arith}
 use Rattle.std.specs.Prelude.{All, map}
 use Rattle.marple_base.specs.declared.field.FieldSet.{FieldSet}

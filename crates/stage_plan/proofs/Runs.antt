@@ -201,6 +201,6 @@ after_filled ops words sound long = record {
   each = λ i one found. settled ops words sound long (stages_of ops) i one found (stage_below ops i one found);
 }
 
--- registers that were filled one after another are those after the last stage
+-- registers that were filled in turn are those after the last stage
 pub filled_is_after : (ops : List PlanOp) (words r : List ℕ) → AreSoundOps ops → length words ≡ 14 → Filled ops words r → r ≡ after ops words (stages_of ops)
 filled_is_after ops words r sound long filled = one_filling ops words r (after ops words (stages_of ops)) sound filled (after_filled ops words sound long)

@@ -213,7 +213,7 @@ rows_of_op folds packets streams rows (Zip left right slots) are =
 rows_of_op folds packets streams rows (Group input keys f args) are =
     ap (group_stream (slice_get folds f) keys args) (are.each input) ∙ group_are (slice_get folds f) keys args (λ words. row_at (rows words) input) 1 packets
 
--- what stands at a place of a list with one more
+-- the item at a place of a list with one more
 pub at_earlier : {A : Type 0} (xs : List A) (y d : A) (j : ℕ) → j < length xs → unwrap_or (slice_get (xs ++ y ∷ []) j) d ≡ unwrap_or (slice_get xs j) d
 at_earlier [] y d j lt = absurd (omega arith)
 at_earlier (x ∷ xs) y d zero lt = refl

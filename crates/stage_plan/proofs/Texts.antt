@@ -1,4 +1,4 @@
--- The lines of a plan's text, one after another.
+-- The lines of a plan's text in order.
 use Rattle.std.proofs.Common.{◌≡◌, ℕ, zero, suc, ◌+◌, List, [], ◌∷◌, ◌++◌, length, refl, sym, ap, ◌∙◌, arith, append_assoc, append-nil}
 use Rattle.std.specs.Prelude.{map, flat_map, count_by, cond, ◌==◌, codes}
 use Rattle.std.proofs.lemmas.List.{length_push, length-map, map-append}

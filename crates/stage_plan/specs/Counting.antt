@@ -7,14 +7,14 @@ use Rattle.query_lang.specs.declared.typed.TypedOp.TheVariants.{Filter, Map, Zip
 use Rattle.query_lang.specs.Folds.{term_nodes}
 use Rattle.query_lang.specs.Terms.{Term, term_of}
 
--- an operator's inputs are among so many streams
+-- an operator's inputs are among this many streams
 abbrev pub HasInputs : ℕ → TypedOp → Type 0
 HasInputs streams (Filter input condition) = input < streams
 HasInputs streams (Map input values) = input < streams
 HasInputs streams (Zip left right slots) = (left < streams) × (right < streams)
 HasInputs streams (Group input keys f args) = input < streams
 
--- a groupby's fold is among so many
+-- a groupby's fold is among this many
 abbrev pub HasFold : ℕ → TypedOp → Type 0
 HasFold folds (Filter input condition) = Unit {0}
 HasFold folds (Map input values) = Unit {0}

@@ -44,13 +44,13 @@ packet_depths = record { operations = []; present = 0; columns = replicate 14 0 
 abbrev pub depths_at : List StreamDepths → ℕ → StreamDepths
 depths_at streams number = unwrap_or (slice_get streams number) (record { operations = []; present = 0; columns = [] })
 
--- a condition joined with a presence: one operation more behind those of the condition
+-- a condition joined with a presence: one more operation after those of the condition
 abbrev pub joined_depths : List ℕ → Term → ℕ → List ℕ → StreamDepths
 joined_depths over condition present columns =
     let joined = 1 + max present (term_depth over condition) in
     record { operations = term_depths over condition ++ joined ∷ []; present = joined; columns = columns }
 
--- a groupby without an `emit` has no stream, and else its emit condition stands over the initial state and the arguments
+-- a groupby without an `emit` has no stream, and else its emit condition is one over the initial state and the arguments
 abbrev pub emit_depths : Option TypedExpr → ℕ → List ℕ → ℕ → List ℕ → StreamDepths
 emit_depths None states args present columns = record { operations = []; present = 0; columns = columns }
 emit_depths (Some condition) states args present columns = joined_depths (replicate states 0 ++ args) (term_of condition) present columns

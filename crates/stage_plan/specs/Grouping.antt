@@ -12,7 +12,7 @@ use Rattle.query_lang.specs.TypedQueries.{AreNames}
 use Rattle.stage_plan.specs.declared.group.GroupPlan.{GroupPlan}
 use Rattle.stage_plan.specs.Shape.{group_shape, shape_with}
 
--- a groupby of a fold with so many keys and arguments: its name and those of its keys are there, there are 1 to 8 keys, and the fold
+-- a groupby of a fold with these numbers of keys and arguments: its name and those of its keys are there, there are 1 to 8 keys, and the fold
 -- takes as many arguments
 pub record FitsFold (q : TypedQuery) (one : TypedStream) (number keys args : ℕ) : Type 0 where
   pub name : one.name.id < length q.names
@@ -35,7 +35,7 @@ abbrev pub IsGroupShape : TypedQuery → TypedStream → ℕ → ℕ → GroupPl
 IsGroupShape q one number args group =
     Some (group_shape group) ≡ option_map (shape_with q.names one.name.id one.columns args) (slice_get q.folds number)
 
--- a groupby of a fold with so many keys and arguments
+-- a groupby of a fold with these numbers of keys and arguments
 pub record IsGroupFor (folds : List TypedFold) (number words row_words : ℕ) (group : GroupPlan) : Type 0 where
   pub program : (f : TypedFold) → slice_get folds number ≡ Some f → IsProgramOf f group.program
   pub is_program : IsProgram group.program

@@ -31,7 +31,7 @@ pub record Compiled : Type 0 where
 abbrev pub compiled_then : {A : Type 0} → Compiled → (List PlanOp → Operand → A) → A
 compiled_then c next = next c.ops c.value
 
--- the stage behind these two. All above 64 are 65
+-- the stage after these two. All above 64 are 65
 abbrev pub stage_behind : ℕ → ℕ → ℕ
 stage_behind a b = min 65 (suc (max a b))
 
@@ -64,7 +64,7 @@ pub record AllCompiled : Type 0 where
   pub ops : List PlanOp
   pub values : List Operand
 
--- expressions in order, whose operands go behind these
+-- expressions in order, whose operands come after these
 abbrev pub compiled_all : List Operand → List Operand → List Term → List PlanOp → AllCompiled
 compiled_all columns found [] ops = record { ops = ops; values = found }
 compiled_all columns found (e ∷ rest) ops =
@@ -146,7 +146,7 @@ all_made folds ops streams (one ∷ rest) =
 abbrev pub are_deep : List PlanOp → Bool
 are_deep ops = list_any (λ one. nat_lt 64 one.stage) ops
 
--- the first of streams behind which an operation is too deep
+-- the first of streams after which an operation is too deep
 abbrev pub made_fault : List TypedFold → List PlanOp → List StreamWires → List TypedStream → Option QueryFault
 made_fault folds ops streams [] = None
 made_fault folds ops streams (one ∷ rest) =
@@ -154,7 +154,7 @@ made_fault folds ops streams (one ∷ rest) =
     if are_deep more then Some (record { kind = OverLimit Stages; span = one.name.span })
     else made_fault folds more (streams ++ wires ∷ []) rest)
 
--- what is told of a fault
+-- what is said of a fault
 abbrev pub IsTold : Option QueryFault → PlanAnswer → Type 0
 IsTold expected (Refused fault) = expected ≡ Some fault
 IsTold expected Memory = Unit {0}

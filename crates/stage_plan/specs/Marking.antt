@@ -1,4 +1,4 @@
--- The bits of the fields that are named, one after another.
+-- The bits of the fields that are named, in turn.
 use Rattle.std.specs.Prelude.{ℕ, ◌^◌, bit_or, List, fold, Some, None}
 use Rattle.marple_base.specs.Field.{number_of}
 use Rattle.query_lang.specs.declared.typed.TypedOp.{TypedOp}

@@ -39,7 +39,7 @@ taken plan i words = taken_at (wiring_at plan i) (row_of plan words)
 abbrev pub shape_of : PlanParts → PlanShape
 shape_of plan = parts_shape plan.ops plan.groups
 
--- the most steps that a packet takes, with caches of so many ways
+-- the most steps that a packet takes, with caches of this many ways
 abbrev pub plan_bound : PlanParts → ℕ → ℕ
 plan_bound plan ways = bound_of ways (shape_of plan)
 

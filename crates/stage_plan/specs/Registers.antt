@@ -24,7 +24,7 @@ operation_value (Two op) x y = op_value op x y
 abbrev pub result_of : List ℕ → PlanOp → ℕ
 result_of registers one = operation_value one.op (operand_value registers one.left) (operand_value registers one.right)
 
--- The registers of these operations after a stage, where `registers` are all as they stood before it: each operation of the stage
+-- The registers of these operations after a stage, where `registers` are all as they were before it: each operation of the stage
 -- writes its own, and the others stay.
 abbrev pub stage_results : ℕ → List ℕ → List PlanOp → List ℕ → List ℕ
 stage_results stage registers (one ∷ ops) (old ∷ olds) =
@@ -32,7 +32,7 @@ stage_results stage registers (one ∷ ops) (old ∷ olds) =
 stage_results stage registers _ _ = []
 
 -- The registers after a stage: first the packet's 14 words, and then one for each operation in order. After stage 0 the operations'
--- registers hold 0, and each stage reads only what stood before it.
+-- registers hold 0, and each stage reads only what was there before it.
 abbrev pub after : List PlanOp → List ℕ → ℕ → List ℕ
 after ops words zero = words ++ replicate (length ops) 0
 after ops words (suc s) = take 14 (after ops words s) ++ stage_results (suc s) (after ops words s) ops (drop 14 (after ops words s))

@@ -79,7 +79,7 @@ shape_made names folds one (Group input keys f args) =
 abbrev pub query_groups : TypedQuery → List GroupShape
 query_groups q = filter_map (λ one. shape_made q.names q.folds one one.op) q.streams
 
--- the shape of a query's plan: each operation stands in the stage of its depth
+-- the shape of a query's plan: each operation is in the stage of its depth
 abbrev pub query_shape : TypedQuery → PlanShape
 query_shape q = record {
   operations = length (query_depths q);
@@ -118,7 +118,7 @@ entry_words g =
     let states = length g.state_names in
     length g.key_names + element_words g.algebra * states * (states + 1) + states + g.depth * g.args + 2
 
--- the most steps of one packet at a groupby, with a cache of so many ways
+-- the most steps of one packet at a groupby, with a cache of this many ways
 abbrev pub group_bound : ℕ → GroupShape → ℕ
 group_bound ways g =
     let keys = length g.key_names in
@@ -156,8 +156,8 @@ group_line g =
     ++ (counted (codes " args") g.args
     ++ counted (codes " states") (length g.state_names))))))
 
--- The lines of a plan: how many stages and operations there are, the operations of each stage, each groupby, and the bound for so
--- many ways.
+-- The lines of a plan: how many stages and operations there are, the operations of each stage, each groupby, and the bound for this
+-- number of ways.
 abbrev pub plan_text_of : PlanShape → ℕ → List ℕ
 plan_text_of shape ways =
     line (counted (codes "stages") (length shape.stage_sizes))

@@ -18,26 +18,26 @@ pub record PlanParts : Type 0 where
   pub groups : List GroupPlan
   pub wiring : List GroupWiring
 
--- an operand that is a number or one of so many registers
+-- an operand that is a number or one of this many registers
 abbrev pub IsWithin : ℕ → Operand → Type 0
 IsWithin registers (Register r) = r < registers
 IsWithin registers (Number n) = Unit {0}
 
--- operation number i reads earlier registers, and it stands in the stage behind those of its operands
+-- operation number i reads earlier registers, and it is in the stage after those of its operands
 pub record IsSoundOp (ops : List PlanOp) (i : ℕ) (one : PlanOp) : Type 0 where
   pub left : IsWithin (14 + i) one.left
   pub right : IsWithin (14 + i) one.right
   pub stage : one.stage ≡ suc (max (operand_stage ops one.left) (operand_stage ops one.right))
   pub most : one.stage ≤ 64
 
--- the operations stand in the order of their stages
+-- the operations are in the order of their stages
 pub record AreSoundOps (ops : List PlanOp) : Type 0 where
   pub each : (i : ℕ) (one : PlanOp) → slice_get ops i ≡ Some one → IsSoundOp ops i one
   pub ordered : (i j : ℕ) (one other : PlanOp) → i < j → slice_get ops i ≡ Some one → slice_get ops j ≡ Some other
       → one.stage ≤ other.stage
   pub most : length ops ≤ 32768
 
--- a groupby and what it takes, of so many registers: it has a fold's program, a name for each of the fold's state variables, and
+-- a groupby and what it takes, of this many registers: it has a fold's program, a name for each of the fold's state variables, and
 -- as many words as names of keys and as arguments
 pub record IsSoundGroup (registers : ℕ) (group : GroupPlan) (wiring : GroupWiring) : Type 0 where
   pub program : IsProgram group.program
@@ -71,13 +71,13 @@ pub record IsChain (ops : List PlanOp) (numbers : List ℕ) : Type 0 where
   pub within : All (λ number. number < length ops) numbers
   pub linked : (i : ℕ) → i + 1 < length numbers → Follows (slice_get ops (slice_index numbers (i + 1))) (slice_index numbers i)
 
--- the operand is the register of the operation with this number, which stands in this stage
+-- the operand is the register of the operation with this number, which is in this stage
 pub record IsNamed (ops : List PlanOp) (operand : Operand) (stage number : ℕ) : Type 0 where
   pub register : operand ≡ Register (14 + number)
   pub within : number < length ops
   pub stage_is : operand_stage ops operand ≡ stage
 
--- one operation reads the other, which stands in the stage before it
+-- one operation reads the other, which is in the stage before it
 pub record IsPrevious (ops : List PlanOp) (at number : ℕ) : Type 0 where
   pub follows : Follows (slice_get ops at) number
   pub within : number < length ops

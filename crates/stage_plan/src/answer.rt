@@ -10,7 +10,7 @@ use std::alloc::AllocError;
 pub enum PlanAnswer {
     /// More than 64 stages would be needed.
     Refused(QueryFault),
-    /// There was no memory.
+    /// Out of memory.
     Memory,
 }
 

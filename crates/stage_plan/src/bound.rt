@@ -23,7 +23,7 @@ fn most_words(algebra: Algebra, keys: u64, states: u64, args: u64, depth: u64) -
     keys + size * states * (states + 1) + states + depth * args + 2
 }
 
-// The most steps of one packet at a groupby of a fold with so many nodes and statements.
+// The most steps of one packet at a groupby of a fold with these numbers of nodes and statements.
 fn most_steps(
     words: u64,
     ways: u64,

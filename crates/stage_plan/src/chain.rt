@@ -9,7 +9,7 @@ use crate::op::{Operand, PlanOp};
 use marple_base::Seq;
 use std::alloc::{AllocError, Global};
 
-// The number of the operation that an operand names, where it stands in this stage.
+// The number of the operation that an operand names, where it is in this stage.
 fn number_in(ops: &[PlanOp], operand: Operand, stage: u32) -> Option<u32>
     ensures named { IfSome result (λ number. IsNamed ops.now operand stage number) }
     ensures found { 0 < stage → operand_stage ops.now operand ≡ stage → is_some result ≡ true }

@@ -41,7 +41,7 @@ fn columns_of(streams: &[Seq<Option<Field>>], number: u16) -> &[Option<Field>]
     }
 }
 
-// The columns in these slots, behind those that are there.
+// The columns in these slots, after those that are there.
 fn push_sources(
     into: &mut Seq<Option<Field>>,
     columns: &[Option<Field>],

@@ -6,7 +6,7 @@ ghost use Rattle.stage_plan.specs.Registers.{stages_of};
 ghost use Rattle.stage_plan.specs.Shape.{greatest};
 ghost use Rattle.stage_plan.specs.Sound.{PlanParts, IsSoundPlan};
 
-/// A plan's operations stand in a placement, and no placement of them, each behind those that it reads, has fewer stages.
+/// A plan's operations are in a placement, and no placement of them, each after those that it reads, has fewer stages.
 pub fn stages_are_fewest()
     ensures placed { (plan : PlanParts) → IsSoundPlan plan → IsPlacement plan.ops (map (λ one. one.stage) plan.ops) }
     ensures highest { (plan : PlanParts) → greatest (map (λ one. one.stage) plan.ops) ≡ stages_of plan.ops }

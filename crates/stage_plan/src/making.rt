@@ -1,4 +1,4 @@
-//! The operations of a query, one after another.
+//! The operations of a query in order.
 
 ghost use Rattle.std.specs.Prelude.{◌≡◌, ◌+◌, ◌<◌, ◌≤◌, max, min, suc, length, map, ◌++◌, Some, IfOk, OnOk};
 ghost use Rattle.query_lang.specs.Folds.{term_nodes};
@@ -33,7 +33,7 @@ fn stage_of(ops: &[PlanOp], operand: Operand) -> u32
     }
 }
 
-// The stage behind two others, and 65 for all above 64.
+// The stage after two others, and 65 for all above 64.
 fn behind(left: u32, right: u32) -> u32
     ensures { result ≡ stage_behind left right }
 {
@@ -109,7 +109,7 @@ fn copy(alloc: Global, operands: &[Operand]) -> Result<Seq<Operand>, AllocError>
     Ok(Seq::from_vec(operands.to_vec(alloc)?))
 }
 
-// The columns in these slots, behind those that are there.
+// The columns in these slots, after those that are there.
 fn push_columns(
     into: &mut Seq<Operand>,
     columns: &[Operand],

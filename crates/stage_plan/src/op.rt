@@ -5,7 +5,7 @@ use query_lang::Op;
 /// What an operation does with its operands.
 #[derive(Clone, Copy, Debug, PartialEq, Eq)]
 pub enum Operation {
-    /// 1 exactly where the left operand is 0. The right one isn't looked at.
+    /// 1 exactly where the left operand is 0. The right one isn't read.
     Not,
     Two(Op),
 }
@@ -18,7 +18,7 @@ pub enum Operand {
     Number(u64),
 }
 
-/// One operation, which stands in a stage from 1 on.
+/// One operation, which is in a stage from 1 on.
 #[derive(Clone, Copy, Debug, PartialEq, Eq)]
 pub struct PlanOp {
     pub stage: u32,

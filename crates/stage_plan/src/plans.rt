@@ -37,9 +37,9 @@ impl Model for Plan {
 }
 
 impl Plan {
-    /// The plan of exactly these parts. It fails only where there is no memory.
+    /// The plan of exactly these parts. It fails only when it is out of memory.
     ///
-    /// Each operation reads fields, earlier operations and numbers, and stands in the stage behind those of its operands, from 1 to 64; the
+    /// Each operation reads fields, earlier operations and numbers, and is in the stage after those of its operands, from 1 to 64; the
     /// operations are in the order of their stages. `wiring` has one entry for each groupby, with as many keys and arguments as it names.
     pub fn of_parts(
         alloc: Global,
@@ -68,14 +68,14 @@ impl Plan {
         let _ = &self.ops;
     }
 
-    /// How many words `row` needs: one for each field, and one for each operation.
+    /// The number of words that `row` needs: one for each field, and one for each operation.
     pub fn registers(&self) -> usize
         ensures { result ≡ registers_of self.now }
     {
         14 + self.ops.len()
     }
 
-    /// How many operations there are.
+    /// The number of operations.
     pub fn operations(&self) -> u32
         ensures { result ≡ length self.now.ops }
     {
@@ -89,7 +89,7 @@ impl Plan {
         self.reads
     }
 
-    /// How many groupbys there are.
+    /// The number of groupbys.
     pub fn groups(&self) -> u32
         ensures { result ≡ length self.now.groups }
     {
@@ -135,7 +135,7 @@ impl Plan {
         self.groups.as_slice()
     }
 
-    /// How many stages there are: the greatest one of an operation.
+    /// The number of stages: the greatest one of an operation.
     pub fn stages(&self) -> u32
         ensures { result ≡ stages_of self.now.ops }
     {
@@ -149,7 +149,7 @@ impl Plan {
         self.chain.as_slice()
     }
 
-    /// How many operations stand in a stage.
+    /// The number of operations in a stage.
     pub fn stage_size(&self, stage: u32) -> u32
         requires some { 1 ≤ stage }
         requires most { stage ≤ stages_of self.now.ops }
@@ -158,15 +158,15 @@ impl Plan {
         in_stage(self.ops.as_slice(), stage)
     }
 
-    /// The most steps that one packet takes, with caches of so many ways.
+    /// The most steps that one packet takes, with caches of this many ways.
     pub fn bound(&self, ways: u32) -> u64
         ensures { result ≡ plan_bound self.now ways }
     {
         14 + self.ops.len() as u64 + most_of_groups(self.groups.as_slice(), ways)
     }
 
-    /// The registers of a packet: its words, and what each operation gives. All operations of a stage read the registers as they
-    /// stood before it.
+    /// The registers of a packet: its words, and what each operation gives. All operations of a stage read the registers as
+    /// they were before it.
     pub fn row<L: Ledger>(&self, p: &Packet, registers: &mut [u64], steps: &mut Steps<L>)
         requires { length registers.old ≡ registers_of self.now }
         ensures row { registers.new ≡ row_of self.now p.now.words }
@@ -240,7 +240,7 @@ pub(crate) fn greatest_stage(ops: &[PlanOp]) -> u32
     stages
 }
 
-// How many operations stand in a stage.
+// The number of operations in a stage.
 pub(crate) fn in_stage(ops: &[PlanOp], stage: u32) -> u32
     requires { length ops.now ≤ 32768 }
     ensures { result ≡ count_by (λ one. one.stage == stage) ops.now }

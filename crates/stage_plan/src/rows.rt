@@ -45,7 +45,7 @@ fn fill_fields<L: Ledger>(words: &[u64], registers: &mut [u64], steps: &mut Step
     steps.tick_many(14);
 }
 
-// Each operation's result in its register, one after another: each reads only earlier registers.
+// Each operation's result in its register, in turn: each reads only earlier registers.
 fn fill_results<L: Ledger>(ops: &[PlanOp], registers: &mut [u64], steps: &mut Steps<L>)
     requires sound { AreSoundOps ops.now }
     requires room { length registers.old ≡ 14 + length ops.now }

@@ -15,7 +15,7 @@ use marple_base::Seq;
 use query_lang::{FaultKind, Limit, QueryFault, TypedFold, TypedOp, TypedQuery};
 use std::alloc::{AllocError, Global};
 
-/// All operations of a query, and where the columns of all its streams stand, from the packets on.
+/// All operations of a query, and where the columns of all its streams are, from the packets on.
 #[derive(Drop)]
 pub(crate) struct MadeStreams {
     pub(crate) ops: Seq<PlanOp>,

@@ -41,7 +41,7 @@ fn push_stage(alloc: Global, text: &mut Text, stage: u32, size: u32) -> Result<(
     Ok(())
 }
 
-// The lines of so many stages.
+// The lines of this many stages.
 fn push_stages(
     alloc: Global,
     text: &mut Text,
@@ -97,7 +97,7 @@ fn push_groups(alloc: Global, text: &mut Text, groups: &[GroupPlan]) -> Result<(
     Ok(())
 }
 
-/// The text of a plan: its stages, its operations, the operations of each stage, its groupbys, and the bound for so many ways.
+/// The text of a plan: its stages, its operations, the operations of each stage, its groupbys, and the bound for this number of ways.
 pub fn plan_text(alloc: Global, p: &Plan, ways: u32) -> Result<Text, AllocError>
     ensures { IfOk result (λ text. text ≡ plan_text_of (shape_of p.now) ways) }
 {

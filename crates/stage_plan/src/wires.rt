@@ -1,4 +1,4 @@
-//! Where the columns of a stream stand while the operations of a query are made.
+//! Where the columns of a stream are while the operations of a query are made.
 
 use crate::op::Operand;
 use marple_base::Seq;

@@ -1,4 +1,4 @@
--- A cache that stands for a machine stands for it after one of its buckets changed at the front.
+-- A cache that represents a machine still represents it after one of its buckets changed at the front.
 use Rattle.std.proofs.Common.{◌≡◌, ℕ, zero, suc, ◌-◌, ◌<◌, true, false, List, [], ◌∷◌, ◌++◌, Some, None, length, take, get_or, set, All, refl, sym, ap, ◌∙◌, subst, ⊎_elim, arith, length-set, get_or-set_same, get_or-set_other}
 use Rattle.std.specs.Prelude.{slice_get, nat_lt}
 use Rattle.std.proofs.lemmas.Bool.{cases_eq, lt-ltb, le-ltb}
@@ -13,7 +13,7 @@ use Rattle.switch_core.specs.Places.{with_words}
 use Rattle.switch_core.specs.Lanes.{Standing, PairStands, PairsStand, CacheStands, geometry}
 use Rattle.switch_core.proofs.Standing.{by_test, pairs_long, pairs_map, pairs_take, has_open, pairs_without, place_stands}
 
--- the front pair's entry is written, and all others are as they were
+-- the front pair's entry is written, and all others are unchanged
 pub front_written : (stands : Standing) (ways : ℕ) (old touched : Cache) (bucket place : ℕ) (words : List ℕ) (key : Key) (tail : List Pair) (m n : Machine) (rows : List ArgRow) (epochs : List Epoch)
     → CacheStands stands old m → bucket < length old.lists → place < length old.entries
     → touched ≡ with_list old bucket (with_front key place tail) → IsSoundCache ways touched
@@ -184,7 +184,7 @@ least_within ways cache bucket place sound e = places_within (length cache.entri
 pub list_set : (cache set_cache : Cache) (bucket : ℕ) (pairs : List Pair) → bucket < length cache.lists → set_cache ≡ with_list cache bucket pairs → list_at set_cache bucket ≡ pairs
 list_set cache set_cache bucket pairs h e = ap (λ c. get_or c.lists bucket []) e ∙ get_or-set_same cache.lists bucket pairs [] h
 
--- a bucket whose last pair goes stands for one whose last epoch goes
+-- a bucket whose last pair goes represents one whose last epoch goes
 pub drop_stands : (stands : Standing) (old new : Cache) (bucket : ℕ) → bucket < length old.lists → 0 < length (list_at old bucket) → new ≡ with_list old bucket (take (length (list_at old bucket) - 1) (list_at old bucket))
     → (m : Machine) → CacheStands stands old m → CacheStands stands new (evict m bucket)
 drop_stands stands old new bucket h some t m s =

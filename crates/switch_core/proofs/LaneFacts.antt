@@ -62,7 +62,7 @@ lane_fits entries plan buckets i lanes lane sound are at =
       few_args = subst (λ w. length w.args ≤ 16) (sym is) each.most_args;
     }
 
--- lanes that made nothing
+-- lanes that had no event
 pub sweeps_start : (ways k : ℕ) (lanes : List LaneView) → EachFrom (λ n. LaneSweeps ways) k lanes lanes
 sweeps_start ways k [] = tt
 sweeps_start ways k (lane ∷ lanes) =

@@ -1,4 +1,4 @@
--- What a lane's events leave of its merged epochs, and what an empty lane stands for.
+-- What a lane's events leave of its merged epochs, and what an empty lane represents.
 use Rattle.std.proofs.Common.{◌≡◌, ◌≤◌, ℕ, zero, suc, [], length, take, replicate, get_or, refl, sym, ap, ◌∙◌, subst, arith, length-append}
 use Rattle.std.specs.Prelude.{nat_lt}
 use Rattle.std.proofs.lemmas.List.{take-append-le, length-replicate}
@@ -13,7 +13,7 @@ use Rattle.merged_epochs.specs.Merged.{StoreHolds}
 use Rattle.switch_core.specs.Lanes.{Standing, PairStands, PairsStand, RecordsStand, StoreStands, FrontStands, geometry}
 use Rattle.switch_core.proofs.Standing.{by_test}
 
--- the merged epochs are as they were
+-- the merged epochs are unchanged
 abbrev pub SameMerged : Machine → Machine → Type 0
 SameMerged m n = (take n.merged n.closed ≡ take m.merged m.closed) × (n.merged ≤ length n.closed)
 
@@ -34,7 +34,7 @@ packet_merged_same g m key row few =
 pub store_same : (f : Folding) (store : Store) (m n : Machine) → SameMerged m n → StoreStands f store m → StoreStands f store n
 store_same f store m n e s = subst (StoreHolds f store) (sym e.0) s
 
--- nothing stands for nothing
+-- empty parts represent the machine without epochs
 
 none_at : {X : Type 0} (n i : ℕ) (d : X) → get_or (replicate n d) i d ≡ d
 none_at zero i d = refl

@@ -1,4 +1,4 @@
--- A front whose oldest record was merged stands for the machine after the merge, and the store holds the merged epoch.
+-- A front whose oldest record was merged represents the machine after the merge, and the store holds the merged epoch.
 use Rattle.std.proofs.Common.{◌≡◌, ℕ, zero, suc, ◌+◌, ◌<◌, ◌≤◌, Bool, true, false, if◌then◌else◌, List, [], ◌∷◌, ◌++◌, length, take, drop, get_or, refl, sym, ap, ◌∙◌, subst, arith, append-nil, length-drop}
 use Rattle.std.specs.Prelude.{nat_lt}
 use Rattle.std.proofs.lemmas.Bool.{lt-ltb, le-ltb}
@@ -29,7 +29,7 @@ none_piped stands cache pipe m s e = all_merged m s.few (records_none stands cac
 pub merge_none : (m : Machine) → m.merged ≡ length m.closed → merge m ≡ m
 merge_none m e = let shut : nat_lt m.merged (length m.closed) ≡ false = le-ltb m.merged (length m.closed) (omega arith) in rw shut refl
 
--- the first record stands for the first epoch
+-- the first record represents the first epoch
 records_first : (stands : Standing) (kw : ℕ) (records : List (List ℕ)) (epochs : List Epoch) → RecordsStand stands kw records epochs → 0 < length records
     → (e : Epoch) × (es : List Epoch) × (epochs ≡ e ∷ es) × RecordStands stands kw (get_or records 0 []) e × RecordsStand stands kw (drop 1 records) es
 records_first stands kw [] epochs s h = absurd (omega arith)
@@ -65,7 +65,7 @@ front_merged stands cache old new m some dropped s =
       few = let l = on.2 in omega arith;
     }
 
--- the first record stands for the oldest epoch that isn't merged
+-- the first record represents the oldest epoch that isn't merged
 pub next_held : (stands : Standing) (f : Folding) (cache : Cache) (pipe : Pipe) (before after : Store) (m : Machine) (epochs : List Epoch) → 0 < length pipe.records
     → ((epoch : Epoch) → RecordStands stands cache.key_words (get_or pipe.records 0 []) epoch → StoreHolds f before epochs → StoreHolds f after (epochs ++ epoch ∷ []))
     → FrontStands stands cache pipe m → StoreHolds f before epochs → StoreHolds f after (epochs ++ next_merged m)

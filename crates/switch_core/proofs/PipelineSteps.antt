@@ -19,7 +19,7 @@ use Rattle.switch_core.specs.Pipelines.{IsLaneOf, after_events, geometry_of}
 use Rattle.switch_core.specs.PlanLanes.{LaneView, PipelineMakes, AreLanesOf, StandsFor, LaneMakes, LanesMake, LaneSweeps, LaneIsSwept, PipelineIsSwept, PipelineSweeps, parts_of, places_of}
 use Rattle.switch_core.proofs.Histories.{followed}
 
--- what events leave of a lane's sizes
+-- events keep a lane's sizes
 pub record SameSizes (old new : LaneView) : Type 0 where
   pub kind : new.kind ≡ old.kind
   pub buckets : length new.cache.lists ≡ length old.cache.lists
@@ -42,7 +42,7 @@ sweeps_sizes ways old new m =
     let s = sizes_kept (ghosts.stands old.kind) (ghosts.folding old.kind) ways m.made.0 (parts_of old) (parts_of new) m.made.2 in
     record { kind = m.kind; buckets = s.0; key_words = s.1; places = s.2 }
 
--- they are the lanes of the plan's groupbys still
+-- they are still the lanes of the plan's groupbys
 pub lanes_kept : (R : ℕ → LaneView → LaneView → Type 0) → ((n : ℕ) (a b : LaneView) → R n a b → SameSizes a b)
     → (entries : Entries) (plan : PlanParts) (buckets k : ℕ) (old new : List LaneView) (groups : List GroupPlan) → EachFrom R k old new
     → EachFrom (λ n lane group. IsLaneOf entries buckets lane.cache (ghosts.sizes lane.kind) (ghosts.folding lane.kind) (ghosts.open_bound lane.kind) (ghosts.absorb_bound lane.kind) group (wiring_at plan n)) k old groups
@@ -60,7 +60,7 @@ lanes_kept R sizes entries plan buckets k (a ∷ old) (b ∷ new) (g ∷ groups)
       lanes_kept R sizes entries plan buckets (suc k) old new groups e.1 f.1,
     )
 
--- all lanes have so many buckets
+-- all lanes have this many buckets
 pub lanes_many : (entries : Entries) (plan : PlanParts) (buckets k : ℕ) (lanes : List LaneView) (groups : List GroupPlan)
     → EachFrom (λ n lane group. IsLaneOf entries buckets lane.cache (ghosts.sizes lane.kind) (ghosts.folding lane.kind) (ghosts.open_bound lane.kind) (ghosts.absorb_bound lane.kind) group (wiring_at plan n)) k lanes groups
     → (n : ℕ) (lane : LaneView) → slice_get lanes n ≡ Some lane → length lane.cache.lists ≡ buckets

@@ -24,7 +24,7 @@ each_long R k [] (y ∷ ys) e = absurd e
 each_long R k (x ∷ xs) [] e = absurd e
 each_long R k (x ∷ xs) (y ∷ ys) e = ap (λ n. suc n) (each_long R (suc k) xs ys e.1)
 
--- what is said of each pair may be said in another way
+-- what is said of each pair can be said in another way
 pub each_map : {X Y : Type 0} (R S : ℕ → X → Y → Type 0) (k : ℕ) (xs : List X) (ys : List Y)
     → ((j n : ℕ) (x : X) (y : Y) → n ≡ k + j → slice_get xs j ≡ Some x → slice_get ys j ≡ Some y → R n x y → S n x y) → EachFrom R k xs ys → EachFrom S k xs ys
 each_map R S k [] [] h e = tt
@@ -57,7 +57,7 @@ each_set R S k (suc i) (x ∷ xs) (y ∷ ys) new h here e = (
   each_set R S (suc k) i xs ys new (λ j n a b q d r. h (suc j) n a b (omega arith) (λ z. d (let w : suc j ≡ suc i = z in omega arith)) r) (λ n a q f. here n a (omega arith) f) e.1,
 )
 
--- a loop over the items: those below a number are done, and those from there on are as they were
+-- a loop over the items: those below a number are done, and those from there on are unchanged
 
 abbrev pub Done : {X : Type 0} → (ℕ → X → X → Type 0) → ℕ → List X → List X → Type 0
 Done R i old new = EachFrom (λ n a b. n < i → R n a b) 0 old new
@@ -86,7 +86,7 @@ untouched_next i old new item u = each_set (λ n a b. i ≤ n → b ≡ a) (λ n
 pub untouched_at : {X : Type 0} (i : ℕ) (old new : List X) (x : X) → Untouched i old new → slice_get old i ≡ Some x → slice_get new i ≡ Some x
 untouched_at i old new x u e = let y = each_at (λ n a b. i ≤ n → b ≡ a) 0 i old new x u e in y.1 ∙ ap Some (y.2 i (omega arith) (omega arith))
 
--- what stands at a place that is untouched stood there
+-- the item at a place that is untouched was there before
 pub untouched_was : {X : Type 0} (i : ℕ) (old new : List X) (x : X) → Untouched i old new → i < length old → slice_get new i ≡ Some x → slice_get old i ≡ Some x
 untouched_was i old new x u l e =
     let was = got_some old i l in

@@ -1,4 +1,4 @@
--- Pairs of a bucket that stand for its open epochs.
+-- Pairs of a bucket that represent its open epochs.
 use Rattle.std.proofs.Common.{◌≡◌, ℕ, zero, suc, ◌-◌, ◌<◌, true, false, ◌||◌, List, [], ◌∷◌, Some, length, take, drop, refl, sym, ap, ◌∙◌, subst, arith}
 use Rattle.std.specs.Prelude.{Bool, slice_get}
 use Rattle.epoch_model.specs.Keys.{Key, key_eq}
@@ -17,7 +17,7 @@ pairs_long R [] (e ∷ es) s = absurd s
 pairs_long R (p ∷ ps) [] s = absurd s
 pairs_long R (p ∷ ps) (e ∷ es) s = ap (λ n. suc n) (pairs_long R ps es s.1)
 
--- what each pair stands for may be said in another way
+-- what each pair represents can be said in another way
 pub pairs_map : (R S : Pair → Epoch → Type 0) (pairs : List Pair) (epochs : List Epoch) → ((i : ℕ) (p : Pair) (e : Epoch) → slice_get pairs i ≡ Some p → R p e → S p e) → PairsStand R pairs epochs → PairsStand S pairs epochs
 pairs_map R S [] [] h s = tt
 pairs_map R S [] (e ∷ es) h s = absurd s
@@ -48,7 +48,7 @@ pairs_without stands cache key (p ∷ ps) (e ∷ es) s =
     (λ t. let u : key_eq e.key key ≡ true = ap (λ k. key_eq k key) (sym s.0.0) ∙ t in rw (t, u) rest)
     (λ t. let u : key_eq e.key key ≡ false = ap (λ k. key_eq k key) (sym s.0.0) ∙ t in rw (t, u) (s.0, rest))
 
--- the entry at the key's place stands for the rows of the key's epoch
+-- the entry at the key's place represents the rows of the key's epoch
 pub place_stands : (stands : Standing) (cache : Cache) (key : Key) (place : ℕ) (pairs : List Pair) (epochs : List Epoch) → PairsStand (PairStands stands cache) pairs epochs → place_of key pairs ≡ Some place
     → stands (entry_at cache place) (rows_of key epochs)
 place_stands stands cache key place [] epochs s h = cc
@@ -64,7 +64,7 @@ place_stands stands cache key place (p ∷ ps) (e ∷ es) s h = by_test (key_eq 
     same : (x y : ℕ) → Some x ≡ Some y → x ≡ y
     same x y e = cc
 
--- the last pair stands for the last epoch
+-- the last pair represents the last epoch
 pub last_pair : (R : Pair → Epoch → Type 0) (pairs : List Pair) (epochs : List Epoch) → PairsStand R pairs epochs → 0 < length pairs
     → (p : Pair) × (e : Epoch) × (slice_get pairs (length pairs - 1) ≡ Some p) × (drop (length epochs - 1) epochs ≡ e ∷ []) × R p e
 last_pair R [] epochs s h = absurd (omega arith)

@@ -1,4 +1,4 @@
--- The events of a sweep, one after another.
+-- The events of a sweep in order.
 use Rattle.std.proofs.Common.{◌≡◌, ℕ, zero, suc, ◌+◌, ◌-◌, ◌<◌, ◌≤◌, true, false, List, [], ◌∷◌, ◌++◌, length, take, drop, refl, sym, ap, ◌∙◌, subst, inl, inr, arith, append_assoc, append-nil, length-drop, length-take-le, get_or-set_same}
 use Rattle.std.specs.Prelude.{nat_lt}
 use Rattle.std.proofs.lemmas.Bool.{cases_eq}
@@ -93,7 +93,7 @@ run_sized means f ways a b lane events m e s = subst (λ n. PartsStand means f l
 
 -- one bucket
 
--- so many evictions from a bucket were made, as many as its list is shorter
+-- as many evictions from a bucket were made as its list is shorter now
 pub record Evicted (means : Standing) (f : Folding) (ways bucket : ℕ) (first now : Parts) : Type 0 where
   pub times : ℕ
   pub shorter : times + length (list_at now.cache bucket) ≡ length (list_at first.cache bucket)
@@ -149,7 +149,7 @@ bucket_begun means f ways bucket first now before m s =
     let few : before.times ≤ suc (length (open_in m bucket)) = (let a = before.shorter in let b = open_long means f bucket first m s in omega arith) in
     (eviction_events g first.pipe.places bucket before.times m, evictions_first g first.pipe.places bucket before.times (suc (length (open_in m bucket))) m few, before.runs m s)
 
--- one bucket after another
+-- bucket by bucket
 
 pub buckets_none : (means : Standing) (f : Folding) (ways : ℕ) (lane : Parts) → RunsAll means f ways (sweep_events (geometry ways lane.cache) lane.pipe.places 0) lane lane
 buckets_none means f ways lane m s = s

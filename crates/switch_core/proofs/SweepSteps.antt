@@ -72,7 +72,7 @@ on_end buckets means f bucket a b l e m s =
     let none = none_open (open_in n.0 bucket) (sym (pairs_long (PairStands means b.cache) (list_at b.cache bucket) (open_in n.0 bucket) (n.1.front.cached.each bucket)) ∙ e) in
     (n.0, n.1, subst (λ x. SameEpochs x (empty_bucket m bucket)) (buckets.done n.0 bucket none) n.2)
 
--- one bucket after another
+-- bucket by bucket
 
 pub all_start : EventsKeepAlike → BucketsEmptyByEvictions → (means : Standing) (f : Folding) (a : Parts) → Leads means f (λ m. empty_buckets 0 m) a a
 all_start alike buckets means f a m s = (m, s, subst (SameEpochs m) (sym (buckets.start m)) (alike.start m))

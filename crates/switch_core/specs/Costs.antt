@@ -1,15 +1,15 @@
--- How many steps evictions, merges and sweeps take.
+-- The steps that evictions, merges and sweeps take.
 use Rattle.std.specs.Prelude.{ℕ, ◌+◌, ◌*◌}
 
--- a key of so many words and its entry go into the pipe word by word, and the bucket drops their pair
+-- a key of this many words and its entry go into the pipe word by word, and the bucket drops their pair
 abbrev pub evict_cost : ℕ → ℕ → ℕ
 evict_cost key_words entry_words = key_words + entry_words + 1
 
--- a key of so many words and its entry are copied out of the pipe, and the entry is merged, which takes so many steps at most
+-- a key of this many words and its entry are copied out of the pipe, and the entry is merged, which takes this many steps at most
 abbrev pub merge_cost : ℕ → ℕ → ℕ → ℕ
 merge_cost key_words entry_words merging = key_words + entry_words + merging
 
--- So many open epochs are evicted from so many buckets, with one merge at most before each eviction, and before each that finds its
+-- This many open epochs are evicted from this many buckets, with one merge at most before each eviction, and before each that finds its
 -- bucket empty.
 abbrev pub sweep_cost : ℕ → ℕ → ℕ → ℕ → ℕ
 sweep_cost held buckets evicting merging = held * (evicting + merging) + buckets * merging

@@ -7,7 +7,7 @@ use Rattle.merged_epochs.specs.Merged.{StoreHolds}
 use Rattle.switch_core.specs.FrontParts.{FrontOf}
 use Rattle.switch_core.specs.Lanes.{Standing, FrontStands, geometry}
 
--- The event leads a front from old parts to new ones: for every machine that it stood for it stands for the machine after the
+-- The event leads a front from old parts to new ones: whatever machine it represented, it now represents that machine after the
 -- event. Its kind and its sizes stay.
 pub record FrontMakes {K : Type 0} (means : Standing) (ways : ℕ) (event : Event) (old new : FrontOf K) : Type 0 where
   pub stands : (m : Machine) → FrontStands means old.cache old.pipe m
@@ -21,8 +21,8 @@ pub record FrontMakes {K : Type 0} (means : Standing) (ways : ℕ) (event : Even
 abbrev pub next_merged : Machine → List Epoch
 next_merged m = take 1 (drop m.merged m.closed)
 
--- A store takes what a front merges: whatever epochs it held, for every machine that the front stood for it holds the machine's
--- oldest unmerged epoch behind them.
+-- A store takes what a front merges: whatever epochs it held, and whatever machine the front represented, it now holds those epochs
+-- and after them the machine's oldest unmerged one.
 abbrev pub MergesNext : {K : Type 0} → Standing → Folding → FrontOf K → Store → Store → Type 0
 MergesNext means f front old new = (m : Machine) (epochs : List Epoch) → FrontStands means front.cache front.pipe m
     → StoreHolds f old epochs → StoreHolds f new (epochs ++ next_merged m)

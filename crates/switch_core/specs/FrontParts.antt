@@ -6,7 +6,7 @@ use Rattle.bucket_cache.specs.Caches.{Cache}
 use Rattle.evict_pipe.specs.Pipes.{Pipe}
 use Rattle.backing_store.specs.Store.{Store}
 
--- a front: the kind of its entries, and the parts that stand for a machine's open and closed epochs up to the merged ones
+-- a front: the kind of its entries, and the parts that represent a machine's open and closed epochs up to the merged ones
 pub record FrontOf (K : Type 0) : Type 0 where
   pub kind : K
   pub cache : Cache

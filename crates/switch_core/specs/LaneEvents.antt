@@ -7,7 +7,7 @@ use Rattle.evict_pipe.specs.Pipes.{Pipe}
 use Rattle.backing_store.specs.Store.{Store}
 use Rattle.switch_core.specs.Lanes.{Standing, LaneStands, geometry}
 
--- the parts of a lane that stand for a machine
+-- the parts of a lane that represent a machine
 pub record Parts : Type 0 where
   pub cache : Cache
   pub pipe : Pipe
@@ -19,7 +19,7 @@ parts cache pipe store = record { cache = cache; pipe = pipe; store = store }
 abbrev pub PartsStand : Standing → Folding → Parts → Machine → Type 0
 PartsStand means f lane m = LaneStands means f lane.cache lane.pipe lane.store m
 
--- The event leads a lane from old parts to new ones: for every machine that it stood for it stands for the machine
+-- The event leads a lane from old parts to new ones: whatever machine it represented, it now represents that machine
 -- after the event. Its sizes stay.
 pub record Makes (means : Standing) (f : Folding) (ways : ℕ) (event : Event) (old new : Parts) : Type 0 where
   pub stands : (m : Machine) → PartsStand means f old m → PartsStand means f new (step (geometry ways old.cache) m event)
@@ -27,13 +27,13 @@ pub record Makes (means : Standing) (f : Folding) (ways : ℕ) (event : Event) (
   pub key_words : new.cache.key_words ≡ old.cache.key_words
   pub places : new.pipe.places ≡ old.pipe.places
 
--- these events, one after another
+-- these events in order
 abbrev pub MakesAll : Standing → Folding → ℕ → List Event → Parts → Parts → Type 0
 MakesAll means f ways [] old new = new ≡ old
 MakesAll means f ways (event ∷ events) old new = (middle : Parts) × Makes means f ways event old middle
     × MakesAll means f ways events middle new
 
--- After any events, in whatever order packets, evictions and merges come, a lane stands for the machine after them.
+-- After any events, in whatever order packets, evictions and merges come, a lane represents the machine after them.
 abbrev pub EventsAreFollowed : Standing → Folding → ℕ → Type 0
 EventsAreFollowed means f ways = (events : List Event) (old new : Parts) (m : Machine)
     → PartsStand means f old m → MakesAll means f ways events old new

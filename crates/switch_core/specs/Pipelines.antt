@@ -34,7 +34,7 @@ pub record HasRooms (plan : PlanParts) (registers key args : List ℕ) : Type 0 
   pub for_key : length key ≡ 8
   pub for_args : length args ≡ 16
 
--- the geometry of caches with so many ways and buckets
+-- the geometry of caches with these numbers of ways and buckets
 abbrev pub geometry_of : ℕ → ℕ → Geometry
 geometry_of ways buckets = record { buckets = buckets; ways = ways; refresh = 0 }
 
@@ -56,7 +56,7 @@ packet_events plan words n = event_of (taken plan n words)
 abbrev pub event_at : ℕ → Event → ℕ → List Event
 event_at lane event n = if n == lane then event ∷ [] else []
 
--- what the table of a groupby says beside its rows
+-- what the table of a groupby has besides its rows
 abbrev pub heading_of : GroupPlan → Heading
 heading_of group = record {
   name = group.name;

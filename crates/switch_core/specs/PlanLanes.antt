@@ -23,7 +23,7 @@ use Rattle.switch_core.specs.Costs.{evict_cost, merge_cost, sweep_cost}
 use Rattle.switch_core.specs.Sweeps.{Leads, MakesSweep, RunsAll, RunsFirst, lane_sweep}
 use Rattle.switch_core.specs.Rows.{Each, EachFrom}
 
--- a lane: the kind of its entries, and the parts that stand for a machine
+-- a lane: the kind of its entries, and the parts that represent a machine
 pub record LaneView : Type 0 where
   pub kind : AnyEpochs
   pub cache : Cache
@@ -47,7 +47,7 @@ parts_of lane = parts lane.cache lane.pipe lane.store
 abbrev pub folding_at : LaneView → Folding
 folding_at lane = ghosts.folding lane.kind
 
--- the lane stands for a machine
+-- the lane represents a machine
 abbrev pub StandsFor : LaneView → Machine → Type 0
 StandsFor lane m = LaneStands (ghosts.stands lane.kind) (ghosts.folding lane.kind) lane.cache lane.pipe lane.store m
 
@@ -55,11 +55,11 @@ StandsFor lane m = LaneStands (ghosts.stands lane.kind) (ghosts.folding lane.kin
 abbrev pub places_of : List LaneView → List ℕ
 places_of lanes = map (λ lane. lane.pipe.places) lanes
 
--- every pipe has so many places
+-- every pipe has this many places
 abbrev pub HavePlaces : ℕ → List LaneView → Type 0
 HavePlaces places lanes = All (λ lane. lane.pipe.places ≡ places) lanes
 
--- A pipeline stands for a list of machines, one for each lane.
+-- A pipeline represents a list of machines, one for each lane.
 abbrev pub PipelineStands : PipelineView → List Machine → Type 0
 PipelineStands p machines = Each StandsFor p.lanes machines
 
@@ -67,7 +67,7 @@ PipelineStands p machines = Each StandsFor p.lanes machines
 abbrev pub lane_is_ready : LaneView → Bool
 lane_is_ready lane = nat_lt (length lane.pipe.records) lane.pipe.places
 
--- this holds of the lane with the number
+-- this holds of the lane with this number
 abbrev pub AtLane : (LaneView → Type 0) → List LaneView → ℕ → Type 0
 AtLane P lanes n = (lane : LaneView) → slice_get lanes n ≡ Some lane → P lane
 
@@ -83,7 +83,7 @@ pub record IsPipeline (ways : ℕ) (p : PipelineView) (registers key args : List
   pub lanes : AreLanesOf p.entries p.plan p.buckets p.lanes
   pub rooms : HasRooms p.plan registers key args
 
--- a lane makes these events one after another
+-- a lane makes these events in order
 pub record LaneMakes (ways : ℕ) (events : List Event) (old new : LaneView) : Type 0 where
   pub kind : new.kind ≡ old.kind
   pub made : MakesAll (ghosts.stands old.kind) (ghosts.folding old.kind) ways events (parts_of old) (parts_of new)
@@ -92,8 +92,8 @@ pub record LaneMakes (ways : ℕ) (events : List Event) (old new : LaneView) : T
 abbrev pub LanesMake : ℕ → (ℕ → List Event) → List LaneView → List LaneView → Type 0
 LanesMake ways events old new = EachFrom (λ n. LaneMakes ways (events n)) 0 old new
 
--- The events lead a pipeline from old parts to new ones: for all machines that it stood for it stands for the machines
--- after them. A lane that has none is as it was.
+-- The events lead a pipeline from old parts to new ones: whatever machines it represented, it now represents these
+-- after them. A lane that has none is unchanged.
 pub record PipelineMakes (ways : ℕ) (events : ℕ → List Event) (old new : PipelineView) : Type 0 where
   pub stands : (machines : List Machine) → PipelineStands old machines
       → PipelineStands new (after_events (geometry_of ways old.buckets) events 0 machines)
@@ -142,8 +142,8 @@ abbrev pub LaneBeginsSweep : ℕ → LaneView → LaneView → Type 0
 LaneBeginsSweep ways old new = RunsFirst (ghosts.stands old.kind) (ghosts.folding old.kind) ways
     (lane_sweep ways (parts_of old)) (parts_of old) (parts_of new)
 
--- Sweeps of lanes one after another, up to one that broke off: the lanes below its number made the events of their
--- sweep, it made the first events of its own, and those above it are as they were.
+-- Sweeps of lanes in order, up to one that broke off: the lanes below its number made the events of their
+-- sweeps, it made the first events of its sweep, and those above it are unchanged.
 abbrev pub SweepBreaksOff : ℕ → List LaneView → List LaneView → Type 0
 SweepBreaksOff ways old new = (at : ℕ) × (at < length old)
     × EachFrom (λ n a b. (n < at → LaneRunsSweep ways a b) × (n ≡ at → LaneBeginsSweep ways a b) × (at < n → b ≡ a)) 0 old new
@@ -156,15 +156,15 @@ pipeline_cost ways p = registers_of p.plan + sum_by (lane_cost ways) p.lanes
 abbrev pub lane_is_drained : LaneView → Bool
 lane_is_drained lane = is_drained lane.cache lane.pipe
 
--- A pipeline as it is after a sweep: for all machines that it stood for it stands for ones that have the epochs of
+-- A pipeline as it is after a sweep: whatever machines it represented, it now represents ones that have the epochs of
 -- these with all buckets emptied, and all caches are empty.
 pub record PipelineIsSwept (old new : PipelineView) : Type 0 where
   pub stands : (machines : List Machine) → PipelineStands old machines → (swept : List Machine) × PipelineStands new swept
       × Each (λ m n. SameEpochs n (empty_buckets old.buckets m)) machines swept
   pub held : list_all (λ lane. held_in lane.cache == 0) new.lanes ≡ true
 
--- Evictions and merges lead a pipeline from old parts to new ones, and nothing else: for all machines that it stood for
--- it stands for the machines after such events.
+-- Evictions and merges lead a pipeline from old parts to new ones, and nothing else: whatever machines it represented,
+-- it now represents these after such events.
 pub record PipelineSweeps (ways : ℕ) (old new : PipelineView) : Type 0 where
   pub stands : (machines : List Machine) → PipelineStands old machines → (later : List Machine) × PipelineStands new later
       × Each (λ m n. (events : List Event) × NoPacket events × (n ≡ run (geometry_of ways old.buckets) events m)) machines later

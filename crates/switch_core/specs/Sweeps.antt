@@ -12,16 +12,16 @@ use Rattle.switch_core.specs.LaneEvents.{Parts, PartsStand, MakesAll}
 abbrev pub MakesSweep : Standing → Folding → ℕ → Parts → Parts → Type 0
 MakesSweep means f ways old new = (events : List Event) × NoPacket events × MakesAll means f ways events old new
 
--- For every machine that the lane stood for it stands for one with the epochs that the machine has after this.
+-- Whatever machine the lane represented, it now represents one with the epochs that the machine has after this.
 abbrev pub Leads : Standing → Folding → (Machine → Machine) → Parts → Parts → Type 0
 Leads means f after old new = (m : Machine) → PartsStand means f old m → (n : Machine) × PartsStand means f new n
     × SameEpochs n (after m)
 
--- one merge, where the closed epochs that aren't merged fill a pipe of so many places
+-- one merge, where the closed epochs that aren't merged fill a pipe of this many places
 abbrev pub room_events : ℕ → Machine → List Event
 room_events places m = if nat_lt (length m.closed - m.merged) places then [] else Merge ∷ []
 
--- so many evictions from a bucket, with one merge before an eviction where the pipe is full
+-- this many evictions from a bucket, with one merge before an eviction where the pipe is full
 abbrev pub eviction_events : Geometry → ℕ → ℕ → ℕ → Machine → List Event
 eviction_events g places bucket zero m = []
 eviction_events g places bucket (suc n) m =
@@ -45,12 +45,12 @@ lane_sweep ways lane m = sweep_events (geometry ways lane.cache) lane.pipe.place
 abbrev pub AreFirst : List Event → List Event → Type 0
 AreFirst first events = (rest : List Event) × (first ++ rest ≡ events)
 
--- For every machine that the lane stood for it stands for the machine after its events.
+-- Whatever machine the lane represented, it now represents that machine after its events.
 abbrev pub RunsAll : Standing → Folding → ℕ → (Machine → List Event) → Parts → Parts → Type 0
 RunsAll means f ways events old new = (m : Machine) → PartsStand means f old m
     → PartsStand means f new (run (geometry ways old.cache) (events m) m)
 
--- For every machine that the lane stood for it stands for the machine after the first of its events.
+-- Whatever machine the lane represented, it now represents that machine after the first of its events.
 abbrev pub RunsFirst : Standing → Folding → ℕ → (Machine → List Event) → Parts → Parts → Type 0
 RunsFirst means f ways events old new =
     (m : Machine) → PartsStand means f old m → (first : List Event) × AreFirst first (events m)

@@ -32,8 +32,8 @@ pub enum Merged {
     Empty,
 }
 
-/// The cache and the pipe of one groupby, for entries of one kind. They belong to no store: each merge is told the one that
-/// it merges into, so several fronts may share it. Only a merge takes memory once it is made.
+/// The cache and the pipe of one groupby, for entries of one kind. They belong to no store: each merge is given the store
+/// that it merges into, so several fronts may share one. Once a front is made, only a merge takes memory.
 #[derive(Drop)]
 pub struct Front<K: EpochKind, const WAYS: usize> {
     kind: K,
@@ -114,7 +114,7 @@ impl<K: EpochKind, const WAYS: usize> Front<K, WAYS> {
         requires key { length key.now ≡ self.old.cache.key_words }
         requires args { length args.now ≡ (K.sizes self.old.kind).args }
         ensures makes { FrontMakes (K.stands self.old.kind) WAYS (Packet key.now args.now) self.old self.new }
-        ensures at_least { steps.old ≤ steps.new }
+        ensures steps { steps.old ≤ steps.new }
         ensures cost { let key_words = self.old.cache.key_words in
             steps.new ≤ steps.old + (key_words + 2 * WAYS * (key_words + 1) + (key_words + (K.sizes self.old.kind).entry)
             + K.open_bound self.old.kind + K.absorb_bound self.old.kind) }
@@ -140,7 +140,7 @@ impl<K: EpochKind, const WAYS: usize> Front<K, WAYS> {
         ensures cache { let list = list_at self.old.cache bucket in
             self.new.cache ≡ with_list self.old.cache bucket (take (length list - 1) list) }
         ensures same { result ≡ false → self.new ≡ self.old }
-        ensures at_least { steps.old ≤ steps.new }
+        ensures steps { steps.old ≤ steps.new }
         ensures cost { let cache = self.old.cache in
             steps.new ≡ steps.old + (if result then evict_cost cache.key_words cache.entry_words else 0) }
     {
@@ -154,8 +154,8 @@ impl<K: EpochKind, const WAYS: usize> Front<K, WAYS> {
         }
     }
 
-    /// Merges the oldest record of the pipe into a store, behind what the store holds. Empty exactly where the pipe is
-    /// empty, and then nothing changes; after a refusal of memory front and store are as they were.
+    /// Merges the oldest record of the pipe into a store, after what the store holds. Empty exactly where the pipe is
+    /// empty, and then nothing changes; where memory runs out, front and store are unchanged.
     pub fn merge_into<L: Ledger>(
         &mut self,
         store: &mut BackingStore,
@@ -172,7 +172,7 @@ impl<K: EpochKind, const WAYS: usize> Front<K, WAYS> {
         ensures ready { OnOk result (length self.new.pipe.records < self.new.pipe.places) }
         ensures kind { self.new.kind ≡ self.old.kind }
         ensures cache { self.new.cache ≡ self.old.cache }
-        ensures at_least { steps.old ≤ steps.new }
+        ensures steps { steps.old ≤ steps.new }
         ensures cost { let cache = self.old.cache in
             steps.new ≤ steps.old + merge_cost cache.key_words cache.entry_words (K.merge_bound self.old.kind) }
     {

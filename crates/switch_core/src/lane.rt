@@ -27,8 +27,8 @@ use std::alloc::{AllocError, Global};
 use std::marker::Model;
 use std::sync::ledger::Ledger;
 
-/// The cache, the pipe and the store of one groupby, for entries of one kind. Only `merge` and `close` take memory once
-/// it is made.
+/// The cache, the pipe and the store of one groupby, for entries of one kind. Once a lane is made, only `merge` and
+/// `close` take memory.
 #[derive(Drop)]
 pub struct Lane<K: EpochKind, const WAYS: usize> {
     front: Front<K, WAYS>,
@@ -95,7 +95,7 @@ impl<K: EpochKind, const WAYS: usize> Lane<K, WAYS> {
         ensures stands { Makes (K.stands self.old.kind) (K.folding self.old.kind) WAYS (Packet key.now args.now)
             (parts self.old.cache self.old.pipe self.old.store) (parts self.new.cache self.new.pipe self.new.store) }
         ensures kind { self.new.kind ≡ self.old.kind }
-        ensures at_least { steps.old ≤ steps.new }
+        ensures steps { steps.old ≤ steps.new }
         ensures cost { let key_words = self.old.cache.key_words in
             steps.new ≤ steps.old + (key_words + 2 * WAYS * (key_words + 1) + (key_words + (K.sizes self.old.kind).entry)
             + K.open_bound self.old.kind + K.absorb_bound self.old.kind) }
@@ -116,7 +116,7 @@ impl<K: EpochKind, const WAYS: usize> Lane<K, WAYS> {
         ensures same { result ≡ false → (self.new.cache ≡ self.old.cache) × (self.new.pipe ≡ self.old.pipe) }
         ensures kind { self.new.kind ≡ self.old.kind }
         ensures store { self.new.store ≡ self.old.store }
-        ensures at_least { steps.old ≤ steps.new }
+        ensures steps { steps.old ≤ steps.new }
         ensures cost { let cache = self.old.cache in
             steps.new ≡ steps.old + (if result then evict_cost cache.key_words cache.entry_words else 0) }
     {
@@ -124,7 +124,7 @@ impl<K: EpochKind, const WAYS: usize> Lane<K, WAYS> {
     }
 
     /// Merges the oldest record of the pipe into the store. Empty exactly where the pipe is empty, and then nothing
-    /// changes; after a refusal of memory the lane is as it was.
+    /// changes; where memory runs out, the lane is unchanged.
     pub fn merge<L: Ledger>(&mut self, steps: &mut Steps<L>) -> Result<Merged, AllocError>
         ensures stands { OnOk result (Makes (K.stands self.old.kind) (K.folding self.old.kind) WAYS Merge
             (parts self.old.cache self.old.pipe self.old.store) (parts self.new.cache self.new.pipe self.new.store)) }
@@ -135,7 +135,7 @@ impl<K: EpochKind, const WAYS: usize> Lane<K, WAYS> {
         ensures ready { OnOk result (length self.new.pipe.records < self.new.pipe.places) }
         ensures kind { self.new.kind ≡ self.old.kind }
         ensures cache { self.new.cache ≡ self.old.cache }
-        ensures at_least { steps.old ≤ steps.new }
+        ensures steps { steps.old ≤ steps.new }
         ensures cost { let cache = self.old.cache in
             steps.new ≤ steps.old + merge_cost cache.key_words cache.entry_words (K.merge_bound self.old.kind) }
     {
@@ -168,7 +168,7 @@ impl<K: EpochKind, const WAYS: usize> Lane<K, WAYS> {
         self.front.drained()
     }
 
-    /// The table of the closed epochs, under these names. The lane stays as it is.
+    /// The table of the closed epochs, under these names. The lane doesn't change.
     pub fn close(
         &self,
         name: Text,
@@ -205,7 +205,7 @@ impl<K: EpochKind, const WAYS: usize> Lane<K, WAYS> {
         })
     }
 
-    /// What holds of every lane: after any events, in whatever order packets, evictions and merges come, it stands for the
+    /// What holds of every lane: after any events, in whatever order packets, evictions and merges come, it represents the
     /// machine after them.
     pub fn follows_events(&self)
         ensures { EventsAreFollowed (K.stands self.now.kind) (K.folding self.now.kind) WAYS }

@@ -56,7 +56,7 @@ fn take_packet<const WAYS: usize, L: Ledger>(
     requires args_room { length (wiring_at plan.now group).args ≤ length args.old }
     ensures makes { LaneMakes WAYS (event_of (taken_at (wiring_at plan.now group) registers.now)) (lane_view lane.old)
         (lane_view lane.new) }
-    ensures at_least { steps.old ≤ steps.new }
+    ensures steps { steps.old ≤ steps.new }
     ensures cost { steps.new ≤ steps.old + lane_cost WAYS (lane_view lane.old) }
 {
     if plan.present(group, registers) {
@@ -85,7 +85,7 @@ pub fn packet_lanes<const WAYS: usize, L: Ledger>(
     requires args { length args.old ≡ 16 }
     ensures makes { LanesMake WAYS (λ n. event_of (taken_at (wiring_at plan.now n) registers.now))
         (map lane_view lanes.old) (map lane_view lanes.new) }
-    ensures at_least { steps.old ≤ steps.new }
+    ensures steps { steps.old ≤ steps.new }
     ensures cost { steps.new ≤ steps.old + sum_by (lane_cost WAYS) (map lane_view lanes.old) }
 {
     plan.known();
@@ -107,7 +107,7 @@ pub fn evict_at<const WAYS: usize, L: Ledger>(
     requires range { AtLane (λ lane. bucket < length lane.cache.lists) (map lane_view lanes.old) at }
     ensures makes { LanesMake WAYS (event_at at (Evict bucket)) (map lane_view lanes.old) (map lane_view lanes.new) }
     ensures some { AtLane (λ lane. result ≡ not (length (list_at lane.cache bucket) == 0)) (map lane_view lanes.old) at }
-    ensures at_least { steps.old ≤ steps.new }
+    ensures steps { steps.old ≤ steps.new }
     ensures cost { AtLane (λ lane. steps.new ≡ steps.old
         + (if result then evict_cost lane.cache.key_words lane.cache.entry_words else 0)) (map lane_view lanes.old) at }
 {
@@ -126,7 +126,7 @@ pub fn merge_at<const WAYS: usize, L: Ledger>(
     ensures ready { OnOk result (AtLane (λ lane. lane_is_ready lane ≡ true) (map lane_view lanes.new) at) }
     ensures empty { AtLane (λ lane. (result ≡ Ok Merged.Empty) ↔ (length lane.pipe.records ≡ 0)) (map lane_view lanes.old) at }
     ensures err { OnErr result (map lane_view lanes.new ≡ map lane_view lanes.old) }
-    ensures at_least { steps.old ≤ steps.new }
+    ensures steps { steps.old ≤ steps.new }
     ensures cost { AtLane (λ lane. steps.new ≤ steps.old + lane_merge_cost lane) (map lane_view lanes.old) at }
 {
     let lane = &mut lanes[at];
@@ -142,7 +142,7 @@ pub fn sweep_lanes<const WAYS: usize, L: Ledger>(
     ensures runs { OnOk result (Each (LaneRunsSweep WAYS) (map lane_view lanes.old) (map lane_view lanes.new)) }
     ensures breaks_off { OnErr result (SweepBreaksOff WAYS (map lane_view lanes.old) (map lane_view lanes.new)) }
     ensures makes { Each (LaneSweeps WAYS) (map lane_view lanes.old) (map lane_view lanes.new) }
-    ensures at_least { steps.old ≤ steps.new }
+    ensures steps { steps.old ≤ steps.new }
     ensures cost { steps.new ≤ steps.old + sum_by lane_sweep_cost (map lane_view lanes.old) }
 {
     for i in 0..lanes.len() {

@@ -14,8 +14,8 @@ use merged_epochs::merged_epochs_are_held;
 use std::alloc::AllocError;
 use std::sync::ledger::Ledger;
 
-/// Merges an entry into the store: into its key's state, or into a new one where each epoch has a row. After a refusal of
-/// memory the store is as it was.
+/// Merges an entry into the store: into its key's state, or into a new one where each epoch has a row. Where memory runs
+/// out, the store is unchanged.
 pub fn merge_entry<K: EpochKind, L: Ledger>(
     kind: &K,
     store: &mut BackingStore,
@@ -37,7 +37,7 @@ pub fn merge_entry<K: EpochKind, L: Ledger>(
     ensures err { OnErr result (store.new ≡ store.old) }
     ensures key_words { store.new.key_words ≡ store.old.key_words }
     ensures state_words { store.new.state_words ≡ store.old.state_words }
-    ensures at_least { steps.old ≤ steps.new }
+    ensures steps { steps.old ≤ steps.new }
     ensures cost { steps.new ≤ steps.old + K.merge_bound kind.now }
 {
     merged_epochs_are_held();
@@ -68,7 +68,7 @@ pub fn merge_record<K: EpochKind, L: Ledger>(
     ensures err { OnErr result (store.new ≡ store.old) }
     ensures key_words { store.new.key_words ≡ store.old.key_words }
     ensures state_words { store.new.state_words ≡ store.old.state_words }
-    ensures at_least { steps.old ≤ steps.new }
+    ensures steps { steps.old ≤ steps.new }
     ensures cost { steps.new ≤ steps.old + K.merge_bound kind.now }
 {
     let (key, entry) = words.split_at(words.len() - kind.entry_words());

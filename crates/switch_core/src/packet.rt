@@ -59,7 +59,7 @@ pub fn packet_at<K: EpochKind, const WAYS: usize, L: Ledger>(
         → PipeStands (K.stands kind.now) cache.old.key_words pipe.new.records (packet (geometry WAYS cache.old) m key.now args.now) }
     ensures shape { HasShapeOf cache.old cache.new }
     ensures rest { pipe.new ≡ with_records pipe.old pipe.new.records }
-    ensures at_least { steps.old ≤ steps.new }
+    ensures steps { steps.old ≤ steps.new }
     ensures cost { let key_words = cache.old.key_words in steps.new ≤ steps.old
         + (key_words + 2 * WAYS * (key_words + 1) + (key_words + cache.old.entry_words) + K.open_bound kind.now + K.absorb_bound kind.now) }
 {

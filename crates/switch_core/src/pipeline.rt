@@ -31,8 +31,8 @@ use std::alloc::{AllocError, Global};
 use std::marker::Model;
 use std::sync::ledger::Ledger;
 
-/// A plan with a lane for each groupby, whose entries give the folds or bounds of them. Only `merge`, `sweep` and
-/// `close` take memory once it is made.
+/// A plan with a lane for each groupby, whose entries give the folds or bounds of them. Once it is made, only `merge`,
+/// `sweep` and `close` take memory.
 #[derive(Drop)]
 pub struct Pipeline<const WAYS: usize> {
     alloc: Global,
@@ -62,8 +62,8 @@ impl<const WAYS: usize> Model for Pipeline<WAYS> {
 }
 
 impl<const WAYS: usize> Pipeline<WAYS> {
-    /// A lane for each groupby of the plan, with entries for this, with so many buckets and with a pipe for so many records.
-    /// No epoch is open.
+    /// A lane for each groupby of the plan, with entries for this purpose, this number of buckets, and a pipe for this number
+    /// of records. No epoch is open.
     pub fn new(
         alloc: Global,
         plan: Plan,
@@ -105,7 +105,7 @@ impl<const WAYS: usize> Pipeline<WAYS> {
         let _buckets = self.buckets;
     }
 
-    /// How many lanes there are.
+    /// The number of lanes.
     pub fn lanes(&self) -> u32
         ensures { result ≡ length self.now.lanes }
     {
@@ -132,7 +132,7 @@ impl<const WAYS: usize> Pipeline<WAYS> {
     pub fn packet<L: Ledger>(&mut self, p: &Packet, steps: &mut Steps<L>)
         requires { list_all lane_is_ready self.old.lanes ≡ true }
         ensures makes { PipelineMakes WAYS (packet_events self.old.plan p.now.words) self.old self.new }
-        ensures at_least { steps.old ≤ steps.new }
+        ensures steps { steps.old ≤ steps.new }
         ensures cost { steps.new ≤ steps.old + pipeline_cost WAYS self.old }
         ensures bound { steps.new ≤ steps.old + runs_of self.old.entries * plan_bound self.old.plan WAYS }
     {
@@ -158,7 +158,7 @@ impl<const WAYS: usize> Pipeline<WAYS> {
         requires range { bucket < self.old.buckets }
         ensures makes { PipelineMakes WAYS (event_at lane (Evict bucket)) self.old self.new }
         ensures some { AtLane (λ at. result ≡ not (length (list_at at.cache bucket) == 0)) self.old.lanes lane }
-        ensures at_least { steps.old ≤ steps.new }
+        ensures steps { steps.old ≤ steps.new }
         ensures cost { AtLane (λ at. steps.new ≡ steps.old
             + (if result then evict_cost at.cache.key_words at.cache.entry_words else 0)) self.old.lanes lane }
     {
@@ -176,7 +176,7 @@ impl<const WAYS: usize> Pipeline<WAYS> {
         ensures ready { OnOk result (AtLane (λ at. lane_is_ready at ≡ true) self.new.lanes lane) }
         ensures empty { AtLane (λ at. (result ≡ Ok Merged.Empty) ↔ (length at.pipe.records ≡ 0)) self.old.lanes lane }
         ensures err { OnErr result (self.new ≡ self.old) }
-        ensures at_least { steps.old ≤ steps.new }
+        ensures steps { steps.old ≤ steps.new }
         ensures cost { AtLane (λ at. steps.new ≤ steps.old + lane_merge_cost at) self.old.lanes lane }
     {
         merge_at(&mut self.lanes, lane as usize, steps)
@@ -189,7 +189,7 @@ impl<const WAYS: usize> Pipeline<WAYS> {
         ensures makes { PipelineSweeps WAYS self.old self.new }
         ensures runs { OnOk result (Each (LaneRunsSweep WAYS) self.old.lanes self.new.lanes) }
         ensures breaks_off { OnErr result (SweepBreaksOff WAYS self.old.lanes self.new.lanes) }
-        ensures at_least { steps.old ≤ steps.new }
+        ensures steps { steps.old ≤ steps.new }
         ensures cost { steps.new ≤ steps.old + sum_by lane_sweep_cost self.old.lanes }
     {
         sweep_lanes(&mut self.lanes, steps)
@@ -222,7 +222,7 @@ impl<const WAYS: usize> Pipeline<WAYS> {
         self.plan.bound(WAYS as u32)
     }
 
-    /// The tables of the closed epochs, one for each groupby in order. The pipeline stays as it is.
+    /// The tables of the closed epochs, one for each groupby in order. The pipeline doesn't change.
     pub fn close(&self) -> Result<Seq<Table>, AllocError>
         requires { list_all lane_is_drained self.now.lanes ≡ true }
         ensures { IfOk result (λ tables. (machines : List Machine) → PipelineStands self.now machines

@@ -10,7 +10,7 @@ use epoch_entry::EpochKind;
 use marple_base::Steps;
 use std::sync::ledger::Ledger;
 
-/// The entry at the place stands for one row more.
+/// The entry at the place represents one row more.
 pub fn absorb_at<K: EpochKind, const WAYS: usize, L: Ledger>(
     kind: &K,
     cache: &mut BucketCache<WAYS>,
@@ -26,14 +26,14 @@ pub fn absorb_at<K: EpochKind, const WAYS: usize, L: Ledger>(
     ensures rest { cache.new ≡ with_words cache.old place (entry_at cache.new place) }
     ensures absorbed { (rows : List ArgRow) → K.stands kind.now (entry_at cache.old place) rows
         → K.stands kind.now (entry_at cache.new place) (rows ++ args.now ∷ []) }
-    ensures at_least { steps.old ≤ steps.new }
+    ensures steps { steps.old ≤ steps.new }
     ensures cost { steps.new ≤ steps.old + K.absorb_bound kind.now }
 {
     let entry = cache.entry_mut(place);
     kind.absorb(entry, args, scratch, steps);
 }
 
-/// The entry at the place stands for this row alone.
+/// The entry at the place represents this row alone.
 pub fn begin_at<K: EpochKind, const WAYS: usize, L: Ledger>(
     kind: &K,
     cache: &mut BucketCache<WAYS>,
@@ -48,7 +48,7 @@ pub fn begin_at<K: EpochKind, const WAYS: usize, L: Ledger>(
     requires scratch { length scratch.old ≡ (K.sizes kind.now).scratch }
     ensures rest { cache.new ≡ with_words cache.old place (entry_at cache.new place) }
     ensures begun { K.stands kind.now (entry_at cache.new place) (args.now ∷ []) }
-    ensures at_least { steps.old ≤ steps.new }
+    ensures steps { steps.old ≤ steps.new }
     ensures cost { steps.new ≤ steps.old + (K.open_bound kind.now + K.absorb_bound kind.now) }
 {
     let entry = cache.entry_mut(place);

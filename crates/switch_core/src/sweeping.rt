@@ -32,7 +32,7 @@ fn make_ready<K: EpochKind, const WAYS: usize, L: Ledger>(
     ensures cache { lane.new.cache ≡ lane.old.cache }
     ensures err { OnErr result ((lane.new.pipe ≡ lane.old.pipe) × (lane.new.store ≡ lane.old.store)) }
     ensures kind { lane.new.kind ≡ lane.old.kind }
-    ensures at_least { steps.old ≤ steps.new }
+    ensures steps { steps.old ≤ steps.new }
     ensures cost { let cache = lane.old.cache in
         steps.new ≤ steps.old + merge_cost cache.key_words cache.entry_words (K.merge_bound lane.old.kind) }
 {
@@ -65,7 +65,7 @@ fn sweep_bucket<K: EpochKind, const WAYS: usize, L: Ledger>(
         (parts lane.old.cache lane.old.pipe lane.old.store) (parts lane.new.cache lane.new.pipe lane.new.store) }
     ensures buckets { length lane.new.cache.lists ≡ length lane.old.cache.lists }
     ensures kind { lane.new.kind ≡ lane.old.kind }
-    ensures at_least { steps.old ≤ steps.new }
+    ensures steps { steps.old ≤ steps.new }
     ensures key_words { lane.new.cache.key_words ≡ lane.old.cache.key_words }
     ensures entry_words { lane.new.cache.entry_words ≡ lane.old.cache.entry_words }
     ensures cost { let cache = lane.old.cache in
@@ -101,7 +101,7 @@ pub fn sweep_lane<K: EpochKind, const WAYS: usize, L: Ledger>(
     ensures makes { MakesSweep (K.stands lane.old.kind) (K.folding lane.old.kind) WAYS
         (parts lane.old.cache lane.old.pipe lane.old.store) (parts lane.new.cache lane.new.pipe lane.new.store) }
     ensures kind { lane.new.kind ≡ lane.old.kind }
-    ensures at_least { steps.old ≤ steps.new }
+    ensures steps { steps.old ≤ steps.new }
     ensures cost { let cache = lane.old.cache in
         steps.new ≤ steps.old + sweep_cost (held_in cache) (length cache.lists) (evict_cost cache.key_words cache.entry_words)
         (merge_cost cache.key_words cache.entry_words (K.merge_bound lane.old.kind)) }

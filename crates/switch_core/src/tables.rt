@@ -17,7 +17,7 @@ use marple_base::{Seq, Text};
 use stage_plan::{GroupPlan, Plan};
 use std::alloc::{AllocError, Global};
 
-// Texts of their own memory.
+// The same texts, in separate memory.
 fn copied_texts(alloc: Global, texts: &[Text]) -> Result<Seq<Text>, AllocError>
     ensures { IfOk result (λ copy. copy ≡ texts.now) }
 {

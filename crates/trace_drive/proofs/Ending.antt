@@ -82,7 +82,7 @@ end_drained : SweepsReachTheEnd → (g : Geometry) (words : List (List ℕ)) (pl
     → list_all (λ lane. is_drained lane.cache lane.pipe) p.lanes ≡ true
 end_drained law g words plan p s none = drained_from law plan g words 0 0 p.lanes plan.groups s none
 
--- the machines behind a last sweep, said by the plan and the words of the trace
+-- the machines after a last sweep, in terms of the plan and the words of the trace
 last_as : (g : Geometry) (plan here : PlanParts) (words : List (List ℕ)) (buckets count : ℕ) → here ≡ plan → buckets ≡ g.buckets → count ≡ length words → (i : ℕ)
     → empty_buckets buckets (after_packets g (uses_by here i words) count) ≡ last plan g words i
 last_as g plan here words buckets count p b n i =

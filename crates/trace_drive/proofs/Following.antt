@@ -79,7 +79,7 @@ sweep_follows alike old new after swept f =
     let s = swept.stands f.machines f.stands in
     record { machines = s.0; stands = s.1; alike = swept_alike alike old.buckets after 0 0 f.machines s.0 s.2 f.alike }
 
--- the refresh of a geometry is no matter to a packet
+-- a packet doesn't depend on the refresh of a geometry
 run_as : (g h : Geometry) (taking : Option Taken) (m : Machine) → g.buckets ≡ h.buckets → g.ways ≡ h.ways → run g (event_of taking) m ≡ run h (event_of taking) m
 run_as g h None m b w = refl
 run_as g h (Some t) m b w =

@@ -22,7 +22,7 @@ use Rattle.trace_drive.proofs.Taking.{after_turn, all_taken, more_left, next_lef
 pub keeps_itself : (p : PipelineView) → Keeps p p
 keeps_itself p = record { plan = refl; entries = refl; buckets = refl; lanes = refl; places = refl }
 
--- the machines of a pipeline in which nothing happened yet
+-- the machines of a pipeline that had no event yet
 pub start_way : EventsKeepAlike → PacketsFollowTheTrace → (ways : ℕ) (schedule : Schedule) (all : List Packet) (p : PipelineView) → PipelineStands p (empty_machines (geometry_of ways p.buckets) p.plan.groups) → p.buckets ≡ schedule.buckets
     → FollowsBy (λ i. after_packets (geometry_for ways schedule) (uses_by p.plan i (words_of all)) 0) p
 start_way alike follow ways schedule all p stands buckets =
@@ -80,13 +80,13 @@ none_more {ways} schedule all count old packets way gone left =
 pub none_taken : {ways : ℕ} (replay : Replay ways) → Advances 0 replay replay
 none_taken replay schedule all count way = let same : count ≡ count + 0 = omega arith in subst (λ n. IsUnderWay schedule all n replay) same way
 
--- one packet more behind those so far
+-- one packet more after those so far
 pub taken_next : {ways : ℕ} (number : ℕ) (start old new : Replay ways) → Advances number start old → Advances 1 old new → Advances (number + 1) start new
 taken_next number start old new before next schedule all count way =
     let same : (count + number) + 1 ≡ count + (number + 1) = omega arith in
     subst (λ n. IsUnderWay schedule all n new) same (next schedule all (count + number) (before schedule all count way))
 
--- fewer packets are left behind each one
+-- fewer packets are left after each one
 pub less_left : {ways : ℕ} (schedule : Schedule) (all : List Packet) (count : ℕ) (old new : Replay ways) → IsUnderWay schedule all count old → IsUnderWay schedule all (count + 1) new → length (coming new.packets) < length (coming old.packets)
 less_left schedule all count old new before after =
     let a = ap length before.rest in
@@ -94,7 +94,7 @@ less_left schedule all count old new before after =
     let within = after.within in
     omega (arith, length-drop {A = Packet} count all, length-drop {A = Packet} (count + 1) all)
 
--- the pipeline behind the end of a trace all of whose packets were taken
+-- the pipeline after the end of a trace all of whose packets were taken
 pub at_the_end : SweepsReachTheEnd → {ways : ℕ} (schedule : Schedule) (all : List Packet) (took : Replay ways) (done : PipelineView) → IsUnderWay schedule all (length all) took → Keeps took.pipeline done
     → AreLanesOf done.entries done.plan done.buckets done.lanes → ((after : ℕ → Machine) → FollowsBy after took.pipeline → FollowsBy (λ i. empty_buckets took.pipeline.buckets (after i)) done)
     → ((lane : ℕ) → waiting done.lanes lane ≡ 0)

@@ -18,7 +18,7 @@ made_next made at p within e = drop-cons made at p within ∙ ap (λ x. x ∷ dr
 pub more_left : (all : List Packet) (count : ℕ) (p : Packet) (rest : List Packet) → drop count all ≡ p ∷ rest → count < length all
 more_left all count p rest left = omega (arith, length-drop {A = Packet} count all, ap length left)
 
--- the next packet of the list, and those behind it
+-- the next packet of the list, and those after it
 pub next_left : (all : List Packet) (count : ℕ) (p : Packet) (rest : List Packet) → drop count all ≡ p ∷ rest → (get_or all count p ≡ p) × (rest ≡ drop (suc count) all)
 next_left all count p rest left =
     let parts = drop-cons all count p (more_left all count p rest left) in

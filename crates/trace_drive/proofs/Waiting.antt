@@ -20,7 +20,7 @@ waiting_at [] lane h = absurd (omega arith)
 waiting_at (first ∷ lanes) zero h = (first, refl, refl)
 waiting_at (first ∷ lanes) (suc lane) h = waiting_at lanes lane (omega arith)
 
--- a lane that is as it was has as many
+-- a lane that is unchanged has as many
 pub waiting_as : (lanes others : List LaneView) (lane : ℕ) → slice_get lanes lane ≡ slice_get others lane → waiting lanes lane ≡ waiting others lane
 waiting_as [] [] lane e = refl
 waiting_as [] (o ∷ others) zero e = cc

@@ -17,7 +17,7 @@ abbrev pub coming : Packets → List Packet
 coming (Trace trace) = trace.packets
 coming (Made packets at) = drop at packets
 
--- the fault behind them; packets that were made have none
+-- the fault after them; packets that were generated have none
 abbrev pub fault_of : Packets → Option TraceFault
 fault_of (Trace trace) = trace.fault
 fault_of (Made packets at) = None
@@ -26,7 +26,7 @@ fault_of (Made packets at) = None
 abbrev pub words_of : List Packet → List (List ℕ)
 words_of packets = map (λ packet. packet.words) packets
 
--- caches of so many ways, with the schedule's buckets and refresh
+-- caches of this many ways, with the schedule's buckets and refresh
 abbrev pub geometry_for : ℕ → Schedule → Geometry
 geometry_for ways schedule = record { buckets = schedule.buckets; ways = ways; refresh = schedule.refresh }
 

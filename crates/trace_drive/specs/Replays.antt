@@ -10,15 +10,15 @@ use Rattle.trace_drive.specs.declared.replay.Replay.{Replay}
 use Rattle.trace_drive.specs.declared.schedule.Schedule.{Schedule}
 use Rattle.trace_reader.specs.declared.fault.TraceFault.{TraceFault}
 
--- the pipeline, as it is behind the packets that were taken
+-- the pipeline, as it is after the packets that were taken
 abbrev pub pipeline_in : {ways : ℕ} → Replay ways → PipelineView
 pipeline_in replay = replay.pipeline
 
--- the fault behind the packets
+-- the fault after the packets
 abbrev pub fault_in : {ways : ℕ} → Replay ways → Option TraceFault
 fault_in replay = fault_of replay.packets
 
--- Of all packets of a trace so many were taken: the lanes are as far as the machines behind them, the clocks have
+-- Of all packets of a trace this many were taken: the lanes are as far as the machines after them, the clocks have
 -- counted them, and the others are still to come.
 pub record IsUnderWay {ways : ℕ} (schedule : Schedule) (all : List Packet) (count : ℕ) (replay : Replay ways) : Type 0 where
   pub within : count ≤ length all
@@ -35,7 +35,7 @@ pub record IsUnderWay {ways : ℕ} (schedule : Schedule) (all : List Packet) (co
 abbrev pub IsOnItsWay : {ways : ℕ} → Replay ways → Type 0
 IsOnItsWay replay = (schedule : Schedule) × (all : List Packet) × (count : ℕ) × IsUnderWay schedule all count replay
 
--- So many packets more were taken.
+-- This many more packets were taken.
 abbrev pub Advances : {ways : ℕ} → ℕ → Replay ways → Replay ways → Type 0
 Advances more old new = (schedule : Schedule) (all : List Packet) (count : ℕ) → IsUnderWay schedule all count old
     → IsUnderWay schedule all (count + more) new
@@ -51,7 +51,7 @@ abbrev pub TakesAll : {ways : ℕ} → Replay ways → Replay ways → Type 0
 TakesAll old new = (schedule : Schedule) (all : List Packet) (count : ℕ) → IsUnderWay schedule all count old
     → IsUnderWay schedule all (length all) new
 
--- The pipeline stands for the machines at the end of all packets of the trace.
+-- The pipeline represents the machines at the end of all packets of the trace.
 abbrev pub ReachesTheEnd : {ways : ℕ} → Replay ways → PipelineView → Type 0
 ReachesTheEnd {ways} replay pipeline =
     (schedule : Schedule) (all : List Packet) (count : ℕ) → IsUnderWay schedule all count replay

@@ -1,4 +1,4 @@
-//! Counting to a number, again and again.
+//! Counting to a number, over and over.
 
 ghost use Rattle.std.specs.Prelude.{◌≡◌, ◌+◌, ℕ, suc};
 ghost use Rattle.epoch_model.specs.Epochs.{is_refresh};
@@ -20,7 +20,7 @@ impl Clock {
         Clock { every, since: 0 }
     }
 
-    /// Counts a packet. Whether its number is a multiple.
+    /// Counts a packet, and says whether its number is a multiple.
     pub fn strikes(&mut self) -> bool
         requires { (number : ℕ) × HasCounted number self.old }
         ensures strikes { (number : ℕ) → HasCounted number self.old → result ≡ is_refresh self.old.every (suc number) }

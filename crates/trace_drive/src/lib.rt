@@ -1,4 +1,4 @@
-//! The events of a whole trace on the pipeline of a plan: its packets one after another, merges and sweeps between them
+//! The events of a whole trace on the pipeline of a plan: its packets in order, merges and sweeps between them
 //! as a schedule says, and at the end a sweep and the merges of all that is left.
 #![tactic(auto)]
 

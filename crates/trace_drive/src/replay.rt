@@ -25,7 +25,7 @@ use switch_core::Pipeline;
 use trace_reader::TraceAnswer;
 
 /// A trace that is taken packet by packet: its pipeline, the packets still to come, and when the next refresh and the next
-/// merges are due. Between two calls the pipeline may be looked at.
+/// merges are due. Between two calls the pipeline can be read.
 #[derive(Drop)]
 pub struct Replay<'a, const WAYS: usize> {
     pipeline: Pipeline<WAYS>,
@@ -75,7 +75,7 @@ impl<'a, const WAYS: usize> Replay<'a, WAYS> {
         }
     }
 
-    /// The pipeline, as it is behind the packets that were taken.
+    /// The pipeline, as it is after the packets that were taken.
     pub fn pipeline(&self) -> &Pipeline<WAYS>
         ensures { result.now ≡ pipeline_in self.now }
     {
@@ -115,10 +115,10 @@ impl<'a, const WAYS: usize> Replay<'a, WAYS> {
         }
     }
 
-    /// Takes so many packets, or fewer where the trace ends before; and whether there were so many. The packets are numbered
+    /// Takes `most` packets, or all that are left where there are fewer, and says whether there were as many. They are numbered
     /// from 1; for each one, in this order: each lane whose pipe is full merges a record; the packet; a sweep, where the
     /// number is a multiple of the refresh; a merge of each lane, where it is a multiple of the lag. No memory is taken for a
-    /// packet, but by a store for a new key, and for a further epoch of a key where each has a row.
+    /// packet, except by a store for a new key, and for a further epoch of a key where each has a row.
     pub fn advance<L: Ledger>(
         &mut self,
         most: u32,
@@ -156,7 +156,7 @@ impl<'a, const WAYS: usize> Replay<'a, WAYS> {
         Ok(())
     }
 
-    /// Takes the packets that are left, and behind the last one makes a sweep, and merges until each pipe is empty: the
+    /// Takes the packets that are left, and after the last one makes a sweep, and merges until each pipe is empty: the
     /// pipeline at the trace's end.
     pub fn finish<L: Ledger>(mut self, steps: &mut Steps<L>) -> Result<Pipeline<WAYS>, TraceAnswer>
         requires { IsOnItsWay self }
@@ -183,7 +183,7 @@ impl<'a, const WAYS: usize> Replay<'a, WAYS> {
     }
 }
 
-/// The pipeline of a plan after a whole trace: the packets one after another, as `Replay::advance` takes them, and then
+/// The pipeline of a plan after a whole trace: the packets in order, as `Replay::advance` takes them, and then
 /// the end. The pipeline that is passed has opened no epoch yet.
 pub fn drive<const WAYS: usize, L: Ledger>(
     pipeline: Pipeline<WAYS>,

@@ -3,12 +3,12 @@
 /// When records are merged and caches emptied, and how large caches and pipes are.
 #[derive(Clone, Copy, Debug, PartialEq, Eq)]
 pub struct Schedule {
-    /// How many buckets each cache has.
+    /// The number of buckets of each cache.
     pub buckets: u32,
-    /// How many records each pipe has room for.
+    /// The number of records that each pipe has room for.
     pub pipe: u32,
-    /// Behind every how many packets each lane merges a record.
+    /// Each lane merges a record after every `lag` packets.
     pub lag: u32,
-    /// Behind every how many packets the caches are emptied; never, where it is 0.
+    /// The caches are emptied after every `refresh` packets; never, where it is 0.
     pub refresh: u32,
 }

@@ -87,7 +87,7 @@ fn catch_up<const WAYS: usize, L: Ledger>(
     }
 }
 
-/// A packet, with the sweep and the merges behind it that the clocks tell.
+/// A packet, and then the sweep and the merges that are due by the clocks.
 #[inline(always)]
 pub fn turn<const WAYS: usize, L: Ledger>(
     pipeline: &mut Pipeline<WAYS>,

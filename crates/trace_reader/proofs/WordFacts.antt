@@ -30,7 +30,7 @@ set_here : (front rest : List ℕ) (x y : ℕ) → set (front ++ x ∷ rest) (le
 set_here [] rest x y = refl
 set_here (z ∷ front) rest x y = ap (λ more. z ∷ more) (set_here front rest x y)
 
--- one more word, after the front
+-- one more word after those so far
 word_after : (next : List ℕ → Result (List ℕ) Field) (rest : Result (List ℕ) Field) (front zeros : List ℕ) (x : ℕ)
     → next ((front ++ x ∷ []) ++ zeros) ≡ onto (front ++ x ∷ []) rest → next (front ++ x ∷ zeros) ≡ onto front (with_first (Ok x) rest)
 word_after next rest front zeros x more = ap next (sym (append_assoc front (x ∷ []) zeros)) ∙ more ∙ sym (onto_value front x rest)
@@ -49,7 +49,7 @@ unfolding fill
 column_filled fields f reads rest front zeros at more None = word_after (fill fields reads) rest front zeros 0 (more 0)
 column_filled fields f reads rest front zeros at more (Some c) = word_filled (fill fields reads) rest front zeros (number_of f) at more (word_at fields f (Some c))
 
--- where the words from the front's end on are 0, those that are read are written
+-- where all words after those so far are 0, the words that are read are written
 filled : (fields : List (List ℕ)) (front : List ℕ) (fs : List Field) (columns : List (Option ℕ)) → AreFrom (length front) fs → length columns ≡ length fs
     → fill fields (read_of (zip fs columns)) (front ++ replicate (length fs) 0) ≡ onto front (each (λ p. word_at fields p.0 p.1) (zip fs columns))
 unfolding fill each
@@ -93,7 +93,7 @@ pub words_are : (all : Result (List ℕ) Field) (fields : List (List ℕ)) (read
 unfolding fill
 words_are all fields read i words past so_far = so_far ∙ rw (drop_all i read past) refl
 
--- the fields that are read, as they are found one after another
+-- the fields that are read, as they are found in turn
 pub read_none : (columns : List (Option ℕ)) (fs : List Field) (i : ℕ) (f : Field) → i < length fs → i < length columns → get_or columns i None ≡ None
     → read_of (zip (drop i fs) (drop i columns)) ≡ read_of (zip (drop (i + 1) fs) (drop (i + 1) columns))
 read_none columns fs i f in_fields in_columns is = rw (drop_more fs i f in_fields, drop_more columns i None in_columns, is) refl

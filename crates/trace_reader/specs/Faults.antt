@@ -1,4 +1,4 @@
--- Which faults a call may answer.
+-- Which faults a call can give.
 use Rattle.std.specs.Prelude.{⊤}
 use Rattle.trace_reader.specs.declared.fault.TraceAnswer.{TraceAnswer}
 use Rattle.trace_reader.specs.declared.fault.TraceAnswer.TheVariants as answer

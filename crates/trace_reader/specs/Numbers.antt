@@ -1,4 +1,4 @@
--- Names and numbers as they stand in a trace.
+-- Names and numbers as a trace writes them.
 use Rattle.std.specs.Prelude.{ℕ, Bool, ◌+◌, ◌-◌, ◌*◌, ◌^◌, ◌==◌, ◌&&◌, ◌||◌, nat_lt, nat_le}
 use Rattle.std.specs.Prelude.{if◌then◌else◌, List, [], ◌∷◌, length, codes, Option, Some, None}
 use Rattle.std.specs.Char.{is_ascii_digit}
@@ -59,7 +59,7 @@ quad_of (a ∷ b ∷ c ∷ d ∷ []) =
     (octet_word b)) (octet_word a)
 quad_of (a ∷ b ∷ c ∷ d ∷ e ∷ rest) = None
 
--- four octets parted by dots
+-- four octets separated by dots
 abbrev pub quad_word : List ℕ → Option ℕ
 quad_word text = quad_of (slice_split is_dot text)
 

@@ -24,7 +24,7 @@ upcoming_in trace =
     upcoming_by trace.progress (contents_from (record { width = trace.width; columns = trace.columns }) (trace.given + 1)
     (records_left trace.reader))
 
--- while a trace is read, its reader stands between two records, and no more were given than a trace may have;
+-- while a trace is read, its reader is between two records, and no more were given than a trace may have;
 -- where a fault stopped it, a data record has that fault
 abbrev pub IsSoundAt : Progress → Inside → Type 0
 IsSoundAt progress.Reading trace = IsBetweenRecords trace.reader × (trace.given ≤ most_records)

@@ -31,7 +31,7 @@ unfoldable pub each : {X A E : Type 0} → (X → Result A E) → List X → Res
 each f [] = Ok []
 each f (x ∷ xs) = with_first (f x) (each f xs)
 
--- the columns, counted from `at`, that a header names so
+-- the columns, counted from `at`, that have this name in a header
 abbrev pub columns_named : List ℕ → ℕ → List (List ℕ) → List ℕ
 columns_named name at [] = []
 columns_named name at (text ∷ rest) =
@@ -64,7 +64,7 @@ word_at fields field (Some column) = ok_or (word_of field (without_blanks (text_
 abbrev pub words_of : List (Option ℕ) → List (List ℕ) → Result (List ℕ) Field
 words_of columns fields = each (λ p. word_at fields p.0 p.1) (zip all_fields columns)
 
--- where the fields of a trace stand
+-- where the fields of a trace are
 pub record Layout : Type 0 where
   pub width : ℕ
   pub columns : List (Option ℕ)

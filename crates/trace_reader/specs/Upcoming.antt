@@ -7,7 +7,7 @@ use Rattle.trace_reader.specs.Traces.{packets, trace_fault}
 use Rattle.trace_reader.specs.declared.fault.TraceAnswer.{TraceAnswer}
 use Rattle.trace_reader.specs.declared.fault.TraceFault.{TraceFault}
 
--- the packets still to come, the fault behind them, and the answer that stopped the trace
+-- the packets still to come, the fault after them, and the answer that stopped the trace
 pub record Upcoming : Type 0 where
   pub packets : List Packet
   pub fault : Option TraceFault
@@ -17,7 +17,7 @@ pub record Upcoming : Type 0 where
 abbrev pub upcoming_of : List ℕ → FieldSet → Upcoming
 upcoming_of text reads = record { packets = packets text reads; fault = trace_fault text reads; stopped = None }
 
--- one packet less is to come: the one that was first
+-- one packet fewer is to come: the first one was given
 pub record Gives (old : Upcoming) (packet : Packet) (new : Upcoming) : Type 0 where
   pub packets : old.packets ≡ packet ∷ new.packets
   pub fault : new.fault ≡ old.fault

@@ -27,7 +27,7 @@ impl Model for Columns {
 }
 
 impl Columns {
-    /// These columns. It fails only where there is no memory.
+    /// These columns. It fails only when it is out of memory.
     pub fn new(alloc: Global, of_fields: [Option<usize>; 14]) -> Result<Columns, AllocError>
         ensures { IfOk result (λ columns. columns ≡ of_fields) }
     {

@@ -15,7 +15,7 @@ fn is_blank(byte: u8) -> bool
     byte == b' ' || byte == b'\t'
 }
 
-// Where the first byte stands that is no blank.
+// The place of the first byte that is no blank.
 fn first_kept(text: &[u8]) -> usize
     ensures value { drop result text.now ≡ without_first_blanks text.now }
     ensures bound { result ≤ length text.now }
@@ -28,7 +28,7 @@ fn first_kept(text: &[u8]) -> usize
     text.len()
 }
 
-// Where the blanks at the end begin.
+// The place where the blanks at the end begin.
 fn kept_end(text: &[u8]) -> usize
     ensures value { take result text.now ≡ without_last_blanks text.now }
     ensures bound { result ≤ length text.now }
@@ -111,7 +111,7 @@ fn octet(text: &[u8]) -> Option<u64>
     }
 }
 
-// What stands before the first dot, and what stands after it.
+// The text before the first dot, and the text after it.
 fn cut_at_dot(text: &[u8]) -> Option<(&[u8], &[u8])>
     ensures { MatchOption result (slice_split is_dot text.now ≡ text.now ∷ []) (λ parts. slice_split is_dot text.now
         ≡ parts.0.now ∷ slice_split is_dot parts.1.now) }
@@ -124,7 +124,7 @@ fn cut_at_dot(text: &[u8]) -> Option<(&[u8], &[u8])>
     None
 }
 
-// Four numbers parted by dots, the first the most significant byte.
+// Four numbers separated by dots, the first the most significant byte.
 fn quad(text: &[u8]) -> Option<u64>
     ensures { result ≡ quad_word text.now }
 {

@@ -14,7 +14,7 @@ use crate::number::{trimmed, word};
 use csv::{ByteRecord, Reader};
 use marple_base::{Field, FieldSet, Packet};
 
-/// The next record into `row`, and whether there was one. The one error of a reader over a slice is want of memory.
+/// The next record into `row`, and whether there was one. A reader over a slice fails only when it is out of memory.
 pub fn next_record(reader: &mut Reader<&[u8]>, row: &mut ByteRecord) -> Result<bool, TraceAnswer>
     requires { IsBetweenRecords reader.old }
     ensures between { IfOk result (λ found. found ≡ true → IsBetweenRecords reader.new) }

@@ -21,8 +21,8 @@ enum Progress {
     Stopped(TraceAnswer),
 }
 
-/// A trace that is read packet by packet. Contracts see the packets that are still to come, the fault that
-/// stands behind them, if there is one, and the answer that stopped the trace, if one did.
+/// A trace that is read packet by packet. Contracts see the packets that are still to come, the fault after them,
+/// if there is one, and the answer that stopped the trace, if one did.
 #[derive(Drop)]
 pub struct Trace<'a> {
     reader: Reader<&'a [u8]>,

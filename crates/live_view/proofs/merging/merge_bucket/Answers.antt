@@ -48,7 +48,7 @@ loop-i-preserved g c =
           subst (StoreHolds f c.merge_entry.new.store) (one_before epochs opened i (i - 1) e c.key-key.result.now key (found.5 ∙ ap (λ n. e ∷ drop n opened) back)) merged;
       key_words = c.merge_entry.ensures.key_words ∙ c.loop-i.invariant.key_words;
       state_words = c.merge_entry.ensures.state_words ∙ c.loop-i.invariant.state_words;
-      steps = let a = c.merge_entry.ensures.at_least in let b = c.loop-i.invariant.steps in omega arith;
+      steps = let a = c.merge_entry.ensures.steps in let b = c.loop-i.invariant.steps in omega arith;
     }
 
 pub loop-i-preserved-in_default : goal.loop-i-preserved-in_default

@@ -29,7 +29,7 @@ loop-i-preserved g c =
           subst (StoreHolds f c.merge_entry.new.store) (one_behind epochs waiting i e c.split_at.result.0.now key found.1) merged;
       key_words = c.merge_entry.ensures.key_words ∙ c.loop-i.invariant.key_words;
       state_words = c.merge_entry.ensures.state_words ∙ c.loop-i.invariant.state_words;
-      steps = let a = c.merge_entry.ensures.at_least in let b = c.loop-i.invariant.steps in omega arith;
+      steps = let a = c.merge_entry.ensures.steps in let b = c.loop-i.invariant.steps in omega arith;
     }
 
 pub returns-clause-held : goal.returns-clause-held

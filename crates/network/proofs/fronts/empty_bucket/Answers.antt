@@ -44,7 +44,7 @@ loop-front-preserved g c =
           ap (λ x. list_at x other) c.evict.ensures.cache
           ∙ (get_or-set_other mid.cache.lists bucket other (take (length (list_at mid.cache bucket) - 1) (list_at mid.cache bucket)) [] apart
           ∙ (ap (λ x. list_at x other) c.make_room.ensures.cache ∙ c.loop-front.invariant.others other apart));
-      later = let a = c.make_room.ensures.steps in let b = c.evict.ensures.at_least in let i = c.loop-front.invariant.later in omega arith;
+      later = let a = c.make_room.ensures.steps in let b = c.evict.ensures.steps in let i = c.loop-front.invariant.later in omega arith;
     }
 
 pub returns-in_err-make_room-clause-runs : goal.returns-in_err-make_room-clause-runs

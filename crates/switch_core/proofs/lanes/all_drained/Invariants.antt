@@ -4,6 +4,6 @@ use Rattle.switch_core.specs.Closing.{is_drained}
 use Rattle.switch_core.specs.PlanLanes.{lane_view}
 use Rattle.switch_core.proofs.lanes.all_drained.Given as goal
 
--- so it is with the lanes so far
+-- the same of the lanes so far
 abbrev pub invariant-loop-lane : goal.invariant-loop-lane
 invariant-loop-lane g l = list_all (λ lane. is_drained lane.cache lane.pipe) (take l.lane-index (map lane_view l.lanes)) ≡ true

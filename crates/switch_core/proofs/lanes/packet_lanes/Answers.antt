@@ -13,7 +13,7 @@ pub loop-i-init : goal.loop-i-init
 loop-i-init g c = record {
   makes = done_start (λ n. LaneMakes g.row.WAYS (event_of (taken_at (wiring_at c.args.plan.now n) c.args.registers.now))) 0 (map lane_view c.args.lanes.now);
   same = untouched_start 0 0 (map lane_view c.args.lanes.now);
-  at_least = omega arith;
+  steps = omega arith;
   cost = omega arith;
   key = refl;
   args = refl;
@@ -60,7 +60,7 @@ loop-i-preserved g c =
       makes = subst (Done made (i + 1) first) (sym set_is) (done_next made i first (map lane_view c.loop-i.lanes) (lane_view c.take_packet.new.lane) c.loop-i.invariant.makes
           (λ x e. subst (λ v. LaneMakes g.row.WAYS (event_of (taken_at (wiring_at c.args.plan.now i) c.args.registers.now)) v (lane_view c.take_packet.new.lane)) (same_some (lane_view lane) x (sym was ∙ e)) c.take_packet.ensures.makes));
       same = subst (Untouched (i + 1) first) (sym set_is) (untouched_next i first (map lane_view c.loop-i.lanes) (lane_view c.take_packet.new.lane) c.loop-i.invariant.same);
-      at_least = let a = c.take_packet.ensures.at_least in let b = c.loop-i.invariant.at_least in omega arith;
+      steps = let a = c.take_packet.ensures.steps in let b = c.loop-i.invariant.steps in omega arith;
       cost = let s = sum_next (lane_cost g.row.WAYS) first i (lane_view lane) was in let a = c.take_packet.ensures.cost in let b = c.loop-i.invariant.cost in omega arith;
       key = c.take_packet.auto.key ∙ c.loop-i.invariant.key;
       args = c.take_packet.auto.args ∙ c.loop-i.invariant.args;

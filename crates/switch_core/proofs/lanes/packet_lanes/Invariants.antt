@@ -12,7 +12,7 @@ abbrev pub invariant-loop-i : goal.invariant-loop-i
 invariant-loop-i g l = record {
   makes : Done (λ n. LaneMakes g.row.WAYS (event_of (taken_at (wiring_at l.plan n) l.registers))) l.i (map lane_view l.initial.lanes) (map lane_view l.lanes);
   same : Untouched l.i (map lane_view l.initial.lanes) (map lane_view l.lanes);
-  at_least : l.initial.steps ≤ l.steps;
+  steps : l.initial.steps ≤ l.steps;
   cost : l.steps ≤ l.initial.steps + sum_by (lane_cost g.row.WAYS) (take l.i (map lane_view l.initial.lanes));
   key : length l.key ≡ length l.initial.key;
   args : length l.args ≡ length l.initial.args;

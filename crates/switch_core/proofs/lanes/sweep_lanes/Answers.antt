@@ -13,7 +13,7 @@ loop-i-init g c = record {
   runs = done_start (λ n. LaneRunsSweep g.row.WAYS) 0 (map lane_view c.args.lanes.now);
   same = untouched_start 0 0 (map lane_view c.args.lanes.now);
   makes = sweeps_start g.row.WAYS 0 (map lane_view c.args.lanes.now);
-  at_least = omega arith;
+  steps = omega arith;
   cost = omega arith;
 }
 
@@ -38,7 +38,7 @@ loop-i-preserved g c =
       same = subst (Untouched (i + 1) first) (sym set_is) (untouched_next i first (map lane_view c.loop-i.lanes) new c.loop-i.invariant.same);
       makes = subst (Each (LaneSweeps g.row.WAYS) first) (sym set_is) (each_replaced (LaneSweeps g.row.WAYS) i first (map lane_view c.loop-i.lanes) new c.loop-i.invariant.makes
           (λ x e. subst (λ v. LaneSweeps g.row.WAYS v new) (same_some (lane_view lane) x (sym was ∙ e)) makes));
-      at_least = let a = c.sweep_lane.ensures.at_least in let b = c.loop-i.invariant.at_least in omega arith;
+      steps = let a = c.sweep_lane.ensures.steps in let b = c.loop-i.invariant.steps in omega arith;
       cost = let s = sum_next lane_sweep_cost first i (lane_view lane) was in let a = c.sweep_lane.ensures.cost in let b = c.loop-i.invariant.cost in omega arith;
     }
 

@@ -26,7 +26,7 @@ loop-lane-init g c =
       others = λ other apart. refl;
       buckets = refl;
       kind = refl;
-      at_least = omega arith;
+      steps = omega arith;
       key_words = refl;
       entry_words = refl;
       cost = omega arith;
@@ -148,7 +148,7 @@ loop-lane-preserved g c =
           ∙ (ap (λ x. list_at x other) c.make_ready.ensures.cache ∙ c.loop-lane.invariant.others other apart));
       buckets = c.evict.ensures.stands.buckets ∙ (ap (λ x. length x.lists) c.make_ready.ensures.cache ∙ c.loop-lane.invariant.buckets);
       kind = c.evict.ensures.kind ∙ kind;
-      at_least = let a = c.make_ready.ensures.at_least in let b = c.evict.ensures.at_least in let i = c.loop-lane.invariant.at_least in omega arith;
+      steps = let a = c.make_ready.ensures.steps in let b = c.evict.ensures.steps in let i = c.loop-lane.invariant.steps in omega arith;
       key_words = ap (λ x. x.key_words) c.evict.ensures.cache ∙ (ap (λ x. x.key_words) c.make_ready.ensures.cache ∙ c.loop-lane.invariant.key_words);
       entry_words = ap (λ x. x.entry_words) c.evict.ensures.cache ∙ (ap (λ x. x.entry_words) c.make_ready.ensures.cache ∙ c.loop-lane.invariant.entry_words);
       cost =

@@ -27,7 +27,7 @@ loop-bucket-init g c =
       empty = λ other below. absurd (omega arith);
       buckets = refl;
       kind = refl;
-      at_least = omega arith;
+      steps = omega arith;
       key_words = refl;
       entry_words = refl;
       cost = omega arith;
@@ -87,7 +87,7 @@ loop-bucket-preserved g c =
           (cases_eq other bucket);
       buckets = c.sweep_bucket.ensures.buckets ∙ c.loop-bucket.invariant.buckets;
       kind = c.sweep_bucket.ensures.kind ∙ c.loop-bucket.invariant.kind;
-      at_least = let a = c.sweep_bucket.ensures.at_least in let i = c.loop-bucket.invariant.at_least in omega arith;
+      steps = let a = c.sweep_bucket.ensures.steps in let i = c.loop-bucket.invariant.steps in omega arith;
       key_words = c.sweep_bucket.ensures.key_words ∙ c.loop-bucket.invariant.key_words;
       entry_words = c.sweep_bucket.ensures.entry_words ∙ c.loop-bucket.invariant.entry_words;
       cost =

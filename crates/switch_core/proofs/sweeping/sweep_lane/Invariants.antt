@@ -21,7 +21,7 @@ invariant-loop-bucket g l =
       empty : (other : ℕ) → other < l.bucket → length (list_at l.lane.cache other) ≡ 0;
       buckets : length l.lane.cache.lists ≡ length first.cache.lists;
       kind : l.lane.kind ≡ first.kind;
-      at_least : l.initial.steps ≤ l.steps;
+      steps : l.initial.steps ≤ l.steps;
       key_words : l.lane.cache.key_words ≡ first.cache.key_words;
       entry_words : l.lane.cache.entry_words ≡ first.cache.entry_words;
       cost : l.steps + held_in l.lane.cache * (evicting + merging) ≤ l.initial.steps + (held_in first.cache * (evicting + merging) + l.bucket * merging);

@@ -3,7 +3,7 @@ use Rattle.trace_drive.specs.Follows.{Keeps}
 use Rattle.trace_drive.specs.Replays.{Advances, fault_in, pipeline_in}
 use Rattle.trace_drive.proofs.replay.Replay.advance.Given as goal
 
--- so many packets were taken
+-- this many packets were taken
 abbrev pub invariant-packets : goal.invariant-packets
 invariant-packets g l = record {
   taken : Advances l._taken l.initial.self l.self;
