@@ -1,4 +1,4 @@
--- The streams of packets of words are of words.
+-- Streams over packets of words consist of words.
 use Rattle.std.proofs.Common.{ℕ, zero, suc, List, [], ◌∷◌, ◌++◌, Option, Some, None, length, get_or, map, slice_index, Bool, true, false, not}
 use Rattle.std.specs.Prelude.{IfSome, fold, option_map, ◌==◌, if◌then◌else◌}
 use Rattle.std.specs.List.{All, cons_option, filter, filter_map, find, slice_get}
@@ -43,7 +43,7 @@ packets_words number [] h = All-nil HasWords
 packets_words number (row ∷ packets) h =
     All-cons HasWords (record { packet = number; row = row }) (numbered (suc number) packets) (All-head AreWords row packets h) (packets_words (suc number) packets (All-tail AreWords row packets h))
 
--- what operators make
+-- the results of operators
 
 found_words : (p : Tuple → Bool) (given : List Tuple) → HaveWords given → IfSome (find p given) HasWords
 found_words p [] h = tt
@@ -97,7 +97,7 @@ streams_words names folds before (one ∷ rest) made valid h =
     streams_words names folds (before ++ one ∷ []) rest (made ++ next ∷ []) valid.1
     (All-push HaveWords made next h (made_words folds before (length one.columns) made one.op valid.0.operator h))
 
--- The argument rows that a groupby takes are of words.
+-- The argument rows that a groupby takes consist of words.
 pub uses_words : (q : TypedQuery) (i : ℕ) (packets : List (List ℕ)) → IsValidQuery q → All AreWords packets → All (λ (u : Use). AreWords u.row) (uses q i packets)
 uses_words q i packets valid h = by_taking (slice_get (takings q.streams) i)
   where

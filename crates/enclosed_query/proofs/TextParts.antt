@@ -24,7 +24,7 @@ use Rattle.enclosed_query.specs.EnclosedTables.{all_texts, enclose_text, enclose
 use Rattle.enclosed_query.specs.Parts.{IsWholeIfThere, bounds_shown, text_at}
 use Rattle.enclosed_query.specs.Reading.{IsWhole}
 
--- the text of the table with this number, of what is shown of groupbys and other tables behind
+-- the text of the table with this number, by what is shown of groupbys and other tables after these
 
 abbrev text_in : List Enclosed → List Table → ℕ → List ℕ
 text_in groups rest n = unwrap_or (slice_get (map shown_text groups ++ map table_text rest) n) []
@@ -35,7 +35,7 @@ parts_at (Linear t ∷ groups) rest zero = refl
 parts_at (Bounds t ∷ groups) rest zero = refl
 parts_at (one ∷ groups) rest (suc n) = parts_at groups rest n
 
--- finals leave the tables before them as they are
+-- finals leave the tables before them unchanged
 
 others_behind : (names : List (List ℕ)) (folds : List TypedFold) (tables : List Table) (finals : List TypedFinal) → (rest : List Table) × (with_finals names folds tables finals ≡ tables ++ rest)
 others_behind names folds tables [] = ([], sym (append-nil tables))
@@ -72,7 +72,7 @@ module _ (q : TypedQuery) (groups : List Enclosed) where
   prints_are : flat_map (λ one. text_at (map bounds_shown groups) all_tables (table_number (length (takings q.streams)) one)) q.prints ≡ enclosed_print q groups
   prints_are = all_prints q.prints
 
--- by the parts of what is shown, and the finals behind
+-- by the parts of what is shown, and the finals after them
 pub texts_are : (q : TypedQuery) (groups : List Enclosed) (count : ℕ) (bounds : List (Option BoundsTable)) (read tables : List Table) (prints : List PrintOf)
     → count ≡ length groups → map table_shape (map table_read groups) ≡ map (group_shape q.folds) (takings q.streams) → bounds ≡ map bounds_shown groups → read ≡ map table_read groups
     → tables ≡ with_finals q.names q.folds read q.finals → prints ≡ q.prints

@@ -44,7 +44,7 @@ enclosed_tables q g packets = enclosed_from q g packets 0 (query_groups q)
 abbrev pub AreWhole : List (List ℕ) → Type 0
 AreWhole packets = All (λ words. length words ≡ 14) packets
 
--- the pipeline is that of a valid query's plan, and it stands for the machines of its groupbys at the end of these packets
+-- the pipeline is that of a valid query's plan, and it represents the machines of its groupbys at the end of these packets
 pub record EndsAt (q : TypedQuery) (g : Geometry) (packets : List (List ℕ)) (pipeline : PipelineView) : Type 0 where
   pub valid : IsValidQuery q
   pub plan : IsPlanOf q pipeline.plan
@@ -52,7 +52,7 @@ pub record EndsAt (q : TypedQuery) (g : Geometry) (packets : List (List ℕ)) (p
   pub whole : AreWhole packets
   pub stands : PipelineStands pipeline (end_machines pipeline.plan g packets)
 
--- What finals read in the place of what is shown of a groupby: of a table of bounds the rows whose bounds are equal.
+-- What finals read instead of what is shown of a groupby: of a table of bounds the rows whose bounds are equal.
 abbrev pub table_read : Enclosed → Table
 table_read (enclosed.Linear t) = t
 table_read (enclosed.Bounds t) = exact_table t

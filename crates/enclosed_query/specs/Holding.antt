@@ -1,4 +1,4 @@
--- What is shown of groupbys holds over all packets, whatever the caches evicted on the way.
+-- What is shown of groupbys holds over all packets, whatever the caches evicted meanwhile.
 use Rattle.std.specs.Prelude.{◌≡◌, ℕ, List, All, map, slice_get, Some, None}
 use Rattle.query_lang.specs.declared.fold.TypedFold.{TypedFold}
 use Rattle.query_lang.specs.declared.typed.TypedQuery.{TypedQuery}

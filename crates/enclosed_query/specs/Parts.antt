@@ -1,4 +1,4 @@
--- What is shown of groupbys in two parts: the tables that finals read, and the bounds that are shown in their place.
+-- What is shown of groupbys in two parts: the tables that finals read, and the bounds that are shown instead of them.
 use Rattle.std.specs.Prelude.{ℕ, List, [], slice_get, Option, Some, None, IfSome, option_and_then, option_map, unwrap_or}
 use Rattle.final_queries.specs.declared.table.Table.{Table}
 use Rattle.table_printer.specs.TableText.{table_text}
@@ -20,7 +20,7 @@ bounds_at bounds number = option_and_then (λ one. one) (slice_get bounds number
 abbrev pub IsWholeIfThere : Option BoundsTable → Type 0
 IsWholeIfThere bounds = IfSome bounds IsBoundsTable
 
--- the text of a table, or of the bounds that are shown in its place
+-- the text of a table, or of the bounds that are shown instead of it
 abbrev pub text_shown : Option BoundsTable → Table → List ℕ
 text_shown None t = table_text t
 text_shown (Some bounds) t = bounds_text bounds

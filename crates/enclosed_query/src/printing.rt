@@ -26,7 +26,7 @@ use std::sync::ledger::Ledger;
 use switch_core::Pipeline;
 use table_printer::table_text;
 
-// What is shown of groupbys: the tables that finals read, and the bounds that are shown in the place of some of them.
+// What is shown of groupbys: the tables that finals read, and the bounds that are shown instead of some of them.
 #[derive(Drop)]
 struct Parts {
     bounds: Seq<Option<BoundsTable>>,
@@ -131,7 +131,7 @@ pub fn print_enclosed<L: Ledger>(
     Ok(text)
 }
 
-/// What a query prints, by a drained pipeline whose entries are for bounds. The pipeline stands for the machines of the query's
+/// What a query prints, by a drained pipeline whose entries are for bounds. The pipeline represents the machines of the query's
 /// plan at the end of some packets.
 pub fn enclosed_text<const WAYS: usize, L: Ledger>(
     alloc: Global,

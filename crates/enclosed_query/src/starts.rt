@@ -1,4 +1,4 @@
-//! From what the variables of folds start.
+//! The words that the variables of folds start from.
 
 ghost use Rattle.query_lang.specs.Folds.{initial_state};
 ghost use Rattle.query_lang.specs.Words.{AreWords};
@@ -6,7 +6,7 @@ ghost use Rattle.enclosed_query.specs.Holding.{StartFromWords};
 
 use query_lang::{TypedFold, TypedQuery};
 
-// Words are words.
+// A number of 64 bits is a word.
 fn words_known(words: &[u64])
     ensures { AreWords words.now }
 {

@@ -41,7 +41,7 @@ fn all_shown(alloc: Global, tables: Seq<Table>) -> Result<Seq<Enclosed>, AllocEr
 }
 
 /// What is shown of the groupbys of a drained pipeline whose entries are for bounds, in order: the table of a linear fold,
-/// and the table of bounds of any other fold. The pipeline stands for the machines of a valid query's plan at the end of
+/// and the table of bounds of any other fold. The pipeline represents the machines of a valid query's plan at the end of
 /// some packets.
 pub fn enclosed<const WAYS: usize>(
     alloc: Global,

@@ -30,7 +30,7 @@ stands (y ∷ ys) (suc n) x rest e =
     let on : suc n + 1 ≡ suc (n + 1) = omega arith in
     record { found = later.found; within = omega (arith, later.within); next = ap (λ k. drop k (y ∷ ys)) on ∙ later.next }
 
--- what is known of a stream that is a groupby, with the fold of this number
+-- what is known of a stream that is a groupby, with the fold that has this number
 pub record IsGroupby (q : TypedQuery) (p : PlanParts) (xs : List TypedStream) (i : ℕ) (one : TypedStream) (group number : ℕ) : Type 0 where
   pub within : group < length p.groups
   pub class : (f : TypedFold) (planned : GroupPlan) → slice_get q.folds number ≡ Some f → slice_get p.groups group ≡ Some planned → planned.program.class ≡ class_of f

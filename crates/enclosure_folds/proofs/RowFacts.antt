@@ -55,7 +55,7 @@ all_have_epochs g uses =
     all_of (λ key. 0 < length (epochs g uses key)) (keys_used uses)
     (λ key e. has_epoch g uses key (has_use key uses (sym (has-ascending key (map (λ u. u.key) uses)) ∙ e)))
 
--- a key isn't one that is greater
+-- a key differs from a greater one
 
 or_same : (t : Bool) → (t || (t || false)) ≡ (t || false)
 or_same true = refl

@@ -6,7 +6,7 @@ use Rattle.epoch_model.specs.declared.tables.Row.{Row}
 use Rattle.monotone_folds.specs.States.{IsAtMost}
 use Rattle.epoch_entry.specs.Triples.{first_third, second_third, last_third}
 
--- the last item, and this one where there is none
+-- the last item, or this one if there is none
 abbrev pub last_or : {A : Type 0} → A → List A → A
 last_or d [] = d
 last_or d (x ∷ xs) = last_or x xs

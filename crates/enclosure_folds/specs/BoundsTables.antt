@@ -13,7 +13,7 @@ use Rattle.enclosure_folds.specs.declared.table.BoundsTable.{BoundsTable}
 use Rattle.enclosure_folds.specs.declared.table.BoundsRow.{BoundsRow}
 use Rattle.enclosure_folds.specs.Bounds.{is_exact}
 
--- a row with so many words in its key, and so many in each of its bounds
+-- a row with this many words in its key, and this many in each of its bounds
 pub record HasBounds (keys states : ℕ) (row : BoundsRow) : Type 0 where
   pub key : length row.key ≡ keys
   pub low : length row.low ≡ states

@@ -37,7 +37,7 @@ abbrev pub first_fault : List TypedFold → List TypedStream → Option QueryFau
 first_fault folds [] = None
 first_fault folds (one ∷ streams) = or_else (stream_fault folds one) (first_fault folds streams)
 
--- The fault of a query whose groupbys have no bounds: it stands at the name of the first groupby whose fold is neither linear nor monotone.
+-- The fault of a query whose groupbys have no bounds: it is at the name of the first groupby whose fold is neither linear nor monotone.
 abbrev pub enclose_fault : TypedQuery → Option QueryFault
 enclose_fault q = first_fault q.folds q.streams
 

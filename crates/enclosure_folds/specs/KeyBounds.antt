@@ -94,7 +94,7 @@ abbrev pub epochs_in : TableKind → ℕ
 epochs_in (Group class depth epochs) = epochs
 epochs_in Final = 0
 
--- how many columns stand behind the keys
+-- the number of columns after the keys
 abbrev pub states_in : Table → ℕ
 states_in t = length t.columns - t.keys
 

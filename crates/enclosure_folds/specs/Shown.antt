@@ -17,7 +17,7 @@ use Rattle.enclosure_folds.specs.declared.table.Enclosed.{Enclosed}
 use Rattle.enclosure_folds.specs.declared.table.Enclosed.TheVariants as enclosed
 use Rattle.enclosure_folds.specs.KeyBounds.{HasTriples, table_bounds, enclosed_table}
 
--- a table of a fold that isn't linear has its bounds, and any other table is shown as it is
+-- a table of a fold that isn't linear has its bounds, and any other table is shown unchanged
 abbrev pub shown_by : TableKind → Table → Enclosed
 shown_by (Group class.Other depth epochs) t = enclosed.Bounds (table_bounds t)
 shown_by _ t = enclosed.Linear t

@@ -21,7 +21,7 @@ fn is_same_key(a: &[u64], b: &[u64]) -> bool
     a == b
 }
 
-// Whether the row at a place is there and of this key too.
+// Whether there is a row at a place, and it has this key too.
 fn goes_on(key: &[u64], rows: &Rows, next: usize) -> bool
     ensures { result ≡ goes_on key.now (drop next rows.now) }
 {

@@ -54,8 +54,8 @@ fn fold_fault(folds: &Seq<TypedFold>, name: Name, number: u16, class: Class) -> 
     })
 }
 
-/// Whether bounds can't be had of a query, whose plan this is: the fault stands at the name of the first groupby whose
-/// fold is neither linear nor monotone. It takes no memory.
+/// The fault of a query that has no bounds, by its plan: it is at the name of the first groupby whose fold is neither
+/// linear nor monotone. It takes no memory.
 pub fn enclose_check(q: &TypedQuery, p: &Plan) -> Option<QueryFault>
     requires valid { IsValidQuery q.now }
     requires plan { IsPlanOf q.now p.now }

@@ -11,7 +11,7 @@ pub(crate) fn words_copy(alloc: Global, words: &[u64]) -> Result<Seq<u64>, Alloc
     Ok(Seq::from_vec(Vec::from_slice(alloc, words)?))
 }
 
-// Writes copies of more names behind these.
+// Appends copies of more names to these.
 pub(crate) fn push_copies(
     alloc: Global,
     names: &mut Seq<Text>,

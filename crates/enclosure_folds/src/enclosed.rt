@@ -9,7 +9,7 @@ use final_queries::{Table, TableKind};
 use query_lang::Class;
 use std::alloc::{AllocError, Global};
 
-/// What is shown of a groupby, by its table: that of a linear fold as it is, and a table of bounds in the place of one that
+/// What is shown of a groupby, by its table: that of a linear fold unchanged, and a table of bounds instead of one that
 /// has three states side by side for each epoch.
 pub fn enclosed_of(alloc: Global, table: Table) -> Result<Enclosed, AllocError>
     requires { MayBeShown table }

@@ -19,7 +19,7 @@ fn push_number(text: &mut Text, n: u64) -> Result<(), AllocError>
     text.push_slice(buffer.format(n).as_bytes())
 }
 
-// Writes one more part of a line, behind a comma.
+// Writes one more part of a line, after a comma.
 fn push_next(text: &mut Text, part: &[u8]) -> Result<(), AllocError>
     ensures { OnOk result (text.new ≡ text.old ++ 44 ∷ part.now) }
 {
@@ -120,7 +120,7 @@ fn push_title(text: &mut Text, t: &BoundsTable) -> Result<(), AllocError>
     text.push(b'\n')
 }
 
-// Writes the names of a table's two columns of its own.
+// Writes the names of the two columns that every table of bounds has.
 fn push_own_names(text: &mut Text) -> Result<(), AllocError>
     ensures { OnOk result (text.new ≡ text.old ++ continued (codes "mark" ∷ codes "epochs" ∷ [])) }
 {

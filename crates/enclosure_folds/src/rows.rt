@@ -41,7 +41,7 @@ fn row_copies(alloc: Global, rows: &[BoundsRow]) -> Result<Rows, AllocError>
     Ok(copies)
 }
 
-// Names, and behind them others.
+// Names, followed by others.
 fn all_names(alloc: Global, first: &[Text], others: &[Text]) -> Result<Seq<Text>, AllocError>
     ensures { IfOk result (λ names. names ≡ first.now ++ others.now) }
 {
@@ -50,7 +50,7 @@ fn all_names(alloc: Global, first: &[Text], others: &[Text]) -> Result<Seq<Text>
     Ok(names)
 }
 
-/// The table that finals read in the place of a table of bounds: the rows whose bounds are equal, in order, with these as
+/// The table that finals read instead of a table of bounds: the rows whose bounds are equal, in order, with these as
 /// values and with mark Exact. The other rows are left out.
 pub fn exact_rows(alloc: Global, t: &BoundsTable) -> Result<Table, AllocError>
     requires { IsBoundsTable t.now }

@@ -3,7 +3,7 @@
 use final_queries::Table;
 use marple_base::{Seq, Text};
 
-/// What is shown of a groupby where bounds are asked for: the table of a linear fold is exact as it is.
+/// What is shown of a groupby where bounds are asked for: the table of a linear fold is exact already.
 #[derive(Drop)]
 pub enum Enclosed {
     Linear(Table),

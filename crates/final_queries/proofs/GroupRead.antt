@@ -69,7 +69,7 @@ module _ (h : Key → List Row) (one : (key : Key) → HasOneAtMost key (h key))
         | inr e ↦ subst (λ xs. IsAscending (xs ++ keys_read rest)) (sym e) (all_above key keys order.0, more)
       ])
 
--- the rows of keys with so many words have so many key words, and as many values as states have
+-- the rows of keys with this many words have as many key words, and as many values as states have
 
 all_flat : (P : Row → Type 0) (h : Key → List Row) (keys : List Key) → All (λ key. All P (h key)) keys → All P (flat_map h keys)
 all_flat P h [] all = All-nil P

@@ -43,7 +43,7 @@ one_each f keys args rows (k ∷ ks) =
     ap (λ rs. plain_row k (folded f (initial_state f) (flat_map (λ rs. rs) (lists_of k (row_epochs keys args rows)))) ∷ rs) (one_each f keys args rows ks)
     ∙ ap (λ given. plain_row k (folded f (initial_state f) given) ∷ map (λ key. plain_row key (folded f (initial_state f) (grouped_args keys args rows key))) ks) (args_of keys args rows k)
 
--- the epochs of the rows that are read, with one row more
+-- the epochs of the rows that are read, with one more row
 pub epochs_more : (keys args : List ℕ) (rows : List Row) (at : ℕ) (row : Row) → slice_get rows at ≡ Some row
     → row_epochs keys args (reads (take at rows)) ++ row_epochs keys args (reads (row ∷ [])) ≡ row_epochs keys args (reads (take (at + 1) rows))
 epochs_more keys args rows at row here =

@@ -1,4 +1,4 @@
--- Two tables in the order of their keys, gone through side by side.
+-- Two tables in the order of their keys, walked side by side.
 use Rattle.std.proofs.Common.{◌≡◌, ℕ, zero, suc, ◌+◌, true, false, List, [], ◌∷◌, ◌++◌, map, take, drop, refl, sym, ap, ◌∙◌, subst, add-one, append_assoc}
 use Rattle.std.specs.Prelude.{Option, None, find, option_map}
 use Rattle.std.proofs.lemmas.List.{take-append-drop}
@@ -14,7 +14,7 @@ use Rattle.final_queries.proofs.KeyFacts.{key_cmp-less, less_is, less_apart, not
 abbrev key_of : Row → Key
 key_of row = row.key
 
--- one row more was passed over
+-- one more row was passed over
 pub smaller_more : (key : Key) (rows : List Row) (n : ℕ) (row : Row) (rest : List Row) → drop n rows ≡ row ∷ rest
     → (is_read row.mark ≡ true → is_lt (key_cmp row.key key) ≡ true) → AreSmaller key (take n rows) → AreSmaller key (take (n + 1) rows)
 smaller_more key rows n row rest e h s = rw add-one (by_suc key rows n row rest e h s)
@@ -45,7 +45,7 @@ all_skipped key (row ∷ ls) front rest above s =
     let one = skipped key row.key front rest (λ k e. less_apart k row.key (key_cmp-less k key row.key e above.0)) s in
     rw (one, all_skipped key ls front rest above.1 s) refl
 
--- no row has a key that all have above them
+-- no row has a key that is less than those of all rows
 none_above : (key : Key) (rows : List Row) → AreAbove key (map key_of rows) → find (is_of_key key) rows ≡ None
 none_above key [] above = refl
 none_above key (row ∷ rows) above = rw (key_eq-sym_false key row.key (less_apart key row.key above.0)) (none_above key rows above.1)
@@ -66,7 +66,7 @@ first_joined row ls (other ∷ rest) order least =
     subst (λ xs. joined_rows (row ∷ ls) xs ≡ joined_first row (other ∷ rest) ++ joined_rows ls xs) (sym e)
     (next_joined row other ls rest (reads rest) (subst (λ xs. IsAscending (map key_of xs)) e order) least.1)
 
--- The rows with smaller keys are left behind, and the row is joined with the first of the others.
+-- The rows with smaller keys are passed over, and the row is joined with the first of the others.
 pub joined_on : (row : Row) (ls right front rest : List Row) → right ≡ front ++ rest → IsAscending (map key_of (row ∷ ls)) → IsAscending (map key_of (reads rest))
     → AreSmaller row.key front → StartsAtLeast row.key rest → joined_rows (row ∷ ls) (reads right) ≡ joined_first row rest ++ joined_rows ls (reads rest)
 joined_on row ls right front rest e left order s least =

@@ -30,12 +30,12 @@ key_of row = row.key
 abbrev plain_of : Row → Row
 plain_of row = plain_row row.key row.values
 
--- a row that is read, with so many columns
+-- a row that is read, with this many columns
 record IsMade (keys others : ℕ) (row : Row) : Type 0 where
   columns : HasColumns keys others row
   read : is_read row.mark ≡ true
 
--- rows that are read, with so many columns, in the order of their keys
+-- rows that are read, with this many columns, in the order of their keys
 abbrev AreMade : ℕ → ℕ → List Row → Type 0
 AreMade keys others [] = Unit {0}
 AreMade keys others (row ∷ rows) = IsMade keys others row × AreAbove row.key (map key_of rows) × AreMade keys others rows
@@ -132,7 +132,7 @@ grouped_made ascend keys (Some f) args rows valid =
     states_made (length keys) (fold_states f) (λ key. folded f (initial_state f) (grouped_args keys args rows key)) (ascending given)
     (λ key. states_length f (grouped_args keys args rows key) (valid f refl)) (all_ascending (λ key. length key ≡ length keys) given words) (ascend given).0
 
--- a table that may be read lends such rows
+-- a table that may be read has such rows
 
 lent : (keys others : ℕ) (rows : List Row) → All (HasColumns keys others) rows → All (λ row. is_read row.mark ≡ true) rows → IsAscending (map key_of rows) → AreMade keys others rows
 lent keys others [] all read order = tt

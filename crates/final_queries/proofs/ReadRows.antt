@@ -16,7 +16,7 @@ read_first rows at row here read = ap reads (rows_from rows at row here) ∙ rw 
 pub left_out : (rows : List Row) (at : ℕ) (row : Row) → slice_get rows at ≡ Some row → is_read row.mark ≡ false → reads (drop at rows) ≡ reads (drop (at + 1) rows)
 left_out rows at row here unread = ap reads (rows_from rows at row here) ∙ rw unread refl
 
--- some rows more were made, and those that are left make the rest
+-- some more rows were made, and those that are left make the rest
 pub some_more : {X : Type 0} (whole made after more before rest : List X) → before ≡ more ++ rest → after ≡ made ++ more → made ++ before ≡ whole → after ++ rest ≡ whole
 some_more whole made after more before rest split is so_far =
     ap (λ xs. xs ++ rest) is ∙ (append_assoc made more rest ∙ (ap (λ xs. made ++ xs) (sym split) ∙ so_far))

@@ -51,7 +51,7 @@ enough count long rest kept e l some = let much : kept ≤ count = omega arith i
 too_few : (count front long kept : ℕ) → count ≡ front + (0 + 0) → front ≤ long → long ≡ kept - 1 → 0 < kept → true ≡ nat_lt count kept
 too_few count front long kept e f l some = let less : count < kept = omega arith in grind (arith, nat_tests)
 
--- with the last rank that is kept in its place, few enough go before a rank exactly where it isn't behind that one
+-- with the last rank that is kept in its place, few enough go before a rank exactly if it isn't after that one
 pub split_count : (ranks front back : List Rank) (t q : Rank) (kept : ℕ) → IsPermutation ranks (front ++ t ∷ back) → length front ≡ kept - 1 → 0 < kept
     → ((k : ℕ) (d : Rank) → k < length front → is_before t (get_or front k d) ≡ false) → ((k : ℕ) (d : Rank) → k < length back → is_before (get_or back k d) t ≡ false)
     → not (is_before t q) ≡ nat_lt (count_by (λ o. is_before o q) ranks) kept
@@ -81,7 +81,7 @@ all_kept ranks q kept short =
 abbrev key_of : Row → List ℕ
 key_of row = row.key
 
--- the rows, of which the first has this place, have smaller keys than a row exactly where they stand before its place
+-- the rows, of which the first has this place, have smaller keys than a row exactly if they are before its place
 abbrev AreOrdered : ℕ → List Row → ℕ → Row → Type 0
 AreOrdered at [] place row = Unit {0}
 AreOrdered at (o ∷ rows) place row = (is_read o.mark ≡ true → is_lt (key_cmp o.key row.key) ≡ nat_lt at place) × AreOrdered (suc at) rows place row

@@ -45,7 +45,7 @@ abbrev pub filtered_rows : TypedExpr → List Row → List Row
 filtered_rows condition rows = map (λ row. plain_row row.key row.values)
     (filter (λ row. holds (expr_value condition (columns_of row))) rows)
 
--- `map`: each row with the new values behind its own
+-- `map`: each row with the new values after its old ones
 unfoldable pub mapped_row : List TypedExpr → Row → Row
 mapped_row values row = plain_row row.key (row.values ++ map (λ e. expr_value e (columns_of row)) values)
 
@@ -78,12 +78,12 @@ goes_before column row other =
     nat_lt (column_at column other) (column_at column row)
     || ((column_at column other == column_at column row) && is_lt (key_cmp row.key other.key))
 
--- the rows before which fewer than so many go
+-- the rows that fewer than this many others go before
 abbrev pub top_rows : ℕ → ℕ → List Row → List Row
 top_rows column kept rows =
     map (λ row. plain_row row.key row.values) (filter (λ row. nat_lt (count_by (λ other. goes_before column other row) rows) kept) rows)
 
--- the rows that the table with this number lends to a final
+-- the rows of the table with this number that a final reads
 abbrev pub read_at : List Table → ℕ → List Row
 read_at tables number = unwrap_or (option_map rows_read (slice_get tables number)) []
 
@@ -116,7 +116,7 @@ with_finals names folds tables finals = fold (λ known one. known ++ final_table
 abbrev pub table_shape : Table → Shape
 table_shape t = record { width = length t.columns; keys = t.keys }
 
--- a row of a table with so many key columns and so many others
+-- a row of a table with this many key columns and this many others
 pub record HasColumns (keys others : ℕ) (row : Row) : Type 0 where
   pub key : length row.key ≡ keys
   pub values : length row.values ≡ others

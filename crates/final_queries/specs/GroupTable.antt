@@ -8,7 +8,7 @@ use Rattle.epoch_model.specs.Tables.{Folding, group_rows, group_epochs, closed_r
 use Rattle.final_queries.specs.declared.table.Table.{Table}
 use Rattle.final_queries.specs.declared.table.TableKind.TheVariants.{Group}
 
--- What a groupby's table says beside its rows: the names of the groupby, of its keys and of its fold's state variables,
+-- What a groupby's table says besides its rows: the names of the groupby, of its keys and of its fold's state variables,
 -- and the fold's class and depth.
 pub record Heading : Type 0 where
   pub name : List ℕ

@@ -1,4 +1,4 @@
--- Two tables whose rows are in ascending order of their keys, gone through side by side.
+-- Two tables whose rows are in ascending order of their keys, walked side by side.
 use Rattle.std.specs.Prelude.{◌≡◌, true, false, List, [], ◌∷◌, ◌++◌, filter, if◌then◌else◌}
 use Rattle.std.specs.Ordering.{is_lt}
 use Rattle.epoch_model.specs.Keys.{Key, key_cmp, key_eq}

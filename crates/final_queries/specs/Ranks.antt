@@ -19,7 +19,7 @@ ranks_from column place (row ∷ rows) = if is_read row.mark then rank_of column
 abbrev pub is_before : Rank → Rank → Bool
 is_before a b = nat_lt b.word.0 a.word.0 || ((b.word.0 == a.word.0) && nat_lt a.place b.place)
 
--- the rank isn't behind the last one that is kept
+-- the rank isn't after the last one that is kept
 abbrev pub is_within : Option Rank → Rank → Bool
 is_within None rank = true
 is_within (Some last) rank = not (is_before last rank)

@@ -54,7 +54,7 @@ fn fold_args_in<L: Ledger>(
     Ok(())
 }
 
-// Folds a row into the state of its key, where finals read it. `key` and `taken` are room to work in.
+// Folds a row into the state of its key, where finals read it. `key` and `taken` are working memory.
 fn fold_row<L: Ledger>(
     code: &FoldCode,
     start: &[u64],

@@ -22,7 +22,7 @@ fn compared(row: &RowRef, key: &[u64]) -> u64 {
     }
 }
 
-// The place of the first row from `from` on that is read and whose key isn't smaller, or the number of rows where there is
+// The place of the first row from `from` on that is read and whose key isn't smaller, or the number of rows if there is
 // none, with a step for each word that is compared.
 fn first_at_least<L: Ledger>(rows: &Rows, from: usize, key: &[u64], steps: &mut Steps<L>) -> usize
     requires { from ≤ length rows.now }
@@ -42,7 +42,7 @@ fn first_at_least<L: Ledger>(rows: &Rows, from: usize, key: &[u64], steps: &mut 
     rows.len()
 }
 
-// Adds the left row with the values of the right one after its own, with a step for each word. `all` is room to work in.
+// Adds the left row with the values of the right one after its own, with a step for each word. `all` is working memory.
 fn push_both<L: Ledger>(
     made: &mut Rows,
     all: &mut Vec<u64>,
@@ -61,7 +61,7 @@ fn push_both<L: Ledger>(
     push_plain(made, left.key, all.as_slice(), steps)
 }
 
-// Adds the left row joined with the right one at a place, where there is one that has its key. `all` is room to work in.
+// Adds the left row joined with the right one at a place, where there is one that has its key. `all` is working memory.
 fn push_joined<L: Ledger>(
     made: &mut Rows,
     all: &mut Vec<u64>,
@@ -84,7 +84,7 @@ fn push_joined<L: Ledger>(
     Ok(())
 }
 
-/// A row for each key that is read in both, in ascending order. Both are gone through once.
+/// A row for each key that is read in both, in ascending order. Each is walked once.
 pub fn joined<L: Ledger>(
     alloc: Global,
     left: &Rows,

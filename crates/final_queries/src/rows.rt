@@ -16,7 +16,7 @@ use std::alloc::{AllocError, Global};
 use std::sync::ledger::Ledger;
 use table_rows::{RowRef, Rows};
 
-/// Do finals read a row with this mark?
+/// Whether finals read a row with this mark.
 pub fn is_read(mark: Mark) -> bool
     ensures { result ≡ is_read mark }
 {
@@ -100,7 +100,7 @@ fn mapped_values_into<L: Ledger>(
     Ok(())
 }
 
-// Adds the row with the new values after its own. `all` is room to work in.
+// Adds the row with the new values after its old ones. `all` is working memory.
 #[tactic(auto, unfolding(crate::specs::Finals::mapped_row))]
 fn push_mapped<L: Ledger>(
     made: &mut Rows,
@@ -117,7 +117,7 @@ fn push_mapped<L: Ledger>(
     push_plain(made, row.key, all.as_slice(), steps)
 }
 
-/// Each row with the new values after its own. Memory is taken once for all rows.
+/// Each row with the new values after its old ones. Memory is taken once for all rows.
 #[tactic(auto, using(table_rows::proofs::LentFacts::holds_at))]
 pub fn mapped<L: Ledger>(
     alloc: Global,

@@ -21,7 +21,7 @@ use std::sync::ledger::Ledger;
 use table_rows::Rows;
 
 impl Table {
-    // How many columns stand behind the keys.
+    // The number of columns after the keys.
     fn others(&self) -> usize
         requires { self.now.keys ≤ length self.now.columns }
         ensures { self.now.keys + result ≡ length self.now.columns }

@@ -15,7 +15,7 @@ use std::cmp::Reverse;
 use std::sync::ledger::Ledger;
 use table_rows::{RowRef, Rows};
 
-/// Where a row stands among others: by its column from the greatest word on, and where this is equal by its place, since
+/// The rank of a row among others: by its column from the greatest word on, and where this is equal by its place, since
 /// rows are in the order of their keys.
 #[derive(Clone, Copy, Debug, PartialEq, Eq, PartialOrd, Ord)]
 pub struct Rank {
@@ -58,8 +58,8 @@ fn ranks_of<L: Ledger>(
     Ok(ranks)
 }
 
-// The last rank that is kept, where there are more than so many. No more than a split around it is made: what is dropped
-// isn't sorted.
+// The last rank that is kept, if there are at least `kept` of them. The ranks are only split around it: those that are
+// dropped aren't sorted.
 fn last_kept(ranks: &mut [Rank], kept: usize) -> Option<Rank>
     requires { 0 < kept }
     ensures { (rank : _) → is_within result rank ≡ nat_lt (count_by (λ other. is_before other rank) ranks.old) kept }
@@ -80,7 +80,7 @@ fn is_kept(last: Option<Rank>, rank: Rank) -> bool
     }
 }
 
-/// The rows before which fewer than so many go, in ascending order of their keys. It counts two comparisons of
+/// The rows that fewer than `kept` others go before, in ascending order of their keys. It counts two comparisons of
 /// each rank, of two words each: one in the search for the last that is kept, and one with that.
 pub fn top<L: Ledger>(
     alloc: Global,

@@ -147,7 +147,7 @@ module _ (states : ℕ) where
       or_true_left (expr_reads a reads v) (expr_reads b reads v)
       (variable_reads v a reads (and_true_left (is_variable v a) (names_no_state states b) (and_true_right (adds_or_subtracts op) (is_variable v a && names_no_state states b) h)) r)
 
-  -- each variable goes on to depend on itself
+  -- each variable still depends on itself
   reads_self : (b : Block) (free : Bool) (reads : ℕ → ℕ → Bool) → is_additive_block states free b ≡ true → ((v : ℕ) → v < states → reads v v ≡ true) → (s : ℕ) → s < states → reads_after b reads s s ≡ true
   reads_self End free reads h r = r
   reads_self (Set v e rest) free reads h r =

@@ -1,4 +1,4 @@
--- As many rounds as there are variables find each depth, and the first round that covers the history is the fold's depth.
+-- As many rounds as there are variables find each depth, and the number of the first round that covers the history is the fold's depth.
 use Rattle.std.proofs.Common.{◌≡◌, ℕ, zero, suc, ◌+◌, ◌-◌, ◌<◌, ◌≤◌, Bool, true, false, not, ◌&&◌, ◌||◌, nat_lt, if◌then◌else◌, List, ◌⊎◌, inl, inr, refl, sym, ap, ◌∙◌, subst, arith}
 use Rattle.std.proofs.lemmas.Bool.Decides.{nat_tests}
 use Rattle.query_lang.specs.declared.fold.TypedFold.{TypedFold}
@@ -17,7 +17,7 @@ pub all_true : (n : ℕ) (p : ℕ → Bool) → ((u : ℕ) → u < n → p u ≡
 all_true zero p h = refl
 all_true (suc n) p h = ap (λ z. z && p n) (all_true n p (λ u lt. h u (omega arith))) ∙ h n (omega arith)
 
--- one round more
+-- one more round
 pub round_step : (f : TypedFold) (d : ℕ) (old new : List Bool) → ((v : ℕ) → v < fold_states f → flag_in old v ≡ is_within f d v) →
     ((v : ℕ) → v < fold_states f → flag_in new v ≡ all_below (fold_states f) (λ u. not (fold_reads f v u) || flag_in old u)) →
     (v : ℕ) → v < fold_states f → flag_in new v ≡ is_within f (d + 1) v
@@ -120,7 +120,7 @@ stays f e (suc k) s =
     let z : suc (e + k) ≡ e + suc k = omega arith in
     (subst (Stable f) z (stable_next f (e + k) r.0), λ v lt w. r.1 v lt (r.0 v lt (subst (λ n. is_within f n v ≡ true) (sym z) w)))
 
--- a variable that has a depth has one of at most the number of variables
+-- a variable that has a depth has one that is at most the number of variables
 pub history_rounds : (f : TypedFold) (v : ℕ) → v < fold_states f → IsHistory f v → is_history f v ≡ true
 history_rounds f v lt h = found (settled f)
   where

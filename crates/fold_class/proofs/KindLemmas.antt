@@ -198,7 +198,7 @@ module _ {A : Type 0} (sh : Shares A) (algebra : Algebra) where
       ∙ dead_parts rest args vars
 
   module _ (states nargs : ℕ) (fargs : List (Part A)) where
-    -- whatever the mask is, no more than the marked variables change
+    -- whatever the mask is, only the marked variables change
     marked_allowed : (b : Block) (m : Part A) (kinds : ℕ → Kind) (vars : List (Part A)) → IsValidBlock states nargs b → length vars ≡ states → AllAllowed kinds (vars ++ fargs) → AllAllowed (marked b kinds) (after_in pdom m b fargs vars ++ fargs)
     marked_allowed End m kinds vars valid hs h = h
     marked_allowed (Set v e rest) m kinds vars valid hs h =

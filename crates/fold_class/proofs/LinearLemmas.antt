@@ -29,7 +29,7 @@ linear_from f algebra n block start walked b en eb es ew e =
     ∙ ap (λ m. all_below m (λ v. is_no_other (kinds_in walked v))) en
     ∙ ap (λ z. all_below (fold_states f) (λ v. is_no_other (z v))) (ew ∙ ap (λ l. kinds_after (role algebra) (block_of l) (kinds_in start)) eb ∙ ap (kinds_after (role algebra) (fold_block f)) es)
 
--- one variable more has its kind
+-- one more variable has its kind
 pub kind_step : (kinds : List Kind) (g : ℕ → Kind) (v : ℕ) (k : Kind) → v < length kinds → k ≡ g v → ((s : ℕ) → kinds_in kinds s ≡ (if nat_lt s v then g s else Pure)) →
     (s : ℕ) → kinds_in (set kinds v k) s ≡ (if nat_lt s (v + 1) then g s else Pure)
 kind_step kinds g v k h e old s = at (s == v) refl

@@ -17,7 +17,7 @@ and_false true = refl
 and_false false = refl
 
 module _ (algebra : Algebra) (states : ℕ) (known : ℕ → Bool) where
-  -- where the conditions around a block are not known, it gives no variable a value
+  -- where the conditions around a block are not known, it assigns no variable
   idle : (b : Block) (args state : List ℕ) → is_moving algebra states known false b ≡ true → after b args state ≡ state
   idle End args state h = refl
   idle (Set v e rest) args state h = cc

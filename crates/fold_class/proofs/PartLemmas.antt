@@ -94,7 +94,7 @@ module _ {C : Type 0} {is_element : C → Type 0} {k : Elements C} (laws : Eleme
     pub lift_stands : (u v : ℕ) → IsWord v → u ≡ v → row_value k n x (λ c. if c == n then k.embed u else k.zero) ≡ v
     lift_stands u v hv e = ap k.to_word (total-lift u (subst IsWord (sym e) hv)) ∙ laws.to_word-embed u ∙ e
 
-    -- an operator on two parts stands for the operator on their words
+    -- an operator on two parts represents the operator on their words
     pub operation_stands : (r : Role) → role algebra op ≡ r → (a b : Part (ℕ → C)) (v w : ℕ) → IsWord v → IsWord w → StandsFor k n x a v → StandsFor k n x b w →
         StandsFor k n x (part_operation (row_shares k n) r (op_value op) a b) (op_value op v w)
     operation_stands r er (Fixed u) (Fixed t) v w hv hw p q = ap (λ z. op_value op z t) p ∙ ap (op_value op v) q

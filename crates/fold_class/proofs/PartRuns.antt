@@ -1,4 +1,4 @@
--- A run over rows of shares stands for the run over words.
+-- A run over rows of shares represents the run over words.
 use Rattle.std.proofs.Common.{◌≡◌, ◌≢◌, ℕ, ◌+◌, ◌<◌, Bool, true, false, not, ◌==◌, if◌then◌else◌, List, ◌++◌, length, set, slice_index, refl, sym, ap, ◌∙◌, subst, arith, length-set, length-append, get_or-set_same, get_or-set_other}
 use Rattle.std.proofs.lemmas.Bool.Decides.{nat_tests}
 use Rattle.std.proofs.lemmas.List.{set-get_or, set-append_left}
@@ -25,7 +25,7 @@ module _ {C : Type 0} {is_element : C → Type 0} {k : Elements C} (laws : Eleme
   abbrev pub Stands : Row → ℕ → Type 0
   Stands p v = StandsFor k n x p v
 
-  -- each slot of a row of parts stands for the word at that slot, which is a word
+  -- each slot of a row of parts represents the value at that slot, which is a word
   pub record AllStand (ps : List Row) (vs : List ℕ) : Type 0 where
     pub each : (s : ℕ) → Stands (at dom ps s) (slice_index vs s)
     pub are_words : (s : ℕ) → IsWord (slice_index vs s)
@@ -86,7 +86,7 @@ module _ {C : Type 0} {is_element : C → Type 0} {k : Elements C} (laws : Eleme
           subst (λ z. Stands z (slice_index vs s)) (sym (get_or-set_other ps v s Lost (Fixed 0) other)) (h.each s)
 
   module _ (states nargs : ℕ) (fargs : List Row) (args : List ℕ) where
-    -- the variables, with the arguments after them, stand for the state and the arguments
+    -- the variables, with the arguments after them, represent the state and the arguments
     pub record VarsStand (vars : List Row) (state : List ℕ) : Type 0 where
       pub vars_long : length vars ≡ states
       pub state_long : length state ≡ states
@@ -139,7 +139,7 @@ module _ {C : Type 0} {is_element : C → Type 0} {k : Elements C} (laws : Eleme
         either true p q = p
         either false p q = q
 
-    -- a choice whose condition stands for a word
+    -- a choice whose condition represents a word
     branch : (a b : Block) (vars : List Row) (state : List ℕ) (q : Row) (cv : ℕ) → IsValidBlock states nargs a → IsValidBlock states nargs b → VarsStand vars state → Stands q cv →
         VarsStand (after_in dom (Fixed 1) a fargs vars) (after a args state) → VarsStand (after_in dom (Fixed 1) b fargs vars) (after b args state) →
         VarsStand (after_in dom (part_mask false (Fixed 1) q) b fargs (after_in dom (part_mask true (Fixed 1) q) a fargs vars)) (if holds cv then after a args state else after b args state)

@@ -1,4 +1,4 @@
--- Parts that stand in words, one variable more, and entries of a map, one row more.
+-- Parts stored in words, with one more variable, and entries of a map, with one more row.
 use Rattle.std.proofs.Common.{◌≡◌, ◌≢◌, ℕ, ◌+◌, ◌*◌, ◌<◌, ◌≤◌, Bool, true, false, nat_lt, List, [], ◌∷◌, ◌++◌, map, length, get_or, drop, slice_index, All, refl, sym, ap, ◌∙◌, subst, arith, append_assoc}
 use Rattle.std.proofs.lemmas.Bool.Decides.{nat_tests}
 use Rattle.std.proofs.lemmas.List.{drop_more}
@@ -12,7 +12,7 @@ use Rattle.fold_class.specs.Rows.{Rows, rows_dimension, column_after, entry_of, 
 use Rattle.fold_class.proofs.StepLemmas.{list_of_at}
 use Rattle.fold_class.proofs.StoredLemmas.{list_more}
 
--- one variable more has its part
+-- one more variable has its part
 pub start_more : {A B : Type 0} (g : A → B) (xs : List A) (v : ℕ) (d : A) (P P' : ℕ → B) (x : B) (all : List B) → v < length xs → x ≡ g (get_or xs v d) → ((i : ℕ) → i ≢ v → P' i ≡ P i) → P' v ≡ x →
     list_of v P ++ map g (drop v xs) ≡ all → list_of (v + 1) P' ++ map g (drop (v + 1) xs) ≡ all
 start_more g xs v d P P' x all h e others here so =
@@ -22,7 +22,7 @@ start_more g xs v d P P' x all h e others here so =
     ∙ ap (λ z. list_of v P ++ map g z) (sym (drop_more xs v d h))
     ∙ so
 
--- two places of a table are one only where their columns are
+-- two places of a table are the same only if their columns are
 pub same_column : (n i c j d : ℕ) → c ≤ n → d ≤ n → i * (n + 1) + c ≡ j * (n + 1) + d → c ≡ d
 same_column n i c j d hc hd e = place (nat_lt i j) (nat_lt j i) refl refl
   where
@@ -31,7 +31,7 @@ same_column n i c j d hc hd e = place (nat_lt i j) (nat_lt j i) refl refl
     place false true ea eb = let lt : j < i = grind (arith, nat_tests) in absurd (omega (arith, one_less j i (n + 1) lt))
     place false false ea eb = let same : i ≡ j = grind (arith, nat_tests) in omega (arith, ap (λ k. k * (n + 1)) same)
 
--- two places of one column are one only where their rows are
+-- two places of one column are the same only if their rows are
 pub same_row : (n i j c : ℕ) → i * (n + 1) + c ≡ j * (n + 1) + c → i ≡ j
 same_row n i j c e = place (nat_lt i j) (nat_lt j i) refl refl
   where
@@ -45,7 +45,7 @@ all_at : (P : ℕ → Type 0) (xs : List ℕ) (i : ℕ) → All P xs → i < len
 all_at P xs i a h = a i 0 h
 
 module _ {C : Type 0} (k : Elements C) (rows : Rows) (history args : List ℕ) (column n : ℕ) (P : ℕ → Part C) (vars : list_of n P ≡ column_after k rows column history args) where
-  -- the part of a variable at the end of a column, as it stands in words
+  -- the part of a variable at the end of a column, as it is stored in words
   part_there : (v : ℕ) → v < n → P v ≡ at (parts (column_shares k (rows_dimension rows) column) rows.algebra) (column_after k rows column history args) v
   part_there v lt = sym (list_of_at n P v (Fixed 0) lt) ∙ ap (λ z. get_or z v (Fixed 0)) vars
 

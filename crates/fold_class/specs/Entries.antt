@@ -1,4 +1,4 @@
--- What an entry of a fold's epoch stands for.
+-- What an entry of a fold's epoch represents.
 use Rattle.std.specs.Prelude.{◌≡◌, ℕ, ◌<◌, ◌≤◌, List, length, take, slice_index}
 use Rattle.query_lang.specs.declared.fold.TypedFold.{TypedFold}
 use Rattle.query_lang.specs.Words.{AreWords}
@@ -13,7 +13,7 @@ pub record LinearEntry (C : Type 0) : Type 0 where
   pub history : List ℕ
   pub table : ℕ → ℕ → C
 
--- it stands for a list of argument rows, where the fold has depth k
+-- it represents a list of argument rows, where the fold has depth k
 pub record LinearStandsFor {C : Type 0} (e : Elements C) (f : TypedFold) (k : ℕ) (entry : LinearEntry C)
     (rows : List (List ℕ)) : Type 0 where
   pub logged : entry.log ≡ take k rows

@@ -17,7 +17,7 @@ pub use Rattle.fold_class.specs.declared.class.Role.TheVariants.{Sum, Difference
 use Rattle.fold_class.specs.Tables.{update, all_below}
 use Rattle.fold_class.specs.Depth.{is_history}
 
--- what an operator is in an algebra
+-- the role of an operator in an algebra
 abbrev pub role : Algebra → Op → Role
 role Sums Add = Sum
 role Sums Sub = Difference
@@ -55,7 +55,7 @@ expr_kind roles (Read s) kinds = kinds s
 expr_kind roles (Negation e) kinds = outside_kind Pure (expr_kind roles e kinds)
 expr_kind roles (Operation op a b) kinds = role_kind (roles op) (expr_kind roles a kinds) (expr_kind roles b kinds)
 
--- the table where each variable that the block gives a value is Other
+-- the table where each variable that the block assigns is Other
 abbrev pub marked : Block → (ℕ → Kind) → ℕ → Kind
 marked End kinds = kinds
 marked (Set v e rest) kinds = marked rest (update kinds v Kind.Other)

@@ -42,7 +42,7 @@ abbrev pub part_test : {A : Type 0} → Bool → Part A → Part A
 part_test wanted (Fixed x) = Fixed (flag (if wanted then holds x else not (holds x)))
 part_test wanted _ = Lost
 
--- under a mask that does not hold nothing runs, whatever the condition is
+-- under a mask that does not hold, nothing runs, whatever the condition is
 abbrev pub part_mask : {A : Type 0} → Bool → Part A → Part A → Part A
 part_mask wanted (Fixed m) k = if holds m then part_test wanted k else Fixed 0
 part_mask wanted _ k = Lost
@@ -82,7 +82,7 @@ module _ {C : Type 0} (k : Elements C) (dimension : ℕ) where
   abbrev pub row_value : (ℕ → ℕ) → (ℕ → C) → ℕ
   row_value x row = k.to_word (map_apply k dimension (λ i. row) (λ j. k.embed (x j)) 0)
 
-  -- a part stands for a word, at the words of the linear variables
+  -- a part represents a word, at the words of the linear variables
   abbrev pub StandsFor : (ℕ → ℕ) → Part (ℕ → C) → ℕ → Type 0
   StandsFor x (Fixed w) v = w ≡ v
   StandsFor x (Share row) v = (row_value x row ≡ v) × HasWord k dimension row

@@ -40,7 +40,7 @@ rows_words rows = rows_dimension rows * (rows_dimension rows + 1) * element_size
 abbrev pub rows_scratch : Rows → ℕ
 rows_scratch rows = (length rows.origins + length rows.code.instrs) * 3
 
--- the steps of a run with elements of so many words: each column begins with the parts of the variables, runs the code
+-- the steps of a run with elements of this many words: each column begins with the parts of the variables, runs the code
 -- and writes one element for each row; in the end the history is written
 abbrev pub steps_with : ℕ → Rows → ℕ
 steps_with size rows =

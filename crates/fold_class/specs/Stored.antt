@@ -1,4 +1,4 @@
--- How parts stand in words: a mark, and then a word or an element.
+-- How parts are stored in words: a mark, and then a word or an element.
 use Rattle.std.specs.Prelude.{ℕ, ◌<◌, ◌==◌, if◌then◌else◌, List, take, drop, slice_index}
 use Rattle.fold_code.specs.declared.instr.Instr.{Instr}
 use Rattle.fold_code.specs.declared.instr.Instr.TheVariants.{Keep}
@@ -14,7 +14,7 @@ part_of from_words size ws =
 abbrev pub part_at : {C : Type 0} → (List ℕ → C) → ℕ → List ℕ → ℕ → Part C
 part_at from_words size ws place = element_at (part_of from_words size) 3 ws place
 
--- the variable that an instruction writes is one of so many
+-- the variable that an instruction writes is one of this many
 abbrev pub IfKeeps : Instr → ℕ → Type 0
 IfKeeps (Keep v mask x) states = v < states
 IfKeeps _ states = Unit {0}

@@ -46,7 +46,7 @@ module _ (algebra : Algebra) (states : ℕ) (known : ℕ → Bool) where
       (moves_left algebra op && (is_move v a && names_known states known b)) ||
       (moves_right algebra op && (names_known states known a && is_move v b))
 
-  -- whether each assignment gives a known variable what is known, or moves another one, under conditions that are known; `free`
+  -- whether each assignment gives a known variable a known value, or moves another one, under conditions that are known; `free`
   -- says so of those around the block
   abbrev pub is_moving : Bool → Block → Bool
   is_moving free End = true

@@ -11,7 +11,7 @@ use Rattle.fold_class.specs.Kinds.{Role, Outside, role}
 abbrev pub kinds_in : List Kind → ℕ → Kind
 kinds_in kinds s = slice_index_or kinds s Pure
 
--- what the operators are in a walk: those of an algebra, or none where only reads count
+-- the roles of operators in a walk: those of an algebra, or none where only reads count
 abbrev pub roles_of : Option Algebra → Op → Role
 roles_of (Some algebra) op = role algebra op
 roles_of None op = Outside

@@ -1,4 +1,4 @@
-//! What a fold, an expression and an operator are said to be.
+//! The algebra of a fold, the kind of an expression, and the role of an operator.
 
 ghost use Rattle.std.specs.Prelude.{◌≡◌};
 ghost use Rattle.fold_class.specs.Kinds.{role};
@@ -12,7 +12,7 @@ pub enum Algebra {
     Maxima,
 }
 
-/// What an expression, or a variable, is known to be.
+/// What is known of the value of an expression, or of a variable.
 #[derive(Clone, Copy, Debug, PartialEq, Eq)]
 pub enum Kind {
     Pure,
@@ -20,7 +20,7 @@ pub enum Kind {
     Other,
 }
 
-/// What an operator is in an algebra.
+/// The role of an operator in an algebra.
 #[derive(Clone, Copy, Debug, PartialEq, Eq)]
 pub enum Role {
     Sum,
@@ -29,7 +29,7 @@ pub enum Role {
     Outside,
 }
 
-/// What an operator is in an algebra.
+/// The role of an operator in an algebra.
 pub(crate) fn role_of(algebra: Algebra, op: Op) -> Role
     ensures { result ≡ role algebra op }
 {

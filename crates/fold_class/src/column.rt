@@ -59,7 +59,7 @@ pub(crate) fn load_part<C: Coeff>(words: &[u64], place: usize) -> Part<C>
     get_part(&words[place * 3..place * 3 + 3])
 }
 
-// A new part at a place. The others stay.
+// Writes a part at a place. The others stay unchanged.
 pub(crate) fn store_part<C: Coeff>(words: &mut [u64], place: usize, part: Part<C>)
     requires { place * 3 + 3 ≤ length words.old }
     ensures here { part_at C.from_words C.WORDS words.new place ≡ part }
@@ -69,7 +69,7 @@ pub(crate) fn store_part<C: Coeff>(words: &mut [u64], place: usize, part: Part<C
     put_part(part, &mut words[place * 3..place * 3 + 3]);
 }
 
-// Three words at once.
+// Writes three words at once.
 fn put_words(to: &mut [u64], mark: u64, first: u64, second: u64)
     requires { length to.old ≡ 3 }
     ensures { to.new ≡ mark ∷ first ∷ second ∷ [] }
@@ -79,7 +79,7 @@ fn put_words(to: &mut [u64], mark: u64, first: u64, second: u64)
     to[2] = second;
 }
 
-// The part at one place, at another one too. The others stay.
+// Copies the part at one place to another. The others stay unchanged.
 fn copy_part<C: Coeff>(words: &mut [u64], from: usize, to: usize)
     requires from { from * 3 + 3 ≤ length words.old }
     requires to { to * 3 + 3 ≤ length words.old }
@@ -105,7 +105,7 @@ pub(crate) fn lift<C: Coeff>(word: u64, column: usize, dimension: usize) -> C
     }
 }
 
-// What an operator makes of two parts that are not both fixed.
+// The result of an operator on two parts that are not both fixed.
 fn combine<C: Coeff>(
     algebra: Algebra,
     op: Op,
@@ -150,7 +150,7 @@ fn combine<C: Coeff>(
     }
 }
 
-// Whether the value is no condition that holds.
+// The negation of the value as a condition: 1 if it is 0, else 0.
 fn negate<C: Coeff>(part: Part<C>) -> Part<C>
     ensures { result ≡ part_negation part }
 {
@@ -188,7 +188,7 @@ fn block_mask<C: Coeff>(wanted: bool, mask: Part<C>, condition: Part<C>) -> Part
     }
 }
 
-// The chosen part at a place: the new one where the mask holds, else the old one. The others stay.
+// Writes the chosen part at a place: the new one where the mask holds, else the old one. The others stay unchanged.
 fn copy_choice<C: Coeff>(words: &mut [u64], mask: usize, new: usize, old: usize, place: usize)
     requires mask { mask < place }
     requires new { new < place }
@@ -214,7 +214,7 @@ fn copy_choice<C: Coeff>(words: &mut [u64], mask: usize, new: usize, old: usize,
     }
 }
 
-// What an instruction gives, at its own place. The variables' parts stand first in `scratch`, and after them one for each
+// Writes the value of an instruction at its place. `scratch` begins with the variables' parts, and then has one for each
 // earlier instruction.
 #[tactic(auto, using(crate::proofs::StepLemmas::list_of_at, crate::proofs::StoredLemmas::fixed_at))]
 fn write_value<C: Coeff>(
@@ -296,7 +296,7 @@ fn store_variable<C: Coeff, L: Ledger>(
     steps.tick();
 }
 
-// One instruction: its value at its own place, and the variable that it writes.
+// Runs one instruction: its value at its place, and the variable that it writes.
 fn run_instr<C: Coeff, L: Ledger>(
     instr: Instr,
     number: usize,
@@ -329,7 +329,7 @@ fn run_instr<C: Coeff, L: Ledger>(
     store_variable::<C, L>(instr, number, states, scratch, steps);
 }
 
-// One run of instructions over the parts of a column. The variables' parts stand first in `scratch`.
+// Runs the instructions over the parts of a column. `scratch` begins with the variables' parts.
 pub(crate) fn run_column<C: Coeff, L: Ledger>(
     instrs: &[Instr],
     states: usize,

@@ -10,7 +10,7 @@ use crate::class::Kind;
 use crate::walk::walk_block;
 use query_lang::TypedFold;
 
-// For each variable whether the old value of variable u reaches it: then it is Other.
+// A kind for each variable: Other where the old value of variable u reaches it.
 fn readers_of(f: &TypedFold, u: usize) -> [Kind; 8]
     requires valid { IsValidFold f.now }
     requires variable { u < fold_states f.now }
@@ -22,7 +22,7 @@ fn readers_of(f: &TypedFold, u: usize) -> [Kind; 8]
     kinds
 }
 
-// Takes the flag from each variable that is Other.
+// Clears the flag of each variable that is Other.
 fn strike(flags: &mut [bool], kinds: &[Kind])
     requires { length flags.old ≡ length kinds.now }
     ensures { (v : ℕ) → v < length flags.old
@@ -35,7 +35,7 @@ fn strike(flags: &mut [bool], kinds: &[Kind])
     }
 }
 
-// From the variables of one depth at most to those of one more: a variable is among them where all that it reads were.
+// By the variables up to some depth, those up to one more: a variable is among them if all variables that it reads were.
 fn next_round(f: &TypedFold, within: &[bool]) -> [bool; 8]
     requires valid { IsValidFold f.now }
     requires size { length within.now ≡ 8 }
@@ -75,7 +75,7 @@ pub(crate) fn history_of(f: &TypedFold) -> [bool; 8]
     within
 }
 
-// Whether all flags of the first variables stand in other flags too.
+// Whether each flag that is set for the first variables is set in other flags too.
 fn covers(states: usize, flags: &[bool], others: &[bool]) -> bool
     requires size { states ≤ length flags.now }
     requires others { states ≤ length others.now }
@@ -88,7 +88,7 @@ fn covers(states: usize, flags: &[bool], others: &[bool]) -> bool
     all
 }
 
-/// The least depth that no variable which has one is over.
+/// The least number that no variable's depth exceeds.
 pub(crate) fn depth_of(f: &TypedFold, history: &[bool]) -> u8
     requires valid { IsValidFold f.now }
     requires size { length history.now ≡ 8 }

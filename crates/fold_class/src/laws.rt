@@ -15,14 +15,14 @@ ghost use Rattle.fold_class.specs.Translations.{SameHistory, AreAlike, AreMoved,
 use crate::class::Algebra;
 use query_lang::Class;
 
-/// Once as many rows were taken as the fold is deep, its history is the same from every two states.
+/// After as many rows as the fold's depth, its history is the same from any two states.
 pub fn history_forgets()
     ensures { (f : TypedFold) (depth : ℕ) (xs ys : List ℕ) (rows : List (List ℕ)) → IsValidFold f → IsDepth f depth
         → length xs ≡ fold_states f → length ys ≡ fold_states f → depth ≤ length rows
         → words_at (folded f xs rows) (history_places f) ≡ words_at (folded f ys rows) (history_places f) }
 {}
 
-/// A variable has a depth exactly where it has one of at most the number of variables.
+/// A variable has a depth exactly if it has one that is at most the number of variables.
 pub fn rounds_find_each_depth()
     ensures { (f : TypedFold) (v : ℕ) → v < fold_states f → IsHistory f v ↔ (is_history f v ≡ true) }
 {}
@@ -44,14 +44,14 @@ pub fn additive_is_linear()
     ensures depth { (f : TypedFold) → IsValidFold f → is_additive f ≡ true → IsDepth f 0 }
 {}
 
-/// What one step makes of the history depends on the history and the arguments alone.
+/// The history after one step depends on the history and the arguments alone.
 pub fn history_steps_alone()
     ensures { (f : TypedFold) (args xs ys : List ℕ) → IsValidFold f → length xs ≡ fold_states f → length ys ≡ fold_states f
         → SameHistory f xs ys → SameHistory f (body f xs args) (body f ys args) }
 {}
 
-/// Where the linear variables of one of two states are those of the other, moved by words of a table, they are after one step of
-/// a translation too. One by sums adds the same to both, and one by maxima takes the greater of each and the same word.
+/// If the linear variables of one state are those of another, moved by the words of a table, they still are after one step of a
+/// translation. One by sums adds the same to both, and one by maxima takes the greater of each and the same word.
 pub fn step_translates()
     ensures moves { (algebra : AlgebraOf) (f : TypedFold) (table : ℕ → ℕ) (args xs ys : List ℕ) → AreAlike algebra f xs ys
         → AreMoved algebra f table xs ys → AreMoved algebra f table (body f xs args) (body f ys args) }
@@ -64,8 +64,8 @@ pub fn step_translates()
         × (slice_index (body f ys args) v ≡ max (slice_index ys v) b) }
 {}
 
-/// The same of rows, one by one. So the fold over rows from a state is that state, moved by the fold over them from zeros with
-/// the state's history.
+/// The same for any number of rows. So the fold over rows from a state is that state, moved by the fold over them from zeros
+/// with the state's history.
 pub fn rows_translate()
     ensures moves { (algebra : AlgebraOf) (f : TypedFold) (table : ℕ → ℕ) (rows : List (List ℕ)) (xs ys : List ℕ)
         → AreAlike algebra f xs ys → AreMoved algebra f table xs ys → AreMoved algebra f table (folded f xs rows) (folded f ys rows) }

@@ -24,7 +24,7 @@ pub struct Layout {
     pub statements: u32,
 }
 
-/// The linear and the history variables, and for each variable its number among those of its sort.
+/// The linear and the history variables, and for each variable its number among those of its kind.
 #[derive(Drop)]
 pub(crate) struct Places {
     pub(crate) linear: Seq<u8>,

@@ -104,7 +104,7 @@ fn word<C: Coeff>(part: Part<C>) -> u64
     }
 }
 
-// As many steps as words are written.
+// Counts a step for each word that is written.
 fn tick_words<L: Ledger>(words: usize, steps: &mut Steps<L>)
     ensures { steps.new ≡ steps.old + words }
 {
@@ -113,7 +113,7 @@ fn tick_words<L: Ledger>(words: usize, steps: &mut Steps<L>)
     }
 }
 
-// The elements of one column, where the parts of the variables stand in `scratch`.
+// The elements of one column, where the parts of the variables are in `scratch`.
 fn write_column<C: Coeff, L: Ledger>(
     linear: &[u8],
     states: usize,
@@ -146,7 +146,7 @@ fn write_column<C: Coeff, L: Ledger>(
     }
 }
 
-// The words of the history, where the parts of the variables stand in `scratch`.
+// The words of the history, where the parts of the variables are in `scratch`.
 fn write_history<C: Coeff, L: Ledger>(
     places: &[u8],
     states: usize,
@@ -277,7 +277,7 @@ impl AffineRows {
         );
     }
 
-    /// The words that a run needs beside the map.
+    /// The words that a run needs besides the map.
     pub fn scratch_words(&self) -> usize
         ensures words { result ≡ rows_scratch self.now }
         ensures most { result ≤ 65536 }

@@ -85,8 +85,8 @@ fn moves(algebra: Algebra, states: u16, history: &[u8], v: u16, e: &TypedExpr) -
     }
 }
 
-// Whether a statement only gives history variables what is known, and moves others; `free` says that the conditions around it
-// are known.
+// Whether a statement only assigns known values to history variables, and moves others; `free` says that the conditions
+// around it are known.
 fn only_moves(algebra: Algebra, states: u16, history: &[u8], free: bool, s: &TypedStmt) -> bool
     ensures { result ≡ is_moving algebra states (is_in history.now) free (stmt_block s.now) }
 {

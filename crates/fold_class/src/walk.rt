@@ -25,7 +25,7 @@ fn greater_of(left: Kind, right: Kind) -> Kind
     }
 }
 
-// The kind of what an operator of this role makes of two kinds.
+// The kind of the result of an operator with this role, by the kinds of its operands.
 fn combined(role: Role, left: Kind, right: Kind) -> Kind
     ensures { result ≡ role_kind role left right }
 {
@@ -53,7 +53,7 @@ fn combined(role: Role, left: Kind, right: Kind) -> Kind
     }
 }
 
-// What an operator is in a walk.
+// The role of an operator in a walk.
 fn role_in(walk: Option<Algebra>, op: Op) -> Role
     ensures { result ≡ roles_of walk op }
 {
@@ -89,7 +89,7 @@ fn kind_of(walk: Option<Algebra>, kinds: &[Kind], e: &TypedExpr) -> Kind
     }
 }
 
-// Another kind for one variable.
+// Changes the kind of one variable.
 #[tactic(auto, using(crate::proofs::WalkLemmas::set_kind))]
 fn set_kind(kinds: &mut [Kind], v: u16, kind: Kind)
     requires { v < length kinds.old }
@@ -108,7 +108,7 @@ fn join(kinds: &mut [Kind], others: &[Kind])
     }
 }
 
-// Each variable that a statement gives a value becomes Other.
+// Each variable that a statement assigns becomes Other.
 fn mark_stmt(kinds: &mut [Kind], s: &TypedStmt)
     requires { AssignsBelow (length kinds.old) (stmt_block s.now) }
     ensures { kinds_in kinds.new ≡ marked (stmt_block s.now) (kinds_in kinds.old) }
@@ -126,7 +126,7 @@ fn mark_stmt(kinds: &mut [Kind], s: &TypedStmt)
     }
 }
 
-// A table with the same kinds.
+// A copy of a table of kinds.
 fn copied(kinds: &[Kind]) -> [Kind; 8]
     requires { length kinds.now ≡ 8 }
     ensures { result ≡ kinds.now }

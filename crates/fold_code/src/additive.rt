@@ -31,7 +31,7 @@ fn is_slot(v: u16, e: &TypedExpr) -> bool
     }
 }
 
-// Whether an expression is the variable, plus or minus what names no state variable.
+// Whether an expression is the variable plus or minus an expression that names no state variable.
 fn adds_to(states: u16, v: u16, e: &TypedExpr) -> bool
     ensures { result ≡ is_increment states v (term_of e.now) }
 {

@@ -21,7 +21,7 @@ monotone_from f n block start walked b en eb es ew e =
     ∙ ap (λ m. all_below m (λ v. not (is_wild (kinds_in walked v)))) en
     ∙ ap (λ z. all_below (fold_states f) (λ v. not (is_wild (z v)))) (ew ∙ ap (λ l. kinds_after (block_of l) (kinds_in start)) eb ∙ ap (kinds_after (fold_block f)) first)
 
--- one variable more is Rising
+-- one more variable is Rising
 pub kind_step : (kinds : List Kind) (v : ℕ) → v < length kinds → ((s : ℕ) → kinds_in kinds s ≡ (if nat_lt s v then Rising else Free)) →
     (s : ℕ) → kinds_in (set kinds v Rising) s ≡ (if nat_lt s (v + 1) then Rising else Free)
 kind_step kinds v h old s = at (s == v) refl

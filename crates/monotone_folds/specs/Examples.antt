@@ -43,7 +43,7 @@ choice_by_state = Fork (Operation Gt (Read 0) (Literal 5)) (Set 1 (Literal 1) En
 abbrev pub overwritten : Block
 overwritten = Set 0 (Operation Add (Read 0) (Read 1)) (Set 0 (Read 1) End)
 
--- what the last row of a key makes of the least and of the greatest state
+-- the least and the greatest state after the last row of a key
 abbrev pub AreBounds : Block → List ℕ → List ℕ → List ℕ → Type 0
 AreBounds block row low high = (f : TypedFold) → HasBody f 1 block → (folded f (least_state f) (row ∷ []) ≡ low)
     × (folded f (greatest_state f) (row ∷ []) ≡ high)

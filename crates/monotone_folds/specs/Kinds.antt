@@ -12,7 +12,7 @@ use Rattle.monotone_folds.specs.declared.kind.Role.{Role}
 use Rattle.monotone_folds.specs.declared.kind.Role.TheVariants.{Joined, Scaled, Outside}
 use Rattle.fold_class.specs.Tables.{update, all_below}
 
--- what an operator makes of kinds
+-- the kind of an operator's result, by those of its operands
 abbrev pub role : Op → Role
 role Max = Joined
 role Min = Joined
@@ -29,7 +29,7 @@ greater Rising Free = Rising
 greater Rising k = k
 greater Wild k = Wild
 
--- Free where all operands are Free, else Wild
+-- Free if all operands are Free, else Wild
 abbrev pub outside_kind : Kind → Kind → Kind
 outside_kind Free Free = Free
 outside_kind _ _ = Wild
@@ -46,13 +46,13 @@ expr_kind (Read s) kinds = kinds s
 expr_kind (Negation e) kinds = outside_kind Free (expr_kind e kinds)
 expr_kind (Operation op a b) kinds = role_kind (role op) (expr_kind a kinds) (expr_kind b kinds)
 
--- the table where each variable that the block gives a value is Wild
+-- the table where each variable that the block assigns is Wild
 abbrev pub marked : Block → (ℕ → Kind) → ℕ → Kind
 marked End kinds = kinds
 marked (Set v e rest) kinds = marked rest (update kinds v Wild)
 marked (Fork c a b rest) kinds = marked rest (marked b (marked a kinds))
 
--- after a choice by a Free condition each variable has the greater of its two kinds, and else those that were given values are Wild
+-- after a choice by a Free condition each variable has the greater of its two kinds; otherwise those that it assigns are Wild
 abbrev pub chosen_kinds : Kind → (ℕ → Kind) → (ℕ → Kind) → (ℕ → Kind) → ℕ → Kind
 chosen_kinds Free a b other = λ v. greater (a v) (b v)
 chosen_kinds _ a b other = other

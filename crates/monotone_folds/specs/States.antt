@@ -2,6 +2,6 @@
 use Rattle.std.specs.Prelude.{ℕ, ◌≤◌, List}
 use Rattle.std.specs.List.{AllZip}
 
--- as many words, and each is at most the other's
+-- equally many words, and each is at most the other's
 abbrev pub IsAtMost : List ℕ → List ℕ → Type 0
 IsAtMost low high = AllZip (λ x y. x ≤ y) low high

@@ -26,7 +26,7 @@ fn greater_of(left: Kind, right: Kind) -> Kind
     }
 }
 
-// The kind of what an operator of this role makes of two kinds.
+// The kind of the result of an operator with this role, by the kinds of its operands.
 fn combined(role: Role, left: Kind, right: Kind) -> Kind
     ensures { result ≡ role_kind role left right }
 {
@@ -45,7 +45,7 @@ fn combined(role: Role, left: Kind, right: Kind) -> Kind
     }
 }
 
-// What an operator makes of kinds.
+// The role of an operator.
 fn role_of(op: Op) -> Role
     ensures { result ≡ role op }
 {
@@ -82,7 +82,7 @@ fn kind_of(kinds: &[Kind], e: &TypedExpr) -> Kind
     }
 }
 
-// Another kind for one variable.
+// Changes the kind of one variable.
 #[tactic(auto, using(crate::proofs::WalkLemmas::set_kind))]
 fn set_kind(kinds: &mut [Kind], v: u16, kind: Kind)
     requires { v < length kinds.old }
@@ -101,7 +101,7 @@ fn join(kinds: &mut [Kind], others: &[Kind])
     }
 }
 
-// Each variable that a statement gives a value becomes Wild.
+// Each variable that a statement assigns becomes Wild.
 fn mark_stmt(kinds: &mut [Kind], s: &TypedStmt)
     requires { AssignsBelow (length kinds.old) (stmt_block s.now) }
     ensures { kinds_in kinds.new ≡ marked (stmt_block s.now) (kinds_in kinds.old) }
@@ -119,7 +119,7 @@ fn mark_stmt(kinds: &mut [Kind], s: &TypedStmt)
     }
 }
 
-// A table with the same kinds.
+// A copy of a table of kinds.
 fn copied(kinds: &[Kind]) -> [Kind; 8]
     requires { length kinds.now ≡ 8 }
     ensures { result ≡ kinds.now }

@@ -1,4 +1,4 @@
--- The table of one final more.
+-- The tables with one more final.
 use Rattle.std.proofs.Common.{◌≡◌, ℕ, ◌+◌, List, [], ◌∷◌, ◌++◌, length, map, sym, ap, ◌∙◌, subst, arith, length-append}
 use Rattle.std.specs.List.{All}
 use Rattle.std.proofs.lemmas.List.{map-append}
@@ -9,7 +9,7 @@ use Rattle.query_lang.specs.TypedQueries.{AreValidFinals, final_shape}
 use Rattle.final_queries.specs.declared.table.Table.{Table}
 use Rattle.final_queries.specs.Finals.{IsTable, table_shape, final_table, with_finals}
 
--- these tables, and then those of the finals that are left, are the whole, so many
+-- these tables, and then those of the finals that are left, are the whole, this many
 pub record IsOnTheWay (names : List (List ℕ)) (folds : List TypedFold) (all : List Table) (many : ℕ) (known : List Table) (left : List TypedFinal) : Type 0 where
   pub whole : with_finals names folds known left ≡ all
   pub valid : AreValidFinals (length names) folds (map table_shape known) left

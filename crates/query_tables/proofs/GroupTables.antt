@@ -68,7 +68,7 @@ module _ (law : GroupTablesAreRead) (q : TypedQuery) (g : Geometry) (packets : L
       ap (λ (n : ℕ). record { width = n; keys = length keys }) both
       ∙ ap (λ (n : ℕ). record { width = length t.keys + unwrap_or (option_map fold_states (slice_get q.folds t.fold_number)) 0; keys = n }) texts
 
-  -- a groupby with its fold, and those behind it
+  -- a groupby with its fold, and those after it
   next_group : (o : Option TypedFold) (i : ℕ) (t : Taking) (name args : ℕ) (columns : List ℕ) (shapes : List GroupShape) (ts : List Taking)
       → slice_get q.folds t.fold_number ≡ o → option_map fold_args o ≡ Some args → slice_get (takings q.streams) i ≡ Some t → length columns ≡ length t.keys
       → AreTablesOf (suc i) shapes ts → AreTablesOf i (cons_option (option_map (shape_with q.names name columns args) o) shapes) (t ∷ ts)
@@ -86,7 +86,7 @@ module _ (law : GroupTablesAreRead) (q : TypedQuery) (g : Geometry) (packets : L
         ap (λ s. s ∷ map table_shape rest) (one_shape i t f name args columns fold wide) ∙ ap (λ ss. group_shape q.folds t ∷ ss) more.1,
       )
 
-  -- a stream, and those behind it
+  -- a stream, and those after it
   next_stream : (before : List TypedStream) (one : TypedStream) (op : TypedOp) (i : ℕ) (shapes : List GroupShape) (ts : List Taking)
       → IsValidOp q.folds before (length one.columns) op → drop i (takings q.streams) ≡ cons_option (taking_of op) ts
       → ((j : ℕ) → drop j (takings q.streams) ≡ ts → AreTablesOf j shapes ts)

@@ -15,7 +15,7 @@ use Rattle.final_queries.specs.Finals.{with_finals}
 use Rattle.final_queries.specs.GroupTable.{Heading, group_table}
 use Rattle.table_printer.specs.TableText.{table_text}
 
--- what a groupby's table says beside its rows
+-- what a groupby's table says besides its rows
 abbrev pub heading_of : GroupShape → Heading
 heading_of shape = record {
   name = shape.name;

@@ -15,7 +15,7 @@ use std::alloc::{AllocError, Global};
 use std::sync::ledger::Ledger;
 use table_printer::push_table;
 
-/// The tables of the groupbys, and behind them those of the finals, each made of the tables before it.
+/// The tables of the groupbys, followed by those of the finals, each made of the tables before it.
 pub fn add_finals<L: Ledger>(
     alloc: Global,
     q: &TypedQuery,
@@ -38,7 +38,7 @@ pub fn add_finals<L: Ledger>(
     Ok(tables)
 }
 
-/// The number of a printed table, where there are so many groupbys.
+/// The number of a printed table, where there are `groups` groupbys.
 pub fn table_number(groups: usize, one: PrintOf) -> usize
     requires { groups ≤ 8 }
     ensures { result ≡ table_number groups one }
@@ -49,7 +49,7 @@ pub fn table_number(groups: usize, one: PrintOf) -> usize
     }
 }
 
-// Writes the text of the table with this number behind the others.
+// Writes the text of the table with this number after the others.
 fn push_table_at(text: &mut Text, tables: &Seq<Table>, number: usize) -> Result<(), AllocError>
     requires number { number < length tables.now }
     requires tables { All IsTable tables.now }

@@ -14,7 +14,7 @@ pub part_first : (begins : Bool) (part : List ℕ) (rest : List (List ℕ)) → 
 part_first true part rest = ap (λ p. p ++ continued rest) (sym (append-nil part))
 part_first false part rest = ap (λ p. p ++ continued rest) (sym (append-nil (44 ∷ part)))
 
--- A part is written: what is still to be written behind it makes the whole.
+-- A part is written: what is still to be written after it makes the whole.
 pub written : (whole before after : List ℕ) (begins : Bool) (part : List ℕ) (left rest : List (List ℕ))
     → left ≡ part ∷ rest → before ++ parts_from begins left ≡ whole → after ≡ before ++ parts_from begins (part ∷ []) → after ++ parts_from false rest ≡ whole
 written whole before after begins part left rest split so_far wrote =

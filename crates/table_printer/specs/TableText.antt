@@ -1,5 +1,5 @@
 -- The text of a table: a line that says what it is, a heading, and a line for each row. Lines end with LF, numbers are
--- decimal, and the parts of a heading and of a row are parted by commas.
+-- decimal, and the parts of a heading and of a row are separated by commas.
 use Rattle.std.specs.Prelude.{ℕ, List, [], ◌∷◌, ◌++◌, length, map, flat_map, take, drop, codes, decimal}
 use Rattle.query_lang.specs.declared.typed.Class.{Class}
 use Rattle.query_lang.specs.declared.typed.Class.TheVariants.{Linear, Other}
@@ -10,7 +10,7 @@ use Rattle.final_queries.specs.declared.table.Table.{Table}
 use Rattle.final_queries.specs.declared.table.TableKind.{TableKind}
 use Rattle.final_queries.specs.declared.table.TableKind.TheVariants.{Group, Final}
 
--- parts behind another one, each with a comma before it
+-- parts after another one, each with a comma before it
 abbrev pub continued : List (List ℕ) → List ℕ
 continued parts = flat_map (λ part. 44 ∷ part) parts
 
@@ -40,7 +40,7 @@ epoch_text mark epoch = decimal epoch
 abbrev pub numbers : List ℕ → List (List ℕ)
 numbers words = map decimal words
 
--- a groupby's row: its key, what it stands for, and the state
+-- a groupby's row: its key, what it represents, and the state
 abbrev pub group_parts : Row → List (List ℕ)
 group_parts row = numbers row.key ++ (mark_text row.mark ∷ epoch_text row.mark row.epoch ∷ decimal row.epochs ∷ [])
     ++ numbers row.values
@@ -53,13 +53,13 @@ abbrev pub row_parts : TableKind → Row → List (List ℕ)
 row_parts (Group class depth epochs) row = group_parts row
 row_parts Final row = final_parts row
 
--- the names of the columns; a groupby's have three more behind the keys
+-- the names of the columns; a groupby's have three more after the keys
 abbrev pub heading : TableKind → ℕ → List (List ℕ) → List (List ℕ)
 heading (Group class depth epochs) keys columns =
     take keys columns ++ (codes "mark" ∷ codes "epoch" ∷ codes "epochs" ∷ []) ++ drop keys columns
 heading Final keys columns = columns
 
--- what a table of this kind with so many rows is
+-- the line that says what a table of this kind with this many rows is
 abbrev pub kind_text : TableKind → ℕ → List ℕ
 kind_text (Group class depth epochs) rows = class_text class ++ (32 ∷ decimal depth) ++ (32 ∷ decimal epochs)
 kind_text Final rows = codes "final " ++ decimal rows

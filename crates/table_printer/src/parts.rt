@@ -1,4 +1,4 @@
-//! Lines of parts that commas part.
+//! Lines of parts that are separated by commas.
 ghost use Rattle.std.specs.Prelude.{◌≡◌, ◌++◌, ◌∷◌, [], Bool, true, OnOk, decimal, if◌then◌else◌};
 ghost use Rattle.table_printer.specs.TableText.{numbers};
 ghost use Rattle.table_printer.specs.Parts.{parts_from};

@@ -60,7 +60,7 @@ fn push_kind(text: &mut Text, kind: TableKind, rows: usize) -> Result<(), AllocE
     }
 }
 
-/// Writes the names of a groupby's three columns of its own.
+/// Writes the names of the three columns that every groupby's table has.
 fn push_epoch_names(text: &mut Text, begins: bool) -> Result<(), AllocError>
     ensures { OnOk result (text.new ≡ text.old ++ parts_from begins (codes "mark" ∷ codes "epoch" ∷ codes "epochs" ∷ [])) }
 {
