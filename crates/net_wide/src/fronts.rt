@@ -63,8 +63,8 @@ pub fn evict_at<K: EpochKind, const WAYS: usize, L: Ledger>(
     front.evict(bucket, steps)
 }
 
-/// Merges the oldest record of this switch's pipe into the store of all switches. Empty exactly where the pipe is empty; after
-/// a refusal of memory fronts and store are as they were.
+/// Merges the oldest record of this switch's pipe into the store of all switches. `Empty` exactly where the pipe is
+/// empty; out of memory leaves fronts and store unchanged.
 pub fn merge_at<K: EpochKind, const WAYS: usize, L: Ledger>(
     fronts: &mut [Front<K, WAYS>],
     at: usize,
@@ -91,7 +91,7 @@ pub fn merge_at<K: EpochKind, const WAYS: usize, L: Ledger>(
     front.merge_into(store, steps)
 }
 
-/// Makes a front with empty cache and pipe for the next switch. The others stay as they were.
+/// Makes a front with empty cache and pipe for the next switch. The others stay unchanged.
 pub fn add_front<K: EpochKind, const WAYS: usize>(
     alloc: Global,
     fronts: &mut Vec<Front<K, WAYS>>,

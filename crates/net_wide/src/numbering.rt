@@ -23,8 +23,8 @@ fn place_among<L: Ledger>(known: &[u64], switch: u64, steps: &mut Steps<L>) -> u
     known.len()
 }
 
-/// The number of a switch by first appearance, from 0; a new one is known from now on. None exactly for the 65th, and then
-/// nothing changes. It takes a step for each known switch at most, and memory only for a new one.
+/// The number of a switch by first appearance, from 0; a new one is known from now on. `None` exactly for the 65th, and
+/// then nothing changes. It takes at most a step for each known switch, and memory only for a new one.
 pub fn number_switch<L: Ledger>(
     known: &mut Seq<u64>,
     switch: u64,
