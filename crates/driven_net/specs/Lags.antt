@@ -20,7 +20,7 @@ pub record CountsAt (at : ℕ) (olds news : List Clock) : Type 0 where
       → (new : Clock) × (slice_get news at ≡ Some new) × HasCounted (suc number) new
   pub others : (other : ℕ) → other ≢ at → slice_get news other ≡ slice_get olds other
 
--- Where the number of this switch's packet is a multiple of the lag, each pipe of the switch has room behind it.
+-- Where the number of this switch's packet is a multiple of the lag, each pipe of the switch has room after it.
 abbrev pub MergesAt : {ways : ℕ} → ℕ → ℕ → List Clock → Network ways → Type 0
 MergesAt lag at clocks net = (number : ℕ) (clock : Clock) → slice_get clocks at ≡ Some clock → HasCounted number clock
     → is_refresh lag (suc number) ≡ true → list_all (is_ready_at at) (groups_in net) ≡ true

@@ -22,7 +22,7 @@ fault_at record_number None later = Some (TooManySwitches record_number)
 fault_at record_number (Some at) later = later
 
 -- The first fault of packets from the record with this number on, where these switches came before them: that of the 65th switch,
--- and otherwise the one behind them.
+-- and otherwise the one after them.
 abbrev pub first_fault : List ℕ → ℕ → List (List ℕ) → Option TraceFault → Option TraceFault
 first_fault known number [] behind = behind
 first_fault known number (words ∷ packets) behind =

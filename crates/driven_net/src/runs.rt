@@ -32,9 +32,9 @@ fn net_reads(plan: &Plan) -> FieldSet
     }
 }
 
-/// Runs a query over the packets of a trace's bytes, where each value of `switch` has caches and pipes of its own and all of
-/// them share one store for each groupby; and writes what the query prints at the end. A trace that has a fault for what the
-/// query reads, or a 65th switch, is refused, and nothing is written before the end.
+/// Runs a query over the packets of a trace's bytes, where each value of `switch` has separate caches and pipes and all
+/// of them share one store for each groupby, and writes what the query prints at the end. A trace with a fault in what
+/// the query reads, or with a 65th switch, is refused, and nothing is written before the end.
 pub fn net_over_trace<O: Sink, L: Ledger>(
     alloc: Global,
     setting: NetSetting,

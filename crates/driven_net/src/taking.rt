@@ -61,7 +61,7 @@ fn switch_at<const WAYS: usize, L: Ledger>(
     Ok(at)
 }
 
-// Counts a packet of a switch. Whether the switch's lag is over with it.
+// Counts a packet of a switch, and says whether the switch's lag is over with it.
 fn strikes(clocks: &mut [Clock], at: usize) -> bool
     requires at { at < 64 }
     requires clocks { (lag : ℕ) × AreLagClocks lag clocks.old }
@@ -107,8 +107,8 @@ fn take_one<const WAYS: usize, L: Ledger>(
     }
 }
 
-/// Takes all packets of a trace, each at its switch: the network's switches are those of the packets, in the order of their
-/// first packets. Behind every so many packets of a switch its lanes merge a record each.
+/// Takes all packets of a trace, each at its switch: the network's switches are those of the packets, in the order of
+/// their first packets. After every `lag` packets of a switch each of its lanes merges a record.
 pub(crate) fn take_all<const WAYS: usize, L: Ledger>(
     alloc: Global,
     network: Network<WAYS>,

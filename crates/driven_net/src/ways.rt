@@ -1,4 +1,4 @@
-//! What a query prints over several switches, with the ways that a setting names.
+//! What a query prints over several switches, with the ways that a setting gives.
 
 ghost use Rattle.std.specs.Prelude.{◌≡◌, ◌*◌, ◌<◌, ◌≤◌, ℕ, List, None, Some, [], length, IfErr, IfOk};
 ghost use Rattle.query_lang.specs.TypedQueries.{IsValidQuery};
@@ -56,7 +56,7 @@ fn network_after<const WAYS: usize, L: Ledger>(
     take_all(alloc, fresh, setting.lag, trace, steps)
 }
 
-// What the query prints over the trace's packets, with caches of so many ways.
+// What the query prints over the trace's packets, with caches of `WAYS` ways.
 fn text_with<const WAYS: usize, L: Ledger>(
     alloc: Global,
     setting: NetSetting,

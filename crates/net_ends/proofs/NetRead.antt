@@ -1,4 +1,4 @@
--- The tables of several switches may be read by finals: of each key at most one row is read.
+-- Finals can read the tables of several switches: of each key they read at most one row.
 use Rattle.std.proofs.Common.{◌≡◌, ℕ, suc, ◌-◌, ◌==◌, Bool, true, false, ◌||◌, List, [], ◌∷◌, ◌++◌, ◌⊎◌, inl, inr, length, drop, map, flat_map, Option, Some, None, refl, sym, ap, ◌∙◌, subst, arith, length-append}
 use Rattle.std.specs.Prelude.{slice_get}
 use Rattle.std.specs.List.{All}
@@ -89,7 +89,7 @@ module _ (h : Key → List Row) (one : (key : Key) → HasOneAtMost key (h key))
         | inr e ↦ subst (λ xs. IsAscending (xs ++ keys_read rest)) (sym e) (all_above key keys order.0, more)
       ])
 
--- so many key words and values
+-- this number of key words and values
 
 abbrev AreLong : ℕ → List Key → Type 0
 AreLong words keys = (key : Key) → has key keys ≡ true → length key ≡ words

@@ -227,7 +227,7 @@ module _ (q : TypedQuery) (plan : PlanParts) (buckets ways : ℕ) (packets : Lis
       ∙ (flat_maps_alike (λ key. exact (folding_of f) key ∷ []) (net_row (folding_of f)) (ascending (keys_given (all_events events))) (exact_is (folding_of f) linear)
       ∙ ap (λ keys. flat_map (net_row (folding_of f)) (ascending keys)) ((gives steps events ran).keys ∙ ap (map (λ u. u.key)) uses_are)))
 
-  -- a key that tells the switch
+  -- a key that gives the switch
   module _ (t : Taking) (at : slice_get (takings q.streams) i ≡ Some t) (k : HasSwitchKey q t) (key : Key) where
     abbrev one : ℕ
     one = number (slice_index key k.at)

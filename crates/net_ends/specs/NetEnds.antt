@@ -33,8 +33,8 @@ AreNumbered number packets = (a b : ℕ) → IsSeen a packets → IsSeen b packe
 abbrev pub steps_of : (ℕ → ℕ) → (List ℕ → Option Taken) → List (List ℕ) → List Step
 steps_of number taken packets = map (λ words. record { switch = number (switch_in words); taken = taken words }) packets
 
--- In a query without the fault, the epochs that were merged of all switches at the end of a trace give the groupby's table, in
--- whatever order merges came.
+-- In a query whose groupbys all combine, the merged epochs of all switches at the end of a trace give the groupby's table, whatever
+-- the order of the merges.
 abbrev pub EndsAreTheNetTables : Type 0
 EndsAreTheNetTables = (q : TypedQuery) (plan : PlanParts) (buckets ways : ℕ) (packets : List (List ℕ)) (number : ℕ → ℕ)
     → IsValidQuery q → net_fault q ≡ None → TellsSwitches q → IsPlanOf q plan → HasRoom (caches_of buckets ways)
@@ -44,7 +44,7 @@ EndsAreTheNetTables = (q : TypedQuery) (plan : PlanParts) (buckets ways : ℕ) (
     → IsRun (steps_of number (taken plan i) packets) events → AllMerged (caches_of buckets ways) events merged
     → closed_table (heading_of shape) (folding_of f) (all_epochs merged) ≡ net_table q (caches_of buckets ways) packets i shape f
 
--- The tables of the definition may be read by finals, and have the shapes of what the groupbys take.
+-- Finals can read the tables of the definition, which have the shapes of what the groupbys take.
 abbrev pub NetTablesAreRead : Type 0
 NetTablesAreRead = (q : TypedQuery) (plan : PlanParts) (g : Geometry) (packets : List (List ℕ)) → IsValidQuery q
     → IsPlanOf q plan → IsSoundPlan plan → AreWhole packets

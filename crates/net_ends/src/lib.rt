@@ -1,4 +1,4 @@
-//! The tables of a query over several switches, from the epochs that one store merged of all of them.
+//! The tables of a query over several switches, from the epochs of all of them that one store merged.
 #![tactic(auto)]
 
 mod laws;

@@ -1,4 +1,4 @@
--- Each stream that the rules make of streams that tell the switch tells it.
+-- Each stream that the rules make of streams that give the switch gives it.
 use Rattle.std.proofs.Common.{◌≡◌, ℕ, zero, suc, ◌-◌, ◌<◌, true, false, List, [], ◌∷◌, ◌++◌, length, drop, map, slice_index, None, refl, sym, ap, subst, ◌∙◌, inl, inr, arith}
 use Rattle.std.specs.Prelude.{slice_get}
 use Rattle.std.proofs.lemmas.List.{length-append, get_or-map}
@@ -40,7 +40,7 @@ KeysTell names switch rows columns (typed.Group input keys f args) =
     × ((j : ℕ) → j < length keys → is_switch names (slice_index columns j) ≡ true
     → SlotTells switch (slice_index keys j) (row_at rows input))
 
--- a name that stands for a stream: the stream is there, and its row tells the switch
+-- a name of a stream: the stream is there, and its row gives the switch
 abbrev pub MeaningTells : List (List ℕ) → ℕ → List Row → Meaning → Type 0
 MeaningTells names switch rows (meaning.Stream s) =
     (s.number < length rows) × RowTells names switch (column_names s.columns) (row_at rows s.number)
@@ -73,7 +73,7 @@ below_at n (slot ∷ slots) zero h lt = h.0
 below_at n (slot ∷ slots) (suc j) h lt = below_at n slots j h.1 (omega (arith, lt))
 
 module _ (names : List (List ℕ)) (switch : ℕ) where
-  -- ---- names and what they stand for
+  -- ---- names and what they mean
 
   pub all_last : (rows : List Row) (known : List Known) (one : Known) → AllTell names switch rows known
       → MeaningTells names switch rows one.meaning → AllTell names switch rows (known ++ one ∷ [])

@@ -1,4 +1,4 @@
--- Two packets of different switches that change places leave the same packets of each switch.
+-- Two packets of different switches that are exchanged leave the same packets of each switch.
 use Rattle.std.proofs.Common.{◌≡◌, ◌≢◌, ℕ, Bool, true, false, cond, ◌==◌, List, [], ◌∷◌, ◌++◌, length, refl, ap, arith}
 use Rattle.std.specs.Prelude.{All}
 use Rattle.std.proofs.lemmas.Bool.Decides.{nat_tests}

@@ -1,4 +1,4 @@
--- What operators make of rows that tell the switch.
+-- What operators make of rows that give the switch.
 use Rattle.std.proofs.Common.{◌≡◌, ℕ, ◌<◌, Bool, true, false, cond, List, [], ◌∷◌, ◌++◌, length, map, slice_index, Option, Some, None, refl, sym, ◌∙◌}
 use Rattle.std.proofs.lemmas.List.{length-map}
 use Rattle.query_lang.specs.declared.fold.TypedExpr.{TypedExpr}
@@ -17,7 +17,7 @@ pub rows_last : (folds : List TypedFold) (rows : List Row) (streams : List Typed
 rows_last folds rows [] one = refl
 rows_last folds rows (s ∷ streams) one = rows_last folds (rows ++ row_made folds rows s.op ∷ []) streams one
 
--- a row, where there is one, tells the switch
+-- a row, where there is one, gives the switch
 abbrev pub RowTells : List (List ℕ) → ℕ → List ℕ → Row → Type 0
 RowTells names switch columns None = Unit {0}
 RowTells names switch columns (Some row) = Tells names switch columns row

@@ -36,7 +36,7 @@ use Rattle.net_order.proofs.Made.{AllTell, KeysTell, MadeTells, names_of_new, al
 
 -- ---- how the streams were made
 
--- each stream was made by the rules behind the items before it
+-- each stream was made by the rules after the items before it
 abbrev AreMade : List ℕ → List (List ℕ) → List Entry → Type 0
 AreMade five names [] = Unit {0}
 AreMade five names (AFold f ∷ items) = AreMade five names items
@@ -62,7 +62,7 @@ all_made given names _ _ _ (of_none before) made = made
 all_made given names _ _ _ (of_more before i one rest all h more) made =
     all_made given names (one ∷ before) rest all more (one_made given names before i one h made)
 
--- ---- what the rows of one packet tell
+-- ---- what the rows of one packet say
 
 -- these are the rows of a packet of this switch, stream by stream
 record RowsTell (names : List (List ℕ)) (switch : ℕ) (items : List Entry) (rows : List Row) : Type 0 where

@@ -1,4 +1,4 @@
--- That the order of packets of different switches decides nothing, for each accepted text whose groupbys combine.
+-- That the order of packets of different switches makes no difference, for each accepted text whose groupbys combine.
 use Rattle.std.specs.Prelude.{◌≡◌, ◌≢◌, ℕ, List, ◌∷◌, ◌++◌, None, Ok}
 use Rattle.query_lang.specs.declared.typed.TypedQuery.{TypedQuery}
 use Rattle.accepted_query.specs.Accepted.{accepted}
@@ -18,7 +18,7 @@ SwitchOrderIsFree = (text : List ℕ) (q : TypedQuery) (buckets ways : ℕ) (pac
     → accepted text ≡ Ok q → net_fault q ≡ None → AreWhole packets → AreWhole other → SameOfEachSwitch packets other
     → net_text q buckets ways packets ≡ net_text q buckets ways other
 
--- So two packets of different switches that stand beside each other may change places.
+-- So two neighbouring packets of different switches can be exchanged.
 abbrev pub NeighboursMayChangePlaces : Type 0
 NeighboursMayChangePlaces = (text : List ℕ) (q : TypedQuery) (buckets ways : ℕ) (front back : List (List ℕ)) (a b : List ℕ)
     → accepted text ≡ Ok q → net_fault q ≡ None → AreWhole (front ++ a ∷ b ∷ back) → switch_in a ≢ switch_in b

@@ -23,7 +23,7 @@ pub fn switch_order_is_free()
     switches_do_not_wait();
 }
 
-/// Two packets of different switches that stand beside each other may change places: the same text is printed.
+/// Two neighbouring packets of different switches can be exchanged: the same text is printed.
 pub fn neighbours_may_change_places()
     ensures { NeighboursMayChangePlaces }
 {

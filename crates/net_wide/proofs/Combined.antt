@@ -1,4 +1,4 @@
--- In a query without the fault each groupby has an additive fold or the switch among its keys.
+-- In a query whose groupbys all combine each groupby has an additive fold or the switch among its keys.
 use Rattle.std.proofs.Common.{◌≡◌, ℕ, zero, suc, ◌<◌, Bool, true, false, not, ◌&&◌, ◌||◌, cond, List, [], ◌∷◌, ◌++◌, length, slice_index, Option, Some, None, refl, sym, ap, subst, ◌∙◌, ◌⊎◌, inl, inr, arith}
 use Rattle.std.specs.Prelude.{slice_get, if◌then◌else◌}
 use Rattle.std.specs.List.{All, list_any, cons_option}

@@ -65,7 +65,7 @@ module _ (q : TypedQuery) (i : ℕ) (t : Taking) (at : slice_get (takings q.stre
   pub keys_alike : keys_used (uses q i packets) ≡ keys_used (uses q i other)
   keys_alike = ap keys_used (taken_of packets whole) ∙ (same_keys_used take packets other same ∙ ap keys_used (sym (taken_of other other_whole)))
 
-  -- a packet that gives the key has the switch that stands in the key
+  -- a packet that gives the key has the switch that is in the key
   pub tells_switch : (k : HasSwitchKey q t) (key : Key) (words : List ℕ) (one : Taken) → length words ≡ 14 → take words ≡ Some one → key_eq one.key key ≡ true → switch_in words ≡ slice_index key k.at
   tells_switch k key words one size is e = go (packetwise.row_at (packetwise.all_rows q words) t.input) refl is
     where

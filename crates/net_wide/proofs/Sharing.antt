@@ -45,7 +45,7 @@ one_makes {K = K} means ways switch event fronts was now within here made = reco
   count = length-set fronts switch now;
 }
 
--- events and epochs, one behind the others
+-- events and epochs, some after the others
 
 events_more : (s : ℕ) (events : List SwitchEvent) (e : SwitchEvent) → events_at s (events ++ e ∷ []) ≡ events_at s events ++ events_at s (e ∷ [])
 events_more s events e =
@@ -87,7 +87,7 @@ module _ {K : Type 0} (means : K → Standing) (ways buckets k : ℕ) (event : E
   abbrev m : Machine
   m = machine_at g k events
 
-  -- the fronts after an event of one switch, whose machine merged so many epochs more
+  -- the fronts after an event of one switch, whose machine merged this number of epochs more
   stand_next : k < length old → SwitchMakes means ways k event old new → FrontsStand means ways buckets old events merged
       → take (step g m event).merged (step g m event).closed ≡ take m.merged m.closed ++ epochs_at k more
       → ((s : ℕ) → (k == s) ≡ false → epochs_at s more ≡ [])

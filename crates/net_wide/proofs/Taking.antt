@@ -70,7 +70,7 @@ module _ (take : List ℕ → Option Taken) (key : Key) where
       (sym (length_permutation (all_rows (given packets)) (all_rows (given other)) (same_rows (given packets) (given other) (same_of_each packets other h))))
       ∙ sym (keys_some 1 other))
 
-  -- where the key tells the switch, all its rows are of that switch
+  -- where the key gives the switch, all its rows are of that switch
   pub alone : (s : ℕ) → ((words : List ℕ) (t : Taken) → length words ≡ 14 → take words ≡ Some t → key_eq t.key key ≡ true → switch_in words ≡ s)
       → (packets : List (List ℕ)) → AreWhole packets → all_rows (given packets) ≡ rows_from s (given packets)
   alone s tells [] whole = refl

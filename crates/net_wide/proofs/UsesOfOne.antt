@@ -15,7 +15,7 @@ module _ (take : List ℕ → Option Taken) (s : ℕ) (all : List (List ℕ)) wh
   abbrev is_here : Use → Bool
   is_here u = switch_of all u.packet == s
 
-  -- the packets from this place on, of which the first has the number behind it
+  -- the packets from this place on, of which the first has the next number
   kept : (n k : ℕ) (packets : List (List ℕ)) → ((j : ℕ) → j < length packets → get_or all (k + j) [] ≡ get_or packets j [])
       → map taken_in (uses_taken n (map take (packets_at s packets))) ≡ map taken_in (filter is_here (uses_taken (suc k) (map take packets)))
   kept n k [] h = refl

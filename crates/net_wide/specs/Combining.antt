@@ -44,7 +44,7 @@ adds (Some f) = is_additive f
 abbrev pub combines : TypedQuery → ℕ → List ℕ → Bool
 combines q f keys = adds (slice_get q.folds f) || (names_switch q.names keys && not (makes_switch q.names q.streams))
 
--- whether a stream is none of a groupby, or of one that combines; the columns of a groupby's stream are its keys
+-- whether a stream is no groupby's, or that of a groupby that combines; the columns of a groupby's stream are its keys
 abbrev pub may_stand : TypedQuery → List ℕ → TypedOp → Bool
 may_stand q columns (Filter input condition) = true
 may_stand q columns (Map input values) = true

@@ -1,4 +1,4 @@
--- That the order of packets of different switches decides nothing.
+-- That the order of packets of different switches makes no difference.
 use Rattle.std.specs.Prelude.{◌≡◌, ◌≢◌, ◌==◌, ℕ, ◌-◌, ◌<◌, true, false, None}
 use Rattle.std.specs.Prelude.{List, [], ◌∷◌, length, map, filter, slice_index, slice_index_or, All}
 use Rattle.query_lang.specs.declared.typed.TypedOp.{TypedOp}
@@ -39,7 +39,7 @@ SwitchKeysAreSwitches q columns (Group input keys f args) =
     (j : ℕ) → j < length keys → is_switch q.names (slice_index columns j) ≡ true → makes_switch q.names q.streams ≡ false
     → IsSwitchSlot q input (slice_index keys j)
 
--- A query whose names tell what its columns are, as names in a text do: the keys named `switch` are switches, and the state
+-- A query whose names say what its columns are, as names in a text do: the keys named `switch` are switches, and the state
 -- variables start as words.
 pub record TellsSwitches (q : TypedQuery) : Type 0 where
   pub keys : All (λ one. SwitchKeysAreSwitches q one.columns one.op) q.streams
@@ -69,7 +69,7 @@ abbrev pub taken_in : Use → Taken
 taken_in u = record { key = u.key; row = u.row }
 
 -- What a groupby takes of one switch's packets alone is what it takes of all packets, where the packet is of that switch. Only the
--- numbers of packets differ, which decide nothing without a refresh.
+-- numbers of packets differ, which make no difference without a refresh.
 abbrev pub UsesAreTheSwitchs : Type 0
 UsesAreTheSwitchs = (q : TypedQuery) (i : ℕ) (packets : List (List ℕ)) (switch : ℕ) → AreWhole packets
     → map taken_in (uses_at q i packets switch) ≡ map taken_in (filter (λ u. switch_of packets u.packet == switch) (uses q i packets))

@@ -1,4 +1,4 @@
--- The tables of a query over several switches, each with caches of its own, and what the query prints.
+-- The tables of a query over several switches, each with separate caches, and what the query prints.
 use Rattle.std.specs.Prelude.{ℕ, suc, ◌==◌, List, [], ◌∷◌, ◌++◌, length, map, filter, flat_map, sum_by, slice_index}
 use Rattle.std.specs.Prelude.{Option, Some, None, if◌then◌else◌}
 use Rattle.marple_base.specs.declared.field.Field.TheVariants.{Switch}
@@ -31,7 +31,7 @@ packets_at switch packets = filter (λ words. switch_in words == switch) packets
 abbrev pub switches : List (List ℕ) → List ℕ
 switches packets = map (λ key. slice_index key 0) (ascending (map (λ words. switch_in words ∷ []) packets))
 
--- a switch's caches: so many buckets and ways, and no refresh
+-- a switch's caches, with this number of buckets and ways and no refresh
 abbrev pub caches_of : ℕ → ℕ → Geometry
 caches_of buckets ways = record { buckets = buckets; ways = ways; refresh = 0 }
 
@@ -90,7 +90,7 @@ net_tables_from q g packets i (shape ∷ shapes) =
 unfoldable pub net_tables : TypedQuery → Geometry → List (List ℕ) → List Table
 net_tables q g packets = net_tables_from q g packets 0 (query_groups q)
 
--- What a query prints over the packets of several switches, whose caches have so many buckets and ways: the tables of its
+-- What a query prints over the packets of several switches, whose caches have this number of buckets and ways: the tables of its
 -- groupbys and finals, in the order of its prints.
 unfoldable pub net_text : TypedQuery → ℕ → ℕ → List (List ℕ) → List ℕ
 net_text q buckets ways packets = printed q (with_finals q.names q.folds (net_tables q (caches_of buckets ways) packets) q.finals)

@@ -10,18 +10,18 @@ use Rattle.switch_core.specs.Lanes.{Standing, FrontStands}
 use Rattle.additive_folds.specs.Network.{SwitchEvent, SwitchEpoch, events_at, all_epochs, epochs_at, machine_at}
 use Rattle.net_wide.specs.NetTables.{caches_of}
 
--- so it is with the front of this switch
+-- this holds of the front of this switch
 abbrev pub AtSwitch : {K : Type 0} → (FrontOf K → Type 0) → List (FrontOf K) → ℕ → Type 0
 AtSwitch {K = K} P fronts switch = (front : FrontOf K) → slice_get fronts switch ≡ Some front → P front
 
--- The event is made by the front of this switch, and all others stay as they were.
+-- The front of this switch makes the event, and all others stay unchanged.
 pub record SwitchMakes {K : Type 0} (means : K → Standing) (ways switch : ℕ) (event : Event) (old new : List (FrontOf K)) : Type 0 where
   pub front : (was : FrontOf K) → slice_get old switch ≡ Some was
       → (now : FrontOf K) × (slice_get new switch ≡ Some now) × FrontMakes (means was.kind) ways event was now
   pub others : (s : ℕ) → s ≢ switch → slice_get new s ≡ slice_get old s
   pub count : length new ≡ length old
 
--- an event at this switch, behind these
+-- these events, and then this one at this switch
 abbrev pub with_event : List SwitchEvent → ℕ → Event → List SwitchEvent
 with_event events switch event = events ++ record { switch = switch; event = event } ∷ []
 
@@ -29,7 +29,7 @@ with_event events switch event = events ++ record { switch = switch; event = eve
 abbrev pub epochs_from : ℕ → List Epoch → List SwitchEpoch
 epochs_from switch epochs = map (λ epoch. record { switch = switch; epoch = epoch }) epochs
 
--- The fronts of switches 0, 1 and so on after these events, of whose closed epochs these were merged: each stands for the machine
+-- The fronts of switches 0, 1 and so on after these events, of whose closed epochs these were merged: each represents the machine
 -- of its switch, and each switch's epochs were merged in the order of closing. No switch without a front had an event.
 pub record FrontsStand {K : Type 0} (means : K → Standing) (ways buckets : ℕ) (fronts : List (FrontOf K)) (events : List SwitchEvent)
     (merged : List SwitchEpoch) : Type 0 where
@@ -40,7 +40,7 @@ pub record FrontsStand {K : Type 0} (means : K → Standing) (ways buckets : ℕ
   pub order : (s : ℕ) → epochs_at s merged
       ≡ take (machine_at (caches_of buckets ways) s events).merged (machine_at (caches_of buckets ways) s events).closed
 
--- A call that makes an event of a switch and merges nothing leads from fronts to fronts.
+-- A call that makes an event of a switch and merges nothing leads from the old fronts to the new ones.
 abbrev pub LeadsBy : {K : Type 0} → (K → Standing) → ℕ → ℕ → Event → List (FrontOf K) → List (FrontOf K) → Type 0
 LeadsBy means ways switch event old new = (buckets : ℕ) (events : List SwitchEvent) (merged : List SwitchEpoch)
     → FrontsStand means ways buckets old events merged → FrontsStand means ways buckets new (with_event events switch event) merged
@@ -49,19 +49,19 @@ LeadsBy means ways switch event old new = (buckets : ℕ) (events : List SwitchE
 abbrev pub merged_at : ℕ → ℕ → ℕ → List SwitchEvent → List SwitchEpoch
 merged_at ways buckets switch events = epochs_from switch (next_merged (machine_at (caches_of buckets ways) switch events))
 
--- A merge of a switch leads from fronts to fronts: its oldest unmerged epoch is merged, where there is one.
+-- A merge of a switch leads from the old fronts to the new ones: its oldest unmerged epoch is merged, where there is one.
 abbrev pub LeadsByMerge : {K : Type 0} → (K → Standing) → ℕ → ℕ → List (FrontOf K) → List (FrontOf K) → Type 0
 LeadsByMerge means ways switch old new = (buckets : ℕ) (events : List SwitchEvent) (merged : List SwitchEpoch)
     → FrontsStand means ways buckets old events merged
     → FrontsStand means ways buckets new (with_event events switch Merge) (merged ++ merged_at ways buckets switch events)
 
--- A store that holds the merged epochs of all switches, in the order of merging, holds that epoch behind them after the merge.
+-- A store that holds the merged epochs of all switches, in the order of merging, holds that epoch after them once it is merged.
 abbrev pub StoreTakes : {K : Type 0} → (K → Standing) → Folding → ℕ → ℕ → List (FrontOf K) → Store → Store → Type 0
 StoreTakes means f ways switch fronts before after = (buckets : ℕ) (events : List SwitchEvent) (merged : List SwitchEpoch)
     → FrontsStand means ways buckets fronts events merged → StoreHolds f before (all_epochs merged)
     → StoreHolds f after (all_epochs (merged ++ merged_at ways buckets switch events))
 
--- A front with this kind of entries and these sizes stands behind the others.
+-- A front with this kind of entries and these sizes comes after the others.
 pub record AddsFront {K : Type 0} (kind : K) (buckets key_words places : ℕ) (old new : List (FrontOf K)) : Type 0 where
   pub front : FrontOf K
   pub added : new ≡ old ++ front ∷ []

@@ -76,7 +76,7 @@ fn combines(q: &TypedQuery, number: u16, keys: &[u32]) -> bool
         || names_switch(&q.names, keys) && !makes_switch(&q.names, q.streams.as_slice())
 }
 
-// Whether a stream is none of a groupby, or of one that combines.
+// Whether a stream is no groupby's, or that of a groupby that combines.
 fn may_stand(q: &TypedQuery, one: &TypedStream) -> bool
     requires { All IsValidFold q.now.folds }
     ensures { result ≡ may_stand q.now one.now.columns one.now.op }
@@ -87,9 +87,9 @@ fn may_stand(q: &TypedQuery, one: &TypedStream) -> bool
     }
 }
 
-/// The fault of a query that can't run over several switches: `NotAdditive` at the name of the first groupby that doesn't
-/// combine, and `None` where every groupby does. A groupby combines where its fold is additive, or where one of its keys is
-/// named `switch` and no `map` of a stream of the query makes a column of that name. Takes no memory.
+/// The fault of a query that can't run over several switches: `NotAdditive` at the name of the first groupby that
+/// doesn't combine, and `None` where every groupby does. A groupby combines where its fold is additive, or where one of
+/// its keys is named `switch` and no `map` of a stream of the query makes a column of that name. It needs no memory.
 pub fn net_check(q: &TypedQuery) -> Option<QueryFault>
     requires { IsValidQuery q.now }
     ensures { result ≡ net_fault q.now }

@@ -25,7 +25,7 @@ fn column_names(key_names: Seq<Text>, state_names: Seq<Text>) -> Result<Seq<Text
     Ok(columns)
 }
 
-/// The table of the epochs that a store holds, of entries of this kind, under these names. The store stays as it is.
+/// The table of the epochs that a store holds, of entries of this kind, under these names. The store stays unchanged.
 pub fn store_table<K: EpochKind>(
     kind: &K,
     store: &BackingStore,

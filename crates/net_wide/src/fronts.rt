@@ -33,7 +33,7 @@ pub fn packet_at<K: EpochKind, const WAYS: usize, L: Ledger>(
     requires args { AtSwitch (λ front. length args.now ≡ (K.sizes front.kind).args) fronts.old at }
     ensures makes { SwitchMakes (λ kind. K.stands kind) WAYS at (Packet key.now args.now) fronts.old fronts.new }
     ensures leads { LeadsBy (λ kind. K.stands kind) WAYS at (Packet key.now args.now) fronts.old fronts.new }
-    ensures at_least { steps.old ≤ steps.new }
+    ensures steps { steps.old ≤ steps.new }
     ensures cost { AtSwitch (λ front. let key_words = front.cache.key_words in
         steps.new ≤ steps.old + (key_words + 2 * WAYS * (key_words + 1) + (key_words + (K.sizes front.kind).entry)
         + K.open_bound front.kind + K.absorb_bound front.kind)) fronts.old at }
@@ -55,7 +55,7 @@ pub fn evict_at<K: EpochKind, const WAYS: usize, L: Ledger>(
     ensures makes { SwitchMakes (λ kind. K.stands kind) WAYS at (Evict bucket) fronts.old fronts.new }
     ensures leads { LeadsBy (λ kind. K.stands kind) WAYS at (Evict bucket) fronts.old fronts.new }
     ensures some { AtSwitch (λ front. result ≡ not (length (list_at front.cache bucket) == 0)) fronts.old at }
-    ensures at_least { steps.old ≤ steps.new }
+    ensures steps { steps.old ≤ steps.new }
     ensures cost { AtSwitch (λ front. steps.new ≡ steps.old
         + (if result then evict_cost front.cache.key_words front.cache.entry_words else 0)) fronts.old at }
 {
@@ -63,8 +63,8 @@ pub fn evict_at<K: EpochKind, const WAYS: usize, L: Ledger>(
     front.evict(bucket, steps)
 }
 
-/// Merges the oldest record of this switch's pipe into the store of all switches. Empty exactly where the pipe is empty; after
-/// a refusal of memory fronts and store are as they were.
+/// Merges the oldest record of this switch's pipe into the store of all switches. `Empty` exactly where the pipe is
+/// empty; out of memory leaves fronts and store unchanged.
 pub fn merge_at<K: EpochKind, const WAYS: usize, L: Ledger>(
     fronts: &mut [Front<K, WAYS>],
     at: usize,
@@ -81,7 +81,7 @@ pub fn merge_at<K: EpochKind, const WAYS: usize, L: Ledger>(
     ensures ready { OnOk result (AtSwitch (λ front. length front.pipe.records < front.pipe.places) fronts.new at) }
     ensures empty { AtSwitch (λ front. (result ≡ Ok Merged.Empty) ↔ (length front.pipe.records ≡ 0)) fronts.old at }
     ensures err { OnErr result ((fronts.new ≡ fronts.old) × (store.new ≡ store.old)) }
-    ensures at_least { steps.old ≤ steps.new }
+    ensures steps { steps.old ≤ steps.new }
     ensures cost { AtSwitch (λ front. steps.new ≤ steps.old
         + merge_cost front.cache.key_words front.cache.entry_words (K.merge_bound front.kind)) fronts.old at }
     ensures known { AtSwitch (λ front. IsFront WAYS (K.sizes front.kind) front.cache front.pipe) fronts.old at }
@@ -91,7 +91,7 @@ pub fn merge_at<K: EpochKind, const WAYS: usize, L: Ledger>(
     front.merge_into(store, steps)
 }
 
-/// Makes a front with empty cache and pipe for the next switch. The others stay as they were.
+/// Makes a front with empty cache and pipe for the next switch. The others stay unchanged.
 pub fn add_front<K: EpochKind, const WAYS: usize>(
     alloc: Global,
     fronts: &mut Vec<Front<K, WAYS>>,

@@ -11,7 +11,7 @@ use std::sync::ledger::Ledger;
 fn place_among<L: Ledger>(known: &[u64], switch: u64, steps: &mut Steps<L>) -> usize
     ensures place { result ≡ place_among known.now switch }
     ensures within { result ≤ length known.now }
-    ensures at_least { steps.old ≤ steps.new }
+    ensures steps { steps.old ≤ steps.new }
     ensures cost { steps.new ≤ steps.old + length known.now }
 {
     for (at, other) in known.iter().enumerate() {
@@ -23,8 +23,8 @@ fn place_among<L: Ledger>(known: &[u64], switch: u64, steps: &mut Steps<L>) -> u
     known.len()
 }
 
-/// The number of a switch by first appearance, from 0; a new one is known from now on. None exactly for the 65th, and then
-/// nothing changes. It takes a step for each known switch at most, and memory only for a new one.
+/// The number of a switch by first appearance, from 0; a new one is known from now on. `None` exactly for the 65th, and
+/// then nothing changes. It takes at most a step for each known switch, and memory only for a new one.
 pub fn number_switch<L: Ledger>(
     known: &mut Seq<u64>,
     switch: u64,
@@ -35,7 +35,7 @@ pub fn number_switch<L: Ledger>(
     ensures known { OnOk result (known.new ≡ with_switch known.old switch) }
     ensures few { length known.new ≤ 64 }
     ensures err { OnErr result (known.new ≡ known.old) }
-    ensures at_least { steps.old ≤ steps.new }
+    ensures steps { steps.old ≤ steps.new }
     ensures cost { steps.new ≤ steps.old + length known.old }
 {
     let at = place_among(known.as_slice(), switch, steps);

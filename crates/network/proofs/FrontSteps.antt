@@ -1,4 +1,4 @@
--- Runs of a front and its store, one behind another.
+-- Runs of a front and its store, in sequence.
 use Rattle.std.proofs.Common.{◌≡◌, ℕ, ◌≤◌, List, [], ◌∷◌, ◌++◌, length, take, refl, sym, ap, ◌∙◌, subst, append-nil, append_assoc}
 use Rattle.epoch_model.specs.Epochs.{Geometry}
 use Rattle.epoch_model.specs.Machine.{Machine, Event, Packet, Evict, Merge, step, run}
@@ -111,7 +111,7 @@ module _ {K : Type 0} (means : Standing) (f : Folding) (ways : ℕ) where
     };
   }
 
--- lists of events, one behind another
+-- lists of events, in sequence
 
 pub no_packets_on : (xs ys : List Event) → NoPacket xs → NoPacket ys → NoPacket (xs ++ ys)
 no_packets_on [] ys a b = b
@@ -125,7 +125,7 @@ merges_are_none (Packet key row ∷ xs) a = cc
 merges_are_none (Evict bucket ∷ xs) a = cc
 merges_are_none (Merge ∷ xs) a = merges_are_none xs a
 
--- what a front does behind what it did, whatever its kind is written as
+-- what a front does after what it did, however its kind is written
 module _ {K : Type 0} (means : K → Standing) (folding : K → Folding) (ways : ℕ) (first was new : FrontOf K) (s t u : Store) where
   pub then_sweeps : FrontRuns (means first.kind) (folding first.kind) ways NoPacket first was s t → FrontRuns (means was.kind) (folding was.kind) ways NoPacket was new t u
       → FrontRuns (means first.kind) (folding first.kind) ways NoPacket first new s u

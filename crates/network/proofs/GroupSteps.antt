@@ -94,7 +94,7 @@ still_groups ways switches are plan olds news ran is =
     each_made (λ n group part. IsGroup switches part (wiring_at plan n) group) (λ n. GroupRuns ways (are n)) (λ n group part. IsGroup switches part (wiring_at plan n) group) 0 olds news plan.groups
     (λ n a b p r s. still_group ways switches (are n) p plan n a b s r) is ran
 
--- tables, one after another
+-- tables in sequence
 
 tables_next_at : (parts : List GroupPlan) (groups : List GroupView) (epochs : List (List Epoch)) (i : ℕ) (part : GroupPlan) (group : GroupView) (es : List Epoch)
     → slice_get parts i ≡ Some part → slice_get groups i ≡ Some group → slice_get epochs i ≡ Some es
@@ -247,7 +247,7 @@ kept_back plan switches k (a ∷ olds) (b ∷ mids) (c ∷ news) (p ∷ parts) a
     let first : c ≡ a = kept.0 ∙ (ap (λ n. with_first n b) (sym are.0.count) ∙ others.0) in
     ap (λ x. x ∷ news) first ∙ ap (λ xs. a ∷ xs) (kept_back plan switches (suc k) olds mids news parts are.1 others.1 kept.1)
 
--- caches are as wide as they were
+-- caches stay as wide
 pub wide_ran : (ways buckets : ℕ) (are : ℕ → List SwitchEvent → Type 0) (olds news : List GroupView) → GroupsRun ways are olds news → AllWide buckets olds → AllWide buckets news
 wide_ran ways buckets are olds news ran wide n now e s front f =
     let group = each_back (λ k. GroupRuns ways (are k)) 0 olds news n now ran e in

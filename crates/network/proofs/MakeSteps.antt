@@ -51,7 +51,7 @@ kept_of {K = K} means ways at event olds news made = each_of FrontKept 0 olds ne
     apart : (s : ℕ) → (at == s) ≡ false → s ≢ at
     apart s t e = let yes : (at == s) ≡ true = grind (arith, nat_tests) in let wrong : true ≡ false = sym yes ∙ t in cc
 
--- runs of a groupby, one behind another
+-- runs of a groupby, in sequence
 
 pub group_none : (ways : ℕ) (P : List SwitchEvent → Type 0) (a : GroupView) → P [] → GroupRuns ways P a a
 group_none ways P a p = record { kind = refl; runs = shared_none ghosts.stands (folding_in a) ways P a.fronts a.store p }
@@ -76,7 +76,7 @@ pub groups_none : (ways k : ℕ) (P : ℕ → List SwitchEvent → Type 0) (grou
 groups_none ways k P [] h = tt
 groups_none ways k P (x ∷ groups) h = (group_none ways (P k) x (h k), groups_none ways (suc k) P groups h)
 
--- the groupbys so far ran, and the others are as they were
+-- the groupbys so far ran, and the others are unchanged
 pub run_so_far : (ways i k : ℕ) (P : List SwitchEvent → Type 0) (olds news : List GroupView) → P [] → EachFrom (λ n a b. n < i → GroupRuns ways P a b) k olds news
     → EachFrom (λ n a b. i ≤ n → b ≡ a) k olds news → EachFrom (λ n. GroupRuns ways P) k olds news
 run_so_far ways i k P [] [] p done same = tt
@@ -275,7 +275,7 @@ switch_within plan switches at n groups group within are here =
     let many = (found.2 n (omega arith)).count in
     omega arith
 
--- and its fronts may share the store
+-- and its fronts can share the store
 pub shares_at : (plan : PlanParts) (switches n : ℕ) (groups : List GroupView) (group : GroupView) → AreGroups plan switches groups → slice_get groups n ≡ Some group
     → AllShare ghosts.sizes ghosts.folding (folding_in group) (length (wiring_at plan n).args) group.fronts group.store
 shares_at plan switches n groups group are here =

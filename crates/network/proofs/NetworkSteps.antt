@@ -14,7 +14,7 @@ use Rattle.network.proofs.GroupSteps.{places_ran, still_groups, wide_ran}
 use Rattle.network.proofs.MakeSteps.{groups_on, makes_runs}
 use Rattle.network.proofs.SharedSteps.{turn_between}
 
--- A network whose groupbys ran, and whose sizes are as they were, has as many switches as before.
+-- A network whose groupbys ran, and whose sizes are unchanged, has as many switches as before.
 pub still_network : {ways : ℕ} (are : ℕ → List SwitchEvent → Type 0) (switches : ℕ) (old new : Network ways) → new.plan ≡ old.plan → new.buckets ≡ old.buckets
     → new.switches ≡ old.switches → new.pipe_records ≡ old.pipe_records → HasRooms new.plan new.registers.items new.key.items new.args.items
     → GroupsRun ways are (groups_in old) (groups_in new) → IsNetwork switches old → IsNetwork switches new

@@ -30,7 +30,7 @@ use Rattle.network.specs.FrontRuns.{FrontKept, StoreKept, FrontRuns}
 use Rattle.network.specs.Shared.{SharedStand, SharedRuns, NoPackets, MergesAlone, IsTurnAt, AllShare}
 use Rattle.network.proofs.FrontSteps.{kept_on, store_on, fits_on, no_packets_on}
 
--- alike foldings say the same of a store
+-- alike foldings mean the same of a store
 
 stored_alike : (f h : Folding) → AreAlike f h → (lists : List (List ArgRow)) → stored f lists ≡ stored h lists
 stored_alike f h a lists = by_test f.row_per_epoch
@@ -189,7 +189,7 @@ module _ {K : Type 0} (means : K → Standing) (folding : K → Folding) (ways k
         };
   }
 
--- one run behind another
+-- one run after another
 
 -- what is said of items and then of what was made of them
 pub each_on : {A : Type 0} (R S T : ℕ → A → A → Type 0) (k : ℕ) (xs ys zs : List A) → ((n : ℕ) (a b c : A) → R n a b → S n b c → T n a c)
@@ -286,7 +286,7 @@ each_back R k (x ∷ olds) [] s now p e = absurd p
 each_back R k (x ∷ olds) (y ∷ news) zero now p e = let same : y ≡ now = cc in (x, refl, λ n q. let is : k ≡ n = omega arith in subst (λ m. R m x now) is (subst (R k x) same p.0))
 each_back R k (x ∷ olds) (y ∷ news) (suc s) now p e = let rest = each_back R (suc k) olds news s now p.1 e in (rest.0, rest.1, λ n q. rest.2 n (omega arith))
 
--- fronts that kept their kinds and sizes may still share
+-- fronts that kept their kinds and sizes can still share
 pub still_share : {K : Type 0} (sizes : K → Sizes) (folding : K → Folding) (f : Folding) (args : ℕ) (olds news : List (FrontOf K)) (before after : Store)
     → Each FrontKept olds news → StoreKept before after → AllShare sizes folding f args olds before → AllShare sizes folding f args news after
 still_share {K = K} sizes folding f args olds news before after kept store share s now e =

@@ -13,11 +13,11 @@ use Rattle.network.specs.Events.{AtGroup}
 abbrev pub lane_in : GroupView → FrontOf AnyEpochs → LaneView
 lane_in group front = record { kind = front.kind; cache = front.cache; pipe = front.pipe; store = group.store }
 
--- so it is with the lane of this switch at a groupby
+-- this holds of the lane of this switch at a groupby
 abbrev pub AtLaneIn : (LaneView → Type 0) → GroupView → ℕ → Type 0
 AtLaneIn P group at = AtSwitch (λ front. P (lane_in group front)) group.fronts at
 
--- so it is with the lane of this switch at the groupby of this number
+-- this holds of the lane of this switch at the groupby with this number
 abbrev pub AtSwitchLane : (LaneView → Type 0) → List GroupView → ℕ → ℕ → Type 0
 AtSwitchLane P groups at number = AtGroup (λ group. AtLaneIn P group at) groups number
 

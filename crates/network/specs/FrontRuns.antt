@@ -10,7 +10,7 @@ use Rattle.switch_core.specs.FrontParts.{FrontOf}
 use Rattle.switch_core.specs.Lanes.{Standing, FrontStands}
 use Rattle.switch_traces.specs.Traces.{unrefreshed}
 
--- a front's kind and sizes are as they were
+-- a front's kind and sizes are unchanged
 pub record FrontKept {K : Type 0} (old new : FrontOf K) : Type 0 where
   pub kind : new.kind ≡ old.kind
   pub buckets : length new.cache.lists ≡ length old.cache.lists
@@ -22,7 +22,7 @@ pub record StoreKept (old new : Store) : Type 0 where
   pub key_words : new.key_words ≡ old.key_words
   pub state_words : new.state_words ≡ old.state_words
 
--- Events of which this holds led from the machine to one that the front stands for, and the store holds what they merged behind
+-- Events for which this holds lead from the machine to one that the front represents, and the store holds what they merged after
 -- these epochs.
 pub record RunsTo {K : Type 0} (means : Standing) (f : Folding) (g : Geometry) (are : List Event → Type 0)
     (new : FrontOf K) (after : Store) (m : Machine) (epochs : List Epoch) : Type 0 where
@@ -33,7 +33,8 @@ pub record RunsTo {K : Type 0} (means : Standing) (f : Folding) (g : Geometry) (
   pub merged : take (run g events m).merged (run g events m).closed ≡ take m.merged m.closed ++ later
   pub holds : StoreHolds f after (epochs ++ later)
 
--- Such events lead a front and a store from old to new ones, whatever machine the front stood for and whatever epochs the store held.
+-- Such events lead a front and a store from old to new ones, whatever machine the front represented and whatever epochs the store
+-- held.
 pub record FrontRuns {K : Type 0} (means : Standing) (f : Folding) (ways : ℕ) (are : List Event → Type 0)
     (old new : FrontOf K) (before after : Store) : Type 0 where
   pub kept : FrontKept old new

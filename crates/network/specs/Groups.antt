@@ -34,7 +34,7 @@ pub record GroupView : Type 0 where
 abbrev pub folding_in : GroupView → Folding
 folding_in group = ghosts.folding group.kind
 
--- all its fronts, for rows of so many arguments, may share its store
+-- all its fronts, for rows of this number of arguments, can share its store
 abbrev pub GroupShares : ℕ → GroupView → Type 0
 GroupShares args group = AllShare ghosts.sizes ghosts.folding (folding_in group) args group.fronts group.store
 
@@ -43,7 +43,7 @@ abbrev pub IsKindOfProgram : FoldProgram → AnyEpochs → Type 0
 IsKindOfProgram program kind = (f : TypedFold) → IsProgramOf f program
     → IsKindOf f (ghosts.sizes kind) (ghosts.folding kind) (ghosts.open_bound kind) (ghosts.absorb_bound kind)
 
--- It is that of the plan's groupby, with fronts for so many switches.
+-- It is that of the plan's groupby, with fronts for this number of switches.
 pub record IsGroup (switches : ℕ) (part : GroupPlan) (wiring : GroupWiring) (group : GroupView) : Type 0 where
   pub keys : group.store.key_words ≡ length part.key_names
   pub states : group.store.state_words ≡ (ghosts.sizes group.kind).state
@@ -57,12 +57,12 @@ pub record IsGroup (switches : ℕ) (part : GroupPlan) (wiring : GroupWiring) (g
 abbrev pub AreGroups : PlanParts → ℕ → List GroupView → Type 0
 AreGroups plan switches groups = EachFrom (λ n group part. IsGroup switches part (wiring_at plan n) group) 0 groups plan.groups
 
--- the groupby's fronts and store stand for these events and merged epochs
+-- the groupby's fronts and store represent these events and merged epochs
 abbrev pub GroupStands : ℕ → ℕ → GroupView → List SwitchEvent → List SwitchEpoch → Type 0
 GroupStands ways buckets group events merged =
     SharedStand ghosts.stands (folding_in group) ways buckets group.fronts group.store events merged
 
--- Events of which this holds lead a groupby from old parts to new ones.
+-- Events for which this holds lead a groupby from old parts to new ones.
 pub record GroupRuns (ways : ℕ) (are : List SwitchEvent → Type 0) (old new : GroupView) : Type 0 where
   pub kind : new.kind ≡ old.kind
   pub runs : SharedRuns ghosts.stands (folding_in old) ways are old.fronts new.fronts old.store new.store
@@ -71,29 +71,29 @@ pub record GroupRuns (ways : ℕ) (are : List SwitchEvent → Type 0) (old new :
 abbrev pub GroupsRun : ℕ → (ℕ → List SwitchEvent → Type 0) → List GroupView → List GroupView → Type 0
 GroupsRun ways are olds news = EachFrom (λ n. GroupRuns ways (are n)) 0 olds news
 
--- each of its caches has so many buckets
+-- each of its caches has this number of buckets
 abbrev pub AreWide : ℕ → GroupView → Type 0
 AreWide buckets group =
     (s : ℕ) (front : FrontOf AnyEpochs) → slice_get group.fronts s ≡ Some front → length front.cache.lists ≡ buckets
 
--- each cache of each groupby has so many buckets
+-- each cache of each groupby has this number of buckets
 abbrev pub AllWide : ℕ → List GroupView → Type 0
 AllWide buckets groups = (n : ℕ) (group : GroupView) → slice_get groups n ≡ Some group → AreWide buckets group
 
--- each of its pipes has so many places
+-- each of its pipes has this number of places
 abbrev pub HavePlaces : ℕ → GroupView → Type 0
 HavePlaces places group =
     (s : ℕ) (front : FrontOf AnyEpochs) → slice_get group.fronts s ≡ Some front → front.pipe.places ≡ places
 
--- each pipe of each groupby has so many places
+-- each pipe of each groupby has this number of places
 abbrev pub AllHavePlaces : ℕ → List GroupView → Type 0
 AllHavePlaces places groups = (n : ℕ) (group : GroupView) → slice_get groups n ≡ Some group → HavePlaces places group
 
--- the groupby with the fronts of its first switches, so many
+-- the groupby with the fronts of this number of its first switches
 abbrev pub with_first : ℕ → GroupView → GroupView
 with_first switches group = record group { fronts = take switches group.fronts }
 
--- A groupby has a front more, for the next switch, which had no event; without it, it is the old one.
+-- A groupby has one front more, for the next switch, which had no event; without that front it is the old one.
 pub record GroupGrows (ways buckets places : ℕ) (old new : GroupView) : Type 0 where
   pub kind : new.kind ≡ old.kind
   pub wide : AreWide buckets old → AreWide buckets new
@@ -102,7 +102,7 @@ pub record GroupGrows (ways buckets places : ℕ) (old new : GroupView) : Type 0
   pub stands : (events : List SwitchEvent) (merged : List SwitchEpoch) → GroupStands ways buckets old events merged
       → GroupStands ways buckets new events merged
 
--- no cache and no pipe of it has anything
+-- all its caches and pipes are empty
 abbrev pub group_is_drained : GroupView → Bool
 group_is_drained group = list_all (λ front. is_drained front.cache front.pipe) group.fronts
 

@@ -13,8 +13,8 @@ use Rattle.network.specs.Costs.{group_cost, group_merge_cost}
 abbrev pub groups_in : {ways : ℕ} → Network ways → List GroupView
 groups_in net = net.groups.items
 
--- It has so many switches, at most 64, with fronts for each at every groupby; each cache has its number of buckets, and each pipe
--- its number of records as places; and there is room for what is taken of a packet.
+-- It has this number of switches, at most 64, with fronts for each at every groupby; each cache has its number of buckets, and each
+-- pipe its number of records as places; and there is room for what is taken of a packet.
 pub record IsNetwork {ways : ℕ} (switches : ℕ) (net : Network ways) : Type 0 where
   pub count : net.switches ≡ switches
   pub few : switches ≤ 64
@@ -34,13 +34,13 @@ pub record Keeps {ways : ℕ} (old new : Network ways) : Type 0 where
   pub buckets : new.buckets ≡ old.buckets
   pub pipe_records : new.pipe_records ≡ old.pipe_records
 
--- Events of one switch lead a network on: each groupby makes those of its number, and one that has none is as it was.
+-- A network makes events of one switch: each groupby makes those of its number, and one that has none is unchanged.
 pub record NetworkMakes {ways : ℕ} (at : ℕ) (events : ℕ → List Event) (old new : Network ways) : Type 0 where
   pub groups : GroupsMake ways at events (groups_in old) (groups_in new)
   pub keeps : Keeps old new
 
 -- A turn of this switch that broke off: each groupby made the first of its events, all with the packet or all without it, and
--- merges before and behind it.
+-- merges before and after it.
 abbrev pub TurnBreaksOff : {ways : ℕ} → ℕ → List ℕ → Network ways → Network ways → Type 0
 TurnBreaksOff {ways = ways} at words old new = (took : Bool)
     × GroupsRun ways (λ n. IsTurnAt at (if took then taken old.plan n words else None)) (groups_in old) (groups_in new)
@@ -53,6 +53,6 @@ network_cost {ways = ways} at net = registers_of net.plan + sum_by (group_cost w
 abbrev pub merges_cost : {ways : ℕ} → ℕ → Network ways → ℕ
 merges_cost at net = sum_by (group_merge_cost at) (groups_in net)
 
--- the most steps that a packet of this switch takes with the merges around it: one at each groupby before it, and one behind it
+-- the most steps that a packet of this switch takes with the merges around it: one at each groupby before it, and one after it
 abbrev pub turn_cost : {ways : ℕ} → ℕ → Network ways → ℕ
 turn_cost at net = network_cost at net + 2 * merges_cost at net

@@ -15,13 +15,14 @@ use Rattle.switch_traces.specs.Traces.{from_switch, without_merges}
 use Rattle.net_wide.specs.Sharing.{FrontsStand}
 use Rattle.network.specs.FrontRuns.{FrontKept, StoreKept}
 
--- The fronts stand for the machines of these events, of whose epochs these were merged, and the store holds the merged ones.
+-- The fronts represent the machines after these events, of whose closed epochs these were merged, and the store holds the merged
+-- ones.
 pub record SharedStand {K : Type 0} (means : K → Standing) (f : Folding) (ways buckets : ℕ) (all : List (FrontOf K)) (into : Store)
     (events : List SwitchEvent) (merged : List SwitchEpoch) : Type 0 where
   pub fronts : FrontsStand means ways buckets all events merged
   pub store : StoreHolds f into (all_epochs merged)
 
--- Events of which this holds led on, with what they merged.
+-- Events for which this holds came next, with what they merged.
 pub record LedOn {K : Type 0} (means : K → Standing) (f : Folding) (ways buckets : ℕ) (are : List SwitchEvent → Type 0)
     (fronts : List (FrontOf K)) (store : Store) (events : List SwitchEvent) (merged : List SwitchEpoch) : Type 0 where
   pub more : List SwitchEvent
@@ -37,14 +38,14 @@ pub record SharedRuns {K : Type 0} (means : K → Standing) (f : Folding) (ways 
   pub runs : (buckets : ℕ) (events : List SwitchEvent) (merged : List SwitchEpoch)
       → SharedStand means f ways buckets olds before events merged → LedOn means f ways buckets are news after events merged
 
--- a front that may share the store: its entries are folded to the same states, and the store has its sizes
+-- a front that can share the store: its entries are folded to the same states, and the store has its sizes
 pub record MayShare {K : Type 0} (sizes : K → Sizes) (folding : K → Folding) (f : Folding) (words : ℕ) (store : Store)
     (front : FrontOf K) : Type 0 where
   pub alike : AreAlike (folding front.kind) f
   pub fits : FitsStore (sizes front.kind) front.cache store
   pub args : (sizes front.kind).args ≡ words
 
--- each of the fronts may
+-- each of the fronts can
 abbrev pub AllShare : {K : Type 0} → (K → Sizes) → (K → Folding) → Folding → ℕ → List (FrontOf K) → Store → Type 0
 AllShare {K = K} sizes folding f words fronts store =
     (s : ℕ) (front : FrontOf K) → slice_get fronts s ≡ Some front → MayShare sizes folding f words store front
@@ -57,6 +58,6 @@ NoPackets events = NoPacket (all_events events)
 abbrev pub MergesAlone : List SwitchEvent → Type 0
 MergesAlone events = without_merges events ≡ []
 
--- the packet event of what is taken, of this switch, and merges before and behind it
+-- the packet event of what is taken, of this switch, and merges before and after it
 abbrev pub IsTurnAt : ℕ → Option Taken → List SwitchEvent → Type 0
 IsTurnAt switch taken events = without_merges events ≡ from_switch switch (event_of taken)

@@ -21,7 +21,7 @@ use std::alloc::AllocError;
 use std::sync::ledger::Ledger;
 use switch_core::{Front, Merged};
 
-// Merges the oldest record, where there is one; and whether there was.
+// Merges the oldest record, if there is one, and says whether there was.
 fn merge_once<K: EpochKind, const WAYS: usize, L: Ledger>(
     front: &mut Front<K, WAYS>,
     store: &mut BackingStore,
@@ -63,7 +63,8 @@ fn make_room<K: EpochKind, const WAYS: usize, L: Ledger>(
     Ok(())
 }
 
-/// The packet event, at the front of this switch, of what the groupby takes of these registers, if it takes anything.
+/// Makes the packet event of what the groupby takes from these registers, if it takes anything, at the front of this
+/// switch.
 pub fn take_packet<K: EpochKind, const WAYS: usize, L: Ledger>(
     plan: &Plan,
     group: u32,

@@ -55,7 +55,7 @@ impl<const WAYS: usize> Model for Group<WAYS> {
     ghost view = { λ g. record { kind = g.kind; fronts = g.fronts.items; store = g.store } };
 }
 
-// Drains the fronts of all switches, one after another.
+// Drains the fronts of all switches in turn.
 fn drain_fronts<K: EpochKind, const WAYS: usize, L: Ledger>(
     fronts: &mut [Front<K, WAYS>],
     store: &mut BackingStore,
@@ -76,7 +76,7 @@ fn drain_fronts<K: EpochKind, const WAYS: usize, L: Ledger>(
     Ok(())
 }
 
-// Texts of their own memory.
+// Copies of these texts.
 fn copied_texts(alloc: Global, texts: &[Text]) -> Result<Seq<Text>, AllocError>
     ensures { IfOk result (λ copy. copy ≡ texts.now) }
 {
@@ -130,7 +130,7 @@ impl<const WAYS: usize> Group<WAYS> {
         add_front(alloc, &mut self.fronts, kind, buckets, keys, pipe_records)
     }
 
-    /// Keeps the caches and pipes of the first switches, so many, and drops those of the others.
+    /// Keeps the caches and pipes of the first `switches` switches, and drops those of the others.
     pub fn keep_switches(&mut self, switches: usize)
         ensures { self.new ≡ with_first switches self.old }
     {
@@ -166,7 +166,7 @@ impl<const WAYS: usize> Group<WAYS> {
         Ok(())
     }
 
-    /// Takes what the groupby takes of these registers, if it takes anything, at this switch.
+    /// Takes, at this switch, what the groupby takes from these registers, if it takes anything.
     pub fn packet<L: Ledger>(
         &mut self,
         plan: &Plan,

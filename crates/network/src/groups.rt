@@ -44,7 +44,7 @@ pub fn made_groups<const WAYS: usize>(
     Ok(groups)
 }
 
-// Makes caches and pipes of the next switch, for each groupby up to one that finds no memory.
+// Makes caches and pipes of the next switch, at each groupby up to the first that runs out of memory.
 fn add_fronts<const WAYS: usize>(
     alloc: Global,
     plan: &Plan,
@@ -70,7 +70,7 @@ fn add_fronts<const WAYS: usize>(
     Ok(())
 }
 
-// Keeps the caches and pipes of the first switches, so many, at each groupby.
+// Keeps the caches and pipes of the first `switches` switches at each groupby.
 fn keep_switches<const WAYS: usize>(groups: &mut [Group<WAYS>], switches: usize)
     ensures { Each (λ old new. new ≡ with_first switches old) groups.old groups.new }
 {
@@ -80,7 +80,7 @@ fn keep_switches<const WAYS: usize>(groups: &mut [Group<WAYS>], switches: usize)
     }
 }
 
-/// Makes caches and pipes of the next switch, after so many, for each groupby; after a refusal of memory for none.
+/// Makes the caches and pipes of the next switch at each groupby; when out of memory, at none.
 pub fn add_switch<const WAYS: usize>(
     alloc: Global,
     plan: &Plan,
@@ -140,7 +140,7 @@ pub fn make_room<const WAYS: usize, L: Ledger>(
     Ok(())
 }
 
-/// The packet event of this switch at each groupby that takes something of these registers.
+/// Makes the packet event of this switch at each groupby that takes something from these registers.
 pub fn packet_groups<const WAYS: usize, L: Ledger>(
     plan: &Plan,
     registers: &[u64],

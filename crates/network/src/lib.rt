@@ -1,4 +1,4 @@
-//! Several switches, each with caches and pipes of its own, and one store for each groupby that all of them are merged into.
+//! Several switches, each with separate caches and pipes, and for each groupby one store that all of them merge into.
 #![tactic(auto)]
 
 mod fronts;

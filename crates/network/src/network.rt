@@ -1,4 +1,4 @@
-//! A plan over several switches: one call for each event of a switch, and two for what a trace needs of them.
+//! A plan over several switches: a call for each event of a switch, and two that make the events that a trace needs.
 
 ghost use Rattle.std.specs.Prelude.{◌≡◌, ◌+◌, ◌*◌, ◌==◌, ◌<◌, ◌≤◌, ◌↔◌, ℕ, List, [], Ok, true, not};
 ghost use Rattle.std.specs.Prelude.{length};
@@ -48,7 +48,8 @@ pub struct Network<const WAYS: usize> {
 }
 
 impl<const WAYS: usize> Network<WAYS> {
-    /// A plan that has no switch yet. Each one will have caches of so many buckets and pipes of so many records.
+    /// A plan that has no switch yet. Each switch will have caches of `buckets` buckets and pipes of `pipe_records`
+    /// records.
     pub fn new(
         alloc: Global,
         plan: Plan,
@@ -82,7 +83,7 @@ impl<const WAYS: usize> Network<WAYS> {
         })
     }
 
-    /// Makes the caches and pipes of the next switch. There are at most 64. After a refusal of memory all is unchanged.
+    /// Makes the caches and pipes of the next switch. There are at most 64. Out of memory leaves everything unchanged.
     pub fn add_switch(&mut self) -> Result<(), AllocError>
         requires is { (switches : ℕ) × (switches < 64) × IsNetwork switches self.old }
         ensures is { OnOk result ((switches : ℕ) → IsNetwork switches self.old → IsNetwork (switches + 1) self.new) }
@@ -145,8 +146,8 @@ impl<const WAYS: usize> Network<WAYS> {
         group.ready(at as usize)
     }
 
-    /// Takes a packet of a switch: each groupby whose input has a tuple for it has the packet event of its key and its
-    /// arguments, at this switch. It takes no memory.
+    /// Takes a packet of a switch: each groupby whose input has a tuple for it makes the packet event of its key and
+    /// arguments at this switch. It needs no memory.
     pub fn packet<L: Ledger>(&mut self, at: u32, packet: &Packet, steps: &mut Steps<L>)
         requires is { (switches : ℕ) × (at < switches) × IsNetwork switches self.old }
         requires ready { list_all (is_ready_at at) (groups_in self.old) ≡ true }
@@ -198,8 +199,8 @@ impl<const WAYS: usize> Network<WAYS> {
         evict_from(&mut self.groups, at as usize, lane as usize, bucket, steps)
     }
 
-    /// Merges the oldest record of a switch's pipe into the store of all switches, at one groupby. Empty exactly where the
-    /// pipe is empty; after a refusal of memory all is as it was.
+    /// Merges the oldest record of a switch's pipe into the store of all switches, at one groupby. `Empty` exactly
+    /// where the pipe is empty; out of memory leaves everything unchanged.
     pub fn merge<L: Ledger>(
         &mut self,
         at: u32,
@@ -248,9 +249,9 @@ impl<const WAYS: usize> Network<WAYS> {
         merge_groups(&mut self.groups, at as usize, steps)
     }
 
-    /// A packet of a switch with the merges around it: where one of its pipes is full, that lane merges a record; then the
-    /// packet; and each lane merges a record where the lag is over. No memory is taken but by a store for a new key. After a
-    /// refusal of memory the first of these events were made.
+    /// A packet of a switch with the merges around it: first each lane whose pipe is full merges a record, then comes
+    /// the packet, and then, where the lag is over, each lane merges a record. Only a store needs memory, for a new
+    /// key. When out of memory, only the first of these events were made.
     pub fn turn<L: Ledger>(
         &mut self,
         at: u32,
@@ -276,8 +277,8 @@ impl<const WAYS: usize> Network<WAYS> {
         self.catch_up(at, steps)
     }
 
-    /// Closes all open epochs of all switches and merges all that are closed. After a refusal of memory the first of these
-    /// evictions and merges were made.
+    /// Closes all open epochs of all switches and merges all that are closed. When out of memory, only the first of
+    /// these evictions and merges were made.
     pub fn drain<L: Ledger>(&mut self, steps: &mut Steps<L>) -> Result<(), AllocError>
         requires is { (switches : ℕ) × IsNetwork switches self.old }
         ensures is { (switches : ℕ) → IsNetwork switches self.old → IsNetwork switches self.new }

@@ -1,4 +1,4 @@
--- What the machines of several switches close of a trace, and what the store that merges it all has of a key.
+-- Which epochs the machines of several switches close of a trace, and what the store that merges them has of a key.
 use Rattle.std.specs.Prelude.{◌≡◌, ◌≢◌, ◌==◌, ℕ, Bool, false, List, [], ◌∷◌, length, map, filter, flat_map}
 use Rattle.std.specs.List.{list_any}
 use Rattle.epoch_model.specs.Keys.{Key, ArgRow, ascending}

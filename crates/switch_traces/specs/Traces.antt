@@ -43,7 +43,7 @@ abbrev pub without_merges : List SwitchEvent → List SwitchEvent
 without_merges [] = []
 without_merges (e ∷ events) = unless_merge e.switch e.event (without_merges events)
 
--- The events are those of the steps in order, with merges anywhere, and behind them evictions and merges alone.
+-- The events are those of the steps in order, with merges anywhere, and then evictions and merges alone.
 pub record IsRun (steps : List Step) (events : List SwitchEvent) : Type 0 where
   pub first : List SwitchEvent
   pub rest : List SwitchEvent
@@ -51,6 +51,6 @@ pub record IsRun (steps : List Step) (events : List SwitchEvent) : Type 0 where
   pub packets : without_merges first ≡ given steps
   pub ending : NoPacket (all_events rest)
 
--- caches of so many buckets and ways, which no refresh empties
+-- caches with this number of buckets and ways, which no refresh empties
 abbrev pub unrefreshed : ℕ → ℕ → Geometry
 unrefreshed buckets ways = record { buckets = buckets; ways = ways; refresh = 0 }

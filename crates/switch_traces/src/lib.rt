@@ -1,10 +1,10 @@
-//! A trace's packets, by switch: what the machines of all switches close of them, and what the store that merges it has of
-//! each key. Each law is the contract of a function without a body.
+//! A trace's packets, by switch: which epochs the machines of all switches close of them, and what the store that
+//! merges these has of each key. Each law is the contract of a function without a body.
 #![tactic(auto)]
 
 ghost use Rattle.switch_traces.specs.TraceLaws.{EpochsAddUp, EpochsOfOneSwitch, MergedKeysAreUsed, OwnEpochs, RunsGiveTheTrace};
 
-/// Each switch's merged epochs are those into which its caches cut what its own packets give, wherever merges fall.
+/// The merged epochs of each switch are those into which its caches cut what its packets give, wherever merges come.
 pub fn own_epochs()
     ensures { OwnEpochs }
 {}
@@ -24,7 +24,7 @@ pub fn epochs_add_up()
     ensures { EpochsAddUp }
 {}
 
-/// A key that one switch alone has epochs of has just these.
+/// Where only one switch has epochs of a key, the store has just these of it.
 pub fn epochs_of_one_switch()
     ensures { EpochsOfOneSwitch }
 {}

@@ -49,7 +49,7 @@ parts_add f state partition q i packets parts key h the v lt =
 carry : (s z a rest : ℕ) → z ≡ a % 2 ^ 64 → ((s + z) % 2 ^ 64 + rest) % 2 ^ 64 ≡ (s + (a + rest)) % 2 ^ 64
 carry s z a rest e = omega (arith, e)
 
--- states that are added one after another
+-- states that are added in sequence
 plus_along : (z : ℕ → List ℕ) (a : ℕ → ℕ) (v size : ℕ) → ((n : ℕ) → length (z n) ≡ size) → ((n : ℕ) → slice_index (z n) v ≡ a n % 2 ^ 64) → v < size
     → (state : List ℕ) → length state ≡ size → AreWords state → (parts : List ℕ)
     → slice_index (fold plus state (map z parts)) v ≡ (slice_index state v + sum_by a parts) % 2 ^ 64

@@ -39,7 +39,7 @@ slots_below columns [] (slot ∷ slots) h = absurd h
 slots_below columns (id ∷ ids) [] h = absurd h
 slots_below columns (id ∷ ids) (slot ∷ slots) h = (stands_below columns slot id h.0, slots_below columns ids slots h.1)
 
--- what stands after others
+-- what comes after others
 pub rest_after : (front back : List ℕ) (n : ℕ) → n ≡ length front → drop n (front ++ back) ≡ back
 rest_after [] back n e = ap (λ k. drop k back) e
 rest_after (x ∷ front) back zero e = absurd (omega (arith, e))

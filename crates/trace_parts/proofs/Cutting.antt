@@ -195,7 +195,7 @@ module _ (partition : Partition) (q : TypedQuery) (i : ℕ) (kept : KeepsKeys pa
   abbrev own : List (List ℕ) → List (List ℕ)
   own packets = part_at partition (kept.part_of key) packets
 
-  -- so it stands after any uses
+  -- so it is after any uses
   abbrev IsThin : List (List ℕ) → Type 0
   IsThin packets = (n m : ℕ) (us ps : List Use) → Thinned key us ps → Thinned key (back n packets us) (back m (own packets) ps)
 

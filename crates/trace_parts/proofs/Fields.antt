@@ -1,4 +1,4 @@
--- The keys of a typed query that are named as a field are the packet's words of it.
+-- The keys of a typed query that have a field's name are the packet's words of it.
 use Rattle.std.proofs.Common.{◌≡◌, ℕ, zero, suc, ◌+◌, ◌<◌, Bool, true, false, cond, ◌||◌, List, [], ◌∷◌, ◌++◌, length, map, filter, slice_index, Option, Some, None, refl, sym, ap, ◌∙◌, subst, arith}
 use Rattle.std.specs.Prelude.{All, is_some, slice_get, slice_index_or}
 use Rattle.std.specs.List.{list_any, cons_option}
@@ -67,7 +67,7 @@ all_made given names _ _ _ (of_none before) made = made
 all_made given names _ _ _ (of_more before i one rest all h more) made =
     all_made given names (one ∷ before) rest all more (one_made given names before i one h made)
 
--- ---- what the rows of one packet tell
+-- ---- what the rows of one packet say
 
 -- these are the rows of a packet that has this word of the field, stream by stream
 record RowsTell (field : Field) (names : List (List ℕ)) (value : ℕ) (items : List Entry) (rows : List Row) : Type 0 where
@@ -162,7 +162,7 @@ module _ (field : Field) (names : List (List ℕ)) (folds : List TypedFold) (fiv
 
 -- ---- keys
 
--- the first column that is named as the field is there
+-- the first column that has the field's name is there
 named_at : (field : Field) (names : List (List ℕ)) (columns : List ℕ) → names_field field names columns ≡ true
     → (first_named field names columns < length columns) × (is_named field names (slice_index columns (first_named field names columns)) ≡ true)
 named_at field names [] e = cc e
@@ -202,7 +202,7 @@ key_tells t value j (Some row) lt h =
     (sym (get_or-map (λ slot. slice_index row slot) t.keys j 0 0 lt ∙ h))
     (All-nil (λ (u : Use). value ≡ slice_index u.key j))
 
--- what the rows of each whole packet tell of an operator
+-- what the rows of each whole packet say of an operator
 abbrev AlwaysTells : TypedQuery → Field → List ℕ → TypedOp → Type 0
 AlwaysTells q field columns op =
     (words : List ℕ) → length words ≡ 14 → KeysTell field q.names (word_of field words) (all_rows q words) columns op

@@ -1,4 +1,4 @@
--- Each stream that the rules make of streams that tell a packet's word of one field tells it.
+-- Each stream that the rules make of streams that give a packet's word of one field gives it.
 use Rattle.std.proofs.Common.{◌≡◌, ℕ, zero, suc, ◌-◌, ◌<◌, true, false, List, [], ◌∷◌, ◌++◌, length, drop, map, slice_index, None, refl, sym, ap, subst, ◌∙◌, inl, inr, arith}
 use Rattle.std.specs.Prelude.{slice_get}
 use Rattle.std.proofs.lemmas.List.{length-append, length-map, get_or-map}
@@ -32,7 +32,7 @@ use Rattle.tuple_laws.proofs.Views.{AreBelow, others_below}
 use Rattle.trace_parts.proofs.Columns.{picked_names, names_long, names_of_both, slots_below, rest_after}
 use Rattle.trace_parts.proofs.Rows.{RowTells, SlotTells, filter_tells, map_tells, zip_tells, group_tells, slot_tells}
 
--- the keys of a groupby that are named as the field are the packet's word of it, in the row of its input; its columns are its keys
+-- the keys of a groupby that have the field's name are the packet's word of it, in the row of its input; its columns are its keys
 abbrev pub KeysTell : Field → List (List ℕ) → ℕ → List Row → List ℕ → TypedOp → Type 0
 KeysTell field names value rows columns (typed.Filter input condition) = Unit {0}
 KeysTell field names value rows columns (typed.Map input values) = Unit {0}
@@ -43,7 +43,7 @@ KeysTell field names value rows columns (typed.Group input keys f args) =
     → SlotTells value (slice_index keys j) (row_at rows input))
     × (length columns ≡ length keys)
 
--- a name that stands for a stream: the stream is there, and its row tells the word
+-- a name of a stream: the stream is there, and its row gives the word
 abbrev pub MeaningTells : Field → List (List ℕ) → ℕ → List Row → Meaning → Type 0
 MeaningTells field names value rows (meaning.Stream s) =
     (s.number < length rows) × RowTells field names value (column_names s.columns) (row_at rows s.number)
@@ -76,7 +76,7 @@ below_at n (slot ∷ slots) zero h lt = h.0
 below_at n (slot ∷ slots) (suc j) h lt = below_at n slots j h.1 (omega (arith, lt))
 
 module _ (field : Field) (names : List (List ℕ)) (value : ℕ) where
-  -- ---- names and what they stand for
+  -- ---- names and what they mean
 
   pub all_last : (rows : List Row) (known : List Known) (one : Known) → AllTell field names value rows known
       → MeaningTells field names value rows one.meaning → AllTell field names value rows (known ++ one ∷ [])

@@ -1,4 +1,4 @@
--- What finals make of the tables of parts. A table stands here as the rows that finals read of it, and the tables of parts as a
+-- What finals make of the tables of parts. A table is represented by the rows that finals read of it, and the tables of parts by a
 -- function of the parts' numbers.
 use Rattle.std.specs.Prelude.{◌≡◌, ◌≢◌, ℕ, false, List, [], ◌∷◌, map, filter, flat_map, slice_index, All, Option, Some}
 use Rattle.epoch_model.specs.declared.tables.Row.{Row}
@@ -36,7 +36,7 @@ ExactTablesInOrder = (partition : Partition) (q : TypedQuery) (i : ℕ) (kept : 
     → let tables : ℕ → List Row = λ n. map but_for_epochs (group_rows f (caches n) (part_uses partition q i packets n)) in
     (map but_for_epochs (group_rows f g (uses q i packets)) ≡ rows_of_all tables parts) × AreInTheirParts kept.part_of tables
 
--- `filter` of all rows gives the rows that it gives of each part, in the order of keys.
+-- `filter` of all rows gives the rows that it gives for each part, in the order of keys.
 abbrev pub FiltersAreOfParts : Type 0
 FiltersAreOfParts = (condition : TypedExpr) (rows : ℕ → List Row) (parts : List ℕ)
     → filtered_rows condition (rows_of_all rows parts) ≡ rows_of_all (λ n. filtered_rows condition (rows n)) parts
@@ -52,7 +52,7 @@ JoinsAreOfParts = (part_of : Key → ℕ) (left right : ℕ → List Row) (parts
     → AreInTheirParts part_of left → AreInTheirParts part_of right
     → joined_rows (rows_of_all left parts) (rows_of_all right parts) ≡ rows_of_all (λ n. joined_rows (left n) (right n)) parts
 
--- `top` of all rows is `top` of the rows that `top` gives of each part, whatever parts the keys are in.
+-- `top` of all rows is `top` of the rows that `top` gives for each part, whatever parts the keys are in.
 abbrev pub TopsAreOfTops : Type 0
 TopsAreOfTops = (column kept : ℕ) (rows : ℕ → List Row) (parts : List ℕ)
     → top_rows column kept (rows_of_all rows parts) ≡ top_rows column kept (rows_of_all (λ n. top_rows column kept (rows n)) parts)
@@ -61,7 +61,7 @@ TopsAreOfTops = (column kept : ℕ) (rows : ℕ → List Row) (parts : List ℕ)
 abbrev pub one_each : ℕ → List Row
 one_each n = plain_row (n ∷ 5 ∷ []) [] ∷ []
 
--- `groupby` isn't of parts alone. By the second word of these keys it has one row of both parts, and one of each part alone,
+-- `groupby` can't be made part by part. By the second word of these keys it has one row of both parts, and one of each part alone,
 -- whatever the fold.
 abbrev pub GroupbysAreNotOfParts : Type 0
 GroupbysAreNotOfParts = (f : TypedFold) → AreInTheirParts (λ key. slice_index key 0) one_each

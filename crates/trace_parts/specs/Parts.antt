@@ -1,4 +1,4 @@
--- The packets of a trace in parts, by a function of each packet's words, and what it is that parts keep a key whole.
+-- The packets of a trace, split into parts by a function of each packet's words, and what it means that parts keep a key whole.
 use Rattle.std.specs.Prelude.{◌≡◌, ℕ, ◌==◌, Bool, true, false, is_some, List, [], ◌∷◌, length, map, filter, All}
 use Rattle.std.specs.Prelude.{suc, if◌then◌else◌, Some, slice_get, slice_index}
 use Rattle.std.specs.List.{list_any}
@@ -66,15 +66,15 @@ by_fields fields choose words = choose (map (λ field. word_of field words) fiel
 abbrev pub is_named : Field → List (List ℕ) → ℕ → Bool
 is_named field names id = bytes_eq (field_name field) (text_at names id)
 
--- whether one of these columns is named as the field
+-- whether one of these columns has the field's name
 abbrev pub names_field : Field → List (List ℕ) → List ℕ → Bool
 names_field field names columns = list_any (is_named field names) columns
 
--- whether a `map` of these streams makes a column that is named as the field
+-- whether a `map` of these streams makes a column that has the field's name
 abbrev pub makes_field : Field → List (List ℕ) → List TypedStream → Bool
 makes_field field names streams = list_any (λ one. names_field field names (columns_made one.columns one.op)) streams
 
--- the place of the first of these columns that is named as the field
+-- the place of the first of these columns that has the field's name
 abbrev pub first_named : Field → List (List ℕ) → List ℕ → ℕ
 first_named field names [] = 0
 first_named field names (id ∷ columns) = if is_named field names id then 0 else suc (first_named field names columns)
@@ -87,7 +87,7 @@ part_by names columns fields choose key = choose (map (λ field. slice_index key
 abbrev pub groupbys : TypedQuery → List TypedStream
 groupbys q = filter (λ one. is_some (taking_of one.op)) q.streams
 
--- A key of the query's groupby with this number is named as the field, and no `map` makes a column of that name. The columns of a
+-- A key of the query's groupby with this number has the field's name, and no `map` makes a column of that name. The columns of a
 -- groupby's stream are its keys.
 pub record HasFieldKey (q : TypedQuery) (i : ℕ) (field : Field) : Type 0 where
   pub one : TypedStream

@@ -19,7 +19,7 @@ pub fn finals_read_no_epochs()
     ensures tops { TopsReadNoEpochs }
 {}
 
-/// `filter` of the rows of all parts gives the rows that it gives of each part, in the order of keys.
+/// `filter` of the rows of all parts gives the rows that it gives for each part, in the order of keys.
 pub fn filters_are_of_parts()
     ensures { FiltersAreOfParts }
 {}
@@ -34,12 +34,13 @@ pub fn joins_are_of_parts()
     ensures { JoinsAreOfParts }
 {}
 
-/// `top` of all rows is `top` of the rows that `top` gives of each part.
+/// `top` of all rows is `top` of the rows that `top` gives for each part.
 pub fn tops_are_of_tops()
     ensures { TopsAreOfTops }
 {}
 
-/// `groupby` isn't of parts alone, whatever the fold: here its whole table has one row, and the parts' tables have two.
+/// `groupby` can't be made part by part, whatever the fold: here the table of all rows has one row, and the parts'
+/// tables have two.
 pub fn groupbys_are_not_of_parts()
     ensures { GroupbysAreNotOfParts }
 {}

@@ -70,7 +70,7 @@ room_within start room merges cost a = omega arith
 packet_within : (start room packet merges cost packets : ℕ) → room ≤ start + merges → packets ≡ cost → packet ≤ room + packets → packet ≤ start + (cost + 2 * merges)
 packet_within start room packet merges cost packets a b c = omega arith
 
--- what a packet takes behind merges is what it took before them
+-- what a packet takes after merges is what it took before them
 same_cost : {ways : ℕ} (at : ℕ) (old mid : Network ways) → Keeps old mid → GroupsRun ways (λ n. MergesAlone) (groups_in old) (groups_in mid) → network_cost at mid ≡ network_cost at old
 same_cost {ways = ways} at old mid keeps ran =
     ap (λ p. registers_of p + sum_by (group_cost ways at) (groups_in mid)) keeps.plan
