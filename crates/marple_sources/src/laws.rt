@@ -1,8 +1,8 @@
-//! What holds of the sources of texts.
+//! Laws of the sources of texts.
 
 ghost use Rattle.marple_sources.specs.Sources.{SourcesAreOne, SourcesAreThere};
 
-/// Each text has a source for each command: what is said of the sources of a text is not said of nothing.
+/// Each text has a source for each command: what is said of all sources of a text isn't said of none.
 pub fn sources_are_there()
     ensures { SourcesAreThere }
 {}

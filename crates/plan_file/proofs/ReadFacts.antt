@@ -7,12 +7,12 @@ use Rattle.plan_file.specs.Lexis.{lines, bytes_after_lines}
 use Rattle.plan_file.specs.Lines.{nothing, IsLine}
 use Rattle.plan_file.specs.Texts.{Make, Says, IsBadAt, IsLineStart, IsBehindLines}
 
--- so many lines are read, up to a byte, and they made this
+-- this many lines are read, up to a byte, and they made this
 pub record IsReached (text : List ℕ) (i at : ℕ) (made : Made) : Type 0 where
   pub start : IsLineStart text i at
   pub valid : Make (take i (lines text)) nothing made
 
--- one more line is behind those that were made
+-- one more line follows those that were read
 make_more : (ls : List (List ℕ)) (i : ℕ) (x y z : Made) (line : List ℕ) → Make (take i ls) x y → slice_get ls i ≡ Some line → IsLine y line z → Make (take (suc i) ls) x z
 make_more [] i x y z line p e l = cc
 make_more (m ∷ ls) zero x y z line p e l =
@@ -33,7 +33,7 @@ reached_more text i at next made after line r e start l = record {
   valid = subst (λ n. Make (take n (lines text)) nothing after) (sym (add-one i)) (make_more (lines text) i nothing made after line r.valid e l);
 }
 
--- a line that is not valid behind those that were made
+-- a line that isn't valid after those that were read
 pub bad_line : (text : List ℕ) (i at : ℕ) (made : Made) (line : List ℕ) → length text ≤ 2097152 → IsReached text i at made → slice_get (lines text) i ≡ Some line → ((after : Made) → IsLine made line after → ⊥) → IsBadAt text at
 bad_line text i at made line small r e bad = inr (small, inl (i, record { before = made; valid_before = r.valid; line = line; is = e; bad = λ v. bad v.0 v.1 }, r.start.start))
 

@@ -90,7 +90,7 @@ in_from : (fields : List Field) (least most : ℕ) → AreIn least most fields �
 in_from [] least most h = tt
 in_from (f ∷ rest) least most h = (h.0, in_from rest (number_of f + 1) most h.1)
 
--- What the fields below a number leave of a line: these are found, and these tokens are left.
+-- What the fields below a number leave of a line: the fields found, and the tokens left.
 pub record IsPassed (line : List ℕ) (found : List Field) (i : ℕ) (left : List (List ℕ)) : Type 0 where
   pub words : tokens line ≡ codes "reads" ∷ (map field_name found ++ left)
   pub order : AreIn 0 i found
@@ -109,7 +109,7 @@ passed_start line left e = record {
   all = λ fields valid. (fields, refl, valid.order, tail_is (codes "reads") (codes "reads") (map field_name fields) left (sym valid.words ∙ e));
 }
 
--- another line than `reads`
+-- a line other than `reads`
 pub no_reads : (line word : List ℕ) (rest : List (List ℕ)) → tokens line ≡ word ∷ rest → bytes_eq word (codes "reads") ≡ false
     → (fields : List Field) → IsReadsLine line fields → ⊥
 no_reads line word rest e other fields valid =
@@ -202,7 +202,7 @@ past_all : (more : List Field) (i : ℕ) (t : List ℕ) (ts : List (List ℕ)) �
 past_all [] i t ts past order words = cc
 past_all (f ∷ rest) i t ts past order words = omega (arith, below_14 f, order.0, past)
 
--- a token is left behind all fields
+-- a token is left after all fields
 pub passed_none : (line : List ℕ) (found : List Field) (i : ℕ) (t : List ℕ) (ts : List (List ℕ)) → 14 ≤ i → IsPassed line found i (t ∷ ts)
     → (fields : List Field) → IsReadsLine line fields → ⊥
 passed_none line found i t ts past p fields valid =
@@ -223,7 +223,7 @@ step_other line found i f t left ts p is e other =
 pub step_end : (line : List ℕ) (found : List Field) (i : ℕ) (left : List (List ℕ)) → IsPassed line found i left → left ≡ [] → IsPassed line found (i + 1) left
 step_end line found i left p is = subst (λ xs. IsPassed line found (i + 1) xs) (sym is) (passed_end line found i (subst (λ xs. IsPassed line found i xs) is p))
 
--- tokens are left behind all fields
+-- tokens are left after all fields
 pub left_over : (line text : List ℕ) (found : List Field) (i : ℕ) → 14 ≤ i → IsPassed line found i (tokens text) → (fields : List Field) → IsReadsLine line fields → ⊥
 left_over line text found i past p = by (tokens text) refl p
   where

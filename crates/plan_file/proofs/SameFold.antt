@@ -1,4 +1,4 @@
--- Folds with as many variables and the same statements have the same class and depth, and a line says one class and one depth.
+-- Folds with the same number of variables and the same statements have the same class and depth, and a line gives one class and one depth.
 use Rattle.std.proofs.Common.{◌≡◌, ℕ, zero, suc, not, ◌||◌, List, [], ◌∷◌, Some, refl, sym, ap, ◌∙◌, arith}
 use Rattle.std.specs.Prelude.{nat_lt, if◌then◌else◌, codes}
 use mathlib.Core.Path.{fun_ext}
@@ -75,7 +75,7 @@ value_same x y e = cc
 second_same : (w a b : List ℕ) (xs ys : List (List ℕ)) → w ∷ a ∷ xs ≡ w ∷ b ∷ ys → (a ≡ b) × (xs ≡ ys)
 second_same w a b xs ys e = (cc, cc)
 
--- a line `fold` says one class and one of each number
+-- a line `fold` gives one class and one of each number
 pub words_once : (line : List ℕ) (k l : Class) (d c n m s t : ℕ) → IsFoldWords line k d n s → IsFoldWords line l c m t → (k ≡ l) × (d ≡ c) × (n ≡ m) × (s ≡ t)
 words_once line k l d c n m s t p q =
     let both = second_same (codes "fold") (class_word k) (class_word l) (p.depth_token ∷ p.nodes_token ∷ p.statements_token ∷ []) (q.depth_token ∷ q.nodes_token ∷ q.statements_token ∷ []) (sym p.words ∙ q.words) in

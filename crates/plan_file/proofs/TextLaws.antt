@@ -17,7 +17,7 @@ make_once one (l ∷ ls) x y z p q =
     let same : p.0 ≡ q.0 = one x l p.0 q.0 p.1 q.1 in
     make_once one ls q.0 y z (subst (λ m. Make ls m y) same p.2) q.2
 
--- each line of lines that are valid is valid after those before it
+-- each of the lines that are valid in sequence is valid after those before it
 pub make_at : MakesOne → (ls : List (List ℕ)) (x y : Made) → Make ls x y → (i : ℕ) (b : Made) (line : List ℕ) → Make (take i ls) x b → slice_get ls i ≡ Some line → IsValidAfter b line
 make_at one [] x y p zero b line q e = cc
 make_at one [] x y p (suc i) b line q e = cc
@@ -46,7 +46,7 @@ not_refused one text plan place says (inr (size, inr (ends, at))) = by ends.bad
         let size : length plan.prints ≡ length ends.plan.prints = ap (λ m. length m.prints) same in
         omega (arith, says.printed, size, ap length none)
 
--- no line behind a bad one is reached
+-- no line after a bad one is reached
 not_behind : MakesOne → (ls : List (List ℕ)) (x b c : Made) (i j : ℕ) (l : List ℕ) → i < j → Make (take i ls) x b → slice_get ls i ≡ Some l → (IsValidAfter b l → ⊥) → Make (take j ls) x c → ⊥
 not_behind one [] x b c zero j l lt p e bad q = cc
 not_behind one [] x b c (suc i) j l lt p e bad q = cc

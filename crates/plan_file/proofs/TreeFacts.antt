@@ -1,4 +1,4 @@
--- What stands at the front of the tokens of an expression and of a block.
+-- What the tokens of an expression and of a block begin with.
 use Rattle.std.proofs.Common.{◌≡◌, ℕ, ◌+◌, ◌-◌, ◌<◌, ◌≤◌, Bool, true, false, List, [], ◌∷◌, ◌++◌, length, get_or, drop, refl, sym, ap, ◌∙◌, subst, arith, append_assoc}
 use Rattle.std.specs.Prelude.{nat_lt, if◌then◌else◌, cond, count_by}
 use Rattle.std.proofs.lemmas.List.Sums.{sum_by-append}
@@ -56,11 +56,11 @@ function_case states slots d op (w ∷ ws) (Operation f a b) rest le first v is 
     let ops : f ≡ op = cc in
     (a, b, ap (λ o. Operation o a b) ops, v.0, v.1, tail_same w (word.Function f) ws ((written states a ++ written states b) ++ rest) is ∙ append_assoc (written states a) (written states b) rest)
 
--- a choice and what stands behind it
+-- a choice and what follows it
 pub choice_front : (c a b rest : List Lexeme) → (c ++ (word.Open ∷ (a ++ (word.Close ∷ word.Open ∷ (b ++ word.Close ∷ []))))) ++ rest ≡ c ++ (word.Open ∷ (a ++ (word.Close ∷ word.Open ∷ (b ++ word.Close ∷ rest))))
 choice_front c a b rest = simp append_assoc
 
--- blocks one behind another
+-- blocks in sequence
 followed_end : (b : Block) → followed b End ≡ b
 followed_end End = refl
 followed_end (Set v e rest) = ap (Set v e) (followed_end rest)
@@ -75,7 +75,7 @@ block_push : (xs : List TypedStmt) (y : TypedStmt) → block_of (xs ++ y ∷ [])
 block_push [] y = followed_end (stmt_block y)
 block_push (x ∷ xs) y = ap (followed (stmt_block x)) (block_push xs y) ∙ sym (followed_assoc (stmt_block x) (block_of xs) (stmt_block y))
 
--- what is left of a block behind the statements that were found
+-- what is left of a block after the statements that were found
 abbrev pub IsLeft : ℕ → ℕ → List TypedStmt → List Lexeme → Block → List Lexeme → Type 0
 IsLeft states args found left b rest =
     (next : Block) × IsValidBlock states args next × (followed (block_of found) next ≡ b) × (left ≡ written_block states next ++ rest)
@@ -103,7 +103,7 @@ left_last states args found left b rest none (End, v, f, is) = (sym (followed_en
 left_last states args found left b rest none (Set u e next, v, f, is) = absurd (let t : begins_statement left ≡ true = ap begins_statement is in cc)
 left_last states args found left b rest none (Fork c x y next, v, f, is) = absurd (let t : begins_statement left ≡ true = ap begins_statement is in cc)
 
--- a statement begins: it is one, and the others are behind it
+-- a statement begins: it is one, and the others come after it
 pub record IsAhead (states args : ℕ) (found : List TypedStmt) (left : List Lexeme) (b : Block) (rest : List Lexeme) : Type 0 where
   pub one : Block
   pub next : Block

@@ -1,4 +1,4 @@
--- What a stack of wanted things reads, and that one token at a time reads the same.
+-- What a stack of expected things reads, and that reading one token at a time reads the same.
 use Rattle.std.proofs.Common.{◌≡◌, ℕ, zero, suc, ◌+◌, ◌-◌, ◌^◌, ◌<◌, ◌≤◌, Bool, true, false, not, ◌&&◌, List, [], ◌∷◌, ◌++◌, Some, None, refl, sym, ap, ◌∙◌, subst, arith, append_assoc, append-nil, inl, inr}
 use Rattle.std.specs.Prelude.{nat_lt, reverse, if◌then◌else◌, ◌⊎◌}
 use Rattle.std.proofs.lemmas.Bool.Decides.{nat_tests}
@@ -21,7 +21,7 @@ head_same a b xs ys e = cc
 tail_same : (a b : Lexeme) (xs ys : List Lexeme) → a ∷ xs ≡ b ∷ ys → xs ≡ ys
 tail_same a b xs ys e = cc
 
--- a test that holds gives what is wanted behind it
+-- a test that holds gives what is expected after it
 where_some : (b : Bool) (wants found : List Want) → where_true b wants ≡ Some found → (b ≡ true) × (found ≡ wants)
 where_some true wants found e = (refl, cc)
 where_some false wants found e = cc
@@ -46,15 +46,15 @@ module _ (states args : ℕ) where
   abbrev ReadsTerm : Bool → List Lexeme → Type 0
   ReadsTerm kind ls = (e : Term) × (ls ≡ written states e) × IsValidTerm slots e × (is_condition e ≡ kind)
 
-  -- a number that passes a test
+  -- a number for which a test holds
   abbrev ReadsNumber : (ℕ → Type 0) → List Lexeme → Type 0
   ReadsNumber P ls = (n : ℕ) × (ls ≡ word.Number n ∷ []) × (n < 2 ^ 64) × P n
 
-  -- statements and a closing brace, with room for so many braces
+  -- statements and a closing brace, with room for this many braces
   abbrev ReadsBlock : ℕ → List Lexeme → Type 0
   ReadsBlock room ls = (b : blocks.Block) × (ls ≡ written_block states b ++ word.Close ∷ []) × IsValidBlock states args b × (open_braces b ≤ room)
 
-  -- these tokens are what is wanted
+  -- these tokens are what is expected
   abbrev pub Reads : Want → List Lexeme → Type 0
   Reads Word ls = ReadsTerm false ls
   Reads Condition ls = ReadsTerm true ls
@@ -64,7 +64,7 @@ module _ (states args : ℕ) where
   Reads Open ls = ls ≡ word.Open ∷ []
   Reads (Block room) ls = ReadsBlock room ls
 
-  -- the same for several things, one behind another
+  -- the same for several things in sequence
   abbrev pub AllRead : List Want → List Lexeme → Type 0
   AllRead [] ls = ls ≡ []
   AllRead (w ∷ ws) ls = (front : List Lexeme) × (back : List Lexeme) × (ls ≡ front ++ back) × Reads w front × AllRead ws back
@@ -93,7 +93,7 @@ module _ (states args : ℕ) where
   two_split : (w v : Want) (ls : List Lexeme) → AllRead (w ∷ v ∷ []) ls → (f : List Lexeme) × (b : List Lexeme) × (ls ≡ f ++ b) × Reads w f × Reads v b
   two_split w v ls (f, b, e, r, more) = (f, b, e, r, only_one v b more)
 
-  -- what nothing is wanted behind
+  -- what nothing is expected after
   nothing_wanted : (wants : List Want) → wants ≡ [] → AllRead (reverse wants) []
   nothing_wanted wants e = subst (λ ws. AllRead (reverse ws) []) (sym e) refl
 
@@ -145,7 +145,7 @@ module _ (states args : ℕ) where
   operands_back ops.Decay ls p = number_back (λ n. n < 64) ls (two_split Word Shift ls p)
   operands_back op ls p = terms_back false ls (two_split Word Word ls p)
 
-  -- an expression by its first token, and the tokens behind that
+  -- an expression by its first token, and the tokens after that
   abbrev first_of : Term → Lexeme
   first_of (Literal n) = word.Number n
   first_of (Read s) = slot_lexeme states s
@@ -170,7 +170,7 @@ module _ (states args : ℕ) where
   slot_argument : (s : ℕ) → nat_lt s states ≡ false → slot_lexeme states s ≡ word.Argument (s - states)
   slot_argument s t = rw t refl
 
-  -- an expression that gives a word
+  -- an expression whose value is a word
   slot_goes : (s : ℕ) (wants : List Want) (b : Bool) → behind_word states slots (if b then word.State s else word.Argument (s - states)) ≡ Some wants → wants ≡ []
   slot_goes s wants true h = (where_some (nat_lt s states) [] wants h).1
   slot_goes s wants false h = (where_some (nat_lt (states + (s - states)) slots) [] wants h).1
@@ -227,7 +227,7 @@ module _ (states args : ℕ) where
   word_back word.Not wants front h p = cc
   word_back word.Other wants front h p = cc
 
-  -- an expression that gives a condition
+  -- an expression whose value is a condition
   condition_goes : (e : Term) (wants : List Want) → behind_condition (first_of e) ≡ Some wants → IsValidTerm slots e → is_condition e ≡ true → AllRead (reverse wants) (rest_of e)
   condition_goes (Literal n) wants h v k = cc
   condition_goes (Read s) wants h v k = cc
@@ -408,7 +408,7 @@ module _ (states args : ℕ) where
   block_back room (word.Argument n) wants front h p = cc
   block_back room word.Other wants front h p = cc
 
-  -- a number that passes a test
+  -- a number for which a test holds
   number_goes : (test : ℕ → Bool) (w : Lexeme) (n : ℕ) (front : List Lexeme) (wants : List Want) → behind_number test w ≡ Some wants → w ∷ front ≡ word.Number n ∷ [] → AllRead (reverse wants) front
   number_goes test w n front wants h e =
       let here : behind_number test (word.Number n) ≡ Some wants = sym (ap (behind_number test) (head_same w (word.Number n) front [] e)) ∙ h in
@@ -481,7 +481,7 @@ module _ (states args : ℕ) where
   open_back (word.Argument n) wants front h p = cc
   open_back word.Other wants front h p = cc
 
-  -- one token of what is wanted: what is then wanted reads the tokens behind it
+  -- one token of what is expected: what is then expected reads the tokens after it
   term_first : (e : Term) (w : Lexeme) (front : List Lexeme) → w ∷ front ≡ written states e → (w ≡ first_of e) × (front ≡ rest_of e)
   term_first e w front eq =
       let both : w ∷ front ≡ first_of e ∷ rest_of e = eq ∙ first_rest e in
@@ -529,7 +529,7 @@ module _ (states args : ℕ) where
       cc
   stuck (Block room) w front h (b, eq, v, o) = block_sticks room b w front h eq o
 
-  -- what is wanted has a first token
+  -- what is expected has a first token
   some_token : (want : Want) → Reads want [] → ⊥
   some_token Word (e, eq, v, k) = let both : [] ≡ first_of e ∷ rest_of e = eq ∙ first_rest e in cc
   some_token Condition (e, eq, v, k) = let both : [] ≡ first_of e ∷ rest_of e = eq ∙ first_rest e in cc

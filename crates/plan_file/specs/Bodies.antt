@@ -9,7 +9,7 @@ use Rattle.plan_file.specs.declared.lexemes.Lexeme.TheVariants as word
 use Rattle.plan_file.specs.Lexis.{tokens}
 use Rattle.plan_file.specs.Lexemes.{lexeme_of}
 
--- `sI` is a state variable, and `aI` an argument, whose slot is behind those of the variables
+-- `sI` is a state variable, and `aI` an argument, whose slot comes after those of the variables
 abbrev pub slot_lexeme : ℕ → ℕ → Lexeme
 slot_lexeme states s = if nat_lt s states then word.State s else word.Argument (s - states)
 
@@ -30,14 +30,14 @@ written_block states (Fork c a b next) =
     ++ (word.Close ∷ word.Open ∷ (written_block states b
     ++ (word.Close ∷ written_block states next))))))
 
--- how many braces are open at once, at most
+-- the most braces that are open at once
 abbrev pub open_braces : Block → ℕ
 open_braces End = 0
 open_braces (Set v e next) = open_braces next
 open_braces (Fork c a b next) = max (1 + max (open_braces a) (open_braces b)) (open_braces next)
 
--- these tokens are the statements of a body over so many state variables and arguments, typed as a fold's body is, with at most 64 braces
--- open at once
+-- these tokens are the statements of a body with these numbers of state variables and arguments, typed as a fold's body is, with at most
+-- 64 braces open at once
 pub record IsBody (states args : ℕ) (words : List Lexeme) (body : Block) : Type 0 where
   pub statements : words ≡ written_block states body
   pub typed : IsValidBlock states args body

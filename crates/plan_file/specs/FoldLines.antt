@@ -32,7 +32,7 @@ pub record IsFoldWords (line : List ℕ) (class : Class) (depth nodes statements
   pub nodes_are : number nodes_token ≡ Some nodes
   pub statements_are : number statements_token ≡ Some statements
 
--- bounds that are at least a fold's nodes and statements, and at most 512 and 64
+-- bounds that a fold's nodes and statements don't exceed, at most 512 and 64
 pub record AreBounds (fold : TypedFold) (nodes statements : ℕ) : Type 0 where
   pub enough_nodes : block_nodes (fold_block fold) ≤ nodes
   pub most_nodes : nodes ≤ 512

@@ -15,7 +15,7 @@ use Rattle.plan_file.specs.Bodies.{IsBodyLine}
 abbrev pub names_of : List Folded → List (List ℕ)
 names_of groups = map (λ one. one.group.name) groups
 
--- a group with a name and the operand that says whether it takes a use, and nothing else yet
+-- a group with only a name and the operand that decides whether it takes a use
 abbrev pub group_with : List ℕ → Operand → Group
 group_with name present = record {
   name = name;
@@ -53,7 +53,7 @@ pub record IsKeyLine (fields : List Field) (ops : List PlanOp) (before : Group) 
   pub new : IsNewIn before name
   pub made : after ≡ record before { key_names = before.key_names ++ name ∷ []; keys = before.keys ++ value ∷ [] }
 
--- `arg A`, behind a key; there are at most 16
+-- `arg A`, after a key; there are at most 16
 pub record IsArgLine (fields : List Field) (ops : List PlanOp) (before : Group) (line : List ℕ) (after : Group) : Type 0 where
   pub keys : 0 < length before.keys
   pub states : before.state_names ≡ []
@@ -63,7 +63,7 @@ pub record IsArgLine (fields : List Field) (ops : List PlanOp) (before : Group) 
   pub valid : IsOneOperand fields ops (codes "arg") line value
   pub made : after ≡ record before { args = before.args ++ value ∷ [] }
 
--- `state NAME NUMBER`, behind a key; there are at most 8
+-- `state NAME NUMBER`, after a key; there are at most 8
 pub record IsStateLine (before : Group) (line : List ℕ) (after : Group) : Type 0 where
   pub keys : 0 < length before.keys
   pub body : before.body ≡ None
@@ -74,7 +74,7 @@ pub record IsStateLine (before : Group) (line : List ℕ) (after : Group) : Type
   pub new : IsNewIn before name
   pub made : after ≡ record before { state_names = before.state_names ++ name ∷ []; initial = before.initial ++ value ∷ [] }
 
--- `body` and statements, behind a key, once
+-- `body` and statements, after a key, once
 pub record IsGroupBody (before : Group) (line : List ℕ) (after : Group) : Type 0 where
   pub keys : 0 < length before.keys
   pub once : before.body ≡ None

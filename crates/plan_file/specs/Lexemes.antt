@@ -6,7 +6,7 @@ use Rattle.plan_file.specs.declared.lexemes.Lexeme.{Lexeme}
 use Rattle.plan_file.specs.declared.lexemes.Lexeme.TheVariants.{Set, If, Open, Close, Not, Function, Number, State, Argument, Other}
 use Rattle.plan_file.specs.Lexis.{literal, state_number, argument_number, function_named}
 
--- a token that is no word of a statement: a function of two operands, a number, a state variable or an argument
+-- a token that isn't a keyword of a statement: a function of two operands, a number, a state variable or an argument
 abbrev pub lexeme_among : Option Op → Option ℕ → Option ℕ → Option ℕ → Lexeme
 lexeme_among (Some op) n s a = Function op
 lexeme_among None (Some n) s a = Number n

@@ -14,7 +14,7 @@ is_line_feed byte = byte == 10
 abbrev pub is_space : ℕ → Bool
 is_space byte = byte == 32
 
--- what lies between the LFs of a text, before the first one and behind the last one
+-- what lies between the LFs of a text, before the first one and after the last one
 abbrev pub pieces : List ℕ → List (List ℕ)
 pieces text = slice_split is_line_feed text
 
@@ -36,20 +36,20 @@ lines text = all_but_last (pieces text)
 abbrev pub bytes_after_lines : List ℕ → List ℕ
 bytes_after_lines text = last_of (pieces text)
 
--- the first byte of a line: behind the lines before it, each with its LF
+-- the first byte of a line: after the lines before it, each with its LF
 abbrev pub start_of_line : List ℕ → ℕ → ℕ
 start_of_line text i = sum_by (λ line. length line + 1) (take i (lines text))
 
--- the tokens of a line: one space stands between two of them
+-- the tokens of a line: one space separates two of them
 abbrev pub tokens : List ℕ → List (List ℕ)
 tokens line = slice_split is_space line
 
--- the tokens that are left behind a space, if there was one
+-- the tokens of the rest after a space, if there was one
 abbrev pub tokens_left : Bool → List ℕ → List (List ℕ)
 tokens_left true rest = tokens rest
 tokens_left false rest = []
 
--- the first digit is no 0, except in the number 0 itself
+-- the first digit isn't 0, except in the number 0 itself
 abbrev pub is_first_digit : ℕ → List ℕ → Bool
 is_first_digit digit [] = true
 is_first_digit digit (next ∷ rest) = not (digit == 48)
@@ -60,7 +60,7 @@ number [] = None
 number (digit ∷ rest) =
     if list_all is_digit (digit ∷ rest) && is_first_digit digit rest then below_limit (digits_value 10 (digit ∷ rest)) else None
 
--- the number behind a first byte
+-- the number after a first byte
 abbrev pub number_behind : ℕ → List ℕ → Option ℕ
 number_behind byte [] = None
 number_behind byte (first ∷ rest) = if first == byte then number rest else None

@@ -23,6 +23,6 @@ abbrev pub first_of : List (List ℕ) → List ℕ
 first_of [] = []
 first_of (token ∷ rest) = token
 
--- what a line is by its first word
+-- the kind of a line by its first word
 abbrev pub line_word : List ℕ → LineWord
 line_word line = word_named (first_of (tokens line))

@@ -44,7 +44,7 @@ pub record IsOp (before : Made) (line : List ℕ) (after : Made) : Type 0 where
   pub valid : IsOpLine fields before.ops line op
   pub made : after ≡ record before { ops = before.ops ++ op ∷ [] }
 
--- `group NAME P`, where no group's lines are coming and nothing is printed
+-- `group NAME P`, where no group's lines are being read and nothing is printed
 pub record IsGroup (before : Made) (line : List ℕ) (after : Made) : Type 0 where
   pub fields : List Field
   pub reads : before.reads ≡ Some fields
@@ -54,7 +54,7 @@ pub record IsGroup (before : Made) (line : List ℕ) (after : Made) : Type 0 whe
   pub valid : IsGroupLine fields before.ops before.groups line group
   pub made : after ≡ record before { current = Some group }
 
--- a line of the group whose lines are coming, with this first word
+-- a line of the group whose lines are being read, with this first word
 pub record IsPart (word : LineWord) (before : Made) (line : List ℕ) (after : Made) : Type 0 where
   pub fields : List Field
   pub reads : before.reads ≡ Some fields
@@ -72,7 +72,7 @@ pub record IsFold (before : Made) (line : List ℕ) (after : Made) : Type 0 wher
   pub valid : IsFoldLine group line folded
   pub made : after ≡ record before { groups = before.groups ++ folded ∷ []; current = None }
 
--- `print I`, where no group's lines are coming: the number of a group that is not printed before
+-- `print I`, where no group's lines are being read: the number of a group that isn't printed yet
 pub record IsPrint (before : Made) (line : List ℕ) (after : Made) : Type 0 where
   pub current : before.current ≡ None
   pub group : ℕ
@@ -102,7 +102,7 @@ IsLine before line after = IsLineOf (line_word line) before line after
 abbrev pub IsValidAfter : Made → List ℕ → Type 0
 IsValidAfter before line = (after : Made) × IsLine before line after
 
--- what holds of each group while its lines come
+-- what holds of each group while its lines are read
 pub record IsGroupWithin (group : Group) : Type 0 where
   pub states : length group.initial ≤ 8
   pub args : length group.args ≤ 16

@@ -1,4 +1,4 @@
--- Lines of a word, a name and an operand or a number.
+-- Lines with a word, a name and an operand or a number.
 use Rattle.std.specs.Prelude.{◌≡◌, ℕ, true, List, [], ◌∷◌, Some}
 use Rattle.marple_base.specs.declared.field.Field.{Field}
 use Rattle.stage_plan.specs.declared.op.Operand.{Operand}

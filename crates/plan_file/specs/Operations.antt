@@ -59,12 +59,12 @@ stage_of ops (Number n) = 0
 abbrev pub last_stage : List PlanOp → ℕ
 last_stage ops = stage_at (slice_get ops (length ops - 1))
 
--- the operand is a number that passes a test
+-- the operand is a number for which a condition holds
 abbrev pub is_number_with : (ℕ → Bool) → Operand → Bool
 is_number_with test (Number n) = test n
 is_number_with test (Register r) = false
 
--- what divides is a number other than 0, and what is shifted by is a number below 64
+-- a divisor is a number other than 0, and a shift is by a number below 64
 abbrev pub takes_right : Op → Operand → Bool
 takes_right Div b = is_number_with (λ n. nat_lt 0 n) b
 takes_right Rem b = is_number_with (λ n. nat_lt 0 n) b
@@ -103,13 +103,13 @@ pub record IsStaged (ops : List PlanOp) (op : PlanOp) : Type 0 where
   pub stage : op.stage ≡ 1 + max (stage_of ops op.left) (stage_of ops op.right)
   pub constant : is_right_of op.op op.right ≡ true
 
--- an operation that may stand after these: its registers are known, and it keeps the rules of the stages
+-- an operation that is allowed after these: its registers are known, and it keeps the rules of the stages
 pub record IsAllowed (fields : List Field) (ops : List PlanOp) (op : PlanOp) : Type 0 where
   pub left : IsKnown fields ops op.left
   pub right : IsKnown fields ops op.right
   pub staged : IsStaged ops op
 
--- an operation of the switch after these fields and operations
+-- an operation of a plan after these fields and operations
 pub record IsOpLine (fields : List Field) (ops : List PlanOp) (line : List ℕ) (op : PlanOp) : Type 0 where
   pub words : op_words (tokens line) ≡ Some op
   pub allowed : IsAllowed fields ops op

@@ -7,7 +7,7 @@ use Rattle.plan_file.specs.declared.made.Made.{Made}
 use Rattle.plan_file.specs.Lexis.{lines, pieces, bytes_after_lines, start_of_line}
 use Rattle.plan_file.specs.Lines.{nothing, IsLine, IsValidAfter}
 
--- lines that are valid one after another, from what was made before them to what is made with them
+-- lines that are valid in sequence, from what was made before them to what is made with them
 abbrev pub Make : List (List ℕ) → Made → Made → Type 0
 Make [] before after = after ≡ before
 Make (line ∷ rest) before after = (next : Made) × IsLine before line next × Make rest next after
@@ -16,7 +16,7 @@ Make (line ∷ rest) before after = (next : Made) × IsLine before line next × 
 abbrev pub most_bytes : ℕ
 most_bytes = 2097152
 
--- a valid text makes this: its lines are valid one after another, an LF ends it, and something is printed
+-- a valid text makes this: its lines are valid in sequence, an LF ends it, and something is printed
 pub record Says (text : List ℕ) (plan : Made) : Type 0 where
   pub size : length text ≤ most_bytes
   pub valid : Make (lines text) nothing plan
@@ -40,31 +40,31 @@ pub record EndsBad (text : List ℕ) : Type 0 where
   pub valid : Make (lines text) nothing plan
   pub bad : (0 < length (bytes_after_lines text)) ⊎ (plan.prints ≡ [])
 
--- so many bytes of a text are its first lines, as many as this number
+-- the first `at` bytes of a text are its first `i` lines
 pub record IsLineStart (text : List ℕ) (i at : ℕ) : Type 0 where
   pub start : at ≡ start_of_line text i
   pub count : i ≤ length (lines text)
   pub rest : pieces (drop at text) ≡ drop i (pieces text)
   pub within : at ≤ length text
 
--- all lines are behind, and these bytes are no line
+-- all lines are read, and these bytes aren't a line
 pub record IsBehindLines (text : List ℕ) (i at : ℕ) : Type 0 where
   pub count : i ≡ length (lines text)
   pub rest : bytes_after_lines text ≡ drop at text
 
--- where BadPlan stands in a text that is not too long
+-- the place of BadPlan in a text that isn't too long
 abbrev pub IsBadWithin : List ℕ → ℕ → Type 0
 IsBadWithin text place =
     ((i : ℕ) × IsFirstBadLine text i × (place ≡ start_of_line text i))
     ⊎ (EndsBad text × (place ≡ length text))
 
--- where BadPlan stands
+-- the place of BadPlan
 abbrev pub IsBadAt : List ℕ → ℕ → Type 0
 IsBadAt text place =
     ((most_bytes < length text) × (place ≡ most_bytes))
     ⊎ ((length text ≤ most_bytes) × IsBadWithin text place)
 
--- the answer for a text that is refused: BadPlan at its place, or no memory
+-- the answer for a text that is refused: BadPlan at its place, or out of memory
 abbrev pub IsRefused : List ℕ → PlanFileAnswer → Type 0
 IsRefused text (answers.Refused fault) = (fault.kind ≡ kinds.BadPlan) × IsBadAt text fault.span.start
     × (fault.span.end ≡ fault.span.start)

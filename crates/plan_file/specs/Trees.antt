@@ -22,7 +22,7 @@ abbrev pub is_if : Lexeme → Bool
 is_if word.If = true
 is_if _ = false
 
--- Tokens write a statement for each `set` and each `if`, and a node for each token of an expression. What a `set` gives a value is no node.
+-- Tokens write a statement for each `set` and each `if`, and a node for each token of an expression. The variable of a `set` isn't a node.
 pub record AreSmall (words : List Lexeme) (nodes statements : ℕ) : Type 0 where
   pub few_statements : count_by is_set words + count_by is_if words ≤ statements
   pub few_nodes : count_by is_node words ≤ nodes + count_by is_set words
@@ -50,7 +50,7 @@ abbrev pub brace : Bool → Lexeme
 brace true = word.Open
 brace false = word.Close
 
--- a choice behind its `if`
+-- a choice after its `if`
 abbrev pub written_choice : ℕ → Term → Block → Block → List Lexeme
 written_choice states c a b =
     written states c ++ (word.Open

@@ -8,7 +8,7 @@ use crate::texts::read_text;
 use std::alloc::Global;
 
 /// Whether a text is the text of a plan. Where it isn't, it is refused at the first line that isn't valid after the lines before it, or
-/// behind its last byte where it ends too early, or behind the most bytes where it is too long. A valid text is refused nowhere, and
+/// after its last byte where it ends too early, or after the most bytes where it is too long. A valid text is refused nowhere, and
 /// any other one at one place.
 pub fn check_plan(alloc: Global, text: &[u8]) -> Result<(), PlanFileAnswer>
     ensures answer { MatchResult result (λ valid. IsValidText text.now) (λ answer. IsRefused text.now answer) }

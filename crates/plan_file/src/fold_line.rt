@@ -42,7 +42,7 @@ fn class_named(token: &[u8]) -> Option<Class>
     }
 }
 
-// What a line of the word `fold`, a class and three numbers says.
+// What a line with the word `fold`, a class and three numbers says.
 fn fold_words(line: &[u8]) -> Option<FoldWords>
     ensures { MatchOption result ((class : Class) → (depth nodes statements : ℕ)
         → IsFoldWords line.now class depth nodes statements → ⊥) (λ w. IsFoldWords line.now w.class w.depth w.nodes w.statements) }
@@ -63,7 +63,7 @@ fn fold_words(line: &[u8]) -> Option<FoldWords>
     })
 }
 
-// Whether a line says this class and this depth.
+// Whether a line gives this class and this depth.
 fn is_said(words: FoldWords, class: Class, depth: u32) -> bool
     ensures yes { result ≡ true → (class ≡ words.class) × (depth ≡ words.depth) }
     ensures no { result ≡ false → class ≡ words.class → depth ≡ words.depth → ⊥ }
@@ -75,7 +75,7 @@ fn is_said(words: FoldWords, class: Class, depth: u32) -> bool
     same && u64::from(depth) == words.depth
 }
 
-// Numbers from one on, so many.
+// The first N numbers from a given one on.
 fn numbers(alloc: Global, from: u32, count: usize) -> Result<Seq<u32>, AllocError>
     requires from { from ≤ 8 }
     requires count { count ≤ 16 }
@@ -94,7 +94,7 @@ fn words_copied(alloc: Global, words: &[u64]) -> Result<Seq<u64>, AllocError>
     Ok(Seq::from_vec(Vec::from_slice(alloc, words)?))
 }
 
-/// The fold of a group whose body has at most so many nodes and statements: 512 nodes and 64 statements at most.
+/// The fold of a group whose body has at most the given nodes and statements: 512 nodes and 64 statements at most.
 pub fn fold_of(
     alloc: Global,
     group: &Group,

@@ -52,7 +52,7 @@ fn is_new_in(group: &Group, name: &[u8]) -> bool
     !has_name(group.key_names.as_slice(), name) && !has_name(group.state_names.as_slice(), name)
 }
 
-// A group with a name and the operand that says whether it takes a use, and nothing else yet.
+// A group with only a name and the operand that decides whether it takes a use.
 fn group_with(alloc: Global, name: &[u8], present: Operand) -> Result<Group, AllocError>
     ensures { IfOk result (λ group. group ≡ Groups.group_with name.now present) }
 {
@@ -97,7 +97,7 @@ pub(crate) fn group_line(
     Ok(Some(group_with(alloc, name, present)?))
 }
 
-// The group behind a line `key`.
+// The group after a line `key`.
 fn key_line(
     alloc: Global,
     fields: &[Field],
@@ -129,7 +129,7 @@ fn key_line(
     Ok(Some(after))
 }
 
-// The group behind a line `arg`.
+// The group after a line `arg`.
 fn arg_line(
     fields: &[Field],
     ops: &[PlanOp],
@@ -156,7 +156,7 @@ fn arg_line(
     Ok(Some(after))
 }
 
-// The group behind a line `state`.
+// The group after a line `state`.
 fn state_line(alloc: Global, before: Group, line: &[u8]) -> Result<Option<Group>, AllocError>
     ensures { IfOk result (λ made. MatchOption made ((after : Group) → IsStateLine before line.now after
         → ⊥) (λ after. IsStateLine before line.now after)) }
@@ -200,7 +200,7 @@ fn body_words(
     }
 }
 
-// The group behind a line `body`.
+// The group after a line `body`.
 fn body_line(alloc: Global, before: Group, line: &[u8]) -> Result<Option<Group>, AllocError>
     requires states { length before.initial ≤ 8 }
     requires args { length before.args ≤ 16 }
@@ -222,7 +222,7 @@ fn body_line(alloc: Global, before: Group, line: &[u8]) -> Result<Option<Group>,
     }
 }
 
-/// The group behind one more of its lines, which begins with this word.
+/// The group after one more of its lines, which begins with this word.
 pub(crate) fn in_group(
     alloc: Global,
     word: LineWord,

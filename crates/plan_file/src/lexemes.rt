@@ -24,7 +24,7 @@ pub enum Lexeme {
     Other,
 }
 
-// A token that is no word of a statement.
+// A token that isn't a keyword of a statement.
 fn lexeme_among(token: &[u8]) -> Lexeme
     ensures { result ≡ Lexemes.lexeme_among (function_named token.now) (literal token.now) (state_number token.now)
         (argument_number token.now) }
@@ -64,7 +64,7 @@ fn lexeme_of(token: &[u8]) -> Lexeme
     }
 }
 
-/// The tokens of what is left of a line behind a space, if there was one.
+/// The tokens of the rest of a line after a space, if there was one.
 pub(crate) fn lexemes(alloc: Global, text: &[u8], more: bool) -> Result<Seq<Lexeme>, AllocError>
     ensures { IfOk result (λ all. all ≡ map Lexemes.lexeme_of (tokens_left more text.now)) }
 {

@@ -12,7 +12,7 @@ ghost use Rattle.plan_file.specs.Lexis.{is_line_feed, is_space, number_behind, t
 
 use query_lang::Op;
 
-/// What stands before the first LF, and what stands after it.
+/// The bytes before the first LF, and those after it.
 pub(crate) fn cut_at_line_feed(text: &[u8]) -> Option<(&[u8], &[u8])>
     ensures place { IfSome result (λ parts. (length parts.0.now < length text.now)
         × (parts.1.now ≡ drop (length parts.0.now + 1) text.now)) }
@@ -27,7 +27,7 @@ pub(crate) fn cut_at_line_feed(text: &[u8]) -> Option<(&[u8], &[u8])>
     None
 }
 
-/// The first token of a line, and what stands behind its space.
+/// The first token of a line, and what follows its space.
 pub(crate) fn cut_at_space(line: &[u8]) -> Option<(&[u8], &[u8])>
     ensures size { IfSome result (λ parts. length parts.1.now < length line.now) }
     ensures parts { MatchOption result (slice_split is_space line.now ≡ line.now ∷ [])
@@ -41,7 +41,7 @@ pub(crate) fn cut_at_space(line: &[u8]) -> Option<(&[u8], &[u8])>
     None
 }
 
-/// The first token of a line, what stands behind it, and whether a space stands between them.
+/// The first token of a line, what follows it, and whether a space separates them.
 pub(crate) fn first_token(line: &[u8]) -> (&[u8], &[u8], bool)
     ensures tokens { tokens line.now ≡ result.0.now ∷ tokens_left result.2 result.1.now }
     ensures size { length result.1.now + (if result.2 then 1 else 0) ≤ length line.now }
@@ -77,7 +77,7 @@ fn digit_of(byte: u8) -> u64
     u64::from(byte - b'0')
 }
 
-// The number that digits write, where it fits.
+// The number that digits write, where it fits into a word.
 fn value_of(digits: &[u8]) -> Option<u64>
     requires { list_all is_digit digits.now ≡ true }
     ensures { result ≡ below_limit (digits_value 10 digits.now) }
@@ -109,7 +109,7 @@ pub(crate) fn number(text: &[u8]) -> Option<u64>
     }
 }
 
-// The number behind a first byte.
+// The number after a first byte.
 pub(crate) fn behind(byte: u8, token: &[u8]) -> Option<u64>
     ensures { result ≡ number_behind byte token.now }
 {

@@ -5,7 +5,7 @@ ghost use Rattle.plan_file.specs.LineWords as LineWords;
 
 use crate::lexis::{first_token, is_text};
 
-/// What a line is by its first word.
+/// The kinds of lines, by their first words.
 #[derive(Clone, Copy)]
 pub enum LineWord {
     Plan,
@@ -50,7 +50,7 @@ fn word_named(token: &[u8]) -> LineWord
     }
 }
 
-/// What a line is by its first word.
+/// The kind of a line by its first word.
 pub(crate) fn line_word(line: &[u8]) -> LineWord
     ensures { result ≡ LineWords.line_word line.now }
 {

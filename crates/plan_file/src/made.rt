@@ -1,11 +1,11 @@
-//! What the lines of a plan's text have made.
+//! What the lines of a plan's text have made so far.
 
 use crate::lexemes::Lexeme;
 use marple_base::{Field, Seq, Text};
 use query_lang::Class;
 use stage_plan::{Operand, PlanOp};
 
-/// A group as its lines have made it so far, without a body until the `body` line. A body is kept as its tokens.
+/// A group as its lines have made it so far, without a body before the `body` line. A body is kept as its tokens.
 #[derive(Drop)]
 pub struct Group {
     pub name: Text,
@@ -28,8 +28,8 @@ pub struct Folded {
     pub statements: u32,
 }
 
-/// Whether the first line is there, the fields that are read, the operations, the groups down to their `fold` lines, the
-/// group whose lines are coming, and the numbers of the printed groups.
+/// Whether the first line was read, the fields that are read, the operations, the groups down to their `fold` lines, the
+/// group whose lines are being read, and the numbers of the printed groups.
 #[derive(Drop)]
 pub struct Made {
     pub begun: bool,

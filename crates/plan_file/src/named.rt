@@ -1,4 +1,4 @@
-//! Lines of a word, a name and an operand or a number, as they are read.
+//! Lines with a word, a name and an operand or a number, as they are read.
 
 ghost use Rattle.std.specs.Prelude.{◌≡◌, ◌≤◌, ◌∷◌, [], List, ℕ, true, false, codes, length, is_some, MatchOption};
 ghost use Rattle.std.specs.List.{list_all};
@@ -91,7 +91,7 @@ pub(crate) fn is_name(token: &[u8]) -> bool
     }
 }
 
-// What stands behind a first word.
+// What follows a first word.
 pub(crate) fn after_word<'a>(word: &[u8], line: &'a [u8]) -> Option<&'a [u8]>
     ensures { MatchOption result ((t : List ℕ) → (ts : List (List ℕ)) → tokens line.now ≡ word.now ∷ t ∷ ts
         → ⊥) (λ rest. tokens line.now ≡ word.now ∷ tokens rest.now) }
@@ -126,7 +126,7 @@ fn one_token(line: &[u8]) -> Option<&[u8]>
     }
 }
 
-/// The number of a line of this word and a number.
+/// The number of a line that has this word and a number.
 pub(crate) fn one_number(word: &[u8], line: &[u8]) -> Option<u64>
     ensures { MatchOption result ((n : ℕ) → IsOneNumber word.now line.now n → ⊥) (λ n. IsOneNumber word.now line.now n) }
 {
@@ -135,7 +135,7 @@ pub(crate) fn one_number(word: &[u8], line: &[u8]) -> Option<u64>
     number(token)
 }
 
-/// The operand of a line of this word and an operand.
+/// The operand of a line that has this word and an operand.
 pub(crate) fn one_operand(
     fields: &[Field],
     ops: &[PlanOp],
@@ -151,7 +151,7 @@ pub(crate) fn one_operand(
     operand(fields, ops, token)
 }
 
-/// The name and the operand of a line of this word, a name and an operand.
+/// The name and the operand of a line that has this word, a name and an operand.
 pub(crate) fn named_operand<'a>(
     fields: &[Field],
     ops: &[PlanOp],
@@ -172,7 +172,7 @@ pub(crate) fn named_operand<'a>(
     Some((name, value))
 }
 
-/// The name and the number of a line of this word, a name and a number.
+/// The name and the number of a line that has this word, a name and a number.
 pub(crate) fn named_number<'a>(word: &[u8], line: &'a [u8]) -> Option<(&'a [u8], u64)>
     ensures { MatchOption result ((name : List ℕ) → (n : ℕ) → IsNamedNumber word.now line.now name n
         → ⊥) (λ r. IsNamedNumber word.now line.now r.0.now r.1) }

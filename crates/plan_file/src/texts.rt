@@ -1,4 +1,4 @@
-//! The lines of a text, one after another.
+//! The lines of a text, in sequence.
 
 ghost use Rattle.std.specs.Prelude.{◌≡◌, ◌≤◌, ◌<◌, ◌+◌, ℕ, length, slice_get, IfSome, MatchOption, MatchResult, Some};
 ghost use Rattle.plan_file.specs.Lexis.{lines};
@@ -14,7 +14,7 @@ use std::alloc::Global;
 /// The most bytes that a text may have.
 const MOST_BYTES: usize = 2_097_152;
 
-/// The line that begins at a byte, and where the next one begins.
+/// The line that begins at a byte, and the byte where the next line begins.
 fn next_line(text: &[u8], at: usize) -> Option<(&[u8], usize)>
     requires within { at ≤ length text.now }
     ensures line { (i : ℕ) → IsLineStart text.now i at
@@ -41,7 +41,7 @@ fn refused(at: usize) -> PlanFileAnswer
     })
 }
 
-/// What the lines of a valid text make; a refusal stands at the first line that isn't valid after the lines before it.
+/// What the lines of a valid text make; a refusal gives the first line that isn't valid after the lines before it.
 pub fn read_text(alloc: Global, text: &[u8]) -> Result<Made, PlanFileAnswer>
     ensures { MatchResult result (λ made. Says text.now made) (λ answer. IsRefused text.now answer) }
 {

@@ -1,4 +1,4 @@
-//! The statements of a body as a tree. It is made only of bodies within the bounds of a fold, so it isn't deep.
+//! The statements of a body as a tree. It is built only for bodies within the bounds of a fold, so it isn't deep.
 
 ghost use Rattle.std.specs.Prelude.{◌≡◌, ◌≤◌, ◌↔◌, IsTrue, true, ◌+◌, ◌-◌, ◌<◌, ◌++◌, ◌∷◌, []};
 ghost use Rattle.std.specs.Prelude.{List, length, count_by, IfOk, IfSome, MatchOption};
@@ -58,7 +58,7 @@ fn ifs_in(words: &[Lexeme]) -> usize
     words.iter().filter(|word| is_if(**word)).count()
 }
 
-// Whether the statements that tokens write have at most so many nodes and statements.
+// Whether the statements that tokens write have at most the given nodes and statements.
 fn are_small(words: &[Lexeme], nodes: u32, statements: u32) -> bool
     ensures { IsTrue result ↔ AreSmall words.now nodes statements }
 {
@@ -93,7 +93,7 @@ fn leaf(states: u64, slots: u64, word: Lexeme) -> Option<TypedExpr>
     }
 }
 
-// An expression at the front of tokens, and the tokens behind it.
+// The expression that tokens begin with, and the tokens after it.
 fn expression<'a>(
     alloc: Global,
     states: u64,
@@ -135,7 +135,7 @@ fn expression<'a>(
     }
 }
 
-// The tokens behind the first one, where that is a brace of this kind.
+// The tokens after the first one, where that is a brace of this kind.
 fn behind_brace(words: &[Lexeme], opens: bool) -> Option<&[Lexeme]>
     ensures { MatchOption result ((rest : List Lexeme) → words.now ≡ Trees.brace opens ∷ rest
         → ⊥) (λ rest. words.now ≡ Trees.brace opens ∷ rest.now) }
@@ -147,7 +147,7 @@ fn behind_brace(words: &[Lexeme], opens: bool) -> Option<&[Lexeme]>
     }
 }
 
-// A choice behind its `if`, and the tokens behind it.
+// A choice after its `if`, and the tokens after the choice.
 #[cycle(statements)]
 fn choice<'a>(
     alloc: Global,
@@ -193,7 +193,7 @@ fn choice<'a>(
     }
 }
 
-// A statement at the front of tokens, and the tokens behind it.
+// The statement that tokens begin with, and the tokens after it.
 #[cycle(statements)]
 fn statement<'a>(
     alloc: Global,
@@ -230,7 +230,7 @@ fn begins_statement(words: &[Lexeme]) -> bool
     matches!(words, [Lexeme::Set, ..] | [Lexeme::If, ..])
 }
 
-// Statements at the front of tokens, and the tokens behind them.
+// The statements that tokens begin with, and the tokens after them.
 #[cycle(statements)]
 fn statements<'a>(
     alloc: Global,
@@ -259,7 +259,7 @@ fn statements<'a>(
     Ok(Some((found, left)))
 }
 
-/// The statements of a body, where they have at most so many nodes and statements.
+/// The statements of a body, where they have at most the given nodes and statements.
 pub(crate) fn body_of(
     alloc: Global,
     states: u64,

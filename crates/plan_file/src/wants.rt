@@ -1,4 +1,4 @@
-//! A body is read token by token, with a stack of what is still wanted: so a deep expression needs no deep recursion.
+//! A body is read token by token, with a stack of what is still expected: so a deep expression needs no deep recursion.
 
 ghost use Rattle.std.specs.Prelude.{◌≡◌, ◌+◌, ◌++◌, ◌^◌, ◌<◌, ◌∷◌, [], true, false, ◌≤◌, Some};
 ghost use Rattle.std.specs.Prelude.{MatchBool, IfOk};
@@ -13,8 +13,8 @@ use crate::lexemes::Lexeme;
 use query_lang::Op;
 use std::alloc::{AllocError, Global};
 
-/// What is wanted of the tokens that come: an expression of a kind, a number that divides or that is shifted by, the
-/// variable of a `set`, a brace, or a block's statements and its closing brace, where so many braces may still be opened.
+/// What is expected of the next tokens: an expression of a kind, a divisor, a number of bits to shift by, the variable of
+/// a `set`, a brace, or a block's statements and its closing brace, with the number of braces that may still be opened.
 #[derive(Clone, Copy)]
 pub(crate) enum Want {
     Word,
@@ -53,7 +53,7 @@ fn gives_condition(op: Op) -> bool
     )
 }
 
-// The first token of an expression that gives a word.
+// The first token of an expression whose value is a word.
 fn read_word(
     wants: &mut Vec<Want>,
     states: u64,
@@ -78,7 +78,7 @@ fn read_word(
     }
 }
 
-// The first token of an expression that gives a condition.
+// The first token of an expression whose value is a condition.
 fn read_condition(wants: &mut Vec<Want>, word: Lexeme) -> Result<bool, AllocError>
     ensures { IfOk result (λ fits. GoesOn (behind_condition word) wants.old.items fits wants.new.items) }
 {
@@ -98,7 +98,7 @@ fn read_condition(wants: &mut Vec<Want>, word: Lexeme) -> Result<bool, AllocErro
     }
 }
 
-// The two blocks of a choice, and what goes on behind them.
+// The two blocks of a choice, and what continues after them.
 fn push_choice(wants: &mut Vec<Want>, room: u32) -> Result<bool, AllocError>
     ensures { IfOk result (λ fits. GoesOn (behind_if room) wants.old.items fits wants.new.items) }
 {
@@ -132,7 +132,7 @@ fn read_block(wants: &mut Vec<Want>, room: u32, word: Lexeme) -> Result<bool, Al
     }
 }
 
-// The first token of what is wanted: whether it can begin it. What is then wanted behind it comes onto the stack.
+// Whether a token can begin what is expected. What is then expected after it is pushed onto the stack.
 fn read_first(
     wants: &mut Vec<Want>,
     states: u64,
@@ -166,7 +166,7 @@ fn read_first(
     }
 }
 
-// One token: whether it can begin what is wanted next.
+// Whether one token can begin what is expected next.
 fn step(wants: &mut Vec<Want>, states: u64, slots: u64, word: Lexeme) -> Result<bool, AllocError>
     requires { states ≤ slots }
     ensures { IfOk result (λ fits. MatchBool fits (Steps states slots word wants.old.items wants.new.items)
@@ -178,7 +178,7 @@ fn step(wants: &mut Vec<Want>, states: u64, slots: u64, word: Lexeme) -> Result<
     }
 }
 
-/// Whether tokens are the statements of a body over so many state variables and arguments.
+/// Whether tokens are the statements of a body with the given numbers of state variables and arguments.
 pub(crate) fn is_body(
     alloc: Global,
     states: u64,

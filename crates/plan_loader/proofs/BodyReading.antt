@@ -41,7 +41,7 @@ term_read (suc n) states (Operation op a b) rest le =
     ap (λ f. let g = read_term n states f.left in front (Operation op f.found g.found) g.left) first
     ∙ ap (λ g. front (Operation op a g.found) g.left) second
 
--- no statement stands at the front of tokens that close a block
+-- tokens that close a block don't begin with a statement
 closed : (n states : ℕ) (rest : List Lexeme) → Closes rest → read_block n states rest ≡ front End rest
 closed zero states rest c = refl
 closed (suc n) states [] c = refl
@@ -56,7 +56,7 @@ closed (suc n) states (word.State v ∷ rest) c = absurd c
 closed (suc n) states (word.Argument v ∷ rest) c = absurd c
 closed (suc n) states (word.Other ∷ rest) c = absurd c
 
--- the parts of a choice, one after another
+-- the parts of a choice, in sequence
 module _ (n states : ℕ) where
   abbrev behind_else : Term → Block → Front Block → Front Block
   behind_else c a b =

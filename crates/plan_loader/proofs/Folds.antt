@@ -1,4 +1,4 @@
--- The folds of a group all have its body, and so the class, the depth and the folding of the fold that the text says.
+-- All folds of a group have its body, and so the class, the depth and the folding of the fold that the text gives.
 use Rattle.std.proofs.Common.{◌≡◌, ℕ, List, [], length, Option, refl, sym, ap, ◌∙◌, subst}
 use Rattle.std.specs.Prelude.{unwrap_or, Bool, IfSome}
 use Rattle.std.proofs.lemmas.List.{length-replicate}
@@ -27,7 +27,7 @@ block_is group f is =
     sym (bodies.written (length group.initial) (length group.args) is.words (fold_block f) is.body)
     ∙ ap (λ o. block_written (length group.initial) (unwrap_or o [])) (sym is.has_body)
 
--- the fold that the text says is one of the group
+-- the fold that the text gives is one of the group
 pub fold_in_is : (one : Folded) (f : TypedFold) → IsFoldOf one.group f → IsFoldOf one.group (fold_in one)
 fold_in_is one f is =
     let same : fold_block f ≡ fold_block (fold_in one) = block_is one.group f is ∙ sym (stmts_same (block_in one.group)) in

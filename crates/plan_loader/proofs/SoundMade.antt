@@ -21,7 +21,7 @@ use Rattle.plan_file.specs.Texts.{Make, Says}
 use Rattle.plan_loader.specs.Parts.{IsSoundFolded, IsSoundMade}
 use Rattle.plan_loader.proofs.SoundOps.{known_within, ops_more}
 
--- a group while its lines come, where there are so many registers
+-- a group while its lines are read, where there are this many registers
 record IsBegun (registers : ℕ) (group : Group) : Type 0 where
   most_keys : length group.keys ≤ 8
   key_names : length group.key_names ≡ length group.keys
@@ -33,7 +33,7 @@ record IsBegun (registers : ℕ) (group : Group) : Type 0 where
   arg_registers : All (IsWithin registers) group.args
   behind_keys : IfSome group.body (λ words. 0 < length group.keys)
 
--- what lines make while they come
+-- what lines make while they are read
 record IsSoundSoFar (made : Made) : Type 0 where
   ops : AreSoundOps made.ops
   most_groups : length made.groups ≤ 8

@@ -56,7 +56,7 @@ stages_alike : (ops : List PlanOp) (o : Operand) → stage_of ops o ≡ operand_
 stages_alike ops (Register r) = ap (λ n. if nat_lt r 14 then 0 else n) (stage_alike (slice_get ops (r - 14)))
 stages_alike ops (Number n) = refl
 
--- the last operation stands in the greatest stage
+-- the last operation is in the greatest stage
 most_last : (ops : List PlanOp) (i : ℕ) (one : PlanOp) → AreSoundOps ops → slice_get ops i ≡ Some one → one.stage ≤ last_stage ops
 most_last ops i one sound found =
     let within : i < length ops = slice_get_within ops i one found in

@@ -1,4 +1,4 @@
--- The plan of what a valid text makes is one, with the sizes that the text says.
+-- The plan of what a valid text makes is sound, with the sizes that the text gives.
 use Rattle.std.proofs.Common.{◌≡◌, ℕ, zero, suc, ◌+◌, List, [], ◌∷◌, ◌++◌, length, map, Some, None, refl, sym, ap, ap₂, ◌∙◌, subst, arith}
 use Rattle.std.specs.Prelude.{slice_get, option_map, All}
 use Rattle.std.specs.List.{AllZip}
@@ -18,7 +18,7 @@ use Rattle.plan_loader.specs.Meaning.{fold_in, shape_in, text_shape, wiring_in}
 use Rattle.plan_loader.specs.Parts.{AreGroupsFrom, IsGroupFrom, IsPlanFrom, IsSoundFolded, IsSoundMade, IsWhole}
 use Rattle.plan_loader.proofs.Folds.{algebras, classes, depths, fold_in_is}
 
--- the first of two lists' items at a place
+-- the first of the items of two lists at one place
 pub zip_at : {A B : Type 0} (R : A → B → Type 0) (xs : List A) (ys : List B) (i : ℕ) (y : B) → AllZip R xs ys → slice_get ys i ≡ Some y → (x : A) × (slice_get xs i ≡ Some x) × R x y
 zip_at R [] [] i y z e = absurd (none_some e)
   where

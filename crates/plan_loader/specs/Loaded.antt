@@ -1,4 +1,4 @@
--- What a plan's text is read to, and the laws of reading.
+-- What is read from a plan's text, and the laws of reading.
 use Rattle.std.specs.Prelude.{◌≡◌, ℕ, List}
 use Rattle.query_lang.specs.Blocks.{Block, block_of}
 use Rattle.plan_file.specs.declared.made.Made.{Made}
@@ -11,7 +11,7 @@ use Rattle.plan_loader.specs.Meaning.{text_bound, text_shape}
 use Rattle.plan_loader.specs.Parts.{IsPlanFrom, IsSoundMade}
 use Rattle.plan_loader.specs.Reading.{block_written, stmts_for}
 
--- a plan of what these lines make, with the sizes that they say, and the numbers of the groups that they print
+-- a plan of what these lines make, with the sizes that they give, and the numbers of the groups that they print
 pub record IsLoadedFrom (made : Made) (loaded : LoadedPlan) : Type 0 where
   pub sound : IsSoundMade made
   pub plan : IsPlanFrom made loaded.plan
@@ -24,11 +24,11 @@ pub record IsLoaded (text : List ℕ) (loaded : LoadedPlan) : Type 0 where
   pub says : Says text made
   pub from : IsLoadedFrom made loaded
 
--- Of a packet the plan takes at most as many steps as the text says, with caches of so many ways.
+-- The plan takes at most as many steps for a packet as the text says, with caches of this many ways.
 abbrev pub HasBoundOf : List ℕ → LoadedPlan → Type 0
 HasBoundOf text loaded = (made : Made) (ways : ℕ) → Says text made → plan_bound loaded.plan ways ≡ text_bound made ways
 
--- The tokens of a body write its statements, and these are made again of them.
+-- The tokens of a body write its statements, and the statements are read back from them.
 pub record BodiesAreRead : Type 0 where
   pub written : (states args : ℕ) (words : List Lexeme) (body : Block) → IsBody states args words body
       → block_written states words ≡ body

@@ -46,7 +46,7 @@ fold_in one = record {
 abbrev pub wiring_in : Folded → GroupWiring
 wiring_in one = record { present = one.group.present; keys = one.group.keys; args = one.group.args }
 
--- what a group takes of a packet with these words: nothing where its operand of presence is 0
+-- what a group takes of a packet with these words: nothing where its presence operand is 0
 abbrev pub taken_in : Made → Folded → List ℕ → Option Taken
 taken_in made one words = taken_at (wiring_in one) (after made.ops words (stages_of made.ops))
 
@@ -54,7 +54,7 @@ taken_in made one words = taken_at (wiring_in one) (after made.ops words (stages
 abbrev pub uses_in : Made → Folded → List (List ℕ) → List Use
 uses_in made one packets = uses_taken 1 (map (taken_in made one) packets)
 
--- what the table of a group says beside its rows
+-- what the table of a group has beside its rows
 abbrev pub heading_in : Folded → Heading
 heading_in one = record {
   name = one.group.name;
@@ -76,7 +76,7 @@ plan_tables made g packets = map (table_in made g packets) made.groups
 unfoldable pub plan_output : Made → Geometry → List (List ℕ) → List ℕ
 plan_output made g packets = flat_map (text_at (plan_tables made g packets)) made.prints
 
--- a group with the sizes that its lines say
+-- a group with the sizes that its lines give
 abbrev pub shape_in : Folded → GroupShape
 shape_in one = record {
   name = one.group.name;
@@ -90,7 +90,7 @@ shape_in one = record {
   statements = one.statements;
 }
 
--- the sizes that a text says
+-- the sizes that a text gives
 abbrev pub text_shape : Made → PlanShape
 text_shape made = record {
   operations = length made.ops;
@@ -98,6 +98,6 @@ text_shape made = record {
   groups = map shape_in made.groups;
 }
 
--- The most steps that one packet takes, with caches of so many ways.
+-- The most steps that one packet takes, with caches of this many ways.
 abbrev pub text_bound : Made → ℕ → ℕ
 text_bound made ways = bound_of ways (text_shape made)

@@ -12,7 +12,7 @@ use Rattle.plan_file.specs.declared.made.Made.{Made}
 use Rattle.plan_file.specs.FoldLines.{IsFoldOf, AreBounds}
 use Rattle.plan_loader.specs.Meaning.{reads_in, wiring_in}
 
--- a fold of a group with the bounds that its `fold` line says
+-- a fold of a group with the bounds that its `fold` line gives
 pub record IsFoldIn (one : Folded) (fold : TypedFold) : Type 0 where
   pub is_fold : IsFoldOf one.group fold
   pub nodes : fold.nodes ≡ one.nodes
@@ -39,7 +39,7 @@ pub record IsPlanFrom (made : Made) (plan : PlanParts) : Type 0 where
   pub groups : AreGroupsFrom made.groups plan.groups
   pub wiring : plan.wiring ≡ map wiring_in made.groups
 
--- a group with all its lines, where there are so many registers
+-- a group with all its lines, where there are this many registers
 pub record IsSoundFolded (registers : ℕ) (one : Folded) : Type 0 where
   pub some_keys : 0 < length one.group.keys
   pub most_keys : length one.group.keys ≤ 8

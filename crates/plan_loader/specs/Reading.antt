@@ -1,5 +1,5 @@
--- The statements that the tokens of a body write, read from the front. A count bounds how far is read; as many as there
--- are tokens are enough.
+-- The statements that the tokens of a body write, read from the first token on. A count bounds how far is read; the number
+-- of tokens is enough.
 use Rattle.std.specs.Prelude.{ℕ, zero, suc, ◌+◌, List, [], ◌∷◌, drop, length}
 use Rattle.query_lang.specs.declared.fold.TypedExpr.{TypedExpr, Number, Slot, Not, Binary}
 use Rattle.query_lang.specs.declared.fold.TypedStmt.{TypedStmt, Assign, If}
@@ -8,12 +8,12 @@ use Rattle.query_lang.specs.Blocks.{Block, End, Set, Fork}
 use Rattle.plan_file.specs.declared.lexemes.Lexeme.{Lexeme}
 use Rattle.plan_file.specs.declared.lexemes.Lexeme.TheVariants as word
 
--- what stands at the front of tokens, and the tokens behind it
+-- what tokens begin with, and the tokens after it
 pub record Front (A : Type 0) : Type 0 where
   pub found : A
   pub left : List Lexeme
 
--- the expression at the front of tokens over so many state variables: an argument's slot is behind those of the variables
+-- the expression that tokens begin with, over this many state variables: an argument's slot comes after those of the variables
 abbrev pub read_term : ℕ → ℕ → List Lexeme → Front Term
 read_term zero states words = record { found = Literal 0; left = words }
 read_term (suc n) states (word.Number v ∷ rest) = record { found = Literal v; left = rest }
@@ -28,7 +28,7 @@ read_term (suc n) states (word.Function op ∷ rest) =
     record { found = Operation op a.found b.found; left = b.left }
 read_term (suc n) states words = record { found = Literal 0; left = words }
 
--- the statements at the front of tokens; a brace stands before each block of a choice, and behind it
+-- the statements that tokens begin with; a brace stands before each block of a choice, and after it
 abbrev pub read_block : ℕ → ℕ → List Lexeme → Front Block
 read_block zero states words = record { found = End; left = words }
 read_block (suc n) states (word.Set ∷ word.State v ∷ rest) =
@@ -47,14 +47,14 @@ read_block (suc n) states words = record { found = End; left = words }
 unfoldable pub block_written : ℕ → List Lexeme → Block
 block_written states words = (read_block (length words) states words).found
 
--- an expression as its term says it
+-- an expression as its term gives it
 abbrev pub expr_for : Term → TypedExpr
 expr_for (Literal n) = Number n
 expr_for (Read s) = Slot s
 expr_for (Negation e) = Not (expr_for e)
 expr_for (Operation op a b) = Binary op (expr_for a) (expr_for b)
 
--- statements as their block says them
+-- statements as their block gives them
 abbrev pub stmts_for : Block → List TypedStmt
 stmts_for End = []
 stmts_for (Set v e next) = Assign v (expr_for e) ∷ stmts_for next

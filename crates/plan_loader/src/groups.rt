@@ -15,7 +15,7 @@ use plan_file::{Folded, Group, fold_of};
 use stage_plan::{GroupPlan, GroupWiring};
 use std::alloc::{AllocError, Global};
 
-// A set with one field more.
+// A set with one more field.
 fn with_field(bits: u16, field: Field) -> u16
     ensures { result ≡ bit_or bits (2 ^ number_of field) }
 {

@@ -1,4 +1,4 @@
-//! What holds of the texts of plans.
+//! Laws of the texts of plans.
 
 ghost use Rattle.plan_loader.specs.Faults.{OnePlanFault};
 ghost use Rattle.plan_loader.specs.Loaded.{BodiesAreRead, TextsSayOne};

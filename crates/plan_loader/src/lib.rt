@@ -1,4 +1,4 @@
-//! A plan that is read from its text: what the text means, and the plan that does it.
+//! A plan that is read from its text: what the text means, and the plan that carries it out.
 #![tactic(auto)]
 
 mod groups;

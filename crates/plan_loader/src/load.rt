@@ -31,8 +31,8 @@ fn plan_of(alloc: Global, made: Made) -> Result<LoadedPlan, AllocError>
 }
 
 /// The plan of a valid text. Any other text is refused at the first line that isn't valid after the lines before it, or
-/// behind its last byte where it ends too early, or behind the most bytes where it is too long. A text is refused
-/// nowhere if it is valid, and else at one place.
+/// after its last byte where it ends too early, or after the most bytes where it is too long. A text is refused
+/// nowhere if it is valid, and otherwise at one place.
 pub fn read_plan(alloc: Global, text: &[u8]) -> Result<LoadedPlan, PlanFileAnswer>
     ensures answer { MatchResult result (IsLoaded text.now) (IsRefused text.now) }
     ensures bound { IfOk result (HasBoundOf text.now) }

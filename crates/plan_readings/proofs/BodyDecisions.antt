@@ -1,4 +1,4 @@
--- Tokens of bodies that are the same, and bodies that are valid: each is decided.
+-- Whether tokens of bodies are the same, and whether a body is valid, is decided.
 use Rattle.std.proofs.Common.{◌≡◌, ℕ, ◌+◌, ◌<◌, ◌^◌, true, false, List, [], ◌∷◌, get_or, refl, sym, ap, ap₂, ◌∙◌, subst, inl, inr}
 use Rattle.std.specs.Prelude.{◌==◌, if◌then◌else◌}
 use Rattle.query_lang.specs.declared.fold.Op.{Op}
@@ -66,7 +66,7 @@ op_again ops.Min = refl
 op_again ops.Sadd = refl
 op_again ops.Decay = refl
 
--- tokens by two numbers
+-- tokens as two numbers
 
 abbrev kind_of : Lexeme → ℕ
 kind_of word.Set = 0

@@ -1,4 +1,4 @@
--- Facts that hold or not, by their parts.
+-- Facts that are decided by their parts.
 use Rattle.std.proofs.Common.{◌≡◌, ℕ, zero, suc, ◌<◌, ◌≤◌, Bool, true, false, List, [], ◌∷◌, length, Option, Some, None, refl, inl, inr, arith}
 use Rattle.std.specs.Prelude.{◌⊎◌, Contains, slice_index_or}
 use Rattle.std.proofs.lemmas.Bool.{cases_eq, cases_lt}
@@ -24,7 +24,7 @@ pub neither : {A : Type 0} → Decided A → Decided (A → ⊥)
 neither (inl a) = inr (λ no. no a)
 neither (inr a) = inl a
 
--- a fact that says the same as one that is decided
+-- a fact that is equivalent to one that is decided
 pub by_both : {A B : Type 0} → (A → B) → (B → A) → Decided A → Decided B
 by_both to back (inl a) = inl (to a)
 by_both to back (inr a) = inr (λ b. a (back b))
@@ -91,7 +91,7 @@ contains {A} same (y ∷ xs) x = by (same y x) (contains same xs x)
     by (inr not) (inl c) = inl (suc c.0, (let lt = c.1 in omega arith), c.2)
     by (inr not) (inr absent) = inr (λ c. none not absent c.0 c.1 c.2)
 
--- a list of so many tokens
+-- a list of this many tokens
 pub two_tokens : (ts : List (List ℕ)) → Decided ((a : List ℕ) × (b : List ℕ) × (ts ≡ a ∷ b ∷ []))
 two_tokens [] = inr (λ p. (let e = p.2 in cc))
 two_tokens (a ∷ []) = inr (λ p. (let e = p.2 in cc))

@@ -1,4 +1,4 @@
--- What a text is read to.
+-- The reading of a text.
 use Rattle.std.specs.Prelude.{◌≡◌, ℕ, List, Ok, Err}
 use Rattle.query_lang.specs.Checks.{Checked}
 use Rattle.plan_file.specs.declared.answer.PlanFileAnswer.TheVariants.{Refused}

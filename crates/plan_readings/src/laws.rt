@@ -1,4 +1,4 @@
-//! What holds of every text.
+//! Laws of every text.
 
 ghost use Rattle.plan_readings.specs.Readings.{EveryTextIsRead, TextsAreReadOnce};
 

@@ -1,4 +1,4 @@
-//! Every text of a plan is read: it is valid, or it is refused.
+//! Every text has a reading: it is a valid text of a plan, or it is refused.
 #![tactic(auto)]
 
 mod laws;

@@ -1,4 +1,4 @@
--- How many operations the plan of a query has at most.
+-- The most operations that the plan of a query has.
 use Rattle.std.proofs.Common.{◌≡◌, ℕ, ◌+◌, ◌*◌, ◌≤◌, List, [], ◌∷◌, ◌++◌, length, Option, Some, None, refl, ap, ◌∙◌, arith}
 use Rattle.std.specs.Prelude.{All, IfSome, map, flat_map, fold, max, replicate, slice_get, sum_by}
 use Rattle.std.proofs.lemmas.Grind.{flat_map-append}

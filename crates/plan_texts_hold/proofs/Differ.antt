@@ -19,7 +19,7 @@ HasOwnColumns folds columns (typed.Group input keys number args) =
 HasOwnColumns folds columns _ = Unit {0}
 
 -- The names of streams differ from one another and from that of the packets, the state variables of each fold differ, so do the columns of each
--- groupby, and a table is printed, none of them twice.
+-- groupby, and some table is printed, none twice.
 pub record NamesDiffer (packets : ℕ) (q : TypedQuery) : Type 0 where
   pub streams : AreNew (packets ∷ []) (map (λ one. one.name.id) q.streams)
   pub states : (i : ℕ) (f : TypedFold) → slice_get q.folds i ≡ Some f → AreNew [] f.state_names

@@ -1,4 +1,4 @@
--- How long the lines of a plan's groupbys are at most.
+-- The greatest length of the lines of a plan's groupbys.
 use Rattle.std.proofs.Common.{◌≡◌, ℕ, zero, suc, ◌+◌, ◌*◌, ◌≤◌, Bool, true, false, List, [], ◌∷◌, ◌++◌, length, Option, Some, None, refl, subst, arith}
 use Rattle.std.specs.Prelude.{All, codes, decimal, flat_map, map, option_map, slice_get, if◌then◌else◌}
 use Rattle.std.specs.List.{cons_option, range_with_len}

@@ -1,4 +1,4 @@
--- Items that are new behind others, and checks one after another.
+-- Items that are new after others, and checks in sequence.
 use Rattle.std.proofs.Common.{◌≡◌, ℕ, zero, suc, Bool, true, false, ◌||◌, List, [], ◌∷◌, ◌++◌, Some, Ok, Err, refl, sym, ap, subst, ◌∙◌, inl, inr, ◌⊎◌, arith, nat_eq, append_assoc, append-nil, Contains}
 use Rattle.std.specs.Prelude.{slice_get}
 use Rattle.std.proofs.lemmas.Bool.Decides.{nat_tests}
@@ -62,7 +62,7 @@ not_among names id none c = let t = among_in names id (contains_in names id c) i
 pub not_in : (names : List ℕ) (id : ℕ) → is_among id names ≡ false → IsIn id names → ⊥
 not_in names id none c = let t = among_in names id c in cc
 
--- one more item behind others
+-- one more item after others
 pub new_push : {A : Type 0} (before items : List A) (item : A) → AreNew before items → (IsIn item (before ++ items) → ⊥) → AreNew before (items ++ item ∷ [])
 new_push before [] item new none = (λ c. none (subst (IsIn item) (sym (append-nil before)) (contains_in before item c)), tt)
 new_push before (one ∷ items) item new none = (new.0, new_push (before ++ one ∷ []) items item new.1 (λ h. none (subst (IsIn item) (append_assoc before (one ∷ []) items) h)))

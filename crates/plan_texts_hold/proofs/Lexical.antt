@@ -24,7 +24,7 @@ use Rattle.query_lang.specs.Typing.{typed_names, with_fields}
 use Rattle.plan_file.specs.Lexis.{is_name}
 use Rattle.written_plan.proofs.Tokens.{both_are}
 
--- ---- names, one after another
+-- ---- names, in sequence
 
 -- names by the rule of names, none of them twice
 pub record AreGood (names : List (List ℕ)) : Type 0 where
@@ -112,7 +112,7 @@ fields_good (f ∷ fields) names good = fields_good fields (with_name names (fie
 pub typed_good : (names : List (List ℕ)) → AreGood names → AreGood (typed_names names)
 typed_good names good = fields_good all_fields names good
 
--- ---- the names that a text is cut into
+-- ---- the names that a text is split into
 
 -- a piece that is a name is one by the rule of names
 abbrev IsNamePiece : List ℕ → Piece → Type 0

@@ -33,7 +33,7 @@ use Rattle.plan_texts_hold.proofs.Columns.{fold_new, states_apart, AreKeyColumns
 use Rattle.written_plan.specs.WellNamed.{AreNew}
 use Rattle.plan_texts_hold.proofs.Differ.{AreApart, HasOwnColumns}
 
--- the place of a table that a name stands for
+-- the place of the table that a name refers to
 abbrev pub place_in : Option Meaning → Option PrintOf
 place_in None = None
 place_in (Some (meaning.Fold f)) = None

@@ -130,7 +130,7 @@ items_good packets given (one ∷ items) e after good ok =
     let f = found_first (item_checked given e one) _ after ok in
     items_good packets given items f.0 after (item_good packets given e f.0 one good f.1) f.2
 
--- nothing is there at the start but the packets
+-- at the start there are only the packets
 start_good : (names : List (List ℕ)) → Good (number_in names (codes "pktstream")) (start_of names)
 start_good names = record {
   places = λ a b p ea eb. absurd (no a p ea);

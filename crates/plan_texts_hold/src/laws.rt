@@ -1,4 +1,4 @@
-//! The laws of accepted texts and the texts of their plans.
+//! Laws of accepted texts and the texts of their plans.
 
 ghost use Rattle.std.specs.Prelude.{◌≡◌, Ok, None};
 ghost use Rattle.accepted_query.specs.Accepted.{accepted};
@@ -10,13 +10,13 @@ ghost use Rattle.plan_texts_hold.specs.HoldLaws.{AcceptedHavePlanTexts};
 use query_lang::TypedQuery;
 use stage_plan::Plan;
 
-/// The query of each accepted text without finals has a plan's text: its groupbys are named well and differ in their names, its
-/// folds begin with words, it prints something and nothing twice, and the text has at most 2,097,152 bytes.
+/// The query of each accepted text without finals has a plan's text: its groupbys have different names by the rule, its folds
+/// begin with words, it prints something and nothing twice, and the text has at most 2,097,152 bytes.
 pub fn accepted_have_plan_texts()
     ensures { AcceptedHavePlanTexts }
 {}
 
-/// The text of an accepted query's plan is valid, and what is loaded of it reads what the query reads and prints what it prints.
+/// The text of an accepted query's plan is valid, and a plan loaded from it reads what the query reads and prints what it prints.
 pub fn accepted_compile_and_run(text: &[u8], q: &TypedQuery, p: &Plan)
     requires accepted { accepted text.now ≡ Ok q.now }
     requires no_finals { final_fault q.now ≡ None }

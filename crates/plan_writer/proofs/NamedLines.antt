@@ -1,4 +1,4 @@
--- Lines of names and last words that are written one after another.
+-- Lines of names and last words that are written in sequence.
 use Rattle.std.proofs.Common.{◌≡◌, ℕ, ◌+◌, ◌<◌, ◌≤◌, List, [], ◌∷◌, ◌++◌, length, get_or, drop, map, min, sym, ap, ◌∙◌, arith, append_assoc, append-nil, refl, inl, inr}
 use Rattle.std.proofs.lemmas.List.{drop_more, drop_all}
 use Rattle.std.proofs.lemmas.Bool.{cases_lt}

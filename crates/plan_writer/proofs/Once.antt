@@ -1,4 +1,4 @@
--- Each operation stands once in the order of stages, and so the registers of operations are those of their places.
+-- Each operation occurs once in the order of stages, and so the registers of operations are those of their places.
 use Rattle.std.proofs.Common.{◌≡◌, ℕ, zero, suc, ◌+◌, ◌-◌, ◌<◌, ◌≤◌, ◌==◌, Bool, true, false, cond, eqb, List, [], ◌∷◌, ◌++◌, length, get_or, Some, None, refl, sym, ap, subst, ◌∙◌, inl, inr, ◌⊎◌, arith}
 use Rattle.std.specs.Prelude.{slice_get}
 use Rattle.std.specs.List.{position_or_len}
@@ -18,7 +18,7 @@ no_item x e = absurd (no e)
     no : None ≡ Some x → ⊥
     no f = cc
 
--- an element of two lists in a row
+-- an element of two lists joined
 append_cases : {A : Type 0} (xs ys : List A) (k : ℕ) (x : A) → slice_get (xs ++ ys) k ≡ Some x → (slice_get xs k ≡ Some x) ⊎ ((length xs ≤ k) × (slice_get ys (k - length xs) ≡ Some x))
 append_cases [] ys k x e = let z : k ≡ k - 0 = omega arith in inr (omega arith, ap (slice_get ys) (sym z) ∙ e)
 append_cases (y ∷ xs) ys zero x e = inl e
@@ -63,7 +63,7 @@ numbers_ascend stage n (one ∷ ops) i j a b lt e f = go (eqb one.stage stage) i
     go true (suc i) (suc j) lt rest e f = rest i j a b (omega arith) e f
     go false i j lt rest e f = rest i j a b lt e f
 
--- no number stands twice in the order
+-- no number occurs twice in the order
 stands_once : (ops : List PlanOp) (s i j c : ℕ) → i < j → slice_get (order_of ops s) i ≡ Some c → slice_get (order_of ops s) j ≡ Some c → ⊥
 stands_once ops zero i j c lt e f = no_item c e
 stands_once ops (suc s) i j c lt e f =
@@ -91,7 +91,7 @@ stands_once ops (suc s) i j c lt e f =
         omega (arith, up)
     go (inr p) (inl q) rest = let w = slice_get_within (order_of ops s) j c q in let l = p.0 in omega arith
 
--- a number's place in the order is the one place where it stands
+-- a number's place in the order is the one place where it occurs
 place_is : (ops : List PlanOp) (s k c : ℕ) → slice_get (order_of ops s) k ≡ Some c → position_or_len (λ other. other == c) (order_of ops s) ≡ k
 place_is ops s k c e =
     position_or_len_is (λ other. other == c) (order_of ops s) k 0 (let w = within in omega arith)
@@ -106,7 +106,7 @@ place_is ops s k c e =
         let same : get_or (order_of ops s) i 0 ≡ c = grind (arith, nat_tests) in
         absurd (stands_once ops s i k c lt (slice_get-get_or (order_of ops s) i 0 (omega (arith, within)) ∙ ap Some same) e)
 
--- the registers that are told by their places
+-- the registers that places in the order give
 pub registers_are : (ops : List PlanOp) (s : ℕ) (registers : List ℕ) → Staged ops s → ArePlaced (order_of ops s) registers (length (order_of ops s)) → length registers ≡ length ops →
     registers ≡ registers_in (order_of ops s) (length ops)
 registers_are ops s registers staged placed long =

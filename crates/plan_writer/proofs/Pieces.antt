@@ -1,4 +1,4 @@
--- Pieces of a line that are written one after another.
+-- Pieces of a line that are written in sequence.
 use Rattle.std.proofs.Common.{◌≡◌, ℕ, ◌+◌, ◌<◌, ◌≤◌, List, [], ◌∷◌, ◌++◌, length, get_or, drop, sym, ap, ◌∙◌, append_assoc, append-nil}
 use Rattle.std.specs.Prelude.{codes, map, filter, take}
 use Rattle.std.proofs.lemmas.List.{drop_more, drop_all, map-append, take_more}

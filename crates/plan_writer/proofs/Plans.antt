@@ -180,7 +180,7 @@ head_is reads t0 t1 t2 t3 e f g =
     ∙ append_assoc (t0 ++ codes "marple-plan 1\nreads") x (10 ∷ [])
     ∙ append_assoc t0 (codes "marple-plan 1\nreads") (x ++ 10 ∷ [])
 
--- The pieces of a plan's text, one after another.
+-- The pieces of a plan's text, in sequence.
 pub text_is : (q : TypedQuery) (p : PlanParts) (reads : FieldSet) (prints : List PrintOf) (t0 t1 t2 t3 t4 : List ℕ) → IsPlanOf q p → reads ≡ p.reads → prints ≡ q.prints → t0 ≡ [] →
     t1 ≡ t0 ++ (line (codes "marple-plan") (codes "1" ∷ []) ++ reads_line reads) → t2 ≡ t1 ++ flat_map op_line p.ops →
     t3 ≡ t2 ++ flat_map (group_text q) (range_with_len 0 (length (takings q.streams))) → t4 ≡ t3 ++ flat_map print_line prints → t4 ≡ compiled_text q

@@ -9,7 +9,7 @@ use Rattle.stage_plan.specs.Ordering.{order_of, moved_op, op_numbered, wiring_of
 use Rattle.stage_plan.specs.Planned.{query_made}
 use Rattle.stage_plan.specs.Registers.{stages_of}
 
--- the numbers of a query's operations, as they were made, in ascending stage, and in one stage in the order in which they were made
+-- the numbers that a query's operations had as they were made, in ascending stage, and within a stage in the order in which they were made
 abbrev pub query_order : TypedQuery → List ℕ
 query_order q = order_of (query_made q).ops (stages_of (query_made q).ops)
 
@@ -17,7 +17,7 @@ query_order q = order_of (query_made q).ops (stages_of (query_made q).ops)
 abbrev pub register_in : List ℕ → ℕ → ℕ
 register_in order number = 14 + position_or_len (λ other. other == number) order
 
--- the registers of so many operations
+-- the registers of this many operations
 abbrev pub registers_in : List ℕ → ℕ → List ℕ
 registers_in order operations = map (register_in order) (range_with_len 0 operations)
 

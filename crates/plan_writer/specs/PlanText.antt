@@ -49,7 +49,7 @@ group_lines shape wiring f =
     ++ (line (codes "body") (block_words (length f.state_names) (fold_block f))
     ++ line (codes "fold") (class_word shape.class ∷ decimal shape.depth ∷ decimal shape.nodes ∷ decimal shape.statements ∷ [])))))
 
--- the lines of a groupby whose parts are there
+-- the lines of a groupby that has all its parts
 abbrev pub group_lines_of : Option GroupShape → Option GroupWiring → Option TypedFold → List ℕ
 group_lines_of (Some shape) (Some wiring) (Some f) = group_lines shape wiring f
 group_lines_of _ _ _ = []

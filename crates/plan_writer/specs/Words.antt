@@ -9,11 +9,11 @@ use Rattle.stage_plan.specs.declared.op.Operand.TheVariants.{Register, Number}
 use Rattle.stage_plan.specs.declared.op.Operation as operation
 use Rattle.stage_plan.specs.declared.op.Operation.TheVariants.{Not, Two}
 
--- words behind another one, each with a space before it
+-- words after another one, each with a space before it
 abbrev pub behind : List (List ℕ) → List ℕ
 behind words = flat_map (λ word. 32 ∷ word) words
 
--- a line is a first word and others behind it, with a space between two of them, and LF ends it
+-- a line is a first word and others after it, with a space between two of them, and LF ends it
 abbrev pub line : List ℕ → List (List ℕ) → List ℕ
 line first words = first ++ (behind words ++ 10 ∷ [])
 
@@ -60,11 +60,11 @@ operation_words (Two f) left right = function_word f ∷ operand_word left ∷ o
 abbrev pub state_word : ℕ → List ℕ
 state_word v = 115 ∷ decimal v
 
--- a slot of a row: the state variables come first, and the arguments, `aI`, behind them
+-- a slot of a row: the state variables come first, and the arguments, `aI`, after them
 abbrev pub slot_word : ℕ → ℕ → List ℕ
 slot_word states s = if nat_lt s states then state_word s else 97 ∷ decimal (s - states)
 
--- an expression over so many state variables: each operator and function stands before its operands
+-- an expression over this many state variables: each operator and function comes before its operands
 abbrev pub term_words : ℕ → Term → List (List ℕ)
 term_words states (Literal n) = number_word n ∷ []
 term_words states (Read s) = slot_word states s ∷ []

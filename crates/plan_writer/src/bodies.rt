@@ -11,7 +11,7 @@ use marple_base::Text;
 use query_lang::{TypedExpr, TypedStmt};
 use std::alloc::AllocError;
 
-// A slot of a row of so many state variables with the arguments behind them.
+// A slot of a row that has this many state variables, and the arguments after them.
 fn push_slot(text: &mut Text, states: u16, s: u16) -> Result<(), AllocError>
     ensures { OnOk result (text.new ≡ text.old ++ behind (slot_word states s ∷ [])) }
 {
@@ -70,7 +70,7 @@ fn push_stmt(text: &mut Text, states: u16, s: &TypedStmt) -> Result<(), AllocErr
     Ok(())
 }
 
-/// The statements of a fold with so many state variables.
+/// The statements of a fold with this many state variables.
 pub(crate) fn push_body(text: &mut Text, states: u16, body: &[TypedStmt]) -> Result<(), AllocError>
     ensures { OnOk result (text.new ≡ text.old ++ behind (block_words states (block_of body.now))) }
 {

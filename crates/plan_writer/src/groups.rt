@@ -101,7 +101,7 @@ fn class_name(class: Class) -> &'static [u8]
     }
 }
 
-// The line of a class and three numbers of a fold.
+// The line with a fold's class and three numbers.
 fn push_bounds(
     text: &mut Text,
     class: Class,

@@ -1,4 +1,4 @@
-//! The text of a query's plan, as another run may read it.
+//! The text of a query's plan, which another run can read.
 #![tactic(auto)]
 
 mod bodies;

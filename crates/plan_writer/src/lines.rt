@@ -10,7 +10,7 @@ use marple_base::{Field, FieldSet, Text};
 use query_lang::PrintOf;
 use std::alloc::AllocError;
 
-// The name of a field, where it is in a set.
+// The name of a field, if it is in a set.
 fn push_field(text: &mut Text, reads: FieldSet, f: Field) -> Result<(), AllocError>
     ensures { OnOk result (text.new ≡ text.old ++ behind (map field_name (filter (has_field reads) (f ∷ [])))) }
 {

@@ -1,4 +1,4 @@
-//! Words behind others, each with a space before it.
+//! Words after others, each with a space before it.
 
 ghost use Rattle.std.specs.Prelude.{◌≡◌, ◌++◌, ◌∷◌, [], decimal, OnOk};
 ghost use Rattle.plan_writer.specs.Words.{behind, operand_word};
@@ -24,7 +24,7 @@ pub(crate) fn push_number(text: &mut Text, n: u64) -> Result<(), AllocError>
     push_word(text, buffer.format(n).as_bytes())
 }
 
-// A byte that says what a number is, and the number.
+// A byte that says what kind of number follows, and the number.
 pub(crate) fn push_marked(text: &mut Text, mark: u8, n: u64) -> Result<(), AllocError>
     ensures { OnOk result (text.new ≡ text.old ++ behind ((mark ∷ decimal n) ∷ [])) }
 {

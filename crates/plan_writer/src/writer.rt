@@ -14,7 +14,7 @@ use stage_plan::Plan;
 use std::alloc::{AllocError, Global};
 
 /// The text of a query's plan, where the query has no final: the fields that it reads, its operations in ascending stage, its
-/// groupbys, and which of them are printed. Each line ends with LF. It fails only where there is no memory.
+/// groupbys, and which of them are printed. Each line ends with LF. It fails only out of memory.
 #[tactic(auto, unfolding(crate::specs::PlanText::compiled_text))]
 pub fn plan_file_text(alloc: Global, q: &TypedQuery, p: &Plan) -> Result<Text, AllocError>
     requires valid { IsValidQuery q.now }

@@ -1,4 +1,4 @@
--- The operations of a query's plan may stand one after another, and its groupbys behind them.
+-- The operations of a query's plan are allowed in sequence, and its groupbys after them.
 use Rattle.std.proofs.Common.{◌≡◌, ℕ, zero, suc, ◌+◌, ◌-◌, ◌<◌, ◌≤◌, Bool, true, false, List, [], ◌∷◌, ◌++◌, length, take, Some, None, Option, refl, sym, ap, subst, ◌∙◌, inl, inr, arith}
 use Rattle.std.specs.Prelude.{map, slice_get, option_map, unwrap_or, nat_lt, if◌then◌else◌}
 use Rattle.std.specs.List.{range_with_len}
@@ -38,7 +38,7 @@ use Rattle.written_plan.proofs.Groups.{HasGroup}
 use Rattle.written_plan.proofs.Known.{AreFit, AreBehind, AreFrom, AreRead, AreNamed, AllAreGood, AllGood, IsWritable, column_good, in_set, moved_good, moved_writable, named_from, query_good, read_left, read_right, writable_at}
 use Rattle.written_plan.proofs.OpLines.{IsOpOk}
 
--- a front of a list
+-- a prefix of a list
 
 front_at : {A : Type 0} (xs : List A) (i k : ℕ) → k < i → slice_get (take i xs) k ≡ slice_get xs k
 front_at xs zero k lt = absurd (omega arith)
@@ -50,7 +50,7 @@ stage_found : (o : Option PlanOp) → stage_at o ≡ unwrap_or (option_map (λ o
 stage_found None = refl
 stage_found (Some one) = refl
 
--- an operand that stands before keeps its stage
+-- an operand of an earlier operation keeps its stage
 stage_before : (ops : List PlanOp) (i : ℕ) (o : Operand) → IsWithin (14 + i) o → stage_of (take i ops) o ≡ operand_stage ops o
 stage_before ops i (Number n) inside = refl
 stage_before ops i (Register r) inside = by (nat_lt r 14) refl

@@ -97,7 +97,7 @@ number_lexeme : (n : ℕ) → n < 2 ^ 64 → lexeme_of (number_word n) ≡ word.
 unfolding lexeme_of function_named
 number_lexeme n small = ap (λ o. lexeme_among None o None None) (number_decimal n small)
 
--- a digit is none of the letters that stand behind `s` or `a` in another word
+-- a digit is none of the letters that follow `s` or `a` in another word
 other_byte : (c d : ℕ) → c ≤ 57 → 57 < d → eqb c d ≡ false
 other_byte c d low high = grind (arith, nat_tests)
 
@@ -152,7 +152,7 @@ not_lexeme : lexeme_of (codes "not") ≡ word.Not
 unfolding lexeme_of
 not_lexeme = refl
 
--- so many slots have numbers that fit a word
+-- this many slots have numbers that fit a word
 abbrev pub AreFew : ℕ → Type 0
 AreFew slots = slots < 2 ^ 64
 

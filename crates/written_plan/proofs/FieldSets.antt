@@ -15,7 +15,7 @@ use Rattle.written_plan.specs.MadeOf.{made_of}
 use Rattle.written_plan.proofs.Fields.{all_in, in_filter, out_of_filter}
 use Rattle.written_plan.proofs.Known.{IsIn, in_set}
 
--- 1 where some field of these has this number, and else 0
+-- 1 where some field of these has this number, and 0 otherwise
 abbrev among : ℕ → List Field → ℕ
 among i [] = 0
 among i (f ∷ fields) = max (bit_at (2 ^ number_of f) i) (among i fields)

@@ -35,7 +35,7 @@ in_filter test f (g ∷ fields) e (inr h) = by (test g) (in_filter test f fields
     by true rest = inr rest
     by false rest = rest
 
--- a field that is left passes the test
+-- the test holds for a field that is left
 pub out_of_filter : (test : Field → Bool) (f : Field) (fields : List Field) → IsIn f (filter test fields) → test f ≡ true
 out_of_filter test f [] h = absurd h
 out_of_filter test f (g ∷ fields) h = by (test g) refl h (out_of_filter test f fields)
@@ -132,7 +132,7 @@ reads_written reads =
       made = refl;
     })
 
--- an operand that may be written is known behind operations that it stands behind
+-- an operand that is allowed is known after the operations before it
 pub operand_known : (reads : FieldSet) (ops : List PlanOp) (o : Operand) → IsGood reads o → IsWithin (14 + length ops) o → IsKnown (fields_of reads) ops o
 operand_known reads ops (Number n) good inside = tt
 operand_known reads ops (Register r) good inside = elim (cases_lt r 14) [

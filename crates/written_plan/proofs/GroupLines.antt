@@ -1,4 +1,4 @@
--- The lines of a groupby are valid one after another.
+-- The lines of a groupby are valid in sequence.
 use Rattle.std.proofs.Common.{◌≡◌, ℕ, ◌+◌, ◌<◌, ◌≤◌, true, List, [], ◌∷◌, ◌++◌, length, Some, None, Option, refl, subst, arith, append_assoc, append-nil, Contains}
 use Rattle.std.specs.Prelude.{flat_map, map, codes, decimal}
 use Rattle.std.proofs.lemmas.List.{length_push}
@@ -32,11 +32,11 @@ AreReadable fields ops (o ∷ operands) = IsReadable fields ops o × AreReadable
 none_in : (name : List ℕ) → Contains [] name → ⊥
 none_in name h = omega (arith, h.1)
 
--- what lines make while a group's lines come
+-- what lines make while a group's lines are read
 abbrev pub within : List Field → List PlanOp → List Folded → Group → Made
 within fields ops groups g = record { begun = true; reads = Some fields; ops = ops; groups = groups; current = Some g; prints = [] }
 
--- and where they don't
+-- and before or after them
 abbrev pub outside : List Field → List PlanOp → List Folded → Made
 outside fields ops groups = record { begun = true; reads = Some fields; ops = ops; groups = groups; current = None; prints = [] }
 

@@ -35,7 +35,7 @@ use Rattle.plan_file.proofs.SameFold.{class_same, depth_same}
 use Rattle.written_plan.proofs.Tokens.{is_token}
 use Rattle.written_plan.proofs.Written.{IsWritten, nothing_written, written_then, line_written}
 
--- what holds of a groupby whose lines may stand in a plan with these fields and operations
+-- what holds of a groupby whose lines are allowed in a plan with these fields and operations
 pub record IsGroupOk (fields : List Field) (ops : List PlanOp) (shape : GroupShape) (wiring : GroupWiring) (f : TypedFold) : Type 0 where
   pub named : is_name shape.name ≡ true
   pub no_stream : shape.name ≡ codes "pktstream" → ⊥
@@ -141,7 +141,7 @@ module _ (fields : List Field) (ops : List PlanOp) (groups : List Folded) (shape
         made = refl;
       })
 
-  -- the fold as the text says it, which emits nothing
+  -- the fold as the text gives it, which emits nothing
   quiet : TypedFold
   quiet = record f { emit = None }
 

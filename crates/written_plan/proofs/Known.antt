@@ -37,7 +37,7 @@ use Rattle.plan_file.specs.Operations.{is_right_of, takes_right}
 abbrev type_of : {A : Type 0} → A → Type 0
 type_of {A = A} x = A
 
--- where the columns of a stream stand while operations are made
+-- the places of a stream's columns while operations are made
 abbrev pub Wires : Type 0
 Wires = type_of packet_wires
 
@@ -85,12 +85,12 @@ has_bit [] bits f h = absurd h
 pub in_set : (fields : List Field) (f : Field) → IsIn f fields → HasField (field_set fields) f
 in_set fields f h = let e = has_bit fields 0 f h in grind (arith, nat_tests)
 
--- an operand that may be written: a field that is read, another register, or a number that fits a word
+-- an operand that is allowed: a field that is read, another register, or a number that fits a word
 abbrev pub IsGood : FieldSet → Operand → Type 0
 IsGood reads (Register r) = r < 14 → (f : Field) × (number_of f ≡ r) × HasField reads f
 IsGood reads (Number n) = n < 2 ^ 64
 
--- `not` has the number 0 behind its operand
+-- `not` has the number 0 as its second operand
 abbrev pub IsSingle : operation.Operation → Operand → Type 0
 IsSingle Not right = right ≡ Number 0
 IsSingle (Two f) right = Unit {0}
@@ -187,7 +187,7 @@ with_one reads op ops left right w l r c s = record {
   value = λ early. absurd (omega (arith, early));
 }
 
--- an operator that takes what is no constant
+-- an operator that takes what isn't a constant
 others : (op : Op) (a b : Term) (value : Operand) → TakesOperands op a b → (IsConstant (λ n. 0 < n) b → ⊥) → (IsConstant (λ n. n < 64) b → ⊥) → takes_right op value ≡ true
 others two.Div a b value t p q = absurd (p t.1)
 others two.Rem a b value t p q = absurd (p t.1)
@@ -212,7 +212,7 @@ others two.Max a b value t p q = refl
 others two.Min a b value t p q = refl
 others two.Sadd a b value t p q = refl
 
--- what may stand at the right of an operator is compiled to a number where it has to be one
+-- the right operand of an operator is compiled to a number where it has to be one
 right_is : (op : Op) (columns : List Operand) (a b : Term) (ops : List PlanOp) → TakesOperands op a b → takes_right op (compiled columns b ops).value ≡ true
 right_is op columns a (Literal n) ops t = by op t
   where
@@ -383,7 +383,7 @@ more_streams reads sources streams made wires long all new j = elim (cases_lt j 
     place : (w : Wires) (s : List Source) → wires_at (streams ++ wires ∷ []) j ≡ w → sources_at (sources ++ made ∷ []) j ≡ s → IsStream reads s w → IsStream reads (sources_at (sources ++ made ∷ []) j) (wires_at (streams ++ wires ∷ []) j)
     place w s p q h = subst (IsStream reads (sources_at (sources ++ made ∷ []) j)) (sym p) (subst (λ x. IsStream reads x w) (sym q) h)
 
--- where the columns of streams behind others come from
+-- where the columns of streams after others come from
 abbrev pub sources_after : List (List Source) → List TypedStream → List (List Source)
 sources_after sources list = fold (λ streams one. streams ++ sources_made streams one.op ∷ []) sources list
 

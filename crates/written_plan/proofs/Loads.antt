@@ -1,4 +1,4 @@
--- Whatever the text of a query's plan says is as the query.
+-- All that the text of a query's plan says agrees with the query.
 use Rattle.std.proofs.Common.{◌≡◌, None, subst}
 use Rattle.query_lang.specs.declared.typed.TypedQuery.{TypedQuery}
 use Rattle.query_lang.specs.TypedQueries.{IsValidQuery}

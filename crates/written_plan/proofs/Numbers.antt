@@ -35,7 +35,7 @@ plain_digits (c ∷ ds) d = let k = digit_from_value c d.0 in both_are (is_plain
 pub token_decimal : (n : ℕ) → n < 2 ^ 64 → is_token (decimal n) ≡ true
 token_decimal n small = plain_digits (decimal n) (decimal_is_IsNumeral n small).0.1
 
--- behind a byte that says what it is
+-- after a byte that says what kind of number it is
 pub token_marked : (mark n : ℕ) → is_plain mark ≡ true → n < 2 ^ 64 → is_token (mark ∷ decimal n) ≡ true
 token_marked mark n plain small = both_are (is_plain mark) (is_token (decimal n)) plain (token_decimal n small)
 

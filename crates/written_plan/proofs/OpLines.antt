@@ -1,4 +1,4 @@
--- The lines of operations are valid one after another.
+-- The lines of operations are valid in sequence.
 use Rattle.std.proofs.Common.{◌≡◌, ℕ, ◌^◌, ◌<◌, true, List, [], ◌∷◌, ◌++◌, length, take, Some, None, refl, sym, ap, subst, ◌∙◌, append_assoc, append-nil}
 use Rattle.std.specs.Prelude.{flat_map, codes, decimal, slice_get}
 use Rattle.std.proofs.lemmas.List.{take_at}
@@ -34,7 +34,7 @@ pub token_operand : (o : Operand) → Fits o → is_token (operand_word o) ≡ t
 token_operand (Register r) fits = token_marked 114 r refl fits
 token_operand (Number n) fits = token_marked 35 n refl fits
 
--- an operation that may stand behind these, with numbers that fit words
+-- an operation that is allowed after these, with numbers that fit words
 pub record IsOpOk (fields : List Field) (before : List PlanOp) (one : PlanOp) : Type 0 where
   pub allowed : IsAllowed fields before one
   pub stage : one.stage < 2 ^ 64
@@ -84,7 +84,7 @@ middle : {A : Type 0} (xs : List A) (y : A) (ys : List A) → slice_get (xs ++ y
 middle [] y ys = refl
 middle (x ∷ xs) y ys = middle xs y ys
 
--- operations behind others
+-- operations after others
 pub ops_written : (fields : List Field) (all : List PlanOp) → ((i : ℕ) (one : PlanOp) → slice_get all i ≡ Some one → IsOpOk fields (take i all) one) → (before rest : List PlanOp) → before ++ rest ≡ all →
     IsWritten (flat_map op_line rest) (with_ops fields before) (with_ops fields all)
 ops_written fields all ok before [] e = nothing_written (with_ops fields before) (with_ops fields all) (ap (with_ops fields) (sym e ∙ append-nil before))

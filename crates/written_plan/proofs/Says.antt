@@ -56,11 +56,11 @@ print_lead : word_named (codes "print") ≡ lead.Print
 unfolding word_named
 print_lead = refl
 
--- what is made behind all groups
+-- what is made after all groups
 abbrev printing : List Field → List PlanOp → List Folded → List ℕ → Made
 printing fields ops groups prints = record { begun = true; reads = Some fields; ops = ops; groups = groups; current = None; prints = prints }
 
--- each printed groupby is there
+-- each printed groupby exists
 abbrev AreThere : ℕ → List PrintOf → Type 0
 AreThere groups [] = Unit {0}
 AreThere groups (printed.Group i ∷ prints) = (i < groups) × AreThere groups prints

@@ -1,4 +1,4 @@
--- Words without a space and without LF, and how a line of them is cut.
+-- Words without a space and without LF, and how a line of them is split.
 use Rattle.std.proofs.Common.{◌≡◌, ℕ, Bool, true, false, List, [], ◌∷◌, ◌++◌, refl, ap, ◌∙◌, append-nil, append_assoc}
 use Rattle.std.specs.Prelude.{All, flat_map, not, ◌&&◌}
 use Rattle.std.specs.List.{list_all}
@@ -20,7 +20,7 @@ not_false : (b : Bool) → not b ≡ true → b ≡ false
 not_false true e = cc
 not_false false e = refl
 
--- no byte passes a test
+-- a test holds for no byte
 abbrev pub has_none : (ℕ → Bool) → List ℕ → Bool
 has_none test text = list_all (λ b. not (test b)) text
 
@@ -82,7 +82,7 @@ pub lines_append : (xs ys : List (List ℕ)) → AreLines xs → AreLines ys →
 lines_append [] ys a b = b
 lines_append (x ∷ xs) ys a b = (a.0, lines_append xs ys a.1 b)
 
--- each line with LF behind it
+-- each line with LF after it
 abbrev pub ended : List (List ℕ) → List ℕ
 ended all = flat_map (λ one. one ++ 10 ∷ []) all
 

@@ -14,7 +14,7 @@ pub make_both : (xs ys : List (List ℕ)) (before mid after : Made) → Make xs 
 make_both [] ys before mid after a b = subst (λ m. Make ys m after) a b
 make_both (x ∷ xs) ys before mid after a b = (a.0, a.1, make_both xs ys a.0 mid after a.2 b)
 
--- a text of whole lines, which are valid after what was made before and make this with it
+-- a text of whole lines, which are valid after what was made before, and make this with it
 pub record IsWritten (text : List ℕ) (before after : Made) : Type 0 where
   pub all : List (List ℕ)
   pub each : AreLines all

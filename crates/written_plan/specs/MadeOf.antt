@@ -36,7 +36,7 @@ folded_with shape wiring f = record {
   statements = shape.statements;
 }
 
--- a groupby whose parts are there
+-- a groupby that has all its parts
 abbrev pub folded_of : Option GroupShape → Option GroupWiring → Option TypedFold → List Folded
 folded_of (Some shape) (Some wiring) (Some f) = folded_with shape wiring f ∷ []
 folded_of _ _ _ = []

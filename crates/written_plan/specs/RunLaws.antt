@@ -15,13 +15,13 @@ abbrev pub RunsAsTheQuery : TypedQuery → Type 0
 RunsAsTheQuery q = (g : Geometry) (packets : List (List ℕ)) → All (λ words. length words ≡ 14) packets
     → plan_output (made_of q) g packets ≡ query_text q g packets
 
--- Whatever the text of the query's plan says reads the fields that the query reads, and prints over packets what the query prints.
+-- All that the text of the query's plan says reads the fields that the query reads, and prints over packets what the query prints.
 pub record IsAsTheQuery (q : TypedQuery) (made : Made) : Type 0 where
   pub reads : reads_in made ≡ reads_of q
   pub prints : (g : Geometry) (packets : List (List ℕ)) → All (λ words. length words ≡ 14) packets
       → plan_output made g packets ≡ query_text q g packets
 
--- The text of the query's plan is valid, and all that it says is as the query.
+-- The text of the query's plan is valid, and all that it says agrees with the query.
 pub record LoadsAsTheQuery (q : TypedQuery) : Type 0 where
   pub valid : Says (compiled_text q) (made_of q)
   pub only : (made : Made) → Says (compiled_text q) made → IsAsTheQuery q made

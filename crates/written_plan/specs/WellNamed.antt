@@ -29,7 +29,7 @@ abbrev pub AllWords : List ℕ → Type 0
 AllWords [] = Unit {0}
 AllWords (n ∷ numbers) = (n < 2 ^ 64) × AllWords numbers
 
--- a groupby with a name of its own, whose columns have different names
+-- a groupby with a name by the rule, whose columns have different names
 pub record IsNamedWell (shape : GroupShape) : Type 0 where
   pub named : is_name shape.name ≡ true
   pub no_stream : shape.name ≡ codes "pktstream" → ⊥
@@ -39,8 +39,8 @@ pub record IsNamedWell (shape : GroupShape) : Type 0 where
   pub states_differ : AreNew [] shape.state_names
   pub states_apart : AreNoKeys shape.key_names shape.state_names
 
--- a query whose plan has a text: its groupbys are named well and differ in their names, its folds begin with words, it prints something and
--- nothing twice, and the text isn't too long
+-- a query whose plan has a text: its groupbys have different names by the rule, its folds begin with words, it prints something and nothing
+-- twice, and the text isn't too long
 pub record HasPlanText (q : TypedQuery) : Type 0 where
   pub groups : (i : ℕ) (shape : GroupShape) → slice_get (query_groups q) i ≡ Some shape → IsNamedWell shape
   pub names_differ : AreNew [] (map (λ shape. shape.name) (query_groups q))

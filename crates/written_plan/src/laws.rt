@@ -39,7 +39,7 @@ pub fn written_plan_reads_as_the_query(q: &TypedQuery)
     ensures { reads_in (made_of q.now) ≡ reads_of q.now }
 {}
 
-/// Where the text of a plan is loaded, the plan that is made of it reads what the query reads, and prints what the query prints.
+/// Where the text of a plan is loaded, the loaded plan reads what the query reads, and prints what the query prints.
 pub fn compile_then_run(q: &TypedQuery, p: &Plan)
     requires valid { IsValidQuery q.now }
     requires text { HasPlanText q.now }
