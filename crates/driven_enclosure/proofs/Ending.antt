@@ -10,7 +10,7 @@ use Rattle.switch_core.specs.PlanLanes.{PipelineStands, PipelineView}
 use Rattle.trace_drive.specs.Drives.{end_machines}
 use Rattle.enclosed_query.specs.EnclosedTables.{AreWhole, EndsAt}
 
--- it keeps the query's plan, and stands for the machines at the end
+-- it keeps the query's plan, and represents the machines at the end
 pub ends_at : (q : TypedQuery) (plan : PlanParts) (fresh found : PipelineView) (g : Geometry) (words : List (List ℕ)) → IsValidQuery q → IsPlanOf q plan → fresh.plan ≡ plan → found.plan ≡ fresh.plan
     → HasRoom g → AreWhole words → PipelineStands found (end_machines fresh.plan g words) → EndsAt q g words found
 ends_at q plan fresh found g words valid of_query taken kept room whole stands = record {

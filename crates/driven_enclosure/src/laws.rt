@@ -1,4 +1,4 @@
-//! What holds of the packets of a trace.
+//! What is known of the packets of a trace.
 
 ghost use Rattle.driven_enclosure.specs.ReadWords.{ReadPacketsAreOfWords};
 

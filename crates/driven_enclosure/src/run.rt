@@ -1,4 +1,4 @@
-//! A query over packets, with bounds in the place of the tables of folds that aren't linear.
+//! A query over packets, with bounds instead of the tables of folds that aren't linear.
 
 ghost use Rattle.std.specs.Prelude.{◌≡◌, ◌*◌, ◌<◌, ◌≤◌, None, IfErr, IfOk, true};
 ghost use Rattle.std.specs.List.{list_all};
@@ -22,7 +22,7 @@ use std::sync::ledger::Ledger;
 use switch_core::Pipeline;
 use trace_drive::{Packets, Schedule, drive};
 
-/// Runs a query over packets, and writes what it prints where bounds are asked for: the table of each linear fold as it is,
+/// Runs a query over packets, and writes what it prints where bounds are asked for: the table of each linear fold unchanged,
 /// and for any other fold bounds that contain it over all packets of a key. Nothing is written before the last packet. The
 /// answer is the drained pipeline that gave the tables.
 pub fn enclose_query<const WAYS: usize, O: Sink, L: Ledger>(

@@ -31,8 +31,8 @@ use trace_reader::open_trace;
 /// Runs a query over the packets of a trace's bytes, and writes what it prints where bounds are asked for: the tables of linear
 /// folds, the bounds of monotone folds over all packets of a key, and the tables that finals make of the rows that are exact.
 /// A trace that has a fault for what the query reads is refused, with nothing written. Each groupby's fold is linear or
-/// monotone, so that what is shown holds over all packets, whatever the caches evict on the way. The answer is the drained
-/// pipeline that gave the tables.
+/// monotone, so that what is shown holds over all packets, whatever the caches evict before the end. The answer is the
+/// drained pipeline that gave the tables.
 pub fn enclose_over_trace<O: Sink, L: Ledger>(
     alloc: Global,
     setting: Setting,

@@ -1,4 +1,4 @@
-//! A query over packets, with the ways that a setting names.
+//! A query over packets, with the ways that a setting gives.
 
 ghost use Rattle.std.specs.Prelude.{◌≡◌, ◌≤◌, None, IfErr, IfOk};
 ghost use Rattle.std.specs.Io.KnownBytes.{Appends};

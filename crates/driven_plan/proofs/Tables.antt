@@ -46,7 +46,7 @@ first_at (y ∷ xs) zero x rest e = let a : y ≡ x = cc in let b : xs ≡ rest 
 first_at [] (suc i) x rest e = absurd (nothing e)
 first_at (y ∷ xs) (suc i) x rest e = first_at xs i x rest e
 
--- a groupby says beside its rows what its group does
+-- a groupby's table has, but for its rows, what its group gives
 heading_same : (registers : ℕ) (one : Folded) (group : GroupPlan) → IsSoundFolded registers one → IsGroupFrom one group → heading_of group ≡ heading_in one
 heading_same registers one group s from =
     let of : GroupShape → Heading = λ shape. record { name = shape.name; key_names = shape.key_names; state_names = shape.state_names; class = shape.class; depth = shape.depth } in

@@ -1,4 +1,4 @@
--- A pipeline of a plan that was read, at the end of packets.
+-- The pipeline of a plan that was read, at the end of packets.
 use Rattle.std.specs.Prelude.{◌≡◌, ◌≤◌, ℕ, List, length, map}
 use Rattle.epoch_entry.specs.declared.purpose.Entries.TheVariants.{Folds}
 use Rattle.epoch_model.specs.Epochs.{Geometry}
@@ -12,11 +12,11 @@ use Rattle.switch_core.specs.Pipelines.{tables_of}
 use Rattle.switch_core.specs.PlanLanes.{AreLanesOf, LaneView, PipelineStands, PipelineView, folding_at}
 use Rattle.trace_drive.specs.Drives.{end_machines}
 
--- the columns of a table have its keys
+-- a table has at least as many columns as keys
 abbrev pub HasKeys : Table → Type 0
 HasKeys table = table.keys ≤ length table.columns
 
--- The pipeline is of a plan of what these lines make, and stands for its machines at the end of packets; the numbers
+-- The pipeline is of a plan of what these lines make, and represents its machines at the end of packets; the numbers
 -- are those of the groups that the lines print.
 pub record EndsAt (made : Made) (numbers : List ℕ) (g : Geometry) (packets : List (List ℕ)) (pipeline : PipelineView) : Type 0 where
   pub sound : IsSoundMade made

@@ -31,7 +31,7 @@ fn printed(alloc: Global, prints: &[u16], tables: &Seq<Table>) -> Result<Text, A
     Ok(text)
 }
 
-/// What a plan prints, by its drained pipeline at the end of packets.
+/// What a plan prints, made from its drained pipeline at the end of packets.
 pub(crate) fn end_text<const WAYS: usize>(
     alloc: Global,
     prints: &[u16],

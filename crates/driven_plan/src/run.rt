@@ -21,8 +21,8 @@ use std::sync::ledger::Ledger;
 use switch_core::Pipeline;
 use trace_drive::{Packets, Schedule, drive};
 
-/// Runs a plan over packets, and writes what it prints. The pipeline stands for the machines of the plan's groupbys at the end. Nothing
-/// is written before the end.
+/// Runs a plan over packets, and writes what it prints. The pipeline represents the machines of the plan's groupbys at the
+/// end. Nothing is written before the end.
 pub(crate) fn run_plan<const WAYS: usize, O: Sink, L: Ledger>(
     alloc: Global,
     loaded: LoadedPlan,

@@ -23,9 +23,9 @@ use std::sync::ledger::Ledger;
 use trace_drive::Packets;
 use trace_reader::open_trace;
 
-/// Runs a plan over the packets of a trace's bytes, and writes the tables that its text prints, over all packets. A trace that has a fault
-/// for what the plan reads is refused before anything is written. The pipeline that is left stands for the machines of the plan's groupbys
-/// behind the last packet.
+/// Runs a plan over the packets of a trace's bytes, and writes the tables that its text prints, over all packets. A trace
+/// that has a fault for what the plan reads is refused before anything is written. The pipeline that is left represents the
+/// machines of the plan's groupbys after the last packet.
 pub fn run_plan_over_trace<O: Sink, L: Ledger>(
     alloc: Global,
     setting: Setting,

@@ -1,4 +1,4 @@
-//! A plan over packets, with the ways that a setting names.
+//! A plan over packets, with the ways that a setting gives.
 
 ghost use Rattle.std.specs.Prelude.{◌≡◌, ◌≤◌, None, IfOk, IfErr};
 ghost use Rattle.std.specs.Io.KnownBytes.{Appends};

@@ -15,7 +15,7 @@ use Rattle.queue_sim.specs.Generator.{simulated}
 use Rattle.switch_core.specs.PlanLanes.{HavePlaces, PipelineView, lane_is_drained}
 use Rattle.trace_drive.specs.Drives.{words_of}
 
--- the buckets and ways of each cache, and every how many packets it is emptied. Neither the pipe's size nor the lag is among them
+-- the buckets and ways of each cache, and the number of packets after which it is emptied each time; the pipe's size and the lag are no part of it
 abbrev pub geometry_of : Setting → Geometry
 geometry_of setting = record { buckets = setting.buckets; ways = ways_number setting.ways; refresh = setting.refresh }
 

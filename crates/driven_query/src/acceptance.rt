@@ -20,8 +20,8 @@ fn accept_trace(alloc: Global, bytes: &[u8], reads: FieldSet) -> Result<(), Trac
     Ok(())
 }
 
-/// Opens a trace. Where views are written behind every so many packets, it is read to its end before: what is written
-/// comes from a trace that is accepted. With 0 nothing is read ahead.
+/// Opens a trace. Where a view is written after every N packets, the trace is read to its end first, so that what is
+/// written comes from a trace that is accepted. With 0 nothing is read ahead.
 pub(crate) fn opened_trace<'a>(
     alloc: Global,
     bytes: &'a [u8],

@@ -2,7 +2,7 @@
 
 use switch_core::Pipeline;
 
-/// The pipeline that a run leaves, by the ways of its caches.
+/// The pipeline that a run leaves, with a variant for each number of ways of its caches.
 #[derive(Drop)]
 pub enum Driven {
     Ways1(Pipeline<1>),

@@ -1,4 +1,4 @@
-//! What holds of the packets that the generator makes.
+//! What is known of the packets that the generator makes.
 
 ghost use Rattle.driven_query.specs.Driven.{MadePacketsAreWhole};
 

@@ -1,5 +1,5 @@
-//! A query driven over packets with the setting of a command line: it writes its views and its tables, and leaves the
-//! drained pipeline in the variant of its ways.
+//! A query driven over packets with the setting of a command line: its views and tables are written, and the drained
+//! pipeline is returned in the variant of its ways.
 #![tactic(auto)]
 
 mod acceptance;

@@ -1,4 +1,4 @@
-//! A query over the packets of a trace, or over packets that were made.
+//! A query over the packets of a trace, or over generated packets.
 
 ghost use Rattle.std.specs.Prelude.{◌≡◌, ◌≤◌, None, IfOk, IfErr};
 ghost use Rattle.std.specs.Io.KnownBytes.{Appends};
@@ -28,8 +28,8 @@ use trace_drive::Packets;
 
 /// Runs a query over the packets of a trace's bytes, and writes what it prints: a view after each packet whose number is a
 /// multiple of `every`, none where that is 0, and at the end the tables of all packets. A trace that has a fault for what the
-/// query reads is refused before anything is written. The pipeline that is left stands for the machines of the query's
-/// groupbys behind the last packet.
+/// query reads is refused before anything is written. The pipeline that is left represents the machines of the query's
+/// groupbys after the last packet.
 pub fn run_over_trace<O: Sink, L: Ledger>(
     alloc: Global,
     setting: Setting,
@@ -70,7 +70,7 @@ pub fn run_over_trace<O: Sink, L: Ledger>(
     )
 }
 
-/// Runs a query over packets that were made, and writes the tables of all of them.
+/// Runs a query over generated packets, and writes the tables of all of them.
 pub fn run_over_made<O: Sink, L: Ledger>(
     alloc: Global,
     setting: Setting,

@@ -1,4 +1,4 @@
-//! A query over packets, with the ways that a setting names.
+//! A query over packets, with the ways that a setting gives.
 
 ghost use Rattle.std.specs.Prelude.{◌≡◌, ◌<◌, ◌≤◌, None, IfOk, IfErr};
 ghost use Rattle.std.specs.Io.KnownBytes.{Appends};
@@ -21,7 +21,7 @@ use std::alloc::Global;
 use std::sync::ledger::Ledger;
 use trace_drive::{Packets, Schedule};
 
-/// When the parts of a pipeline with this setting do what no packet asks for.
+/// The schedule of a pipeline with this setting: its sizes, and when it does what no packet asks for.
 pub fn schedule_of(setting: Setting) -> Schedule
     ensures { result ≡ record { buckets = setting.buckets; pipe = setting.pipe; lag = setting.lag; refresh = setting.refresh } }
 {

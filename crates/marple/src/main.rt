@@ -12,7 +12,7 @@ use std::marker::Brand;
 use std::process::ExitCode;
 use std::sync::ledger::{Blank, Ledger};
 
-/// The words after the program's name. Where they can't be told as text there are none, which is no command.
+/// The words after the program's name. Where they aren't text there are none, which is no command.
 fn words_of(rt: &HostRuntime) -> Result<Vec<String>, AllocError> {
     let alloc = rt.alloc();
     let mut words = Vec::new(alloc);

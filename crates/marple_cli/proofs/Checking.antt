@@ -1,4 +1,4 @@
--- What a command that finds faults of its own refuses.
+-- What a command with a check of its own refuses.
 use Rattle.std.proofs.Common.{◌≡◌, ℕ, List, Option, None, Some, IfSome, Ok, Err, ap, ◌∙◌}
 use Rattle.marple_base.specs.Inputs.{Input}
 use Rattle.marple_base.specs.declared.inputs.Which.TheVariants.{Query, Trace}
@@ -21,7 +21,7 @@ module _ (own : TypedQuery → Option QueryFault) where
       clash e = cc
   text_first (Err found) fault is = is
 
-  -- a phase that reads the query and refuses it for the text's faults ends as one that also finds faults of its own
+  -- a phase that reads the query and refuses it for the text's faults ends as one that also has a check of its own
   pub text_ends : (before after : Input) (status : Status) → QueryEnds query_fault before after status → QueryEnds (fault_with own) before after status
   text_ends before after statuses.Memory ended = ended
   text_ends before after (statuses.InputFault Query) ended = ended

@@ -26,7 +26,7 @@ both x o none some = clash (sym none ∙ some)
 same : {A : Type 0} (x y : A) → Some x ≡ Some y → x ≡ y
 same x y e = cc
 
--- what is told of the query of the command that is asked for
+-- what is known of the query of the command that is asked for
 asked_query : (command : Command) (before : Which → Input) (P : Command → Source → Type 0) → QueryTold command before (P command) → WhereQueryTold (Some command) before P
 asked_query command before P told other query is has left read =
     let other_is = sym (same command other is) in

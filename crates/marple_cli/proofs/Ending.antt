@@ -1,4 +1,4 @@
--- How commands end: what each status says, where it comes from.
+-- How commands end: what each status says, and why it does.
 use Rattle.std.proofs.Common.{◌≡◌, ℕ, true, List, [], Option, None, Some, IfSome, Result, Ok, Err, refl, sym, ap, ap₂, ◌∙◌, subst, if◌then◌else◌}
 use Rattle.std.specs.Prelude.{is_some}
 use Rattle.std.specs.Result.{IsErrAnd}
@@ -41,7 +41,7 @@ use Rattle.accepted_query.specs.TrialQuery.{trial_query}
 use Rattle.marple_cli.specs.declared.status.Status.{Status}
 use Rattle.marple_cli.specs.declared.status.Status.TheVariants as statuses
 
--- a fact of the bytes that an input tells
+-- a fact about the bytes of an input, where they are known
 pub told : {A : Type 0} (P : A → Type 0) (left : Option A) (x : A) → IfSome left P → left ≡ Some x → P x
 told P left x known is = subst (λ one. IfSome one P) is known
 
@@ -54,7 +54,7 @@ pub query_told : (command : Command) (before : Which → Input) (found : TypedQu
     → IfSome (before Query).left (λ query. accepted query ≡ Ok found) → QueryTold command before (λ query. refusal command query ≡ None)
 query_told command before found by known query takes is read = by query ∙ ap fault_in (told (λ text. accepted text ≡ Ok found) (before Query).left query.text known is)
 
--- the same for a command that finds faults of its own, and found none in this query
+-- the same for a command with a check of its own, which found no fault in this query
 pub query_fits : (command : Command) (own : TypedQuery → Option QueryFault) (before : Which → Input) (found : TypedQuery) → ((query : Source) → refusal command query ≡ fault_with own query.text)
     → IfSome (before Query).left (λ query. accepted query ≡ Ok found) → own found ≡ None → QueryTold command before (λ query. refusal command query ≡ None)
 query_fits command own before found by known none query takes is read =
@@ -140,7 +140,7 @@ module _ {O : Type 0} (taken : O → Option (List ℕ)) (faults : O → ℕ) (co
           → Ends taken faults command before after old new (status_of result)
       cut_off result is rose front = write_ends_it result statuses.OutputFault is (rose, front)
 
-    -- a command with a trace: these are the faults for which it refuses the trace, and the text that it writes of it
+    -- a command with a trace: these are the faults for which it refuses the trace, and the text that it writes for it
     module _ (fault : List ℕ → Option TraceFault) (text : List ℕ → List ℕ) (has_query : takes command Query ≡ true) (has_trace : takes command Trace ≡ true)
         (same : ToldOf command before (λ query trace. (trace_refusal command query trace ≡ fault trace) × (output command query trace ≡ text trace))) where
       told_trace : (P : List ℕ → Type 0) → IfSome (before Trace).left P → ToldOf command before (λ query trace. P trace)

@@ -1,4 +1,4 @@
--- What is read to one byte more than a limit tells what all the bytes do, where all longer texts are alike.
+-- What is read to one byte more than a limit says the same as all the bytes, where all longer texts are alike.
 use Rattle.std.proofs.Common.{inl, inr, ◌≡◌, ℕ, ◌+◌, ◌<◌, ◌≤◌, true, nat_lt, List, length, take, Option, None, Some, IfSome, ap, sym, ◌∙◌, arith, Result, Ok, Err, refl, [], IfErr, subst}
 use Rattle.std.specs.Result.{IsErrAnd}
 use Rattle.std.proofs.lemmas.Bool.Decides.{leb_tells, nat_tests}
@@ -48,7 +48,7 @@ cut_same limit beyond f bytes limited =
       | inr long ↦ limited bytes long.1 ∙ sym (limited (take (limit + 1) bytes) (take_long limit bytes long.1))
     ]
 
--- what was read tells the same as the bytes that were left
+-- what was read says the same as the bytes that were left
 told_same : {A : Type 0} (limit : ℕ) (beyond : A) (f : List ℕ → A) (left : Option (List ℕ)) (text : List ℕ) → IsLimited limit beyond f
     → IfSome left (λ bytes. text ≡ take (limit + 1) bytes) → IfSome left (λ bytes. f bytes ≡ f text)
 told_same limit beyond f None text limited read = tt
@@ -70,12 +70,12 @@ told_trace : (reads : FieldSet) (left : Option (List ℕ)) (text : List ℕ) →
 told_trace reads left text read =
     told_same 268435456 (record { packets = []; fault = Some faults.TraceTooLong }) (λ bytes. contents bytes reads) left text (long_trace reads) read
 
--- a fact that follows, where the bytes are told
+-- a fact that follows, where the bytes are known
 pub IfSome-map : {A : Type 0} (P Q : A → Type 0) (o : Option A) → ((x : A) → P x → Q x) → IfSome o P → IfSome o Q
 IfSome-map P Q None f p = tt
 IfSome-map P Q (Some x) f p = f x p
 
--- What is known of the query of the bytes that were read holds of the query that the input tells.
+-- What is known of the query of the bytes that were read holds of the query in the input.
 pub told_answer : (P : Checked TypedQuery → Type 0) (left : Option (List ℕ)) (text slice : List ℕ) → IfSome left (λ bytes. text ≡ take 65537 bytes) → slice ≡ text
     → P (accepted slice) → IfSome left (λ bytes. P (accepted bytes))
 told_answer P left text slice read same known =
@@ -87,14 +87,14 @@ pub told_refused : (left : Option (List ℕ)) (text slice : List ℕ) (answer : 
 told_refused left text slice answer fault read same is refused =
     told_answer (λ found. fault_in found ≡ Some fault) left text slice read same (ap fault_in (subst (IsAnswerTo slice) is refused))
 
--- What is known of the packets and the fault of the bytes that were read holds of the trace that the input tells.
+-- What is known of the packets and the fault of the bytes that were read holds of the trace in the input.
 pub told_contents : (P : Contents → Type 0) (reads : FieldSet) (left : Option (List ℕ)) (text slice : List ℕ) → IfSome left (λ bytes. text ≡ take 268435457 bytes) → slice ≡ text
     → P (contents slice reads) → IfSome left (λ bytes. P (contents bytes reads))
 told_contents P reads left text slice read same known =
     IfSome-map (λ bytes. contents bytes reads ≡ contents text reads) (λ bytes. P (contents bytes reads)) left
     (λ bytes is. subst P (ap (λ bytes. contents bytes reads) same ∙ sym is) known) (told_trace reads left text read)
 
--- how the phase of the trace ends, where the run over its packets broke off so
+-- how the phase of the trace ends, where the run over its packets broke off with this answer
 pub trace_ends : {O : Type 0} (taken : O → Option (List ℕ)) (faults : O → ℕ) (reads : FieldSet) (fault : Contents → Option TraceFault) (shown : Contents → List ℕ)
     (before after : Input) (old new : O) (text slice : List ℕ) (answer : RunAnswer)
     → IfSome before.left (λ bytes. text ≡ take 268435457 bytes) → slice ≡ text → BreaksOff taken faults (shown (contents slice reads)) (fault (contents slice reads)) old new answer
@@ -122,7 +122,7 @@ read_ends taken faults fault shown before after out (statuses.QueryRefused found
 read_ends taken faults fault shown before after out (statuses.TraceRefused found) ended = absurd ended
 read_ends taken faults fault shown before after out statuses.OutputFault ended = absurd ended
 
--- how a phase that writes ends, where a run over made packets broke off so
+-- how a phase that writes ends, where a run over generated packets broke off with this answer
 pub made_ends : {O : Type 0} (taken : O → Option (List ℕ)) (faults : O → ℕ) (text : List ℕ) (old new : O) (answer : RunAnswer) → BreaksOff taken faults text None old new answer
     → WriteEnds taken faults text old new (status_for answer)
 made_ends taken faults text old new breaks.Memory ended = ended
@@ -132,7 +132,7 @@ made_ends taken faults text old new (breaks.Refused found) ended = absurd (no_fa
     no_fault e = cc
 made_ends taken faults text old new breaks.Failed ended = (ended.1, ended.2)
 
--- a fact of the status that a result has
+-- a fact about the status in a result
 pub err_told : {A : Type 0} (P : Status → Type 0) (result : Result A Status) (status : Status) → IsErrAnd result (λ found. found ≡ status) → P status → IfErr result P
 err_told P (Ok done) status is known = tt
 err_told P (Err found) status is known = subst P (sym is) known

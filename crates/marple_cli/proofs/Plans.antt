@@ -36,7 +36,7 @@ use Rattle.marple_cli.specs.Output.{SaysPlan, Source, fault_behind, of_accepted,
 use Rattle.marple_cli.proofs.Ending.{told}
 use Rattle.marple_cli.proofs.Limits.{take_long, take_whole, told_contents}
 
--- a fault is told by its parts
+-- a fault is given by its parts
 same_fault : (one other : QueryFault) → one.kind ≡ other.kind → one.span.start ≡ other.span.start → one.span.end ≡ other.span.end → one ≡ other
 same_fault one other kind start end =
     ap (λ k. record { kind = k; span = one.span }) kind
@@ -72,7 +72,7 @@ told_says (Some bytes) text slice made read same says =
     too_long : (n : ℕ) → n ≤ 2097152 → 2097152 < n → ⊥
     too_long n short long = omega arith
 
--- a text that is too long is refused behind the most bytes
+-- a text that is too long is refused after the most bytes
 at_the_most : (text : List ℕ) (place : ℕ) → 2097152 < length text → IsBadAt text place → place ≡ 2097152
 at_the_most text place long (inl known) = known.1
 at_the_most text place long (inr short) = absurd (both (length text) short.0 long)

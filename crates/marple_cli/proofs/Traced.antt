@@ -19,7 +19,7 @@ use Rattle.marple_cli.specs.declared.status.Status.TheVariants as statuses
 use Rattle.marple_cli.proofs.Ending.{trace_ends_it, trace_written}
 use Rattle.marple_cli.proofs.Limits.{read_ends, told_contents, trace_ends}
 
--- A command over a trace refuses it for this fault of what it contains, and writes this text of that. The trace was untouched as it was opened.
+-- A command over a trace refuses it for this fault of its bytes, and writes this text for them. The trace was unread until then.
 module _ {O : Type 0} (taken : O → Option (List ℕ)) (faults : O → ℕ) (command : Command) (before middle after : Which → Input) (accepts : QueryTold command before (λ query. refusal command query ≡ None))
     (reads : FieldSet) (fault : Contents → Option TraceFault) (text : Contents → List ℕ) (has_query : takes command Query ≡ true) (has_trace : takes command Trace ≡ true)
     (same : ToldOf command before (λ query trace. (trace_refusal command query trace ≡ fault (contents trace reads)) × (output command query trace ≡ text (contents trace reads))))

@@ -16,26 +16,26 @@ abbrev pub Takes : Option Command → Which → Type 0
 Takes None which = ⊥
 Takes (Some command) which = takes command which ≡ true
 
--- The inputs tell these bytes of the command's operands, and the text of a plan says this.
+-- These are the bytes of the command's operands in the inputs, and the text of a plan says this.
 pub record Holds (command : Command) (inputs : Which → Input) (query : Source) (trace : List ℕ) : Type 0 where
   pub of_query : takes command Query ≡ true → (inputs Query).left ≡ Some query.text
   pub read : IsRead command query
   pub of_trace : takes command Trace ≡ true → (inputs Trace).left ≡ Some trace
 
--- P holds of the command and the bytes of its operands, where a command is asked for and the inputs tell them.
+-- P holds of the command and the bytes of its operands, where a command is asked for and these bytes are known.
 abbrev pub WhereTold : Option Command → (Which → Input) → (Command → Source → List ℕ → Type 0) → Type 0
 WhereTold asked inputs P =
     (command : Command) (query : Source) (trace : List ℕ) → asked ≡ Some command → Holds command inputs query trace
     → P command query trace
 
--- P holds of the command and its query or plan, where a command with one is asked for and the input tells its bytes,
--- whatever the other input tells.
+-- P holds of the command and its query or plan, where a command with one is asked for and the bytes of its input are
+-- known, whether or not those of the other input are.
 abbrev pub WhereQueryTold : Option Command → (Which → Input) → (Command → Source → Type 0) → Type 0
 WhereQueryTold asked inputs P =
     (command : Command) (query : Source) → asked ≡ Some command → takes command Query ≡ true
     → (inputs Query).left ≡ Some query.text → IsRead command query → P command query
 
--- The counts of the command's inputs and of the output did not rise.
+-- The counts of faults of the command's inputs and of the output did not rise.
 pub record IsQuiet (command : Command) (before after : Which → Input) (out_before out_after : ℕ) : Type 0 where
   pub inputs : (which : Which) → takes command which ≡ true → Rose (before which).faults (after which).faults → ⊥
   pub out : Rose out_before out_after → ⊥
@@ -45,12 +45,12 @@ pub record WritesOutput (old new : Option (List ℕ)) (command : Command) (query
   pub accepted : IsAccepted command query trace
   pub whole : Appends old new (output command query trace)
 
--- The operands are accepted, and the output took some front of what the command writes.
+-- The operands are accepted, and the output took some prefix of what the command writes.
 pub record WritesFront (old new : Option (List ℕ)) (command : Command) (query : Source) (trace : List ℕ) : Type 0 where
   pub accepted : IsAccepted command query trace
   pub front : TakesFront old new (output command query trace)
 
--- The sink is left as it was by these.
+-- These leave the output unchanged.
 abbrev pub IsBeforeOutput : Status → Type 0
 IsBeforeOutput statuses.Usage = ⊤
 IsBeforeOutput (statuses.InputFault which) = ⊤
@@ -58,13 +58,13 @@ IsBeforeOutput (statuses.QueryRefused fault) = ⊤
 IsBeforeOutput (statuses.TraceRefused fault) = ⊤
 IsBeforeOutput status = ⊥
 
--- The trace is left as it was by these.
+-- These leave the trace unchanged.
 abbrev pub IsBeforeTrace : Status → Type 0
 IsBeforeTrace statuses.Usage = ⊤
 IsBeforeTrace (statuses.InputFault Query) = ⊤
 IsBeforeTrace (statuses.QueryRefused fault) = ⊤
 IsBeforeTrace status = ⊥
 
--- P holds of the bytes of the command's operands, where the inputs tell them.
+-- P holds of the bytes of the command's operands, where they are known.
 abbrev pub ToldOf : Command → (Which → Input) → (Source → List ℕ → Type 0) → Type 0
 ToldOf command inputs P = (query : Source) (trace : List ℕ) → Holds command inputs query trace → P query trace

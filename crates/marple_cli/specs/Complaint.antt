@@ -1,4 +1,4 @@
--- What a status other than Ok says on standard error, and its number.
+-- The line that a status other than Ok writes to standard error, and its number.
 use Rattle.std.specs.Prelude.{ℕ, List, [], ◌++◌, codes, decimal}
 use Rattle.marple_base.specs.Field.{field_name}
 use Rattle.marple_base.specs.declared.inputs.Which.TheVariants.{Query, Trace}
@@ -37,7 +37,7 @@ kind_text kinds.NotMonotone = codes "NotMonotone"
 kind_text kinds.FinalInPlan = codes "FinalInPlan"
 kind_text kinds.BadPlan = codes "BadPlan"
 
--- a fault of a trace, with the record and the field where it stands
+-- a fault of a trace, with the record and the field where it is
 abbrev pub trace_fault_text : TraceFault → List ℕ
 trace_fault_text faults.TraceTooLong = codes "TraceTooLong"
 trace_fault_text faults.NoHeader = codes "NoHeader"
@@ -48,7 +48,7 @@ trace_fault_text (faults.BadNumber n field) = codes "BadNumber(" ++ decimal n ++
 trace_fault_text faults.TooManyPackets = codes "TooManyPackets"
 trace_fault_text (faults.TooManySwitches n) = codes "TooManySwitches(" ++ decimal n ++ codes ")"
 
--- the one line that a status says
+-- the one line that a status writes
 abbrev pub complaint : Status → List ℕ
 complaint statuses.Ok = []
 complaint statuses.Memory = codes "marple: out of memory\n"

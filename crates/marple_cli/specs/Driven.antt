@@ -25,13 +25,13 @@ use Rattle.marple_cli.specs.Call.{ToldOf}
 use Rattle.marple_cli.specs.Output.{read_packets, made_packets}
 use Rattle.accepted_query.specs.TrialQuery.{trial_query}
 
--- the pipeline is of a plan of the query, and stands for the machines of the query's groupbys at the end of these packets
+-- the pipeline is of a plan of the query, and represents the machines of the query's groupbys at the end of these packets
 abbrev pub StandsForEnd : Setting → Checked TypedQuery → (TypedQuery → List Packet) → PipelineView → Type 0
 StandsForEnd setting (Ok q) packets p = IsPlanOf q p.plan × PipelineStands p (query_ends q (geometry_of setting) (words_of (packets q)))
 StandsForEnd setting (Err fault) packets p = ⊥
 
--- the pipeline is of a plan of what the text says, and stands for the machines of its groups at the end of the trace's
--- packets for what it reads
+-- the pipeline is of a plan of what the text says, and represents the machines of its groups at the end of the packets that
+-- the trace has for what the plan reads
 abbrev pub StandsForPlan : Setting → Checked Made → List ℕ → PipelineView → Type 0
 StandsForPlan setting (Ok made) trace p = IsPlanFrom made p.plan
     × PipelineStands p (end_machines p.plan (geometry_of setting) (words_of (traces.packets trace (reads_in made))))
@@ -44,8 +44,8 @@ IsDriven setting None P = ⊥
 IsDriven setting (Some driven) P = IsLeftBy setting driven × P (pipeline_in driven)
 
 -- What a command that answers Ok leaves of the working parts. Of a run, a trial and a run of a plan they are there, and
--- where the inputs tell their bytes they are the machines at the trace's end; every other command leaves them as they
--- were.
+-- where the bytes of the inputs are known they are the machines at the trace's end; every other command leaves them
+-- unchanged.
 abbrev pub Leaves : Command → (Which → Input) → Option Driven → Option Driven → Type 0
 Leaves (Run setting every) before old new =
     IsDriven setting new (λ p. ToldOf (Run setting every) before

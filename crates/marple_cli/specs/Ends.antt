@@ -1,4 +1,4 @@
--- How the phases of a command end, status by status.
+-- How the phases of a command end, by status.
 use Rattle.std.specs.Prelude.{◌≡◌, ℕ, true, false, List, Option, None, Some, IfSome, ⊤, Result, Ok, Err}
 use Rattle.marple_base.specs.Faults.{Rose}
 use Rattle.marple_base.specs.Inputs.{Input}
@@ -23,7 +23,7 @@ use Rattle.marple_cli.specs.Output.{IsRead, Source, defined_text, refusal, takes
 use Rattle.marple_cli.specs.declared.status.Status.{Status}
 use Rattle.marple_cli.specs.declared.status.Status.TheVariants as statuses
 
--- P holds of the query or the plan, where the command has one and its input tells its bytes.
+-- P holds of the query or the plan, where the command has one and the bytes of its input are known.
 abbrev pub QueryTold : Command → (Which → Input) → (Source → Type 0) → Type 0
 QueryTold command inputs P = (query : Source) → takes command Query ≡ true → (inputs Query).left ≡ Some query.text
     → IsRead command query → P query
@@ -39,7 +39,7 @@ abbrev pub status_of : Result (Unit {0}) Status → Status
 status_of (Ok done) = statuses.Ok
 status_of (Err status) = status
 
--- A phase that reads the first operand, and refuses it for such faults, ended in this status.
+-- A phase that reads the first operand, and refuses it for these faults, ended in this status.
 abbrev pub OperandEnds : (List ℕ → QueryFault → Type 0) → Input → Input → Status → Type 0
 OperandEnds Refuses before after statuses.Memory = ⊤
 OperandEnds Refuses before after (statuses.InputFault Query) = Rose before.faults after.faults
@@ -54,7 +54,7 @@ QueryEnds fault = OperandEnds (λ query found. fault query ≡ Some found)
 abbrev pub PlanEnds : Input → Input → Status → Type 0
 PlanEnds = OperandEnds (λ text found. IsRefused text (Refused found))
 
--- Some text is that of the query, also where the input doesn't tell its bytes.
+-- Some text is that of the query, even where the bytes of the input aren't known.
 abbrev pub IsOfText : TypedQuery → Type 0
 IsOfText q = (text : List ℕ) × (accepted text ≡ Ok q)
 
@@ -70,7 +70,7 @@ ReadEnds before after statuses.Memory = ⊤
 ReadEnds before after (statuses.InputFault Trace) = Rose before.faults after.faults
 ReadEnds before after status = ⊥
 
--- A phase that reads the trace, refuses it for these faults and writes this text of it ended in this status.
+-- A phase that reads the trace, refuses it for these faults, and writes this text for it, ended in this status.
 module _ {O : Type 0} (taken : O → Option (List ℕ)) (faults : O → ℕ) (fault : List ℕ → Option TraceFault) (text : List ℕ
     → List ℕ) (before after : Input) (old new : O) where
   abbrev pub TraceEnds : Status → Type 0
@@ -115,7 +115,7 @@ module _ {O : Type 0} (taken : O → Option (List ℕ)) (faults : O → ℕ) (co
       Rose (faults old) (faults new) × QueryTold command before (λ query. refusal command query ≡ None)
       × ToldOf command before (WritesFront (taken old) (taken new) command)
 
--- What each status says where a command may have been asked for.
+-- What each status says of a call, whether a command is asked for or not.
 module _ {O : Type 0} (taken : O → Option (List ℕ)) (faults : O → ℕ) (before after : Which → Input) (old new : O) where
   abbrev pub Answers : Option Command → Status → Type 0
   Answers None status = (status ≡ statuses.Usage) × (new ≡ old) × ((which : Which) → after which ≡ before which)

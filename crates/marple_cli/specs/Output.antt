@@ -37,7 +37,7 @@ use Rattle.plan_file.specs.declared.made.Made.{Made}
 use Rattle.plan_loader.specs.Meaning.{plan_output, reads_in}
 use Rattle.accepted_query.specs.TrialQuery.{trial_query}
 
--- The text of the first operand; and where it is run as a plan, what its lines make, or the fault for which it is refused.
+-- The text of the first operand, and where it is run as a plan, what its lines make or the fault for which it is refused.
 pub record Source : Type 0 where
   pub text : List ℕ
   pub plan : Checked Made
@@ -47,7 +47,7 @@ abbrev pub SaysPlan : List ℕ → Checked Made → Type 0
 SaysPlan text (Ok made) = Says text made
 SaysPlan text (Err fault) = IsRefused text (Refused fault)
 
--- A source tells of the plan what its text says, where the command runs it as a plan.
+-- The plan of a source is what its text says, where the command runs the text as a plan.
 abbrev pub IsRead : Command → Source → Type 0
 IsRead (RunPlan setting) source = SaysPlan source.text source.plan
 IsRead command source = ⊤
@@ -65,23 +65,23 @@ takes Compile Query = true
 takes Compile Trace = false
 takes (RunPlan setting) which = true
 
--- what is said of a query or a plan where it is accepted, and this where it is refused
+-- what is said of a query or a plan where it is accepted, and a fixed value where it is refused
 abbrev pub of_accepted : {A X : Type 0} → A → (X → A) → Checked X → A
 of_accepted refused say (Ok q) = say q
 of_accepted refused say (Err fault) = refused
 
--- the fault of a query or a plan, and where it has none the fault that a command finds in it
+-- the fault of a query or a plan, or where it has none, the fault that a command's own check finds in it
 abbrev pub fault_behind : {X : Type 0} → (X → Option QueryFault) → Checked X → Option QueryFault
 fault_behind own (Ok q) = own q
 fault_behind own (Err fault) = Some fault
 
--- the first fault of a query's text for a command that finds faults of its own: these come behind all others
+-- the first fault of a query's text for a command that has a check of its own: its faults come after all others
 abbrev pub fault_with : (TypedQuery → Option QueryFault) → List ℕ → Option QueryFault
 fault_with own query = fault_behind own (accepted query)
 
--- Why the command refuses its query, where it does: the query's first fault. Behind it, where packets of several
--- switches are run, a groupby that doesn't combine; where bounds are asked for, one that has none; and where a plan is
--- written, a final. The text of a plan is refused where it isn't one.
+-- Why the command refuses its query, where it does: the query's first fault. Where there is none, `net` refuses a groupby
+-- that doesn't combine, `enclose` one that has no bounds, and `compile` a final. The text of a plan is refused where it
+-- isn't one.
 abbrev pub refusal : Command → Source → Option QueryFault
 refusal (Run setting every) query = query_fault query.text
 refusal (Plan ways) query = query_fault query.text
@@ -114,7 +114,7 @@ pub record IsAccepted (command : Command) (query : Source) (trace : List ℕ) : 
   pub by_query : refusal command query ≡ None
   pub by_trace : trace_refusal command query trace ≡ None
 
--- what a run of a query over these packets writes, with a view after every so many
+-- what a run of a query over these packets writes, with a view after every N of them
 abbrev pub run_text : Setting → ℕ → Checked TypedQuery → (TypedQuery → List Packet) → List ℕ
 run_text setting every (Ok q) packets = views_text q (geometry_of setting) every (words_of (packets q))
 run_text setting every (Err fault) packets = []
@@ -160,7 +160,7 @@ output (Enclose setting) query trace = of_accepted [] (enclosures_text setting t
 output Compile query trace = of_accepted [] compiled_text (accepted query.text)
 output (RunPlan setting) query trace = of_accepted [] (plan_tables_text setting trace) query.plan
 
--- the text that is defined for the command: nothing where a refusal stands
+-- the text that is defined for the command: nothing where the query or the trace is refused
 abbrev pub defined_text : Command → Source → List ℕ → List ℕ
 defined_text command query trace =
     if is_some (refusal command query) then []

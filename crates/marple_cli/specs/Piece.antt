@@ -1,4 +1,4 @@
--- The text of a part of a complaint.
+-- The text of a piece of a complaint.
 use Rattle.std.specs.Prelude.{ℕ, List, decimal}
 use Rattle.marple_cli.specs.declared.complaint.Piece.{Piece}
 use Rattle.marple_cli.specs.declared.complaint.Piece.TheVariants.{Text, Number}

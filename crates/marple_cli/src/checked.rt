@@ -1,4 +1,4 @@
-//! Queries for the commands that find faults of their own: read, accepted, and checked.
+//! Queries for the commands that have checks of their own: read, accepted, and checked.
 ghost use Rattle.std.specs.Prelude.{◌≡◌, ◌≤◌, Ok, None, IfOk, IfErr, IfSome};
 ghost use Rattle.marple_base.specs.Inputs.{IsClosed};
 ghost use Rattle.query_lang.specs.TypedQueries.{IsValidQuery};
@@ -38,7 +38,7 @@ pub fn query_for_net<I: Inputs>(alloc: Global, inputs: &mut I) -> Result<Accepte
     }
 }
 
-/// Reads a query of which bounds can be had: it is accepted, and the fold of each of its groupbys is linear or monotone.
+/// Reads a query that has bounds: it is accepted, and the fold of each of its groupbys is linear or monotone.
 pub fn query_for_bounds<I: Inputs>(alloc: Global, inputs: &mut I) -> Result<AcceptedQuery, Status>
     requires { IsClosed (I.input inputs.old Which.Query) }
     ensures ok { IfOk result (λ found. IfSome (I.input inputs.old Which.Query).left (λ query. accepted query ≡ Ok found.typed)) }

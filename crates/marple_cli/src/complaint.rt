@@ -1,4 +1,4 @@
-//! What a status says on standard error, piece by piece and without memory.
+//! The line that a status writes to standard error, piece by piece and without allocating memory.
 ghost use Rattle.std.specs.Prelude.{◌≡◌, OnOk};
 ghost use Rattle.std.specs.List.{flat_map};
 ghost use Rattle.std.specs.Io.KnownBytes.{Appends};
@@ -13,7 +13,7 @@ use marple_base::{Failed, Sink, Which, write_all};
 use query_lang::{FaultKind, Limit};
 use trace_reader::TraceFault;
 
-/// A part of a complaint.
+/// A piece of a complaint.
 #[derive(Clone, Copy, Debug)]
 enum Piece {
     Text(&'static [u8]),
@@ -170,7 +170,7 @@ fn write_pieces<O: Sink>(out: &mut O, pieces: &[Piece]) -> Result<(), Failed>
     Ok(())
 }
 
-/// Writes the complaint of the status, or some front of it.
+/// Writes the complaint of the status, or some prefix of it.
 pub fn complain<E: Sink>(err: &mut E, status: Status) -> Result<(), Failed>
     ensures ok { OnOk result (Appends (E.taken err.old) (E.taken err.new) (complaint status)) }
     ensures front { TakesFront (E.taken err.old) (E.taken err.new) (complaint status) }

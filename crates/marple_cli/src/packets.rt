@@ -1,4 +1,4 @@
-//! A query over packets: of a trace that is read, or made by the generator.
+//! A query over packets: those of a trace that is read, or those that the generator makes.
 ghost use Rattle.std.specs.Prelude.{◌≡◌, ◌≤◌, None, IfOk, IfErr, IfSome};
 ghost use Rattle.std.specs.Io.KnownBytes.{Appends};
 ghost use Rattle.marple_base.specs.Inputs.{IsClosed};

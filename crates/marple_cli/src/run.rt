@@ -70,7 +70,7 @@ fn trial<O: Sink, L: Ledger>(
     Ok(())
 }
 
-/// Does what the command says.
+/// Performs the command.
 pub fn perform<I: Inputs, O: Sink, L: Ledger>(
     alloc: Global,
     command: Command,

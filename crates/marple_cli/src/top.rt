@@ -1,4 +1,4 @@
-//! The top call, which does all that the program does.
+//! The top call: all that the program does, over any inputs and sinks.
 ghost use Rattle.std.specs.Prelude.{◌≡◌, ◌≤◌, ◌↔◌, ◌⊎◌, map, string_bytes, None, Some};
 ghost use Rattle.std.specs.Io.KnownBytes.{Appends};
 ghost use Rattle.marple_base.specs.Faults.{Rose};
@@ -49,7 +49,7 @@ fn answer<I: Inputs, O: Sink, L: Ledger>(
 }
 
 /// Does what the words of a command line ask for, over any inputs and sinks. The text goes to `out`, and a status other
-/// than `Ok` says one line on `err`. `driven` takes the working parts of a run that answers `Ok`.
+/// than `Ok` writes one line to `err`. `driven` takes the working parts of a run that answers `Ok`.
 pub fn marple<I: Inputs, O: Sink, E: Sink, L: Ledger>(
     alloc: Global,
     words: &[String],
@@ -109,7 +109,7 @@ pub fn marple<I: Inputs, O: Sink, E: Sink, L: Ledger>(
         WhereQueryTold (asked (map string_bytes words.now)) (I.input inputs.old) (λ command query. refusal command query
         ≡ Some fault → out.new ≡ out.old) }
 
-    // Inputs that weren't asked for, or not reached.
+    // Inputs that aren't operands, or weren't reached.
     ensures no_operand { (which : _) → (Takes (asked (map string_bytes words.now)) which → ⊥)
         → I.input inputs.new which ≡ I.input inputs.old which }
     ensures not_reached { IsBeforeTrace result → I.input inputs.new Which.Trace ≡ I.input inputs.old Which.Trace }

@@ -1,4 +1,4 @@
--- How a run breaks off, wherever it does.
+-- How a run breaks off, at whatever step.
 use Rattle.std.proofs.Common.{◌≡◌, ℕ, ◌≤◌, List, [], ◌++◌, Option, None, Some, length, refl, sym, subst, arith, inl, inr, length-append, Result, Ok, Err, IfErr}
 use Rattle.std.specs.Result.{IsErrAnd}
 use Rattle.std.proofs.Math.Seq.{take-append_seam}
@@ -15,7 +15,7 @@ use Rattle.trace_reader.specs.declared.fault.TraceAnswer.TheVariants as answers
 use Rattle.trace_reader.specs.declared.fault.TraceFault.{TraceFault}
 use Rattle.query_run.proofs.Pieces.{TakesFront-more}
 
--- a fact of the answer that a result has
+-- a fact about the answer in a result
 pub err_is : {A E : Type 0} (P : E → Type 0) (result : Result A E) (answer : E) → IsErrAnd result (λ found. found ≡ answer) → P answer → IfErr result P
 err_is P (Ok done) answer is known = tt
 err_is P (Err found) answer is known = subst P (sym is) known
@@ -43,7 +43,7 @@ module _ {O : Type 0} (taken : O → Option (List ℕ)) (faults : O → ℕ) (te
   pub out_of_memory : (out : O) → BreaksOff taken faults text fault out out Memory
   out_of_memory out = nothing_taken (taken out) (text_unless fault text)
 
-  -- out of memory behind what was written of a sound trace's text, where a trace that may have a fault has nothing written
+  -- out of memory after some of a sound trace's text was written; of a trace that may have a fault nothing was written
   pub memory_behind : (old new : O) (done rest : List ℕ) → text ≡ done ++ rest → ((found : TraceFault) → fault ≡ Some found → done ≡ []) → Appends (taken old) (taken new) done
       → BreaksOff taken faults text fault old new Memory
   memory_behind old new done rest is none whole = by_fault fault refl
@@ -52,19 +52,19 @@ module _ {O : Type 0} (taken : O → Option (List ℕ)) (faults : O → ℕ) (te
       by_fault None e = subst (TakesFront (taken old) (taken new)) (sym is) (part_taken (taken old) (taken new) done rest whole)
       by_fault (Some found) e = part_taken (taken old) (taken new) [] [] (subst (Appends (taken old) (taken new)) (none found e) whole)
 
-  -- the reader broke off, where nothing was written of a trace that may have a fault
+  -- the reader broke off; of a trace that may have a fault nothing was written
   pub reader_breaks : (old new : O) (done rest : List ℕ) → text ≡ done ++ rest → ((found : TraceFault) → fault ≡ Some found → (done ≡ []) × (new ≡ old)) → Appends (taken old) (taken new) done
       → (answer : TraceAnswer) → IfRefused answer (λ found. fault ≡ Some found) → BreaksOff taken faults text fault old new (answer_for answer)
   reader_breaks old new done rest is none whole (answers.Refused found) e = (e, (none found e).1)
   reader_breaks old new done rest is none whole answers.Memory e = memory_behind old new done rest is (λ found f. (none found f).0) whole
 
-  -- a write failed behind what was written
+  -- a write failed after what was written
   pub write_breaks : (old mid new : O) (done piece rest : List ℕ) → text ≡ done ++ (piece ++ rest) → fault ≡ None → Appends (taken old) (taken mid) done → faults old ≤ faults mid
       → Rose (faults mid) (faults new) → TakesFront (taken mid) (taken new) piece → BreaksOff taken faults text fault old new Failed
   write_breaks old mid new done piece rest is sound whole later rose front =
       (sound, rose_since (faults old) (faults mid) (faults new) later rose, subst (TakesFront (taken old) (taken new)) (sym is) (TakesFront-more (taken old) (taken mid) (taken new) done piece rest whole front))
 
-  -- a part of the text broke off behind what was written
+  -- a part of the text broke off after what was written
   pub part_breaks : (old mid new : O) (done piece rest : List ℕ) → text ≡ done ++ (piece ++ rest) → fault ≡ None → Appends (taken old) (taken mid) done → faults old ≤ faults mid
       → (answer : RunAnswer) → BreaksOff taken faults piece None mid new answer → BreaksOff taken faults text fault old new answer
   part_breaks old mid new done piece rest is sound whole later (Refused found) broke = absurd (none_some found None refl broke.0)

@@ -1,4 +1,4 @@
--- A trace has no more packets than records that it may have.
+-- A trace has no more packets than it may have records.
 use Rattle.std.proofs.Common.{◌≡◌, ℕ, refl, ◌+◌, ◌≤◌, List, [], ◌∷◌, length, true, Result, Ok, Err, arith, nat_lt}
 use Rattle.std.proofs.lemmas.Bool.Decides.{nat_tests}
 use Rattle.epoch_model.proofs.KeyLists.{by_test}
@@ -8,7 +8,7 @@ use Rattle.trace_reader.specs.Traces.{Layout, contents_from, contents_with, cont
 use Rattle.trace_reader.specs.declared.fault.TraceFault.{TraceFault}
 use Rattle.query_run.specs.Runs.{ReadPacketsAreFew}
 
--- a record that is one too many gives no packet
+-- a record beyond the limit gives no packet
 none_beyond : (layout : Layout) (n : ℕ) (fields : List (List ℕ)) (p : Packet) → most_records + 1 ≤ n → packet_of layout n fields ≡ Ok p → ⊥
 unfolding packet_of
 none_beyond layout n fields p beyond is = let test : nat_lt most_records n ≡ true = grind (arith, nat_tests) in no_packet (rw test at is)

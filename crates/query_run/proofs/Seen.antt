@@ -24,7 +24,7 @@ use Rattle.trace_drive.specs.Drives.{ends_from, uses_by}
 use Rattle.trace_drive.specs.Follows.{AlikeFrom}
 use Rattle.trace_drive.proofs.Ending.{each_long, lanes_long}
 
--- a machine as far as the first packets has in a view what it has at the end of a trace of them alone
+-- a machine that is as far as the first packets has in a view what it has at the end of a trace of these packets alone
 one_end : ViewsEndTheTrace → (plan : PlanParts) (g : Geometry) (packets : List (List ℕ)) (number i : ℕ) (m : Machine) → number ≤ length packets → SameEpochs m (after_packets g (uses_by plan i packets) number)
     → all_closed m ≡ end_of g (uses_by plan i (take number packets)) (length (take number packets))
 one_end law plan g packets number i m within same =

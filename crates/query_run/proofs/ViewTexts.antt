@@ -1,4 +1,4 @@
--- The views of a run, one after another.
+-- The views of a run, in sequence.
 use Rattle.std.proofs.Common.{◌≡◌, ℕ, zero, suc, ◌+◌, ◌-◌, ◌<◌, ◌≤◌, ◌%◌, true, false, List, [], ◌++◌, length, refl, sym, ap, ◌∙◌, arith, append_assoc, append-nil, if◌then◌else◌}
 use Rattle.std.specs.Prelude.{Bool}
 use Rattle.std.proofs.Math.Nat.{add-mod_right, mod-add-mod, mod-eq_of_lt}
@@ -8,7 +8,7 @@ use Rattle.epoch_model.specs.Epochs.{Geometry}
 use Rattle.query_tables.specs.Tables.{query_text}
 use Rattle.query_run.specs.Views.{NoViewsWithoutNumber, is_view, view_text, views_text, views_up_to}
 
--- the remainders behind a multiple
+-- the remainders after a multiple
 behind : (every number j : ℕ) → number % every ≡ 0 → j < every → (number + j) % every ≡ j
 behind every number j whole below = sym (mod-add-mod number every j) ∙ (ap (λ n. (n + j) % every) whole ∙ (let e : 0 + j ≡ j = omega arith in ap (λ n. n % every) e ∙ mod-eq_of_lt below))
 
@@ -24,7 +24,7 @@ due every number whole some =
     let none : (number + every) % every ≡ 0 = add-mod_right number every ∙ whole in
     grind (arith, nat_tests)
 
--- no view where none is asked for
+-- no views where none are asked for
 pub no_views : (q : TypedQuery) (g : Geometry) (packets : List (List ℕ)) (number : ℕ) → views_up_to q g 0 packets number ≡ []
 unfolding views_up_to
 no_views q g packets zero = refl
@@ -73,7 +73,7 @@ module _ (q : TypedQuery) (g : Geometry) (every : ℕ) (packets : List (List ℕ
       let e : number + j ≡ length packets = omega arith in
       ap (views_up_to q g every packets) (sym e) ∙ none_between number j whole (omega arith)
 
-  -- views that come later stand behind these
+  -- later views come after these
   later_views : (number k : ℕ) → (rest : List ℕ) × (views_up_to q g every packets (number + k) ≡ views_up_to q g every packets number ++ rest)
   later_views number zero =
       let e : number + zero ≡ number = omega arith in

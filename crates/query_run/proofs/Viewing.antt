@@ -1,4 +1,4 @@
--- A run with views on its way: how far it is, and how it breaks off.
+-- A run with views: how far it is, and how it breaks off.
 use Rattle.std.proofs.Common.{◌≡◌, ℕ, zero, suc, ◌+◌, ◌<◌, ◌≤◌, ◌%◌, List, [], ◌++◌, length, Option, None, Some, refl, sym, ap, ◌∙◌, subst, arith, append-nil}
 use Rattle.std.proofs.KnownBytes.{Appends-nil, Appends-trans}
 use Rattle.std.proofs.Math.Nat.{mod-eq_of_lt}
@@ -64,7 +64,7 @@ module _ (q : TypedQuery) (g : Geometry) (every : ℕ) (all : List Packet) where
   pub none_asked : (number : ℕ) → every ≡ 0 → views_up_to q g every (words_of all) number ≡ []
   none_asked number is = ap (λ n. views_up_to q g n (words_of all) number) is ∙ no_views q g (words_of all) number
 
-  -- one view more was written
+  -- one more view was written
   pub one_written : (old mid new : Option (List ℕ)) (number : ℕ) → number % every ≡ 0 → 0 < every → Appends old mid (views_up_to q g every (words_of all) number)
       → Appends mid new (view_text q g (words_of all) (number + every)) → Appends old new (views_up_to q g every (words_of all) (number + every))
   one_written old mid new number multiple some before view =
@@ -87,7 +87,7 @@ module _ (q : TypedQuery) (g : Geometry) (every : ℕ) (all : List Packet) where
       subst (Appends old new) (sym text_is) (Appends-trans old mid new (views_up_to q g every (words_of all) (length all)) (query_text q g (words_of all)) views tables)
 
   module _ {O : Type 0} (taken : O → Option (List ℕ)) (faults : O → ℕ) (fault : Option TraceFault) (old mid : O) where
-    -- the reader broke off behind some views
+    -- the reader broke off after some views
     pub reader_broke : (number : ℕ) → fault ≡ None → number ≤ length all → Appends (taken old) (taken mid) (views_up_to q g every (words_of all) number)
         → (answer : TraceAnswer) → IfRefused answer (λ found. fault ≡ Some found) → BreaksOff taken faults (views_text q g every (words_of all)) fault old mid (answer_for answer)
     reader_broke number sound within before answer refused =
@@ -104,7 +104,7 @@ module _ (q : TypedQuery) (g : Geometry) (every : ℕ) (all : List Packet) where
         part_breaks taken faults (views_text q g every (words_of all)) fault old mid new (views_up_to q g every (words_of all) number) (view_text q g (words_of all) (number + every))
         front.0 front.1 sound before later answer broke
 
-    -- the reader broke off behind all views, of which there are some only where the packets are sound
+    -- the reader broke off after all views, of which there are some only where the packets are sound
     pub rest_broke : (every ≡ 0 → mid ≡ old) → (0 < every → fault ≡ None) → Appends (taken old) (taken mid) (views_up_to q g every (words_of all) (length all))
         → (answer : TraceAnswer) → IfRefused answer (λ found. fault ≡ Some found) → BreaksOff taken faults (views_text q g every (words_of all)) fault old mid (answer_for answer)
     rest_broke untouched sound views answer refused =
@@ -122,7 +122,7 @@ module _ (q : TypedQuery) (g : Geometry) (every : ℕ) (all : List Packet) where
         memory_behind taken faults (views_text q g every (words_of all)) fault old mid (views_up_to q g every (words_of all) (length all)) (query_text q g (words_of all)) text_is
         (λ found is. absurd (none_some found fault sound is)) views
 
-    -- or not be written
+    -- or they could not be written
     pub end_broke : (new : O) → fault ≡ None → Appends (taken old) (taken mid) (views_up_to q g every (words_of all) (length all)) → faults old ≤ faults mid
         → Rose (faults mid) (faults new) → TakesFront (taken mid) (taken new) (query_text q g (words_of all))
         → BreaksOff taken faults (views_text q g every (words_of all)) fault old new Failed

@@ -1,4 +1,4 @@
--- What a run over packets says where it breaks off.
+-- What the answer of a run says where the run breaks off.
 use Rattle.std.specs.Prelude.{◌≡◌, ℕ, List, [], Option, Some, None}
 use Rattle.marple_base.specs.Faults.{Rose}
 use Rattle.marple_base.specs.Sink.{TakesFront}
@@ -8,7 +8,7 @@ use Rattle.trace_reader.specs.declared.fault.TraceAnswer.{TraceAnswer}
 use Rattle.trace_reader.specs.declared.fault.TraceAnswer.TheVariants as answers
 use Rattle.trace_reader.specs.declared.fault.TraceFault.{TraceFault}
 
--- the answer of a run for an answer of the trace's reader
+-- the answer of a run where the trace's reader gives this answer
 abbrev pub answer_for : TraceAnswer → RunAnswer
 answer_for (answers.Refused fault) = Refused fault
 answer_for answers.Memory = Memory
@@ -18,7 +18,7 @@ abbrev pub text_unless : Option TraceFault → List ℕ → List ℕ
 text_unless None text = text
 text_unless (Some fault) text = []
 
--- A run that would write this text over a trace with this first fault, if it has one, broke off with an answer.
+-- A run broke off with an answer; it would have written this text over a trace with this first fault, if it has one.
 module _ {O : Type 0} (taken : O → Option (List ℕ)) (faults : O
     → ℕ) (text : List ℕ) (fault : Option TraceFault) (old new : O) where
   abbrev pub BreaksOff : RunAnswer → Type 0

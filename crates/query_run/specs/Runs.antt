@@ -21,7 +21,7 @@ use Rattle.trace_drive.specs.Drives.{end_machines, words_of}
 abbrev pub AreWhole : List (List ℕ) → Type 0
 AreWhole packets = All (λ words. length words ≡ 14) packets
 
--- the machines of groupbys, which have the numbers from this one on
+-- the machines of groupbys, which are numbered from this number on
 abbrev pub ends_of : TypedQuery → Geometry → List (List ℕ) → ℕ → List Taking → List Machine
 ends_of q g packets i [] = []
 ends_of q g packets i (t ∷ rest) = end_of g (uses q i packets) (length packets) ∷ ends_of q g packets (suc i) rest
@@ -43,6 +43,6 @@ pub record EndsAreTheQuerys : Type 0 where
 abbrev pub ReadPacketsAreWhole : Type 0
 ReadPacketsAreWhole = (text : List ℕ) (reads : FieldSet) → AreWhole (words_of (packets text reads))
 
--- The packets of a trace are no more than a trace may have records.
+-- A trace has no more packets than it may have records.
 abbrev pub ReadPacketsAreFew : Type 0
 ReadPacketsAreFew = (text : List ℕ) (reads : FieldSet) → length (packets text reads) ≤ most_records

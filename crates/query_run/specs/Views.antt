@@ -13,11 +13,11 @@ use Rattle.trace_drive.specs.Follows.{FollowsBy}
 use Rattle.trace_drive.specs.declared.packets.Packets.{Packets}
 use Rattle.trace_reader.specs.Traces.{most_records}
 
--- the line at the head of the view after so many packets
+-- the first line of the view after this number of packets
 abbrev pub view_line : ℕ → List ℕ
 view_line number = codes "view " ++ decimal number ++ 10 ∷ []
 
--- The view after so many packets: its line, and what the query prints over these packets alone.
+-- The view after this number of packets: its line, and what the query prints over these packets alone.
 abbrev pub view_text : TypedQuery → Geometry → List (List ℕ) → ℕ → List ℕ
 view_text q g packets number = view_line number ++ query_text q g (take number packets)
 
@@ -35,12 +35,12 @@ views_up_to q g every packets (suc number) =
 unfoldable pub views_text : TypedQuery → Geometry → ℕ → List (List ℕ) → List ℕ
 views_text q g every packets = views_up_to q g every packets (length packets) ++ query_text q g packets
 
--- Views of these packets may be asked for: no fault stands behind them, and they have numbers that a trace's packets may have.
+-- Views of these packets may be asked for: no fault comes after them, and they are no more than a trace may have.
 pub record CanBeViewed (packets : Packets) : Type 0 where
   pub sound : fault_of packets ≡ None
   pub few : length (coming packets) ≤ most_records
 
--- The lanes of a pipeline are as far as the machines of its plan after so many of these packets.
+-- The lanes of a pipeline are as far as the machines of its plan after this number of these packets.
 pub record IsAsFarAs (g : Geometry) (packets : List (List ℕ)) (number : ℕ) (pipeline : PipelineView) : Type 0 where
   pub room : HasRoom g
   pub whole : AreWhole packets

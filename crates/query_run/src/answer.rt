@@ -1,4 +1,4 @@
-//! How a run over packets breaks off.
+//! Why a run over packets breaks off.
 
 ghost use Rattle.std.specs.Prelude.{◌≡◌};
 ghost use Rattle.query_run.specs.Answers.{answer_for};
@@ -8,7 +8,7 @@ use marple_base::Failed;
 use std::alloc::AllocError;
 use trace_reader::{TraceAnswer, TraceFault};
 
-/// Why a run over packets breaks off: the trace has a fault, memory is out, or a write failed.
+/// Why a run over packets breaks off: the trace has a fault, memory ran out, or a write failed.
 #[derive(Clone, Copy, Debug, PartialEq, Eq)]
 pub enum RunAnswer {
     Refused(TraceFault),

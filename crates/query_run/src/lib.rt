@@ -1,4 +1,4 @@
-//! A query over the packets of a trace: its views and the text of its tables, and the pipeline that gave them.
+//! A query over the packets of a trace: its views, the text of its tables, and the pipeline that gave them.
 #![tactic(auto)]
 
 mod answer;

@@ -23,7 +23,7 @@ use std::alloc::{AllocError, Global};
 use std::sync::ledger::Ledger;
 use switch_core::Pipeline;
 
-// What the query prints, by the tables of its groupbys.
+// What the query prints, made from the tables of its groupbys.
 fn text_of<L: Ledger>(
     alloc: Global,
     typed: &TypedQuery,
@@ -66,7 +66,7 @@ pub(crate) fn end_text<const WAYS: usize, L: Ledger>(
 }
 
 /// What a query prints in the middle of a trace: over the packets that were taken so far, as if the trace ended with them.
-/// The pipeline is one of the query's plan, and stays as it is.
+/// The pipeline is one of the query's plan, and is left unchanged.
 pub fn view_query<const WAYS: usize, L: Ledger>(
     alloc: Global,
     typed: &TypedQuery,

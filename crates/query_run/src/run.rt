@@ -26,8 +26,8 @@ use switch_core::Pipeline;
 use trace_drive::{Packets, Schedule};
 
 /// Runs a query over packets, and writes what it prints: a view after each packet whose number is a multiple of `every`,
-/// none where that is 0, and at the end the tables of all packets. The pipeline stands for the machines of the query's
-/// groupbys at the end. Nothing is written before the end but the views.
+/// none where that is 0, and at the end the tables of all packets. The pipeline represents the machines of the query's
+/// groupbys at the end. Nothing but the views is written before the end.
 pub fn run_query<const WAYS: usize, O: Sink, L: Ledger>(
     alloc: Global,
     typed: &TypedQuery,

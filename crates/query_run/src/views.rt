@@ -1,4 +1,4 @@
-//! Views of a trace on its way, written one after another.
+//! The views of a trace, written in turn.
 
 ghost use Rattle.std.specs.Prelude.{◌≡◌, ◌<◌, ◌≤◌, ℕ, List, None, IfErr, IfOk, OnOk, length};
 ghost use Rattle.std.specs.Io.KnownBytes.{Appends};
@@ -25,7 +25,7 @@ use std::sync::ledger::Ledger;
 use switch_core::Pipeline;
 use trace_drive::{Packets, Replay, Schedule};
 
-// The line at the head of the view after so many packets.
+// The first line of the view after this number of packets.
 fn view_line(alloc: Global, number: u32) -> Result<Text, AllocError>
     ensures { IfOk result (λ line. line ≡ view_line number) }
 {
@@ -36,7 +36,7 @@ fn view_line(alloc: Global, number: u32) -> Result<Text, AllocError>
     Ok(line)
 }
 
-// Writes the view after so many packets: all of it, or some front.
+// Writes the view after this number of packets: all of it, or some prefix.
 fn write_view<const WAYS: usize, O: Sink, L: Ledger>(
     alloc: Global,
     typed: &TypedQuery,
@@ -64,7 +64,7 @@ fn write_view<const WAYS: usize, O: Sink, L: Ledger>(
 }
 
 /// Writes a view after each packet whose number is a multiple of `every`, and none where that is 0. The packets are taken as
-/// far as the last view needs. The memory of a view is given back before the next one.
+/// far as the last view needs. The memory of a view is freed before the next one.
 pub(crate) fn write_views<'a, const WAYS: usize, O: Sink, L: Ledger>(
     alloc: Global,
     typed: &TypedQuery,

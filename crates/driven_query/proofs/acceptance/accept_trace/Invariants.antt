@@ -2,7 +2,7 @@ use Rattle.std.proofs.Common.{◌≡◌, length}
 use Rattle.trace_reader.specs.Traces.{trace_fault}
 use Rattle.driven_query.proofs.acceptance.accept_trace.Given as goal
 
--- the fault behind the packets that are left is the trace's
+-- the fault after the packets that are left is the trace's
 abbrev pub invariant-packets : goal.invariant-packets
 invariant-packets l = l.trace.fault ≡ trace_fault l.fn.bytes l.fn.reads
 
