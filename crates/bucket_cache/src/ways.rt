@@ -68,7 +68,7 @@ fn put<L: Ledger>(
 #[inline(always)]
 pub fn touch_ways<L: Ledger>(
     first: usize,
-    used: &mut usize,
+    used: &mut u32,
     order: &mut [u16],
     words: &mut [u64],
     key: &[u64],
@@ -83,19 +83,19 @@ pub fn touch_ways<L: Ledger>(
     ensures steps { steps.old ≤ steps.new }
     ensures cost { steps.new ≤ steps.old + touch_cost (length order.old) (length key.now) result }
 {
-    match find_key(order, *used, words, key, steps) {
+    match find_key(order, *used as usize, words, key, steps) {
         Some(at) => {
             let way = order[at] as usize;
             slices::move_to_front(order, at, steps);
             Touch::Hit(first + way)
         }
         None => {
-            if *used < order.len() {
-                let way = put(order, words, *used, key, steps);
+            if (*used as usize) < order.len() {
+                let way = put(order, words, *used as usize, key, steps);
                 *used += 1;
                 Touch::Free(first + way)
             } else {
-                Touch::Full(first + order[*used - 1] as usize)
+                Touch::Full(first + order[*used as usize - 1] as usize)
             }
         }
     }
