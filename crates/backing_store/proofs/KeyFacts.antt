@@ -1,9 +1,8 @@
 -- Rows that are stored one after another in one list of words.
-use Rattle.std.proofs.Common.{◌≡◌, ◌≢◌, ℕ, zero, suc, ◌+◌, ◌-◌, ◌*◌, ◌<◌, ◌≤◌, List, [], ◌∷◌, ◌++◌, length, take, drop, sym, ap, ap₂, ◌∙◌, arith, length-drop, Option, Some, None, slice_get}
+use Rattle.std.proofs.Common.{◌≡◌, ◌≢◌, ℕ, zero, suc, ◌+◌, ◌-◌, ◌*◌, ◌<◌, ◌≤◌, List, [], ◌∷◌, ◌++◌, length, take, drop, sym, ap, ap₂, ◌∙◌, arith, length-drop, Some, slice_get}
 use Rattle.std.proofs.lemmas.List.{drop-append-le, take-append-le, drop_at, take_all}
 use Rattle.bucket_cache.specs.Slices.{rows_of}
 use Rattle.std.proofs.lemmas.Option.{slice_get-get_or, slice_get_within, same_Some}
-use Rattle.std.specs.Option.{IfNone}
 use Rattle.bucket_cache.proofs.FlatRows.{row_fits, get-rows_of, length-rows_of}
 use Rattle.backing_store.specs.Marks.{row_at}
 
@@ -43,7 +42,3 @@ pub not_got : (width count : ℕ) (words key : List ℕ) → ((k : ℕ) → k < 
 not_got width count words key none at here =
     let low : at < count = omega (arith, slice_get_within (rows_of width count words) at key here, length-rows_of width count words) in
     none at low (same_Some _ _ (sym (got_row width count words at low) ∙ here))
-
-pub on_none : {X : Type 0} (o : Option X) (P Q : Type 0) → (P → Q) → IfNone o P → IfNone o Q
-on_none None P Q f p = f p
-on_none (Some x) P Q f p = tt

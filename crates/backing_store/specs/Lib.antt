@@ -1,5 +1,6 @@
 pub mod Marks
 pub mod KeyList
+pub mod Searches
 pub mod Store
 pub mod StoreLending
 pub mod States

@@ -1,5 +1,6 @@
 -- Marks of keys, by which keys are found. Each key has one that no other has.
-use Rattle.std.specs.Prelude.{◌≡◌, ℕ, List, [], ◌∷◌, ◌+◌, ◌*◌, ◌%◌, ◌^◌, ◌<◌, drop, fold, length, slice_get, slice_index, take, Some}
+use Rattle.std.specs.Prelude.{◌≡◌, ℕ, List, [], ◌∷◌, ◌+◌, ◌*◌, ◌%◌, ◌^◌, ◌<◌, drop, false, fold, length, nat_eq, slice_get, slice_index, take, Some}
+use Rattle.std.specs.List.{list_any}
 use Rattle.std.specs.Hash.{slice, u64}
 use Rattle.std.specs.Hash.DefaultHasher.{finish, initial, write}
 use Rattle.epoch_model.specs.Keys.{Key}
@@ -30,6 +31,11 @@ pub record IsMarkOf (marks : List ℕ) (key : Key) (mark : ℕ) : Type 0 where
   pub steps : ℕ
   pub after : mark ≡ mark_after (fingerprint key) steps
   pub taken : AreTaken marks (fingerprint key) steps
+
+-- the mark is the next one for the key: it is one for the key, and no key has it
+pub record IsNextMarkOf (marks : List ℕ) (key : Key) (mark : ℕ) : Type 0 where
+  pub free : list_any (nat_eq mark) marks ≡ false
+  pub of : IsMarkOf marks key mark
 
 -- the words are those of as many keys as there are marks, and each key has the mark at its place
 pub record AreKeys (width : ℕ) (words marks : List ℕ) : Type 0 where

@@ -1,10 +1,11 @@
 //! Keys of one width, in the order in which they were added.
 
-ghost use Rattle.std.specs.Prelude.{◌≡◌, ◌≢◌, ℕ, ◌<◌, ◌++◌, ◌∷◌, [], length, slice_get, Some};
-ghost use Rattle.std.specs.Prelude.{IfSome, IfNone, IfOk, OnOk, OnErr};
-ghost use Rattle.epoch_model.specs.Keys.{Key};
+ghost use Rattle.std.specs.Prelude.{◌≡◌, ◌<◌, ◌++◌, ◌∷◌, [], length, slice_get, Some};
+ghost use Rattle.std.specs.Prelude.{IfOk, OnOk, OnErr};
+ghost use Rattle.backing_store.specs.Marks.{IsNextMarkOf};
+ghost use Rattle.backing_store.specs.Searches.{FindsKey};
 
-use crate::marks::{add_key, find_key};
+use crate::marks::{Search, add_key, find_key};
 use crate::slices::row;
 use indexmap::IndexSet;
 use std::alloc::{AllocError, Global};
@@ -27,7 +28,7 @@ impl Model for Keys {
 
     ghost Value = { KeyList };
 
-    ghost view = { λ a. record { width = a.width; keys = rows_of a.width (length a.marks.keys) a.words.items } };
+    ghost view = { λ a. record { width = a.width; keys = rows_of a.width (length a.marks.keys) a.words.items; marks = a.marks.keys } };
 
     ghost invariant = { λ a. AreKeys a.width a.words.items a.marks.keys };
 }
@@ -35,7 +36,7 @@ impl Model for Keys {
 impl Keys {
     /// No keys yet, of `width` words each.
     pub fn new(alloc: Global, width: usize) -> Keys
-        ensures { result ≡ record { width = width; keys = [] } }
+        ensures { result ≡ record { width = width; keys = []; marks = [] } }
     {
         Keys {
             alloc,
@@ -67,21 +68,25 @@ impl Keys {
         row(self.words.as_slice(), self.width, at)
     }
 
-    /// A place of the key.
-    pub fn find(&self, key: &[u64]) -> Option<usize>
-        ensures found { IfSome result (λ at. slice_get self.now.keys at ≡ Some key.now) }
-        ensures absent { IfNone result ((at : ℕ) → slice_get self.now.keys at ≢ Some key.now) }
+    /// The place of a key, or the mark that it would get.
+    pub fn find(&self, key: &[u64]) -> Search
+        ensures { FindsKey self.now key.now result }
     {
         find_key(self.width, self.words.as_slice(), &self.marks, key)
     }
 
-    /// Adds a key at the end. On an error the keys are unchanged.
-    pub fn add(&mut self, key: &[u64]) -> Result<(), AllocError>
-        requires { length key.now ≡ self.old.width }
-        ensures ok { OnOk result (self.new ≡ record { width = self.old.width; keys = self.old.keys ++ key.now ∷ [] }) }
+    /// Adds a key at the end, with the mark that a search gave for it. On an error the keys are unchanged.
+    pub fn add(&mut self, key: &[u64], mark: u64) -> Result<(), AllocError>
+        requires width { length key.now ≡ self.old.width }
+        requires mark { IsNextMarkOf self.old.marks key.now mark }
+        ensures ok { OnOk result (self.new ≡ record {
+          width = self.old.width;
+          keys = self.old.keys ++ key.now ∷ [];
+          marks = self.old.marks ++ mark ∷ [];
+        }) }
         ensures err { OnErr result (self.new ≡ self.old) }
     {
-        add_key(self.width, &mut self.words, &mut self.marks, key)
+        add_key(self.width, &mut self.words, &mut self.marks, key, mark)
     }
 
     /// A copy of the keys, in separate memory.

@@ -9,6 +9,7 @@ ghost use Rattle.backing_store.specs.Store.{AreOnce, AreRowsOf, IsLastRowOf, IsS
 ghost use Rattle.backing_store.specs.Stored.{stored};
 
 use crate::keys::Keys;
+use crate::marks::Search;
 use crate::states::States;
 use epoch_model::Mark;
 use std::alloc::{AllocError, Global};
@@ -111,25 +112,25 @@ impl BackingStore {
         ensures err { OnErr result (self.new ≡ self.old) }
     {
         match self.keys.find(key) {
-            Some(at) if row_per_epoch => {
+            Search::Found(at) if row_per_epoch => {
                 let last = self.states.len();
                 self.states.push(at, initial)?;
                 let epochs = self.merged[at].epochs.saturating_add(1);
                 self.merged[at] = Merged { epochs, last };
                 Ok(last)
             }
-            Some(at) => {
+            Search::Found(at) => {
                 let merged = self.merged[at];
                 let epochs = merged.epochs.saturating_add(1);
                 self.merged[at] = Merged { epochs, ..merged };
                 Ok(merged.last)
             }
-            None => {
+            Search::Free(mark) => {
                 let number = self.keys.len();
                 let last = self.states.len();
                 self.merged.reserve(1)?;
                 self.states.push(number, initial)?;
-                match self.keys.add(key) {
+                match self.keys.add(key, mark) {
                     Ok(()) => {
                         self.merged.push_reserved(Merged { epochs: 1, last });
                         Ok(last)
@@ -149,8 +150,8 @@ impl BackingStore {
         ensures zero { (result ≡ 0) ↔ (number_of self.now.keys key.now ≡ length self.now.keys) }
     {
         match self.keys.find(key) {
-            Some(at) => self.merged[at].epochs,
-            None => 0,
+            Search::Found(at) => self.merged[at].epochs,
+            Search::Free(_) => 0,
         }
     }
 

@@ -3,6 +3,7 @@ use Rattle.std.specs.Prelude.{◌≡◌, ◌≢◌, ℕ, Bool, false, List, [], 
 use Rattle.std.specs.Prelude.{length, take, slice_index_or, All, AllPairs, Option, find, option_map}
 use Rattle.std.specs.List.{list_any}
 use Rattle.epoch_model.specs.Keys.{Key, key_eq}
+use Rattle.bucket_cache.specs.Slices.{rows_of}
 
 pub record Pair : Type 0 where
   pub key : Key
@@ -35,6 +36,10 @@ without_key key pairs = filter (λ pair. not (is_pair_of key pair)) pairs
 abbrev pub AreOnce : List Pair → Type 0
 AreOnce [] = Unit {0}
 AreOnce (pair ∷ pairs) = (has_key pair.key pairs ≡ false) × AreOnce pairs
+
+-- the keys of the ways in this order, whose words are stored one after another, each of as many words as this key
+abbrev pub way_keys : Key → List ℕ → List ℕ → List Key
+way_keys key order words = rows_of (length key) (length order) words
 
 -- the pair of a way, by the keys of the ways
 abbrev pub pair_at : ℕ → List Key → ℕ → Pair

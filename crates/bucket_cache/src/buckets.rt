@@ -16,7 +16,7 @@ use std::sync::ledger::Ledger;
 pub fn touch_bucket<L: Ledger>(
     bucket: usize,
     ways: usize,
-    used: &mut [usize],
+    used: &mut [u32],
     order: &mut [u16],
     words: &mut [u64],
     key: &[u64],
@@ -51,7 +51,7 @@ pub fn touch_bucket<L: Ledger>(
 pub fn replace_in_bucket<L: Ledger>(
     bucket: usize,
     ways: usize,
-    used: &[usize],
+    used: &[u32],
     order: &mut [u16],
     words: &mut [u64],
     key: &[u64],

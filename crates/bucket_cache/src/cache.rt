@@ -24,7 +24,7 @@ pub struct BucketCache<const WAYS: usize> {
     key_words: usize,
     entry_words: usize,
     /// For each bucket, how many of its ways are in use.
-    used: Vec<usize>,
+    used: Vec<u32>,
     /// For each bucket its ways, the most recently used first and the free ones last.
     order: Vec<u16>,
     /// For each place the words of its key.
@@ -71,7 +71,7 @@ impl<const WAYS: usize> BucketCache<WAYS> {
         for place in 0..places {
             order.push((place % WAYS) as u16)?;
         }
-        let used = vec![in alloc; 0; count]?;
+        let used = vec![in alloc; 0u32; count]?;
         let words = vec![in alloc; 0; places * key_words]?;
         let entries = Entries::new(alloc, places, entry_words)?;
         Ok(BucketCache {
@@ -142,7 +142,7 @@ impl<const WAYS: usize> BucketCache<WAYS> {
         ensures { result ≡ slice_get (places_of (list_at self.now bucket)) i }
     {
         let bucket = bucket as usize;
-        if i < self.used[bucket] {
+        if i < self.used[bucket] as usize {
             let first = bucket * WAYS;
             Some(first + self.order[first + i] as usize)
         } else {
@@ -160,7 +160,7 @@ impl<const WAYS: usize> BucketCache<WAYS> {
         if used == 0 {
             None
         } else {
-            self.place(bucket, used - 1)
+            self.place(bucket, used as usize - 1)
         }
     }
 
@@ -214,7 +214,7 @@ impl<const WAYS: usize> BucketCache<WAYS> {
     {
         let mut held = 0;
         for used in &self.used {
-            held += *used;
+            held += *used as usize;
         }
         held
     }

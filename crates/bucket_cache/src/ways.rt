@@ -3,8 +3,8 @@
 ghost use Rattle.std.specs.Prelude.{◌≡◌, ℕ, ◌+◌, ◌-◌, ◌*◌, ◌<◌, ◌≤◌, length, take, slice_index};
 ghost use Rattle.std.specs.Prelude.{slice_index_or, slice_set, IfSome, IfNone, true, false, All, []};
 ghost use Rattle.epoch_model.specs.Keys.{key_eq};
-ghost use Rattle.bucket_cache.specs.Slices.{at_front, rows_of};
-ghost use Rattle.bucket_cache.specs.Buckets.{pairs_at, has_key, IsBucket};
+ghost use Rattle.bucket_cache.specs.Slices.{at_front};
+ghost use Rattle.bucket_cache.specs.Buckets.{pairs_at, has_key, way_keys, IsBucket};
 ghost use Rattle.bucket_cache.specs.Touches.{Touches, IsLeast, with_front, touch_cost, replace_cost};
 
 use crate::bucket::Touch;
@@ -26,10 +26,9 @@ fn find_key<L: Ledger>(
     requires flat { length words.now ≡ length order.now * length key.now }
     ensures found { IfSome result (λ at. at < used) }
     ensures same { IfSome result (λ at. key_eq
-        (slice_index_or (rows_of (length key.now) (length order.now) words.now) (slice_index order.now at) []) key.now ≡ true) }
+        (slice_index_or (way_keys key.now order.now words.now) (slice_index order.now at) []) key.now ≡ true) }
     ensures none { IfNone result ((at : ℕ) → at < used
-        → key_eq (slice_index_or (rows_of (length key.now) (length order.now) words.now)
-        (slice_index order.now at) []) key.now ≡ false) }
+        → key_eq (slice_index_or (way_keys key.now order.now words.now) (slice_index order.now at) []) key.now ≡ false) }
     ensures steps { steps.old ≤ steps.new }
     ensures cost { steps.new ≤ steps.old + used * length key.now }
 {
@@ -55,8 +54,7 @@ fn put<L: Ledger>(
     requires flat { length words.old ≡ length order.old * length key.now }
     ensures way { result ≡ slice_index order.old at }
     ensures moved { order.new ≡ at_front at order.old }
-    ensures keys { rows_of (length key.now) (length order.old) words.new
-        ≡ slice_set (rows_of (length key.now) (length order.old) words.old) result key.now }
+    ensures keys { way_keys key.now order.old words.new ≡ slice_set (way_keys key.now order.old words.old) result key.now }
     ensures cost { steps.new ≡ steps.old + (at + 1) + length key.now }
 {
     let way = order[at] as usize;
@@ -70,34 +68,34 @@ fn put<L: Ledger>(
 #[inline(always)]
 pub fn touch_ways<L: Ledger>(
     first: usize,
-    used: &mut usize,
+    used: &mut u32,
     order: &mut [u16],
     words: &mut [u64],
     key: &[u64],
     steps: &mut Steps<L>,
 ) -> Touch
-    requires bucket { IsBucket first (length key.now) used.old order.old (rows_of (length key.now) (length order.old) words.old) }
+    requires bucket { IsBucket first (length key.now) used.old order.old (way_keys key.now order.old words.old) }
     requires flat { length words.old ≡ length order.old * length key.now }
-    ensures bucket { IsBucket first (length key.now) used.new order.new (rows_of (length key.now) (length order.old) words.new) }
+    ensures bucket { IsBucket first (length key.now) used.new order.new (way_keys key.now order.old words.new) }
     ensures touched { Touches (length order.old) key.now
-        (pairs_at first (rows_of (length key.now) (length order.old) words.old) (take used.old order.old)) result
-        (pairs_at first (rows_of (length key.now) (length order.old) words.new) (take used.new order.new)) }
+        (pairs_at first (way_keys key.now order.old words.old) (take used.old order.old)) result
+        (pairs_at first (way_keys key.now order.old words.new) (take used.new order.new)) }
     ensures steps { steps.old ≤ steps.new }
     ensures cost { steps.new ≤ steps.old + touch_cost (length order.old) (length key.now) result }
 {
-    match find_key(order, *used, words, key, steps) {
+    match find_key(order, *used as usize, words, key, steps) {
         Some(at) => {
             let way = order[at] as usize;
             slices::move_to_front(order, at, steps);
             Touch::Hit(first + way)
         }
         None => {
-            if *used < order.len() {
-                let way = put(order, words, *used, key, steps);
+            if (*used as usize) < order.len() {
+                let way = put(order, words, *used as usize, key, steps);
                 *used += 1;
                 Touch::Free(first + way)
             } else {
-                Touch::Full(first + order[*used - 1] as usize)
+                Touch::Full(first + order[*used as usize - 1] as usize)
             }
         }
     }
@@ -111,15 +109,13 @@ pub fn replace_way<L: Ledger>(
     key: &[u64],
     steps: &mut Steps<L>,
 ) -> usize
-    requires bucket { IsBucket first (length key.now) (length order.old) order.old (rows_of (length key.now) (length order.old) words.old) }
+    requires bucket { IsBucket first (length key.now) (length order.old) order.old (way_keys key.now order.old words.old) }
     requires flat { length words.old ≡ length order.old * length key.now }
-    requires absent { has_key key.now
-        (pairs_at first (rows_of (length key.now) (length order.old) words.old) (take (length order.old) order.old)) ≡ false }
-    ensures bucket { IsBucket first (length key.now) (length order.old) order.new (rows_of (length key.now) (length order.old) words.new) }
-    ensures place { IsLeast (pairs_at first (rows_of (length key.now) (length order.old) words.old)
-        (take (length order.old) order.old)) result }
-    ensures pairs { let old = pairs_at first (rows_of (length key.now) (length order.old) words.old) (take (length order.old) order.old) in
-        pairs_at first (rows_of (length key.now) (length order.old) words.new) (take (length order.old) order.new)
+    requires absent { has_key key.now (pairs_at first (way_keys key.now order.old words.old) (take (length order.old) order.old)) ≡ false }
+    ensures bucket { IsBucket first (length key.now) (length order.old) order.new (way_keys key.now order.old words.new) }
+    ensures place { IsLeast (pairs_at first (way_keys key.now order.old words.old) (take (length order.old) order.old)) result }
+    ensures pairs { let old = pairs_at first (way_keys key.now order.old words.old) (take (length order.old) order.old) in
+        pairs_at first (way_keys key.now order.old words.new) (take (length order.old) order.new)
         ≡ with_front key.now result (take (length old - 1) old) }
     ensures cost { steps.new ≡ steps.old + replace_cost (length order.old) (length key.now) }
 {

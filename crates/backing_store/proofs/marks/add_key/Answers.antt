@@ -1,7 +1,6 @@
-use Rattle.std.proofs.Common.{◌≡◌, ℕ, ◌++◌, ◌∷◌, [], List, eqb, false, length, refl, ap, ◌∙◌, subst, length-append}
+use Rattle.std.proofs.Common.{◌≡◌, ℕ, ◌++◌, ◌∷◌, [], List, eqb, false, refl, ap, ◌∙◌}
 use Rattle.std.specs.List.{list_any}
 use Rattle.indexmap.specs.IndexSet.{insert_key}
-use Rattle.backing_store.specs.Marks.{IsMarkOf}
 use Rattle.backing_store.proofs.MarkFacts.{keys_more}
 use Rattle.backing_store.proofs.marks.add_key.Goals as goal
 
@@ -12,13 +11,13 @@ inserted marks mark free = rw free refl
 pub returns-clause-keys : goal.returns-clause-keys
 returns-clause-keys c =
     let marks = c.args.marks.now.keys in
-    let mark = c.free_mark-mark.result in
-    let new : c.insert.new.self.keys ≡ marks ++ mark ∷ [] = c.in_ok-insert.ensures.keys ∙ (ap (λ ks. insert_key eqb ks mark) c.in_ok-reserve.ensures.keys ∙ inserted marks mark (subst (λ ks. list_any (eqb mark) ks ≡ false) c.in_ok-reserve.ensures.keys c.free_mark-mark.ensures.free)) in
-    rw (c.in_ok-extend_from_slice.ensures.items, new) (keys_more c.args.width c.args.words.now.items marks c.args.key.now mark c.requires.keys c.requires.width (subst (λ ks. IsMarkOf ks c.args.key.now mark) c.in_ok-reserve.ensures.keys c.free_mark-mark.ensures.mark))
+    let mark = c.args.mark in
+    let new : c.insert.new.self.keys ≡ marks ++ mark ∷ [] = c.in_ok-insert.ensures.keys ∙ (ap (λ ks. insert_key eqb ks mark) c.in_ok-reserve.ensures.keys ∙ inserted marks mark c.requires.mark.free) in
+    rw (c.in_ok-extend_from_slice.ensures.items, new) (keys_more c.args.width c.args.words.now.items marks c.args.key.now mark c.requires.keys c.requires.width c.requires.mark.of)
 
 pub returns-clause-ok : goal.returns-clause-ok
 returns-clause-ok c =
     let marks = c.args.marks.now.keys in
-    let mark = c.free_mark-mark.result in
-    let new : c.insert.new.self.keys ≡ marks ++ mark ∷ [] = c.in_ok-insert.ensures.keys ∙ (ap (λ ks. insert_key eqb ks mark) c.in_ok-reserve.ensures.keys ∙ inserted marks mark (subst (λ ks. list_any (eqb mark) ks ≡ false) c.in_ok-reserve.ensures.keys c.free_mark-mark.ensures.free)) in
-    (c.in_ok-extend_from_slice.ensures.items, ap length new ∙ length-append marks (mark ∷ []))
+    let mark = c.args.mark in
+    let new : c.insert.new.self.keys ≡ marks ++ mark ∷ [] = c.in_ok-insert.ensures.keys ∙ (ap (λ ks. insert_key eqb ks mark) c.in_ok-reserve.ensures.keys ∙ inserted marks mark c.requires.mark.free) in
+    (c.in_ok-extend_from_slice.ensures.items, new)

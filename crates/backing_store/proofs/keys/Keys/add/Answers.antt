@@ -1,4 +1,4 @@
-use Rattle.std.proofs.Common.{◌≡◌, length, sym, ap, ◌∙◌}
+use Rattle.std.proofs.Common.{◌≡◌, ◌++◌, ◌∷◌, [], length, length-append, sym, ap, ◌∙◌}
 use Rattle.std.proofs.lemmas.Result.{on_ok_weaker}
 use Rattle.backing_store.specs.KeyList.{KeyList}
 use Rattle.backing_store.proofs.KeyFacts.{rows_more}
@@ -7,7 +7,8 @@ use Rattle.backing_store.proofs.keys.Keys.add.Goals as goal
 pub returns-clause-ok : goal.returns-clause-ok
 returns-clause-ok c =
     let a = c.self.inside in
-    let long : length c.args.key.now ≡ a.width = c.requires ∙ sym (ap (λ (l : KeyList). l.width) c.self.view_is) in
+    let long : length c.args.key.now ≡ a.width = c.requires.width ∙ sym (ap (λ (l : KeyList). l.width) c.self.view_is) in
     on_ok_weaker c.add_key.result
-    (λ done. rw (done.0, done.1, ← c.self.view_is) (ap (λ keys. record { width = a.width; keys = keys }) (rows_more a.width (length a.marks.keys) a.words.items c.args.key.now c.self.invariant.flat long)))
+    (λ done. rw (done.0, done.1, length-append a.marks.keys (c.args.mark ∷ []), ← c.self.view_is)
+    (ap (λ keys. record { width = a.width; keys = keys; marks = a.marks.keys ++ c.args.mark ∷ [] }) (rows_more a.width (length a.marks.keys) a.words.items c.args.key.now c.self.invariant.flat long)))
     c.add_key.ensures.ok

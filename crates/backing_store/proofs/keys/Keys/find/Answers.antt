@@ -1,18 +1,19 @@
-use Rattle.std.proofs.Common.{◌<◌, ◌∙◌, Some, length, sym, ap}
-use Rattle.std.proofs.lemmas.Option.{IfSome_then}
-use Rattle.backing_store.specs.Marks.{row_at}
-use Rattle.backing_store.proofs.KeyFacts.{got_row, not_got, on_none}
+use Rattle.std.proofs.Common.{ℕ, List, ◌∙◌, Some, length, ap, subst}
+use Rattle.bucket_cache.specs.Slices.{rows_of}
+use Rattle.epoch_model.specs.Keys.{Key}
+use Rattle.backing_store.specs.Searches.{Finds, FindsKey}
+use Rattle.backing_store.specs.declared.marks.Search.{Search}
+use Rattle.backing_store.specs.declared.marks.Search.TheVariants.{Found, Free}
+use Rattle.backing_store.proofs.KeyFacts.{got_row, not_got}
 use Rattle.backing_store.proofs.keys.Keys.find.Goals as goal
 
-pub returns-clause-found : goal.returns-clause-found
-returns-clause-found c =
-    let a = c.self.inside in
-    rw (← c.self.view_is) (IfSome_then c.find_key.result c.find_key.ensures.found (λ at is.
-    let low : at < length a.marks.keys = is.0 in
-    got_row a.width (length a.marks.keys) a.words.items at low ∙ ap Some (sym (ap (λ ws. row_at a.width ws at) c.as_slice.ensures.value) ∙ is.1)))
+among_keys : (width : ℕ) (words marks : List ℕ) (key : Key) (search : Search) → Finds width words marks key search
+    → FindsKey (record { width = width; keys = rows_of width (length marks) words; marks = marks }) key search
+among_keys width words marks key (Found at) is = got_row width (length marks) words at is.0 ∙ ap Some is.1
+among_keys width words marks key (Free mark) is = (not_got width (length marks) words key is.0, is.1)
 
-pub returns-clause-absent : goal.returns-clause-absent
-returns-clause-absent c =
+pub returns : goal.returns
+returns c =
     let a = c.self.inside in
-    rw (← c.self.view_is) (on_none c.find_key.result _ _ (λ none at. not_got a.width (length a.marks.keys) a.words.items c.args.key.now
-    (λ k low e. none k low (ap (λ ws. row_at a.width ws k) c.as_slice.ensures.value ∙ e)) at) c.find_key.ensures.absent)
+    let found = subst (λ ws. Finds a.width ws a.marks.keys c.args.key.now c.find_key.result) c.as_slice.ensures.value c.find_key.ensures in
+    rw (← c.self.view_is) (among_keys a.width a.words.items a.marks.keys c.args.key.now c.find_key.result found)

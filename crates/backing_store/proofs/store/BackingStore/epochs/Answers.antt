@@ -13,40 +13,40 @@ index-requires c =
     let key = c.args.key.now in
     let many = c.self.invariant.many in
     let whole = c.self.invariant.whole in
-    omega (arith, slice_get_within keys c.in-Some.at key c.in-Some.ensures.found, many, a.merged.ok.0)
+    omega (arith, slice_get_within keys c.in-Found.at key c.in-Found.ensures, many, a.merged.ok.0)
 
-pub returns-in-Some-clause-value : goal.returns-in-Some-clause-value
-returns-in-Some-clause-value c =
+pub returns-in-Found-clause-value : goal.returns-in-Found-clause-value
+returns-in-Found-clause-value c =
     let a = c.self.inside in
     let keys = a.keys.keys in
     let merged = a.merged.items in
     let key = c.args.key.now in
     let many = c.self.invariant.many in
     let whole = c.self.invariant.whole in
-    let at = c.in-Some.at in
-    let here = c.in-Some.ensures.found in
+    let at = c.in-Found.at in
+    let here = c.in-Found.ensures in
     let low : at < length merged = omega (arith, slice_get_within keys at key here, many) in
     let first = first_of_once keys merged at key many whole.0.once here in
     let value = zip-value keys merged at c.index.result.now many (slice_get_read merged (length merged) at c.index.result.now refl low c.index.ensures) in
     rw (← c.self.view_is) (sym (epochs_at key (zip keys merged) at c.index.result.now first value))
 
-pub returns-in-None-clause-value : goal.returns-in-None-clause-value
-returns-in-None-clause-value c =
+pub returns-in-Free-clause-value : goal.returns-in-Free-clause-value
+returns-in-Free-clause-value c =
     let a = c.self.inside in
     let keys = a.keys.keys in
     let merged = a.merged.items in
     let key = c.args.key.now in
     let many = c.self.invariant.many in
     let whole = c.self.invariant.whole in
-    rw (← c.self.view_is) (sym (epochs_none key (zip keys merged) (none_of_absent keys merged key c.in-None.ensures.absent)))
+    rw (← c.self.view_is) (sym (epochs_none key (zip keys merged) (none_of_absent keys merged key c.in-Free.ensures.0)))
 
-pub returns-in-Some-clause-zero : goal.returns-in-Some-clause-zero
-returns-in-Some-clause-zero c =
+pub returns-in-Found-clause-zero : goal.returns-in-Found-clause-zero
+returns-in-Found-clause-zero c =
     let kept = rw c.self.view_is at c.self.invariant.whole.0 in
-    rw (returns-in-Some-clause-value c) (no_epochs c.args.self.now.key_words c.args.self.now.keys c.args.key.now kept.keys)
+    rw (returns-in-Found-clause-value c) (no_epochs c.args.self.now.key_words c.args.self.now.keys c.args.key.now kept.keys)
 
-pub returns-in-None-clause-zero : goal.returns-in-None-clause-zero
-returns-in-None-clause-zero c =
+pub returns-in-Free-clause-zero : goal.returns-in-Free-clause-zero
+returns-in-Free-clause-zero c =
     let kept = rw c.self.view_is at c.self.invariant.whole.0 in
     let zero = no_epochs c.args.self.now.key_words c.args.self.now.keys c.args.key.now kept.keys in
-    ((λ _. zero.0 (sym (returns-in-None-clause-value c))), (λ _. refl))
+    ((λ _. zero.0 (sym (returns-in-Free-clause-value c))), (λ _. refl))

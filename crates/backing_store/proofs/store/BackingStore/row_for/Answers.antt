@@ -9,7 +9,7 @@ use Rattle.backing_store.proofs.ZipFacts.{first_of_once, length-zip, none_of_abs
 use Rattle.backing_store.proofs.store.BackingStore.row_for.Goals as goal
 
 pub invariant_of-self : goal.invariant_of-self
-invariant_of-self c = rw c.in_err-push-in-Some.ensures.err (record { many = c.self.invariant.many; whole = c.self.invariant.whole })
+invariant_of-self c = rw c.in_err-push-in-Found.ensures.err (record { many = c.self.invariant.many; whole = c.self.invariant.whole })
 
 pub index-requires : goal.index-requires
 index-requires c =
@@ -23,7 +23,7 @@ index-requires c =
     let whole = c.self.invariant.whole in
     let key_size = c.requires.key ∙ sym (ap (λ s. s.key_words) c.self.view_is) in
     let row_size = c.requires.initial ∙ sym (ap (λ s. s.state_words) c.self.view_is) in
-    omega (arith, slice_get_within keys c.in-Some.at key c.in-Some.ensures.found, many, a.merged.ok.0)
+    omega (arith, slice_get_within keys c.in-Found.at key c.in-Found.ensures, many, a.merged.ok.0)
 
 pub index_mut-requires : goal.index_mut-requires
 index_mut-requires c =
@@ -37,7 +37,7 @@ index_mut-requires c =
     let whole = c.self.invariant.whole in
     let key_size = c.requires.key ∙ sym (ap (λ s. s.key_words) c.self.view_is) in
     let row_size = c.requires.initial ∙ sym (ap (λ s. s.state_words) c.self.view_is) in
-    omega (arith, slice_get_within keys c.in-Some.at key c.in-Some.ensures.found, many, a.merged.ok.0)
+    omega (arith, slice_get_within keys c.in-Found.at key c.in-Found.ensures, many, a.merged.ok.0)
 
 pub index-merged-requires : goal.index-merged-requires
 index-merged-requires c =
@@ -51,10 +51,10 @@ index-merged-requires c =
     let whole = c.self.invariant.whole in
     let key_size = c.requires.key ∙ sym (ap (λ s. s.key_words) c.self.view_is) in
     let row_size = c.requires.initial ∙ sym (ap (λ s. s.state_words) c.self.view_is) in
-    omega (arith, slice_get_within keys c.in-Some.at key c.in-Some.ensures.found, many, a.merged.ok.0)
+    omega (arith, slice_get_within keys c.in-Found.at key c.in-Found.ensures, many, a.merged.ok.0)
 
-pub index_mut-requires-in-Some-2 : goal.index_mut-requires-in-Some-2
-index_mut-requires-in-Some-2 c =
+pub index_mut-requires-in-Found-2 : goal.index_mut-requires-in-Found-2
+index_mut-requires-in-Found-2 c =
     let a = c.self.inside in
     let keys = a.keys.keys in
     let merged = a.merged.items in
@@ -65,7 +65,7 @@ index_mut-requires-in-Some-2 c =
     let whole = c.self.invariant.whole in
     let key_size = c.requires.key ∙ sym (ap (λ s. s.key_words) c.self.view_is) in
     let row_size = c.requires.initial ∙ sym (ap (λ s. s.state_words) c.self.view_is) in
-    omega (arith, slice_get_within keys c.in-Some.at key c.in-Some.ensures.found, many, a.merged.ok.0)
+    omega (arith, slice_get_within keys c.in-Found.at key c.in-Found.ensures, many, a.merged.ok.0)
 
 pub invariant_of-self-then-row_per_epoch : goal.invariant_of-self-then-row_per_epoch
 invariant_of-self-then-row_per_epoch c =
@@ -79,8 +79,8 @@ invariant_of-self-then-row_per_epoch c =
     let whole = c.self.invariant.whole in
     let key_size = c.requires.key ∙ sym (ap (λ s. s.key_words) c.self.view_is) in
     let row_size = c.requires.initial ∙ sym (ap (λ s. s.state_words) c.self.view_is) in
-    let at = c.in-Some.at in
-    let here = c.in-Some.ensures.found in
+    let at = c.in-Found.at in
+    let here = c.in-Found.ensures in
     let low : at < length merged = omega (arith, slice_get_within keys at key here, many) in
     let first = first_of_once keys merged at key many whole.0.once here in
     let was = c.index.result.now in
@@ -88,12 +88,12 @@ invariant_of-self-then-row_per_epoch c =
     let now : Merged = record { epochs = c.saturating_add-epochs.result; last = c.len-last.result } in
     record {
       many = length-set merged at now ∙ many;
-      whole = rw (c.in_ok-push-in-Some.ensures.ok, zip-set keys merged at now many)
+      whole = rw (c.in_ok-push-in-Found.ensures.ok, zip-set keys merged at now many)
           (whole_row key initial (zip keys merged) rows a.keys.width a.states.width at was now first value c.saturating_add-epochs.ensures c.len-last.ensures key_size row_size whole);
     }
 
-pub returns-in_ok-push-in-Some-clause-ok : goal.returns-in_ok-push-in-Some-clause-ok
-returns-in_ok-push-in-Some-clause-ok c =
+pub returns-in_ok-push-in-Found-clause-ok : goal.returns-in_ok-push-in-Found-clause-ok
+returns-in_ok-push-in-Found-clause-ok c =
     let a = c.self.inside in
     let keys = a.keys.keys in
     let merged = a.merged.items in
@@ -104,18 +104,18 @@ returns-in_ok-push-in-Some-clause-ok c =
     let whole = c.self.invariant.whole in
     let key_size = c.requires.key ∙ sym (ap (λ s. s.key_words) c.self.view_is) in
     let row_size = c.requires.initial ∙ sym (ap (λ s. s.state_words) c.self.view_is) in
-    let at = c.in-Some.at in
-    let here = c.in-Some.ensures.found in
+    let at = c.in-Found.at in
+    let here = c.in-Found.ensures in
     let low : at < length merged = omega (arith, slice_get_within keys at key here, many) in
     let first = first_of_once keys merged at key many whole.0.once here in
     let was = c.index.result.now in
     let value = zip-value keys merged at was many (slice_get_read merged (length merged) at was refl low c.index.ensures) in
     let now : Merged = record { epochs = c.saturating_add-epochs.result; last = c.len-last.result } in
-    rw (← c.self.view_is, c.if-row_per_epoch.true, c.in_ok-push-in-Some.ensures.ok, zip-set keys merged at now many)
+    rw (← c.self.view_is, c.if-row_per_epoch.true, c.in_ok-push-in-Found.ensures.ok, zip-set keys merged at now many)
     (counted_row key initial (zip keys merged) rows a.keys.width a.states.width at was now first value c.saturating_add-epochs.ensures)
 
-pub returns-in_ok-push-in-Some-clause-place : goal.returns-in_ok-push-in-Some-clause-place
-returns-in_ok-push-in-Some-clause-place c =
+pub returns-in_ok-push-in-Found-clause-place : goal.returns-in_ok-push-in-Found-clause-place
+returns-in_ok-push-in-Found-clause-place c =
     let a = c.self.inside in
     let keys = a.keys.keys in
     let merged = a.merged.items in
@@ -126,18 +126,18 @@ returns-in_ok-push-in-Some-clause-place c =
     let whole = c.self.invariant.whole in
     let key_size = c.requires.key ∙ sym (ap (λ s. s.key_words) c.self.view_is) in
     let row_size = c.requires.initial ∙ sym (ap (λ s. s.state_words) c.self.view_is) in
-    let at = c.in-Some.at in
-    let here = c.in-Some.ensures.found in
+    let at = c.in-Found.at in
+    let here = c.in-Found.ensures in
     let low : at < length merged = omega (arith, slice_get_within keys at key here, many) in
     let first = first_of_once keys merged at key many whole.0.once here in
     let was = c.index.result.now in
     let value = zip-value keys merged at was many (slice_get_read merged (length merged) at was refl low c.index.ensures) in
     let now : Merged = record { epochs = c.saturating_add-epochs.result; last = c.len-last.result } in
     let after = whole_row key initial (zip keys merged) rows a.keys.width a.states.width at was now first value c.saturating_add-epochs.ensures c.len-last.ensures key_size row_size whole in
-    rw (c.in_ok-push-in-Some.ensures.ok, zip-set keys merged at now many) (place_kept key (zip keys merged) (rows ++ record { key = at; words = initial } ∷ []) at now first after.1)
+    rw (c.in_ok-push-in-Found.ensures.ok, zip-set keys merged at now many) (place_kept key (zip keys merged) (rows ++ record { key = at; words = initial } ∷ []) at now first after.1)
 
-pub invariant_of-self-in-Some-2 : goal.invariant_of-self-in-Some-2
-invariant_of-self-in-Some-2 c =
+pub invariant_of-self-in-Found-2 : goal.invariant_of-self-in-Found-2
+invariant_of-self-in-Found-2 c =
     let a = c.self.inside in
     let keys = a.keys.keys in
     let merged = a.merged.items in
@@ -148,21 +148,21 @@ invariant_of-self-in-Some-2 c =
     let whole = c.self.invariant.whole in
     let key_size = c.requires.key ∙ sym (ap (λ s. s.key_words) c.self.view_is) in
     let row_size = c.requires.initial ∙ sym (ap (λ s. s.state_words) c.self.view_is) in
-    let at = c.in-Some.at in
-    let here = c.in-Some.ensures.found in
+    let at = c.in-Found.at in
+    let here = c.in-Found.ensures in
     let low : at < length merged = omega (arith, slice_get_within keys at key here, many) in
     let first = first_of_once keys merged at key many whole.0.once here in
     let was = c.index-merged.result.now in
     let value = zip-value keys merged at was many (slice_get_read merged (length merged) at was refl low c.index-merged.ensures) in
-    let now : Merged = record { epochs = c.saturating_add-epochs-in-Some-2.result; last = c.index-merged.result.now.last } in
+    let now : Merged = record { epochs = c.saturating_add-epochs-in-Found-2.result; last = c.index-merged.result.now.last } in
     record {
       many = length-set merged at now ∙ many;
       whole = rw (zip-set keys merged at now many)
-          (whole_again key initial (zip keys merged) rows a.keys.width a.states.width at was now first value c.saturating_add-epochs-in-Some-2.ensures refl key_size row_size whole);
+          (whole_again key initial (zip keys merged) rows a.keys.width a.states.width at was now first value c.saturating_add-epochs-in-Found-2.ensures refl key_size row_size whole);
     }
 
-pub returns-in-Some-2-clause-ok : goal.returns-in-Some-2-clause-ok
-returns-in-Some-2-clause-ok c =
+pub returns-in-Found-2-clause-ok : goal.returns-in-Found-2-clause-ok
+returns-in-Found-2-clause-ok c =
     let a = c.self.inside in
     let keys = a.keys.keys in
     let merged = a.merged.items in
@@ -173,18 +173,18 @@ returns-in-Some-2-clause-ok c =
     let whole = c.self.invariant.whole in
     let key_size = c.requires.key ∙ sym (ap (λ s. s.key_words) c.self.view_is) in
     let row_size = c.requires.initial ∙ sym (ap (λ s. s.state_words) c.self.view_is) in
-    let at = c.in-Some.at in
-    let here = c.in-Some.ensures.found in
+    let at = c.in-Found.at in
+    let here = c.in-Found.ensures in
     let low : at < length merged = omega (arith, slice_get_within keys at key here, many) in
     let first = first_of_once keys merged at key many whole.0.once here in
     let was = c.index-merged.result.now in
     let value = zip-value keys merged at was many (slice_get_read merged (length merged) at was refl low c.index-merged.ensures) in
-    let now : Merged = record { epochs = c.saturating_add-epochs-in-Some-2.result; last = c.index-merged.result.now.last } in
+    let now : Merged = record { epochs = c.saturating_add-epochs-in-Found-2.result; last = c.index-merged.result.now.last } in
     rw (← c.self.view_is, c.if-row_per_epoch.false, zip-set keys merged at now many)
-    (counted_again key initial (zip keys merged) rows a.keys.width a.states.width at was now first value c.saturating_add-epochs-in-Some-2.ensures)
+    (counted_again key initial (zip keys merged) rows a.keys.width a.states.width at was now first value c.saturating_add-epochs-in-Found-2.ensures)
 
-pub returns-in-Some-2-clause-place : goal.returns-in-Some-2-clause-place
-returns-in-Some-2-clause-place c =
+pub returns-in-Found-2-clause-place : goal.returns-in-Found-2-clause-place
+returns-in-Found-2-clause-place c =
     let a = c.self.inside in
     let keys = a.keys.keys in
     let merged = a.merged.items in
@@ -195,23 +195,23 @@ returns-in-Some-2-clause-place c =
     let whole = c.self.invariant.whole in
     let key_size = c.requires.key ∙ sym (ap (λ s. s.key_words) c.self.view_is) in
     let row_size = c.requires.initial ∙ sym (ap (λ s. s.state_words) c.self.view_is) in
-    let at = c.in-Some.at in
-    let here = c.in-Some.ensures.found in
+    let at = c.in-Found.at in
+    let here = c.in-Found.ensures in
     let low : at < length merged = omega (arith, slice_get_within keys at key here, many) in
     let first = first_of_once keys merged at key many whole.0.once here in
     let was = c.index-merged.result.now in
     let value = zip-value keys merged at was many (slice_get_read merged (length merged) at was refl low c.index-merged.ensures) in
-    let now : Merged = record { epochs = c.saturating_add-epochs-in-Some-2.result; last = c.index-merged.result.now.last } in
-    let after = whole_again key initial (zip keys merged) rows a.keys.width a.states.width at was now first value c.saturating_add-epochs-in-Some-2.ensures refl key_size row_size whole in
+    let now : Merged = record { epochs = c.saturating_add-epochs-in-Found-2.result; last = c.index-merged.result.now.last } in
+    let after = whole_again key initial (zip keys merged) rows a.keys.width a.states.width at was now first value c.saturating_add-epochs-in-Found-2.ensures refl key_size row_size whole in
     rw (zip-set keys merged at now many) (place_kept key (zip keys merged) rows at now first after.1)
 
-pub invariant_of-self-in_err-reserve-in-None : goal.invariant_of-self-in_err-reserve-in-None
-invariant_of-self-in_err-reserve-in-None c = record { many = rw c.reserve.ensures.items c.self.invariant.many; whole = rw c.reserve.ensures.items c.self.invariant.whole }
+pub invariant_of-self-in_err-reserve-in-Free : goal.invariant_of-self-in_err-reserve-in-Free
+invariant_of-self-in_err-reserve-in-Free c = record { many = rw c.reserve.ensures.items c.self.invariant.many; whole = rw c.reserve.ensures.items c.self.invariant.whole }
 
-pub invariant_of-self-in_err-push-in-None : goal.invariant_of-self-in_err-push-in-None
-invariant_of-self-in_err-push-in-None c = record {
+pub invariant_of-self-in_err-push-in-Free : goal.invariant_of-self-in_err-push-in-Free
+invariant_of-self-in_err-push-in-Free c = record {
   many = rw c.reserve.ensures.items c.self.invariant.many;
-  whole = rw (c.in_err-push-in-None.ensures.err, c.reserve.ensures.items) c.self.invariant.whole;
+  whole = rw (c.in_err-push-in-Free.ensures.err, c.reserve.ensures.items) c.self.invariant.whole;
 }
 
 pub invariant_of-self-in-Err : goal.invariant_of-self-in-Err
@@ -220,7 +220,7 @@ invariant_of-self-in-Err c =
     let back = pushed-front a.states.rows (record { key = c.len-number.result; words = c.args.initial.now }) in
     record {
       many = rw (c.reserve.ensures.items, c.in-Err.ensures.err) c.self.invariant.many;
-      whole = rw (c.reserve.ensures.items, c.in-Err.ensures.err, c.pop.ensures, c.in_ok-push-in-None.ensures.ok, back) c.self.invariant.whole;
+      whole = rw (c.reserve.ensures.items, c.in-Err.ensures.err, c.pop.ensures, c.in_ok-push-in-Free.ensures.ok, back) c.self.invariant.whole;
     }
 
 pub invariant_of-self-in-Ok : goal.invariant_of-self-in-Ok
@@ -235,14 +235,14 @@ invariant_of-self-in-Ok c =
     let whole = c.self.invariant.whole in
     let key_size = c.requires.key ∙ sym (ap (λ s. s.key_words) c.self.view_is) in
     let row_size = c.requires.initial ∙ sym (ap (λ s. s.state_words) c.self.view_is) in
-    let none = none_of_absent keys merged key c.in-None.ensures.absent in
+    let none = none_of_absent keys merged key c.in-Free.ensures.0 in
     let number : c.len-number.result ≡ length (zip keys merged) = c.len-number.ensures ∙ sym (length-zip keys merged many) in
-    let now : Merged = record { epochs = 1; last = c.len-last-in-None.result } in
+    let now : Merged = record { epochs = 1; last = c.len-last-in-Free.result } in
     let items : c.push_reserved.new.self.items ≡ merged ++ now ∷ [] = c.push_reserved.ensures.items ∙ ap (λ ms. ms ++ now ∷ []) c.reserve.ensures.items in
-    let after = whole_first key initial (zip keys merged) rows a.keys.width a.states.width key c.len-last-in-None.result none refl c.len-last-in-None.ensures key_size row_size whole in
+    let after = whole_first key initial (zip keys merged) rows a.keys.width a.states.width key c.len-last-in-Free.result none refl c.len-last-in-Free.ensures key_size row_size whole in
     record {
       many = rw (items, c.in-Ok.ensures.ok) (length-append merged (now ∷ []) ∙ (ap (λ n. n + 1) many ∙ sym (length-append keys (key ∷ []))));
-      whole = rw (items, c.in-Ok.ensures.ok, c.in_ok-push-in-None.ensures.ok, zip-push keys merged key now many, number) after;
+      whole = rw (items, c.in-Ok.ensures.ok, c.in_ok-push-in-Free.ensures.ok, zip-push keys merged key now many, number) after;
     }
 
 pub returns-in-Ok-clause-ok : goal.returns-in-Ok-clause-ok
@@ -257,13 +257,13 @@ returns-in-Ok-clause-ok c =
     let whole = c.self.invariant.whole in
     let key_size = c.requires.key ∙ sym (ap (λ s. s.key_words) c.self.view_is) in
     let row_size = c.requires.initial ∙ sym (ap (λ s. s.state_words) c.self.view_is) in
-    let none = none_of_absent keys merged key c.in-None.ensures.absent in
+    let none = none_of_absent keys merged key c.in-Free.ensures.0 in
     let number : c.len-number.result ≡ length (zip keys merged) = c.len-number.ensures ∙ sym (length-zip keys merged many) in
-    let now : Merged = record { epochs = 1; last = c.len-last-in-None.result } in
+    let now : Merged = record { epochs = 1; last = c.len-last-in-Free.result } in
     let items : c.push_reserved.new.self.items ≡ merged ++ now ∷ [] = c.push_reserved.ensures.items ∙ ap (λ ms. ms ++ now ∷ []) c.reserve.ensures.items in
-    let after = whole_first key initial (zip keys merged) rows a.keys.width a.states.width key c.len-last-in-None.result none refl c.len-last-in-None.ensures key_size row_size whole in
-    rw (← c.self.view_is, items, c.in-Ok.ensures.ok, c.in_ok-push-in-None.ensures.ok, zip-push keys merged key now many, number)
-    (counted_first key initial (zip keys merged) rows a.keys.width a.states.width c.args.row_per_epoch key c.len-last-in-None.result none refl)
+    let after = whole_first key initial (zip keys merged) rows a.keys.width a.states.width key c.len-last-in-Free.result none refl c.len-last-in-Free.ensures key_size row_size whole in
+    rw (← c.self.view_is, items, c.in-Ok.ensures.ok, c.in_ok-push-in-Free.ensures.ok, zip-push keys merged key now many, number)
+    (counted_first key initial (zip keys merged) rows a.keys.width a.states.width c.args.row_per_epoch key c.len-last-in-Free.result none refl)
 
 pub returns-in-Ok-clause-place : goal.returns-in-Ok-clause-place
 returns-in-Ok-clause-place c =
@@ -277,10 +277,10 @@ returns-in-Ok-clause-place c =
     let whole = c.self.invariant.whole in
     let key_size = c.requires.key ∙ sym (ap (λ s. s.key_words) c.self.view_is) in
     let row_size = c.requires.initial ∙ sym (ap (λ s. s.state_words) c.self.view_is) in
-    let none = none_of_absent keys merged key c.in-None.ensures.absent in
+    let none = none_of_absent keys merged key c.in-Free.ensures.0 in
     let number : c.len-number.result ≡ length (zip keys merged) = c.len-number.ensures ∙ sym (length-zip keys merged many) in
-    let now : Merged = record { epochs = 1; last = c.len-last-in-None.result } in
+    let now : Merged = record { epochs = 1; last = c.len-last-in-Free.result } in
     let items : c.push_reserved.new.self.items ≡ merged ++ now ∷ [] = c.push_reserved.ensures.items ∙ ap (λ ms. ms ++ now ∷ []) c.reserve.ensures.items in
-    let after = whole_first key initial (zip keys merged) rows a.keys.width a.states.width key c.len-last-in-None.result none refl c.len-last-in-None.ensures key_size row_size whole in
-    rw (items, c.in-Ok.ensures.ok, c.in_ok-push-in-None.ensures.ok, zip-push keys merged key now many, number)
+    let after = whole_first key initial (zip keys merged) rows a.keys.width a.states.width key c.len-last-in-Free.result none refl c.len-last-in-Free.ensures key_size row_size whole in
+    rw (items, c.in-Ok.ensures.ok, c.in_ok-push-in-Free.ensures.ok, zip-push keys merged key now many, number)
     (place_pushed key (zip keys merged) (rows ++ record { key = length (zip keys merged); words = initial } ∷ []) key now none refl after.1)
