@@ -1,3 +1,4 @@
 pub mod TrialSteps
 pub mod TrialParts
 pub mod TrialTyped
+pub mod TrialAccepted

@@ -7,22 +7,23 @@ ghost use Rattle.marple_cli.specs.Ends.{Ends, status_of};
 
 use crate::status::Status;
 use command_line::{Command, Generation};
-use marple_base::{Sink, write_all};
-use queue_sim::{simulate, trace_text};
+use marple_base::Sink;
+use queue_sim::{WriteAnswer, write_trace};
 use std::alloc::Global;
 
 /// How many packets wait in a queue at most.
 pub const CAPACITY: u32 = 16;
 
-/// Writes the text of the packets that the generator makes. No input is opened.
+/// Writes the text of the packets that the generator makes, while it makes them. No input is opened.
 pub fn generate<O: Sink>(alloc: Global, generation: Generation, out: &mut O) -> Result<(), Status>
     requires generation { IsGeneration generation }
     ensures ends { (inputs : AnyWhich → Input)
         → Ends O.taken O.faults (Command.Gen generation) inputs inputs out.old out.new (status_of result) }
     ensures out_later { O.faults out.old ≤ O.faults out.new }
 {
-    let packets = simulate(alloc, generation.packets, generation.start, CAPACITY)?;
-    let text = trace_text(alloc, &packets)?;
-    write_all(out, text.as_slice())?;
-    Ok(())
+    match write_trace(alloc, generation.packets, generation.start, CAPACITY, out) {
+        Ok(()) => Ok(()),
+        Err(WriteAnswer::Memory) => Err(Status::Memory),
+        Err(WriteAnswer::Failed) => Err(Status::OutputFault),
+    }
 }

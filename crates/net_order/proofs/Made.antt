@@ -26,7 +26,7 @@ use Rattle.query_rules.specs.StreamRules.{HasColumns, new_names, OfFilter, OfMap
 use Rattle.query_rules.proofs.StreamLaws.{zip_is, group_is}
 use Rattle.stage_plan.proofs.StreamRows.{Row, row_at, row_made, at_earlier}
 use Rattle.net_wide.specs.Combining.{is_switch, names_switch, columns_made}
-use Rattle.tuple_laws.proofs.Views.{AreBelow, others_below}
+use Rattle.query_laws.proofs.Views.{AreBelow, others_below}
 use Rattle.net_order.proofs.Columns.{picked_names, names_long, names_of_both, slots_below, behind}
 use Rattle.net_order.proofs.Rows.{RowTells, SlotTells, filter_tells, map_tells, zip_tells, group_tells, slot_tells}
 

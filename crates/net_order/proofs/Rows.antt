@@ -8,7 +8,7 @@ use Rattle.query_lang.specs.Words.{holds}
 use Rattle.query_lang.specs.Streams.{values_at, expr_value, emits_at}
 use Rattle.stage_plan.proofs.StreamRows.{Row, filter_row, map_row, zip_row, group_row, row_made, rows_from}
 use Rattle.net_wide.specs.Combining.{is_switch, names_switch}
-use Rattle.tuple_laws.proofs.Views.{AreBelow}
+use Rattle.query_laws.proofs.Views.{AreBelow}
 use Rattle.net_order.proofs.Tells.{Tells, both_tell, others_tell, tells_at, picked_tell}
 
 -- one operator more makes one row more

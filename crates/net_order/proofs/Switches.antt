@@ -29,7 +29,7 @@ use Rattle.stage_plan.proofs.StreamRows.{Row, row_at, row_made, rows_from, all_r
 use Rattle.net_wide.specs.Combining.{names_switch, columns_made, makes_switch}
 use Rattle.net_wide.specs.NetLaws.{SwitchKeysAreSwitches}
 use Rattle.net_wide.specs.NetTables.{switch_in}
-use Rattle.tuple_laws.proofs.FieldColumns.{AreKnown, all_known}
+use Rattle.query_laws.proofs.FieldColumns.{AreKnown, all_known}
 use Rattle.net_order.proofs.Tells.{packet_tells}
 use Rattle.net_order.proofs.Rows.{RowTells, SlotTells, rows_last}
 use Rattle.net_order.proofs.Made.{AllTell, KeysTell, MadeTells, names_of_new, all_last, all_more, keys_more, stream_tells}

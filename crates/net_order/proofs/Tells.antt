@@ -10,8 +10,8 @@ use Rattle.query_lang.specs.Names.{number_in}
 use Rattle.query_lang.specs.Streams.{values_at}
 use Rattle.query_lang.specs.Typing.{field_numbers}
 use Rattle.net_wide.specs.Combining.{is_switch, names_switch}
-use Rattle.tuple_laws.proofs.FieldColumns.{AreKnown}
-use Rattle.tuple_laws.proofs.Views.{AreBelow}
+use Rattle.query_laws.proofs.FieldColumns.{AreKnown}
+use Rattle.query_laws.proofs.Views.{AreBelow}
 use Rattle.net_wide.specs.NetTables.{switch_in}
 
 -- a row has a word for each of these columns, and where the column is named `switch`, this one

@@ -3,7 +3,7 @@
 ghost use Rattle.net_order.specs.OrderLaws.{AcceptedTellSwitches, NeighboursMayChangePlaces, SwitchOrderIsFree};
 
 use net_wide::switches_do_not_wait;
-use valid_queries::{accepted_are_valid, accepted_start_as_words};
+use query_laws::{accepted_are_valid, accepted_start_as_words};
 
 /// In each accepted text a groupby's key named `switch` is the packet's switch, unless some `map` makes a column of that name;
 /// and the state variables start as words.

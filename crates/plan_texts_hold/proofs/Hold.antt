@@ -12,7 +12,7 @@ use Rattle.query_rules.proofs.QueryLaws.{query_sound}
 use Rattle.query_rules.proofs.Steps.{found_first, same_ok}
 use Rattle.stage_plan.specs.Depths.{stage_fault}
 use Rattle.accepted_query.specs.Accepted.{accepted, staged, unless_fault}
-use Rattle.valid_queries.proofs.Accepted.{parts, accepted_valid, accepted_starts}
+use Rattle.query_laws.proofs.Valid.{parts, accepted_valid, accepted_starts}
 use Rattle.written_plan.specs.MadeOf.{printed_group}
 use Rattle.plan_texts_hold.specs.HoldLaws.{AcceptedHavePlanTexts}
 use Rattle.plan_texts_hold.proofs.Differ.{NamesDiffer}

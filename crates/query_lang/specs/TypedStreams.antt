@@ -77,7 +77,7 @@ abbrev pub no_new_columns : NewColumns
 no_new_columns = record { names = []; values = [] }
 
 -- two columns of one name are the same one where both are the packet's field, or both were made by one `map`: then they have the
--- same values, as tuple_laws proves (`zipped_columns_agree`)
+-- same values, as query_laws proves (`zipped_columns_agree`)
 abbrev pub same_origin : Origin → Origin → Bool
 same_origin origin.Field origin.Field = true
 same_origin (origin.Map a) (origin.Map b) = nat_eq a b

@@ -4,3 +4,4 @@ pub mod Queue
 pub mod Following
 pub mod TraceText
 pub mod ReadBack
+pub mod Pieces

@@ -12,7 +12,7 @@ use std::alloc::{AllocError, Global};
 
 /// The generator between two packets.
 #[derive(Drop)]
-struct Generator {
+pub(crate) struct Generator {
     start: u32,
     capacity: u32,
     draws: Draws,
@@ -80,7 +80,8 @@ fn empty_queues(alloc: Global) -> Result<Vec<Queue>, AllocError>
 }
 
 impl Generator {
-    fn new(alloc: Global, start: u32, capacity: u32) -> Result<Generator, AllocError>
+    /// The generator before its first packet.
+    pub(crate) fn new(alloc: Global, start: u32, capacity: u32) -> Result<Generator, AllocError>
         requires { start < 2 ^ 31 }
         ensures follows { IfOk result Follows }
         ensures first { IfOk result (λ g. (g.number ≡ 0) × (g.start ≡ start) × (g.capacity ≡ capacity)) }
@@ -99,8 +100,8 @@ impl Generator {
         })
     }
 
-    // The next packet.
-    fn next(&mut self) -> Result<Packet, AllocError>
+    /// The next packet.
+    pub(crate) fn next(&mut self) -> Result<Packet, AllocError>
         requires follows { Follows self.old }
         requires more { self.old.number < 1000000 }
         ensures follows { OnOk result (Follows self.new) }

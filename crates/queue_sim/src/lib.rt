@@ -5,6 +5,8 @@ mod draws;
 mod generator;
 mod queue;
 mod text;
+mod writing;
 
 pub use generator::simulate;
 pub use text::{texts_read_back, trace_text};
+pub use writing::{WriteAnswer, write_trace};

@@ -1,40 +1,71 @@
 //! The text of a trace.
 
-ghost use Rattle.std.specs.Prelude.{◌≡◌, ◌++◌, ◌∷◌, [], IfOk, OnOk};
+ghost use Rattle.std.specs.Prelude.{◌≡◌, ◌+◌, ◌≤◌, ◌<◌, ◌∷◌, ◌++◌, IfOk, drop};
 ghost use Rattle.queue_sim.specs.ReadBack.{TextsReadBack};
-ghost use Rattle.queue_sim.specs.TraceText.{header, joined, line, packet_texts, trace_text, word_text};
+ghost use Rattle.queue_sim.specs.TraceText.{line, packet_texts, trace_text, word_text};
 
-use itoa::Buffer;
+use itoa::write_digits;
 use marple_base::{Field, Packet, Seq, Text};
 use std::alloc::{AllocError, Global};
 
-const HEADER: &[u8] =
+/// The first line of a trace.
+pub(crate) const HEADER: &[u8] =
     b"switch,qid,uid,srcip,dstip,srcport,dstport,proto,pkt_len,payload_len,tcpseq,tin,tout,qsize\n";
 
-// Writes a word of a field.
-fn push_word(text: &mut Text, field: Field, word: u64) -> Result<(), AllocError>
-    ensures { OnOk result (text.new ≡ text.old ++ word_text field word) }
+// 14 words of at most 20 digits, 13 commas, and the end of the line.
+const LONGEST_LINE: usize = 294;
+
+/// Room for the line of a packet, which is written from its end to its beginning.
+#[derive(Clone, Copy)]
+pub(crate) struct LineBuffer {
+    bytes: [u8; LONGEST_LINE],
+}
+
+// Puts a byte before this place, and gives its own place.
+fn put_byte(bytes: &mut [u8; LONGEST_LINE], end: usize, byte: u8) -> usize
+    requires { (0 < end) × (end ≤ 294) }
+    ensures written { drop result bytes.new ≡ byte ∷ drop end bytes.old }
+    ensures place { result + 1 ≡ end }
+{
+    bytes[end - 1] = byte;
+    end - 1
+}
+
+// Puts the text of a word of a field before this place, and gives where it begins.
+fn put_word(bytes: &mut [u8; LONGEST_LINE], end: usize, field: Field, word: u64) -> usize
+    requires { (20 ≤ end) × (end ≤ 294) }
+    ensures written { drop result bytes.new ≡ word_text field word ++ drop end bytes.old }
+    ensures place { (result ≤ end) × (end ≤ result + 20) }
 {
     match field {
-        Field::Tout if word == u64::MAX => text.push_slice(b"inf"),
-        _ => {
-            let mut buffer = Buffer::new();
-            text.push_slice(buffer.format(word).as_bytes())
+        Field::Tout if word == u64::MAX => {
+            let last = put_byte(bytes, end, b'f');
+            let middle = put_byte(bytes, last, b'n');
+            put_byte(bytes, middle, b'i')
         }
+        _ => write_digits(word, bytes, end),
     }
 }
 
-// Writes the line of a packet.
-fn push_packet(text: &mut Text, packet: &Packet) -> Result<(), AllocError>
-    ensures { OnOk result (text.new ≡ text.old ++ line (packet_texts packet.now)) }
-{
-    push_word(text, Field::Switch, packet.words[0])?;
-    for i in 1..14 {
-        text.push(b',')?;
-        push_word(text, Field::ALL[i], packet.words[i])?;
+impl LineBuffer {
+    pub(crate) fn new() -> LineBuffer {
+        LineBuffer {
+            bytes: [0; LONGEST_LINE],
+        }
     }
-    text.push(b'\n')?;
-    Ok(())
+
+    /// The line of a packet.
+    pub(crate) fn format(&mut self, packet: &Packet) -> &[u8]
+        ensures { result.now ≡ line (packet_texts packet.now) }
+    {
+        let mut start = put_byte(&mut self.bytes, LONGEST_LINE, b'\n');
+        for i in (1..14).rev() {
+            start = put_word(&mut self.bytes, start, Field::ALL[i], packet.words[i]);
+            start = put_byte(&mut self.bytes, start, b',');
+        }
+        start = put_word(&mut self.bytes, start, Field::Switch, packet.words[0]);
+        &self.bytes[start..]
+    }
 }
 
 /// The text of packets: a header with all fields, and a line for each packet. A `tout` of 2^64-1 is written `inf`.
@@ -42,8 +73,9 @@ pub fn trace_text(alloc: Global, packets: &Seq<Packet>) -> Result<Text, AllocErr
     ensures { IfOk result (λ text. text ≡ trace_text packets.now) }
 {
     let mut text = Text::from_slice(alloc, HEADER)?;
+    let mut line = LineBuffer::new();
     for packet in packets.as_slice() {
-        push_packet(&mut text, packet)?;
+        text.push_slice(line.format(packet))?;
     }
     Ok(text)
 }

@@ -6,8 +6,8 @@ use Rattle.query_lang.specs.declared.typing.StreamColumn.{StreamColumn}
 use Rattle.query_lang.specs.Streams.{values_at}
 use Rattle.query_lang.specs.TypedStreams.{column_names, columns_at}
 use Rattle.query_rules.specs.StreamRules.{HasSlots}
-use Rattle.tuple_laws.proofs.Typed.{stands_below}
-use Rattle.tuple_laws.proofs.Views.{AreBelow}
+use Rattle.query_laws.proofs.Typed.{stands_below}
+use Rattle.query_laws.proofs.Views.{AreBelow}
 
 found_column : (columns : List StreamColumn) (slot : ℕ) → slot < length columns
     → (c : StreamColumn) × (slice_get columns slot ≡ Some c) × (c.name ≡ slice_index (column_names columns) slot)

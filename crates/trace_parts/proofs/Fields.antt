@@ -34,7 +34,7 @@ use Rattle.stage_plan.proofs.StreamRows.{Row, row_at, row_made, rows_from, all_r
 use Rattle.net_wide.specs.Combining.{columns_made}
 use Rattle.trace_parts.specs.Parts.{word_of, is_named, names_field, makes_field, groupbys, first_named, part_by, HasFieldKey}
 use Rattle.trace_parts.specs.PartLaws.{FieldsKeepKeys, FieldListsKeepKeys, FieldListsGiveTheParts}
-use Rattle.tuple_laws.proofs.FieldColumns.{AreKnown, all_known}
+use Rattle.query_laws.proofs.FieldColumns.{AreKnown, all_known}
 use Rattle.trace_parts.proofs.Tells.{packet_tells}
 use Rattle.trace_parts.proofs.Rows.{RowTells, SlotTells, rows_last}
 use Rattle.trace_parts.proofs.Made.{AllTell, KeysTell, MadeTells, names_of_new, all_last, all_more, keys_more, stream_tells}

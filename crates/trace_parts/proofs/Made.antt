@@ -28,7 +28,7 @@ use Rattle.query_rules.proofs.StreamLaws.{zip_is, group_is}
 use Rattle.stage_plan.proofs.StreamRows.{Row, row_at, row_made, at_earlier}
 use Rattle.net_wide.specs.Combining.{columns_made}
 use Rattle.trace_parts.specs.Parts.{is_named, names_field}
-use Rattle.tuple_laws.proofs.Views.{AreBelow, others_below}
+use Rattle.query_laws.proofs.Views.{AreBelow, others_below}
 use Rattle.trace_parts.proofs.Columns.{picked_names, names_long, names_of_both, slots_below, rest_after}
 use Rattle.trace_parts.proofs.Rows.{RowTells, SlotTells, filter_tells, map_tells, zip_tells, group_tells, slot_tells}
 

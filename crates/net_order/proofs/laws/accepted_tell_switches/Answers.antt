@@ -1,5 +1,5 @@
 use Rattle.query_rules.proofs.QueryLaws.{query_sound}
-use Rattle.valid_queries.proofs.Accepted.{parts}
+use Rattle.query_laws.proofs.Valid.{parts}
 use Rattle.net_order.proofs.Switches.{switch_keys}
 use Rattle.net_order.proofs.laws.accepted_tell_switches.Goals as goal
 

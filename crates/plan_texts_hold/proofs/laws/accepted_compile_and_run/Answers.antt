@@ -1,4 +1,4 @@
-use Rattle.valid_queries.proofs.Accepted.{accepted_valid}
+use Rattle.query_laws.proofs.Valid.{accepted_valid}
 use Rattle.written_plan.proofs.Loads.{loads}
 use Rattle.plan_texts_hold.proofs.Hold.{plan_texts}
 use Rattle.plan_texts_hold.proofs.laws.accepted_compile_and_run.Goals as goal

@@ -1,5 +1,5 @@
 use Rattle.query_rules.proofs.QueryLaws.{query_sound}
-use Rattle.valid_queries.proofs.Accepted.{parts}
+use Rattle.query_laws.proofs.Valid.{parts}
 use Rattle.trace_parts.proofs.accepted.accepted_fields_keep_keys.Goals as goal
 
 pub returns : goal.returns

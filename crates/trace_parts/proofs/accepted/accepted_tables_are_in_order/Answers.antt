@@ -1,6 +1,6 @@
 use Rattle.std.proofs.Common.{sym, ◌∙◌}
 use Rattle.query_rules.proofs.QueryLaws.{query_sound}
-use Rattle.valid_queries.proofs.Accepted.{parts}
+use Rattle.query_laws.proofs.Valid.{parts}
 use Rattle.trace_parts.specs.Parts.{by_fields}
 use Rattle.trace_parts.proofs.accepted.accepted_tables_are_in_order.Goals as goal
 

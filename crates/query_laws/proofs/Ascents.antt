@@ -1,0 +1,121 @@
+-- Each operator keeps the order of the packets.
+use Rattle.std.proofs.Common.{◌≡◌, ℕ, zero, suc, ◌+◌, ◌<◌, ◌≤◌, Bool, true, false, cond, List, [], ◌∷◌, ◌++◌, length, Option, Some, None, slice_index, subst, arith}
+use Rattle.std.specs.Prelude.{All, map, filter, find, fold, slice_get, option_map, ◌==◌}
+use Rattle.std.specs.List.{cons_option}
+use Rattle.std.specs.List.Sorted.{IsStrictlyIncreasing}
+use Rattle.query_lang.specs.declared.fold.TypedFold.{TypedFold}
+use Rattle.query_lang.specs.declared.typed.TypedOp.{TypedOp}
+use Rattle.query_lang.specs.declared.typed.TypedOp.TheVariants.{Filter, Map, Zip, Group}
+use Rattle.query_lang.specs.declared.typed.TypedQuery.{TypedQuery}
+use Rattle.query_lang.specs.declared.typed.TypedStream.{TypedStream}
+use Rattle.query_lang.specs.Words.{holds}
+use Rattle.query_lang.specs.Streams.{Tuple, numbered, values_at, expr_value, emits_at, zip_stream, group_stream, list_at, made_of, stream}
+use Rattle.query_laws.specs.TupleLaws.{packet_numbers}
+
+-- the packets' numbers rise from this one on, and stay below that one
+abbrev pub Rises : ℕ → ℕ → List Tuple → Type 0
+Rises from end [] = Unit {0}
+Rises from end (t ∷ tuples) = (from ≤ t.packet) × (t.packet < end) × Rises (suc t.packet) end tuples
+
+rises_before : (before from end : ℕ) (tuples : List Tuple) → before ≤ from → Rises from end tuples → Rises before end tuples
+rises_before before from end [] le h = tt
+rises_before before from end (t ∷ tuples) le h = (omega (arith, h.0), h.1, h.2)
+
+-- ---- operators
+
+numbered_rise : (n end : ℕ) (packets : List (List ℕ)) → n + length packets ≤ end → Rises n end (numbered n packets)
+numbered_rise n end [] le = tt
+numbered_rise n end (words ∷ packets) le = (omega arith, omega arith, numbered_rise (suc n) end packets (omega arith))
+
+filter_rises : (test : Tuple → Bool) (from end : ℕ) (tuples : List Tuple) → Rises from end tuples → Rises from end (filter test tuples)
+filter_rises test from end [] h = tt
+filter_rises test from end (t ∷ tuples) h = go (test t) (filter_rises test (suc t.packet) end tuples h.2)
+  where
+    go : (b : Bool) → Rises (suc t.packet) end (filter test tuples) → Rises from end (cond b (t ∷ filter test tuples) (filter test tuples))
+    go true more = (h.0, h.1, more)
+    go false more = rises_before from (suc t.packet) end (filter test tuples) (omega (arith, h.0)) more
+
+map_rises : (new : Tuple → List ℕ) (from end : ℕ) (tuples : List Tuple) → Rises from end tuples
+    → Rises from end (map (λ t. record { packet = t.packet; row = new t }) tuples)
+map_rises new from end [] h = tt
+map_rises new from end (t ∷ tuples) h = (h.0, h.1, map_rises new (suc t.packet) end tuples h.2)
+
+zip_rises : (slots : List ℕ) (right : List Tuple) (from end : ℕ) (left : List Tuple) → Rises from end left → Rises from end (zip_stream slots left right)
+zip_rises slots right from end [] h = tt
+zip_rises slots right from end (t ∷ left) h =
+    go (find (λ (other : Tuple). other.packet == t.packet) right) (zip_rises slots right (suc t.packet) end left h.2)
+  where
+    go : (o : Option Tuple) → Rises (suc t.packet) end (zip_stream slots left right)
+        → Rises from end (cons_option (option_map (λ (other : Tuple). record { packet = t.packet; row = t.row ++ values_at other.row slots }) o) (zip_stream slots left right))
+    go (Some other) more = (h.0, h.1, more)
+    go None more = rises_before from (suc t.packet) end (zip_stream slots left right) (omega (arith, h.0)) more
+
+group_rises : (f : Option TypedFold) (keys args : List ℕ) (from end : ℕ) (tuples : List Tuple) → Rises from end tuples
+    → Rises from end (group_stream f keys args tuples)
+group_rises None keys args from end tuples h = tt
+group_rises (Some f) keys args from end tuples h =
+    map_rises (λ t. values_at t.row keys) from end (filter (λ t. emits_at f (values_at t.row args)) tuples)
+    (filter_rises (λ t. emits_at f (values_at t.row args)) from end tuples h)
+
+-- ---- all streams
+
+abbrev AllRise : ℕ → List (List Tuple) → Type 0
+AllRise end [] = Unit {0}
+AllRise end (one ∷ streams) = Rises 1 end one × AllRise end streams
+
+rise_at : (end : ℕ) (streams : List (List Tuple)) (number : ℕ) → AllRise end streams → Rises 1 end (list_at streams number)
+rise_at end [] number h = tt
+rise_at end (one ∷ streams) zero h = h.0
+rise_at end (one ∷ streams) (suc number) h = rise_at end streams number h.1
+
+rise_last : (end : ℕ) (streams : List (List Tuple)) (one : List Tuple) → AllRise end streams → Rises 1 end one → AllRise end (streams ++ one ∷ [])
+rise_last end [] one h k = (k, tt)
+rise_last end (first ∷ streams) one h k = (h.0, rise_last end streams one h.1 k)
+
+made_rises : (folds : List TypedFold) (end : ℕ) (streams : List (List Tuple)) (op : TypedOp) → AllRise end streams → Rises 1 end (made_of folds streams op)
+made_rises folds end streams (Filter input condition) h =
+    filter_rises (λ t. holds (expr_value condition t.row)) 1 end (list_at streams input) (rise_at end streams input h)
+made_rises folds end streams (Map input values) h =
+    map_rises (λ t. t.row ++ map (λ e. expr_value e t.row) values) 1 end (list_at streams input) (rise_at end streams input h)
+made_rises folds end streams (Zip left right slots) h =
+    zip_rises slots (list_at streams right) 1 end (list_at streams left) (rise_at end streams left h)
+made_rises folds end streams (Group input keys f args) h =
+    group_rises (slice_get folds f) keys args 1 end (list_at streams input) (rise_at end streams input h)
+
+rise_along : (folds : List TypedFold) (end : ℕ) (list : List TypedStream) (streams : List (List Tuple)) → AllRise end streams
+    → AllRise end (fold (λ streams one. streams ++ made_of folds streams one.op ∷ []) streams list)
+rise_along folds end [] streams h = h
+rise_along folds end (one ∷ list) streams h =
+    rise_along folds end list (streams ++ made_of folds streams one.op ∷ [])
+    (rise_last end streams (made_of folds streams one.op) h (made_rises folds end streams one.op h))
+
+-- the packets' numbers of a stream rise
+pub stream_rises : (q : TypedQuery) (number : ℕ) (packets : List (List ℕ)) → Rises 1 (1 + length packets) (stream q number packets)
+stream_rises q number packets =
+    let end = 1 + length packets in
+    rise_at end _ number (rise_along q.folds end q.streams (numbered 1 packets ∷ []) (numbered_rise 1 end packets (omega arith), tt))
+
+-- ---- what that says of the numbers
+
+pub increasing : (from end : ℕ) (tuples : List Tuple) → Rises from end tuples → IsStrictlyIncreasing (packet_numbers tuples)
+increasing from end [] h = λ k lt. absurd (omega (arith, lt))
+increasing from end (t ∷ []) h = λ k lt. absurd (omega (arith, lt))
+increasing from end (t ∷ u ∷ tuples) h = go (increasing (suc t.packet) end (u ∷ tuples) h.2)
+  where
+    go : IsStrictlyIncreasing (packet_numbers (u ∷ tuples)) → IsStrictlyIncreasing (packet_numbers (t ∷ u ∷ tuples))
+    go more zero lt = omega (arith, h.2.0)
+    go more (suc k) lt =
+        subst (λ next. slice_index (packet_numbers (t ∷ u ∷ tuples)) (suc k) < slice_index (packet_numbers (t ∷ u ∷ tuples)) next)
+        (let same : suc (k + 1) ≡ suc k + 1 = omega arith in same) (more k (omega (arith, lt)))
+
+-- these numbers lie between those two, which are included
+abbrev LieBetween : ℕ → ℕ → List ℕ → Type 0
+LieBetween from last numbers = All (λ n. (from ≤ n) × (n ≤ last)) numbers
+
+pub within : (from last : ℕ) (tuples : List Tuple) → Rises from (1 + last) tuples → LieBetween from last (packet_numbers tuples)
+within from last [] h = λ k d lt. absurd (omega (arith, lt))
+within from last (t ∷ tuples) h = go (within (suc t.packet) last tuples h.2)
+  where
+    go : LieBetween (suc t.packet) last (packet_numbers tuples) → LieBetween from last (packet_numbers (t ∷ tuples))
+    go more zero d lt = (h.0, omega (arith, h.1))
+    go more (suc k) d lt = let m = more k d (omega (arith, lt)) in (omega (arith, m.0, h.0), m.1)

@@ -1,0 +1,114 @@
+-- How many nodes and statements the examples' statements have.
+use Rattle.std.proofs.Common.{◌≡◌, ℕ, ◌+◌, List, [], ◌∷◌, map, refl, sym, ap, ◌∙◌}
+use Rattle.std.specs.Prelude.{sum}
+use Rattle.query_lang.specs.declared.fold.Op.{Op}
+use Rattle.query_lang.specs.declared.fold.Op.TheVariants.{Add, Lt}
+use Rattle.query_lang.specs.declared.query.Expr.{Expr, fold-roll-Expr}
+use Rattle.query_lang.specs.declared.query.Expr.TheOpen as expr
+use Rattle.query_lang.specs.declared.query.Expr.TheVariants.{Number, Named, Binary, rolls-Number, rolls-Named, rolls-Binary}
+use Rattle.query_lang.specs.declared.query.Name.{Name}
+use Rattle.query_lang.specs.declared.query.Stmt.{Stmt, fold-roll-Stmt}
+use Rattle.query_lang.specs.declared.query.Stmt.TheOpen as stmt
+use Rattle.query_lang.specs.declared.query.Stmt.TheVariants.{Assign, If, Emit, rolls-Assign, rolls-If, rolls-Emit}
+use Rattle.query_lang.specs.TypedFolds.{expr_nodes, nodes_step, stmt_nodes, stmt_nodes_step, stmt_count, count_step, fold_nodes, fold_statements}
+use Rattle.query_laws.specs.TypingExamples.{here, called, first, second}
+use Rattle.query_laws.specs.FoldExamples.{a_fold, one_more, on_state, on_argument, below_9}
+
+-- ---- each form
+
+node_number : (n : ℕ) → expr_nodes (Number n here) ≡ 1
+node_number n = ap expr_nodes (sym (rolls-Number n here)) ∙ fold-roll-Expr ℕ nodes_step (expr.Number n here)
+
+node_named : (x : Name) → expr_nodes (Named x) ≡ 1
+node_named x = ap expr_nodes (sym (rolls-Named x)) ∙ fold-roll-Expr ℕ nodes_step (expr.Named x)
+
+node_binary : (op : Op) (a b : Expr) → expr_nodes (Binary op here a b) ≡ 1 + expr_nodes a + expr_nodes b
+node_binary op a b = ap expr_nodes (sym (rolls-Binary op here a b)) ∙ fold-roll-Expr ℕ nodes_step (expr.Binary op here a b)
+
+nodes_assign : (x : Name) (e : Expr) → stmt_nodes (Assign x e) ≡ expr_nodes e
+nodes_assign x e = ap stmt_nodes (sym (rolls-Assign x e)) ∙ fold-roll-Stmt ℕ stmt_nodes_step (stmt.Assign x e)
+
+nodes_if : (c : Expr) (a b : List Stmt) → stmt_nodes (If c a b) ≡ expr_nodes c + sum (map stmt_nodes a) + sum (map stmt_nodes b)
+nodes_if c a b = ap stmt_nodes (sym (rolls-If c a b)) ∙ fold-roll-Stmt ℕ stmt_nodes_step (stmt.If c a b)
+
+nodes_emit : stmt_nodes (Emit here) ≡ 0
+nodes_emit = ap stmt_nodes (sym (rolls-Emit here)) ∙ fold-roll-Stmt ℕ stmt_nodes_step (stmt.Emit here)
+
+count_assign : (x : Name) (e : Expr) → stmt_count (Assign x e) ≡ 1
+count_assign x e = ap stmt_count (sym (rolls-Assign x e)) ∙ fold-roll-Stmt ℕ count_step (stmt.Assign x e)
+
+count_if : (c : Expr) (a b : List Stmt) → stmt_count (If c a b) ≡ 1 + sum (map stmt_count a) + sum (map stmt_count b)
+count_if c a b = ap stmt_count (sym (rolls-If c a b)) ∙ fold-roll-Stmt ℕ count_step (stmt.If c a b)
+
+count_emit : stmt_count (Emit here) ≡ 1
+count_emit = ap stmt_count (sym (rolls-Emit here)) ∙ fold-roll-Stmt ℕ count_step (stmt.Emit here)
+
+-- ---- the parts of the examples
+
+-- an operator between two expressions of one node
+three_nodes : (op : Op) (a b : Expr) → expr_nodes a ≡ 1 → expr_nodes b ≡ 1 → expr_nodes (Binary op here a b) ≡ 3
+three_nodes op a b p q = node_binary op a b ∙ ap (λ (n : ℕ). 1 + n + expr_nodes b) p ∙ ap (λ (n : ℕ). 1 + 1 + n) q
+
+state_nodes : expr_nodes on_state ≡ 3
+state_nodes = three_nodes Lt (Number 0 here) first (node_number 0) (node_named (called 1))
+
+argument_nodes : expr_nodes on_argument ≡ 3
+argument_nodes = three_nodes Lt (Number 0 here) second (node_number 0) (node_named (called 2))
+
+below_nodes : expr_nodes below_9 ≡ 3
+below_nodes = three_nodes Lt second (Number 9 here) (node_named (called 2)) (node_number 9)
+
+one_more_nodes : stmt_nodes one_more ≡ 3
+one_more_nodes = nodes_assign (called 1) (Binary Add here first (Number 1 here)) ∙ three_nodes Add first (Number 1 here) (node_named (called 1)) (node_number 1)
+
+one_more_count : stmt_count one_more ≡ 1
+one_more_count = count_assign (called 1) (Binary Add here first (Number 1 here))
+
+-- a choice by a condition of three nodes, of what its blocks have
+choice_nodes : (c : Expr) (a b : List Stmt) (n m : ℕ) → expr_nodes c ≡ 3 → sum (map stmt_nodes a) ≡ n → sum (map stmt_nodes b) ≡ m → stmt_nodes (If c a b) ≡ 3 + n + m
+choice_nodes c a b n m p q r =
+    nodes_if c a b ∙ ap (λ (z : ℕ). z + sum (map stmt_nodes a) + sum (map stmt_nodes b)) p ∙ ap (λ (z : ℕ). 3 + z + sum (map stmt_nodes b)) q ∙ ap (λ (z : ℕ). 3 + n + z) r
+
+choice_count : (c : Expr) (a b : List Stmt) (n m : ℕ) → sum (map stmt_count a) ≡ n → sum (map stmt_count b) ≡ m → stmt_count (If c a b) ≡ 1 + n + m
+choice_count c a b n m q r = count_if c a b ∙ ap (λ (z : ℕ). 1 + z + sum (map stmt_count b)) q ∙ ap (λ (z : ℕ). 1 + n + z) r
+
+-- a block of one statement, and of two
+alone : (s n : ℕ) → s ≡ n → sum (s ∷ []) ≡ sum (n ∷ [])
+alone s n p = ap (λ (z : ℕ). sum (z ∷ [])) p
+
+pair : (s t n m : ℕ) → s ≡ n → t ≡ m → sum (s ∷ t ∷ []) ≡ sum (n ∷ m ∷ [])
+pair s t n m p q = ap (λ (z : ℕ). sum (z ∷ t ∷ [])) p ∙ ap (λ (z : ℕ). sum (n ∷ z ∷ [])) q
+
+-- ---- the examples
+
+-- the nodes and statements of a fold
+pub record Counts (body : List Stmt) (n m : ℕ) : Type 0 where
+  pub nodes : fold_nodes (a_fold body) ≡ n
+  pub statements : fold_statements (a_fold body) ≡ m
+
+-- of one statement
+one : (s : Stmt) (n m : ℕ) → stmt_nodes s ≡ n → stmt_count s ≡ m → Counts (s ∷ []) (sum (n ∷ [])) (sum (m ∷ []))
+one s n m p q = record { nodes = alone (stmt_nodes s) n p; statements = alone (stmt_count s) m q }
+
+pub count_counts : Counts (one_more ∷ []) 3 1
+count_counts = one one_more 3 1 one_more_nodes one_more_count
+
+pub emit_counts : Counts (Emit here ∷ []) 0 1
+emit_counts = one (Emit here) 0 1 nodes_emit count_emit
+
+pub choice_counts : Counts (If on_state (one_more ∷ []) [] ∷ []) 6 2
+choice_counts = one (If on_state (one_more ∷ []) []) 6 2
+    (choice_nodes on_state (one_more ∷ []) [] 3 0 state_nodes (alone (stmt_nodes one_more) 3 one_more_nodes) refl)
+    (choice_count on_state (one_more ∷ []) [] 1 0 (alone (stmt_count one_more) 1 one_more_count) refl)
+
+pub argument_counts : Counts (If on_argument (one_more ∷ Emit here ∷ []) [] ∷ []) 6 3
+argument_counts = one (If on_argument (one_more ∷ Emit here ∷ []) []) 6 3
+    (choice_nodes on_argument (one_more ∷ Emit here ∷ []) [] 3 0 argument_nodes (pair (stmt_nodes one_more) (stmt_nodes (Emit here)) 3 0 one_more_nodes nodes_emit) refl)
+    (choice_count on_argument (one_more ∷ Emit here ∷ []) [] 2 0 (pair (stmt_count one_more) (stmt_count (Emit here)) 1 1 one_more_count count_emit) refl)
+
+pub else_counts : Counts (If on_argument (If below_9 [] (Emit here ∷ []) ∷ []) [] ∷ []) 6 3
+else_counts = one (If on_argument (If below_9 [] (Emit here ∷ []) ∷ []) []) 6 3
+    (choice_nodes on_argument (If below_9 [] (Emit here ∷ []) ∷ []) [] 3 0 argument_nodes
+    (alone (stmt_nodes (If below_9 [] (Emit here ∷ []))) 3 (choice_nodes below_9 [] (Emit here ∷ []) 0 0 below_nodes refl (alone (stmt_nodes (Emit here)) 0 nodes_emit))) refl)
+    (choice_count on_argument (If below_9 [] (Emit here ∷ []) ∷ []) [] 2 0
+    (alone (stmt_count (If below_9 [] (Emit here ∷ []))) 2 (choice_count below_9 [] (Emit here ∷ []) 0 1 refl (alone (stmt_count (Emit here)) 1 count_emit))) refl)

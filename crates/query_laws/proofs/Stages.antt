@@ -1,0 +1,106 @@
+-- No stream is refused exactly where no operation is deeper than 64.
+use Rattle.std.proofs.Common.{◌≡◌, ℕ, ◌≤◌, Bool, true, false, ◌||◌, cond, List, [], ◌∷◌, ◌++◌, Option, Some, None, refl, sym, ap, subst, ◌∙◌, append_assoc, append-nil, arith}
+use Rattle.std.specs.Prelude.{All, drop, fold, flat_map, nat_lt}
+use Rattle.std.proofs.lemmas.List.Elements.{All-nil, All-cons, All-head, All-tail, All-append}
+use Rattle.query_lang.specs.declared.fault.FaultKind.TheVariants.{OverLimit}
+use Rattle.query_lang.specs.declared.fault.Limit.TheVariants.{Stages}
+use Rattle.query_lang.specs.declared.fault.QueryFault.{QueryFault}
+use Rattle.query_lang.specs.declared.fold.TypedFold.{TypedFold}
+use Rattle.query_lang.specs.declared.typed.TypedQuery.{TypedQuery}
+use Rattle.query_lang.specs.declared.typed.TypedStream.{TypedStream}
+use Rattle.stage_plan.specs.Depths.{StreamDepths, packet_depths, depths_made, all_depths, is_too_deep, first_too_deep, stage_fault}
+use Rattle.query_laws.specs.ByRules.{FitsStages}
+
+abbrev Fits : ℕ → Type 0
+Fits depth = depth ≤ 64
+
+abbrev operations : List StreamDepths → List ℕ
+operations streams = flat_map (λ (one : StreamDepths). one.operations) streams
+
+-- the depths of the streams after these
+abbrev behind : List TypedFold → List StreamDepths → List TypedStream → List StreamDepths
+behind folds depths [] = []
+behind folds depths (one ∷ list) = depths_made folds depths one.op ∷ behind folds (depths ++ depths_made folds depths one.op ∷ []) list
+
+-- ---- lists
+
+all_front : (xs ys : List ℕ) → All Fits (xs ++ ys) → All Fits xs
+all_front [] ys h = All-nil Fits
+all_front (x ∷ xs) ys h = All-cons Fits x xs (All-head Fits x (xs ++ ys) h) (all_front xs ys (All-tail Fits x (xs ++ ys) h))
+
+all_back : (xs ys : List ℕ) → All Fits (xs ++ ys) → All Fits ys
+all_back [] ys h = h
+all_back (x ∷ xs) ys h = all_back xs ys (All-tail Fits x (xs ++ ys) h)
+
+not_deep : (depth : ℕ) → nat_lt 64 depth ≡ false → depth ≤ 64
+not_deep depth e = grind arith
+
+is_fit : (depth : ℕ) → depth ≤ 64 → nat_lt 64 depth ≡ false
+is_fit depth h = grind arith
+
+shallow_fits : (depths : List ℕ) → is_too_deep depths ≡ false → All Fits depths
+shallow_fits [] e = All-nil Fits
+shallow_fits (depth ∷ depths) e = go (nat_lt 64 depth) refl (λ k. shallow_fits depths k) e
+  where
+    go : (b : Bool) → nat_lt 64 depth ≡ b → (is_too_deep depths ≡ false → All Fits depths) → (b || is_too_deep depths) ≡ false → All Fits (depth ∷ depths)
+    go true is more e = cc e
+    go false is more e = All-cons Fits depth depths (not_deep depth is) (more e)
+
+fits_shallow : (depths : List ℕ) → All Fits depths → is_too_deep depths ≡ false
+fits_shallow [] h = refl
+fits_shallow (depth ∷ depths) h =
+    ap (λ (b : Bool). b || is_too_deep depths) (is_fit depth (All-head Fits depth depths h)) ∙ fits_shallow depths (All-tail Fits depth depths h)
+
+-- ---- streams
+
+all_behind : (folds : List TypedFold) (depths : List StreamDepths) (list : List TypedStream)
+    → fold (λ streams one. streams ++ depths_made folds streams one.op ∷ []) depths list ≡ depths ++ behind folds depths list
+all_behind folds depths [] = sym (append-nil depths)
+all_behind folds depths (one ∷ list) =
+    all_behind folds (depths ++ depths_made folds depths one.op ∷ []) list
+    ∙ append_assoc depths (depths_made folds depths one.op ∷ []) (behind folds (depths ++ depths_made folds depths one.op ∷ []) list)
+
+depths_are : (q : TypedQuery) → all_depths q ≡ packet_depths ∷ behind q.folds (packet_depths ∷ []) q.streams
+depths_are q = all_behind q.folds (packet_depths ∷ []) q.streams
+
+some_deep : {P : Type 0} (fault : QueryFault) → (let o : Option QueryFault = Some fault in o) ≡ None → P
+some_deep fault e = cc e
+
+none_deep : (folds : List TypedFold) (depths : List StreamDepths) (list : List TypedStream) → first_too_deep list (behind folds depths list) ≡ None
+    → All Fits (operations (behind folds depths list))
+none_deep folds depths [] e = All-nil Fits
+none_deep folds depths (one ∷ list) e = go (is_too_deep made.operations) refl (λ k. none_deep folds (depths ++ made ∷ []) list k) e
+  where
+    made : StreamDepths
+    made = depths_made folds depths one.op
+
+    rest : List StreamDepths
+    rest = behind folds (depths ++ made ∷ []) list
+
+    go : (b : Bool) → is_too_deep made.operations ≡ b → (first_too_deep list rest ≡ None → All Fits (operations rest))
+        → cond b (Some (record { kind = OverLimit Stages; span = one.name.span })) (first_too_deep list rest) ≡ None
+        → All Fits (made.operations ++ operations rest)
+    go true is more e = some_deep _ e
+    go false is more e = All-append Fits made.operations (operations rest) (shallow_fits made.operations is) (more e)
+
+all_fit : (folds : List TypedFold) (depths : List StreamDepths) (list : List TypedStream) → All Fits (operations (behind folds depths list))
+    → first_too_deep list (behind folds depths list) ≡ None
+all_fit folds depths [] h = refl
+all_fit folds depths (one ∷ list) h =
+    let made : StreamDepths = depths_made folds depths one.op in
+    let rest : List StreamDepths = behind folds (depths ++ made ∷ []) list in
+    ap (λ (b : Bool). cond b (Some (record { kind = OverLimit Stages; span = one.name.span })) (first_too_deep list rest))
+    (fits_shallow made.operations (all_front made.operations (operations rest) h))
+    ∙ all_fit folds (depths ++ made ∷ []) list (all_back made.operations (operations rest) h)
+
+pub fits_stages : (q : TypedQuery) → stage_fault q ≡ None → FitsStages q
+fits_stages q e =
+    let F : List StreamDepths → Type 0 = λ z. All Fits (operations z) in
+    subst F (sym (depths_are q)) (none_deep q.folds (packet_depths ∷ []) q.streams
+    (sym (ap (λ (z : List StreamDepths). first_too_deep q.streams (drop 1 z)) (depths_are q)) ∙ e))
+
+pub no_stage_fault : (q : TypedQuery) → FitsStages q → stage_fault q ≡ None
+no_stage_fault q h =
+    let F : List StreamDepths → Type 0 = λ z. All Fits (operations z) in
+    ap (λ (z : List StreamDepths). first_too_deep q.streams (drop 1 z)) (depths_are q)
+    ∙ all_fit q.folds (packet_depths ∷ []) q.streams (subst F (depths_are q) h)

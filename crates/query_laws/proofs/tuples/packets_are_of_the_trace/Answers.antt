@@ -1,0 +1,6 @@
+use Rattle.std.specs.Prelude.{length}
+use Rattle.query_laws.proofs.Ascents.{within, stream_rises}
+use Rattle.query_laws.proofs.tuples.packets_are_of_the_trace.Goals as goal
+
+pub returns : goal.returns
+returns c = λ q number packets. within 1 (length packets) _ (stream_rises q number packets)

@@ -1,0 +1,6 @@
+use Rattle.std.specs.Prelude.{◌+◌, length}
+use Rattle.query_laws.proofs.Ascents.{increasing, stream_rises}
+use Rattle.query_laws.proofs.tuples.packets_ascend.Goals as goal
+
+pub returns : goal.returns
+returns c = λ q number packets. increasing 1 (1 + length packets) _ (stream_rises q number packets)

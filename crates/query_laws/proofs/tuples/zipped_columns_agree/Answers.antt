@@ -1,0 +1,8 @@
+use Rattle.query_rules.proofs.QueryLaws.{query_complete}
+use Rattle.query_laws.proofs.Rows.{has_rows}
+use Rattle.query_laws.proofs.Zips.{columns_agree}
+use Rattle.query_laws.proofs.tuples.zipped_columns_agree.Goals as goal
+
+pub returns : goal.returns
+returns c = λ query q packets typed whole.
+    columns_agree q packets (has_rows query q packets (query_complete query q typed) whole)

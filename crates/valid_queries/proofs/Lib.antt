@@ -1,5 +1,0 @@
-pub mod Tokens
-pub mod Holds
-pub mod Numbers
-pub mod Items
-pub mod Accepted
