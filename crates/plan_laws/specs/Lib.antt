@@ -1,0 +1,5 @@
+pub mod Readings
+pub mod MadeOf
+pub mod WellNamed
+pub mod RunLaws
+pub mod AcceptedPlans
