@@ -109,12 +109,16 @@ few_depths q v =
 pub made_of_query : (q : TypedQuery) → stage_fault q ≡ None → QueryMade q (query_made q).ops (query_made q).streams
 made_of_query q none = faults.query_made q (query_made q).ops (query_made q).streams refl refl (query_fault q ∙ none)
 
+pub few_made : (q : TypedQuery) → IsValidQuery q → stage_fault q ≡ None → length (query_made q).ops ≤ 20512
+few_made q v none =
+    let stages : length (map (λ (one : PlanOp). one.stage) (query_made q).ops) ≡ length (query_depths q) = ap length (made_of_query q none).stages_are in
+    let same = length-map (query_made q).ops (λ (one : PlanOp). one.stage) in
+    let few = few_depths q v in
+    omega (arith, stages, same, few)
+
 pub few_ops : (q : TypedQuery) → IsValidQuery q → stage_fault q ≡ None → length (query_ops q) ≤ 20512
 few_ops q v none =
-    let m = made_of_query q none in
-    let stages : length (map (λ (one : PlanOp). one.stage) (query_made q).ops) ≡ length (query_depths q) = ap length m.stages_are in
-    let same = length-map (query_made q).ops (λ (one : PlanOp). one.stage) in
     let long = order_long (query_made q).ops (stages_of (query_made q).ops) (made_staged q) in
     let ops = length-map (query_order q) (λ number. moved_op (query_registers q) (op_numbered (query_made q).ops number)) in
-    let few = few_depths q v in
-    omega (arith, stages, same, long, ops, few)
+    let few = few_made q v none in
+    omega (arith, long, ops, few)

@@ -39,7 +39,7 @@ fault_none : (o : Option QueryFault) (p q : TypedQuery) → unless_fault o p ≡
 fault_none None p q e = (refl, same_ok p q e)
 fault_none (Some fault) p q e = absurd cc
 
-staged_none : (text : List ℕ) (q : TypedQuery) → accepted text ≡ Ok q → stage_fault q ≡ None
+pub staged_none : (text : List ℕ) (q : TypedQuery) → accepted text ≡ Ok q → stage_fault q ≡ None
 unfolding accepted
 staged_none text q e =
     let first = found_first (parsed_text text) (λ (z : Query). and_then (checked z) staged) q e in

@@ -34,3 +34,5 @@ pub mod NameSizes
 pub mod GroupSizes
 pub mod TextSize
 pub mod Hold
+pub mod PlanOf
+pub mod Accepted
