@@ -1,1 +1,2 @@
 pub mod TextSources
+pub mod Compiled

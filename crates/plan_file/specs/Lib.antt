@@ -1,3 +1,4 @@
+pub mod Finding
 pub mod Lexis
 pub mod Lexemes
 pub mod Bodies

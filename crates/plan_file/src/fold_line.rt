@@ -1,13 +1,13 @@
 //! A line `fold` as it is read.
 
-ghost use Rattle.std.specs.Prelude.{◌≡◌, ◌≤◌, ℕ, true, false, length, MatchOption, IfOk, IfSome};
+ghost use Rattle.std.specs.Prelude.{◌≡◌, ◌≤◌, ℕ, true, false, length, MatchOption, IfOk};
 ghost use Rattle.query_lang.specs.declared.fold.TypedFold.{TypedFold};
 ghost use Rattle.query_lang.specs.declared.typed.Class.{Class};
 ghost use Rattle.query_lang.specs.Folds.{IsValidFold, fold_block};
 ghost use Rattle.fold_class.specs.Kinds.{class_of};
 ghost use Rattle.fold_class.specs.Depth.{IsDepth};
 ghost use Rattle.stage_plan.specs.Shape.{class_word};
-ghost use Rattle.plan_file.specs.declared.made.Folded.{Folded};
+ghost use Rattle.plan_file.specs.Finding.{Finds};
 ghost use Rattle.plan_file.specs.FoldLines.{IsFoldOf, IsFoldWords, AreBounds, IsFoldLine};
 ghost use Rattle.plan_file.specs.Lines.{IsGroupWithin};
 
@@ -31,7 +31,7 @@ struct FoldWords {
 }
 
 fn class_named(token: &[u8]) -> Option<Class>
-    ensures { MatchOption result ((class : Class) → token.now ≡ class_word class → ⊥) (λ class. token.now ≡ class_word class) }
+    ensures { Finds result (λ class. token.now ≡ class_word class) }
 {
     if is_text(token, b"linear") {
         Some(Class::Linear)
@@ -150,8 +150,7 @@ pub(crate) fn fold_line(
     line: &[u8],
 ) -> Result<Option<Folded>, AllocError>
     requires { IsGroupWithin before }
-    ensures { IfOk result (λ made. MatchOption made ((after : Folded) → IsFoldLine before line.now after
-        → ⊥) (λ after. IsFoldLine before line.now after)) }
+    ensures { IfOk result (λ made. Finds made (IsFoldLine before line.now)) }
 {
     let words = match fold_words(line) {
         Some(words) => words,

@@ -1,9 +1,7 @@
 //! The lines of a group, from `group` to `body`, as they are read.
 
-ghost use Rattle.std.specs.Prelude.{◌≡◌, ◌≤◌, ◌+◌, ◌<◌, ◌^◌, length, true, false, Contains, MatchOption, IfOk};
-ghost use Rattle.std.specs.Prelude.{List, ℕ};
-ghost use Rattle.plan_file.specs.declared.made.Group.{Group};
-ghost use Rattle.plan_file.specs.declared.lexemes.Lexeme.{Lexeme};
+ghost use Rattle.std.specs.Prelude.{◌≡◌, ◌≤◌, ◌+◌, ◌<◌, ◌^◌, length, true, false, Contains, IfOk};
+ghost use Rattle.plan_file.specs.Finding.{Finds};
 ghost use Rattle.plan_file.specs.Bodies.{IsBodyLine};
 ghost use Rattle.plan_file.specs.Groups as Groups;
 ghost use Rattle.plan_file.specs.Groups.{names_of, IsGroupLine, IsNewIn, IsKeyLine, IsArgLine, IsStateLine, IsGroupBody, IsInGroup};
@@ -77,9 +75,7 @@ pub(crate) fn group_line(
     line: &[u8],
 ) -> Result<Option<Group>, AllocError>
     requires few { length ops.now ≤ 32768 }
-    ensures { IfOk result (λ made. MatchOption made ((after : Group)
-        → IsGroupLine fields.now ops.now groups.now line.now after
-        → ⊥) (λ after. IsGroupLine fields.now ops.now groups.now line.now after)) }
+    ensures { IfOk result (λ made. Finds made (IsGroupLine fields.now ops.now groups.now line.now)) }
 {
     if groups.len() >= 8 {
         return Ok(None);
@@ -106,8 +102,7 @@ fn key_line(
     line: &[u8],
 ) -> Result<Option<Group>, AllocError>
     requires few { length ops.now ≤ 32768 }
-    ensures { IfOk result (λ made. MatchOption made ((after : Group) → IsKeyLine fields.now ops.now before line.now after
-        → ⊥) (λ after. IsKeyLine fields.now ops.now before line.now after)) }
+    ensures { IfOk result (λ made. Finds made (IsKeyLine fields.now ops.now before line.now)) }
 {
     if !before.args.is_empty()
         || !before.state_names.is_empty()
@@ -137,8 +132,7 @@ fn arg_line(
     line: &[u8],
 ) -> Result<Option<Group>, AllocError>
     requires few { length ops.now ≤ 32768 }
-    ensures { IfOk result (λ made. MatchOption made ((after : Group) → IsArgLine fields.now ops.now before line.now after
-        → ⊥) (λ after. IsArgLine fields.now ops.now before line.now after)) }
+    ensures { IfOk result (λ made. Finds made (IsArgLine fields.now ops.now before line.now)) }
 {
     if before.keys.is_empty()
         || !before.state_names.is_empty()
@@ -158,8 +152,7 @@ fn arg_line(
 
 // The group after a line `state`.
 fn state_line(alloc: Global, before: Group, line: &[u8]) -> Result<Option<Group>, AllocError>
-    ensures { IfOk result (λ made. MatchOption made ((after : Group) → IsStateLine before line.now after
-        → ⊥) (λ after. IsStateLine before line.now after)) }
+    ensures { IfOk result (λ made. Finds made (IsStateLine before line.now)) }
 {
     if before.keys.is_empty() || before.body.is_some() || before.initial.len() >= 8 {
         return Ok(None);
@@ -185,8 +178,7 @@ fn body_words(
     line: &[u8],
 ) -> Result<Option<Seq<Lexeme>>, AllocError>
     requires { states + args < 2 ^ 32 }
-    ensures { IfOk result (λ found. MatchOption found ((words : List Lexeme) → IsBodyLine states args line.now words
-        → ⊥) (λ words. IsBodyLine states args line.now words)) }
+    ensures { IfOk result (λ found. Finds found (IsBodyLine states args line.now)) }
 {
     let (word, rest, more) = first_token(line);
     if !is_text(word, b"body") {
@@ -204,8 +196,7 @@ fn body_words(
 fn body_line(alloc: Global, before: Group, line: &[u8]) -> Result<Option<Group>, AllocError>
     requires states { length before.initial ≤ 8 }
     requires args { length before.args ≤ 16 }
-    ensures { IfOk result (λ made. MatchOption made ((after : Group) → IsGroupBody before line.now after
-        → ⊥) (λ after. IsGroupBody before line.now after)) }
+    ensures { IfOk result (λ made. Finds made (IsGroupBody before line.now)) }
 {
     if before.keys.is_empty() || before.body.is_some() {
         return Ok(None);
@@ -234,9 +225,7 @@ pub(crate) fn in_group(
     requires few { length ops.now ≤ 32768 }
     requires states { length before.initial ≤ 8 }
     requires args { length before.args ≤ 16 }
-    ensures { IfOk result (λ made. MatchOption made ((after : Group)
-        → IsInGroup word fields.now ops.now before line.now after
-        → ⊥) (λ after. IsInGroup word fields.now ops.now before line.now after)) }
+    ensures { IfOk result (λ made. Finds made (IsInGroup word fields.now ops.now before line.now)) }
 {
     match word {
         LineWord::Key => key_line(alloc, fields, ops, before, line),

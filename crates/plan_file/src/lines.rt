@@ -1,7 +1,7 @@
 //! One more line, as it is read after the lines before it.
 
-ghost use Rattle.std.specs.Prelude.{◌≡◌, ◌≤◌, length, true, false, Contains, MatchOption, IfOk};
-ghost use Rattle.plan_file.specs.declared.made.Made.{Made};
+ghost use Rattle.std.specs.Prelude.{◌≡◌, ◌≤◌, length, true, false, Contains, IfOk};
+ghost use Rattle.plan_file.specs.Finding.{Finds};
 ghost use Rattle.plan_file.specs.Lines as Lines;
 ghost use Rattle.plan_file.specs.Lines.{IsFirst, IsReads, IsOp, IsGroup, IsPart, IsFold, IsPrint, IsLine, IsWithin};
 
@@ -30,7 +30,7 @@ pub(crate) fn nothing(alloc: Global) -> Made
 }
 
 fn first(before: Made, line: &[u8]) -> Option<Made>
-    ensures { MatchOption result ((after : Made) → IsFirst before line.now after → ⊥) (λ after. IsFirst before line.now after) }
+    ensures { Finds result (IsFirst before line.now) }
 {
     if before.begun || !is_first_line(line) {
         return None;
@@ -41,8 +41,7 @@ fn first(before: Made, line: &[u8]) -> Option<Made>
 }
 
 fn reads(alloc: Global, before: Made, line: &[u8]) -> Result<Option<Made>, AllocError>
-    ensures { IfOk result (λ made. MatchOption made ((after : Made) → IsReads before line.now after
-        → ⊥) (λ after. IsReads before line.now after)) }
+    ensures { IfOk result (λ made. Finds made (IsReads before line.now)) }
 {
     if !before.begun || before.reads.is_some() {
         return Ok(None);
@@ -59,8 +58,7 @@ fn reads(alloc: Global, before: Made, line: &[u8]) -> Result<Option<Made>, Alloc
 
 fn op(before: Made, line: &[u8]) -> Result<Option<Made>, AllocError>
     requires few { length before.ops ≤ 32768 }
-    ensures { IfOk result (λ made. MatchOption made ((after : Made) → IsOp before line.now after
-        → ⊥) (λ after. IsOp before line.now after)) }
+    ensures { IfOk result (λ made. Finds made (IsOp before line.now)) }
 {
     if !before.groups.is_empty() || before.current.is_some() {
         return Ok(None);
@@ -81,8 +79,7 @@ fn op(before: Made, line: &[u8]) -> Result<Option<Made>, AllocError>
 
 fn group(alloc: Global, before: Made, line: &[u8]) -> Result<Option<Made>, AllocError>
     requires few { length before.ops ≤ 32768 }
-    ensures { IfOk result (λ made. MatchOption made ((after : Made) → IsGroup before line.now after
-        → ⊥) (λ after. IsGroup before line.now after)) }
+    ensures { IfOk result (λ made. Finds made (IsGroup before line.now)) }
 {
     if before.current.is_some() || !before.prints.is_empty() {
         return Ok(None);
@@ -114,8 +111,7 @@ fn part(
     line: &[u8],
 ) -> Result<Option<Made>, AllocError>
     requires { IsWithin before }
-    ensures { IfOk result (λ made. MatchOption made ((after : Made) → IsPart word before line.now after
-        → ⊥) (λ after. IsPart word before line.now after)) }
+    ensures { IfOk result (λ made. Finds made (IsPart word before line.now)) }
 {
     let Made {
         begun,
@@ -144,8 +140,7 @@ fn part(
 
 fn fold(alloc: Global, before: Made, line: &[u8]) -> Result<Option<Made>, AllocError>
     requires { IsWithin before }
-    ensures { IfOk result (λ made. MatchOption made ((after : Made) → IsFold before line.now after
-        → ⊥) (λ after. IsFold before line.now after)) }
+    ensures { IfOk result (λ made. Finds made (IsFold before line.now)) }
 {
     let Made {
         begun,
@@ -190,8 +185,7 @@ fn has_print(prints: &[u16], n: u64) -> bool
 
 fn print(before: Made, line: &[u8]) -> Result<Option<Made>, AllocError>
     requires { length before.groups ≤ 8 }
-    ensures { IfOk result (λ made. MatchOption made ((after : Made) → IsPrint before line.now after
-        → ⊥) (λ after. IsPrint before line.now after)) }
+    ensures { IfOk result (λ made. Finds made (IsPrint before line.now)) }
 {
     if before.current.is_some() {
         return Ok(None);
@@ -211,8 +205,7 @@ fn print(before: Made, line: &[u8]) -> Result<Option<Made>, AllocError>
 /// What one more line makes of what the lines before it made, where it is valid after them.
 pub(crate) fn one_more(alloc: Global, before: Made, line: &[u8]) -> Result<Option<Made>, AllocError>
     requires { IsWithin before }
-    ensures { IfOk result (λ made. MatchOption made ((after : Made) → IsLine before line.now after
-        → ⊥) (λ after. IsLine before line.now after)) }
+    ensures { IfOk result (λ made. Finds made (IsLine before line.now)) }
 {
     let word = line_word(line);
     match word {

@@ -3,6 +3,7 @@
 ghost use Rattle.std.specs.Prelude.{◌≡◌, ◌≤◌, ◌∷◌, [], List, ℕ, true, false, codes, length, is_some, MatchOption};
 ghost use Rattle.std.specs.List.{list_all};
 ghost use Rattle.query_lang.specs.Lexis.{is_word_byte, reserved};
+ghost use Rattle.plan_file.specs.Finding.{Finds};
 ghost use Rattle.plan_file.specs.Lexis as Lexis;
 ghost use Rattle.plan_file.specs.Lexis.{tokens};
 ghost use Rattle.plan_file.specs.Named.{IsNamedNumber, IsNamedOperand, IsOneNumber, IsOneOperand};
@@ -128,7 +129,7 @@ fn one_token(line: &[u8]) -> Option<&[u8]>
 
 /// The number of a line that has this word and a number.
 pub(crate) fn one_number(word: &[u8], line: &[u8]) -> Option<u64>
-    ensures { MatchOption result ((n : ℕ) → IsOneNumber word.now line.now n → ⊥) (λ n. IsOneNumber word.now line.now n) }
+    ensures { Finds result (IsOneNumber word.now line.now) }
 {
     let rest = after_word(word, line)?;
     let token = one_token(rest)?;
@@ -143,8 +144,7 @@ pub(crate) fn one_operand(
     line: &[u8],
 ) -> Option<Operand>
     requires few { length ops.now ≤ 32768 }
-    ensures { MatchOption result ((v : Operand) → IsOneOperand fields.now ops.now word.now line.now v
-        → ⊥) (λ v. IsOneOperand fields.now ops.now word.now line.now v) }
+    ensures { Finds result (IsOneOperand fields.now ops.now word.now line.now) }
 {
     let rest = after_word(word, line)?;
     let token = one_token(rest)?;

@@ -1,7 +1,8 @@
 //! Operands and the lines `op` as they are read.
 
-ghost use Rattle.std.specs.Prelude.{◌≡◌, ◌<◌, ◌≤◌, true, false, length, map, Contains, MatchOption, Some};
+ghost use Rattle.std.specs.Prelude.{◌≡◌, ◌≤◌, true, false, length, map, Contains, MatchOption, Some};
 ghost use Rattle.marple_base.specs.Field.{number_of};
+ghost use Rattle.plan_file.specs.Finding.{Finds};
 ghost use Rattle.plan_file.specs.Lexis as Lexis;
 ghost use Rattle.plan_file.specs.Operations as Operations;
 ghost use Rattle.plan_file.specs.Operations.{IsAllowed, IsKnown, IsKnownRegister, IsOpLine, IsStaged, is_right_of, not_of, takes_right};
@@ -178,8 +179,7 @@ fn two_op(
 /// The operation of a line `op`, where the line is valid after these fields and operations.
 pub(crate) fn op_line(fields: &[Field], ops: &[PlanOp], line: &[u8]) -> Option<PlanOp>
     requires few { length ops.now ≤ 32768 }
-    ensures { MatchOption result ((op : PlanOp) → IsOpLine fields.now ops.now line.now op
-        → ⊥) (λ op. IsOpLine fields.now ops.now line.now op) }
+    ensures { Finds result (IsOpLine fields.now ops.now line.now) }
 {
     let (word, rest) = cut_at_space(line)?;
     let (stage, rest) = cut_at_space(rest)?;

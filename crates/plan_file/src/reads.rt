@@ -1,9 +1,8 @@
 //! The line `reads` as it is read.
 
-ghost use Rattle.std.specs.Prelude.{◌≡◌, ◌<◌, ◌∷◌, List, IfOk, MatchOption};
+ghost use Rattle.std.specs.Prelude.{◌≡◌, ◌<◌, IfOk};
 ghost use Rattle.marple_base.specs.Field.{number_of};
-ghost use Rattle.marple_base.specs.declared.field.Field.{Field};
-ghost use Rattle.plan_file.specs.Lexis.{tokens};
+ghost use Rattle.plan_file.specs.Finding.{Finds};
 ghost use Rattle.plan_file.specs.Operations.{IsReadsLine};
 
 use crate::lexis::{first_token, is_text};
@@ -35,8 +34,7 @@ fn field_at(n: usize) -> Field
 
 /// The fields of a line `reads`, where the line is valid.
 pub(crate) fn reads_line(alloc: Global, line: &[u8]) -> Result<Option<Seq<Field>>, AllocError>
-    ensures { IfOk result (λ read. MatchOption read ((fields : List Field) → IsReadsLine line.now fields
-        → ⊥) (λ fields. IsReadsLine line.now fields)) }
+    ensures { IfOk result (λ read. Finds read (IsReadsLine line.now)) }
 {
     let (word, mut rest, mut left) = first_token(line);
     if !is_text(word, b"reads") {

@@ -130,3 +130,24 @@ registers_are ops s registers staged placed long =
         found_at [] i h = absurd (omega arith)
         found_at (x ∷ xs) zero h = (x, refl)
         found_at (x ∷ xs) (suc i) h = found_at xs i (omega (arith, h))
+
+-- the registers by places in the order are those that a plan's operations have
+pub registers_placed : (ops : List PlanOp) (s : ℕ) → ArePlaced (order_of ops s) (registers_in (order_of ops s) (length ops)) (length (order_of ops s))
+registers_placed ops s k lt = subst (IsPlaced (order_of ops s) number) (sym register) (record {
+  behind = omega arith;
+  within = omega (arith, lt);
+  place = (let back : 14 + k - 14 ≡ k = omega arith in ap (λ place. get_or (order_of ops s) place 0) back);
+})
+  where
+    number : ℕ
+    number = get_or (order_of ops s) k 0
+
+    found : slice_get (order_of ops s) k ≡ Some number
+    found = slice_get-get_or (order_of ops s) k 0 lt
+
+    register : get_or (registers_in (order_of ops s) (length ops)) number 0 ≡ 14 + k
+    register =
+        let here = ordered ops s k number found in
+        let in_ops : number < length ops = slice_get_within ops number here.one here.found in
+        get_or-map-range_with_len (register_in (order_of ops s)) 0 (length ops) number number 0 in_ops (omega arith)
+        ∙ ap (λ place. 14 + place) (place_is ops s k number found)

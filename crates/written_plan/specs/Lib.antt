@@ -1,3 +1,0 @@
-pub mod MadeOf
-pub mod WellNamed
-pub mod RunLaws
