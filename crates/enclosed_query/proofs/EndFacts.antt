@@ -34,9 +34,10 @@ use Rattle.switch_core.specs.PlanLanes.{LaneView, AreLanesOf, folding_at}
 use Rattle.switch_core.specs.Rows.{EachFrom}
 use Rattle.trace_drive.specs.Drives.{uses_by, ends_from, end_machines}
 use Rattle.enclosure_folds.specs.KeyBounds.{enclosed_table}
-use Rattle.enclosure_folds.specs.Shown.{IsHeadingOf, MayBeShown, shown, TablesGiveBounds}
+use Rattle.enclosure_folds.specs.Shown.{MayBeShown, shown, TablesGiveBounds}
 use Rattle.enclosure_folds.proofs.CheckFacts.{stands}
 use Rattle.enclosed_query.specs.EnclosedTables.{AreWhole, enclosed_if, enclosed_from, enclosed_tables, EndsGiveEnclosedTables}
+use Rattle.enclosed_query.proofs.Groups.{heading_is}
 
 got_at : {A : Type 0} (xs : List A) (i : ℕ) → i < length xs → (x : A) × (slice_get xs i ≡ Some x)
 got_at [] i h = absurd (omega arith)
@@ -97,12 +98,7 @@ module _ (law : TablesGiveBounds) (closed : ClosedGiveTheGroupTable) (order : Ta
       let wired = got_at plan.wiring i (omega (arith, within, sound.wired)) in
       let known = sound.each i group wired.0 at wired.1 in
       let given = uses_by plan i packets in
-      let heading : IsHeadingOf f (heading_of group) = record {
-        class = program.class;
-        states = known.states ∙ (ap (λ l. length l) program.layout.initial ∙ program.valid.starts);
-        some_keys = known.some_keys;
-        most_keys = known.most_keys;
-      } in
+      let heading = heading_is (14 + length plan.ops) group wired.0 f known program in
       let words : length (wiring_at plan i).keys ≡ length group.key_names = ap (λ (o : Option GroupWiring). length (unwrap_or {T = GroupWiring} o (record { present = Number 0; keys = []; args = [] })).keys) wired.1 ∙ known.keys in
       let same = closed (heading_of group) (folding_at lane) g given (length packets) room (in_trace i) in
       record {

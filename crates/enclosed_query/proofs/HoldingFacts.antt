@@ -9,7 +9,7 @@ use Rattle.query_lang.specs.declared.fold.TypedFold.{TypedFold}
 use Rattle.query_lang.specs.declared.typed.Class.{Class}
 use Rattle.query_lang.specs.declared.typed.Class.TheVariants.{Linear, Other}
 use Rattle.query_lang.specs.declared.typed.TypedQuery.{TypedQuery}
-use Rattle.query_lang.specs.Folds.{IsValidFold, initial_state}
+use Rattle.query_lang.specs.Folds.{IsValidFold, folded, initial_state}
 use Rattle.query_lang.specs.Streams.{Taking, takings}
 use Rattle.query_lang.specs.Words.{AreWords}
 use Rattle.query_types.specs.Uses.{uses}
@@ -31,7 +31,7 @@ use Rattle.enclosure_folds.specs.Check.{is_bounded, NoFaultMeansBounds}
 use Rattle.enclosure_folds.specs.KeyBounds.{KeyBoundsEnclose, enclosed_by, enclosed_table, key_bounds, rows_of}
 use Rattle.enclosure_folds.proofs.RowFacts.{all_of, has_use}
 use Rattle.enclosed_query.specs.EnclosedTables.{enclosed_from, enclosed_if, enclosed_tables}
-use Rattle.enclosed_query.specs.Holding.{HoldsOver, ShownTablesHold, key_fold}
+use Rattle.enclosed_query.specs.Holding.{HoldsOver, ShownTablesHold}
 use Rattle.enclosed_query.proofs.EndFacts.{fold_there}
 use Rattle.enclosed_query.proofs.ReadTables.{keys_bounded}
 use Rattle.enclosed_query.proofs.StreamWords.{uses_words}
@@ -47,6 +47,10 @@ some_rows given =
     ))
 
 -- the table of a linear fold
+
+-- the fold over all packets of a key, from the initial state
+abbrev key_fold : TypedFold → List Use → Key → List ℕ
+key_fold f given key = folded f (initial_state f) (rows_of given key)
 
 module _ (f : TypedFold) (g : Geometry) (given : List Use) where
   abbrev whole_row : Key → Row

@@ -3,3 +3,5 @@ mod ReadTables
 mod TextParts
 mod StreamWords
 mod HoldingFacts
+mod Groups
+mod AfterFacts

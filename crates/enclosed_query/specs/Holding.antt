@@ -1,40 +1,23 @@
 -- What is shown of groupbys holds over all packets, whatever the caches evicted meanwhile.
-use Rattle.std.specs.Prelude.{◌≡◌, ℕ, List, All, map, slice_get, Some, None}
+use Rattle.std.specs.Prelude.{◌≡◌, ℕ, List, All, slice_get, Some, None}
 use Rattle.query_lang.specs.declared.fold.TypedFold.{TypedFold}
 use Rattle.query_lang.specs.declared.typed.TypedQuery.{TypedQuery}
-use Rattle.query_lang.specs.Folds.{folded, initial_state}
+use Rattle.query_lang.specs.Folds.{initial_state}
 use Rattle.query_lang.specs.TypedQueries.{IsValidQuery}
 use Rattle.query_lang.specs.Words.{AreWords}
 use Rattle.query_types.specs.Uses.{uses}
 use Rattle.epoch_model.specs.Epochs.{Use, Geometry}
-use Rattle.epoch_model.specs.Keys.{Key}
 use Rattle.epoch_model.specs.Tables.{keys_used}
 use Rattle.stage_plan.specs.Planned.{fold_at}
 use Rattle.enclosure_folds.specs.declared.table.Enclosed.{Enclosed}
-use Rattle.enclosure_folds.specs.declared.table.Enclosed.TheVariants as enclosed
-use Rattle.enclosure_folds.specs.Bounds.{Encloses}
 use Rattle.enclosure_folds.specs.Check.{enclose_fault}
+use Rattle.enclosure_folds.specs.Holding.{HoldsFor}
 use Rattle.enclosure_folds.specs.KeyBounds.{rows_of}
 use Rattle.enclosed_query.specs.EnclosedTables.{enclosed_tables}
 
--- the fold over all packets of a key, from the initial state
-abbrev pub key_fold : TypedFold → List Use → Key → List ℕ
-key_fold f given key = folded f (initial_state f) (rows_of given key)
-
-abbrev pub keys_shown : Enclosed → List Key
-keys_shown (enclosed.Linear t) = map (λ row. row.key) t.rows
-keys_shown (enclosed.Bounds t) = map (λ row. row.key) t.rows
-
--- The values of a linear fold are the fold over all packets of the key. Bounds contain it word by word, low ≤ fold ≤
--- high, and where a row is marked exact both are the fold.
-abbrev pub RowsHold : TypedFold → List Use → Enclosed → Type 0
-RowsHold f given (enclosed.Linear t) = All (λ row. row.values ≡ key_fold f given row.key) t.rows
-RowsHold f given (enclosed.Bounds t) = All (λ row. Encloses row.low row.high (key_fold f given row.key)) t.rows
-
--- there is a row for each key that has a packet, in ascending order, and the rows hold
-pub record HoldsOver (f : TypedFold) (given : List Use) (t : Enclosed) : Type 0 where
-  pub keys : keys_shown t ≡ keys_used given
-  pub rows : RowsHold f given t
+-- there is a row for each key that has a packet, in ascending order, and the rows hold over all packets of their key
+abbrev pub HoldsOver : TypedFold → List Use → Enclosed → Type 0
+HoldsOver f given t = HoldsFor f (keys_used given) (rows_of given) t
 
 -- What is shown of each groupby of the query holds over all of these packets.
 abbrev pub ShownHolds : TypedQuery → Geometry → List (List ℕ) → Type 0

@@ -1,3 +1,4 @@
+pub mod AfterEvents
 pub mod EnclosedTables
 pub mod Holding
 pub mod Parts

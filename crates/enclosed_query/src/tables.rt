@@ -5,13 +5,19 @@ ghost use Rattle.std.specs.List.{list_all};
 ghost use Rattle.query_lang.specs.declared.typed.TypedQuery.{TypedQuery as AnyQuery};
 ghost use Rattle.epoch_entry.specs.declared.purpose.Entries.TheVariants.{Bounds};
 ghost use Rattle.epoch_model.specs.Epochs.{Geometry};
-ghost use Rattle.switch_core.specs.PlanLanes.{lane_is_drained};
+ghost use Rattle.epoch_model.specs.Laws.{HasRoom};
+ghost use Rattle.epoch_model.specs.Machine.{Event, Machine};
+ghost use Rattle.switch_core.specs.Pipelines.{tables_of};
+ghost use Rattle.switch_core.specs.PlanLanes.{PipelineStands, folding_at, lane_is_drained};
 ghost use Rattle.enclosure_folds.specs.Shown.{MayBeShown, shown};
+ghost use Rattle.enclosed_query.specs.AfterEvents.{HaveStoredKeys, ShownHoldsAfter, machines_after, shown_tables};
 ghost use Rattle.enclosed_query.specs.EnclosedTables.{enclosed_tables, EndsAt};
 ghost use Rattle.enclosed_query.specs.Reading.{IsWhole};
 
 use crate::laws::ends_give_enclosed_tables;
-use enclosure_folds::{Enclosed, enclosed_of, triples_give_whole_tables};
+use enclosure_folds::{
+    Enclosed, closed_tables_give_bounds, closed_tables_hold, enclosed_of, triples_give_whole_tables,
+};
 use final_queries::Table;
 use marple_base::Seq;
 use std::alloc::{AllocError, Global};
@@ -40,16 +46,52 @@ fn all_shown(alloc: Global, tables: Seq<Table>) -> Result<Seq<Enclosed>, AllocEr
     Ok(made)
 }
 
+// The stores of the lanes have keys of as many words as their caches.
+fn stores_known<const WAYS: usize>(pipeline: &Pipeline<WAYS>)
+    ensures { HaveStoredKeys pipeline.now.lanes }
+{
+    for i in 0..pipeline.lanes() {
+        let lane = pipeline.lane(i);
+        lane.known();
+        lane.store().known();
+    }
+}
+
+// What holds of the machines that a drained pipeline for bounds represents: the tables of their closed epochs may be shown,
+// and what is shown of them holds over all rows of whatever events led to them.
+fn machines_known<const WAYS: usize>(pipeline: &Pipeline<WAYS>)
+    requires entries { pipeline.now.entries ≡ Bounds }
+    requires drained { list_all lane_is_drained pipeline.now.lanes ≡ true }
+    ensures may { (machines : List Machine) → PipelineStands pipeline.now machines
+        → All MayBeShown (tables_of pipeline.now.plan.groups (map folding_at pipeline.now.lanes) machines) }
+    ensures holds { (g : Geometry) (events : ℕ → List Event) → HasRoom g
+        → PipelineStands pipeline.now (machines_after pipeline.now.plan g events)
+        → ShownHoldsAfter pipeline.now.plan events (shown_tables pipeline.now (machines_after pipeline.now.plan g events)) }
+{
+    closed_tables_give_bounds();
+    closed_tables_hold();
+    pipeline.known();
+    pipeline.plan().known();
+    stores_known(pipeline);
+    let _drained = pipeline.drained();
+}
+
 /// What is shown of the groupbys of a drained pipeline whose entries are for bounds, in order: the table of a linear fold,
-/// and the table of bounds of any other fold. The pipeline represents the machines of a valid query's plan at the end of
-/// some packets.
+/// and the table of bounds of any other fold. It holds over all rows that the pipeline's machines took, whatever events led
+/// to them: packets, evictions and merges in any order. At the end of a trace it is what is shown of the query's groupbys
+/// over its packets.
 pub fn enclosed<const WAYS: usize>(
     alloc: Global,
     pipeline: &Pipeline<WAYS>,
 ) -> Result<Seq<Enclosed>, AllocError>
     requires entries { pipeline.now.entries ≡ Bounds }
     requires drained { list_all lane_is_drained pipeline.now.lanes ≡ true }
-    requires ends { (q : AnyQuery) × (g : Geometry) × (packets : List (List ℕ)) × EndsAt q g packets pipeline.now }
+    requires stands { (machines : List Machine) × PipelineStands pipeline.now machines }
+    ensures shown { IfOk result (λ tables. (machines : List Machine) → PipelineStands pipeline.now machines
+        → tables ≡ shown_tables pipeline.now machines) }
+    ensures holds { IfOk result (λ tables. (g : Geometry) (events : ℕ → List Event) → HasRoom g
+        → PipelineStands pipeline.now (machines_after pipeline.now.plan g events)
+        → ShownHoldsAfter pipeline.now.plan events tables) }
     ensures tables { IfOk result (λ tables. (q : AnyQuery) (g : Geometry) (packets : List (List ℕ))
         → EndsAt q g packets pipeline.now → tables ≡ enclosed_tables q g packets) }
     ensures whole { IfOk result (All IsWhole) }
@@ -57,6 +99,7 @@ pub fn enclosed<const WAYS: usize>(
     ends_give_enclosed_tables();
     pipeline.known();
     pipeline.plan().known();
+    machines_known(pipeline);
     let tables = pipeline.close()?;
     let made = all_shown(alloc, tables)?;
     Ok(made)

@@ -4,3 +4,4 @@ pub mod CheckFacts
 pub mod RowFacts
 pub mod ShownFacts
 pub mod ReadFacts
+pub mod ClosedFacts

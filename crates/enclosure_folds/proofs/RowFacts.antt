@@ -15,18 +15,21 @@ use Rattle.epoch_model.specs.declared.tables.Mark.TheVariants.{Exact, Valid, Inv
 use Rattle.epoch_model.specs.declared.tables.Row.{Row}
 use Rattle.epoch_model.specs.Keys.{Key, ArgRow, key_eq, key_cmp, has, AreAbove, IsAscending}
 use Rattle.epoch_model.specs.Epochs.{Use, Geometry, is_use_of, epochs}
-use Rattle.epoch_model.specs.Tables.{Folding, folded, mark_of, epochs_shown, epoch_rows, exact_row, key_rows, keys_used, group_rows}
+use Rattle.epoch_model.specs.Tables.{Folding, folded, mark_of, epochs_shown, epoch_rows, exact_row, key_rows, keys_used, group_rows, group_epochs}
 use Rattle.epoch_model.proofs.Cuts.{epochs_cut_the_rows_lem}
 use Rattle.epoch_model.proofs.KeyLists.{by_test, key_eq-true, key_eq-refl}
 use Rattle.epoch_model.proofs.KeyOrder.{ascending-ascends, has-ascending, same_ascending}
 use Rattle.epoch_entry.specs.Bounds.{bounds_after, IsBoundsKindOf}
 use Rattle.epoch_entry.specs.Kinds.{Sizes}
 use Rattle.final_queries.specs.Finals.{HasColumns}
-use Rattle.final_queries.specs.GroupTable.{group_table}
+use Rattle.final_queries.specs.declared.table.Table.{Table}
+use Rattle.final_queries.specs.declared.table.TableKind.TheVariants.{Group}
+use Rattle.final_queries.specs.GroupTable.{Heading}
 use Rattle.enclosure_folds.specs.declared.table.BoundsRow.{BoundsRow}
+use Rattle.enclosure_folds.specs.declared.table.BoundsTable.{BoundsTable}
 use Rattle.enclosure_folds.specs.Bounds.{last_or, low_bound, high_bound, all_rows, Encloses}
 use Rattle.enclosure_folds.specs.BoundsTables.{HasBounds}
-use Rattle.enclosure_folds.specs.KeyBounds.{key_bounds, bounds_table, goes_on, row_bounds, bounds_in, low_in, high_in, states_in, rows_of, EpochRowsGiveBounds, KeyBoundsEnclose, TriplesGiveWholeTables}
+use Rattle.enclosure_folds.specs.KeyBounds.{key_bounds, listed_bounds, table_bounds, goes_on, row_bounds, bounds_in, low_in, high_in, states_in, rows_of, EpochRowsGiveBounds, KeyBoundsEnclose, TriplesGiveWholeTables}
 use Rattle.enclosure_folds.proofs.BoundLemmas.{last_map, some_pieces, enclosed}
 
 -- each key that is used has an epoch
@@ -82,19 +85,14 @@ module _ (n : ℕ) (folding : Folding) (key : Key) (count : ℕ) where
   last_counts number x [] rest other = rw other refl
   last_counts number x (y ∷ ys) rest other = rw (key_eq-refl key) (last_counts (suc number) y ys rest other)
 
-module _ (f : TypedFold) (sizes : Sizes) (folding : Folding) (opening absorbing : ℕ) (h : IsBoundsKindOf f sizes folding opening absorbing) (g : Geometry) (uses : List Use) where
+-- the rows of keys, by the row lists of each
+
+module _ (f : TypedFold) (sizes : Sizes) (folding : Folding) (opening absorbing : ℕ) (h : IsBoundsKindOf f sizes folding opening absorbing) (lists : Key → List (List ArgRow)) (rows : Key → List Row)
+    (rows_are : (key : Key) → rows key ≡ epoch_rows folding key (length (lists key)) 1 (lists key)) where
   abbrev n : ℕ
   n = fold_states f
 
-  abbrev bounds_for : Key → List (List ArgRow) → BoundsRow
-  bounds_for key pieces = record {
-    key = key;
-    epochs = epochs_shown (length pieces);
-    low = low_bound n (map (bounds_after f) pieces);
-    high = high_bound n (map (bounds_after f) pieces);
-  }
-
-  by_pieces : (key : Key) (x : List ArgRow) (xs : List (List ArgRow)) → bounds_by n folding key (length (x ∷ xs)) (last_or x xs) ≡ bounds_for key (x ∷ xs)
+  by_pieces : (key : Key) (x : List ArgRow) (xs : List (List ArgRow)) → bounds_by n folding key (length (x ∷ xs)) (last_or x xs) ≡ listed_bounds f key (x ∷ xs)
   by_pieces key x [] = ap (λ state. row_bounds n (record { key = key; mark = Valid; epoch = 0; epochs = epochs_shown 1; values = state })) (h.folded x)
   by_pieces key x (y ∷ ys) =
       let many : (suc (suc (length ys)) == 1) ≡ false = grind (arith, nat_tests) in
@@ -102,48 +100,69 @@ module _ (f : TypedFold) (sizes : Sizes) (folding : Folding) (opening absorbing 
       ap (λ b. row_bounds n (record { key = key; mark = if b then Valid else Invalid; epoch = 0; epochs = epochs_shown count; values = folded folding (last_or y ys) })) many
       ∙ ap (λ state. row_bounds n (record { key = key; mark = Invalid; epoch = 0; epochs = epochs_shown count; values = state })) (h.folded (last_or y ys) ∙ sym (last_map (bounds_after f) y ys))
 
-  rows_are : (key : Key) → key_rows folding g uses key ≡ epoch_rows folding key (length (epochs g uses key)) 1 (epochs g uses key)
-  rows_are key = ap (λ b. if b then epoch_rows folding key (length (epochs g uses key)) 1 (epochs g uses key) else (exact_row folding key (length (epochs g uses key)) (map (λ u. u.row) (filter (is_use_of key) uses)) ∷ [])) h.row_per_epoch
-
   -- rows of a greater key come next
-  other_next : (key : Key) (keys : List Key) → AreAbove key keys → All (λ k. 0 < length (epochs g uses k)) keys → goes_on key (flat_map (key_rows folding g uses) keys) ≡ false
+  other_next : (key : Key) (keys : List Key) → AreAbove key keys → All (λ k. 0 < length (lists k)) keys → goes_on key (flat_map rows keys) ≡ false
   other_next key [] above all = refl
   other_next key (next ∷ keys) above all =
-      ap (λ rows. goes_on key (rows ++ flat_map (key_rows folding g uses) keys)) (rows_are next)
-      ∙ go (epochs g uses next) (All-head (λ k. 0 < length (epochs g uses k)) next keys all)
+      ap (λ made. goes_on key (made ++ flat_map rows keys)) (rows_are next)
+      ∙ go (lists next) (All-head (λ k. 0 < length (lists k)) next keys all)
     where
-      go : (pieces : List (List ArgRow)) → 0 < length pieces → goes_on key (epoch_rows folding next (length pieces) 1 pieces ++ flat_map (key_rows folding g uses) keys) ≡ false
+      go : (pieces : List (List ArgRow)) → 0 < length pieces → goes_on key (epoch_rows folding next (length pieces) 1 pieces ++ flat_map rows keys) ≡ false
       go [] some = absurd (omega (arith, some))
       go (x ∷ xs) some = less_apart key next above.0
 
-  one_key : (key : Key) (rest : List Row) → goes_on key rest ≡ false → 0 < length (epochs g uses key) → bounds_in n (key_rows folding g uses key ++ rest) ≡ key_bounds f g uses key ∷ bounds_in n rest
-  one_key key rest other some = ap (λ rows. bounds_in n (rows ++ rest)) (rows_are key) ∙ go (epochs g uses key) some
+  one_key : (key : Key) (rest : List Row) → goes_on key rest ≡ false → 0 < length (lists key) → bounds_in n (rows key ++ rest) ≡ listed_bounds f key (lists key) ∷ bounds_in n rest
+  one_key key rest other some = ap (λ made. bounds_in n (made ++ rest)) (rows_are key) ∙ go (lists key) some
     where
-      go : (pieces : List (List ArgRow)) → 0 < length pieces → bounds_in n (epoch_rows folding key (length pieces) 1 pieces ++ rest) ≡ bounds_for key pieces ∷ bounds_in n rest
+      go : (pieces : List (List ArgRow)) → 0 < length pieces → bounds_in n (epoch_rows folding key (length pieces) 1 pieces ++ rest) ≡ listed_bounds f key pieces ∷ bounds_in n rest
       go [] some = absurd (omega (arith, some))
       go (x ∷ xs) some = last_counts n folding key (length (x ∷ xs)) 1 x xs rest other ∙ ap (λ row. row ∷ bounds_in n rest) (by_pieces key x xs)
 
-  all_keys : (keys : List Key) → IsAscending keys → All (λ key. 0 < length (epochs g uses key)) keys → bounds_in n (flat_map (key_rows folding g uses) keys) ≡ map (key_bounds f g uses) keys
-  all_keys [] order all = refl
-  all_keys (key ∷ keys) order all =
-      let later = All-tail (λ k. 0 < length (epochs g uses k)) key keys all in
-      one_key key (flat_map (key_rows folding g uses) keys) (other_next key keys order.0 later) (All-head (λ k. 0 < length (epochs g uses k)) key keys all)
-      ∙ ap (λ rows. key_bounds f g uses key ∷ rows) (all_keys keys order.1 later)
+  pub rows_give : (keys : List Key) → IsAscending keys → All (λ key. 0 < length (lists key)) keys → bounds_in n (flat_map rows keys) ≡ map (λ key. listed_bounds f key (lists key)) keys
+  rows_give [] order all = refl
+  rows_give (key ∷ keys) order all =
+      let later = All-tail (λ k. 0 < length (lists k)) key keys all in
+      one_key key (flat_map rows keys) (other_next key keys order.0 later) (All-head (λ k. 0 < length (lists k)) key keys all)
+      ∙ ap (λ made. listed_bounds f key (lists key) ∷ made) (rows_give keys order.1 later)
 
-  pub rows_give : bounds_in n (group_rows folding g uses) ≡ map (key_bounds f g uses) (keys_used uses)
-  rows_give = all_keys (keys_used uses) (ascending-ascends (map (λ u. u.key) uses)) (all_have_epochs g uses)
+-- the table of bounds of a table with these rows, which give these bounds
+module _ (heading : Heading) (epochs_all : ℕ) (rows : List Row) (made : List BoundsRow) where
+  abbrev with_rows : Table
+  with_rows = record {
+    name = heading.name;
+    columns = heading.key_names ++ heading.state_names;
+    keys = length heading.key_names;
+    kind = Group heading.class heading.depth epochs_all;
+    rows = rows;
+  }
+
+  abbrev with_bounds : BoundsTable
+  with_bounds = record {
+    name = heading.name;
+    key_names = heading.key_names;
+    state_names = heading.state_names;
+    depth = heading.depth;
+    epochs = epochs_all;
+    rows = made;
+  }
+
+  pub gives : (n : ℕ) → length heading.state_names ≡ n → bounds_in n rows ≡ made → table_bounds with_rows ≡ with_bounds
+  gives n states e =
+      let names = heading.key_names in
+      let others : states_in with_rows ≡ n = omega (arith, length-append names heading.state_names, states) in
+      let front : take with_rows.keys with_rows.columns ≡ names = take-append_seam names heading.state_names in
+      let back : drop with_rows.keys with_rows.columns ≡ heading.state_names = drop-append_seam names heading.state_names in
+      let is : bounds_in (states_in with_rows) rows ≡ made = ap (λ k. bounds_in k rows) others ∙ e in
+      ap (λ z. record with_bounds { key_names = z; state_names = drop with_rows.keys with_rows.columns; rows = bounds_in (states_in with_rows) rows }) front
+      ∙ ap (λ z. record with_bounds { state_names = z; rows = bounds_in (states_in with_rows) rows }) back
+      ∙ ap (λ z. record with_bounds { rows = z }) is
 
 pub give_bounds : EpochRowsGiveBounds
 give_bounds heading f sizes folding opening absorbing g uses h states =
-    let t = group_table heading folding g uses in
-    let names = heading.key_names in
-    let others : states_in t ≡ fold_states f = omega (arith, length-append names heading.state_names, states) in
-    let front : take t.keys t.columns ≡ names = take-append_seam names heading.state_names in
-    let back : drop t.keys t.columns ≡ heading.state_names = drop-append_seam names heading.state_names in
-    let rows : bounds_in (states_in t) t.rows ≡ map (key_bounds f g uses) (keys_used uses) = ap (λ k. bounds_in k t.rows) others ∙ rows_give f sizes folding opening absorbing h g uses in
-    ap (λ z. record (bounds_table heading f g uses) { key_names = z; state_names = drop t.keys t.columns; rows = bounds_in (states_in t) t.rows }) front
-    ∙ ap (λ z. record (bounds_table heading f g uses) { state_names = z; rows = bounds_in (states_in t) t.rows }) back
-    ∙ ap (λ z. record (bounds_table heading f g uses) { rows = z }) rows
+    gives heading (group_epochs g uses) (group_rows folding g uses) (map (key_bounds f g uses) (keys_used uses)) (fold_states f) states
+    (rows_give f sizes folding opening absorbing h (epochs g uses) (key_rows folding g uses)
+    (λ key. ap (λ b. if b then epoch_rows folding key (length (epochs g uses key)) 1 (epochs g uses key) else (exact_row folding key (length (epochs g uses key)) (map (λ u. u.row) (filter (is_use_of key) uses)) ∷ [])) h.row_per_epoch)
+    (keys_used uses) (ascending-ascends (map (λ u. u.key) uses)) (all_have_epochs g uses))
 
 pub keys_enclose : KeyBoundsEnclose
 keys_enclose f g uses key valid mono words rows some =

@@ -25,6 +25,16 @@ use Rattle.enclosure_folds.specs.KeyBounds.{HasTriples, states_in, enclosed_by}
 use Rattle.enclosure_folds.specs.Shown.{shown_by, MayBeShownBy, IsHeadingOf, TablesGiveBounds}
 use Rattle.enclosure_folds.proofs.RowFacts.{give_bounds}
 
+pub long_bounds : (f : TypedFold) → IsValidFold f → (rows : List ArgRow) → length (bounds_after f rows) ≡ 3 * fold_states f
+long_bounds f valid rows =
+    let a = Folds.folded f (initial_state f) rows in
+    let b = Folds.folded f (least_state f) rows in
+    let c = Folds.folded f (greatest_state f) rows in
+    let la : length a ≡ fold_states f = length-folded f (initial_state f) rows ∙ valid.starts in
+    let lb : length b ≡ fold_states f = length-folded f (least_state f) rows ∙ length-replicate {A = ℕ} (fold_states f) 0 in
+    let lc : length c ≡ fold_states f = length-folded f (greatest_state f) rows ∙ length-replicate {A = ℕ} (fold_states f) _ in
+    omega (arith, length-append a (b ++ c), length-append b c, la, lb, lc)
+
 module _ (alike : AlikeFoldingsMakeOneTable) (read : GroupTablesAreRead) (heading : Heading) (f : TypedFold) (sizes : Sizes) (folding : Folding) (opening absorbing : ℕ) (g : Geometry) (uses : List Use)
     (is : IsHeadingOf f heading) where
   by_class : (c : Class) → IsBoundingKind c f sizes folding opening absorbing
@@ -37,16 +47,6 @@ module _ (alike : AlikeFoldingsMakeOneTable) (read : GroupTablesAreRead) (headin
   shown_is kind = ap (λ c. shown_by (Group c heading.depth (group_epochs g uses)) (group_table heading folding g uses)) is.class ∙ by_class (class_of f) kind
 
   module _ (valid : IsValidFold f) (keys : All (λ u. length u.key ≡ length heading.key_names) uses) where
-    long : (rows : List ArgRow) → length (bounds_after f rows) ≡ 3 * fold_states f
-    long rows =
-        let a = Folds.folded f (initial_state f) rows in
-        let b = Folds.folded f (least_state f) rows in
-        let c = Folds.folded f (greatest_state f) rows in
-        let la : length a ≡ fold_states f = length-folded f (initial_state f) rows ∙ valid.starts in
-        let lb : length b ≡ fold_states f = length-folded f (least_state f) rows ∙ length-replicate {A = ℕ} (fold_states f) 0 in
-        let lc : length c ≡ fold_states f = length-folded f (greatest_state f) rows ∙ length-replicate {A = ℕ} (fold_states f) _ in
-        omega (arith, length-append a (b ++ c), length-append b c, la, lb, lc)
-
     -- a heading with a name for each word of three states
     abbrev wide : Heading
     wide = record heading { state_names = replicate (3 * fold_states f) heading.name }
@@ -54,7 +54,7 @@ module _ (alike : AlikeFoldingsMakeOneTable) (read : GroupTablesAreRead) (headin
     triples : IsBoundsKindOf f sizes folding opening absorbing → HasTriples (group_table heading folding g uses)
     triples kind =
         let names : length wide.state_names ≡ 3 * fold_states f = length-replicate (3 * fold_states f) heading.name in
-        let table = read wide folding g uses keys (λ rows. ap (λ l. length l) (kind.folded rows) ∙ (long rows ∙ sym names)) in
+        let table = read wide folding g uses keys (λ rows. ap (λ l. length l) (kind.folded rows) ∙ (long_bounds f valid rows ∙ sym names)) in
         let t = group_table heading folding g uses in
         let others : length (heading.key_names ++ wide.state_names) - length heading.key_names ≡ 3 * states_in t =
         omega (arith, length-append heading.key_names wide.state_names, length-append heading.key_names heading.state_names, names, is.states) in record {

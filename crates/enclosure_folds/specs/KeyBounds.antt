@@ -32,16 +32,21 @@ use Rattle.enclosure_folds.specs.Bounds.{low_bound, high_bound, Encloses}
 
 -- By the uses of a trace.
 
--- the row of a key: the bounds by what each of its epochs is folded to from the initial state, the least and the greatest
-abbrev pub key_bounds : TypedFold → Geometry → List Use → Key → BoundsRow
-key_bounds f g uses key =
-    let states = map (bounds_after f) (epochs g uses key) in
+-- the row of a key with these row lists, one for each of its epochs: the bounds by what each epoch is folded to from the initial state,
+-- the least and the greatest
+abbrev pub listed_bounds : TypedFold → Key → List (List ArgRow) → BoundsRow
+listed_bounds f key lists =
+    let states = map (bounds_after f) lists in
     record {
       key = key;
-      epochs = epochs_shown (length (epochs g uses key));
+      epochs = epochs_shown (length lists);
       low = low_bound (fold_states f) states;
       high = high_bound (fold_states f) states;
     }
+
+-- the row of a key by the epochs into which its uses are cut
+abbrev pub key_bounds : TypedFold → Geometry → List Use → Key → BoundsRow
+key_bounds f g uses key = listed_bounds f key (epochs g uses key)
 
 -- The table of a groupby that takes these uses: a row for each key, in ascending order.
 abbrev pub bounds_table : Heading → TypedFold → Geometry → List Use → BoundsTable

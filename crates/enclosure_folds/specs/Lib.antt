@@ -4,3 +4,5 @@ pub mod BoundsTables
 pub mod Check
 pub mod KeyBounds
 pub mod Shown
+pub mod Holding
+pub mod Closed

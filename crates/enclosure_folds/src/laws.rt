@@ -15,6 +15,7 @@ ghost use Rattle.epoch_entry.specs.Bounds.{bounds_after, IsBoundsKindOf};
 ghost use Rattle.enclosure_folds.specs.Bounds.{low_bound, high_bound, is_exact, Encloses, RowsEnclose, all_rows};
 ghost use Rattle.enclosure_folds.specs.BoundsTables.{ExactTablesAreRead};
 ghost use Rattle.enclosure_folds.specs.Check.{NoFaultMeansBounds};
+ghost use Rattle.enclosure_folds.specs.Closed.{ClosedBoundsEnclose, ClosedTablesGiveBounds, ClosedTablesHold};
 ghost use Rattle.enclosure_folds.specs.Shown.{TablesGiveBounds};
 ghost use Rattle.enclosure_folds.specs.KeyBounds.{EpochRowsGiveBounds, KeyBoundsEnclose, TriplesGiveWholeTables};
 
@@ -83,6 +84,29 @@ pub fn tables_give_bounds()
 {
     alike_foldings_make_one_table();
     group_tables_are_read();
+}
+
+/// The table of any closed epochs by entries for bounds may be shown, and gives what is shown of them: the table of a linear
+/// fold, or the table of bounds of any other.
+pub fn closed_tables_give_bounds()
+    ensures { ClosedTablesGiveBounds }
+{
+    alike_foldings_make_one_table();
+}
+
+/// After any events that leave no epoch open, in whatever order packets, evictions and merges came: the bounds of each key
+/// enclose the fold of a monotone fold over the rows of all its packets, word by word, and where they are equal both are
+/// that fold.
+pub fn closed_bounds_enclose()
+    ensures { ClosedBoundsEnclose }
+{}
+
+/// After such events what is shown of the closed epochs of a linear or monotone fold holds over the rows of all packets:
+/// values are the fold over the rows of their key, and bounds enclose it.
+pub fn closed_tables_hold()
+    ensures { ClosedTablesHold }
+{
+    alike_foldings_make_one_table();
 }
 
 /// Each groupby of a query in which the check finds no fault has a linear fold or a monotone one.

@@ -14,9 +14,10 @@ pub use bounds::bounds_of;
 pub use check::enclose_check;
 pub use enclosed::enclosed_of;
 pub use laws::{
-    epoch_rows_give_bounds, epochs_enclose, exact_bounds_are_equal, exact_tables_are_read,
-    key_bounds_enclose, no_fault_means_bounds, rows_enclose, small_bounds, table_rows_enclose,
-    tables_give_bounds, triples_give_whole_tables,
+    closed_bounds_enclose, closed_tables_give_bounds, closed_tables_hold, epoch_rows_give_bounds,
+    epochs_enclose, exact_bounds_are_equal, exact_tables_are_read, key_bounds_enclose,
+    no_fault_means_bounds, rows_enclose, small_bounds, table_rows_enclose, tables_give_bounds,
+    triples_give_whole_tables,
 };
 pub use printer::bounds_text;
 pub use rows::exact_rows;

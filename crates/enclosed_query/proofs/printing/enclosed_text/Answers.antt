@@ -3,6 +3,7 @@ use Rattle.std.specs.List.{All}
 use Rattle.final_queries.specs.Finals.{IsTable, table_shape}
 use Rattle.enclosed_query.specs.EnclosedTables.{table_read}
 use Rattle.enclosed_query.specs.Reading.{IsWhole}
+use Rattle.trace_drive.specs.Drives.{end_machines}
 use Rattle.enclosed_query.proofs.TextParts.{text_is}
 use Rattle.enclosed_query.proofs.printing.enclosed_text.Goals as goal
 
@@ -10,7 +11,7 @@ pub enclosed-requires : goal.enclosed-requires
 enclosed-requires g c =
     let e = c.requires.ends in (
       lit< tt,
-      (c.requires.entries, (c.requires.drained, (c.args.typed.now, e.0, e.1, e.2))),
+      (c.requires.entries, (c.requires.drained, (end_machines c.args.pipeline.now.plan e.0 e.1, e.2.stands))),
     )
 
 pub print_enclosed-requires-clause-tables : goal.print_enclosed-requires-clause-tables

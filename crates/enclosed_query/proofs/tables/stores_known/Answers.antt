@@ -1,0 +1,27 @@
+use Rattle.std.proofs.Common.{◌≡◌, ◌<◌, Some, length, ltb, sym, ap, ◌∙◌, subst, arith}
+use Rattle.std.specs.Prelude.{slice_get}
+use Rattle.std.proofs.lemmas.Bool.{ltb-true, ltb-false}
+use Rattle.epoch_model.proofs.KeyLists.{by_test}
+use Rattle.backing_store.specs.Store.{IsStore}
+use Rattle.switch_core.specs.PlanLanes.{lane_view}
+use Rattle.switch_core.proofs.SideBySide.{got_below, same_some}
+use Rattle.enclosed_query.specs.AfterEvents.{HasStoredKeys}
+use Rattle.enclosed_query.proofs.tables.stores_known.Goals as goal
+
+pub loop-i-preserved : goal.loop-i-preserved
+loop-i-preserved g c n lane below at =
+    let i = c.loop-i.i in
+    by_test (ltb n i)
+    (λ e. c.loop-i.invariant n lane (ltb-true n i e) at)
+    (λ e.
+    let least = ltb-false n i e in
+    let same : n ≡ i = omega (arith, below, least) in
+    let is : lane_view c.lane-lane.result.now ≡ lane = same_some (lane_view c.lane-lane.result.now) lane (sym c.lane-lane.ensures ∙ (ap (slice_get c.args.pipeline.now.lanes) (sym same) ∙ at)) in
+    subst HasStoredKeys is (record { store = subst IsStore c.store.ensures c.known-in-loop-i.ensures; words = c.known.ensures.store.key }))
+
+pub returns : goal.returns
+returns g c n lane at =
+    let within = got_below c.args.pipeline.now.lanes n lane at in
+    let end = c.loop-i-test.false in
+    let lanes = c.lanes-i-end.ensures in
+    c.loop-i.invariant n lane (omega (arith, within, end, lanes)) at
