@@ -6,4 +6,6 @@ mod call;
 #[cfg(test)]
 mod calls;
 #[cfg(test)]
+mod left;
+#[cfg(test)]
 mod realistic;

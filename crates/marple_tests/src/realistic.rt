@@ -70,5 +70,5 @@ srcip,dstip,srcport,dstport,proto,mark,epoch,epochs,last,n\n\
 167772163,167772417,1002,80,6,exact,*,1,100,0\n\
 167772164,167772417,1003,80,6,exact,*,1,100,0\n";
 
-/// What a run with a view behind every second packet writes, piece by piece.
+/// What a run with a view after every second packet writes, piece by piece.
 pub const VIEWS: [&[u8]; 5] = [b"view 2\n", AFTER_TWO, b"view 4\n", AFTER_FOUR, AFTER_FIVE];

@@ -1,4 +1,4 @@
-//! How many steps small events take, beside sums that are made by hand from the rules of counting.
+//! How many steps small events take, compared with sums that were worked out from the rules of counting.
 //!
 //! A packet takes a step for each register, the fourteen fields and the operations of the plan. Where the groupby takes it,
 //! it takes one for each word of the key and of the arguments that is read out of the registers, for each word of the key
@@ -42,7 +42,7 @@ enum Event {
     Sweep,
 }
 
-/// A query with one groupby, what its entries are for, and events one after another, each with the steps that it takes. The
+/// A query with one groupby, what its entries are for, and events in sequence, each with the steps that it takes. The
 /// pipe has room for one record.
 #[derive(Clone, Copy)]
 struct Case {
@@ -52,7 +52,7 @@ struct Case {
     events: &'static [(Event, u64)],
 }
 
-/// A translation without a history, behind a filter of two operations: the comparison, and whether there is a packet and it
+/// A translation without a history, after a filter of two operations: the comparison, and whether there is a packet and it
 /// holds. So there are 14 + 2 registers. The body takes 1 + 3 + 2 steps. The entry has 1 + 2 words, which are all written
 /// where it is opened, and a row takes 1 read + 6 + 1 written.
 const FILTERED: Case = Case {
@@ -86,7 +86,7 @@ const FILTERED: Case = Case {
         // the same new key, and the same eviction by a packet
         (Event::Packet(1, 100), 31),
         (Event::Packet(2, 100), 36),
-        // the pipe is full before the eviction and behind it: a merge + an eviction + a merge
+        // the pipe is full before the eviction and after it: a merge + an eviction + a merge
         (Event::Sweep, 8 + 5 + 8),
     ],
 };

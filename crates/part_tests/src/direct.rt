@@ -111,7 +111,7 @@ impl TwoKeys {
         was_open
     }
 
-    /// An event in a bucket of so many ways, whose packet has this length: whether it is an eviction that ended an epoch.
+    /// An event in a bucket of `ways` ways, whose packet has this length. True where it is an eviction that ended an epoch.
     pub fn make(&mut self, event: Event, length: u64, ways: usize) -> bool {
         match event {
             Event::Packet(key) => {

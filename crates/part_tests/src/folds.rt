@@ -112,7 +112,7 @@ fn maps_of_steps(rt: HostRuntime) -> Result<(), Fail> {
     Ok(())
 }
 
-/// One map after another, and what their product makes of a state.
+/// The product of two maps, and what it makes of a state.
 fn product<C: Coeff, L: Ledger>(
     alloc: Global,
     later: &[u64],
@@ -202,7 +202,7 @@ fn products_of_sums(rt: HostRuntime) -> Result<(), Fail> {
 
 #[test]
 fn products_of_maxima(rt: HostRuntime) -> Result<(), Fail> {
-    // an element is absent, `0, 0`, or a word behind a 1
+    // an element is absent, `0, 0`, or a word after a 1
     for (later, earlier, state, map, after) in [
         ([1, 3, 1, 4], [1, 3, 1, 10], [0], [1, 6, 1, 13], [13]),
         ([1, 3, 1, 4], [1, 3, 1, 10], [9], [1, 6, 1, 13], [15]),

@@ -32,7 +32,7 @@ pub fn packet_of(source: u64, length: u64) -> Packet {
 }
 
 impl<const WAYS: usize> OneBucket<WAYS> {
-    /// A pipeline for a query, with entries for this and pipes for so many records.
+    /// A pipeline for a query, with entries for this and pipes for `records` records.
     pub fn new(
         alloc: Global,
         query: &[u8],
@@ -106,7 +106,7 @@ fn event_of(number: u32) -> Event {
     }
 }
 
-// The seven events that a number has as its digits to the base 4, and behind them evictions and merges that close and merge
+// The seven events that a number has as its digits to the base 4, and after them evictions and merges that close and merge
 // all epochs; and how many of the events are packets.
 fn listed(number: u32) -> ([Event; 15], u32) {
     let mut rest = number;

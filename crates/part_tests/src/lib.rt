@@ -5,6 +5,8 @@
 #[cfg(test)]
 mod base;
 #[cfg(test)]
+mod codes;
+#[cfg(test)]
 mod counts;
 #[cfg(test)]
 mod direct;
@@ -18,3 +20,5 @@ mod folds;
 mod kinds;
 #[cfg(test)]
 mod lanes;
+#[cfg(test)]
+mod one_lane;
