@@ -15,7 +15,7 @@ SECONDS_FOR_A_KILOBYTE = 1.2
 MEGABYTES = 2500
 # What of a proof its jobs don't share: reading the crate, and putting together what they proved.
 NOT_SHARED = 0.2
-# The table counts as much as so many seconds that were measured on this machine.
+# The table counts as much as this many seconds that were measured on this machine.
 TRUST_IN_TABLE = 60.0
 
 
@@ -36,7 +36,7 @@ def read_costs(table: Path, order: List[Crate]) -> Dict[str, Cost]:
 
 
 def cost_by_size(size: int) -> Cost:
-    """Returns about what a crate with sources of so many bytes takes."""
+    """Returns about what a crate with sources of this many bytes takes."""
     return Cost(SECONDS_FOR_A_CRATE + SECONDS_FOR_A_KILOBYTE * size / 1000, MEGABYTES)
 
 
@@ -57,7 +57,7 @@ def pace(table: float, measured: float) -> float:
 
 
 def clock_seconds(seconds: float, jobs: int) -> float:
-    """Returns about how long a proof of so many seconds of processor time takes with so many jobs."""
+    """Returns about how long a proof of this many seconds of processor time takes with this many jobs."""
     return seconds * (NOT_SHARED + (1 - NOT_SHARED) / jobs)
 
 
@@ -67,7 +67,7 @@ def still_to_go(whole: float, elapsed: float) -> float:
 
 
 def jobs_of(chain: float, work: float, places: int, ready: int, idle: int) -> int:
-    """Returns the jobs for the crate that is begun next, the first of those that are ready, where so many places are idle.
+    """Returns the jobs for the crate that is begun next, the first of those that are ready, where this many places are idle.
 
     They are its chain's part of all places, as long as the chain is beside all work that isn't begun, this crate's included:
     with one job a long chain would be at work alone in the end. And they are no fewer than the crate's share of the places that

@@ -23,7 +23,7 @@ LIBC = ctypes.CDLL(None)
 PARENT_DEATH_SIGNAL = 1
 # What each further job of a proof takes of memory.
 MEGABYTES_FOR_A_JOB = 1200
-# A proof that is asked to end has so many seconds, and is then killed.
+# A proof that is asked to end has this many seconds, and is then killed.
 SECONDS_TO_END = 5.0
 
 
@@ -139,7 +139,7 @@ class Proving:
         self.progress.line(f"{self.so_far()}: begun {crate.name}" + f" with {jobs} jobs" * (jobs > 1))
 
     def command(self, words: List[str], crate: Crate, log: object) -> "subprocess.Popen[bytes]":
-        # a session of its own: what a terminal sends reaches this build alone, which then ends all that it began
+        # a separate session: what a terminal sends reaches this build alone, which then ends all that it began
         return subprocess.Popen(
             words,
             cwd=crate.folder,
@@ -159,7 +159,7 @@ class Proving:
                 self.end(proof, used.ru_utime + used.ru_stime, used.ru_maxrss // 1024)
 
     def end(self, proof: Proof, processor: float, megabytes: int) -> None:
-        """Records a proof that ended by itself, after so many seconds of processor time."""
+        """Records a proof that ended by itself, after this many seconds of processor time."""
         crate, seconds = proof.crate, time.monotonic() - proof.began
         if proof.process.returncode == -signal.SIGKILL and crate.name not in self.alone:
             self.alone.add(crate.name)

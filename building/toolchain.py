@@ -67,7 +67,7 @@ class Toolchain:
             words += ["-L", f"dependency={it.folder}/{KEPT}"]
         words += ["--antt-project", f"{self.folder}/rattle/logic/antt-project.json"]
         words += ["--logic-built", f"{self.folder}/logic_built", "--incremental", INCREMENTAL]
-        # with no label: the crate is refused if it calls C of its own
+        # with no label: the crate is refused if it calls C itself
         words += ["--links", f"{crate.name}=", "--jobs", str(jobs)]
         if crate.name == PROGRAM:
             words += ["--toolchain", f"{self.folder}/toolchain", "--backend", "llvm", "-o", f"out/{PROGRAM}.o"]

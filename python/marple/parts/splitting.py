@@ -29,7 +29,7 @@ REMEMBERED = 1 << 18  # how many texts of keys are remembered with their parts
 class Splitting:
     """A function from records to parts: by the numbers of these fields, which stand in these columns.
 
-    level: how often the records were split before, since each level has a function of its own. A record in which a
+    level: how often the records were split before, since each level has another function. A record in which a
     field is missing or is no number goes to part 0, where the program finds the fault.
     """
 
@@ -98,7 +98,7 @@ def _number(text: str | None, field: str) -> int | None:
 
 
 def _parts_of_texts(splitting: Splitting, records: list[bytes]) -> list[int]:
-    """The parts of records, one after another."""
+    """The parts of records, read in turn."""
     columns, last, known = splitting.columns, max(splitting.columns), splitting.known
     parts = []
     for record in records:
@@ -280,7 +280,7 @@ def _write_round(file, start: int, held: list) -> Round:
 
 @contextmanager
 def written(path: str, mode: str = "wb") -> Iterator[IO]:
-    """A file that is written under a name of its own, and has its name when all of it is there."""
+    """A file that is written under another name, and has its own name when it is complete."""
     own = f"{path}.{uuid.uuid4().hex}"
     try:
         with open(own, mode) as file:

@@ -52,7 +52,7 @@ def split(splitting: Splitting, spans: Sequence[Span], path: str) -> Piece:
 
 
 def cut(span: Span, most_records: int, most_bytes: int) -> list[tuple[Span, int]]:
-    """Cuts a span into spans of no more than so many records and bytes, with the number of records of each."""
+    """Cuts a span into spans of at most this many records and bytes, with the number of records of each."""
     spans, start, at, count = [], span.start, span.start, 0
     for sizes in record_sizes(span):
         for size in sizes:
