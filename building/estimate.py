@@ -82,7 +82,7 @@ def seconds_to_go(order: List[Crate], left: Dict[str, float], running: Dict[str,
     left has what each crate that isn't done still takes: seconds of clock where it is running, of processor time where it
     isn't begun. running has the jobs of those that run.
     """
-    behind = chains(order, {it.name: Cost(left.get(it.name, 0.0), 0) for it in order})
+    chain_of = chains(order, {it.name: Cost(left.get(it.name, 0.0), 0) for it in order})
     crates = {it.name: it for it in order}
     done = {it for it in crates if it not in left}
     ends = [(left[it], it, jobs) for it, jobs in running.items()]
@@ -90,11 +90,11 @@ def seconds_to_go(order: List[Crate], left: Dict[str, float], running: Dict[str,
     waiting = [it for it in left if it not in running]
     now = 0.0
     while waiting or ends:
-        ready = sorted((it for it in waiting if done.issuperset(crates[it].crates)), key=lambda it: -behind[it])
+        ready = sorted((it for it in waiting if done.issuperset(crates[it].crates)), key=lambda it: -chain_of[it])
         idle = places - sum(jobs for _, _, jobs in ends)
         while ready and idle > 0:
             first = ready[0]
-            jobs = jobs_of(behind[first], sum(left[it] for it in waiting), places, len(ready), idle)
+            jobs = jobs_of(chain_of[first], sum(left[it] for it in waiting), places, len(ready), idle)
             heapq.heappush(ends, (now + clock_seconds(left[first], jobs), first, jobs))
             ready.remove(first)
             waiting.remove(first)
