@@ -1,18 +1,21 @@
 """Times a query over traces in parts with several numbers of workers, beside runs of the program. Prints a page of it.
 
 Usage: measure.py QUERY ROOM RUNS WORKERS..
-ROOM has the traces, and the file `expected` with the rows that a plain program gives. Each figure is measured RUNS times.
+ROOM has the traces, and the file `expected` with the rows that a plain program gives. Each figure is measured RUNS
+times. ROOM/cases.json then has the figures as bench/all takes them.
 """
 
 import filecmp
+import json
 import os
 import re
 import resource
 import shutil
 import subprocess
 import sys
+import textwrap
 import time
-from dataclasses import dataclass
+from dataclasses import asdict, dataclass, field
 from pathlib import Path
 from statistics import median
 
@@ -171,6 +174,22 @@ class Traces:
         return Traces(sum(counts), len(counts), sum(path.stat().st_size for path in room.glob("traces/*.csv")))
 
 
+@dataclass
+class Case:
+    """Figures of several programs: the seconds and the peaks in KB of each run; the first one is compared with the
+    others.
+    """
+
+    name: str
+    programs: dict[str, dict[str, list[float]]] = field(default_factory=dict)
+
+    def add(self, program: str, seconds: list[float], peaks: list[int]) -> None:
+        self.programs[program] = {"seconds": seconds, "peaks": [1024 * one for one in peaks]}
+
+    def time(self, program: str) -> float:
+        return median(self.programs[program]["seconds"])
+
+
 def machine() -> str:
     """The processors, the memory and the system."""
     lines = Path("/proc/cpuinfo").read_text().splitlines()
@@ -183,9 +202,20 @@ def versions() -> str:
     import distributed
     import numpy
 
-    commit = subprocess.run(["git", "rev-parse", "--short", "HEAD"], capture_output=True, text=True, check=False).stdout
+    asked = ["git", "rev-parse", "--short", "HEAD"]
+    commit = subprocess.run(asked, capture_output=True, text=True, check=False).stdout.strip()
     python = sys.version.split()[0]
-    return f"commit {commit.strip()}, Python {python}, distributed {distributed.__version__}, numpy {numpy.__version__}"
+    return f"commit {commit}, Python {python}, distributed {distributed.__version__}, numpy {numpy.__version__}"
+
+
+def preface(traces: Traces, load: float, runs: int) -> list[str]:
+    day = time.strftime("%d %B %Y").lstrip("0")
+    about = (
+        f"{day}, {versions()}. Machine: {machine()}; load {load:.1f} when the run began. {traces.packets:,} packets "
+        f"of {traces.keys:,} keys in files of 1,000,000, {traces.bytes / 1e9:.2f} GB. Medians of {runs} runs in turn, "
+        "with the least and the greatest; the stages are medians each. The rows of every run were those of `plain.c`."
+    )
+    return textwrap.wrap(about, 119, break_on_hyphens=False)
 
 
 def verdict(goal: str, is_met: bool) -> str:
@@ -193,110 +223,133 @@ def verdict(goal: str, is_met: bool) -> str:
 
 
 def parts_table(traces: Traces, runs: dict[int, list[PartsRun]]) -> list[str]:
-    """A row for each number of workers."""
-    lines = [
-        "| Workers | Seconds | Packets a second | Look, split, run, join (s) | Beside one worker | Peak: worker, run (MB) |",
-        "|---|---|---|---|---|---|",
-    ]
-    fewest = median(one.seconds for one in runs[min(runs)])
+    """A row for each number of workers, and whether four of them are fast enough."""
+    titles = ["Workers", "Seconds", "Packets a second", f"{', '.join(STAGES)} (s)", "Beside one worker"]
+    lines = [f"| {' | '.join(titles)} | Peak: worker, run (MB) |", "|---|---|---|---|---|---|"]
+    medians = {workers: median(one.seconds for one in own) for workers, own in runs.items()}
+    fewest = medians[min(medians)]
     for workers, own in runs.items():
-        seconds = median(one.seconds for one in own)
+        seconds = medians[workers]
+        shown = spread([one.seconds for one in own])
         stages = ", ".join(f"{median(one.stages[at] for one in own):.1f}" for at in range(len(STAGES)))
         peaks = f"{max(one.worker for one in own)}, {max(one.program for one in own)}"
-        shown = spread([one.seconds for one in own])
-        lines.append(f"| {workers} | {shown} | {traces.packets / seconds:,.0f} | {stages} | {fewest / seconds:.2f} | {peaks} |")
+        rate = f"{traces.packets / seconds:,.0f}"
+        lines.append(f"| {workers} | {shown} | {rate} | {stages} | {fewest / seconds:.2f} | {peaks} |")
+    if {1, 4} <= medians.keys():
+        faster = medians[1] / medians[4]
+        goal = f"Goal, at least {FASTER:g} times one worker with four: {faster:.2f}"
+        lines += ["", verdict(goal, faster >= FASTER)]
     return lines
 
 
-def parts_goal(runs: dict[int, list[PartsRun]]) -> list[str]:
-    """Whether four workers are fast enough, where one and four were measured."""
-    if not {1, 4} <= runs.keys():
-        return []
-    one, four = (median(run.seconds for run in runs[workers]) for workers in (1, 4))
-    return [verdict(f"Goal, at least {FASTER:g} times one worker with four: {one / four:.2f}", one / four >= FASTER)]
+def parts_case(traces: Traces, runs: dict[int, list[PartsRun]]) -> Case:
+    """The runs in parts, the one with the most workers first."""
+    case = Case(f"{traces.packets:,} packets in parts (clock)")
+    for workers in sorted(runs, reverse=True):
+        name = "1 worker" if workers == 1 else f"{workers} workers"
+        own = runs[workers]
+        case.add(name, [one.seconds for one in own], [max(one.worker, one.program) for one in own])
+    return case
 
 
-def program_table(query: str, room: Path, packets: int, runs: int) -> list[str]:
-    """Runs over some of the packets."""
-    lines = ["| One run of the program | Seconds | of the processor | Packets a second | Peak (MB) |", "|---|---|---|---|---|"]
+def program_runs(query: str, room: Path, packets: int, runs: int) -> tuple[list[str], list[Case]]:
+    """Runs over some of the packets: a table, and the same as cases."""
+    lines = [
+        "| One run of the program | Seconds | of the processor | Packets a second | Peak (MB) |",
+        "|---|---|---|---|---|",
+    ]
     million, most = min(packets, MILLION), min(packets, 4 * MILLION)
+    cases = []
     for rows, columns, what in ((million, ALL, "14 columns"), (most, COLUMNS, "the 4 columns that it reads")):
         trace = first_rows(room, rows, columns)
-        measured = [timed_run(query, trace) for _ in range(runs)]
-        clock, processor = [one.clock for one in measured], [one.processor for one in measured]
-        largest = max(one.peak for one in measured)
-        rate = rows / median(clock)
-        lines.append(f"| {rows:,} packets, {what} | {spread(clock)} | {spread(processor)} | {rate:,.0f} | {largest} |")
-    return lines
+        ran = [timed_run(query, trace) for _ in range(runs)]
+        clock, processor = [one.clock for one in ran], [one.processor for one in ran]
+        largest = max(one.peak for one in ran)
+        rate = f"{rows / median(clock):,.0f}"
+        cases.append(Case(f"{rows:,} packets in one run, {what}"))
+        cases[-1].add("marple", processor, [one.peak for one in ran])
+        lines.append(f"| {rows:,} packets, {what} | {spread(clock)} | {spread(processor)} | {rate} | {largest} |")
+    return lines, cases
 
 
-def splitting_table(query: str, room: Path, packets: int, runs: int) -> list[str]:
-    """What splitting a million packets costs beside running them."""
+def splitting_runs(query: str, room: Path, packets: int, runs: int) -> tuple[list[str], list[Case]]:
+    """What splitting a million packets costs beside running them: a table, and the same as cases."""
     packets = min(packets, MILLION)
+    plain = first_rows(room, packets, ALL)
     lines = [
-        f"| {packets:,} packets of 14 columns | Splitting (s of the processor) | Running (s of the processor) | Ratio |",
+        f"| {packets:,} packets of 14 columns, s of the processor | Splitting | Running | Ratio |",
         "|---|---|---|---|",
     ]
-    plain = first_rows(room, packets, ALL)
-    ratios = []
+    cases, ratios = [], []
     for what, trace in (("plain", plain), ("each field in quotes", quoted(plain, room))):
         splits, ran = [], []
         for _ in range(runs):
             splits.append(timed_split(trace, room, trace is not plain))
-            ran.append(timed_run(query, trace).processor)
-        ratios.append(median(splits) / median(ran))
-        lines.append(f"| {what} | {spread(splits)} | {spread(ran)} | {ratios[-1]:.2f} |")
-    goal = f"Goal, splitting takes at most {SLOWER:g} times as long as running: {ratios[0]:.2f}, and {ratios[1]:.2f} with quotes"
-    return [*lines, "", verdict(goal, max(ratios) <= SLOWER)]
+            ran.append(timed_run(query, trace))
+        processor = [one.processor for one in ran]
+        cases.append(Case(f"{packets:,} packets, {what}"))
+        cases[-1].add("splitting", splits, [peak()] * runs)
+        cases[-1].add("running", processor, [one.peak for one in ran])
+        ratios.append(cases[-1].time("splitting") / cases[-1].time("running"))
+        lines.append(f"| {what} | {spread(splits)} | {spread(processor)} | {ratios[-1]:.2f} |")
+    shown = f"{ratios[0]:.2f}, and {ratios[1]:.2f} with quotes"
+    goal = f"Goal, splitting takes at most {SLOWER:g} times as long as running: {shown}"
+    return [*lines, "", verdict(goal, max(ratios) <= SLOWER)], cases
 
 
 def on_paper(record: float, rate: float, workers: int) -> list[str]:
     """What these figures come to for a day of a link of 100 Gbit/s with packets of 1,000 bytes."""
     second = 100e9 / 8 / 1000
     day = second * 86400
-    return [
-        f"On paper, for a day of a link of 100 Gbit/s with packets of 1,000 bytes: {second / 1e6:.1f} million packets a second,",
-        f"{day / 1e12:.2f} trillion a day, {day * record / 1e12:.0f} TB of records of {record:.0f} bytes. At "
-        f"{rate / workers:,.0f} packets a second for each of",
-        f"{workers} workers that is {second / rate * workers:,.0f} days of one worker, so as many workers would keep pace if they "
-        "didn't slow one another",
-        "down, which wasn't measured.",
-    ]
+    text = (
+        f"On paper, for a day of a link of 100 Gbit/s with packets of 1,000 bytes: {second / 1e6:.1f} million packets "
+        f"a second, {day / 1e12:.2f} trillion a day, {day * record / 1e12:.0f} TB of records of {record:.0f} bytes. "
+        f"At {rate / workers:,.0f} packets a second for each of {workers} workers that is "
+        f"{second / rate * workers:,.0f} days of one worker, so as many workers would keep pace if they didn't slow one "
+        "another down, which wasn't measured."
+    )
+    return textwrap.wrap(text, 119, break_on_hyphens=False)
+
+
+def measured_parts(query: str, room: Path, runs: int, numbers: list[int]) -> dict[int, list[PartsRun]]:
+    """The runs with each of these numbers of workers, in turn."""
+    measured: dict[int, list[PartsRun]] = {number: [] for number in numbers}
+    for turn in range(runs):
+        for number in numbers:
+            progress(f"workers: {number}, run {turn + 1} of {runs}")
+            measured[number].append(timed_parts(query, room, number))
+            seconds = zip(STAGES, measured[number][-1].stages, strict=True)
+            progress(", ".join(f"{name} {one:.1f}" for name, one in seconds))
+    return measured
 
 
 def main() -> None:
     query, room, runs = sys.argv[1], Path(sys.argv[2]), int(sys.argv[3])
     numbers = [int(word) for word in sys.argv[4:]]
     traces, load = Traces.of(room), os.getloadavg()[0]
-    measured: dict[int, list[PartsRun]] = {number: [] for number in numbers}
-    for turn in range(runs):
-        for number in numbers:
-            progress(f"{number} workers, run {turn + 1} of {runs}")
-            measured[number].append(timed_parts(query, room, number))
-            progress(", ".join(f"{name} {seconds:.1f}" for name, seconds in zip(STAGES, measured[number][-1].stages, strict=True)))
+    measured = measured_parts(query, room, runs, numbers)
     rate = traces.packets / median(one.seconds for one in measured[numbers[-1]])
     asking = peak()
     progress("runs of the program, and splitting")
+    whole, whole_cases = program_runs(query, room, traces.packets, runs)
+    splits, split_cases = splitting_runs(query, room, traces.packets, runs)
     lines = [
-        f"{time.strftime('%d %B %Y').lstrip('0')}, {versions()}. Machine: {machine()}; load {load:.1f} when the run began.",
-        f"{traces.packets:,} packets of {traces.keys:,} keys in files of 1,000,000, {traces.bytes / 1e9:.2f} GB. Medians of {runs} "
-        "runs in turn,",
-        "with the least and the greatest; the stages are medians each. The rows of every run were those of `plain.c`.",
+        *preface(traces, load, runs),
         "",
         *parts_table(traces, measured),
         "",
-        f"The process that asks, which has the scheduler too, has a peak of {asking} MB. The peak of a run is at least that of the",
-        "worker that starts it, since Linux counts it so.",
+        f"The process that asks, which has the scheduler too, has a peak of {asking} MB. The peak of a run is at least",
+        "that of the worker that starts it, since Linux counts it so.",
         "",
-        *parts_goal(measured),
+        *whole,
         "",
-        *program_table(query, room, traces.packets, runs),
-        "",
-        *splitting_table(query, room, traces.packets, runs),
+        *splits,
         "",
         *on_paper(traces.bytes / traces.packets, rate, numbers[-1]),
     ]
     print("\n".join(lines))
+    cases = [parts_case(traces, measured), *whole_cases, *split_cases]
+    (room / "cases.json").write_text(json.dumps([asdict(case) for case in cases]))
 
 
 if __name__ == "__main__":
