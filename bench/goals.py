@@ -104,6 +104,22 @@ def query_goals() -> list[Goal]:
     return found
 
 
+def parts_goals() -> list[Goal]:
+    """Goals of runs in parts: four workers are at least three times as fast as one, and what splitting may cost."""
+    case = "20,000,000 packets in parts (clock)"
+    splits = (("plain", "plain"), ("in quotes", "each field in quotes"))
+    return [
+        Goal("parts", "time of four workers in one worker's", 0.333, times("parts", case, "4 workers", "1 worker")),
+        *(
+            Goal(
+                "parts", f"time to split a million packets, {shown}, in that to run them", 2.0,
+                times("parts", f"1,000,000 packets, {name}", "splitting", "running"),
+            )
+            for shown, name in splits
+        ),
+    ]  # fmt: skip
+
+
 def goals() -> list[Goal]:
     """All goals."""
     views = times("views", "65,536 keys", "ten views", "none")
@@ -113,6 +129,7 @@ def goals() -> list[Goal]:
         Goal("views", "time with ten views in that without", 1.4, views),
         *(Goal("finals", f"time of `{name}` in Rust's", 2.0, value) for name, value in finals.items()),
         *query_goals(),
+        *parts_goals(),
         Goal("trace", "time of `gen 1000000 1` in Rust's", 1.2, times("trace", "gen", "marple", "Rust")),
         Goal("trace", "MB of `gen 1000000 1`", 20, megabytes("trace", "gen", "marple")),
     ]

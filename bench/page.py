@@ -45,10 +45,10 @@ def preface(load: float) -> list[str]:
     return [
         *textwrap.wrap(" ".join(about), 119, break_on_hyphens=False),
         "",
-        "Times are processor time: the median of the runs, with the least and the greatest. The programs of a case run",
-        "in turn, five times each, or three times where a run takes more than 4 s and in `many`. A ratio is the figure",
-        "in the first line of the case divided by that of the line. Instructions are counted by callgrind, of `queries`",
-        "over 100,000 packets.",
+        "Times are processor time, and of the clock where the case says so: the median of the runs, with the least and",
+        "the greatest. The programs of a case run in turn, five times each, or three times where a run takes more than",
+        "4 s and in `many` and `parts`. A ratio is the figure in the first line of the case divided by that of the",
+        "line. Instructions are counted by callgrind, of `queries` over 100,000 packets.",
         "",
     ]
 

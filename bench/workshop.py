@@ -3,14 +3,24 @@
 from __future__ import annotations
 
 import os
-import re
 import shutil
 import subprocess
+import sys
 from pathlib import Path
 
 from measure import BenchError, Command, Race
 
 TOP = Path(__file__).resolve().parent.parent
+sys.path.append(str(TOP))
+
+from building.crates import Crate, Unreadable, needed, read_crates
+from building.estimate import read_costs
+from building.locks import lock
+from building.machine import machine
+from building.progress import Progress
+from building.proving import Failed, Proving
+from building.toolchain import Missing, Toolchain
+
 RUST = ["rustc", "-O", "-C", "target-cpu=x86-64-v2"]
 
 
@@ -53,62 +63,41 @@ class Workshop:
         return str(self.here / f"{name}.query")
 
 
-def uses_of(text: str) -> dict[str, list[str]]:
-    """Of the text of a crates.txt: for each crate the libraries that it uses."""
-    uses = {}
-    for line in text.splitlines():
-        words, colon, used = line.partition("#")[0].partition(":")
-        if colon:
-            uses[words.split()[0]] = used.split()
-    return uses
-
-
-def crates_below(uses: dict[str, list[str]], names: list[str]) -> list[str]:
-    """The crates of the repository among these and all that they use, lowest first."""
-    found: list[str] = []
-    for name in names:
-        if name in uses:
-            found += [below for below in crates_below(uses, uses[name]) if below not in found]
-            found += [name] if name not in found else []
-    return found
-
-
-def copy_library(crate: str, crates: Path) -> None:
-    """Proves a library of the repository where it isn't yet, and copies it with what was built."""
-    source = TOP / "crates" / crate
-    built = subprocess.run(["rt", "lib"], cwd=source, capture_output=True, text=True, check=False)
-    if built.returncode != 0:
-        raise BenchError(f"{crate} isn't proved: {built.stdout[-2000:]}{built.stderr[-2000:]}")
-    shutil.copytree(source, crates / crate, ignore=shutil.ignore_patterns("out", "must-fail", "edits"))
-    (crates / crate / "out").mkdir()
-    subprocess.run(["cp", "-a", source / "out/rlib", crates / crate / "out/rlib"], check=True)
-
-
-def proved_program(shop: Workshop) -> str:
-    """Proves and builds the bench's folder `program`, in a repository with the crates that it uses, and gives its path.
+def copied_program(shop: Workshop) -> tuple[str, list[str]]:
+    """Copies the bench's folder `program` into the room. Its name, and the libraries that it uses.
 
     The sources of `program` carry one more suffix, since the gate reads the sources of `crates` alone.
     """
-    line = (shop.here / "program/needs.txt").read_text()
-    (name, used), *_ = uses_of(line).items()
-    all_crates = (TOP / "crates.txt").read_text()
-    below = crates_below(uses_of(all_crates), used)
-    crates = shop.room / "crates"
-    crates.mkdir()
-    for crate in below:
-        copy_library(crate, crates)
-    shutil.copytree(shop.here / "program", crates / name)
-    (crates / name / "needs.txt").unlink()
-    for file in [*(crates / name).rglob("*.txt")]:
+    name, _, used = (shop.here / "program/needs.txt").read_text().partition(":")
+    folder = shop.room / name
+    shutil.copytree(shop.here / "program", folder)
+    (folder / "needs.txt").unlink()
+    for file in [*folder.rglob("*.txt")]:
         file.rename(file.with_suffix(""))
-    shutil.copy(TOP / "HANDLES", shop.room)
-    lines = [text for text in all_crates.splitlines() if re.split("[ :]", text)[0] in below]
-    (shop.room / "crates.txt").write_text("\n".join([*lines, line]))
-    built = subprocess.run(["rt", "run"], cwd=crates / name, capture_output=True, text=True, check=False)
-    program = crates / name / "out" / name
-    if built.returncode != 0 or not program.exists():
-        raise BenchError(f"{name} isn't built: {built.stdout[-2000:]}{built.stderr[-2000:]}")
-    return str(program)
+    return name, used.split()
+
+
+def proved_program(shop: Workshop) -> str:
+    """Proves and builds the bench's folder `program`, with the crates below it where ./build left none, as ./build does.
+
+    Gives the program's path.
+    """
+    name, used = copied_program(shop)
+    try:
+        crates = read_crates(TOP)
+        mine = tuple(it for it in used if it in crates)
+        program = Crate(name, shop.room / name, mine, tuple(it for it in used if it not in crates))
+        order = needed(crates | {name: program}, name)
+        progress = Progress(sys.stderr)
+        held = lock(order, progress)
+        try:
+            Proving(order, read_costs(TOP / "bench/build/crates.csv", order), Toolchain(), machine(None), progress).run()
+        finally:
+            for it in held:
+                os.close(it)
+    except (Failed, Missing, Unreadable) as error:
+        raise BenchError(f"{name} isn't built: {error}") from error
+    return str(program.program)
 
 
 def kernel_race(shop: Workshop) -> Race:

@@ -26,8 +26,17 @@ class Crate:
     libraries: Tuple[str, ...]
 
     @property
+    def is_program(self) -> bool:
+        return (self.folder / "src/main.rt").is_file()
+
+    @property
     def root(self) -> str:
-        return "src/main.rt" if self.name == PROGRAM else "src/lib.rt"
+        return "src/main.rt" if self.is_program else "src/lib.rt"
+
+    @property
+    def program(self) -> Path:
+        """The program of a crate that is one."""
+        return self.folder / "out" / self.name
 
     def sources(self) -> Iterator[Path]:
         for part in SOURCES:

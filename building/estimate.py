@@ -15,7 +15,7 @@ SECONDS_FOR_A_KILOBYTE = 1.2
 MEGABYTES = 2500
 # What of a proof its jobs don't share: reading the crate, and putting together what they proved.
 NOT_SHARED = 0.2
-# The table counts as much as so many seconds that were measured on this machine.
+# The table counts as much as this many seconds that were measured on this machine.
 TRUST_IN_TABLE = 60.0
 
 
@@ -36,7 +36,7 @@ def read_costs(table: Path, order: List[Crate]) -> Dict[str, Cost]:
 
 
 def cost_by_size(size: int) -> Cost:
-    """Returns about what a crate with sources of so many bytes takes."""
+    """Returns about what a crate with sources of this many bytes takes."""
     return Cost(SECONDS_FOR_A_CRATE + SECONDS_FOR_A_KILOBYTE * size / 1000, MEGABYTES)
 
 
@@ -57,7 +57,7 @@ def pace(table: float, measured: float) -> float:
 
 
 def clock_seconds(seconds: float, jobs: int) -> float:
-    """Returns about how long a proof of so many seconds of processor time takes with so many jobs."""
+    """Returns about how long a proof of this many seconds of processor time takes with this many jobs."""
     return seconds * (NOT_SHARED + (1 - NOT_SHARED) / jobs)
 
 
@@ -67,7 +67,7 @@ def still_to_go(whole: float, elapsed: float) -> float:
 
 
 def jobs_of(chain: float, work: float, places: int, ready: int, idle: int) -> int:
-    """Returns the jobs for the crate that is begun next, the first of those that are ready, where so many places are idle.
+    """Returns the jobs for the crate that is begun next, the first of those that are ready, where this many places are idle.
 
     They are its chain's part of all places, as long as the chain is beside all work that isn't begun, this crate's included:
     with one job a long chain would be at work alone in the end. And they are no fewer than the crate's share of the places that
@@ -82,7 +82,7 @@ def seconds_to_go(order: List[Crate], left: Dict[str, float], running: Dict[str,
     left has what each crate that isn't done still takes: seconds of clock where it is running, of processor time where it
     isn't begun. running has the jobs of those that run.
     """
-    behind = chains(order, {it.name: Cost(left.get(it.name, 0.0), 0) for it in order})
+    chain_of = chains(order, {it.name: Cost(left.get(it.name, 0.0), 0) for it in order})
     crates = {it.name: it for it in order}
     done = {it for it in crates if it not in left}
     ends = [(left[it], it, jobs) for it, jobs in running.items()]
@@ -90,11 +90,11 @@ def seconds_to_go(order: List[Crate], left: Dict[str, float], running: Dict[str,
     waiting = [it for it in left if it not in running]
     now = 0.0
     while waiting or ends:
-        ready = sorted((it for it in waiting if done.issuperset(crates[it].crates)), key=lambda it: -behind[it])
+        ready = sorted((it for it in waiting if done.issuperset(crates[it].crates)), key=lambda it: -chain_of[it])
         idle = places - sum(jobs for _, _, jobs in ends)
         while ready and idle > 0:
             first = ready[0]
-            jobs = jobs_of(behind[first], sum(left[it] for it in waiting), places, len(ready), idle)
+            jobs = jobs_of(chain_of[first], sum(left[it] for it in waiting), places, len(ready), idle)
             heapq.heappush(ends, (now + clock_seconds(left[first], jobs), first, jobs))
             ready.remove(first)
             waiting.remove(first)

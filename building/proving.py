@@ -13,7 +13,7 @@ from dataclasses import dataclass
 from pathlib import Path
 from typing import Dict, List, Set
 
-from building.crates import PROGRAM, Crate, digest, digests
+from building.crates import Crate, digest, digests
 from building.estimate import Cost, chains, clock_seconds, jobs_of, pace, seconds_to_go, still_to_go, time_to_go
 from building.machine import Machine
 from building.progress import Progress
@@ -23,7 +23,7 @@ LIBC = ctypes.CDLL(None)
 PARENT_DEATH_SIGNAL = 1
 # What each further job of a proof takes of memory.
 MEGABYTES_FOR_A_JOB = 1200
-# A proof that is asked to end has so many seconds, and is then killed.
+# A proof that is asked to end has this many seconds, and is then killed.
 SECONDS_TO_END = 5.0
 
 
@@ -67,8 +67,8 @@ class Proving:
         """Is what an earlier call made of the crate there, from the sources of now?"""
         made = crate.folder / KEPT / f"{crate.name}.rlib"
         told = self.sums[crate.name]
-        if crate.name == PROGRAM:
-            made = crate.folder / "out" / PROGRAM
+        if crate.is_program:
+            made = crate.program
             told += f" {sum_of(made)}"
         kept = crate.folder / KEPT / "sources"
         return made.exists() and kept.is_file() and kept.read_text(encoding="utf-8") == told
@@ -76,8 +76,8 @@ class Proving:
     def keep(self, crate: Crate) -> None:
         """Records what was proved."""
         told = self.sums[crate.name]
-        if crate.name == PROGRAM:
-            told += f" {sum_of(crate.folder / 'out' / PROGRAM)}"
+        if crate.is_program:
+            told += f" {sum_of(crate.program)}"
         (crate.folder / KEPT / "sources").write_text(told, encoding="utf-8")
 
     # The proofs
@@ -139,7 +139,7 @@ class Proving:
         self.progress.line(f"{self.so_far()}: begun {crate.name}" + f" with {jobs} jobs" * (jobs > 1))
 
     def command(self, words: List[str], crate: Crate, log: object) -> "subprocess.Popen[bytes]":
-        # a session of its own: what a terminal sends reaches this build alone, which then ends all that it began
+        # a separate session: what a terminal sends reaches this build alone, which then ends all that it began
         return subprocess.Popen(
             words,
             cwd=crate.folder,
@@ -159,7 +159,7 @@ class Proving:
                 self.end(proof, used.ru_utime + used.ru_stime, used.ru_maxrss // 1024)
 
     def end(self, proof: Proof, processor: float, megabytes: int) -> None:
-        """Records a proof that ended by itself, after so many seconds of processor time."""
+        """Records a proof that ended by itself, after this many seconds of processor time."""
         crate, seconds = proof.crate, time.monotonic() - proof.began
         if proof.process.returncode == -signal.SIGKILL and crate.name not in self.alone:
             self.alone.add(crate.name)
@@ -167,7 +167,7 @@ class Proving:
             return
         if proof.process.returncode:
             raise Failed(f"{crate.name} isn't proved; crates/{crate.name}/out/build.log ends so:\n{self.log_end(crate)}")
-        if crate.name == PROGRAM:
+        if crate.is_program:
             self.link(crate)
         if digest(crate, self.sums, self.toolchain.version) != self.sums[crate.name]:
             raise Failed(f"the sources of {crate.name} changed while it was proved: call ./build again")
@@ -181,10 +181,10 @@ class Proving:
     def link(self, crate: Crate) -> None:
         """Links the program, which takes the place of an older one at once."""
         with open(crate.folder / "out/build.log", "ab") as log:
-            status = self.command(self.toolchain.link(), crate, log).wait()
+            status = self.command(self.toolchain.link(crate), crate, log).wait()
         if status:
             raise Failed(f"{crate.name} is proved, but not linked:\n{self.log_end(crate)}")
-        os.replace(crate.folder / "out" / f"{PROGRAM}.new", crate.folder / "out" / PROGRAM)
+        os.replace(crate.folder / "out" / f"{crate.name}.new", crate.program)
 
     def stop(self) -> None:
         """Ends the proofs that are under way."""

@@ -11,7 +11,7 @@ import subprocess
 from pathlib import Path
 from typing import Dict, List
 
-from building.crates import PROGRAM, Crate
+from building.crates import Crate
 
 MISSING = (
     "rt isn't on this machine's PATH: it is the command of the Rattle toolchain (rattle-kit-13f or rattle-kit-13b), "
@@ -67,18 +67,18 @@ class Toolchain:
             words += ["-L", f"dependency={it.folder}/{KEPT}"]
         words += ["--antt-project", f"{self.folder}/rattle/logic/antt-project.json"]
         words += ["--logic-built", f"{self.folder}/logic_built", "--incremental", INCREMENTAL]
-        # with no label: the crate is refused if it calls C of its own
+        # with no label: the crate is refused if it calls C itself
         words += ["--links", f"{crate.name}=", "--jobs", str(jobs)]
-        if crate.name == PROGRAM:
-            words += ["--toolchain", f"{self.folder}/toolchain", "--backend", "llvm", "-o", f"out/{PROGRAM}.o"]
+        if crate.is_program:
+            words += ["--toolchain", f"{self.folder}/toolchain", "--backend", "llvm", "-o", f"out/{crate.name}.o"]
         else:
             words += ["-o", f"{KEPT}/{crate.name}.rlib"]
         return words
 
-    def link(self) -> List[str]:
-        """Returns the command that links the program's object file, to out/marple.new."""
+    def link(self, crate: Crate) -> List[str]:
+        """Returns the command that links the program's object file, to out/NAME.new."""
         words = [f"{self.folder}/bin/rattle-link", "--target", TARGET, "--toolchain", f"{self.folder}/toolchain"]
-        words += ["-o", f"out/{PROGRAM}.new", f"out/{PROGRAM}.o"]
+        words += ["-o", f"out/{crate.name}.new", f"out/{crate.name}.o"]
         return [*words, f"{self.folder}/c/libos_c.a", f"{self.folder}/c/liblibc_c.a"]
 
 

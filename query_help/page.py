@@ -34,7 +34,7 @@ def remedies_of(page: str) -> dict[str, str]:
 
 
 def remedy(remedies: dict[str, str], fault: str, situation: str = "") -> Optional[str]:
-    """The remedy of the fault in this situation; where the page has none of its own for it, that of the fault."""
+    """The remedy of the fault in this situation; where the page has none for it, that of the fault."""
     return remedies.get(f"`{fault}` {situation}".strip()) or remedies.get(f"`{fault}`")
 
 

@@ -1,19 +1,23 @@
-"""Times a query over traces in parts with several numbers of workers, beside runs of the program. Writes a page of it.
+"""Times a query over traces in parts with several numbers of workers, beside runs of the program. Prints a page of it.
 
-Usage: measure.py QUERY ROOM WORKERS..
-ROOM has the traces, and the file `expected` with the rows that a plain program gives.
+Usage: measure.py QUERY ROOM RUNS WORKERS..
+ROOM has the traces, and the file `expected` with the rows that a plain program gives. Each figure is measured RUNS
+times. ROOM/cases.json then has the figures as bench/all takes them.
 """
 
 import filecmp
+import json
 import os
-import platform
+import re
 import resource
 import shutil
 import subprocess
 import sys
+import textwrap
 import time
-from dataclasses import dataclass
+from dataclasses import asdict, dataclass, field
 from pathlib import Path
+from statistics import median
 
 from marple import find_program, parts
 from marple.parts.engine import local_client
@@ -23,40 +27,45 @@ from marple.parts.splitting import Splitting, write_piece
 ALL = "1-14"
 COLUMNS = "4,9,10,11"  # those that the query reads
 MILLION = 1_000_000
+QUOTED = re.compile(rb"[^,\n]+")
+STAGES = ("look", "split", "run", "join")
+FASTER, SLOWER = 3.0, 2.0  # the goals: 4 workers beside one, and splitting beside running
 
 
-def processor_seconds(who: int) -> float:
-    used = resource.getrusage(who)
+def progress(line: str) -> None:
+    print(f"bench/parts: {line}", file=sys.stderr, flush=True)
+
+
+def peak() -> int:
+    """The peak of this process in MB."""
+    return resource.getrusage(resource.RUSAGE_SELF).ru_maxrss // 1024
+
+
+def processor_seconds() -> float:
+    """The processor time of this process."""
+    used = resource.getrusage(resource.RUSAGE_SELF)
     return used.ru_utime + used.ru_stime
 
 
-def first_rows(room: Path, name: str, packets: int, columns: str) -> Path:
-    """A trace of the first packets of all traces, with some of their columns."""
-    path = room / name
-    traces = " ".join(f"'{trace}'" for trace in sorted(room.glob("traces/*.csv")))
-    header = f"head -n 1 {traces.split(' ')[0]}"
-    rows = f"for trace in {traces}; do tail -n +2 $trace; done | head -n {packets}"
-    subprocess.run(f"{{ {header}; {rows}; }} 2>/dev/null | cut -d, -f{columns} >'{path}'", shell=True, check=True)
-    return path
+def spread(values: list[float]) -> str:
+    """The median, with the least and the greatest."""
+    return f"{median(values):.2f} ({min(values):.2f} to {max(values):.2f})"
 
 
-def timed_run(query: str, trace: Path) -> tuple[float, float, int]:
-    """Seconds of clock and of the processor of a run of the program, and its peak in MB."""
-    began = time.monotonic()
-    process = subprocess.Popen([find_program(), "run", query, str(trace)], stdout=subprocess.DEVNULL)
-    _, status, used = os.wait4(process.pid, 0)
-    if status != 0:
-        sys.exit(f"the program failed over {trace}")
-    return time.monotonic() - began, used.ru_utime + used.ru_stime, used.ru_maxrss // 1024
+# Runs in parts
 
 
-def timed_split(trace: Path, room: Path) -> float:
-    """Seconds of the processor that splitting a trace into 8 parts takes."""
-    header = read_header(str(trace))
-    splitting = Splitting(("srcip",), (header.names.index("srcip"),), 8, 0)
-    began = processor_seconds(resource.RUSAGE_SELF)
-    write_piece(splitting, [Span(str(trace), header.end, header.size, False)], str(room / "piece"))
-    return processor_seconds(resource.RUSAGE_SELF) - began
+@dataclass(frozen=True)
+class PartsRun:
+    """One run in parts: the seconds of each stage, and the peaks in MB of a worker and of a run of the program."""
+
+    stages: tuple[float, ...]
+    worker: int
+    program: int
+
+    @property
+    def seconds(self) -> float:
+        return sum(self.stages)
 
 
 class Stages:
@@ -68,23 +77,14 @@ class Stages:
     def report(self, line: str) -> None:
         self.ends[line.split()[0]] = time.monotonic() - self.began
 
-    def seconds(self) -> dict[str, float]:
+    def seconds(self) -> tuple[float, ...]:
         """The seconds of each stage."""
-        ends = [("look", self.ends["looked"]), ("split", self.ends["split"]), ("run", self.ends["ran"]), ("join", self.end)]
-        return {name: end - before for (name, end), before in zip(ends, [0, *(end for _, end in ends)], strict=False)}
-
-    @property
-    def end(self) -> float:
-        return self.ends["end"]
+        ends = [self.ends[name] for name in ("looked", "split", "ran", "end")]
+        return tuple(end - before for end, before in zip(ends, [0, *ends], strict=False))
 
 
-def peak() -> int:
-    """The peak of this process in MB."""
-    return resource.getrusage(resource.RUSAGE_SELF).ru_maxrss // 1024
-
-
-def timed_parts(query: str, room: Path, workers: int) -> tuple[Stages, list[int]]:
-    """The stages of a run with so many workers, and peaks in MB: of a worker, and of a run of the program."""
+def timed_parts(query: str, room: Path, workers: int) -> PartsRun:
+    """A run with this many workers, whose rows are compared with those of the plain program."""
     client = local_client(workers)
     work, stages = room / "work", Stages()
     joined, _, runs = parts.tables_file(
@@ -92,7 +92,7 @@ def timed_parts(query: str, room: Path, workers: int) -> tuple[Stages, list[int]
         given={}, program=None, piece=parts.PIECE, report=stages.report,
     )  # fmt: skip
     stages.report("end")
-    peaks = [max(client.run(peak).values()), max(ran.peak for ran in runs) // 1024]
+    measured = PartsRun(stages.seconds(), max(client.run(peak).values()), max(ran.peak for ran in runs) // 1024)
     client.close()
     client.cluster.close()
     rows = room / "rows"
@@ -101,11 +101,62 @@ def timed_parts(query: str, room: Path, workers: int) -> tuple[Stages, list[int]
     if not filecmp.cmp(rows, room / "expected", shallow=False):
         sys.exit(f"the rows with {workers} workers aren't those of the plain program")
     shutil.rmtree(work)
-    return stages, peaks
+    return measured
 
 
-def load() -> str:
-    return f"{os.getloadavg()[0]:.1f}"
+# Runs of the program, and splitting
+
+
+@dataclass(frozen=True)
+class Run:
+    """A run of the program: seconds of clock and of the processor, and its peak in MB."""
+
+    clock: float
+    processor: float
+    peak: int
+
+
+def first_rows(room: Path, packets: int, columns: str) -> Path:
+    """A trace of the first packets of all traces, with some of their columns."""
+    path = room / "first.csv"
+    traces = " ".join(f"'{trace}'" for trace in sorted(room.glob("traces/*.csv")))
+    header = f"head -n 1 {traces.split(' ')[0]}"
+    rows = f"for trace in {traces}; do tail -n +2 $trace; done | head -n {packets}"
+    subprocess.run(f"{{ {header}; {rows}; }} 2>/dev/null | cut -d, -f{columns} >'{path}'", shell=True, check=True)
+    return path
+
+
+def quoted(trace: Path, room: Path) -> Path:
+    """The same trace with each field of its data in quotes."""
+    path = room / "quoted.csv"
+    with open(trace, "rb") as given, open(path, "wb") as file:
+        file.write(given.readline())
+        for line in given:
+            file.write(QUOTED.sub(rb'"\g<0>"', line))
+    return path
+
+
+def timed_run(query: str, trace: Path) -> Run:
+    """A run of the program over a trace."""
+    began = time.monotonic()
+    process = subprocess.Popen([find_program(), "run", query, str(trace)], stdout=subprocess.DEVNULL)
+    _, status, used = os.wait4(process.pid, 0)
+    process.returncode = os.waitstatus_to_exitcode(status)
+    if process.returncode != 0:
+        sys.exit(f"the program failed over {trace}")
+    return Run(time.monotonic() - began, used.ru_utime + used.ru_stime, used.ru_maxrss // 1024)
+
+
+def timed_split(trace: Path, room: Path, has_quotes: bool) -> float:
+    """Seconds of the processor that splitting a trace into 8 parts takes."""
+    header = read_header(str(trace))
+    splitting = Splitting(("srcip",), (header.names.index("srcip"),), 8, 0)
+    began = processor_seconds()
+    write_piece(splitting, [Span(str(trace), header.end, header.size, has_quotes)], str(room / "piece"))
+    return processor_seconds() - began
+
+
+# The page
 
 
 @dataclass(frozen=True)
@@ -123,65 +174,182 @@ class Traces:
         return Traces(sum(counts), len(counts), sum(path.stat().st_size for path in room.glob("traces/*.csv")))
 
 
-def heading(traces: Traces) -> str:
-    return f"""# A query over traces in parts
+@dataclass
+class Case:
+    """Figures of several programs: the seconds and the peaks in KB of each run; the first one is compared with the
+    others.
+    """
 
-`run.sh` writes this page. It counts packets, bytes and unexpected sequence numbers of each source (`keys.query`) over
-{traces.packets:,} packets of {traces.keys:,} keys, {traces.bytes / 1e9:.2f} GB, and compares the rows with those of a plain
-C program (`plain.c`), all of which were the same.
+    name: str
+    programs: dict[str, dict[str, list[float]]] = field(default_factory=dict)
 
-{time.strftime("%d %B %Y")}, {os.cpu_count()} processors, {platform.machine()}; load before: {load()}.
+    def add(self, program: str, seconds: list[float], peaks: list[int]) -> None:
+        self.programs[program] = {"seconds": seconds, "peaks": [1024 * one for one in peaks]}
 
-| Workers | Seconds | Packets a second | Look, split, run, join (s) | Beside one worker | Peak: worker, run (MB) |
-|---|---|---|---|---|---|"""
-
-
-def row_of_parts(workers: int, packets: int, stages: Stages, peaks: list[int], first: float) -> str:
-    shown = ", ".join(f"{seconds:.1f}" for seconds in stages.seconds().values())
-    rate = packets / stages.end
-    return f"| {workers} | {stages.end:.1f} | {rate:,.0f} | {shown} | {first / stages.end:.2f} | {peaks[0]}, {peaks[1]} |"
+    def time(self, program: str) -> float:
+        return median(self.programs[program]["seconds"])
 
 
-def runs_of_the_program(query: str, room: Path, packets: int) -> str:
-    """Runs over some of the packets, and what splitting costs beside them."""
+def machine() -> str:
+    """The processors, the memory and the system."""
+    lines = Path("/proc/cpuinfo").read_text().splitlines()
+    model = next((line.partition(": ")[2] for line in lines if line.startswith("model name")), os.uname().machine)
+    memory = os.sysconf("SC_PAGE_SIZE") * os.sysconf("SC_PHYS_PAGES") / 1e9
+    return f"{os.cpu_count()} processors {model}, {memory:.0f} GB, {os.uname().sysname} {os.uname().release}"
+
+
+def versions() -> str:
+    import distributed
+    import numpy
+
+    asked = ["git", "rev-parse", "--short", "HEAD"]
+    commit = subprocess.run(asked, capture_output=True, text=True, check=False).stdout.strip()
+    python = sys.version.split()[0]
+    return f"commit {commit}, Python {python}, distributed {distributed.__version__}, numpy {numpy.__version__}"
+
+
+def preface(traces: Traces, load: float, runs: int) -> list[str]:
+    day = time.strftime("%d %B %Y").lstrip("0")
+    about = (
+        f"{day}, {versions()}. Machine: {machine()}; load {load:.1f} when the run began. {traces.packets:,} packets "
+        f"of {traces.keys:,} keys in files of 1,000,000, {traces.bytes / 1e9:.2f} GB. Medians of {runs} runs in turn, "
+        "with the least and the greatest; the stages are medians each. The rows of every run were those of `plain.c`."
+    )
+    return textwrap.wrap(about, 119, break_on_hyphens=False)
+
+
+def verdict(goal: str, is_met: bool) -> str:
+    return f"{goal}: {'met' if is_met else '**not met**'}."
+
+
+def parts_table(traces: Traces, runs: dict[int, list[PartsRun]]) -> list[str]:
+    """A row for each number of workers, and whether four of them are fast enough."""
+    titles = ["Workers", "Seconds", "Packets a second", f"{', '.join(STAGES)} (s)", "Beside one worker"]
+    lines = [f"| {' | '.join(titles)} | Peak: worker, run (MB) |", "|---|---|---|---|---|---|"]
+    medians = {workers: median(one.seconds for one in own) for workers, own in runs.items()}
+    fewest = medians[min(medians)]
+    for workers, own in runs.items():
+        seconds = medians[workers]
+        shown = spread([one.seconds for one in own])
+        stages = ", ".join(f"{median(one.stages[at] for one in own):.1f}" for at in range(len(STAGES)))
+        peaks = f"{max(one.worker for one in own)}, {max(one.program for one in own)}"
+        rate = f"{traces.packets / seconds:,.0f}"
+        lines.append(f"| {workers} | {shown} | {rate} | {stages} | {fewest / seconds:.2f} | {peaks} |")
+    if {1, 4} <= medians.keys():
+        faster = medians[1] / medians[4]
+        goal = f"Goal, at least {FASTER:g} times one worker with four: {faster:.2f}"
+        lines += ["", verdict(goal, faster >= FASTER)]
+    return lines
+
+
+def parts_case(traces: Traces, runs: dict[int, list[PartsRun]]) -> Case:
+    """The runs in parts, the one with the most workers first."""
+    case = Case(f"{traces.packets:,} packets in parts (clock)")
+    for workers in sorted(runs, reverse=True):
+        name = "1 worker" if workers == 1 else f"{workers} workers"
+        own = runs[workers]
+        case.add(name, [one.seconds for one in own], [max(one.worker, one.program) for one in own])
+    return case
+
+
+def program_runs(query: str, room: Path, packets: int, runs: int) -> tuple[list[str], list[Case]]:
+    """Runs over some of the packets: a table, and the same as cases."""
     lines = [
-        f"\nPeak of the process that asks: {peak()} MB. Load after: {load()}. The peak of a run is at least that of the",
-        "worker that starts it, since Linux counts it so.\n",
         "| One run of the program | Seconds | of the processor | Packets a second | Peak (MB) |",
         "|---|---|---|---|---|",
     ]
-    million = min(packets, MILLION)
-    most = min(packets, 4 * MILLION)
+    million, most = min(packets, MILLION), min(packets, 4 * MILLION)
+    cases = []
     for rows, columns, what in ((million, ALL, "14 columns"), (most, COLUMNS, "the 4 columns that it reads")):
-        seconds, processor, size = timed_run(query, first_rows(room, "first.csv", rows, columns))
-        lines.append(f"| {rows:,} packets, {what} | {seconds:.2f} | {processor:.2f} | {rows / seconds:,.0f} | {size} |")
-    trace = first_rows(room, "first.csv", million, ALL)
-    split, run = timed_split(trace, room), timed_run(query, trace)[1]
-    lines.append(f"\nSplitting {million:,} packets of 14 columns takes {split:.2f} s of the processor,")
-    lines.append(f"{split / run:.2f} times what running them takes.\n")
-    return "\n".join(lines)
+        trace = first_rows(room, rows, columns)
+        ran = [timed_run(query, trace) for _ in range(runs)]
+        clock, processor = [one.clock for one in ran], [one.processor for one in ran]
+        largest = max(one.peak for one in ran)
+        rate = f"{rows / median(clock):,.0f}"
+        cases.append(Case(f"{rows:,} packets in one run, {what}"))
+        cases[-1].add("marple", processor, [one.peak for one in ran])
+        lines.append(f"| {rows:,} packets, {what} | {spread(clock)} | {spread(processor)} | {rate} | {largest} |")
+    return lines, cases
 
 
-def on_paper(record: float, rate: float, workers: int) -> str:
+def splitting_runs(query: str, room: Path, packets: int, runs: int) -> tuple[list[str], list[Case]]:
+    """What splitting a million packets costs beside running them: a table, and the same as cases."""
+    packets = min(packets, MILLION)
+    plain = first_rows(room, packets, ALL)
+    lines = [
+        f"| {packets:,} packets of 14 columns, s of the processor | Splitting | Running | Ratio |",
+        "|---|---|---|---|",
+    ]
+    cases, ratios = [], []
+    for what, trace in (("plain", plain), ("each field in quotes", quoted(plain, room))):
+        splits, ran = [], []
+        for _ in range(runs):
+            splits.append(timed_split(trace, room, trace is not plain))
+            ran.append(timed_run(query, trace))
+        processor = [one.processor for one in ran]
+        cases.append(Case(f"{packets:,} packets, {what}"))
+        cases[-1].add("splitting", splits, [peak()] * runs)
+        cases[-1].add("running", processor, [one.peak for one in ran])
+        ratios.append(cases[-1].time("splitting") / cases[-1].time("running"))
+        lines.append(f"| {what} | {spread(splits)} | {spread(processor)} | {ratios[-1]:.2f} |")
+    shown = f"{ratios[0]:.2f}, and {ratios[1]:.2f} with quotes"
+    goal = f"Goal, splitting takes at most {SLOWER:g} times as long as running: {shown}"
+    return [*lines, "", verdict(goal, max(ratios) <= SLOWER)], cases
+
+
+def on_paper(record: float, rate: float, workers: int) -> list[str]:
     """What these figures come to for a day of a link of 100 Gbit/s with packets of 1,000 bytes."""
     second = 100e9 / 8 / 1000
     day = second * 86400
-    return f"""On paper, for a day of a link of 100 Gbit/s with packets of 1,000 bytes: {second / 1e6:.1f} million packets
-a second, {day / 1e12:.2f} trillion a day, {day * record / 1e12:.0f} TB of records of {record:.0f} bytes. At
-{rate / workers:,.0f} packets a second for each of {workers} workers that is {second / rate * workers:,.0f} days of one
-worker, so as many workers would keep pace if they didn't slow one another down, which isn't measured here."""
+    text = (
+        f"On paper, for a day of a link of 100 Gbit/s with packets of 1,000 bytes: {second / 1e6:.1f} million packets "
+        f"a second, {day / 1e12:.2f} trillion a day, {day * record / 1e12:.0f} TB of records of {record:.0f} bytes. "
+        f"At {rate / workers:,.0f} packets a second for each of {workers} workers that is "
+        f"{second / rate * workers:,.0f} days of one worker, so as many workers would keep pace if they didn't slow one "
+        "another down, which wasn't measured."
+    )
+    return textwrap.wrap(text, 119, break_on_hyphens=False)
+
+
+def measured_parts(query: str, room: Path, runs: int, numbers: list[int]) -> dict[int, list[PartsRun]]:
+    """The runs with each of these numbers of workers, in turn."""
+    measured: dict[int, list[PartsRun]] = {number: [] for number in numbers}
+    for turn in range(runs):
+        for number in numbers:
+            progress(f"workers: {number}, run {turn + 1} of {runs}")
+            measured[number].append(timed_parts(query, room, number))
+            seconds = zip(STAGES, measured[number][-1].stages, strict=True)
+            progress(", ".join(f"{name} {one:.1f}" for name, one in seconds))
+    return measured
 
 
 def main() -> None:
-    query, room, numbers = sys.argv[1], Path(sys.argv[2]), [int(word) for word in sys.argv[3:]]
-    traces, first, stages = Traces.of(room), None, None
-    print(heading(traces))
-    for number in numbers:
-        stages, peaks = timed_parts(query, room, number)
-        first = first or stages.end
-        print(row_of_parts(number, traces.packets, stages, peaks, first))
-    print(runs_of_the_program(query, room, traces.packets))
-    print(on_paper(traces.bytes / traces.packets, traces.packets / stages.end, numbers[-1]))
+    query, room, runs = sys.argv[1], Path(sys.argv[2]), int(sys.argv[3])
+    numbers = [int(word) for word in sys.argv[4:]]
+    traces, load = Traces.of(room), os.getloadavg()[0]
+    measured = measured_parts(query, room, runs, numbers)
+    rate = traces.packets / median(one.seconds for one in measured[numbers[-1]])
+    asking = peak()
+    progress("runs of the program, and splitting")
+    whole, whole_cases = program_runs(query, room, traces.packets, runs)
+    splits, split_cases = splitting_runs(query, room, traces.packets, runs)
+    lines = [
+        *preface(traces, load, runs),
+        "",
+        *parts_table(traces, measured),
+        "",
+        f"The process that asks, which has the scheduler too, has a peak of {asking} MB. The peak of a run is at least",
+        "that of the worker that starts it, since Linux counts it so.",
+        "",
+        *whole,
+        "",
+        *splits,
+        "",
+        *on_paper(traces.bytes / traces.packets, rate, numbers[-1]),
+    ]
+    print("\n".join(lines))
+    cases = [parts_case(traces, measured), *whole_cases, *split_cases]
+    (room / "cases.json").write_text(json.dumps([asdict(case) for case in cases]))
 
 
 if __name__ == "__main__":

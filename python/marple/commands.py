@@ -34,7 +34,7 @@ def net(
     query: Query, trace, *, buckets: int | None = None, ways: int | None = None, pipe: int | None = None,
     lag: int | None = None, program: str | os.PathLike | None = None,
 ) -> Answer:  # fmt: skip
-    """The tables of the query, where each switch has caches of its own. Otherwise as `run`."""
+    """The tables of the query, where each switch has separate caches. Otherwise as `run`."""
     return _tables("net", query, trace, {"buckets": buckets, "ways": ways, "pipe": pipe, "lag": lag}, program)
 
 

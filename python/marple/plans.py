@@ -24,8 +24,8 @@ class Groupby:
 
 @dataclass(frozen=True)
 class Plan:
-    """The stages of a query. stages: the operations of each; bound: the most steps of a packet; text: as it was
-    written.
+    """The stages of a query. stages: the operations of each; bound: the most steps of a packet; text: that
+    of the program.
     """
 
     stages: tuple[int, ...]

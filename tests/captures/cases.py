@@ -78,7 +78,7 @@ def fragments() -> Case:
 
 
 def twice() -> Case:
-    """A sender that numbers no packets: what it sends again is the same in all that tells packets apart."""
+    """A sender that numbers no packets: what it sends again is the same in all that distinguishes packets."""
     world = World(6)
     time, lost, again = START, [], 0
     for number in range(200):
@@ -177,7 +177,7 @@ def bulk(name: str, seed: int, sent: int, **how) -> tuple[World, Case]:
 
 
 def both_ends() -> Case:
-    """Offload at both ends: nowhere are the packets as they were on the link."""
+    """Offload at both ends: nowhere are the packets those of the link."""
     world, case = bulk("both-ends", 11, 10)
     joins = [frame for frame in case.after if frame.length > 1514]
     cut = [joined("before", 60, len(world.rows)), joined("after", len(joins), pieces_of(joins))]

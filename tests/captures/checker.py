@@ -1,4 +1,4 @@
-"""Makes the trace of two captures in another way: it reads the files itself, is told what they hold, and goes by order alone.
+"""Makes the trace of two captures in another way: it reads the files itself, is given what they hold, and goes by order alone.
 
 It knows from its caller who sends through the queue, how long a packet may be on the link, and that the queue is first in, first
 out. So a packet that left is the last one of its kind that came before, and that came before the one that left after it. Nothing

@@ -1,4 +1,4 @@
-"""Cases that have no trace without an option: what the script must say of them, and what it must do when it is told so."""
+"""Cases that have no trace without an option: what the script must say of them, and what it must do with that option."""
 
 from collections.abc import Iterator
 from dataclasses import replace
@@ -23,7 +23,7 @@ def refused(case: Case, name: str, reason: str, options: tuple[str, ...] = ()) -
 
 
 def told(case: Case, name: str, options: tuple[str, ...], **changes) -> Case:
-    """The same captures with options by which they have a trace, of which the checker isn't told the clocks."""
+    """The same captures with options by which they have a trace, of which the checker isn't given the clocks."""
     checked = case.checked and options[0] != "--shift"
     return replace(case, name=name, status=0, options=list(options), captures=case.name, checked=checked, **changes)
 

@@ -1,6 +1,6 @@
 """Captures whose truth is known, since this file makes them: a first-in first-out queue, simulated, with a tap on each side.
 
-Each case stands for something that ordinary captures hold and that a test needs exactly: tags, offload at both ends, clocks
+Each case represents something that ordinary captures hold and that a test needs exactly: tags, offload at both ends, clocks
 that differ. The truth of a case is the trace itself, from the simulation and from no matching of packets.
 """
 
@@ -87,7 +87,7 @@ class Row:
 
 @dataclass
 class Case:
-    """Two captures, what the script is told, and what it must say."""
+    """Two captures, the script's options, and what it must say."""
 
     name: str
     before: list[Frame]
@@ -98,7 +98,7 @@ class Case:
     messages: list[str] = field(default_factory=list)
     swapped: bool = False
     captures: str = ""  # the case whose captures these are, where it is another one
-    senders: str = "10.0.1.0/24"  # what the checker is told: who sends, and how packets are cut
+    senders: str = "10.0.1.0/24"  # what the checker is given: who sends, and how packets are cut
     longest: int = 1500
     payload: int = 1448
     checked: bool = True  # whether the checker knows enough

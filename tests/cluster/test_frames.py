@@ -1,6 +1,7 @@
 """Tables and traces as DataFrames."""
 
 import io
+import re
 import unittest
 
 import numpy
@@ -80,25 +81,57 @@ class ATrace(unittest.TestCase):
 
 
 class SplitByColumns(unittest.TestCase):
-    def test_is_split_by_records(self):
-        """With numpy a block is split column by column, and otherwise record by record: alike."""
-        folder, names = Folder(self), ("srcip", "dstip", "tout", "qsize")
-        trace = generated(3000, 9)
-        header, _, rest = trace.partition(b"\n")
-        strange = b"1,2\n,,,\n" + b",".join([b"007"] * 14) + b"\n" + b",".join([b"99999999999999999999"] * 14) + b"\n"
-        path = folder.write("trace.csv", header + b"\n" + rest + strange + rest.replace(b",80,", b", 80\t,"))
-        columns = tuple(header.decode().split(",").index(name) for name in names)
+    """With numpy a block is split column by column, and otherwise record by record: alike."""
+
+    NAMES = ("srcip", "dstip", "tout", "qsize")
+
+    def setUp(self):
+        self.folder = Folder(self)
+        self.addCleanup(setattr, splitting, "numpy", splitting.numpy)
+        self.addCleanup(setattr, records, "BLOCK", records.BLOCK)
+
+    def split(self, data: bytes, names: tuple[str, ...], quoted: bool) -> list[tuple[bytes, tuple]]:
+        """The file and its rounds, with numpy and without."""
+        path, found = self.folder.write("trace.csv", data), []
         read = records.read_header(path)
-        found = []
+        columns = tuple(read.names.index(name) for name in names)
         for module in (numpy, None):
-            self.addCleanup(setattr, splitting, "numpy", splitting.numpy)
             splitting.numpy = module
-            spans = [Span(path, read.end, read.size, False)]
-            piece = splitting.write_piece(Splitting(names, columns, 7, 1), spans, folder.path("piece"))
+            spans = [Span(path, read.end, read.size, quoted)]
+            piece = splitting.write_piece(Splitting(names, columns, 7, 1), spans, self.folder.path("piece"))
             with open(piece.path, "rb") as file:
                 found.append((file.read(), piece.rounds))
+        return found
+
+    def trace(self) -> tuple[bytes, bytes]:
+        """A header, and records of which some have few fields, or fields that are no numbers."""
+        header, _, rest = generated(3000, 9).partition(b"\n")
+        strange = b"1,2\n,,,\n" + b",".join([b"007"] * 14) + b"\n" + b",".join([b"99999999999999999999"] * 14) + b"\n"
+        return header + b"\n", rest + strange + rest.replace(b",80,", b", 80\t,")
+
+    def test_without_quotes(self):
+        header, rest = self.trace()
+        found = self.split(header + rest, self.NAMES, quoted=False)
         self.assertEqual(found[0], found[1])
         self.assertEqual(sum(found[0][1][0].records), 6004)
+
+    def test_with_quotes(self):
+        header, rest = self.trace()
+        quoted = re.sub(rb"[^,\n]+", rb'"\g<0>"', rest)
+        broken = b'"1\n2",3\n\n"a""b",\r\n' + b",".join([b'"4\n5"'] * 14) + b"\n"
+        for block, names in ((4 << 20, self.NAMES), (5000, self.NAMES), (5000, ("srcip",))):
+            with self.subTest(block=block, names=names):
+                records.BLOCK = block
+                found = self.split(header + quoted + broken + rest + b'"6', names, quoted=True)
+                self.assertEqual(found[0], found[1])
+                self.assertEqual(sum(map(sum, (one.records for one in found[0][1]))), 2 * 6004 + 4)
+
+    def test_has_the_same_parts_with_quotes(self):
+        header, rest = self.trace()
+        plain = self.split(header + rest, self.NAMES, quoted=False)[0]
+        quoted = self.split(header + re.sub(rb"[^,\n]+", rb'"\g<0>"', rest), self.NAMES, quoted=True)[0]
+        self.assertEqual(quoted[0].replace(b'"', b""), plain[0])
+        self.assertEqual(quoted[1][0].records, plain[1][0].records)
 
 
 if __name__ == "__main__":

@@ -51,7 +51,7 @@ class Folder:
         return self.path(name)
 
     def traces(self, content: bytes, files: int) -> list[str]:
-        """A trace as several files of its header, with the data records one after another."""
+        """A trace as several files of its header, with the data records in their order."""
         header, *records = content.splitlines(keepends=True)
         size = len(records) // files + 1
         return [

@@ -114,7 +114,7 @@ def note_direction(findings: Findings, pairs: dict[bytes, Pair]) -> None:
 
 
 def is_no_accident(row: int, lost: int, came: int) -> bool:
-    """Whether so many losses in a row are unlikely at the loss of the other packets."""
+    """Whether this many losses in a row are unlikely at the loss of the other packets."""
     return row * log((lost + 1) / (came + 2)) < log(CHANCE)
 
 

@@ -111,7 +111,7 @@ def nanoseconds(text: bytes) -> int:
 
 
 def number_of(data: bytes, start: int, digits: int) -> int:
-    """A number of so many hexadecimal digits, or 0 where a short snapshot lacks one of them."""
+    """A number of this many hexadecimal digits, or 0 where a short snapshot lacks one of them."""
     text = data[start : start + digits].strip()
     return int(text, 16) if len(text) == digits else 0
 
@@ -209,7 +209,7 @@ def fill(spool: Spool, lines: Iterable[bytes], file: BinaryIO, simple: bool) -> 
 
 
 def read_side_by_side(name: str, captures: list[str], paths: list[Path]) -> list[Spool]:
-    """Reads captures at the same time, each by a tshark of its own, into spools at these paths."""
+    """Reads captures at the same time, each by a separate tshark, into spools at these paths."""
     try:
         return read_all(name, captures, paths, simple=True)
     except NotSimple:

@@ -59,9 +59,9 @@ def run(
 
     query: a path, or a text, which has a `;`. traces: paths of files with one header. by: fields to split by; by
     default all that the query allows. parts: how many at least. client: a distributed.Client, whose workers see the
-    traces and the folder at the same paths; without one the tasks run one after another here. work: a folder for what
+    traces and the folder at the same paths; without one the tasks run in turn here. work: a folder for what
     is made on the way, where a second call with the same arguments goes on; by default one that is deleted at the end.
-    The options are those of the program for each part. piece: how many bytes a task splits. report: takes lines of
+    The options are those of the program for each part. piece: how many bytes a task splits at most. report: takes lines of
     progress. Raises what `marple.run` raises, where a TraceRefused has the file in `path`, and PartsRefused.
     """
     given = {"buckets": buckets, "ways": ways, "pipe": pipe, "lag": lag}

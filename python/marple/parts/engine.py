@@ -17,7 +17,7 @@ class Engine(Protocol):
 
 
 class Here:
-    """Runs one task after another, in this process."""
+    """Runs tasks in turn, in this process."""
 
     places = 1
 
@@ -52,7 +52,7 @@ class OnCluster:
 
 
 def local_client(workers: int):
-    """A client of a cluster on this machine, of so many processes."""
+    """A client of a cluster on this machine, of this many processes."""
     distributed = _distributed()
     # What fails is reported by the tasks themselves; memory_limit 0 is none, since the runs of the program aren't in
     # its count.

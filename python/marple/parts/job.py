@@ -6,6 +6,7 @@ import math
 import os
 from collections.abc import Callable, Mapping, Sequence
 from dataclasses import asdict, dataclass, field
+from itertools import pairwise
 
 from marple.commands import words_of
 from marple.faults import InputError, TraceRefused, refusal_of
@@ -27,7 +28,7 @@ AGAIN = 64  # into how many parts one is split that came out too large
 class Job:
     """A query over traces, and how it is run.
 
-    piece: how many bytes of a trace a task splits; report: takes a line of progress.
+    piece: how many bytes of a trace a task splits at most; report: takes a line of progress.
     """
 
     query: bytes
@@ -110,9 +111,9 @@ class Job:
     def _look(self) -> tuple[list[list[Span]], int]:
         """The spans of each trace that are split by a task each, and how many line ends there are."""
         stretches = [
-            (number, start, min(start + self.piece, header.size))
+            (number, start, end)
             for number, header in enumerate(self.headers)
-            for start in range(header.end, header.size, self.piece)
+            for start, end in _stretches(header.end, header.size, self.piece)
         ]
         calls = [(self.traces[number], start, end) for number, start, end in stretches]
         looked = self.engine.each(look, calls, self._count("looked through"))
@@ -211,6 +212,13 @@ def _identity(path: str) -> list:
 
 def _difference(mine: dict, theirs: dict) -> str:
     return next(name for name in mine if mine[name] != theirs.get(name))
+
+
+def _stretches(start: int, end: int, most: int) -> list[tuple[int, int]]:
+    """Stretches of one size, as near as can be, none of more than this many bytes."""
+    count = -(-(end - start) // most)
+    places = [start + (end - start) * number // count for number in range(count + 1)] if count else []
+    return list(pairwise(places))
 
 
 def _spans(path: str, begins: list[int], end: int, quote: int | None) -> list[Span]:

@@ -51,7 +51,7 @@ class Part:
 
     @staticmethod
     def of_span(number: int, span: Span, packets: int, before: int) -> Part:
-        """A piece of a trace as it comes, after so many records of its file."""
+        """A piece of a trace as it comes; `before` records of its file come earlier."""
         return Part(str(number), number, [span], packets, lambda record: (span.path, before + record))
 
 

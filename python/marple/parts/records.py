@@ -3,8 +3,10 @@
 import csv
 import os
 import re
-from collections.abc import Iterable, Iterator
+from collections.abc import Iterable, Iterator, Sequence
 from dataclasses import dataclass
+from itertools import chain, repeat
+from operator import itemgetter
 
 from marple.faults import TraceRefused
 from marple.parts.refusals import RecordTooLong
@@ -17,6 +19,7 @@ BYTE_ORDER_MARK = b"\xef\xbb\xbf"
 EMPTY = (b"\n", b"\r\n", b"\r")
 MOST = 2**64 - 1
 DECIMAL = re.compile(rb"[0-9]{1,20}")
+Fields = list[str | None]  # of one column, record by record
 QUAD = re.compile(rb"([0-9]{1,3})\.([0-9]{1,3})\.([0-9]{1,3})\.([0-9]{1,3})")
 
 
@@ -109,31 +112,78 @@ def record_sizes(span: Span) -> Iterator[list[int]]:
         yield [-len(line) if line in EMPTY else len(line) for line in block.splitlines(True)]
 
 
-def quoted_records(span: Span) -> Iterator[tuple[bytes, list[str]]]:
-    """The records of a span that may have quotes: the text of each, with an end, and its fields, whose characters are
-    bytes.
+def quoted_blocks(span: Span, columns: Sequence[int]) -> Iterator[tuple[list[bytes], list[Fields]]]:
+    """The records of a span that may have quotes, in lists: the text of each, with an end, and for each of these columns
+    their fields, whose characters are bytes; None where a record has fewer.
     """
-    last = None
-    for text, fields in _records(_lines(span), span.path):
-        if not fields:
-            continue
-        if last is not None:
-            yield last
-        last = text, fields
-    if last is not None:
-        yield closed(last[0]), last[1]
+    held: list[bytes] = []
+    size = wanted = 0
+    for lines in chain(_line_lists(span), [[]]):
+        held += lines
+        size += sum(map(len, lines))
+        if size >= wanted or not lines:
+            records, fields, held = _whole_records(held, columns)
+            size = sum(map(len, held))
+            _bound(size, span.path)
+            wanted = min(2 * size, BYTES)  # so that a long record isn't read once more for each block
+            if records:
+                records[-1] = _ended(records[-1])
+                yield records, fields
+    if held:
+        yield [closed(b"".join(held))], _fields(csv.reader(_texts(held)), columns)
 
 
-def _lines(span: Span) -> Iterator[bytes]:
-    """The lines of a span, with their ends: CR, LF, or both."""
+def _whole_records(lines: list[bytes], columns: Sequence[int]) -> tuple[list[bytes], list[Fields], list[bytes]]:
+    """The records that these lines have as a whole, with their fields in these columns, and the lines of one that goes
+    on.
+    """
+    csv.field_size_limit(2**31 - 1)
+    last = "," * max(columns) + "\n"  # after the lines: a record, or what the one that goes on has next
+    try:
+        picked = list(map(itemgetter(*columns), csv.reader(chain(_texts(lines), [last]))))
+    except IndexError:  # an empty line, or a record with fewer fields
+        picked = []
+    if len(picked) == len(lines) + 1:  # so each line is a record
+        del picked[-1]
+        return lines, [picked] if len(columns) == 1 else [list(fields) for fields in zip(*picked, strict=True)], []
+    rows = csv.reader(chain(_texts(lines), [last]))
+    ends = [0]
+    whole = []
+    for row in rows:
+        ends.append(rows.line_num)
+        if row and ends[-1] <= len(lines):
+            whole.append((b"".join(lines[ends[-2] : ends[-1]]), row))
+    return [text for text, _ in whole], _fields((row for _, row in whole), columns), lines[ends[-2] :]
+
+
+def _fields(rows: Iterable[list[str]], columns: Sequence[int]) -> list[Fields]:
+    """The fields of records in these columns."""
+    picked = [[row[column] if column < len(row) else None for column in columns] for row in rows]
+    return [list(fields) for fields in zip(*picked, strict=True)]
+
+
+def _texts(lines: Iterable[bytes]) -> Iterator[str]:
+    """Lines with their bytes as characters."""
+    return map(str, lines, repeat("latin-1"))
+
+
+def _line_lists(span: Span) -> Iterator[list[bytes]]:
+    """The lines of a span, with their ends: CR, LF, or both; in lists."""
     rest = b""
     for block in _blocks(span):
         lines = (rest + block).splitlines(True)
         rest = lines.pop()  # its end may be in the next block, also the LF of its CR
         _bound(len(rest), span.path)
-        yield from lines
+        if lines:
+            yield lines
     if rest:
-        yield rest
+        yield [rest]
+
+
+def _lines(span: Span) -> Iterator[bytes]:
+    """As `_line_lists`, line by line."""
+    for lines in _line_lists(span):
+        yield from lines
 
 
 def _records(lines: Iterable[bytes], path: str = "") -> Iterator[tuple[bytes, list[str]]]:
@@ -165,6 +215,9 @@ def closed(text: bytes) -> bytes:
     """
     lines = iter([*text.splitlines(True), b"\n"])
     next(_records(lines))
-    if next(lines, None) is None:
-        return text + b'"\n'
+    return text + b'"\n' if next(lines, None) is None else _ended(text)
+
+
+def _ended(text: bytes) -> bytes:
+    """A text with an end of its last line."""
     return text if text[-1:] in (b"\n", b"\r") else text + b"\n"

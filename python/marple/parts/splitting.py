@@ -3,14 +3,15 @@
 import json
 import os
 import uuid
-from collections.abc import Callable, Iterator, Sequence
+from collections.abc import Callable, Iterable, Iterator, Sequence
 from contextlib import contextmanager
 from dataclasses import dataclass, field
 from functools import cached_property
 from itertools import accumulate
-from typing import IO
+from operator import itemgetter
+from typing import IO, Any, NamedTuple
 
-from marple.parts.records import Span, number_of, plain_blocks, plain_records, quoted_records
+from marple.parts.records import Fields, Span, number_of, plain_blocks, plain_records, quoted_blocks
 
 try:
     import numpy
@@ -28,7 +29,7 @@ REMEMBERED = 1 << 18  # how many texts of keys are remembered with their parts
 class Splitting:
     """A function from records to parts: by the numbers of these fields, which stand in these columns.
 
-    level: how often the records were split before, since each level has a function of its own. A record in which a
+    level: how often the records were split before, since each level has another function. A record in which a
     field is missing or is no number goes to part 0, where the program finds the fault.
     """
 
@@ -57,6 +58,17 @@ class Splitting:
             for name, column in zip(self.fields, self.columns, strict=True)
         )
 
+    def keys_of(self, span: Span) -> Iterator[tuple[int | None, ...]]:
+        """The numbers of the fields in each record of a span."""
+        if span.quoted:
+            for _, columns in quoted_blocks(span, self.columns):
+                for texts in zip(*columns, strict=True):
+                    yield tuple(map(_number, texts, self.fields))
+            return
+        for block in plain_blocks(span):
+            for record in plain_records(block):
+                yield self.key_of(record.rstrip(b"\r\n").split(b",", max(self.columns) + 1))
+
     def parts_of(self, block: bytes, records: list[bytes]) -> Sequence[int]:
         """The part of each record of a block without quotes."""
         if numpy is not None and b"\r" not in block:
@@ -66,9 +78,27 @@ class Splitting:
                 return _parts_of_columns(self, text, ends, records)
         return _parts_of_texts(self, records)
 
+    def parts_of_fields(self, columns: list[Fields]) -> Sequence[int]:
+        """The part of each record, by the texts of its fields, column by column."""
+        if numpy is not None:
+            places = [_column(fields) for fields in columns]
+            if None not in places:
+                return _parts_of_places(self, places, lambda odd: self._parts_one_by_one(columns, odd))
+        return self._parts_one_by_one(columns, range(len(columns[0])))
+
+    def _parts_one_by_one(self, columns: list[Fields], records: Iterable[int]) -> list[int]:
+        return [
+            self.part_of([_number(fields[at], name) for fields, name in zip(columns, self.fields, strict=True)])
+            for at in records
+        ]
+
+
+def _number(text: str | None, field: str) -> int | None:
+    return None if text is None else number_of(text.encode("latin-1"), field)
+
 
 def _parts_of_texts(splitting: Splitting, records: list[bytes]) -> list[int]:
-    """The parts of records, one after another."""
+    """The parts of records, read in turn."""
     columns, last, known = splitting.columns, max(splitting.columns), splitting.known
     parts = []
     for record in records:
@@ -85,28 +115,52 @@ def _parts_of_texts(splitting: Splitting, records: list[bytes]) -> list[int]:
     return parts
 
 
-def _parts_of_columns(splitting: Splitting, text, ends, records: list[bytes]) -> list[int]:
-    """The parts of the records of a text, which have these ends, column by column. What isn't 1 to 19 digits is read
-    record by record.
-    """
+def _parts_of_columns(splitting: Splitting, text, ends, records: list[bytes]):
+    """The parts of the records of a text, which have these ends, column by column."""
     starts = numpy.concatenate(([0], ends[:-1] + 1))
     commas = numpy.flatnonzero(text == 44)
     first = numpy.searchsorted(commas, starts)
     commas = numpy.concatenate((commas, numpy.full(max(splitting.columns) + 1, len(text))))
-    mixed = numpy.full(len(ends), splitting.level * STEP & WORD, dtype=numpy.uint64)
-    odd = numpy.zeros(len(ends), dtype=bool)
-    for column in splitting.columns:
-        begin = starts if column == 0 else commas[first + column - 1] + 1
-        words, strange = _numbers(text, begin, numpy.minimum(commas[first + column], ends))
+    columns = [
+        Column(text, starts if at == 0 else commas[first + at - 1] + 1, numpy.minimum(commas[first + at], ends))
+        for at in splitting.columns
+    ]
+    return _parts_of_places(splitting, columns, lambda odd: _parts_of_texts(splitting, [records[at] for at in odd]))
+
+
+class Column(NamedTuple):
+    """Where the fields of a column begin and end in a text."""
+
+    text: Any
+    begin: Any
+    end: Any
+
+
+def _column(fields: Fields) -> Column | None:
+    """The fields as a column; None where one is missing or has more than one line."""
+    if None in fields:
+        return None
+    text = numpy.frombuffer("\n".join([*fields, ""]).encode("latin-1"), dtype=numpy.uint8)
+    ends = numpy.flatnonzero(text == 10)
+    return Column(text, numpy.concatenate(([0], ends[:-1] + 1)), ends) if len(ends) == len(fields) else None
+
+
+def _parts_of_places(splitting: Splitting, columns: list[Column], parts_of_odd: Callable[[list[int]], list[int]]):
+    """The parts of records with these columns. What isn't 1 to 19 digits is read record by record."""
+    count = len(columns[0].begin)
+    mixed = numpy.full(count, splitting.level * STEP & WORD, dtype=numpy.uint64)
+    odd = numpy.zeros(count, dtype=bool)
+    for column in columns:
+        words, strange = _numbers(*column)
         odd |= strange
         mixed ^= words
         mixed = (mixed ^ mixed >> numpy.uint64(30)) * numpy.uint64(FACTORS[0])
         mixed = (mixed ^ mixed >> numpy.uint64(27)) * numpy.uint64(FACTORS[1])
         mixed ^= mixed >> numpy.uint64(31)
-    parts = ((mixed >> numpy.uint64(32)) % numpy.uint64(splitting.parts)).tolist()
-    strange = numpy.flatnonzero(odd).tolist()
-    for at, part in zip(strange, _parts_of_texts(splitting, [records[at] for at in strange]), strict=True):
-        parts[at] = part
+    parts = ((mixed >> numpy.uint64(32)) % numpy.uint64(splitting.parts)).astype(numpy.uint32)
+    strange = numpy.flatnonzero(odd)
+    if len(strange):
+        parts[strange] = parts_of_odd(strange.tolist())
     return parts
 
 
@@ -130,14 +184,8 @@ def with_parts(splitting: Splitting, span: Span) -> Iterator[tuple[list[bytes], 
             records = plain_records(block)
             yield records, splitting.parts_of(block, records)
         return
-    records, parts = [], []
-    for text, fields in quoted_records(span):
-        records.append(text)
-        parts.append(splitting.part_of(splitting.key_of([field.encode("latin-1") for field in fields])))
-        if len(records) == 1 << 14:
-            yield records, parts
-            records, parts = [], []
-    yield records, parts
+    for records, fields in quoted_blocks(span, splitting.columns):
+        yield records, splitting.parts_of_fields(fields)
 
 
 @dataclass(frozen=True)
@@ -200,13 +248,23 @@ def write_piece(splitting: Splitting, spans: Sequence[Span], path: str) -> Piece
 
 def _chunks(count: int, records: list[bytes], parts: Sequence[int]) -> Iterator[tuple[bytes, int, int]]:
     """The records of a block, put together by their parts: the bytes, how many records, and the part."""
+    for part, own in enumerate(_by_parts(count, records, parts)):
+        if own:
+            yield b"".join(own), len(own), part
+
+
+def _by_parts(count: int, records: list[bytes], parts: Sequence[int]) -> Iterator[Sequence[bytes]]:
+    """The records of each part, in their order."""
+    if numpy is not None and len(records) > 1:
+        narrow = numpy.asarray(parts, dtype=numpy.min_scalar_type(count - 1))  # few bits are sorted faster
+        ordered = itemgetter(*numpy.argsort(narrow, kind="stable").tolist())(records)
+        ends = numpy.cumsum(numpy.bincount(narrow, minlength=count)).tolist()
+        return (ordered[start:end] for start, end in zip([0, *ends], ends, strict=False))
     lists: list[list[bytes]] = [[] for _ in range(count)]
     appends = [own.append for own in lists]
     for record, part in zip(records, parts, strict=True):
         appends[part](record)
-    for part, own in enumerate(lists):
-        if own:
-            yield b"".join(own), len(own), part
+    return iter(lists)
 
 
 def _write_round(file, start: int, held: list) -> Round:
@@ -222,7 +280,7 @@ def _write_round(file, start: int, held: list) -> Round:
 
 @contextmanager
 def written(path: str, mode: str = "wb") -> Iterator[IO]:
-    """A file that is written under a name of its own, and has its name when all of it is there."""
+    """A file that is written under another name, and has its own name when it is complete."""
     own = f"{path}.{uuid.uuid4().hex}"
     try:
         with open(own, mode) as file:

@@ -7,7 +7,7 @@ import time
 from collections.abc import Iterator, Sequence
 from dataclasses import asdict, dataclass
 
-from marple.parts.records import BLOCK, Span, plain_blocks, plain_records, quoted_records, record_sizes
+from marple.parts.records import BLOCK, Span, record_sizes
 from marple.parts.refusals import RecordTooLong
 from marple.parts.splitting import Piece, Round, Splitting, keep, with_parts, write_piece, written
 
@@ -52,7 +52,7 @@ def split(splitting: Splitting, spans: Sequence[Span], path: str) -> Piece:
 
 
 def cut(span: Span, most_records: int, most_bytes: int) -> list[tuple[Span, int]]:
-    """Cuts a span into spans of no more than so many records and bytes, with the number of records of each."""
+    """Cuts a span into spans of at most this many records and bytes, with the number of records of each."""
     spans, start, at, count = [], span.start, span.start, 0
     for sizes in record_sizes(span):
         for size in sizes:
@@ -69,24 +69,9 @@ def cut(span: Span, most_records: int, most_bytes: int) -> list[tuple[Span, int]
 
 def sole_key(splitting: Splitting, spans: Sequence[Span]) -> tuple[int | None, ...] | None:
     """The key that all records of the spans have, or None where there are several."""
-    first = None
-    for span in spans:
-        for cells in _cells(span, max(splitting.columns) + 1):
-            key = splitting.key_of(cells)
-            if first is not None and key != first:
-                return None
-            first = key
-    return first
-
-
-def _cells(span: Span, columns: int) -> Iterator[list[bytes]]:
-    if span.quoted:
-        for _, fields in quoted_records(span):
-            yield [field.encode("latin-1") for field in fields]
-        return
-    for block in plain_blocks(span):
-        for record in plain_records(block):
-            yield record.rstrip(b"\r\n").split(b",", columns)
+    keys = (key for span in spans for key in splitting.keys_of(span))
+    first = next(keys, None)
+    return first if all(key == first for key in keys) else None
 
 
 def find_record(splitting: Splitting, spans: Sequence[Span], part: int, number: int) -> int:
