@@ -1,5 +1,5 @@
 -- Pipelines whose lanes made events.
-use Rattle.std.proofs.Common.{◌≡◌, ℕ, zero, suc, ◌+◌, ◌==◌, true, List, [], ◌∷◌, Some, length, map, refl, sym, ap, ◌∙◌, subst, arith}
+use Rattle.std.proofs.Common.{◌≡◌, ℕ, zero, suc, ◌+◌, ◌≤◌, ◌==◌, true, List, [], ◌∷◌, Some, length, map, refl, sym, ap, ◌∙◌, subst, arith}
 use Rattle.std.specs.List.{list_all}
 use Rattle.std.specs.Prelude.{slice_get}
 use Rattle.epoch_model.specs.Machine.{Machine, Event, run, empty_buckets}
@@ -7,6 +7,10 @@ use Rattle.epoch_model.specs.Tables.{Folding}
 use Rattle.epoch_model.specs.Timeline.{NoPacket}
 use Rattle.epoch_model.specs.Laws.{SameEpochs}
 use Rattle.epoch_entry.specs.declared.purpose.Entries.{Entries}
+use Rattle.epoch_entry.specs.Foldings.{merge_bound}
+use Rattle.epoch_entry.specs.Purposes.{IsKindFor}
+use Rattle.fold_class.specs.Program.{IsProgramOf}
+use Rattle.query_lang.specs.declared.fold.TypedFold.{TypedFold}
 use Rattle.epoch_entry.specs.contracts.any.AnyEpochsEpochKind.TheImpl.{ghosts}
 use Rattle.stage_plan.specs.declared.group.GroupPlan.{GroupPlan}
 use Rattle.stage_plan.specs.Planned.{wiring_at}
@@ -16,8 +20,9 @@ use Rattle.switch_core.specs.LaneEvents.{Parts, PartsStand, MakesAll}
 use Rattle.switch_core.specs.Closing.{held_in}
 use Rattle.switch_core.specs.Rows.{Each, EachFrom}
 use Rattle.switch_core.specs.Pipelines.{IsLaneOf, after_events, geometry_of}
-use Rattle.switch_core.specs.PlanLanes.{LaneView, PipelineMakes, AreLanesOf, StandsFor, LaneMakes, LanesMake, LaneSweeps, LaneIsSwept, PipelineIsSwept, PipelineSweeps, parts_of, places_of}
+use Rattle.switch_core.specs.PlanLanes.{LaneView, MergesWithin, PipelineView, PipelineMakes, AreLanesOf, StandsFor, LaneMakes, LanesMake, LaneSweeps, LaneIsSwept, PipelineIsSwept, PipelineSweeps, parts_of, places_of}
 use Rattle.switch_core.proofs.Histories.{followed}
+use Rattle.switch_core.proofs.SideBySide.{each_at, same_some}
 
 -- events keep a lane's sizes
 pub record SameSizes (old new : LaneView) : Type 0 where
@@ -58,6 +63,20 @@ lanes_kept R sizes entries plan buckets k (a ∷ old) (b ∷ new) (g ∷ groups)
       subst (λ kind. IsLaneOf entries buckets b.cache (ghosts.sizes kind) (ghosts.folding kind) (ghosts.open_bound kind) (ghosts.absorb_bound kind) g (wiring_at plan k)) (sym s.kind)
           (record { many = s.buckets ∙ own.many; keys = s.key_words ∙ own.keys; args = own.args; class = own.class; kind = own.kind }),
       lanes_kept R sizes entries plan buckets (suc k) old new groups e.1 f.1,
+    )
+
+-- the bounds on their merges stay
+pub merges_kept : (R : ℕ → LaneView → LaneView → Type 0) → ((n : ℕ) (a b : LaneView) → R n a b → SameSizes a b)
+    → (k : ℕ) (old new : List LaneView) (groups : List GroupPlan) → EachFrom R k old new → EachFrom (λ n. MergesWithin) k old groups → EachFrom (λ n. MergesWithin) k new groups
+merges_kept R sizes k [] [] [] e f = tt
+merges_kept R sizes k [] [] (g ∷ groups) e f = absurd f
+merges_kept R sizes k [] (b ∷ new) groups e f = absurd e
+merges_kept R sizes k (a ∷ old) [] groups e f = absurd e
+merges_kept R sizes k (a ∷ old) (b ∷ new) [] e f = absurd f
+merges_kept R sizes k (a ∷ old) (b ∷ new) (g ∷ groups) e f =
+    let s = sizes k a b e.0 in (
+      λ h is. subst (λ kind. ghosts.merge_bound kind ≤ merge_bound h) (sym s.kind) (f.0 h is),
+      merges_kept R sizes (suc k) old new groups e.1 f.1,
     )
 
 -- all lanes have this many buckets
@@ -190,3 +209,20 @@ pipeline_sweeps ways entries plan buckets old new are e = record {
   buckets = refl;
   places = same_places (λ n. LaneSweeps ways) (λ n a b m. sweeps_sizes ways a b m) 0 old new e;
 }
+
+-- the lane of a groupby has entries of the groupby's kind
+pub kind_at : (p : PipelineView) (n : ℕ) (lane : LaneView) (group : GroupPlan) (f : TypedFold) → AreLanesOf p.entries p.plan p.buckets p.lanes
+    → slice_get p.lanes n ≡ Some lane → slice_get p.plan.groups n ≡ Some group → IsProgramOf f group.program
+    → IsKindFor p.entries f (ghosts.sizes lane.kind) (ghosts.folding lane.kind) (ghosts.open_bound lane.kind) (ghosts.absorb_bound lane.kind)
+kind_at p n lane group f are here at is =
+    let R = λ (i : ℕ) (l : LaneView) (x : GroupPlan). IsLaneOf p.entries p.buckets l.cache (ghosts.sizes l.kind) (ghosts.folding l.kind) (ghosts.open_bound l.kind) (ghosts.absorb_bound l.kind) x (wiring_at p.plan i) in
+    let found = each_at R 0 n p.lanes p.plan.groups lane are here in
+    let same : found.0 ≡ group = same_some found.0 group (sym found.1 ∙ at) in
+    (subst (R n lane) same (found.2 n (omega arith))).kind f is
+
+-- and merging one of them takes at most what its fold allows
+pub merges_at : (p : PipelineView) (n : ℕ) (lane : LaneView) (group : GroupPlan) → Each MergesWithin p.lanes p.plan.groups
+    → slice_get p.lanes n ≡ Some lane → slice_get p.plan.groups n ≡ Some group → MergesWithin lane group
+merges_at p n lane group within here at =
+    let found = each_at (λ i. MergesWithin) 0 n p.lanes p.plan.groups lane within here in
+    subst (MergesWithin lane) (same_some found.0 group (sym found.1 ∙ at)) (found.2 n (omega arith))

@@ -9,6 +9,10 @@ use Rattle.epoch_model.specs.Tables.{Folding}
 use Rattle.epoch_entry.specs.declared.any.AnyEpochs.{AnyEpochs}
 use Rattle.epoch_entry.specs.declared.purpose.Entries.{Entries}
 use Rattle.epoch_entry.specs.contracts.any.AnyEpochsEpochKind.TheImpl.{ghosts}
+use Rattle.epoch_entry.specs.Foldings.{merge_bound}
+use Rattle.fold_class.specs.Program.{IsProgramOf}
+use Rattle.query_lang.specs.declared.fold.TypedFold.{TypedFold}
+use Rattle.stage_plan.specs.declared.group.GroupPlan.{GroupPlan}
 use Rattle.bucket_cache.specs.Caches.{Cache}
 use Rattle.evict_pipe.specs.Pipes.{Pipe}
 use Rattle.backing_store.specs.Store.{Store}
@@ -77,10 +81,15 @@ AreLanesOf entries plan buckets lanes =
     EachFrom (λ n lane group. IsLaneOf entries buckets lane.cache (ghosts.sizes lane.kind) (ghosts.folding lane.kind)
     (ghosts.open_bound lane.kind) (ghosts.absorb_bound lane.kind) group (wiring_at plan n)) 0 lanes plan.groups
 
+-- merging an entry of a lane takes at most the steps that its groupby's fold allows
+abbrev pub MergesWithin : LaneView → GroupPlan → Type 0
+MergesWithin lane group = (f : TypedFold) → IsProgramOf f group.program → ghosts.merge_bound lane.kind ≤ merge_bound f
+
 -- a lane for each groupby of the plan, and room for what is taken of a packet
 pub record IsPipeline (ways : ℕ) (p : PipelineView) (registers key args : List ℕ) : Type 0 where
   pub few_ways : ways ≤ 65536
   pub lanes : AreLanesOf p.entries p.plan p.buckets p.lanes
+  pub merges : Each MergesWithin p.lanes p.plan.groups
   pub rooms : HasRooms p.plan registers key args
 
 -- a lane makes these events in order

@@ -7,7 +7,7 @@ ghost use Rattle.epoch_model.specs.Machine.{empty_machine};
 ghost use Rattle.epoch_entry.specs.Purposes.{IsKindFor};
 ghost use Rattle.switch_core.specs.Rows.{Each};
 ghost use Rattle.switch_core.specs.Pipelines.{empty_machines, geometry_of};
-ghost use Rattle.switch_core.specs.PlanLanes.{AreLanesOf, HavePlaces, StandsFor, lane_view};
+ghost use Rattle.switch_core.specs.PlanLanes.{AreLanesOf, HavePlaces, MergesWithin, StandsFor, lane_view};
 
 use crate::lane::Lane;
 use epoch_entry::{AnyEpochs, Entries, EpochKind, entries_are_small, entries_suit_folds};
@@ -35,6 +35,7 @@ fn made_lane<const WAYS: usize>(
     ensures kind { IfOk result (λ lane. (f : TypedFold) → IsProgramOf f group.now.program
         → IsKindFor entries f (⟦<AnyEpochs as EpochKind>⟧.sizes lane.kind) (⟦<AnyEpochs as EpochKind>⟧.folding lane.kind)
         (⟦<AnyEpochs as EpochKind>⟧.open_bound lane.kind) (⟦<AnyEpochs as EpochKind>⟧.absorb_bound lane.kind)) }
+    ensures merges { IfOk result (λ lane. MergesWithin (lane_view lane) group.now) }
 {
     entries_are_small();
     let kind = AnyEpochs::for_entries(entries, group.program.copy(alloc)?);
@@ -54,6 +55,7 @@ pub fn made_lanes<const WAYS: usize>(
     requires places { buckets * WAYS ≤ 65536 }
     requires pipe { (0 < pipe_records) × (pipe_records ≤ 65536) }
     ensures lanes { IfOk result (λ lanes. AreLanesOf entries plan.now buckets (map lane_view lanes.items)) }
+    ensures merges { IfOk result (λ lanes. Each MergesWithin (map lane_view lanes.items) plan.now.groups) }
     ensures pipe_places { IfOk result (λ lanes. HavePlaces pipe_records (map lane_view lanes.items)) }
     ensures stands { IfOk result (λ lanes. Each StandsFor (map lane_view lanes.items)
         (empty_machines (geometry_of WAYS buckets) plan.now.groups)) }

@@ -7,12 +7,15 @@ ghost use Rattle.epoch_model.specs.Machine.{Machine, Evict, Merge};
 ghost use Rattle.epoch_model.specs.Timeline.{IsSwept};
 ghost use Rattle.switch_core.specs.Rows.{Each};
 ghost use Rattle.bucket_cache.specs.Caches.{list_at};
-ghost use Rattle.epoch_entry.specs.Purposes.{runs_of};
+ghost use Rattle.fold_class.specs.Program.{IsProgramOf};
+ghost use Rattle.query_lang.specs.declared.fold.TypedFold.{TypedFold};
+ghost use Rattle.epoch_entry.specs.Purposes.{IsKindFor, runs_of};
+ghost use Rattle.stage_plan.specs.declared.group.GroupPlan.{GroupPlan};
 ghost use Rattle.stage_plan.specs.Planned.{plan_bound};
 ghost use Rattle.switch_core.specs.Closing.{held_in};
 ghost use Rattle.switch_core.specs.Costs.{evict_cost};
 ghost use Rattle.switch_core.specs.Pipelines.{empty_machines, event_at, geometry_of, packet_events, tables_of};
-ghost use Rattle.switch_core.specs.PlanLanes.{AreLanesOf, AtLane, HavePlaces, LaneRunsSweep, PipelineIsSwept, PipelineMakes};
+ghost use Rattle.switch_core.specs.PlanLanes.{AreLanesOf, AtLane, HavePlaces, LaneRunsSweep, MergesWithin, PipelineIsSwept, PipelineMakes};
 ghost use Rattle.switch_core.specs.PlanLanes.{PipelineStands, PipelineSweeps, SweepBreaksOff, folding_at, lane_is_drained, lane_is_ready};
 ghost use Rattle.switch_core.specs.PlanLanes.{lane_merge_cost, lane_sweep_cost, lane_view, pipeline_cost};
 
@@ -22,7 +25,7 @@ use crate::lanes::{all_drained, all_ready, evict_at, merge_at, packet_lanes, swe
 use crate::making::made_lanes;
 use crate::registers::{fill_registers, registers_of};
 use crate::tables::lane_tables;
-use epoch_entry::{AnyEpochs, Entries, entries_suit_folds};
+use epoch_entry::{AnyEpochs, Entries, EpochKind, entries_suit_folds};
 use final_queries::Table;
 use fold_class::depth_is_found;
 use marple_base::{Packet, Seq, Steps};
@@ -231,10 +234,15 @@ impl<const WAYS: usize> Pipeline<WAYS> {
         lane_tables(self.alloc, &self.plan, &self.lanes)
     }
 
-    /// The lane of a groupby.
+    /// The lane of a groupby. Its entries are of the kind of the groupby's fold for what they are for, so that merging one of
+    /// them takes at most the steps that the fold allows.
     pub fn lane(&self, lane: u32) -> &Lane<AnyEpochs, WAYS>
         requires { lane < length self.now.lanes }
-        ensures { slice_get self.now.lanes lane ≡ Some (lane_view result.now) }
+        ensures lane { slice_get self.now.lanes lane ≡ Some (lane_view result.now) }
+        ensures kind { (group : GroupPlan) (f : TypedFold) → slice_get self.now.plan.groups lane ≡ Some group → IsProgramOf f group.program
+            → IsKindFor self.now.entries f (⟦<AnyEpochs as EpochKind>⟧.sizes result.now.kind) (⟦<AnyEpochs as EpochKind>⟧.folding result.now.kind)
+            (⟦<AnyEpochs as EpochKind>⟧.open_bound result.now.kind) (⟦<AnyEpochs as EpochKind>⟧.absorb_bound result.now.kind) }
+        ensures merges { (group : GroupPlan) → slice_get self.now.plan.groups lane ≡ Some group → MergesWithin (lane_view result.now) group }
     {
         &self.lanes[lane as usize]
     }

@@ -1,4 +1,5 @@
 pub mod NumberFacts
+pub mod BlockFacts
 pub mod ReadingFacts
 pub mod EachFacts
 pub mod ColumnFacts

@@ -1,4 +1,5 @@
 pub mod Numbers
+pub mod Blocks
 pub mod Reading
 pub mod Traces
 pub mod Upcoming

@@ -1,6 +1,7 @@
 //! Packets from the text of a trace, one record at a time.
 #![tactic(auto)]
 
+mod blocks;
 mod columns;
 mod fault;
 mod number;

@@ -1,12 +1,13 @@
 //! Numbers in the fields of a trace.
 
 ghost use Rattle.std.specs.Prelude.{◌≡◌, ◌+◌, ◌*◌, ◌^◌, ◌==◌, ◌<◌, ◌≤◌, ◌∷◌, [], drop, length};
-ghost use Rattle.std.specs.Prelude.{take, IfNone, IfSome, MatchOption};
+ghost use Rattle.std.specs.Prelude.{take, IfNone, IfSome, MatchOption, Some};
 ghost use Rattle.std.specs.List.{slice_split};
 ghost use Rattle.trace_reader.specs.Numbers as Numbers;
 ghost use Rattle.trace_reader.specs.Numbers.{decimal_word, is_dot, number_in, octet_word, quad_word, without_blanks};
 ghost use Rattle.trace_reader.specs.Numbers.{without_first_blanks, without_last_blanks, word_of};
 
+use crate::blocks::front_digits;
 use marple_base::Field;
 
 fn is_blank(byte: u8) -> bool
@@ -66,18 +67,19 @@ fn digits(text: &[u8]) -> Option<u64>
     requires few { length text.now ≤ 19 }
     ensures { result ≡ number_in 19 (10 ^ 19) text.now }
 {
-    let mut number = 0u64;
-    for byte in text {
+    let (front, read) = front_digits(text);
+    let mut number = front;
+    for i in read..text.len() {
+        let byte = text[i];
         if !byte.is_ascii_digit() {
             return None;
         }
-        number = number * 10 + u64::from(*byte - b'0');
+        number = number * 10 + u64::from(byte - b'0');
     }
     Some(number)
 }
 
 // A number of 1 to 20 digits. Only the last of 20 can pass the most that fits.
-#[inline(always)]
 fn decimal(text: &[u8]) -> Option<u64>
     ensures { result ≡ decimal_word text.now }
 {
@@ -142,7 +144,6 @@ fn quad(text: &[u8]) -> Option<u64>
 }
 
 // The word of a text without blanks at its ends, if it is in the field's form.
-#[inline(never)]
 fn trimmed_word(field: Field, text: &[u8]) -> Option<u64>
     ensures { result ≡ word_of field text.now }
 {
@@ -156,14 +157,32 @@ fn trimmed_word(field: Field, text: &[u8]) -> Option<u64>
     }
 }
 
-/// The word of a field's text without the blanks at its ends, if that is in the field's form. Most texts are digits alone,
-/// which have no blanks.
+// The word of a field's text without the blanks at its ends, if that is in the field's form.
+#[inline(never)]
+fn word_with_blanks(field: Field, text: &[u8]) -> Option<u64>
+    ensures { result ≡ word_of field (without_blanks text.now) }
+{
+    trimmed_word(field, trimmed(text))
+}
+
+// A number of 1 to 19 digits, which most texts are.
+#[inline(always)]
+fn plain_number(text: &[u8]) -> Option<u64>
+    ensures { IfSome result (λ n. decimal_word text.now ≡ Some n) }
+{
+    if text.is_empty() || text.len() > 19 {
+        return None;
+    }
+    digits(text)
+}
+
+/// The word of a field's text without the blanks at its ends, if that is in the field's form.
 #[inline(always)]
 pub fn word(field: Field, text: &[u8]) -> Option<u64>
     ensures { result ≡ word_of field (without_blanks text.now) }
 {
-    if let Some(number) = decimal(text) {
+    if let Some(number) = plain_number(text) {
         return Some(number);
     }
-    trimmed_word(field, trimmed(text))
+    word_with_blanks(field, text)
 }

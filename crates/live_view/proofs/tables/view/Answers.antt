@@ -21,7 +21,7 @@ view_lane-requires g c =
     let i = c.loop-i.i in
     let lane = lane_view c.lane.result.now in
     let at : slice_get p.plan.groups i ≡ Some c.group.result.now = ap (λ x. slice_get x.groups i) (sym c.plan-plan.ensures) ∙ c.group.ensures in
-    let fits = lane_fits p.entries p.plan p.buckets i p.lanes c.group.result.now lane c.entries_are_small.ensures (subst IsSoundPlan c.plan-plan.ensures c.known-2.ensures) c.known.ensures at c.lane.ensures in
+    let fits = lane_fits p.entries p.plan p.buckets i p.lanes c.group.result.now lane c.entries_are_small.ensures (subst IsSoundPlan c.plan-plan.ensures c.known-2.ensures) c.known.ensures at c.lane.ensures.lane in
     (lit< tt, (sym fits.keys, fits.small))
 
 pub loop-i-preserved : goal.loop-i-preserved
@@ -32,9 +32,9 @@ loop-i-preserved g c =
     let at : slice_get p.plan.groups i ≡ Some c.group.result.now = ap (λ x. slice_get x.groups i) (sym c.plan-plan.ensures) ∙ c.group.ensures in
     record {
       tables = λ machines stand.
-          let found = each_at (λ n. StandsFor) 0 i p.lanes machines lane stand c.lane.ensures in
+          let found = each_at (λ n. StandsFor) 0 i p.lanes machines lane stand c.lane.ensures.lane in
           let table = c.in_ok-view_lane.ensures.table found.0 (found.2 i (omega arith)) in
-          let next = seen_next p.plan.groups p.lanes machines i c.group.result.now lane found.0 at c.lane.ensures found.1 in
+          let next = seen_next p.plan.groups p.lanes machines i c.group.result.now lane found.0 at c.lane.ensures.lane found.1 in
           c.in_ok-push.ensures.ok ∙ (ap (λ ts. ts ++ c.in_ok-view_lane.field-0 ∷ []) (c.loop-i.invariant.tables machines stand)
           ∙ (ap (λ t. take i (tables_seen p.plan.groups (map folding_at p.lanes) machines) ++ t ∷ []) table ∙ sym next));
       steps = let a = c.view_lane.ensures.steps in let b = c.loop-i.invariant.steps in omega arith;

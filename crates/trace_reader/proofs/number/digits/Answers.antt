@@ -8,35 +8,35 @@ use Rattle.trace_reader.proofs.number.digits.Goals as goal
 pub overflow_mul-number : goal.overflow_mul-number
 overflow_mul-number c =
     let text = c.args.text.now in
-    let i = c.loop-byte.byte-index in
-    let size : length (take i text) ≡ i = length-take-le i text (omega (arith, c.loop-byte-test.true)) in
-    let few : length (take i text) ≤ 18 = omega (arith, size, c.loop-byte-test.true, c.requires.few) in
-    omega (arith, digits_below (take i text) 18 c.loop-byte.invariant.digits few, c.loop-byte.invariant.value)
+    let i = c.loop-i.i in
+    let size : length (take i text) ≡ i = length-take-le i text (omega (arith, c.loop-i-test.true)) in
+    let few : length (take i text) ≤ 18 = omega (arith, size, c.loop-i-test.true, c.requires.few) in
+    omega (arith, digits_below (take i text) 18 c.loop-i.invariant.digits few, c.loop-i.invariant.value)
 
 pub overflow_add-number : goal.overflow_add-number
 overflow_add-number c =
     let text = c.args.text.now in
-    let i = c.loop-byte.byte-index in
-    let size : length (take i text) ≡ i = length-take-le i text (omega (arith, c.loop-byte-test.true)) in
-    let few : length (take i text) ≤ 18 = omega (arith, size, c.loop-byte-test.true, c.requires.few) in
+    let i = c.loop-i.i in
+    let size : length (take i text) ≡ i = length-take-le i text (omega (arith, c.loop-i-test.true)) in
+    let few : length (take i text) ≤ 18 = omega (arith, size, c.loop-i-test.true, c.requires.few) in
     let digit : is_ascii_digit (get_or text i 0) ≡ true = search rules in
     let small : get_or text i 0 ≤ 57 = grind (arith, nat_tests) in
-    omega (arith, digits_below (take i text) 18 c.loop-byte.invariant.digits few, c.loop-byte.invariant.value, c.from.ensures, small)
+    omega (arith, digits_below (take i text) 18 c.loop-i.invariant.digits few, c.loop-i.invariant.value, c.from.ensures, small)
 
-pub loop-byte-preserved : goal.loop-byte-preserved
-loop-byte-preserved c =
+pub loop-i-preserved : goal.loop-i-preserved
+loop-i-preserved c =
     let text = c.args.text.now in
-    let i = c.loop-byte.byte-index in
+    let i = c.loop-i.i in
     let digit : is_ascii_digit (get_or text i 0) ≡ true = search rules in
     record {
-      digits = list_all_digit text i c.loop-byte-test.true c.loop-byte.invariant.digits digit;
-      value = grind (arith, digits_value_digit text i c.loop-byte-test.true digit);
+      digits = list_all_digit text i c.loop-i-test.true c.loop-i.invariant.digits digit;
+      value = grind (arith, digits_value_digit text i c.loop-i-test.true digit);
     }
 
 pub returns : goal.returns
 returns c =
     let text = c.args.text.now in
-    let all = take_all c.loop-byte.byte-index text c.loop-byte-test.false in
-    let digits = rw all at c.loop-byte.invariant.digits in
-    let value = rw all at c.loop-byte.invariant.value in
+    let all = take_all c.loop-i.i text c.loop-i-test.false in
+    let digits = rw all at c.loop-i.invariant.digits in
+    let value = rw all at c.loop-i.invariant.value in
     sym (number_some 19 (10 ^ 19) text c.requires.some c.requires.few digits (digits_below text 19 digits c.requires.few) ∙ ap Some (sym value))

@@ -2,10 +2,11 @@ use Rattle.std.proofs.Common.{◌≡◌, ◌++◌, Some, length, map, take, drop
 use Rattle.std.proofs.lemmas.List.{length-map}
 use Rattle.std.specs.Prelude.{slice_get}
 use Rattle.epoch_model.specs.Machine.{Evict}
+use Rattle.switch_core.specs.Rows.{Each}
 use Rattle.switch_core.specs.Pipelines.{event_at}
-use Rattle.switch_core.specs.PlanLanes.{AreLanesOf, LaneMakes, LanesMake, PipelineMakes, PipelineView, lane_view}
+use Rattle.switch_core.specs.PlanLanes.{AreLanesOf, LaneMakes, LanesMake, MergesWithin, PipelineMakes, PipelineView, lane_view}
 use Rattle.switch_core.proofs.LaneFacts.{whole_written}
-use Rattle.switch_core.proofs.PipelineSteps.{makes_sizes, lanes_kept, lanes_many, pipeline_makes}
+use Rattle.switch_core.proofs.PipelineSteps.{makes_sizes, lanes_kept, merges_kept, lanes_many, pipeline_makes}
 use Rattle.switch_core.proofs.pipeline.Pipeline.evict.Goals as goal
 
 pub evict_at-requires : goal.evict_at-requires
@@ -37,7 +38,10 @@ invariant_of-self g c =
     let kept : AreLanesOf p.entries p.plan p.buckets (map lane_view new) =
     lanes_kept (λ n. LaneMakes g.row.WAYS (events n)) (λ n a b m. makes_sizes g.row.WAYS (events n) a b m)
     p.entries p.plan p.buckets 0 (map lane_view c.deref_mut.result.now) (map lane_view new) p.plan.groups c.evict_at.ensures.makes (subst (λ x. AreLanesOf p.entries p.plan p.buckets (map lane_view x)) (sym c.deref_mut.ensures.value) c.self.invariant.lanes) in
-    record { lanes = subst (λ x. AreLanesOf p.entries p.plan p.buckets (map lane_view x)) (sym whole) kept; rooms = c.self.invariant.rooms; few_ways = c.self.invariant.few_ways }
+    let bounded : Each MergesWithin (map lane_view new) p.plan.groups =
+    merges_kept (λ n. LaneMakes g.row.WAYS (events n)) (λ n a b m. makes_sizes g.row.WAYS (events n) a b m)
+    0 (map lane_view c.deref_mut.result.now) (map lane_view new) p.plan.groups c.evict_at.ensures.makes (subst (λ x. Each MergesWithin (map lane_view x) p.plan.groups) (sym c.deref_mut.ensures.value) c.self.invariant.merges) in
+    record { lanes = subst (λ x. AreLanesOf p.entries p.plan p.buckets (map lane_view x)) (sym whole) kept; merges = subst (λ x. Each MergesWithin (map lane_view x) p.plan.groups) (sym whole) bounded; rooms = c.self.invariant.rooms; few_ways = c.self.invariant.few_ways }
 
 pub returns-clause-makes : goal.returns-clause-makes
 returns-clause-makes g c =

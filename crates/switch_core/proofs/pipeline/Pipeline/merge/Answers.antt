@@ -1,9 +1,10 @@
 use Rattle.std.proofs.Common.{◌≡◌, ◌++◌, length, map, take, drop, sym, ◌∙◌, subst}
 use Rattle.epoch_model.specs.Machine.{Merge}
+use Rattle.switch_core.specs.Rows.{Each}
 use Rattle.switch_core.specs.Pipelines.{event_at}
-use Rattle.switch_core.specs.PlanLanes.{AreLanesOf, LaneMakes, LanesMake, PipelineMakes, PipelineView, lane_view}
+use Rattle.switch_core.specs.PlanLanes.{AreLanesOf, LaneMakes, LanesMake, MergesWithin, PipelineMakes, PipelineView, lane_view}
 use Rattle.switch_core.proofs.LaneFacts.{whole_written, either_way, on_ok}
-use Rattle.switch_core.proofs.PipelineSteps.{makes_sizes, lanes_kept, pipeline_makes}
+use Rattle.switch_core.proofs.PipelineSteps.{makes_sizes, lanes_kept, merges_kept, pipeline_makes}
 use Rattle.switch_core.proofs.pipeline.Pipeline.merge.Goals as goal
 
 pub invariant_of-self : goal.invariant_of-self
@@ -17,7 +18,12 @@ invariant_of-self g c =
     either_way (LanesMake g.row.WAYS events (map lane_view c.deref_mut.result.now) (map lane_view new)) (map lane_view new ≡ map lane_view c.deref_mut.result.now) (AreLanesOf p.entries p.plan p.buckets (map lane_view new)) c.merge_at.result c.merge_at.ensures.makes c.merge_at.ensures.err
     (λ made. lanes_kept (λ n. LaneMakes g.row.WAYS (events n)) (λ n a b m. makes_sizes g.row.WAYS (events n) a b m) p.entries p.plan p.buckets 0 (map lane_view c.deref_mut.result.now) (map lane_view new) p.plan.groups made was)
     (λ same. subst (AreLanesOf p.entries p.plan p.buckets) (sym same) was) in
-    record { lanes = subst (λ x. AreLanesOf p.entries p.plan p.buckets (map lane_view x)) (sym whole) kept; rooms = c.self.invariant.rooms; few_ways = c.self.invariant.few_ways }
+    let bounded_was : Each MergesWithin (map lane_view c.deref_mut.result.now) p.plan.groups = subst (λ x. Each MergesWithin (map lane_view x) p.plan.groups) (sym c.deref_mut.ensures.value) c.self.invariant.merges in
+    let bounded : Each MergesWithin (map lane_view new) p.plan.groups =
+    either_way (LanesMake g.row.WAYS events (map lane_view c.deref_mut.result.now) (map lane_view new)) (map lane_view new ≡ map lane_view c.deref_mut.result.now) (Each MergesWithin (map lane_view new) p.plan.groups) c.merge_at.result c.merge_at.ensures.makes c.merge_at.ensures.err
+    (λ made. merges_kept (λ n. LaneMakes g.row.WAYS (events n)) (λ n a b m. makes_sizes g.row.WAYS (events n) a b m) 0 (map lane_view c.deref_mut.result.now) (map lane_view new) p.plan.groups made bounded_was)
+    (λ same. subst (λ ls. Each MergesWithin ls p.plan.groups) (sym same) bounded_was) in
+    record { lanes = subst (λ x. AreLanesOf p.entries p.plan p.buckets (map lane_view x)) (sym whole) kept; merges = subst (λ x. Each MergesWithin (map lane_view x) p.plan.groups) (sym whole) bounded; rooms = c.self.invariant.rooms; few_ways = c.self.invariant.few_ways }
 
 pub returns-clause-makes : goal.returns-clause-makes
 returns-clause-makes g c =

@@ -1,9 +1,9 @@
 use Rattle.std.proofs.Common.{◌≡◌, ◌+◌, ◌≤◌, ◌++◌, length, map, take, drop, sym, ◌∙◌, subst}
 use Rattle.std.specs.Prelude.{sum_by}
 use Rattle.switch_core.specs.Rows.{Each}
-use Rattle.switch_core.specs.PlanLanes.{AreLanesOf, LaneRunsSweep, LaneSweeps, LaneIsSwept, PipelineSweeps, PipelineIsSwept, PipelineView, SweepBreaksOff, lane_sweep_cost, lane_view}
+use Rattle.switch_core.specs.PlanLanes.{AreLanesOf, LaneRunsSweep, LaneSweeps, LaneIsSwept, MergesWithin, PipelineSweeps, PipelineIsSwept, PipelineView, SweepBreaksOff, lane_sweep_cost, lane_view}
 use Rattle.switch_core.proofs.LaneFacts.{whole_written, on_err, on_ok}
-use Rattle.switch_core.proofs.PipelineSteps.{sweeps_sizes, lanes_kept, pipeline_sweeps, pipeline_is_swept}
+use Rattle.switch_core.proofs.PipelineSteps.{sweeps_sizes, lanes_kept, merges_kept, pipeline_sweeps, pipeline_is_swept}
 use Rattle.switch_core.proofs.pipeline.Pipeline.sweep.Goals as goal
 
 pub invariant_of-self : goal.invariant_of-self
@@ -14,7 +14,10 @@ invariant_of-self g c =
     let kept : AreLanesOf p.entries p.plan p.buckets (map lane_view new) =
     lanes_kept (λ n. LaneSweeps g.row.WAYS) (λ n a b m. sweeps_sizes g.row.WAYS a b m)
     p.entries p.plan p.buckets 0 (map lane_view c.deref_mut.result.now) (map lane_view new) p.plan.groups c.sweep_lanes.ensures.makes (subst (λ x. AreLanesOf p.entries p.plan p.buckets (map lane_view x)) (sym c.deref_mut.ensures.value) c.self.invariant.lanes) in
-    record { lanes = subst (λ x. AreLanesOf p.entries p.plan p.buckets (map lane_view x)) (sym whole) kept; rooms = c.self.invariant.rooms; few_ways = c.self.invariant.few_ways }
+    let bounded : Each MergesWithin (map lane_view new) p.plan.groups =
+    merges_kept (λ n. LaneSweeps g.row.WAYS) (λ n a b m. sweeps_sizes g.row.WAYS a b m)
+    0 (map lane_view c.deref_mut.result.now) (map lane_view new) p.plan.groups c.sweep_lanes.ensures.makes (subst (λ x. Each MergesWithin (map lane_view x) p.plan.groups) (sym c.deref_mut.ensures.value) c.self.invariant.merges) in
+    record { lanes = subst (λ x. AreLanesOf p.entries p.plan p.buckets (map lane_view x)) (sym whole) kept; merges = subst (λ x. Each MergesWithin (map lane_view x) p.plan.groups) (sym whole) bounded; rooms = c.self.invariant.rooms; few_ways = c.self.invariant.few_ways }
 
 pub returns-clause-makes : goal.returns-clause-makes
 returns-clause-makes g c =

@@ -1,0 +1,10 @@
+-- The first digits of a text.
+use Rattle.std.specs.Prelude.{◌≡◌, ℕ, true, List, take}
+use Rattle.std.specs.Char.{is_ascii_digit}
+use Rattle.std.specs.List.{list_all}
+use Rattle.std.specs.Str.Parse.{digits_value}
+
+-- the first bytes of a text, this many, are digits, and they are this number
+pub record IsFront (text : List ℕ) (count number : ℕ) : Type 0 where
+  pub digits : list_all is_ascii_digit (take count text) ≡ true
+  pub value : number ≡ digits_value 10 (take count text)
