@@ -43,7 +43,7 @@ place_in (Some (meaning.Final t)) = Some t.place
 abbrev pub place_at : List Known → ℕ → Option PrintOf
 place_at known id = place_in (meaning_of known id)
 
--- a table among so many groupbys and finals
+-- a table among this many groupbys and finals
 abbrev pub IsBelow : ℕ → ℕ → PrintOf → Type 0
 IsBelow groups finals (place.Group n) = n < groups
 IsBelow groups finals (place.Final n) = n < finals

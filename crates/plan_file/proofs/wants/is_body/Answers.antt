@@ -25,7 +25,7 @@ no A B false e h = h
 cut : (ws : List Lexeme) (i : ℕ) → i < length ws → drop i ws ++ word.Close ∷ [] ≡ get_or ws i word.Set ∷ (drop (i + 1) ws ++ word.Close ∷ [])
 cut ws i lt = rw (add-one, drop-cons ws i word.Set) refl
 
--- behind the last token stands the closing brace alone
+-- after the last token only the closing brace is left
 closing : (ws : List Lexeme) (i : ℕ) → length ws ≤ i → drop i ws ++ word.Close ∷ [] ≡ word.Close ∷ []
 closing ws i le = ap (λ l. l ++ word.Close ∷ []) (drop_all i ws le)
 
