@@ -66,19 +66,19 @@ class Proving:
     def is_kept(self, crate: Crate) -> bool:
         """Is what an earlier call made of the crate there, from the sources of now?"""
         made = crate.folder / KEPT / f"{crate.name}.rlib"
-        told = self.sums[crate.name]
+        record = self.sums[crate.name]
         if crate.is_program:
             made = crate.program
-            told += f" {sum_of(made)}"
+            record += f" {sum_of(made)}"
         kept = crate.folder / KEPT / "sources"
-        return made.exists() and kept.is_file() and kept.read_text(encoding="utf-8") == told
+        return made.exists() and kept.is_file() and kept.read_text(encoding="utf-8") == record
 
     def keep(self, crate: Crate) -> None:
         """Records what was proved."""
-        told = self.sums[crate.name]
+        record = self.sums[crate.name]
         if crate.is_program:
-            told += f" {sum_of(crate.program)}"
-        (crate.folder / KEPT / "sources").write_text(told, encoding="utf-8")
+            record += f" {sum_of(crate.program)}"
+        (crate.folder / KEPT / "sources").write_text(record, encoding="utf-8")
 
     # The proofs
 

@@ -22,7 +22,7 @@ def refused(case: Case, name: str, reason: str, options: tuple[str, ...] = ()) -
                    captures=case.name if options else "", options=list(options))
 
 
-def told(case: Case, name: str, options: tuple[str, ...], **changes) -> Case:
+def with_option(case: Case, name: str, options: tuple[str, ...], **changes) -> Case:
     """The same captures with options by which they have a trace, of which the checker isn't given the clocks."""
     checked = case.checked and options[0] != "--shift"
     return replace(case, name=name, status=0, options=list(options), captures=case.name, checked=checked, **changes)
@@ -69,7 +69,7 @@ def two_clocks() -> Iterator[Case]:
         case = clock(right, name, by)
         early = sum(1 for latency in latencies(right) if latency + by < 0)
         yield refused(case, name, f"{early} of {left} packets left before they came, {CONSTANT} {-least - by}")
-        yield told(case, f"{name}-shifted", ("--shift", str(-least - by)), rows=moved(right, -least))
+        yield with_option(case, f"{name}-shifted", ("--shift", str(-least - by)), rows=moved(right, -least))
 
 
 def two_clocks_with_answers() -> Iterator[Case]:
@@ -85,7 +85,7 @@ def two_clocks_with_answers() -> Iterator[Case]:
         else:
             reason = both_leave(shift)
         yield refused(case, name, reason)
-        yield told(case, f"{name}-shifted", ("--shift", str(shift)), rows=moved(right, by + shift))
+        yield with_option(case, f"{name}-shifted", ("--shift", str(shift)), rows=moved(right, by + shift))
 
 
 def many_clocks() -> Case:
@@ -112,14 +112,14 @@ def both_directions() -> Iterator[Case]:
     case = world.case("both-directions", messages=[world.counts()])
     shift = -(2 * min(latencies(case))) // 2
     yield refused(case, case.name, both_leave(shift))
-    yield told(case, "both-directions-told", ("--both-directions",), senders="0.0.0.0/0")
+    yield with_option(case, "both-directions-given", ("--both-directions",), senders="0.0.0.0/0")
     rows = [row for row in case.rows if row.packet.source == "10.0.2.2"]
     left = sum(1 for row in rows if row.left is not None)
     seen = sum(1 for row in case.rows if row.left is not None) - left
     messages = [f"{len(rows)} packets came, {left} left, {len(rows) - left} never did",
                 left_out(len(case.rows) - len(rows), seen, "10.0.1.1 to 10.0.2.2")]
     options = ("--direction", "10.0.2.0/24")
-    yield told(case, "one-direction-told", options, messages=messages, rows=rows, senders="10.0.2.0/24")
+    yield with_option(case, "one-direction-given", options, messages=messages, rows=rows, senders="10.0.2.0/24")
 
 
 def strangers() -> Case:
@@ -150,7 +150,7 @@ def splits() -> Iterator[Case]:
     expected = sum(1 for row in case.rows if row.left is not None)
     yield refused(case, "no-split", f"{strange} of {expected} packets after the queue match none before it: "
                   "take both captures at one queue, at the same time", ("--no-split",))
-    yield told(case, "split", ("--split", "1500"))
+    yield with_option(case, "split", ("--split", "1500"))
 
 
 def is_piece(case: Case, row: Row) -> bool:

@@ -39,7 +39,7 @@ fn five(words: &Words) -> [u64; 5] {
     [words[3], words[4], words[5], words[6], words[7]]
 }
 
-/// Writes the rows of a table in ascending order of their keys, each behind this.
+/// Writes the rows of a table in ascending order of their keys, each after this.
 fn rows<const K: usize, const S: usize>(
     out: &mut impl Write,
     name: &str,

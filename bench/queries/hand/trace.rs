@@ -44,7 +44,7 @@ struct Place {
     end: usize,
 }
 
-/// The records of a text, one after another.
+/// The records of a text, in order.
 struct Records<'a> {
     text: &'a [u8],
     at: usize,
@@ -80,7 +80,7 @@ impl<'a> Records<'a> {
         });
     }
 
-    /// A field behind its opening quote. Two quotes are one, and what stands behind the closing quote belongs to the field.
+    /// A field after its opening quote. Two quotes are one, and what comes after the closing quote belongs to the field.
     fn quoted(&mut self) {
         let start = self.unquoted.len();
         while let Some(&byte) = self.text.get(self.at) {
@@ -213,7 +213,7 @@ fn columns(header: &Records, reads: u32) -> Result<Vec<(usize, usize)>, String> 
     Ok(columns)
 }
 
-/// Takes each packet of a trace in order, or tells the trace's first fault.
+/// Takes each packet of a trace in order, or gives the trace's first fault.
 pub fn packets(text: &[u8], reads: u32, mut take: impl FnMut(&Words)) -> Result<(), String> {
     if text.len() > MAX_BYTES {
         return Err("TraceTooLong".to_string());
