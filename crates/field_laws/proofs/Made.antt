@@ -27,10 +27,10 @@ use Rattle.query_rules.specs.StreamRules.{HasColumns, new_names, OfFilter, OfMap
 use Rattle.query_rules.proofs.StreamLaws.{zip_is, group_is}
 use Rattle.stage_plan.proofs.StreamRows.{Row, row_at, row_made, at_earlier}
 use Rattle.net_wide.specs.Combining.{columns_made}
-use Rattle.trace_parts.specs.Parts.{is_named, names_field}
+use Rattle.field_laws.specs.Fields.{is_named, names_field}
 use Rattle.tuple_laws.proofs.Views.{AreBelow, others_below}
-use Rattle.trace_parts.proofs.Columns.{picked_names, names_long, names_of_both, slots_below, rest_after}
-use Rattle.trace_parts.proofs.Rows.{RowTells, SlotTells, filter_tells, map_tells, zip_tells, group_tells, slot_tells}
+use Rattle.field_laws.proofs.Columns.{picked_names, names_long, names_of_both, slots_below, rest_after}
+use Rattle.field_laws.proofs.Rows.{RowTells, SlotTells, filter_tells, map_tells, zip_tells, group_tells, slot_tells}
 
 -- the keys of a groupby that have the field's name are the packet's word of it, in the row of its input; its columns are its keys
 abbrev pub KeysTell : Field → List (List ℕ) → ℕ → List Row → List ℕ → TypedOp → Type 0
