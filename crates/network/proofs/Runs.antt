@@ -150,7 +150,7 @@ merging_on ways xs ys a b c one two = (
   runs_on ways one.0 two.0 a b c one.2 two.2,
 )
 
--- merges behind the events change none of them
+-- merges after the events change none of them
 pub merging_behind : (ways : ℕ) (xs : List NetworkEvent) (a b c : NetworkView) → RunsWithMerges ways xs a b → RunsWithMerges ways [] b c → RunsWithMerges ways xs a c
 merging_behind ways xs a b c one two = subst (λ es. RunsWithMerges ways es a c) (append-nil xs) (merging_on ways xs [] a b c one two)
 
