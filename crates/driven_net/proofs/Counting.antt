@@ -1,5 +1,5 @@
 -- Clocks of switches, of which one counts a packet.
-use Rattle.std.proofs.Common.{◌≡◌, ◌≢◌, ℕ, zero, suc, ◌==◌, true, false, List, replicate, set, Some, refl, sym, ap, ◌∙◌, subst, arith}
+use Rattle.std.proofs.Common.{◌≡◌, ◌≢◌, ℕ, zero, suc, ◌==◌, Bool, true, false, List, [], ◌∷◌, ◌++◌, replicate, set, Some, refl, sym, ap, ◌∙◌, subst, arith}
 use Rattle.std.specs.Prelude.{slice_get}
 use Rattle.std.proofs.lemmas.Bool.Decides.{nat_tests}
 use Rattle.std.proofs.lemmas.List.{length-set}
@@ -9,7 +9,10 @@ use Rattle.switch_core.proofs.SideBySide.{same_some}
 use Rattle.trace_drive.specs.Clocks.{HasCounted}
 use Rattle.trace_drive.specs.declared.clock.Clock.{Clock}
 use Rattle.network.proofs.SharedSteps.{got_other, got_within}
-use Rattle.driven_net.specs.Lags.{AreLagClocks, CountsAt}
+use Rattle.network.specs.Networks.{NetworkView}
+use Rattle.network.specs.Running.{NetworkEvent, Takes, turn_events}
+use Rattle.driven_net.specs.Lags.{AreLagClocks, CountsAt, HaveCounted, taken_by}
+use Rattle.driven_net.proofs.Following.{by_on, turn_by}
 
 -- one clock counts
 module _ (clocks : List Clock) (at : ℕ) (old new : Clock) (here : slice_get clocks at ≡ Some old) (counts : (number : ℕ) → HasCounted number old → HasCounted (suc number) new) where
@@ -43,6 +46,24 @@ module _ (clocks : List Clock) (at : ℕ) (old new : Clock) (here : slice_get cl
         (λ t. are.counted s clock (is_old s clock t e));
   }
 
+-- clocks of which one counted a packet's turn
+pub counted_on : (at : ℕ) (words : List ℕ) (over : Bool) (net : NetworkView) (events : List NetworkEvent) (olds news : List Clock) (old : Clock) → slice_get olds at ≡ Some old → HaveCounted events olds
+    → CountsAt at olds news → HaveCounted (events ++ turn_events at words over net) news
+counted_on at words over net events olds news old here counted counts s clock e =
+    let a = by_on s events (turn_events at words over net) in
+    let b = turn_by s at words over net in
+    by_test (at == s)
+    (λ t. let same : at ≡ s = grind (arith, nat_tests) in
+    let own = counts.own (taken_by at events) old here (counted at old here) in
+    let is : own.0 ≡ clock = same_some own.0 clock (sym own.1 ∙ (ap (slice_get news) same ∙ e)) in
+    let one : taken_by s (Takes at words ∷ []) ≡ 1 = rw t refl in
+    let count : taken_by s (events ++ turn_events at words over net) ≡ suc (taken_by s events) = omega arith in
+    subst (λ n. HasCounted n clock) (ap (λ k. suc (taken_by k events)) same ∙ sym count) (subst (HasCounted (suc (taken_by at events))) is own.2))
+    (λ t. let far : s ≢ at = grind (arith, nat_tests) in
+    let none : taken_by s (Takes at words ∷ []) ≡ 0 = rw t refl in
+    let count : taken_by s (events ++ turn_events at words over net) ≡ taken_by s events = omega arith in
+    subst (λ n. HasCounted n clock) (sym count) (counted s clock (sym (counts.others s far) ∙ e)))
+
 -- clocks that counted nothing
 
 got_same : (n : ℕ) (clock other : Clock) (at : ℕ) → slice_get (replicate n clock) at ≡ Some other → other ≡ clock
@@ -56,3 +77,6 @@ lag_clocks lag clock every counted = record {
   lags = λ at other e. ap (λ (k : Clock). k.every) (got_same 64 clock other at e) ∙ every;
   counted = λ at other e. (0, subst (HasCounted 0) (sym (got_same 64 clock other at e)) counted);
 }
+
+pub none_counted : (clock : Clock) → HasCounted 0 clock → HaveCounted [] (replicate 64 clock)
+none_counted clock counted at other e = subst (HasCounted 0) (sym (got_same 64 clock other at e)) counted

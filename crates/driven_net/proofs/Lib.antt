@@ -1,5 +1,5 @@
-mod Counting
 mod Known
 mod Following
+mod Counting
 mod Ends
 mod Opening

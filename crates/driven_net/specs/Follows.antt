@@ -1,25 +1,20 @@
 -- A network that has taken the packets of a trace.
-use Rattle.std.specs.Prelude.{◌≡◌, ℕ, ◌<◌, List, length, slice_get, Some}
-use Rattle.stage_plan.specs.Planned.{taken}
-use Rattle.additive_folds.specs.Network.{SwitchEvent, SwitchEpoch}
-use Rattle.switch_traces.specs.Traces.{Step, given, without_merges}
+use Rattle.std.specs.Prelude.{◌≡◌, ℕ, ◌<◌, List, [], length}
 use Rattle.net_wide.specs.Numbering.{place_among}
-use Rattle.net_ends.specs.NetEnds.{IsSeen, steps_of}
-use Rattle.network.specs.declared.network.Network.{Network}
-use Rattle.network.specs.Networks.{IsNetwork, groups_in}
-use Rattle.network.specs.Groups.{GroupView, GroupStands}
+use Rattle.net_ends.specs.NetEnds.{IsSeen}
+use Rattle.network.specs.Ends.{AreAtTheirSwitches, NoEviction, packets_taken}
+use Rattle.network.specs.Networks.{NetworkView}
+use Rattle.network.specs.Running.{NetworkEvent, NetworkStands}
+use Rattle.driven_net.specs.Lags.{MergesAtLag}
 
--- a groupby represents the events of these steps, with merges anywhere
-pub record GroupFollows (ways buckets : ℕ) (steps : List Step) (group : GroupView) : Type 0 where
-  pub events : List SwitchEvent
-  pub merged : List SwitchEpoch
-  pub stands : GroupStands ways buckets group events merged
-  pub packets : without_merges events ≡ given steps
-
--- The network's switches are these, by their numbers; all switches of the packets are among them; and each groupby has taken the
--- packets.
-pub record NetFollows {ways : ℕ} (known : List ℕ) (packets : List (List ℕ)) (net : Network ways) : Type 0 where
-  pub is : IsNetwork (length known) net
+-- The network's switches are these, by their numbers, and all switches of the packets are among them. It represents events that take
+-- the packets, each at the number of its switch, with merges among them, of which some are due at the lag.
+pub record NetFollows (ways lag : ℕ) (known : List ℕ) (packets : List (List ℕ)) (net : NetworkView) : Type 0 where
+  pub switches : net.switches ≡ length known
   pub all_known : (switch : ℕ) → IsSeen switch packets → place_among known switch < length known
-  pub each : (n : ℕ) (group : GroupView) → slice_get (groups_in net) n ≡ Some group
-      → GroupFollows ways net.buckets (steps_of (place_among known) (taken net.plan n) packets) group
+  pub events : List NetworkEvent
+  pub stands : NetworkStands ways net events
+  pub takes : packets_taken events ≡ packets
+  pub theirs : AreAtTheirSwitches (place_among known) events
+  pub none : NoEviction events
+  pub merges : MergesAtLag lag (length net.groups) [] events

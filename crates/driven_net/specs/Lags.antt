@@ -1,12 +1,9 @@
 -- The clocks of the switches' lags: when the lanes of a switch merge.
-use Rattle.std.specs.Prelude.{◌≡◌, ◌≢◌, ℕ, suc, true, List, length, slice_get, Some}
-use Rattle.std.specs.List.{list_all}
+use Rattle.std.specs.Prelude.{◌≡◌, ◌≢◌, ◌+◌, ◌==◌, ℕ, suc, true, List, [], ◌∷◌, ◌++◌, length, slice_get, Some, if◌then◌else◌}
 use Rattle.epoch_model.specs.Epochs.{is_refresh}
 use Rattle.trace_drive.specs.Clocks.{HasCounted}
 use Rattle.trace_drive.specs.declared.clock.Clock.{Clock}
-use Rattle.network.specs.declared.network.Network.{Network}
-use Rattle.network.specs.Events.{is_ready_at}
-use Rattle.network.specs.Networks.{groups_in}
+use Rattle.network.specs.Running.{AreFirst, Evicts, Merges, NetworkEvent, Takes, merges_of_each}
 
 -- a clock for each of 64 switches, which strikes at each multiple of the lag and counts the packets of its switch
 pub record AreLagClocks (lag : ℕ) (clocks : List Clock) : Type 0 where
@@ -20,7 +17,23 @@ pub record CountsAt (at : ℕ) (olds news : List Clock) : Type 0 where
       → (new : Clock) × (slice_get news at ≡ Some new) × HasCounted (suc number) new
   pub others : (other : ℕ) → other ≢ at → slice_get news other ≡ slice_get olds other
 
--- Where the number of this switch's packet is a multiple of the lag, each pipe of the switch has room after it.
-abbrev pub MergesAt : {ways : ℕ} → ℕ → ℕ → List Clock → Network ways → Type 0
-MergesAt lag at clocks net = (number : ℕ) (clock : Clock) → slice_get clocks at ≡ Some clock → HasCounted number clock
-    → is_refresh lag (suc number) ≡ true → list_all (is_ready_at at) (groups_in net) ≡ true
+-- how many packets this switch took
+abbrev pub taken_by : ℕ → List NetworkEvent → ℕ
+taken_by at [] = 0
+taken_by at (Takes switch words ∷ events) = (if switch == at then 1 else 0) + taken_by at events
+taken_by at (Evicts switch lane bucket ∷ events) = taken_by at events
+taken_by at (Merges switch lane ∷ events) = taken_by at events
+
+-- each clock counted the packets that its switch took
+abbrev pub HaveCounted : List NetworkEvent → List Clock → Type 0
+HaveCounted events clocks = (at : ℕ) (clock : Clock) → slice_get clocks at ≡ Some clock → HasCounted (taken_by at events) clock
+
+-- Of these events after others: wherever the number of a packet among those of its switch is a multiple of the lag, the switch merges
+-- a record right after it at each of this number of groupbys.
+abbrev pub MergesAtLag : ℕ → ℕ → List NetworkEvent → List NetworkEvent → Type 0
+MergesAtLag lag lanes before [] = Unit {0}
+MergesAtLag lag lanes before (Takes switch words ∷ events) =
+    (is_refresh lag (suc (taken_by switch before)) ≡ true → AreFirst (merges_of_each switch lanes) events)
+    × MergesAtLag lag lanes (before ++ Takes switch words ∷ []) events
+MergesAtLag lag lanes before (Evicts switch lane bucket ∷ events) = MergesAtLag lag lanes (before ++ Evicts switch lane bucket ∷ []) events
+MergesAtLag lag lanes before (Merges switch lane ∷ events) = MergesAtLag lag lanes (before ++ Merges switch lane ∷ []) events

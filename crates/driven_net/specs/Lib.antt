@@ -1,3 +1,3 @@
 pub mod NetTraces
-pub mod Follows
 pub mod Lags
+pub mod Follows

@@ -10,10 +10,9 @@ ghost use Rattle.net_wide.specs.NetTables.{caches_of, net_text};
 ghost use Rattle.net_wide.specs.NetLaws.{TellsSwitches};
 ghost use Rattle.driven_net.specs.Follows.{NetFollows};
 
-use final_queries::alike_foldings_make_one_table;
 use marple_base::{Steps, Text};
-use net_ends::{ends_are_the_net_tables, net_tables_are_read};
-use network::Network;
+use net_ends::net_tables_are_read;
+use network::{Network, runs_follow_events};
 use query_lang::TypedQuery;
 use query_tables::print_tables;
 use std::alloc::{AllocError, Global};
@@ -30,14 +29,14 @@ pub(crate) fn end_text<const WAYS: usize, L: Ledger>(
     requires plan { IsPlanOf typed.now network.old.plan }
     requires combines { net_fault typed.now ≡ None }
     requires tells { TellsSwitches typed.now }
-    requires follows { (known : List ℕ) × (packets : List (List ℕ)) × AreWhole packets × NetFollows known packets network.old }
-    ensures text { IfOk result (λ text. (known : List ℕ) (packets : List (List ℕ)) → AreWhole packets
-        → NetFollows known packets network.old → text ≡ net_text typed.now network.old.buckets WAYS packets) }
+    requires follows { (lag : ℕ) × (known : List ℕ) × (packets : List (List ℕ)) × AreWhole packets
+        × NetFollows WAYS lag known packets network.old }
+    ensures text { IfOk result (λ text. (lag : ℕ) (known : List ℕ) (packets : List (List ℕ)) → AreWhole packets
+        → NetFollows WAYS lag known packets network.old → text ≡ net_text typed.now network.old.buckets WAYS packets) }
     ensures steps { steps.old ≤ steps.new }
 {
-    ends_are_the_net_tables();
-    alike_foldings_make_one_table();
     net_tables_are_read();
+    runs_follow_events();
     network.plan().known();
     network.drain(steps)?;
     let tables = network.close()?;

@@ -3,8 +3,8 @@
 ghost use Rattle.std.specs.Prelude.{◌≡◌, ◌+◌, ◌<◌, ◌≤◌, ℕ, suc, List, [], ◌∷◌, ◌++◌, All, None, Some, true};
 ghost use Rattle.std.specs.Prelude.{length, slice_get};
 ghost use Rattle.std.specs.Prelude.{IfErr, IfOk, OnOk};
-ghost use Rattle.network.specs.Groups.{GroupStands};
-ghost use Rattle.network.specs.Networks.{IsNetwork, Keeps, groups_in};
+ghost use Rattle.network.specs.Networks.{IsNetwork, Keeps};
+ghost use Rattle.network.specs.Running.{NetworkStands};
 ghost use Rattle.net_wide.specs.NetTables.{switch_in};
 ghost use Rattle.net_wide.specs.Numbering.{switch_number, with_switch};
 ghost use Rattle.epoch_model.specs.Epochs.{is_refresh};
@@ -14,12 +14,12 @@ ghost use Rattle.trace_reader.specs.Faults.{IfRefused};
 ghost use Rattle.trace_reader.specs.Traces.{most_records};
 ghost use Rattle.trace_reader.specs.declared.fault.TraceFault.TheVariants.{TooManySwitches as SwitchFault};
 ghost use Rattle.driven_net.specs.Follows.{NetFollows};
-ghost use Rattle.driven_net.specs.Lags.{AreLagClocks, CountsAt, MergesAt};
+ghost use Rattle.driven_net.specs.Lags.{AreLagClocks, CountsAt, HaveCounted};
 ghost use Rattle.driven_net.specs.NetTraces.{first_fault};
 
 use marple_base::{Field, Packet, Seq, Steps};
 use net_wide::number_switch;
-use network::Network;
+use network::{Network, runs_follow_events};
 use std::alloc::{AllocError, Global};
 use std::sync::ledger::Ledger;
 use trace_drive::Clock;
@@ -33,17 +33,18 @@ fn switch_at<const WAYS: usize, L: Ledger>(
     number: u32,
     steps: &mut Steps<L>,
 ) -> Result<u32, TraceAnswer>
-    requires is { IsNetwork (length known.old) network.old }
+    requires switches { network.old.switches ≡ length known.old }
     ensures at { IfOk result (λ at. switch_number known.old switch ≡ Some at) }
     ensures known { OnOk result (known.new ≡ with_switch known.old switch) }
-    ensures is { OnOk result (IsNetwork (length known.new) network.new) }
+    ensures switches { OnOk result (network.new.switches ≡ length known.new) }
     ensures keeps { OnOk result (Keeps network.old network.new) }
-    ensures follows { OnOk result ((packets : List (List ℕ)) → NetFollows known.old packets network.old
-        → NetFollows known.new packets network.new) }
+    ensures follows { OnOk result ((lag : ℕ) (packets : List (List ℕ)) (f : NetFollows WAYS lag known.old packets network.old)
+        → (n : NetFollows WAYS lag known.new packets network.new) × (n.events ≡ f.events)) }
     ensures refused { IfErr result (λ answer. IfRefused answer (λ fault.
         (fault ≡ SwitchFault number) × (switch_number known.old switch ≡ None))) }
     ensures steps { steps.old ≤ steps.new }
 {
+    network.known();
     let before = known.len();
     let numbered = match number_switch(known, switch, steps) {
         Ok(numbered) => numbered,
@@ -83,22 +84,20 @@ fn take_one<const WAYS: usize, L: Ledger>(
     number: u32,
     steps: &mut Steps<L>,
 ) -> Result<(), TraceAnswer>
-    requires is { IsNetwork (length known.old) network.old }
+    requires switches { network.old.switches ≡ length known.old }
     requires clocks { (lag : ℕ) × AreLagClocks lag clocks.old }
     ensures known { OnOk result (known.new ≡ with_switch known.old (switch_in packet.now.words)) }
     ensures numbered { OnOk result ((at : ℕ) × (switch_number known.old (switch_in packet.now.words) ≡ Some at)) }
     ensures keeps { OnOk result (Keeps network.old network.new) }
-    ensures follows { OnOk result ((packets : List (List ℕ)) → NetFollows known.old packets network.old
-        → NetFollows known.new (packets ++ packet.now.words ∷ []) network.new) }
+    ensures follows { OnOk result ((lag : ℕ) (packets : List (List ℕ)) (f : NetFollows WAYS lag known.old packets network.old)
+        → AreLagClocks lag clocks.old → HaveCounted f.events clocks.old
+        → (n : NetFollows WAYS lag known.new (packets ++ packet.now.words ∷ []) network.new) × HaveCounted n.events clocks.new) }
     ensures clocks { (lag : ℕ) → AreLagClocks lag clocks.old → AreLagClocks lag clocks.new }
-    ensures counts { OnOk result ((at : ℕ) → switch_number known.old (switch_in packet.now.words) ≡ Some at
-        → CountsAt at clocks.old clocks.new) }
-    ensures merged { OnOk result ((lag at : ℕ) → AreLagClocks lag clocks.old
-        → switch_number known.old (switch_in packet.now.words) ≡ Some at → MergesAt lag at clocks.old network.new) }
     ensures refused { IfErr result (λ answer. IfRefused answer (λ fault.
         (fault ≡ SwitchFault number) × (switch_number known.old (switch_in packet.now.words) ≡ None))) }
     ensures steps { steps.old ≤ steps.new }
 {
+    runs_follow_events();
     let at = switch_at(network, known, packet.get(Field::Switch), number, steps)?;
     let lag_over = strikes(clocks, at as usize);
     match network.turn(at, packet, lag_over, steps) {
@@ -116,12 +115,13 @@ pub(crate) fn take_all<const WAYS: usize, L: Ledger>(
     trace: Trace<'_>,
     steps: &mut Steps<L>,
 ) -> Result<Network<WAYS>, TraceAnswer>
-    requires is { IsNetwork 0 network }
-    requires fresh { All (λ group. GroupStands WAYS network.buckets group [] []) (groups_in network) }
+    requires switches { network.switches ≡ 0 }
+    requires fresh { NetworkStands WAYS network [] }
     requires few { length trace.packets ≤ most_records }
     ensures accepted { IfOk result (λ found. first_fault [] 1 (words_of trace.entry.packets) trace.entry.fault ≡ None) }
-    ensures follows { IfOk result (λ found. (known : List ℕ) × NetFollows known (words_of trace.entry.packets) found) }
+    ensures follows { IfOk result (λ found. (known : List ℕ) × NetFollows WAYS lag known (words_of trace.entry.packets) found) }
     ensures keeps { IfOk result (Keeps network.entry) }
+    ensures known { IfOk result (IsNetwork WAYS) }
     ensures refused { IfErr result (λ answer. IfRefused answer (λ fault.
         first_fault [] 1 (words_of trace.entry.packets) trace.entry.fault ≡ Some fault)) }
     ensures steps { steps.old ≤ steps.new }
@@ -143,5 +143,6 @@ pub(crate) fn take_all<const WAYS: usize, L: Ledger>(
             steps,
         )?;
     }
+    network.known();
     Ok(network)
 }

@@ -12,7 +12,6 @@ ghost use Rattle.net_wide.specs.NetTables.{net_text};
 ghost use Rattle.net_wide.specs.NetLaws.{TellsSwitches};
 ghost use Rattle.command_line.specs.Command.{IsNetSetting, ways_number};
 ghost use Rattle.network.specs.Groups.{AllHavePlaces};
-ghost use Rattle.network.specs.Networks.{groups_in};
 ghost use Rattle.driven_net.specs.Follows.{NetFollows};
 ghost use Rattle.driven_net.specs.NetTraces.{first_fault};
 
@@ -43,8 +42,8 @@ fn network_after<const WAYS: usize, L: Ledger>(
     ensures accepted { IfOk result (λ network. first_fault [] 1 (words_of trace.entry.packets) trace.entry.fault ≡ None) }
     ensures plan { IfOk result (λ network. network.plan ≡ plan) }
     ensures buckets { IfOk result (λ network. network.buckets ≡ setting.buckets) }
-    ensures pipe_places { IfOk result (λ network. AllHavePlaces setting.pipe (groups_in network)) }
-    ensures follows { IfOk result (λ network. (known : List ℕ) × NetFollows known (words_of trace.entry.packets) network) }
+    ensures pipe_places { IfOk result (λ network. AllHavePlaces setting.pipe network.groups) }
+    ensures follows { IfOk result (λ network. (known : List ℕ) × NetFollows WAYS setting.lag known (words_of trace.entry.packets) network) }
     ensures refused { IfErr result (λ answer. IfRefused answer (λ fault.
         first_fault [] 1 (words_of trace.entry.packets) trace.entry.fault ≡ Some fault)) }
     ensures steps { steps.old ≤ steps.new }

@@ -34,7 +34,7 @@ use Rattle.final_queries.specs.Joining.{reads}
 use Rattle.final_queries.proofs.StateLengths.{states_length}
 use Rattle.query_tables.specs.Tables.{query_table, table_if, tables_from, group_tables}
 use Rattle.query_tables.specs.TableLaws.{QueryTablesAreRead}
-use Rattle.net_wide.specs.NetTables.{net_epochs, key_args, net_key_rows, net_rows, net_table, net_table_if, net_tables_from, net_tables}
+use Rattle.net_wide.specs.NetTables.{net_epochs, key_args, net_key_rows, net_rows, net_table, net_table_if, net_pieces, net_tables_from, net_tables, tables_of_pieces}
 use Rattle.net_wide.specs.NetLaws.{AreWhole}
 use Rattle.net_ends.proofs.Places.{first_at}
 use Rattle.net_ends.specs.NetEnds.{NetTablesAreRead}
@@ -124,7 +124,7 @@ used_long words (u ∷ used) all key e = by_test (key_eq u.key key)
 
 pub table_read : (q : TypedQuery) (g : Geometry) (packets : List (List ℕ)) (i : ℕ) (shape : GroupShape) (f : TypedFold)
     → All (λ u. length u.key ≡ length shape.key_names) (uses q i packets) → ((rows : List ArgRow) → length (folded (folding_of f) rows) ≡ length shape.state_names)
-    → IsTable (net_table q g packets i shape f)
+    → IsTable (net_table q packets (net_epochs q i g packets) i shape f)
 table_read q g packets i shape f keys states =
     let names = shape.key_names in
     let wide = length-append names shape.state_names in
@@ -133,7 +133,7 @@ table_read q g packets i shape f keys states =
     let used = map (λ u. u.key) (uses q i packets) in
     record {
       keys = omega arith;
-      rows = subst (λ n. All (HasColumns (length names) n) (net_rows q i g packets (folding_of f))) others
+      rows = subst (λ n. All (HasColumns (length names) n) (net_rows q i packets (net_epochs q i g packets) (folding_of f))) others
           (rows_have (length names) (length shape.state_names) (folding_of f) states rows
           (λ key e. key_has (length names) (length shape.state_names) (folding_of f) states (net_epochs q i g packets key) (key_args key (uses q i packets)) key e)
           (keys_used (uses q i packets)) (λ key e. used_long (length names) (uses q i packets) keys key (sym (has-ascending key used) ∙ e)));
@@ -156,7 +156,7 @@ taken_long plan i n words (one ∷ packets) wide = by_test (holds (operand_value
     wiring = wiring_at plan i
 
 module _ (q : TypedQuery) (plan : PlanParts) (g : Geometry) (packets : List (List ℕ)) (valid : IsValidQuery q) (p : IsPlanOf q plan) (sound : IsSoundPlan plan) (whole : AreWhole packets) where
-  one_read : (i : ℕ) (part : GroupPlan) (f : TypedFold) → slice_get plan.groups i ≡ Some part → fold_at q i ≡ Some f → IsTable (net_table q g packets i (group_shape part) f)
+  one_read : (i : ℕ) (part : GroupPlan) (f : TypedFold) → slice_get plan.groups i ≡ Some part → fold_at q i ≡ Some f → IsTable (net_table q packets (net_epochs q i g packets) i (group_shape part) f)
   one_read i part f at has =
       let own = group_sound plan i part sound at in
       let within = got_below plan.groups i part at in
@@ -166,29 +166,29 @@ module _ (q : TypedQuery) (plan : PlanParts) (g : Geometry) (packets : List (Lis
       (subst (All (λ u. length u.key ≡ length part.key_names)) (sym (p.takes i packets within whole)) (taken_long plan i 1 (length part.key_names) packets wide))
       (λ rows. states_length f rows program.valid ∙ (sym program.valid.starts ∙ (ap length (sym program.layout.initial) ∙ sym own.2.states)))
 
-  shapes_same : (i : ℕ) (shapes : List GroupShape) → map table_shape (net_tables_from q g packets i shapes) ≡ map table_shape (tables_from q g packets i shapes)
+  shapes_same : (i : ℕ) (shapes : List GroupShape) → map table_shape (net_tables_from q packets (net_pieces q g packets) i shapes) ≡ map table_shape (tables_from q g packets i shapes)
   shapes_same i [] = refl
   shapes_same i (shape ∷ shapes) = go (fold_at q i) (shapes_same (suc i) shapes)
     where
-      go : (o : Option TypedFold) → map table_shape (net_tables_from q g packets (suc i) shapes) ≡ map table_shape (tables_from q g packets (suc i) shapes)
-          → map table_shape (net_table_if q g packets i shape o ++ net_tables_from q g packets (suc i) shapes) ≡ map table_shape (table_if q g packets i shape o ++ tables_from q g packets (suc i) shapes)
+      go : (o : Option TypedFold) → map table_shape (net_tables_from q packets (net_pieces q g packets) (suc i) shapes) ≡ map table_shape (tables_from q g packets (suc i) shapes)
+          → map table_shape (net_table_if q packets (net_epochs q i g packets) i shape o ++ net_tables_from q packets (net_pieces q g packets) (suc i) shapes) ≡ map table_shape (table_if q g packets i shape o ++ tables_from q g packets (suc i) shapes)
       go None h = h
       go (Some f) h = ap (λ ss. table_shape (query_table q g packets i shape f) ∷ ss) h
 
-  all_read : (i : ℕ) (parts : List GroupPlan) → drop i plan.groups ≡ parts → All IsTable (net_tables_from q g packets i (map group_shape parts))
+  all_read : (i : ℕ) (parts : List GroupPlan) → drop i plan.groups ≡ parts → All IsTable (net_tables_from q packets (net_pieces q g packets) i (map group_shape parts))
   all_read i [] e = All-nil IsTable
   all_read i (part ∷ parts) e = go (fold_at q i) refl (all_read (suc i) parts (first_at plan.groups i part parts e).1)
     where
-      go : (o : Option TypedFold) → fold_at q i ≡ o → All IsTable (net_tables_from q g packets (suc i) (map group_shape parts))
-          → All IsTable (net_table_if q g packets i (group_shape part) o ++ net_tables_from q g packets (suc i) (map group_shape parts))
+      go : (o : Option TypedFold) → fold_at q i ≡ o → All IsTable (net_tables_from q packets (net_pieces q g packets) (suc i) (map group_shape parts))
+          → All IsTable (net_table_if q packets (net_epochs q i g packets) i (group_shape part) o ++ net_tables_from q packets (net_pieces q g packets) (suc i) (map group_shape parts))
       go None is rest = rest
-      go (Some f) is rest = All-cons IsTable (net_table q g packets i (group_shape part) f) (net_tables_from q g packets (suc i) (map group_shape parts))
+      go (Some f) is rest = All-cons IsTable (net_table q packets (net_epochs q i g packets) i (group_shape part) f) (net_tables_from q packets (net_pieces q g packets) (suc i) (map group_shape parts))
           (one_read i part f (first_at plan.groups i part parts e).0 is) rest
 
   read_them : QueryTablesAreRead → All IsTable (net_tables q g packets) × (map table_shape (net_tables q g packets) ≡ map (of_query.group_shape q.folds) (takings q.streams))
-  unfolding net_tables group_tables
+  unfolding tables_of_pieces group_tables
   read_them law = (
-    subst (λ shapes. All IsTable (net_tables_from q g packets 0 shapes)) (ap (λ shape. shape.groups) p.shape) (all_read 0 plan.groups refl),
+    subst (λ shapes. All IsTable (net_tables_from q packets (net_pieces q g packets) 0 shapes)) (ap (λ shape. shape.groups) p.shape) (all_read 0 plan.groups refl),
     shapes_same 0 (query_groups q) ∙ (law q g packets valid).1,
   )
 

@@ -1,7 +1,7 @@
 -- The merged epochs of all switches give the rows of the definition.
-use Rattle.std.proofs.Common.{◌≡◌, ◌≢◌, ℕ, suc, ◌+◌, ◌<◌, true, false, Bool, ◌||◌, ◌==◌, List, [], ◌∷◌, ◌++◌, length, map, flat_map, fold, slice_index, Option, Some, None, refl, sym, ap, ◌∙◌, subst, arith, inl, inr}
+use Rattle.std.proofs.Common.{◌≡◌, ◌≢◌, ℕ, suc, ◌+◌, ◌<◌, true, false, Bool, ◌||◌, ◌==◌, List, [], ◌∷◌, ◌++◌, length, map, flat_map, fold, slice_index, Option, Some, None, refl, sym, ap, ◌∙◌, subst, inl, inr}
 use Rattle.std.specs.Prelude.{slice_get, option_map, option_and_then, if◌then◌else◌}
-use Rattle.std.specs.List.{AllByRecursion, list_any}
+use Rattle.std.specs.List.{list_any}
 use Rattle.std.proofs.lemmas.List.Elements.{All-nil, All-cons, All-head, All-tail, All-filter}
 use Rattle.query_lang.specs.declared.fold.TypedFold.{TypedFold}
 use Rattle.query_lang.specs.declared.typed.Class.TheVariants.{Linear}
@@ -21,8 +21,8 @@ use Rattle.epoch_model.specs.Laws.{HasRoom, rows_given}
 use Rattle.epoch_model.specs.Driving.{Taken, use_at, uses_taken}
 use Rattle.epoch_model.specs.Tables.{Folding, exact_row, epoch_rows, epochs_shown, keys_used, closed_key_rows, closed_keys, closed_rows, closed_epochs}
 use Rattle.epoch_model.proofs.KeyLists.{by_test}
-use Rattle.epoch_model.proofs.Cuts.{IsPiece, epochs-pieces, epochs_cut_the_rows_lem}
-use Rattle.epoch_model.proofs.TableRows.{flat_map-single}
+use Rattle.epoch_model.proofs.Rows.{no_row_is_lost_lem}
+use Rattle.epoch_model.proofs.TableRows.{closed-lists, flat_map-single}
 use Rattle.epoch_entry.specs.Foldings.{folding_of, per_epoch}
 use Rattle.stage_plan.specs.Planned.{IsPlanOf, taken}
 use Rattle.stage_plan.specs.Shape.{GroupShape}
@@ -33,18 +33,19 @@ use Rattle.final_queries.specs.declared.table.TableKind.TheVariants as kind
 use Rattle.final_queries.specs.GroupTable.{closed_table}
 use Rattle.query_tables.specs.Tables.{heading_of}
 use Rattle.additive_folds.specs.Pieces.{joined}
-use Rattle.additive_folds.specs.Network.{SwitchEvent, SwitchEpoch, all_events, all_epochs, epochs_at, AllMerged}
+use Rattle.additive_folds.specs.Network.{SwitchEvent, SwitchEpoch, all_events, all_epochs, epochs_at, events_at, machine_at, AllMerged}
 use Rattle.additive_folds.proofs.StoreTables.{store_table}
-use Rattle.switch_traces.specs.Traces.{Step, IsRun, own_uses, whole_uses, taken_of}
+use Rattle.switch_traces.specs.Traces.{Step, HasPackets, IsRun, own_uses, whole_uses, taken_of}
 use Rattle.switch_traces.specs.TraceLaws.{rows_used, AreSwitchesOf}
 use Rattle.switch_traces.proofs.OwnEpochs.{own}
 use Rattle.switch_traces.proofs.Givens.{gives, keys_are}
 use Rattle.switch_traces.proofs.Counts.{added, of_one_switch, of_one, same_number, own_number, not_number}
-use Rattle.net_wide.specs.NetTables.{switch_in, packets_at, switches, caches_of, uses_at, net_epochs, key_args, net_key_rows, net_rows, net_count, net_table}
+use Rattle.net_wide.specs.NetTables.{switch_in, packets_at, switches, caches_of, uses_at, key_args, net_key_rows, net_rows, net_count, net_table}
 use Rattle.net_wide.specs.NetLaws.{AreWhole}
 use Rattle.net_wide.proofs.Combined.{HasSwitchKey, Combines, all_combine}
+use Rattle.net_wide.proofs.OneSwitch.{none_closed}
 use Rattle.net_wide.proofs.SameTexts.{flat_maps_alike, sums_alike, tells_switch, at_place}
-use Rattle.net_ends.specs.NetEnds.{IsSeen, AreNumbered, steps_of, EndsAreTheNetTables}
+use Rattle.net_ends.specs.NetEnds.{IsSeen, AreNumbered, steps_of, closed_pieces, MergedMakeTheTable, PiecesAreTheEpochs}
 use Rattle.net_ends.proofs.SwitchLists.{AreOnes, first, keys_of, ones, ones_rest, one_first, no_number, all_apart}
 
 -- two ways to take, where the uses of one packet are the same
@@ -65,15 +66,6 @@ same_taken (Some a) (Some b) e =
     let k : a.key ≡ b.key = ap first_key e in
     let r : a.row ≡ b.row = ap first_row e in
     ap (λ x. Some (record { key = x; row = a.row })) k ∙ ap (λ x. Some (record { key = b.key; row = x })) r
-
--- a list of pieces that give no row
-no_pieces : (lists : List (List ArgRow)) → AllByRecursion IsPiece lists → joined lists ≡ [] → lists ≡ []
-no_pieces [] a e = refl
-no_pieces ([] ∷ lists) a e = absurd (omega (arith, a.0))
-no_pieces ((row ∷ rows) ∷ lists) a e = cc
-
-pub no_epochs : (g : Geometry) (used : List Use) (key : Key) → rows_used key used ≡ [] → epochs g used key ≡ []
-no_epochs g used key e = no_pieces (epochs g used key) (epochs-pieces g used key) ((epochs_cut_the_rows_lem g used key).0 ∙ e)
 
 seen_more : (words : List ℕ) (packets : List (List ℕ)) (s : ℕ) → IsSeen s packets → IsSeen s (words ∷ packets)
 seen_more words packets s seen = or_right (switch_in words == s) (list_any (λ ws. switch_in ws == s) packets) seen
@@ -152,7 +144,7 @@ whole_taken number take (words ∷ packets) = ap (λ ts. take words ∷ ts) (who
 
 module _ (q : TypedQuery) (plan : PlanParts) (buckets ways : ℕ) (packets : List (List ℕ)) (number : ℕ → ℕ) (p : IsPlanOf q plan)
     (room : HasRoom (caches_of buckets ways)) (whole : AreWhole packets) (numbered : AreNumbered number packets) (i : ℕ) (within : i < length plan.groups)
-    (events : List SwitchEvent) (merged : List SwitchEpoch) (ran : IsRun (steps_of number (taken plan i) packets) events) (all : AllMerged (caches_of buckets ways) events merged) where
+    (events : List SwitchEvent) (merged : List SwitchEpoch) (has : HasPackets (steps_of number (taken plan i) packets) events) (all : AllMerged (caches_of buckets ways) events merged) where
   abbrev g : Geometry
   g = caches_of buckets ways
 
@@ -165,67 +157,65 @@ module _ (q : TypedQuery) (plan : PlanParts) (buckets ways : ℕ) (packets : Lis
   uses_are : whole_uses steps ≡ uses q i packets
   uses_are = ap (uses_taken 1) (whole_taken number take packets) ∙ sym (p.takes i packets within whole)
 
-  own_lists : (key : Key) (k : ℕ) → lists_of key (epochs_at k merged) ≡ epochs g (own_uses k steps) key
-  own_lists key k = own buckets ways steps events merged key k room ran all
+  own_lists : (key : Key) (k : ℕ) → lists_of key (epochs_at k merged) ≡ lists_of key (machine_at g k events).closed
+  own_lists key k = ap (lists_of key) (all.epochs k)
 
-  uses_of : (s : ℕ) → IsSeen s packets → own_uses (number s) steps ≡ uses_at q i packets s
-  uses_of s seen =
-      ap (uses_taken 1) (taken_own number take packets numbered s seen packets (λ a some. some))
-      ∙ sym (p.takes i (packets_at s packets) within (All-filter (λ words. switch_in words == s) (λ words. length words ≡ 14) packets whole))
+  -- a switch whose uses give the key no row closes none of it
+  no_lists : (key : Key) (k : ℕ) → rows_used key (own_uses k steps) ≡ [] → lists_of key (epochs_at k merged) ≡ []
+  no_lists key k none = own_lists key k ∙ none_closed key k g events merged room all k ((gives steps events has).own k key ∙ none)
 
   switches_of : (key : Key) → AreSwitchesOf key merged (map number (switches packets))
   switches_of key = record {
     apart = all_apart packets number numbered;
     others = λ k none.
-        own_lists key k
-        ∙ (ap (λ ts. epochs g (uses_taken 1 ts) key) (none_taken number take packets k (λ s seen. no_number packets number k s seen none) packets (λ s seen. seen))
-        ∙ no_epochs g [] key refl);
+        no_lists key k
+        (ap (λ ts. rows_used key (uses_taken 1 ts)) (none_taken number take packets k (λ s seen. no_number packets number k s seen none) packets (λ s seen. seen)));
   }
 
-  pieces_from : (key : Key) (keys : List Key) → AreOnes packets keys
-      → flat_map (λ k. lists_of key (epochs_at k merged)) (map number (map first keys)) ≡ flat_map (λ s. epochs g (uses_at q i packets s) key) (map first keys)
-  pieces_from key [] o = refl
-  pieces_from key (k ∷ keys) o =
-      let one = one_first packets k keys o in
-      let here : lists_of key (epochs_at (number (first k)) merged) ≡ epochs g (uses_at q i packets (first k)) key =
-      own_lists key (number (first k)) ∙ ap (λ us. epochs g us key) (uses_of (first k) (subst (λ s. IsSeen s packets) (sym (ap first one.is)) one.seen)) in
-      ap (λ ls. ls ++ flat_map (λ n. lists_of key (epochs_at n merged)) (map number (map first keys))) here
-      ∙ ap (λ ls. epochs g (uses_at q i packets (first k)) key ++ ls) (pieces_from key keys (ones_rest packets k keys o))
+  abbrev pieces : Key → List (List ArgRow)
+  pieces key = closed_pieces number g events packets key
 
-  pieces_are : (key : Key) → flat_map (λ k. lists_of key (epochs_at k merged)) (map number (switches packets)) ≡ net_epochs q i g packets key
-  pieces_are key = pieces_from key (keys_of packets) (ones packets)
+  pieces_from : (key : Key) (numbers : List ℕ)
+      → flat_map (λ k. lists_of key (epochs_at k merged)) (map number numbers) ≡ flat_map (λ s. lists_of key (machine_at g (number s) events).closed) numbers
+  pieces_from key [] = refl
+  pieces_from key (s ∷ numbers) =
+      ap (λ ls. ls ++ flat_map (λ k. lists_of key (epochs_at k merged)) (map number numbers)) (own_lists key (number s))
+      ∙ ap (λ ls. lists_of key (machine_at g (number s) events).closed ++ ls) (pieces_from key numbers)
 
-  counts_are : (key : Key) → length (lists_of key (all_epochs merged)) ≡ length (net_epochs q i g packets key)
+  pieces_are : (key : Key) → flat_map (λ k. lists_of key (epochs_at k merged)) (map number (switches packets)) ≡ pieces key
+  pieces_are key = pieces_from key (switches packets)
+
+  counts_are : (key : Key) → length (lists_of key (all_epochs merged)) ≡ length (pieces key)
   counts_are key = added key merged (map number (switches packets)) (switches_of key) ∙ ap length (pieces_are key)
 
   keys_same : closed_keys (all_epochs merged) ≡ keys_used (uses q i packets)
-  keys_same = keys_are buckets ways steps events merged room ran all ∙ ap keys_used uses_are
+  keys_same = keys_are buckets ways steps events merged room has all ∙ ap keys_used uses_are
 
-  epochs_same : closed_epochs (all_epochs merged) ≡ net_count q i g packets
+  epochs_same : closed_epochs (all_epochs merged) ≡ net_count q i packets pieces
   epochs_same = ap epochs_shown
-      (sums_alike (λ key. length (lists_of key (all_epochs merged))) (λ key. length (net_epochs q i g packets key)) 0 (closed_keys (all_epochs merged)) counts_are
-      ∙ ap (fold (λ a key. a + length (net_epochs q i g packets key)) 0) keys_same)
+      (sums_alike (λ key. length (lists_of key (all_epochs merged))) (λ key. length (pieces key)) 0 (closed_keys (all_epochs merged)) counts_are
+      ∙ ap (fold (λ a key. a + length (pieces key)) 0) keys_same)
 
   abbrev net_row : Folding → Key → List Row
-  net_row f key = net_key_rows f (net_epochs q i g packets key) (key_args key (uses q i packets)) key
+  net_row f key = net_key_rows f (pieces key) (key_args key (uses q i packets)) key
 
   abbrev exact : Folding → Key → Row
   exact f key = exact_row f key (length (lists_of key (all_epochs merged))) (rows_given key (all_events events))
 
   exact_is : (f : Folding) → f.row_per_epoch ≡ false → (key : Key) → exact f key ∷ [] ≡ net_row f key
   exact_is f one key =
-      let rows : rows_given key (all_events events) ≡ key_args key (uses q i packets) = (gives steps events ran).rows key ∙ ap (rows_used key) uses_are in
+      let rows : rows_given key (all_events events) ≡ key_args key (uses q i packets) = (gives steps events has).rows key ∙ ap (rows_used key) uses_are in
       rw one (ap (λ n. exact_row f key n (rows_given key (all_events events)) ∷ []) (counts_are key)
-      ∙ ap (λ rs. exact_row f key (length (net_epochs q i g packets key)) rs ∷ []) rows)
+      ∙ ap (λ rs. exact_row f key (length (pieces key)) rs ∷ []) rows)
 
   -- an additive fold
   additive_rows : (f : TypedFold) → per_epoch (class_of f) ≡ false → IsValidFold f → is_additive f ≡ true → AreWords f.initial
-      → closed_rows (folding_of f) (all_epochs merged) ≡ net_rows q i g packets (folding_of f)
+      → closed_rows (folding_of f) (all_epochs merged) ≡ net_rows q i packets pieces (folding_of f)
   additive_rows f linear valid additive words =
       store_table f (folding_of f) g events merged refl linear (record { valid = valid; additive = additive; size = valid.starts; words = words }) room all
       ∙ (sym (flat_map-single (λ key. exact (folding_of f) key ∷ []) (exact (folding_of f)) (ascending (keys_given (all_events events))) (λ key. refl))
       ∙ (flat_maps_alike (λ key. exact (folding_of f) key ∷ []) (net_row (folding_of f)) (ascending (keys_given (all_events events))) (exact_is (folding_of f) linear)
-      ∙ ap (λ keys. flat_map (net_row (folding_of f)) (ascending keys)) ((gives steps events ran).keys ∙ ap (map (λ u. u.key)) uses_are)))
+      ∙ ap (λ keys. flat_map (net_row (folding_of f)) (ascending keys)) ((gives steps events has).keys ∙ ap (map (λ u. u.key)) uses_are)))
 
   -- a key that gives the switch
   module _ (t : Taking) (at : slice_get (takings q.streams) i ≡ Some t) (k : HasSwitchKey q t) (key : Key) where
@@ -246,32 +236,34 @@ module _ (q : TypedQuery) (plan : PlanParts) (buckets ways : ℕ) (packets : Lis
     only words x size is e = ap number (tells_switch q i t at packets packets whole whole (λ s. refl) k key words x size (sym (take_is words size) ∙ is) e)
 
     others : (s : ℕ) → s ≢ one → lists_of key (epochs_at s merged) ≡ []
-    others s d = own_lists key s ∙ no_epochs g (own_uses s steps) key (rows_of_other number take packets key one only s 1 d packets whole)
+    others s d = no_lists key s (rows_of_other number take packets key one only s 1 d packets whole)
 
-    lists : lists_of key (all_epochs merged) ≡ net_epochs q i g packets key
+    lists : lists_of key (all_epochs merged) ≡ pieces key
     lists = of_one_switch key merged (map number (switches packets)) one (switches_of key) others ∙ pieces_are key
 
     args : joined (lists_of key (all_epochs merged)) ≡ key_args key (uses q i packets)
     args =
         ap joined (of_one key one merged others ∙ own_lists key one)
-        ∙ ((epochs_cut_the_rows_lem g (own_uses one steps) key).0
+        ∙ (ap joined (closed-lists g (machine_at g one events) key (all.swept one))
+        ∙ (no_row_is_lost_lem g (events_at one events) key room
+        ∙ ((gives steps events has).own one key
         ∙ (rows_of_one number take packets key one only 1 1 packets whole
-        ∙ ap (rows_used key) (sym (p.takes i packets within whole))))
+        ∙ ap (rows_used key) (sym (p.takes i packets within whole))))))
 
     key_rows_are : (f : Folding) → closed_key_rows f (all_epochs merged) key ≡ net_row f key
     key_rows_are f =
         ap (λ (rs : List ArgRow). if f.row_per_epoch then epoch_rows f key (length (lists_of key (all_epochs merged))) 1 (lists_of key (all_epochs merged)) else (exact_row f key (length (lists_of key (all_epochs merged))) rs ∷ [])) args
         ∙ ap (λ ls. net_key_rows f ls (key_args key (uses q i packets)) key) lists
 
-  switch_rows : (f : Folding) (t : Taking) → slice_get (takings q.streams) i ≡ Some t → HasSwitchKey q t → closed_rows f (all_epochs merged) ≡ net_rows q i g packets f
+  switch_rows : (f : Folding) (t : Taking) → slice_get (takings q.streams) i ≡ Some t → HasSwitchKey q t → closed_rows f (all_epochs merged) ≡ net_rows q i packets pieces f
   switch_rows f t at k =
       flat_maps_alike (closed_key_rows f (all_epochs merged)) (net_row f) (closed_keys (all_epochs merged)) (λ key. key_rows_are t at k key f)
       ∙ ap (flat_map (net_row f)) keys_same
 
-  table_is : (shape : GroupShape) (f : TypedFold) → closed_rows (folding_of f) (all_epochs merged) ≡ net_rows q i g packets (folding_of f)
-      → closed_table (heading_of shape) (folding_of f) (all_epochs merged) ≡ net_table q g packets i shape f
+  table_is : (shape : GroupShape) (f : TypedFold) → closed_rows (folding_of f) (all_epochs merged) ≡ net_rows q i packets pieces (folding_of f)
+      → closed_table (heading_of shape) (folding_of f) (all_epochs merged) ≡ net_table q packets pieces i shape f
   table_is shape f rows =
-      ap (λ n. made n (closed_rows (folding_of f) (all_epochs merged))) epochs_same ∙ ap (made (net_count q i g packets)) rows
+      ap (λ n. made n (closed_rows (folding_of f) (all_epochs merged))) epochs_same ∙ ap (made (net_count q i packets pieces)) rows
     where
       made : ℕ → List Row → Table
       made n rows = record {
@@ -282,19 +274,52 @@ module _ (q : TypedQuery) (plan : PlanParts) (buckets ways : ℕ) (packets : Lis
         rows = rows;
       }
 
-pub ends_are : ((f : TypedFold) → IsValidFold f → is_additive f ≡ true → class_of f ≡ Linear) → EndsAreTheNetTables
-ends_are linear q plan buckets ways packets number valid none tells p room whole numbered i shape f events merged within at ran all =
-    table_is q plan buckets ways packets number p room whole numbered i within events merged ran all shape f (go (slice_get (takings q.streams) i) refl at)
+pub make_the_table : ((f : TypedFold) → IsValidFold f → is_additive f ≡ true → class_of f ≡ Linear) → MergedMakeTheTable
+make_the_table linear q plan buckets ways packets number valid none tells p room whole numbered i shape f events merged within at has all =
+    table_is q plan buckets ways packets number p room whole numbered i within events merged has all shape f (go (slice_get (takings q.streams) i) refl at)
   where
+    cut : Key → List (List ArgRow)
+    cut key = closed_pieces number (caches_of buckets ways) events packets key
+
     rows_by : (t : Taking) → slice_get (takings q.streams) i ≡ Some t → slice_get q.folds t.fold_number ≡ Some f → Combines q t f
-        → closed_rows (folding_of f) (all_epochs merged) ≡ net_rows q i (caches_of buckets ways) packets (folding_of f)
+        → closed_rows (folding_of f) (all_epochs merged) ≡ net_rows q i packets cut (folding_of f)
     rows_by t e is (inl additive) =
         let sound = at_place IsValidFold q.folds t.fold_number f valid.folds is in
-        additive_rows q plan buckets ways packets number p room whole numbered i within events merged ran all f (ap per_epoch (linear f sound additive)) sound additive
+        additive_rows q plan buckets ways packets number p room whole numbered i within events merged has all f (ap per_epoch (linear f sound additive)) sound additive
         (at_place (λ f. AreWords f.initial) q.folds t.fold_number f tells.words is)
-    rows_by t e is (inr k) = switch_rows q plan buckets ways packets number p room whole numbered i within events merged ran all (folding_of f) t e k
+    rows_by t e is (inr k) = switch_rows q plan buckets ways packets number p room whole numbered i within events merged has all (folding_of f) t e k
 
     go : (o : Option Taking) → slice_get (takings q.streams) i ≡ o → option_and_then (λ t. slice_get q.folds t.fold_number) o ≡ Some f
-        → closed_rows (folding_of f) (all_epochs merged) ≡ net_rows q i (caches_of buckets ways) packets (folding_of f)
+        → closed_rows (folding_of f) (all_epochs merged) ≡ net_rows q i packets cut (folding_of f)
     go None e is = cc
     go (Some t) e is = rows_by t e is (all_combine q [] q.streams none valid.streams tells.keys i t f e is)
+
+-- where no eviction comes before the end
+module _ (q : TypedQuery) (plan : PlanParts) (buckets ways : ℕ) (packets : List (List ℕ)) (number : ℕ → ℕ) (p : IsPlanOf q plan)
+    (room : HasRoom (caches_of buckets ways)) (whole : AreWhole packets) (numbered : AreNumbered number packets) (i : ℕ) (within : i < length plan.groups)
+    (events : List SwitchEvent) (merged : List SwitchEpoch) (ran : IsRun (steps_of number (taken plan i) packets) events) (all : AllMerged (caches_of buckets ways) events merged) (key : Key) where
+  abbrev cuts : Geometry
+  cuts = caches_of buckets ways
+
+  uses_of : (s : ℕ) → IsSeen s packets → own_uses (number s) (steps_of number (taken plan i) packets) ≡ uses_at q i packets s
+  uses_of s seen =
+      ap (uses_taken 1) (taken_own number (taken plan i) packets numbered s seen packets (λ a some. some))
+      ∙ sym (p.takes i (packets_at s packets) within (All-filter (λ words. switch_in words == s) (λ words. length words ≡ 14) packets whole))
+
+  epochs_of : (s : ℕ) → IsSeen s packets → lists_of key (machine_at cuts (number s) events).closed ≡ epochs cuts (uses_at q i packets s) key
+  epochs_of s seen =
+      ap (lists_of key) (sym (all.epochs (number s)))
+      ∙ (own buckets ways (steps_of number (taken plan i) packets) events merged key (number s) room ran all ∙ ap (λ us. epochs cuts us key) (uses_of s seen))
+
+  epochs_from : (keys : List Key) → AreOnes packets keys
+      → flat_map (λ s. lists_of key (machine_at cuts (number s) events).closed) (map first keys) ≡ flat_map (λ s. epochs cuts (uses_at q i packets s) key) (map first keys)
+  epochs_from [] o = refl
+  epochs_from (k ∷ keys) o =
+      let one = one_first packets k keys o in
+      ap (λ ls. ls ++ flat_map (λ s. lists_of key (machine_at cuts (number s) events).closed) (map first keys))
+      (epochs_of (first k) (subst (λ s. IsSeen s packets) (sym (ap first one.is)) one.seen))
+      ∙ ap (λ ls. epochs cuts (uses_at q i packets (first k)) key ++ ls) (epochs_from keys (ones_rest packets k keys o))
+
+pub are_the_epochs : PiecesAreTheEpochs
+are_the_epochs q plan buckets ways packets number p room whole numbered i events merged key within ran all =
+    epochs_from q plan buckets ways packets number p room whole numbered i within events merged ran all key (keys_of packets) (ones packets)

@@ -1,9 +1,11 @@
 -- What a store that merged all epochs of several switches gives is the table of the definition.
-use Rattle.std.specs.Prelude.{◌≡◌, ◌<◌, ℕ, true, None, Some, Option, List, length, map, All, ◌==◌}
+use Rattle.std.specs.Prelude.{◌≡◌, ◌<◌, ℕ, true, None, Some, Option, List, length, map, flat_map, All, ◌==◌}
 use Rattle.std.specs.List.{list_any}
 use Rattle.query_lang.specs.declared.fold.TypedFold.{TypedFold}
 use Rattle.query_lang.specs.declared.typed.TypedQuery.{TypedQuery}
 use Rattle.query_lang.specs.TypedQueries.{IsValidQuery, group_shape}
+use Rattle.epoch_model.specs.Keys.{ArgRow, Key}
+use Rattle.epoch_model.specs.Machine.{lists_of}
 use Rattle.epoch_model.specs.Driving.{Taken}
 use Rattle.epoch_model.specs.Laws.{HasRoom}
 use Rattle.epoch_entry.specs.Foldings.{folding_of}
@@ -15,10 +17,10 @@ use Rattle.final_queries.specs.GroupTable.{closed_table}
 use Rattle.query_lang.specs.Streams.{takings}
 use Rattle.epoch_model.specs.Epochs.{Geometry}
 use Rattle.query_tables.specs.Tables.{heading_of}
-use Rattle.additive_folds.specs.Network.{SwitchEvent, SwitchEpoch, all_epochs, AllMerged}
-use Rattle.switch_traces.specs.Traces.{Step, IsRun}
+use Rattle.additive_folds.specs.Network.{SwitchEvent, SwitchEpoch, all_epochs, machine_at, AllMerged}
+use Rattle.switch_traces.specs.Traces.{Step, HasPackets, IsRun}
 use Rattle.net_wide.specs.Combining.{net_fault}
-use Rattle.net_wide.specs.NetTables.{switch_in, caches_of, net_table, net_tables}
+use Rattle.net_wide.specs.NetTables.{switch_in, switches, caches_of, net_epochs, net_table, net_tables}
 use Rattle.net_wide.specs.NetLaws.{AreWhole, TellsSwitches}
 
 -- a packet of this switch is among these
@@ -33,16 +35,30 @@ AreNumbered number packets = (a b : ℕ) → IsSeen a packets → IsSeen b packe
 abbrev pub steps_of : (ℕ → ℕ) → (List ℕ → Option Taken) → List (List ℕ) → List Step
 steps_of number taken packets = map (λ words. record { switch = number (switch_in words); taken = taken words }) packets
 
--- In a query whose groupbys all combine, the merged epochs of all switches at the end of a trace give the groupby's table, whatever
--- the order of the merges.
-abbrev pub EndsAreTheNetTables : Type 0
-EndsAreTheNetTables = (q : TypedQuery) (plan : PlanParts) (buckets ways : ℕ) (packets : List (List ℕ)) (number : ℕ → ℕ)
+-- The row lists of a key that the machines of all switches closed: switch by switch, in ascending order.
+abbrev pub closed_pieces : (ℕ → ℕ) → Geometry → List SwitchEvent → List (List ℕ) → Key → List (List ArgRow)
+closed_pieces number g events packets key =
+    flat_map (λ switch. lists_of key (machine_at g (number switch) events).closed) (switches packets)
+
+-- In a query whose groupbys all combine, the merged epochs of all switches give the groupby's table, with the pieces of each key that
+-- the machines closed, wherever evictions and merges came and whatever the order of the merges.
+abbrev pub MergedMakeTheTable : Type 0
+MergedMakeTheTable = (q : TypedQuery) (plan : PlanParts) (buckets ways : ℕ) (packets : List (List ℕ)) (number : ℕ → ℕ)
     → IsValidQuery q → net_fault q ≡ None → TellsSwitches q → IsPlanOf q plan → HasRoom (caches_of buckets ways)
     → AreWhole packets → AreNumbered number packets
     → (i : ℕ) (shape : GroupShape) (f : TypedFold) (events : List SwitchEvent) (merged : List SwitchEpoch)
     → i < length plan.groups → fold_at q i ≡ Some f
+    → HasPackets (steps_of number (taken plan i) packets) events → AllMerged (caches_of buckets ways) events merged
+    → closed_table (heading_of shape) (folding_of f) (all_epochs merged)
+    ≡ net_table q packets (closed_pieces number (caches_of buckets ways) events packets) i shape f
+
+-- Where no eviction comes before the end of a trace, those pieces are the epochs of the definition.
+abbrev pub PiecesAreTheEpochs : Type 0
+PiecesAreTheEpochs = (q : TypedQuery) (plan : PlanParts) (buckets ways : ℕ) (packets : List (List ℕ)) (number : ℕ → ℕ)
+    → IsPlanOf q plan → HasRoom (caches_of buckets ways) → AreWhole packets → AreNumbered number packets
+    → (i : ℕ) (events : List SwitchEvent) (merged : List SwitchEpoch) (key : Key) → i < length plan.groups
     → IsRun (steps_of number (taken plan i) packets) events → AllMerged (caches_of buckets ways) events merged
-    → closed_table (heading_of shape) (folding_of f) (all_epochs merged) ≡ net_table q (caches_of buckets ways) packets i shape f
+    → closed_pieces number (caches_of buckets ways) events packets key ≡ net_epochs q i (caches_of buckets ways) packets key
 
 -- Finals can read the tables of the definition, which have the shapes of what the groupbys take.
 abbrev pub NetTablesAreRead : Type 0

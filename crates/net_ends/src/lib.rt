@@ -3,4 +3,4 @@
 
 mod laws;
 
-pub use laws::{ends_are_the_net_tables, net_tables_are_read};
+pub use laws::{merged_make_the_table, net_tables_are_read, pieces_are_the_epochs};

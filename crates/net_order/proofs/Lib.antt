@@ -1,6 +1,1 @@
-pub mod Tells
-pub mod Columns
-pub mod Rows
-pub mod Made
-pub mod Switches
 pub mod Neighbours

@@ -2,6 +2,7 @@
 
 ghost use Rattle.net_order.specs.OrderLaws.{AcceptedTellSwitches, NeighboursMayChangePlaces, SwitchOrderIsFree};
 
+use field_laws::keys_are_fields;
 use net_wide::switches_do_not_wait;
 use query_laws::{accepted_are_valid, accepted_start_as_words};
 
@@ -11,6 +12,7 @@ pub fn accepted_tell_switches()
     ensures { AcceptedTellSwitches }
 {
     accepted_start_as_words();
+    keys_are_fields();
 }
 
 /// Where every groupby of an accepted text combines, two lists of whole packets that have the same packets of each switch in the

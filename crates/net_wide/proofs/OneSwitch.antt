@@ -48,7 +48,7 @@ module _ (key : Key) (s : ℕ) where
 
   module _ (g : Geometry) (events : List SwitchEvent) (merged : List SwitchEpoch) (room : HasRoom g) (all : AllMerged g events merged) where
     -- a switch that gives the key no row closes no epoch of it
-    none_closed : (k : ℕ) → rows_given key (events_at k events) ≡ [] → lists_of key (machine_at g k events).closed ≡ []
+    pub none_closed : (k : ℕ) → rows_given key (events_at k events) ≡ [] → lists_of key (machine_at g k events).closed ≡ []
     none_closed k none =
         no_pieces (lists_of key (machine_at g k events).closed)
         (subst (AllByRecursion IsPiece) (sym (closed-lists g (machine_at g k events) key (all.swept k)))

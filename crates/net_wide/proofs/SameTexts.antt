@@ -30,7 +30,7 @@ use Rattle.query_tables.specs.Tables.{printed}
 use Rattle.additive_folds.specs.Pieces.{all_rows}
 use Rattle.additive_folds.proofs.Orders.{any_interleaving}
 use Rattle.net_wide.specs.Combining.{net_fault}
-use Rattle.net_wide.specs.NetTables.{switch_in, switches, uses_at, caches_of, net_epochs, key_args, net_key_rows, net_rows, net_count, net_table, net_table_if, net_tables_from, net_tables, net_text}
+use Rattle.net_wide.specs.NetTables.{switch_in, switches, uses_at, caches_of, net_epochs, key_args, net_key_rows, net_rows, net_count, net_table, net_table_if, net_pieces, net_tables_from, net_tables, net_text, tables_of_pieces}
 use Rattle.net_wide.specs.NetLaws.{AreWhole, SameOfEachSwitch, TellsSwitches, SwitchesDoNotWait}
 use Rattle.net_wide.proofs.Taking.{given, args_given, same_of_each, alone, same_keys_used, same_switches}
 use Rattle.net_wide.proofs.Combined.{HasSwitchKey, Combines, all_combine}
@@ -99,12 +99,12 @@ module _ (q : TypedQuery) (i : ℕ) (t : Taking) (at : slice_get (takings q.stre
       flat_maps_alike (λ s. epochs g (uses_at q i packets s) key) (λ s. epochs g (uses_at q i other s) key) (switches packets) (λ s. ap (λ ps. epochs g (uses q i ps) key) (same s))
       ∙ ap (flat_map (λ s. epochs g (uses_at q i other s) key)) (same_switches packets other same)
 
-  count_alike : (g : Geometry) → net_count q i g packets ≡ net_count q i g other
+  count_alike : (g : Geometry) → net_count q i packets (net_epochs q i g packets) ≡ net_count q i other (net_epochs q i g other)
   count_alike g = ap epochs_shown
       (sums_alike (λ key. length (net_epochs q i g packets key)) (λ key. length (net_epochs q i g other key)) 0 (keys_used (uses q i packets)) (λ key. ap length (epochs_alike g key))
       ∙ ap (fold (λ a key. a + length (net_epochs q i g other key)) 0) keys_alike)
 
-  rows_alike : (g : Geometry) (f : TypedFold) → IsValidFold f → AreWords f.initial → Combines q t f → net_rows q i g packets (folding_of f) ≡ net_rows q i g other (folding_of f)
+  rows_alike : (g : Geometry) (f : TypedFold) → IsValidFold f → AreWords f.initial → Combines q t f → net_rows q i packets (net_epochs q i g packets) (folding_of f) ≡ net_rows q i other (net_epochs q i g other) (folding_of f)
   rows_alike g f valid words c =
       flat_maps_alike (λ key. net_key_rows (folding_of f) (net_epochs q i g packets key) (key_args key (uses q i packets)) key)
       (λ key. net_key_rows (folding_of f) (net_epochs q i g other key) (key_args key (uses q i other)) key) (keys_used (uses q i packets))
@@ -112,9 +112,9 @@ module _ (q : TypedQuery) (i : ℕ) (t : Taking) (at : slice_get (takings q.stre
       (epochs_alike g key) (state_alike f key valid words c))
       ∙ ap (flat_map (λ key. net_key_rows (folding_of f) (net_epochs q i g other key) (key_args key (uses q i other)) key)) keys_alike
 
-  pub table_alike : (g : Geometry) (shape : GroupShape) (f : TypedFold) → IsValidFold f → AreWords f.initial → Combines q t f → net_table q g packets i shape f ≡ net_table q g other i shape f
+  pub table_alike : (g : Geometry) (shape : GroupShape) (f : TypedFold) → IsValidFold f → AreWords f.initial → Combines q t f → net_table q packets (net_epochs q i g packets) i shape f ≡ net_table q other (net_epochs q i g other) i shape f
   table_alike g shape f valid words c =
-      ap (λ n. made n (net_rows q i g packets (folding_of f))) (count_alike g) ∙ ap (made (net_count q i g other)) (rows_alike g f valid words c)
+      ap (λ n. made n (net_rows q i packets (net_epochs q i g packets) (folding_of f))) (count_alike g) ∙ ap (made (net_count q i other (net_epochs q i g other))) (rows_alike g f valid words c)
     where
       made : ℕ → List Row → Table
       made n rows = record {
@@ -131,11 +131,11 @@ at_place P xs i x all e = subst P (get_or_from_slice_get xs i x x e) (all i x (s
 module _ (q : TypedQuery) (g : Geometry) (packets other : List (List ℕ)) (valid : IsValidQuery q) (none : net_fault q ≡ None) (tells : TellsSwitches q)
     (whole : AreWhole packets) (other_whole : AreWhole other) (same : SameOfEachSwitch packets other) where
   one_alike : (i : ℕ) (shape : GroupShape) (o : Option Taking) → slice_get (takings q.streams) i ≡ o
-      → net_table_if q g packets i shape (option_and_then (λ t. slice_get q.folds t.fold_number) o) ≡ net_table_if q g other i shape (option_and_then (λ t. slice_get q.folds t.fold_number) o)
+      → net_table_if q packets (net_epochs q i g packets) i shape (option_and_then (λ t. slice_get q.folds t.fold_number) o) ≡ net_table_if q other (net_epochs q i g other) i shape (option_and_then (λ t. slice_get q.folds t.fold_number) o)
   one_alike i shape None at = refl
   one_alike i shape (Some t) at = go (slice_get q.folds t.fold_number) refl
     where
-      go : (o : Option TypedFold) → slice_get q.folds t.fold_number ≡ o → net_table_if q g packets i shape o ≡ net_table_if q g other i shape o
+      go : (o : Option TypedFold) → slice_get q.folds t.fold_number ≡ o → net_table_if q packets (net_epochs q i g packets) i shape o ≡ net_table_if q other (net_epochs q i g other) i shape o
       go None is = refl
       go (Some f) is =
           ap (λ table. table ∷ []) (table_alike q i t at packets other whole other_whole same g shape f
@@ -143,14 +143,14 @@ module _ (q : TypedQuery) (g : Geometry) (packets other : List (List ℕ)) (vali
           (at_place (λ f. AreWords f.initial) q.folds t.fold_number f tells.words is)
           (all_combine q [] q.streams none valid.streams tells.keys i t f at is))
 
-  all_alike : (i : ℕ) (shapes : List GroupShape) → net_tables_from q g packets i shapes ≡ net_tables_from q g other i shapes
+  all_alike : (i : ℕ) (shapes : List GroupShape) → net_tables_from q packets (net_pieces q g packets) i shapes ≡ net_tables_from q other (net_pieces q g other) i shapes
   all_alike i [] = refl
   all_alike i (shape ∷ shapes) =
-      ap (λ ts. ts ++ net_tables_from q g packets (suc i) shapes) (one_alike i shape (slice_get (takings q.streams) i) refl)
-      ∙ ap (λ ts. net_table_if q g other i shape (fold_at q i) ++ ts) (all_alike (suc i) shapes)
+      ap (λ ts. ts ++ net_tables_from q packets (net_pieces q g packets) (suc i) shapes) (one_alike i shape (slice_get (takings q.streams) i) refl)
+      ∙ ap (λ ts. net_table_if q other (net_epochs q i g other) i shape (fold_at q i) ++ ts) (all_alike (suc i) shapes)
 
   pub tables_alike : net_tables q g packets ≡ net_tables q g other
-  unfolding net_tables
+  unfolding tables_of_pieces
   tables_alike = all_alike 0 (query_groups q)
 
 pub same_text : SwitchesDoNotWait

@@ -26,7 +26,7 @@ use Rattle.switch_core.proofs.MergeSteps.{merged_next}
 use Rattle.switch_core.proofs.SideBySide.{same_some, got_some}
 use Rattle.additive_folds.specs.Network.{SwitchEvent, SwitchEpoch, all_events, events_at, all_epochs, epochs_at, machine_at, AllMerged}
 use Rattle.net_wide.specs.NetTables.{caches_of}
-use Rattle.net_wide.specs.Sharing.{SwitchMakes, with_event, epochs_from, FrontsStand, LeadsBy, LeadsByMerge, StoreTakes, merged_at}
+use Rattle.net_wide.specs.Sharing.{LeavesParts, SwitchMakes, with_event, epochs_from, FrontsStand, LeadsBy, LeadsByMerge, StoreTakes, merged_at}
 
 got_other : {X : Type 0} (xs : List X) (i s : ℕ) (x : X) → s ≢ i → slice_get (set xs i x) s ≡ slice_get xs s
 got_other [] i s x d = refl
@@ -37,10 +37,13 @@ got_other (y ∷ xs) (suc i) (suc s) x d = got_other xs i s x (λ e. d (ap suc e
 
 -- one front is another one after the event
 pub one_makes : {K : Type 0} (means : K → Standing) (ways switch : ℕ) (event : Event) (fronts : List (FrontOf K)) (was now : FrontOf K) → switch < length fronts → slice_get fronts switch ≡ Some was
-    → FrontMakes (means was.kind) ways event was now → SwitchMakes means ways switch event fronts (set fronts switch now)
-one_makes {K = K} means ways switch event fronts was now within here made = record {
+    → FrontMakes (means was.kind) ways event was now → LeavesParts event was now → SwitchMakes means ways switch event fronts (set fronts switch now)
+one_makes {K = K} means ways switch event fronts was now within here made leaves = record {
   front = λ x e. let same : was ≡ x = same_some was x (sym here ∙ e) in
       (now, got_set fronts switch now within, subst (λ (z : FrontOf K). FrontMakes (means z.kind) ways event z now) same made);
+  leaves = λ x y e f.
+      subst (λ (z : FrontOf K). LeavesParts event z y) (same_some was x (sym here ∙ e))
+      (subst (LeavesParts event was) (same_some now y (sym (got_set fronts switch now within) ∙ f)) leaves);
   others = λ s d. got_other fronts switch s now d;
   count = length-set fronts switch now;
 }

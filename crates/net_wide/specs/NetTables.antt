@@ -16,8 +16,7 @@ use Rattle.stage_plan.specs.Shape.{GroupShape, query_groups}
 use Rattle.final_queries.specs.declared.table.Table.{Table}
 use Rattle.final_queries.specs.declared.table.TableKind.TheVariants.{Group}
 use Rattle.final_queries.specs.Finals.{with_finals}
-use Rattle.final_queries.specs.GroupTable.{Heading}
-use Rattle.query_tables.specs.Tables.{heading_of, printed}
+use Rattle.query_tables.specs.Tables.{printed}
 
 -- the switch of a packet with these words
 abbrev pub switch_in : List ℕ → ℕ
@@ -52,43 +51,47 @@ abbrev pub net_key_rows : Folding → List (List ArgRow) → List ArgRow → Key
 net_key_rows f pieces args key =
     if f.row_per_epoch then epoch_rows f key (length pieces) 1 pieces else (exact_row f key (length pieces) args ∷ [])
 
--- The rows of the groupby's table, by the keys of all switches in ascending order.
-abbrev pub net_rows : TypedQuery → ℕ → Geometry → List (List ℕ) → Folding → List Row
-net_rows q i g packets f =
-    flat_map (λ key. net_key_rows f (net_epochs q i g packets key) (key_args key (uses q i packets)) key) (keys_used (uses q i packets))
+-- The rows of the groupby's table, by the keys of all switches in ascending order, where these are the pieces of each key.
+abbrev pub net_rows : TypedQuery → ℕ → List (List ℕ) → (Key → List (List ArgRow)) → Folding → List Row
+net_rows q i packets pieces f =
+    flat_map (λ key. net_key_rows f (pieces key) (key_args key (uses q i packets)) key) (keys_used (uses q i packets))
 
--- The number of epochs over all keys of the table.
-abbrev pub net_count : TypedQuery → ℕ → Geometry → List (List ℕ) → ℕ
-net_count q i g packets = epochs_shown (sum_by (λ key. length (net_epochs q i g packets key)) (keys_used (uses q i packets)))
+-- The number of pieces over all keys of the table.
+abbrev pub net_count : TypedQuery → ℕ → List (List ℕ) → (Key → List (List ArgRow)) → ℕ
+net_count q i packets pieces = epochs_shown (sum_by (λ key. length (pieces key)) (keys_used (uses q i packets)))
 
--- a groupby's table with this heading
-abbrev pub table_with : TypedQuery → ℕ → Geometry → List (List ℕ) → Heading → Folding → Table
-table_with q i g packets heading f = record {
-  name = heading.name;
-  columns = heading.key_names ++ heading.state_names;
-  keys = length heading.key_names;
-  kind = Group heading.class heading.depth (net_count q i g packets);
-  rows = net_rows q i g packets f;
+-- The table of the groupby with this number over the packets of several switches, where these are the pieces of each key.
+abbrev pub net_table : TypedQuery → List (List ℕ) → (Key → List (List ArgRow)) → ℕ → GroupShape → TypedFold → Table
+net_table q packets pieces i shape f = record {
+  name = shape.name;
+  columns = shape.key_names ++ shape.state_names;
+  keys = length shape.key_names;
+  kind = Group shape.class shape.depth (net_count q i packets pieces);
+  rows = net_rows q i packets pieces (folding_of f);
 }
 
--- The table of the groupby with this number over the packets of several switches.
-abbrev pub net_table : TypedQuery → Geometry → List (List ℕ) → ℕ → GroupShape → TypedFold → Table
-net_table q g packets i shape f = table_with q i g packets (heading_of shape) (folding_of f)
-
 -- a groupby whose fold isn't there has no table; each groupby of a valid query has a fold
-abbrev pub net_table_if : TypedQuery → Geometry → List (List ℕ) → ℕ → GroupShape → Option TypedFold → List Table
-net_table_if q g packets i shape None = []
-net_table_if q g packets i shape (Some f) = net_table q g packets i shape f ∷ []
+abbrev pub net_table_if : TypedQuery → List (List ℕ) → (Key → List (List ArgRow)) → ℕ → GroupShape → Option TypedFold → List Table
+net_table_if q packets pieces i shape None = []
+net_table_if q packets pieces i shape (Some f) = net_table q packets pieces i shape f ∷ []
 
--- the tables of groupbys in order, where the first has this number
-abbrev pub net_tables_from : TypedQuery → Geometry → List (List ℕ) → ℕ → List GroupShape → List Table
-net_tables_from q g packets i [] = []
-net_tables_from q g packets i (shape ∷ shapes) =
-    net_table_if q g packets i shape (fold_at q i) ++ net_tables_from q g packets (suc i) shapes
+-- the tables of groupbys in order, where the first has this number, and each groupby its own pieces
+abbrev pub net_tables_from : TypedQuery → List (List ℕ) → (ℕ → Key → List (List ArgRow)) → ℕ → List GroupShape → List Table
+net_tables_from q packets pieces i [] = []
+net_tables_from q packets pieces i (shape ∷ shapes) =
+    net_table_if q packets (pieces i) i shape (fold_at q i) ++ net_tables_from q packets pieces (suc i) shapes
 
--- The tables of a query's groupbys over the packets of several switches.
-unfoldable pub net_tables : TypedQuery → Geometry → List (List ℕ) → List Table
-net_tables q g packets = net_tables_from q g packets 0 (query_groups q)
+-- The tables of a query's groupbys over the packets of several switches, where these are the pieces of each groupby's keys.
+unfoldable pub tables_of_pieces : TypedQuery → List (List ℕ) → (ℕ → Key → List (List ArgRow)) → List Table
+tables_of_pieces q packets pieces = net_tables_from q packets pieces 0 (query_groups q)
+
+-- the epochs of each key, by the groupby's number
+abbrev pub net_pieces : TypedQuery → Geometry → List (List ℕ) → ℕ → Key → List (List ArgRow)
+net_pieces q g packets i = net_epochs q i g packets
+
+-- The tables of the definition: the pieces are the epochs.
+abbrev pub net_tables : TypedQuery → Geometry → List (List ℕ) → List Table
+net_tables q g packets = tables_of_pieces q packets (net_pieces q g packets)
 
 -- What a query prints over the packets of several switches, whose caches have this number of buckets and ways: the tables of its
 -- groupbys and finals, in the order of its prints.

@@ -1,6 +1,7 @@
 -- The fronts of several switches at one groupby, which share one store.
-use Rattle.std.specs.Prelude.{◌≡◌, ◌≢◌, ℕ, List, [], ◌∷◌, ◌++◌, length, map, take, slice_get, Some, None}
-use Rattle.epoch_model.specs.Machine.{Epoch, Event, Merge}
+use Rattle.std.specs.Prelude.{◌≡◌, ◌≢◌, ℕ, ◌-◌, List, [], ◌∷◌, ◌++◌, length, map, take, drop, slice_get, Some, None}
+use Rattle.epoch_model.specs.Machine.{Epoch, Event, Packet, Evict, Merge}
+use Rattle.bucket_cache.specs.Caches.{list_at, with_list}
 use Rattle.epoch_model.specs.Tables.{Folding}
 use Rattle.backing_store.specs.Store.{Store}
 use Rattle.merged_epochs.specs.Merged.{StoreHolds}
@@ -14,10 +15,20 @@ use Rattle.net_wide.specs.NetTables.{caches_of}
 abbrev pub AtSwitch : {K : Type 0} → (FrontOf K → Type 0) → List (FrontOf K) → ℕ → Type 0
 AtSwitch {K = K} P fronts switch = (front : FrontOf K) → slice_get fronts switch ≡ Some front → P front
 
+-- What an event leaves of a front: an eviction takes the least recently used pair of its bucket, and changes nothing where there is
+-- none; a merge takes the oldest record, and leaves the cache.
+abbrev pub LeavesParts : {K : Type 0} → Event → FrontOf K → FrontOf K → Type 0
+LeavesParts (Packet key row) old new = Unit {0}
+LeavesParts (Evict bucket) old new =
+    let list = list_at old.cache bucket in
+    (new.cache ≡ with_list old.cache bucket (take (length list - 1) list)) × (length list ≡ 0 → new ≡ old)
+LeavesParts Merge old new = (new.cache ≡ old.cache) × (new.pipe.records ≡ drop 1 old.pipe.records)
+
 -- The front of this switch makes the event, and all others stay unchanged.
 pub record SwitchMakes {K : Type 0} (means : K → Standing) (ways switch : ℕ) (event : Event) (old new : List (FrontOf K)) : Type 0 where
   pub front : (was : FrontOf K) → slice_get old switch ≡ Some was
       → (now : FrontOf K) × (slice_get new switch ≡ Some now) × FrontMakes (means was.kind) ways event was now
+  pub leaves : (was now : FrontOf K) → slice_get old switch ≡ Some was → slice_get new switch ≡ Some now → LeavesParts event was now
   pub others : (s : ℕ) → s ≢ switch → slice_get new s ≡ slice_get old s
   pub count : length new ≡ length old
 

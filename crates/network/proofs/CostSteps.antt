@@ -14,12 +14,11 @@ use Rattle.switch_core.specs.Costs.{merge_cost}
 use Rattle.switch_core.specs.FrontParts.{FrontOf}
 use Rattle.switch_core.specs.Pipelines.{IsLaneOf}
 use Rattle.switch_core.specs.PlanLanes.{LaneView, PipelineView, lane_cost, lane_merge_cost}
-use Rattle.switch_core.specs.Rows.{EachFrom}
+use Rattle.switch_core.specs.Rows.{Each, EachFrom}
 use Rattle.switch_core.proofs.PacketBound.{HasOneDepth, packet_within}
 use Rattle.switch_core.proofs.SideBySide.{each_map, got_some}
-use Rattle.additive_folds.specs.Network.{SwitchEvent}
-use Rattle.network.specs.FrontRuns.{FrontKept}
-use Rattle.network.specs.Groups.{AllWide, AreGroups, AreWide, GroupRuns, GroupsRun, GroupView, IsGroup}
+use Rattle.network.specs.Shared.{FrontKept}
+use Rattle.network.specs.Groups.{AllWide, AreGroups, AreWide, GroupKept, GroupView, IsGroup}
 use Rattle.network.specs.Costs.{AtLaneIn, front_cost, front_merge_cost, group_cost, group_merge_cost, lane_in}
 
 -- steps within those of the switch's lane are within those of the groupby
@@ -48,15 +47,15 @@ kept_at F G none some k at (x ∷ olds) [] e = absurd e
 kept_at F G none some k zero (x ∷ olds) (y ∷ news) e = some x y e.0
 kept_at F G none some k (suc at) (x ∷ olds) (y ∷ news) e = kept_at F G none some (suc k) at olds news e.1
 
-cost_kept : (ways at : ℕ) (are : List SwitchEvent → Type 0) (old new : GroupView) → GroupRuns ways are old new → group_cost ways at new ≡ group_cost ways at old
-cost_kept ways at are old new ran =
+cost_kept : (ways at : ℕ) (old new : GroupView) → GroupKept old new → group_cost ways at new ≡ group_cost ways at old
+cost_kept ways at old new kept =
     let by : ℕ → AnyEpochs → ℕ = λ w k. (w + (ghosts.sizes k).args) + (w + 2 * ways * (w + 1) + (w + (ghosts.sizes k).entry) + ghosts.open_bound k + ghosts.absorb_bound k) in
-    kept_at (front_cost ways old) (front_cost ways new) refl (λ a b kept. ap (λ w. by w b.kind) kept.key_words ∙ ap (by a.cache.key_words) kept.kind) 0 at old.fronts new.fronts ran.runs.fronts
+    kept_at (front_cost ways old) (front_cost ways new) refl (λ a b one. ap (λ w. by w b.kind) one.key_words ∙ ap (by a.cache.key_words) one.kind) 0 at old.fronts new.fronts kept.fronts
 
-merge_kept : (ways at : ℕ) (are : List SwitchEvent → Type 0) (old new : GroupView) → GroupRuns ways are old new → group_merge_cost at new ≡ group_merge_cost at old
-merge_kept ways at are old new ran =
+merge_kept : (at : ℕ) (old new : GroupView) → GroupKept old new → group_merge_cost at new ≡ group_merge_cost at old
+merge_kept at old new kept =
     let by : ℕ → AnyEpochs → ℕ = λ w k. merge_cost w (ghosts.sizes k).entry (ghosts.merge_bound k) in
-    kept_at front_merge_cost front_merge_cost refl (λ a b kept. ap (λ w. by w b.kind) kept.key_words ∙ ap (by a.cache.key_words) kept.kind) 0 at old.fronts new.fronts ran.runs.fronts
+    kept_at front_merge_cost front_merge_cost refl (λ a b one. ap (λ w. by w b.kind) one.key_words ∙ ap (by a.cache.key_words) one.kind) 0 at old.fronts new.fronts kept.fronts
 
 sum_same : (f : GroupView → ℕ) (k : ℕ) (olds news : List GroupView) → EachFrom (λ n a b. f b ≡ f a) k olds news → sum_by f news ≡ sum_by f olds
 sum_same f k [] [] e = refl
@@ -65,15 +64,15 @@ sum_same f k (a ∷ olds) [] e = absurd e
 sum_same f k (a ∷ olds) (b ∷ news) e =
     sum_by-cons f b news ∙ (ap (λ n. n + sum_by f news) e.0 ∙ (ap (λ n. f a + n) (sum_same f (suc k) olds news e.1) ∙ sym (sum_by-cons f a olds)))
 
-pub costs_kept : (ways at : ℕ) (are : ℕ → List SwitchEvent → Type 0) (olds news : List GroupView) → GroupsRun ways are olds news → sum_by (group_cost ways at) news ≡ sum_by (group_cost ways at) olds
-costs_kept ways at are olds news ran =
+pub costs_kept : (ways at : ℕ) (olds news : List GroupView) → Each GroupKept olds news → sum_by (group_cost ways at) news ≡ sum_by (group_cost ways at) olds
+costs_kept ways at olds news kept =
     sum_same (group_cost ways at) 0 olds news
-    (each_map (λ n. GroupRuns ways (are n)) (λ n a b. group_cost ways at b ≡ group_cost ways at a) 0 olds news (λ j n a b q x y r. cost_kept ways at (are n) a b r) ran)
+    (each_map (λ n. GroupKept) (λ n a b. group_cost ways at b ≡ group_cost ways at a) 0 olds news (λ j n a b q x y r. cost_kept ways at a b r) kept)
 
-pub merges_kept : (ways at : ℕ) (are : ℕ → List SwitchEvent → Type 0) (olds news : List GroupView) → GroupsRun ways are olds news → sum_by (group_merge_cost at) news ≡ sum_by (group_merge_cost at) olds
-merges_kept ways at are olds news ran =
+pub merges_kept : (at : ℕ) (olds news : List GroupView) → Each GroupKept olds news → sum_by (group_merge_cost at) news ≡ sum_by (group_merge_cost at) olds
+merges_kept at olds news kept =
     sum_same (group_merge_cost at) 0 olds news
-    (each_map (λ n. GroupRuns ways (are n)) (λ n a b. group_merge_cost at b ≡ group_merge_cost at a) 0 olds news (λ j n a b q x y r. merge_kept ways at (are n) a b r) ran)
+    (each_map (λ n. GroupKept) (λ n a b. group_merge_cost at b ≡ group_merge_cost at a) 0 olds news (λ j n a b q x y r. merge_kept at a b r) kept)
 
 -- The lane of a switch is the one that the plan's groupby has in a pipeline.
 lane_is : (switches at buckets : ℕ) (part : GroupPlan) (wiring : GroupWiring) (group : GroupView) (front : FrontOf AnyEpochs) → slice_get group.fronts at ≡ Some front → AreWide buckets group → IsGroup switches part wiring group

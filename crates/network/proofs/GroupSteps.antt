@@ -7,7 +7,6 @@ use Rattle.std.proofs.lemmas.Bool.Decides.{nat_tests}
 use Rattle.epoch_model.proofs.KeyLists.{by_test}
 use Rattle.fold_class.specs.Program.{IsProgram, IsProgramOf}
 use Rattle.query_lang.specs.declared.fold.TypedFold.{TypedFold}
-use Rattle.backing_store.specs.Store.{Store}
 use Rattle.epoch_entry.specs.declared.any.AnyEpochs.{AnyEpochs}
 use Rattle.final_queries.specs.FinalLaws.{AreAlike}
 use Rattle.stage_plan.specs.declared.group.GroupWiring.{GroupWiring}
@@ -21,14 +20,12 @@ use Rattle.final_queries.specs.GroupTable.{closed_table}
 use Rattle.stage_plan.specs.declared.group.GroupPlan.{GroupPlan}
 use Rattle.stage_plan.specs.Planned.{wiring_at}
 use Rattle.stage_plan.specs.Sound.{PlanParts, IsSoundPlan, IsSoundGroup}
-use Rattle.additive_folds.specs.Network.{SwitchEvent}
 use Rattle.switch_core.specs.Pipelines.{heading_of}
 use Rattle.switch_core.specs.Rows.{Each, EachFrom}
 use Rattle.switch_core.proofs.LanesMade.{group_sound}
 use Rattle.switch_core.proofs.SideBySide.{same_some, each_at, each_long, each_map, got_below}
-use Rattle.network.specs.FrontRuns.{FrontKept}
-use Rattle.network.specs.Groups.{AllHavePlaces, AllWide, AreWide, HavePlaces, GroupGrows, GroupView, IsGroup, IsKindOfProgram, AreGroups, GroupRuns, GroupsRun, folding_in, shared_tables, with_first}
-use Rattle.network.specs.Shared.{AllShare, MayShare, SharedRuns}
+use Rattle.network.specs.Groups.{AllHavePlaces, AllWide, AreWide, HavePlaces, GroupGrows, GroupKept, GroupView, IsGroup, IsKindOfProgram, AreGroups, folding_in, shared_tables, with_first}
+use Rattle.network.specs.Shared.{AllShare, FrontKept, MayShare}
 use Rattle.network.proofs.SharedSteps.{each_back, still_share}
 
 -- what is said of items and parts, and what is made of each item, says something of the new items and the parts
@@ -72,27 +69,26 @@ part_of plan switches n groups group sound are here =
       few_args = good.most_args;
     }
 
--- a run keeps a groupby what it is
-pub still_group : (ways switches : ℕ) (are : List SwitchEvent → Type 0) (part : GroupPlan) (plan : PlanParts) (n : ℕ) (old new : GroupView) → GroupRuns ways are old new
+-- what keeps kinds and sizes keeps a groupby what it is
+pub still_group : (switches : ℕ) (part : GroupPlan) (plan : PlanParts) (n : ℕ) (old new : GroupView) → GroupKept old new
     → IsGroup switches part (wiring_at plan n) old → IsGroup switches part (wiring_at plan n) new
-still_group ways switches are part plan n old new ran is = record {
-  keys = ran.runs.store.key_words ∙ is.keys;
-  states = ran.runs.store.state_words ∙ (is.states ∙ ap (λ k. (ghosts.sizes k).state) (sym ran.kind));
-  class = ap (λ k. (ghosts.folding k).row_per_epoch) ran.kind ∙ is.class;
-  kind = λ f program. subst (λ k. IsKindOf f (ghosts.sizes k) (ghosts.folding k) (ghosts.open_bound k) (ghosts.absorb_bound k)) (sym ran.kind) (is.kind f program);
+still_group switches part plan n old new kept is = record {
+  keys = kept.store.key_words ∙ is.keys;
+  states = kept.store.state_words ∙ (is.states ∙ ap (λ k. (ghosts.sizes k).state) (sym kept.kind));
+  class = ap (λ k. (ghosts.folding k).row_per_epoch) kept.kind ∙ is.class;
+  kind = λ f program. subst (λ k. IsKindOf f (ghosts.sizes k) (ghosts.folding k) (ghosts.open_bound k) (ghosts.absorb_bound k)) (sym kept.kind) (is.kind f program);
   kinds = λ s front e.
-      let was = each_back (λ n. FrontKept) 0 old.fronts new.fronts s front ran.runs.fronts e in
+      let was = each_back (λ n. FrontKept) 0 old.fronts new.fronts s front kept.fronts e in
       subst (IsKindOfProgram part.program) (sym (was.2 s (omega arith)).kind) (is.kinds s was.0 was.1);
-  count = sym (each_long _ 0 old.fronts new.fronts ran.runs.fronts) ∙ is.count;
-  shares = subst (λ k. AllShare ghosts.sizes ghosts.folding (ghosts.folding k) (length (wiring_at plan n).args) new.fronts new.store) (sym ran.kind)
-      (still_share ghosts.sizes ghosts.folding (folding_in old) (length (wiring_at plan n).args) old.fronts new.fronts old.store new.store ran.runs.fronts ran.runs.store is.shares);
+  count = sym (each_long _ 0 old.fronts new.fronts kept.fronts) ∙ is.count;
+  shares = subst (λ k. AllShare ghosts.sizes ghosts.folding (ghosts.folding k) (length (wiring_at plan n).args) new.fronts new.store) (sym kept.kind)
+      (still_share ghosts.sizes ghosts.folding (folding_in old) (length (wiring_at plan n).args) old.fronts new.fronts old.store new.store kept.fronts kept.store is.shares);
 }
 
-pub still_groups : (ways switches : ℕ) (are : ℕ → List SwitchEvent → Type 0) (plan : PlanParts) (olds news : List GroupView) → GroupsRun ways are olds news
-    → AreGroups plan switches olds → AreGroups plan switches news
-still_groups ways switches are plan olds news ran is =
-    each_made (λ n group part. IsGroup switches part (wiring_at plan n) group) (λ n. GroupRuns ways (are n)) (λ n group part. IsGroup switches part (wiring_at plan n) group) 0 olds news plan.groups
-    (λ n a b p r s. still_group ways switches (are n) p plan n a b s r) is ran
+pub still_groups : (switches : ℕ) (plan : PlanParts) (olds news : List GroupView) → Each GroupKept olds news → AreGroups plan switches olds → AreGroups plan switches news
+still_groups switches plan olds news kept is =
+    each_made (λ n group part. IsGroup switches part (wiring_at plan n) group) (λ n. GroupKept) (λ n group part. IsGroup switches part (wiring_at plan n) group) 0 olds news plan.groups
+    (λ n a b p r s. still_group switches p plan n a b s r) is kept
 
 -- tables in sequence
 
@@ -133,18 +129,6 @@ all_grown plan switches olds news are grown =
     0 olds news plan.groups (λ n a b p r s. s switches p r.0 r.1)
     (each_map (λ n group part. IsGroup switches part (wiring_at plan n) group) (λ n group part. (slice_get plan.groups n ≡ Some part) × IsGroup switches part (wiring_at plan n) group) 0 olds plan.groups
     (λ j n a p q f e r. (let same : n ≡ j = omega arith in ap (slice_get plan.groups) same ∙ e, r)) are) grown
-
--- what a run of the fronts makes of the groupby
-pub group_runs : (ways : ℕ) (are : List SwitchEvent → Type 0) (old view : GroupView) → view ≡ old → (before news after : List (FrontOf AnyEpochs)) (store : Store)
-    → before ≡ view.fronts → after ≡ news → SharedRuns ghosts.stands (folding_in view) ways are before news view.store store
-    → GroupRuns ways are old (record { kind = view.kind; fronts = after; store = store })
-group_runs ways are old view same before news after store was now ran =
-    subst (λ v. GroupRuns ways are v (record { kind = view.kind; fronts = after; store = store })) same
-    (record {
-      kind = refl;
-      runs = subst (λ xs. SharedRuns ghosts.stands (folding_in view) ways are view.fronts xs view.store store) (sym now)
-          (subst (λ xs. SharedRuns ghosts.stands (folding_in view) ways are xs news view.store store) was ran);
-    })
 
 got_push : {X : Type 0} (xs : List X) (x y : X) (s : ℕ) → slice_get (xs ++ x ∷ []) s ≡ Some y → (slice_get xs s ≡ Some y) ⊎ (x ≡ y)
 got_push [] x y zero e = inr (same_some x y e)
@@ -248,11 +232,10 @@ kept_back plan switches k (a ∷ olds) (b ∷ mids) (c ∷ news) (p ∷ parts) a
     ap (λ x. x ∷ news) first ∙ ap (λ xs. a ∷ xs) (kept_back plan switches (suc k) olds mids news parts are.1 others.1 kept.1)
 
 -- caches stay as wide
-pub wide_ran : (ways buckets : ℕ) (are : ℕ → List SwitchEvent → Type 0) (olds news : List GroupView) → GroupsRun ways are olds news → AllWide buckets olds → AllWide buckets news
-wide_ran ways buckets are olds news ran wide n now e s front f =
-    let group = each_back (λ k. GroupRuns ways (are k)) 0 olds news n now ran e in
-    let run = group.2 n (omega arith) in
-    let was = each_back (λ k. FrontKept) 0 group.0.fronts now.fronts s front run.runs.fronts f in
+pub wide_kept : (buckets : ℕ) (olds news : List GroupView) → Each GroupKept olds news → AllWide buckets olds → AllWide buckets news
+wide_kept buckets olds news kept wide n now e s front f =
+    let group = each_back (λ k. GroupKept) 0 olds news n now kept e in
+    let was = each_back (λ k. FrontKept) 0 group.0.fronts now.fronts s front (group.2 n (omega arith)).fronts f in
     (was.2 s (omega arith)).buckets ∙ wide n group.0 group.1 s was.0 was.1
 
 pub wide_grown : (ways buckets places : ℕ) (olds news : List GroupView) → Each (GroupGrows ways buckets places) olds news → AllWide buckets olds → AllWide buckets news
@@ -261,11 +244,10 @@ wide_grown ways buckets places olds news grown wide n now e =
     (group.2 n (omega arith)).wide (wide n group.0 group.1)
 
 -- pipes have the places that they had
-pub places_ran : (ways places : ℕ) (are : ℕ → List SwitchEvent → Type 0) (olds news : List GroupView) → GroupsRun ways are olds news → AllHavePlaces places olds → AllHavePlaces places news
-places_ran ways places are olds news ran have n now e s front f =
-    let group = each_back (λ k. GroupRuns ways (are k)) 0 olds news n now ran e in
-    let run = group.2 n (omega arith) in
-    let was = each_back (λ k. FrontKept) 0 group.0.fronts now.fronts s front run.runs.fronts f in
+pub places_kept : (places : ℕ) (olds news : List GroupView) → Each GroupKept olds news → AllHavePlaces places olds → AllHavePlaces places news
+places_kept places olds news kept have n now e s front f =
+    let group = each_back (λ k. GroupKept) 0 olds news n now kept e in
+    let was = each_back (λ k. FrontKept) 0 group.0.fronts now.fronts s front (group.2 n (omega arith)).fronts f in
     (was.2 s (omega arith)).places ∙ have n group.0 group.1 s was.0 was.1
 
 pub places_grown : (ways buckets places : ℕ) (olds news : List GroupView) → Each (GroupGrows ways buckets places) olds news → AllHavePlaces places olds → AllHavePlaces places news

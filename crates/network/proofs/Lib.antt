@@ -1,6 +1,10 @@
-pub mod FrontSteps
 pub mod SharedSteps
 pub mod GroupSteps
 pub mod MakeSteps
 pub mod CostSteps
 pub mod NetworkSteps
+pub mod Runs
+pub mod EventLists
+pub mod Representing
+pub mod EventFronts
+pub mod Ends

@@ -16,15 +16,13 @@ use Rattle.switch_core.specs.Lanes.{Standing}
 use Rattle.switch_core.specs.Pipelines.{event_at}
 use Rattle.switch_core.specs.Rows.{Each, EachFrom}
 use Rattle.switch_core.proofs.SideBySide.{each_at, each_map, each_set, got_some, same_some, untouched_start}
-use Rattle.additive_folds.specs.Network.{SwitchEvent, all_epochs}
-use Rattle.switch_traces.specs.Traces.{from_switch, without_merges}
+use Rattle.additive_folds.specs.Network.{all_epochs}
 use Rattle.net_wide.specs.Sharing.{AtSwitch, LeadsBy, LeadsByMerge, StoreTakes, SwitchMakes, merged_at, with_event}
 use Rattle.net_wide.proofs.Sharing.{all_done, packet_leads}
-use Rattle.network.specs.FrontRuns.{FrontKept, StoreKept}
-use Rattle.network.specs.Shared.{AllShare, MergesAlone, SharedRuns, SharedStand}
-use Rattle.network.specs.Groups.{AreGroups, GroupRuns, GroupsRun, GroupStands, GroupView, IsGroup, folding_in, group_is_drained}
-use Rattle.network.specs.Events.{AreAllMerged, FrontsMakeAll, GroupMakes, GroupMakesAll, GroupsMake, OthersStay, StaysBut, StoresStay, has_room, is_ready_at, merged_by}
-use Rattle.network.proofs.SharedSteps.{alike_back, each_on, holds_alike, shared_as, shared_none, shared_on}
+use Rattle.network.specs.Shared.{AllShare, FrontKept, StoreKept}
+use Rattle.network.specs.Groups.{AreGroups, GroupKept, GroupStands, GroupView, IsGroup, folding_in, group_is_drained}
+use Rattle.network.specs.Events.{AreAllMerged, FrontsMakeAll, GroupMakes, GroupMakesAll, GroupsMake, OthersStay, StaysBut, StoresStay, has_room, is_ready_at}
+use Rattle.network.proofs.SharedSteps.{alike_back, each_on, fronts_same, holds_alike, kept_on, store_on}
 
 each_of : {X Y : Type 0} (R : X → Y → Type 0) (k : ℕ) (xs : List X) (ys : List Y) → length ys ≡ length xs
     → ((s : ℕ) (x : X) (y : Y) → slice_get xs s ≡ Some x → slice_get ys s ≡ Some y → R x y) → EachFrom (λ n. R) k xs ys
@@ -51,78 +49,36 @@ kept_of {K = K} means ways at event olds news made = each_of FrontKept 0 olds ne
     apart : (s : ℕ) → (at == s) ≡ false → s ≢ at
     apart s t e = let yes : (at == s) ≡ true = grind (arith, nat_tests) in let wrong : true ≡ false = sym yes ∙ t in cc
 
--- runs of a groupby, in sequence
+-- so do events of a groupby, and of all groupbys
 
-pub group_none : (ways : ℕ) (P : List SwitchEvent → Type 0) (a : GroupView) → P [] → GroupRuns ways P a a
-group_none ways P a p = record { kind = refl; runs = shared_none ghosts.stands (folding_in a) ways P a.fronts a.store p }
+pub group_same : (a : GroupView) → GroupKept a a
+group_same a = record { kind = refl; fronts = fronts_same 0 a.fronts; store = record { key_words = refl; state_words = refl } }
 
-pub group_on : (ways : ℕ) (P Q R : List SwitchEvent → Type 0) (a b c : GroupView) → ((xs ys : List SwitchEvent) → P xs → Q ys → R (xs ++ ys))
-    → GroupRuns ways P a b → GroupRuns ways Q b c → GroupRuns ways R a c
-group_on ways P Q R a b c h one two = record {
+group_on : (a b c : GroupView) → GroupKept a b → GroupKept b c → GroupKept a c
+group_on a b c one two = record {
   kind = two.kind ∙ one.kind;
-  runs = shared_on ghosts.stands (folding_in a) ways P Q R a.fronts b.fronts c.fronts a.store b.store c.store h one.runs
-      (subst (λ k. SharedRuns ghosts.stands (ghosts.folding k) ways Q b.fronts c.fronts b.store c.store) one.kind two.runs);
+  fronts = each_on (λ n. FrontKept) (λ n. FrontKept) (λ n. FrontKept) 0 a.fronts b.fronts c.fronts (λ n x y z. kept_on x y z) one.fronts two.fronts;
+  store = store_on a.store b.store c.store one.store two.store;
 }
 
-group_as : (ways : ℕ) (P Q : List SwitchEvent → Type 0) (a b : GroupView) → ((xs : List SwitchEvent) → P xs → Q xs) → GroupRuns ways P a b → GroupRuns ways Q a b
-group_as ways P Q a b h one = record { kind = one.kind; runs = shared_as ghosts.stands (folding_in a) ways P Q a.fronts b.fronts a.store b.store h one.runs }
+pub makes_kept : (ways at : ℕ) (events : List Event) (old new : GroupView) → GroupMakesAll ways at events old new → GroupKept old new
+makes_kept ways at [] old new same = subst (GroupKept old) (sym same) (group_same old)
+makes_kept ways at (event ∷ events) old new made =
+    let first = made.1 in
+    group_on old made.0 new
+    (record { kind = first.kind; fronts = kept_of ghosts.stands ways at event old.fronts made.0.fronts first.fronts; store = first.store })
+    (makes_kept ways at events made.0 new made.2)
 
-pub groups_on : (ways : ℕ) (P Q R : ℕ → List SwitchEvent → Type 0) (first mid last : List GroupView) → ((n : ℕ) (xs ys : List SwitchEvent) → P n xs → Q n ys → R n (xs ++ ys))
-    → GroupsRun ways P first mid → GroupsRun ways Q mid last → GroupsRun ways R first last
-groups_on ways P Q R first mid last h one two =
-    each_on (λ n. GroupRuns ways (P n)) (λ n. GroupRuns ways (Q n)) (λ n. GroupRuns ways (R n)) 0 first mid last (λ n a b c. group_on ways (P n) (Q n) (R n) a b c (h n)) one two
+pub groups_kept : (ways at : ℕ) (events : ℕ → List Event) (olds news : List GroupView) → GroupsMake ways at events olds news → Each GroupKept olds news
+groups_kept ways at events olds news made =
+    each_map (λ n. GroupMakesAll ways at (events n)) (λ n. GroupKept) 0 olds news (λ j n a b q e f r. makes_kept ways at (events n) a b r) made
 
-pub groups_none : (ways k : ℕ) (P : ℕ → List SwitchEvent → Type 0) (groups : List GroupView) → ((n : ℕ) → P n []) → EachFrom (λ n. GroupRuns ways (P n)) k groups groups
-groups_none ways k P [] h = tt
-groups_none ways k P (x ∷ groups) h = (group_none ways (P k) x (h k), groups_none ways (suc k) P groups h)
+pub kept_behind : (olds mids news : List GroupView) → Each GroupKept olds mids → Each GroupKept mids news → Each GroupKept olds news
+kept_behind olds mids news one two = each_on (λ n. GroupKept) (λ n. GroupKept) (λ n. GroupKept) 0 olds mids news (λ n a b c. group_on a b c) one two
 
--- the groupbys so far ran, and the others are unchanged
-pub run_so_far : (ways i k : ℕ) (P : List SwitchEvent → Type 0) (olds news : List GroupView) → P [] → EachFrom (λ n a b. n < i → GroupRuns ways P a b) k olds news
-    → EachFrom (λ n a b. i ≤ n → b ≡ a) k olds news → EachFrom (λ n. GroupRuns ways P) k olds news
-run_so_far ways i k P [] [] p done same = tt
-run_so_far ways i k P [] (b ∷ news) p done same = absurd done
-run_so_far ways i k P (a ∷ olds) [] p done same = absurd done
-run_so_far ways i k P (a ∷ olds) (b ∷ news) p done same = (
-  by_test (nat_lt k i)
-      (λ t. done.0 (let l : k < i = grind (arith, nat_tests) in l))
-      (λ t. subst (GroupRuns ways P a) (sym (same.0 (let l : i ≤ k = grind (arith, nat_tests) in l))) (group_none ways P a p)),
-  run_so_far ways i (suc k) P olds news p done.1 same.1,
-)
-
--- events of a switch are a run of all its groupby's fronts
-
-one_run : (ways at : ℕ) (event : Event) (old new : GroupView) → GroupMakes ways at event old new → GroupRuns ways (λ more. more ≡ from_switch at (event ∷ [])) old new
-one_run ways at event old new made = record {
-  kind = made.kind;
-  runs = record {
-    fronts = kept_of ghosts.stands ways at event old.fronts new.fronts made.fronts;
-    store = made.store;
-    runs = λ buckets events merged stand. record {
-      more = from_switch at (event ∷ []);
-      right = refl;
-      later = merged_by ways buckets at event events;
-      stand = subst (λ k. SharedStand ghosts.stands (ghosts.folding k) ways buckets new.fronts new.store (with_event events at event) (merged ++ merged_by ways buckets at event events))
-          made.kind (made.stands buckets events merged stand);
-    };
-  };
-}
-
--- a merge is a run of merges alone
-pub merge_runs : (ways at : ℕ) (old new : GroupView) → GroupMakes ways at Merge old new → GroupRuns ways MergesAlone old new
-merge_runs ways at old new made = group_as ways (λ more. more ≡ from_switch at (Merge ∷ [])) MergesAlone old new (λ xs e. ap without_merges e) (one_run ways at Merge old new made)
-
-pub makes_run : (ways at : ℕ) (events : List Event) (old new : GroupView) → GroupMakesAll ways at events old new → GroupRuns ways (λ more. more ≡ from_switch at events) old new
-makes_run ways at [] old new same = subst (GroupRuns ways (λ more. more ≡ []) old) (sym same) (group_none ways (λ more. more ≡ []) old refl)
-makes_run ways at (event ∷ events) old new made =
-    let first : SwitchEvent = record { switch = at; event = event } in
-    group_on ways (λ more. more ≡ from_switch at (event ∷ [])) (λ more. more ≡ from_switch at events) (λ more. more ≡ from_switch at (event ∷ events)) old made.0 new
-    (λ xs ys x y. ap (λ zs. zs ++ ys) x ∙ ap (λ zs. first ∷ zs) y) (one_run ways at event old made.0 made.1) (makes_run ways at events made.0 new made.2)
-
-pub makes_runs : (ways at : ℕ) (events : ℕ → List Event) (olds news : List GroupView) → GroupsMake ways at events olds news
-    → GroupsRun ways (λ n more. more ≡ from_switch at (events n)) olds news
-makes_runs ways at events olds news made =
-    each_map (λ n. GroupMakesAll ways at (events n)) (λ n. GroupRuns ways (λ more. more ≡ from_switch at (events n))) 0 olds news
-    (λ j n a b q e f r. makes_run ways at (events n) a b r) made
+pub none_kept : (k : ℕ) (groups : List GroupView) → EachFrom (λ n. GroupKept) k groups groups
+none_kept k [] = tt
+none_kept k (x ∷ groups) = (group_same x, none_kept (suc k) groups)
 
 -- the other switches' fronts
 

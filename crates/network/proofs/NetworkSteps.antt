@@ -1,35 +1,55 @@
--- What runs of its groupbys make of a network.
-use Rattle.std.proofs.Common.{◌≡◌, ℕ, ◌*◌, ◌<◌, ◌≤◌, List, ◌++◌, length, take, drop, sym, ◌∙◌, subst}
-use Rattle.additive_folds.specs.Network.{SwitchEvent}
-use Rattle.stage_plan.specs.Planned.{taken}
-use Rattle.switch_core.specs.Pipelines.{HasRooms, packet_events}
+-- What keeps a network one, when its groupbys change.
+use Rattle.std.proofs.Common.{◌≡◌, ℕ, ◌+◌, ◌<◌, List, ◌++◌, length, take, drop, sym, subst, arith}
+use Rattle.epoch_model.specs.Machine.{Event}
+use Rattle.switch_core.specs.Rows.{Each}
 use Rattle.switch_core.proofs.LaneFacts.{whole_written}
-use Rattle.switch_traces.specs.Traces.{from_switch}
-use Rattle.network.specs.declared.network.Network.{Network}
-use Rattle.network.specs.Shared.{IsTurnAt, MergesAlone}
-use Rattle.network.specs.Groups.{AllHavePlaces, AllWide, AreGroups, GroupsRun, GroupView}
+use Rattle.network.specs.Groups.{AreGroups, GroupGrows, GroupKept, GroupView}
 use Rattle.network.specs.Events.{GroupsMake}
-use Rattle.network.specs.Networks.{IsNetwork, Keeps, groups_in}
-use Rattle.network.proofs.GroupSteps.{places_ran, still_groups, wide_ran}
-use Rattle.network.proofs.MakeSteps.{groups_on, makes_runs}
-use Rattle.network.proofs.SharedSteps.{turn_between}
+use Rattle.network.specs.Networks.{IsNetwork, NetworkView}
+use Rattle.network.proofs.GroupSteps.{places_grown, places_kept, still_groups, wide_grown, wide_kept}
+use Rattle.network.proofs.MakeSteps.{groups_kept}
 
--- A network whose groupbys ran, and whose sizes are unchanged, has as many switches as before.
-pub still_network : {ways : ℕ} (are : ℕ → List SwitchEvent → Type 0) (switches : ℕ) (old new : Network ways) → new.plan ≡ old.plan → new.buckets ≡ old.buckets
-    → new.switches ≡ old.switches → new.pipe_records ≡ old.pipe_records → HasRooms new.plan new.registers.items new.key.items new.args.items
-    → GroupsRun ways are (groups_in old) (groups_in new) → IsNetwork switches old → IsNetwork switches new
-still_network {ways = ways} are switches old new plan buckets count records rooms ran is = record {
-  count = count ∙ is.count;
+-- a network with other groupbys
+abbrev pub with_groups : NetworkView → List GroupView → NetworkView
+with_groups net groups = record { plan = net.plan; buckets = net.buckets; pipe_records = net.pipe_records; switches = net.switches; groups = groups }
+
+-- A network whose groupbys kept kinds and sizes is one as before.
+pub kept_network : (ways : ℕ) (old : NetworkView) (news : List GroupView) → Each GroupKept old.groups news → IsNetwork ways old → IsNetwork ways (with_groups old news)
+kept_network ways old news kept is = record {
   few = is.few;
-  groups = subst (λ p. AreGroups p switches (groups_in new)) (sym plan) (still_groups ways switches are old.plan (groups_in old) (groups_in new) ran is.groups);
-  wide = subst (λ b. AllWide b (groups_in new)) (sym buckets) (wide_ran ways old.buckets are (groups_in old) (groups_in new) ran is.wide);
-  pipes = subst (λ n. AllHavePlaces n (groups_in new)) (sym records) (places_ran ways old.pipe_records are (groups_in old) (groups_in new) ran is.pipes);
-  rooms = rooms;
+  groups = still_groups old.switches old.plan old.groups news kept is.groups;
+  wide = wide_kept old.buckets old.groups news kept is.wide;
+  pipes = places_kept old.pipe_records old.groups news kept is.pipes;
   some_ways = is.some_ways;
-  some_buckets = subst (λ b. 0 < b) (sym buckets) is.some_buckets;
-  places = subst (λ b. b * ways ≤ 65536) (sym buckets) is.places;
-  some_records = subst (λ n. 0 < n) (sym records) is.some_records;
-  most_records = subst (λ n. n ≤ 65536) (sym records) is.most_records;
+  some_buckets = is.some_buckets;
+  places = is.places;
+  some_records = is.some_records;
+  most_records = is.most_records;
+}
+
+-- so is one that made events of a switch
+pub made_network : (ways at : ℕ) (events : ℕ → List Event) (old : NetworkView) (news : List GroupView) → GroupsMake ways at events old.groups news
+    → IsNetwork ways old → IsNetwork ways (with_groups old news)
+made_network ways at events old news made is = kept_network ways old news (groups_kept ways at events old.groups news made) is
+
+-- and one in which nothing happened
+pub same_network : (ways : ℕ) (old : NetworkView) (news : List GroupView) → news ≡ old.groups → IsNetwork ways old → IsNetwork ways (with_groups old news)
+same_network ways old news same is = subst (λ groups. IsNetwork ways (with_groups old groups)) (sym same) is
+
+-- a network with a switch more
+pub grown_network : (ways : ℕ) (old : NetworkView) (news : List GroupView) → old.switches < 64 → AreGroups old.plan (old.switches + 1) news
+    → Each (GroupGrows ways old.buckets old.pipe_records) old.groups news → IsNetwork ways old
+    → IsNetwork ways (record { plan = old.plan; buckets = old.buckets; pipe_records = old.pipe_records; switches = old.switches + 1; groups = news })
+grown_network ways old news few are grown is = record {
+  few = omega arith;
+  groups = are;
+  wide = wide_grown ways old.buckets old.pipe_records old.groups news grown is.wide;
+  pipes = places_grown ways old.buckets old.pipe_records old.groups news grown is.pipes;
+  some_ways = is.some_ways;
+  some_buckets = is.some_buckets;
+  places = is.places;
+  some_records = is.some_records;
+  most_records = is.most_records;
 }
 
 -- groupbys that were written over the whole of a list
@@ -37,12 +57,3 @@ pub ran_whole : (R : List GroupView → List GroupView → Type 0) (olds before 
     → R olds (take many (news ++ drop (length news) olds))
 ran_whole R olds before news many was long ran =
     subst (R olds) (sym (whole_written news (drop (length news) olds) many long)) (subst (λ xs. R xs news) was ran)
-
--- merges, and then a packet of this switch
-pub turned : {ways : ℕ} (at : ℕ) (words : List ℕ) (old mid new : Network ways) → Keeps old mid → GroupsRun ways (λ n. MergesAlone) (groups_in old) (groups_in mid)
-    → GroupsMake ways at (packet_events mid.plan words) (groups_in mid) (groups_in new) → GroupsRun ways (λ n. IsTurnAt at (taken old.plan n words)) (groups_in old) (groups_in new)
-turned {ways = ways} at words old mid new keeps merges made =
-    groups_on ways (λ n. MergesAlone) (λ n more. more ≡ from_switch at (packet_events old.plan words n)) (λ n. IsTurnAt at (taken old.plan n words)) (groups_in old) (groups_in mid) (groups_in new)
-    (λ n xs ys x y. turn_between at (taken old.plan n words) xs ys x y) merges
-    (makes_runs ways at (packet_events old.plan words) (groups_in mid) (groups_in new)
-    (subst (λ p. GroupsMake ways at (packet_events p words) (groups_in mid) (groups_in new)) keeps.plan made))

@@ -10,7 +10,7 @@ use Rattle.switch_core.specs.Rows.{Each, EachFrom}
 use Rattle.additive_folds.specs.Network.{AllMerged, SwitchEvent, SwitchEpoch}
 use Rattle.net_wide.specs.NetTables.{caches_of}
 use Rattle.net_wide.specs.Sharing.{AtSwitch, SwitchMakes, merged_at, with_event}
-use Rattle.network.specs.FrontRuns.{StoreKept}
+use Rattle.network.specs.Shared.{StoreKept}
 use Rattle.network.specs.Groups.{GroupView, GroupStands}
 
 -- whether there is a front, and its pipe has room for a record

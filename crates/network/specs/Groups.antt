@@ -22,7 +22,7 @@ use Rattle.switch_core.specs.Closing.{is_drained}
 use Rattle.switch_core.specs.Pipelines.{heading_of}
 use Rattle.switch_core.specs.Rows.{Each, EachFrom}
 use Rattle.additive_folds.specs.Network.{SwitchEvent, SwitchEpoch}
-use Rattle.network.specs.Shared.{SharedStand, SharedRuns, AllShare}
+use Rattle.network.specs.Shared.{AllShare, FrontKept, SharedStand, StoreKept}
 
 -- a groupby: the kind of its entries, the fronts of switches 0, 1 and so on, and the store that they share
 pub record GroupView : Type 0 where
@@ -62,14 +62,11 @@ abbrev pub GroupStands : ℕ → ℕ → GroupView → List SwitchEvent → List
 GroupStands ways buckets group events merged =
     SharedStand ghosts.stands (folding_in group) ways buckets group.fronts group.store events merged
 
--- Events for which this holds lead a groupby from old parts to new ones.
-pub record GroupRuns (ways : ℕ) (are : List SwitchEvent → Type 0) (old new : GroupView) : Type 0 where
+-- a groupby's kinds and sizes are unchanged, and so is its number of fronts
+pub record GroupKept (old new : GroupView) : Type 0 where
   pub kind : new.kind ≡ old.kind
-  pub runs : SharedRuns ghosts.stands (folding_in old) ways are old.fronts new.fronts old.store new.store
-
--- each groupby's events are those of its number
-abbrev pub GroupsRun : ℕ → (ℕ → List SwitchEvent → Type 0) → List GroupView → List GroupView → Type 0
-GroupsRun ways are olds news = EachFrom (λ n. GroupRuns ways (are n)) 0 olds news
+  pub fronts : Each FrontKept old.fronts new.fronts
+  pub store : StoreKept old.store new.store
 
 -- each of its caches has this number of buckets
 abbrev pub AreWide : ℕ → GroupView → Type 0

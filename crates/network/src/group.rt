@@ -3,12 +3,10 @@
 ghost use Rattle.std.specs.Prelude.{◌≡◌, ◌+◌, ◌*◌, ◌==◌, ◌<◌, ◌≤◌, ◌↔◌, ℕ, List, [], Ok, true, not};
 ghost use Rattle.std.specs.Prelude.{length};
 ghost use Rattle.std.specs.Prelude.{if◌then◌else◌, IfOk, OnOk, OnErr};
-ghost use Rattle.std.specs.List.{list_all};
 ghost use Rattle.bucket_cache.specs.Caches.{list_at};
 ghost use Rattle.epoch_entry.specs.Foldings.{per_epoch};
 ghost use Rattle.epoch_model.specs.Driving.{event_of};
 ghost use Rattle.epoch_model.specs.Machine.{Epoch, Evict, Merge};
-ghost use Rattle.epoch_model.specs.Tables.{Folding};
 ghost use Rattle.fold_class.specs.Program.{IsProgram};
 ghost use Rattle.merged_epochs.specs.Merged.{StoreHolds};
 ghost use Rattle.final_queries.specs.GroupTable.{closed_table};
@@ -16,18 +14,16 @@ ghost use Rattle.stage_plan.specs.declared.group.GroupWiring.{GroupWiring};
 ghost use Rattle.stage_plan.specs.Planned.{registers_of, wiring_at};
 ghost use Rattle.stage_plan.specs.Registers.{taken_at};
 ghost use Rattle.stage_plan.specs.Sound.{IsSoundGroup};
-ghost use Rattle.switch_core.specs.Closing.{is_drained};
 ghost use Rattle.switch_core.specs.Costs.{evict_cost};
 ghost use Rattle.switch_core.specs.Pipelines.{heading_of};
 ghost use Rattle.switch_core.specs.PlanLanes.{lane_cost, lane_merge_cost};
 ghost use Rattle.net_wide.specs.Sharing.{AtSwitch};
-ghost use Rattle.network.specs.Shared.{AllShare, MergesAlone, NoPackets, SharedRuns};
-ghost use Rattle.network.specs.Groups.{GroupGrows, GroupRuns, GroupShares, GroupStands, IsGroup, folding_in, group_is_drained};
+ghost use Rattle.network.specs.Groups.{GroupGrows, GroupShares, GroupStands, IsGroup, folding_in, group_is_drained};
 ghost use Rattle.network.specs.Groups.{with_first};
 ghost use Rattle.network.specs.Events.{AreAllMerged, GroupMakes, GroupMakesAll, is_ready_at};
 ghost use Rattle.network.specs.Costs.{AtLaneIn, group_merge_cost};
 
-use crate::fronts::{drain, take_packet};
+use crate::fronts::take_packet;
 use backing_store::BackingStore;
 use epoch_entry::{AnyEpochs, EpochKind, entries_are_small, entries_suit_folds};
 use final_queries::Table;
@@ -53,27 +49,6 @@ impl<const WAYS: usize> Model for Group<WAYS> {
     ghost Value = { GroupView };
 
     ghost view = { λ g. record { kind = g.kind; fronts = g.fronts.items; store = g.store } };
-}
-
-// Drains the fronts of all switches in turn.
-fn drain_fronts<K: EpochKind, const WAYS: usize, L: Ledger>(
-    fronts: &mut [Front<K, WAYS>],
-    store: &mut BackingStore,
-    steps: &mut Steps<L>,
-) -> Result<(), AllocError>
-    requires shares { (f : Folding) × (args : ℕ) × AllShare (λ kind. K.sizes kind) (λ kind. K.folding kind) f args
-        fronts.old store.old }
-    ensures runs { (f : Folding) (args : ℕ)
-        → AllShare (λ kind. K.sizes kind) (λ kind. K.folding kind) f args fronts.old store.old
-        → SharedRuns (λ kind. K.stands kind) f WAYS NoPackets fronts.old fronts.new store.old store.new }
-    ensures drained { OnOk result (list_all (λ front. is_drained front.cache front.pipe) fronts.new ≡ true) }
-    ensures steps { steps.old ≤ steps.new }
-{
-    for i in 0..fronts.len() {
-        let front = &mut fronts[i];
-        drain(front, store, steps)?;
-    }
-    Ok(())
 }
 
 // Copies of these texts.
@@ -144,26 +119,6 @@ impl<const WAYS: usize> Group<WAYS> {
     {
         let front = &self.fronts[at];
         front.ready()
-    }
-
-    /// Merges a record of a switch where its pipe is full.
-    pub fn make_room<L: Ledger>(
-        &mut self,
-        at: usize,
-        steps: &mut Steps<L>,
-    ) -> Result<(), AllocError>
-        requires switch { at < length self.old.fronts }
-        requires shares { (args : ℕ) × GroupShares args self.old }
-        ensures runs { GroupRuns WAYS MergesAlone self.old self.new }
-        ensures ready { OnOk result (is_ready_at at self.new ≡ true) }
-        ensures steps { steps.old ≤ steps.new }
-        ensures cost { steps.new ≤ steps.old + group_merge_cost at self.old }
-    {
-        if self.ready(at) {
-            return Ok(());
-        }
-        let _merged = self.merge(at, steps)?;
-        Ok(())
     }
 
     /// Takes, at this switch, what the groupby takes from these registers, if it takes anything.
@@ -242,16 +197,6 @@ impl<const WAYS: usize> Group<WAYS> {
         ensures done { result ≡ true → AreAllMerged WAYS self.now }
     {
         all_drained(&self.fronts)
-    }
-
-    /// Closes all open epochs of all switches, and merges all that are closed.
-    pub fn drain<L: Ledger>(&mut self, steps: &mut Steps<L>) -> Result<(), AllocError>
-        requires shares { (args : ℕ) × GroupShares args self.old }
-        ensures runs { GroupRuns WAYS NoPackets self.old self.new }
-        ensures drained { OnOk result (group_is_drained self.new ≡ true) }
-        ensures steps { steps.old ≤ steps.new }
-    {
-        drain_fronts(&mut self.fronts, &mut self.store, steps)
     }
 
     /// The table of the epochs that the store holds.

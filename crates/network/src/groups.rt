@@ -14,8 +14,7 @@ ghost use Rattle.switch_core.specs.Costs.{evict_cost};
 ghost use Rattle.switch_core.specs.Pipelines.{event_at};
 ghost use Rattle.switch_core.specs.PlanLanes.{lane_merge_cost};
 ghost use Rattle.switch_core.specs.Rows.{Each};
-ghost use Rattle.network.specs.Shared.{MergesAlone, NoPackets};
-ghost use Rattle.network.specs.Groups.{AreGroups, GroupGrows, GroupStands, GroupsRun, StoresHold, group_is_drained, shared_tables, with_first};
+ghost use Rattle.network.specs.Groups.{AreGroups, GroupGrows, GroupStands, StoresHold, group_is_drained, shared_tables, with_first};
 ghost use Rattle.network.specs.Events.{AreAllMerged, AtFront, AtGroup, GroupsMake, StoresStay, is_ready_at};
 ghost use Rattle.network.specs.Costs.{AtSwitchLane, group_cost, group_merge_cost};
 
@@ -121,25 +120,6 @@ pub fn all_ready<const WAYS: usize>(groups: &[Group<WAYS>], at: usize) -> bool
     true
 }
 
-/// Merges a record of a switch at each groupby where its pipe is full.
-pub fn make_room<const WAYS: usize, L: Ledger>(
-    groups: &mut [Group<WAYS>],
-    at: usize,
-    steps: &mut Steps<L>,
-) -> Result<(), AllocError>
-    requires { (plan : PlanParts) × (switches : ℕ) × (at < switches) × AreGroups plan switches groups.old }
-    ensures runs { GroupsRun WAYS (λ n. MergesAlone) groups.old groups.new }
-    ensures ready { OnOk result (list_all (is_ready_at at) groups.new ≡ true) }
-    ensures steps { steps.old ≤ steps.new }
-    ensures cost { steps.new ≤ steps.old + sum_by (group_merge_cost at) groups.old }
-{
-    for i in 0..groups.len() {
-        let group = &mut groups[i];
-        group.make_room(at, steps)?;
-    }
-    Ok(())
-}
-
 /// Makes the packet event of this switch at each groupby that takes something from these registers.
 pub fn packet_groups<const WAYS: usize, L: Ledger>(
     plan: &Plan,
@@ -205,28 +185,10 @@ pub fn merge_from<const WAYS: usize, L: Ledger>(
     ensures err { OnErr result (groups.new ≡ groups.old) }
     ensures steps { steps.old ≤ steps.new }
     ensures cost { AtSwitchLane (λ one. steps.new ≤ steps.old + lane_merge_cost one) groups.old at lane }
+    ensures most { AtGroup (λ group. steps.new ≤ steps.old + group_merge_cost at group) groups.old lane }
 {
     let group = &mut groups[lane];
     group.merge(at, steps)
-}
-
-/// Merges the oldest record of a switch's pipe at each groupby that has one.
-pub fn merge_groups<const WAYS: usize, L: Ledger>(
-    groups: &mut [Group<WAYS>],
-    at: usize,
-    steps: &mut Steps<L>,
-) -> Result<(), AllocError>
-    requires { (plan : PlanParts) × (switches : ℕ) × (at < switches) × AreGroups plan switches groups.old }
-    ensures runs { GroupsRun WAYS (λ n. MergesAlone) groups.old groups.new }
-    ensures ready { OnOk result (list_all (is_ready_at at) groups.new ≡ true) }
-    ensures steps { steps.old ≤ steps.new }
-    ensures cost { steps.new ≤ steps.old + sum_by (group_merge_cost at) groups.old }
-{
-    for i in 0..groups.len() {
-        let group = &mut groups[i];
-        let _merged = group.merge(at, steps)?;
-    }
-    Ok(())
 }
 
 /// Whether all caches and pipes of all groupbys are empty.
@@ -240,23 +202,6 @@ pub fn all_drained<const WAYS: usize>(groups: &[Group<WAYS>]) -> bool
         }
     }
     true
-}
-
-/// Closes all open epochs of all switches at each groupby, and merges all that are closed.
-pub fn drain_groups<const WAYS: usize, L: Ledger>(
-    groups: &mut [Group<WAYS>],
-    steps: &mut Steps<L>,
-) -> Result<(), AllocError>
-    requires groups { (plan : PlanParts) × (switches : ℕ) × AreGroups plan switches groups.old }
-    ensures runs { GroupsRun WAYS (λ n. NoPackets) groups.old groups.new }
-    ensures drained { OnOk result (list_all group_is_drained groups.new ≡ true) }
-    ensures steps { steps.old ≤ steps.new }
-{
-    for i in 0..groups.len() {
-        let group = &mut groups[i];
-        group.drain(steps)?;
-    }
-    Ok(())
 }
 
 /// The tables of the epochs that the stores hold, in the order of the groupbys.

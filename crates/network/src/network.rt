@@ -1,34 +1,38 @@
 //! A plan over several switches: a call for each event of a switch, and two that make the events that a trace needs.
 
 ghost use Rattle.std.specs.Prelude.{◌≡◌, ◌+◌, ◌*◌, ◌==◌, ◌<◌, ◌≤◌, ◌↔◌, ℕ, List, [], Ok, true, not};
-ghost use Rattle.std.specs.Prelude.{length};
-ghost use Rattle.std.specs.Prelude.{All, if◌then◌else◌, IfOk, OnOk, OnErr};
+ghost use Rattle.std.specs.Prelude.{length, if◌then◌else◌, IfOk, OnOk, OnErr};
 ghost use Rattle.std.specs.List.{list_all};
 ghost use Rattle.bucket_cache.specs.Caches.{list_at};
-ghost use Rattle.epoch_model.specs.Machine.{Epoch, Evict, Merge};
-ghost use Rattle.stage_plan.specs.Planned.{plan_bound, taken};
+ghost use Rattle.epoch_model.specs.Machine.{Epoch};
+ghost use Rattle.stage_plan.specs.Planned.{plan_bound};
 ghost use Rattle.switch_core.specs.Costs.{evict_cost};
-ghost use Rattle.switch_core.specs.Pipelines.{event_at, packet_events};
 ghost use Rattle.switch_core.specs.PlanLanes.{lane_merge_cost};
-ghost use Rattle.switch_core.specs.Rows.{Each};
-ghost use Rattle.network.specs.Shared.{IsTurnAt, MergesAlone, NoPackets};
-ghost use Rattle.network.specs.Groups.{GroupGrows, GroupStands, GroupsRun, StoresHold, group_is_drained, shared_tables};
+ghost use Rattle.query_lang.specs.declared.typed.TypedQuery.{TypedQuery};
+ghost use Rattle.net_wide.specs.NetTables.{caches_of, net_tables, tables_of_pieces};
+ghost use Rattle.network.specs.Ends.{CombineOver, EvictsLast, packets_taken, pieces_closed};
+ghost use Rattle.network.specs.Groups.{StoresHold, group_is_drained, shared_tables};
 ghost use Rattle.network.specs.Events.{AreAllMerged, AtFront, AtGroup, OthersStay, StoresStay, is_ready_at};
-ghost use Rattle.network.specs.Costs.{AtSwitchLane};
-ghost use Rattle.network.specs.Networks.{IsNetwork, Keeps, NetworkMakes, TurnBreaksOff, groups_in};
-ghost use Rattle.network.specs.Networks.{merges_cost, network_cost, turn_cost};
+ghost use Rattle.network.specs.Costs.{AtSwitchLane, group_merge_cost};
+ghost use Rattle.network.specs.Networks.{IsNetwork, NetworkGrows, network_cost, turn_cost};
+ghost use Rattle.network.specs.Running.{Evicts, Merges, MergingBreaksOff, NetworkEvent, NetworkMakes, NetworkRuns, NetworkStands};
+ghost use Rattle.network.specs.Running.{RunBreaksOff, RunsWithMerges, Takes, all_evictions, turn_events};
 
+use crate::draining::drain_all;
 use crate::group::Group;
 use crate::groups::{
-    add_switch, all_drained, all_ready, drain_groups, evict_from, group_tables, made_groups,
-    make_room, merge_from, merge_groups, packet_groups,
+    add_switch, all_drained, all_ready, evict_from, group_tables, made_groups, merge_from,
+    packet_groups,
 };
+use crate::merging::{catch_up, make_room};
 use epoch_entry::entries_suit_folds;
-use final_queries::Table;
+use final_queries::{Table, alike_foldings_make_one_table};
 use fold_class::depth_is_found;
 use marple_base::{Packet, Seq, Steps};
+use net_ends::{merged_make_the_table, pieces_are_the_epochs};
 use stage_plan::Plan;
 use std::alloc::{AllocError, Global};
+use std::marker::Model;
 use std::sync::ledger::Ledger;
 use switch_core::Merged;
 
@@ -47,6 +51,29 @@ pub struct Network<const WAYS: usize> {
     args: Vec<u64>,
 }
 
+impl<const WAYS: usize> Model for Network<WAYS> {
+    ghost use Rattle.switch_core.specs.Pipelines.{HasRooms};
+    ghost use Rattle.network.specs.Networks.{IsNetwork, NetworkView};
+
+    ghost Value = { NetworkView };
+
+    ghost view = { λ n. record {
+      plan = n.plan;
+      buckets = n.buckets;
+      pipe_records = n.pipe_records;
+      switches = n.switches;
+      groups = n.groups.items;
+    } };
+
+    ghost invariant = { λ n. IsNetwork WAYS (record {
+      plan = n.plan;
+      buckets = n.buckets;
+      pipe_records = n.pipe_records;
+      switches = n.switches;
+      groups = n.groups.items;
+    }) × HasRooms n.plan n.registers.items n.key.items n.args.items };
+}
+
 impl<const WAYS: usize> Network<WAYS> {
     /// A plan that has no switch yet. Each switch will have caches of `buckets` buckets and pipes of `pipe_records`
     /// records.
@@ -60,11 +87,11 @@ impl<const WAYS: usize> Network<WAYS> {
         requires buckets { 0 < buckets }
         requires places { buckets * WAYS ≤ 65536 }
         requires pipe { (0 < pipe_records) × (pipe_records ≤ 65536) }
-        ensures is { IfOk result (IsNetwork 0) }
+        ensures switches { IfOk result (λ net. net.switches ≡ 0) }
         ensures plan { IfOk result (λ net. net.plan ≡ plan) }
         ensures buckets { IfOk result (λ net. net.buckets ≡ buckets) }
         ensures pipe { IfOk result (λ net. net.pipe_records ≡ pipe_records) }
-        ensures stand { IfOk result (λ net. All (λ group. GroupStands WAYS buckets group [] []) (groups_in net)) }
+        ensures stands { IfOk result (λ net. NetworkStands WAYS net []) }
     {
         let groups = made_groups(alloc, &plan)?;
         let registers = vec![in alloc; 0; plan.registers()]?;
@@ -83,15 +110,20 @@ impl<const WAYS: usize> Network<WAYS> {
         })
     }
 
+    /// What holds of every network: its groupbys are those of the plan, with a cache and a pipe of its sizes for each of at
+    /// most 64 switches.
+    pub fn known(&self)
+        ensures { IsNetwork WAYS self.now }
+    {
+        let _buckets = self.buckets;
+    }
+
     /// Makes the caches and pipes of the next switch. There are at most 64. Out of memory leaves everything unchanged.
     pub fn add_switch(&mut self) -> Result<(), AllocError>
-        requires is { (switches : ℕ) × (switches < 64) × IsNetwork switches self.old }
-        ensures is { OnOk result ((switches : ℕ) → IsNetwork switches self.old → IsNetwork (switches + 1) self.new) }
-        ensures keeps { Keeps self.old self.new }
-        ensures err { OnErr result (groups_in self.new ≡ groups_in self.old) }
-        ensures still { OnErr result ((switches : ℕ) → IsNetwork switches self.old → IsNetwork switches self.new) }
-        ensures grow { OnOk result (Each (GroupGrows WAYS self.old.buckets self.old.pipe_records) (groups_in self.old)
-            (groups_in self.new)) }
+        requires { self.old.switches < 64 }
+        ensures grows { OnOk result (NetworkGrows WAYS self.old self.new) }
+        ensures stands { OnOk result ((events : List NetworkEvent) → NetworkStands WAYS self.old events → NetworkStands WAYS self.new events) }
+        ensures err { OnErr result (self.new ≡ self.old) }
     {
         add_switch(
             self.alloc,
@@ -107,8 +139,7 @@ impl<const WAYS: usize> Network<WAYS> {
 
     /// How many switches there are.
     pub fn switches(&self) -> u32
-        requires { (switches : ℕ) × IsNetwork switches self.now }
-        ensures { (switches : ℕ) → IsNetwork switches self.now → result ≡ switches }
+        ensures { result ≡ self.now.switches }
     {
         self.switches
     }
@@ -122,25 +153,24 @@ impl<const WAYS: usize> Network<WAYS> {
 
     /// How many groupbys there are.
     pub fn lanes(&self) -> u32
-        requires { (switches : ℕ) × IsNetwork switches self.now }
-        ensures { result ≡ length (groups_in self.now) }
+        ensures { result ≡ length self.now.groups }
     {
         self.plan.groups()
     }
 
     /// Whether every pipe of a switch has room for a record.
     pub fn ready(&self, at: u32) -> bool
-        requires { (switches : ℕ) × (at < switches) × IsNetwork switches self.now }
-        ensures { result ≡ list_all (is_ready_at at) (groups_in self.now) }
+        requires { at < self.now.switches }
+        ensures { result ≡ list_all (is_ready_at at) self.now.groups }
     {
         all_ready(&self.groups, at as usize)
     }
 
     /// Whether the pipe of a switch has room for a record at one groupby.
     pub fn lane_ready(&self, at: u32, lane: u32) -> bool
-        requires is { (switches : ℕ) × (at < switches) × IsNetwork switches self.now }
-        requires lane { lane < length (groups_in self.now) }
-        ensures { AtGroup (λ group. result ≡ is_ready_at at group) (groups_in self.now) lane }
+        requires switch { at < self.now.switches }
+        requires lane { lane < length self.now.groups }
+        ensures { AtGroup (λ group. result ≡ is_ready_at at group) self.now.groups lane }
     {
         let group = &self.groups[lane as usize];
         group.ready(at as usize)
@@ -149,14 +179,13 @@ impl<const WAYS: usize> Network<WAYS> {
     /// Takes a packet of a switch: each groupby whose input has a tuple for it makes the packet event of its key and
     /// arguments at this switch. It needs no memory.
     pub fn packet<L: Ledger>(&mut self, at: u32, packet: &Packet, steps: &mut Steps<L>)
-        requires is { (switches : ℕ) × (at < switches) × IsNetwork switches self.old }
-        requires ready { list_all (is_ready_at at) (groups_in self.old) ≡ true }
-        ensures is { (switches : ℕ) → IsNetwork switches self.old → IsNetwork switches self.new }
-        ensures makes { NetworkMakes at (packet_events self.old.plan packet.now.words) self.old self.new }
-        ensures others { OthersStay at (groups_in self.old) (groups_in self.new) }
-        ensures stores { StoresStay (groups_in self.old) (groups_in self.new) }
+        requires switch { at < self.old.switches }
+        requires ready { list_all (is_ready_at at) self.old.groups ≡ true }
+        ensures makes { NetworkMakes WAYS (Takes at packet.now.words) self.old self.new }
+        ensures others { OthersStay at self.old.groups self.new.groups }
+        ensures stores { StoresStay self.old.groups self.new.groups }
         ensures steps { steps.old ≤ steps.new }
-        ensures cost { steps.new ≤ steps.old + network_cost at self.old }
+        ensures cost { steps.new ≤ steps.old + network_cost WAYS at self.old }
         ensures bound { steps.new ≤ steps.old + plan_bound self.old.plan WAYS }
     {
         depth_is_found();
@@ -182,19 +211,18 @@ impl<const WAYS: usize> Network<WAYS> {
         bucket: u32,
         steps: &mut Steps<L>,
     ) -> bool
-        requires is { (switches : ℕ) × (at < switches) × IsNetwork switches self.old }
-        requires lane { lane < length (groups_in self.old) }
-        requires ready { AtGroup (λ group. is_ready_at at group ≡ true) (groups_in self.old) lane }
+        requires switch { at < self.old.switches }
+        requires lane { lane < length self.old.groups }
+        requires ready { AtGroup (λ group. is_ready_at at group ≡ true) self.old.groups lane }
         requires range { bucket < self.old.buckets }
-        ensures is { (switches : ℕ) → IsNetwork switches self.old → IsNetwork switches self.new }
-        ensures makes { NetworkMakes at (event_at lane (Evict bucket)) self.old self.new }
-        ensures others { OthersStay at (groups_in self.old) (groups_in self.new) }
-        ensures stores { StoresStay (groups_in self.old) (groups_in self.new) }
+        ensures makes { NetworkMakes WAYS (Evicts at lane bucket) self.old self.new }
+        ensures others { OthersStay at self.old.groups self.new.groups }
+        ensures stores { StoresStay self.old.groups self.new.groups }
         ensures some { AtFront (λ front. result ≡ not (length (list_at front.cache bucket) == 0))
-            (groups_in self.old) at lane }
+            self.old.groups at lane }
         ensures steps { steps.old ≤ steps.new }
         ensures cost { AtSwitchLane (λ one. steps.new ≡ steps.old
-            + (if result then evict_cost one.cache.key_words one.cache.entry_words else 0)) (groups_in self.old) at lane }
+            + (if result then evict_cost one.cache.key_words one.cache.entry_words else 0)) self.old.groups at lane }
     {
         evict_from(&mut self.groups, at as usize, lane as usize, bucket, steps)
     }
@@ -207,51 +235,31 @@ impl<const WAYS: usize> Network<WAYS> {
         lane: u32,
         steps: &mut Steps<L>,
     ) -> Result<Merged, AllocError>
-        requires is { (switches : ℕ) × (at < switches) × IsNetwork switches self.old }
-        requires lane { lane < length (groups_in self.old) }
-        ensures is { (switches : ℕ) → IsNetwork switches self.old → IsNetwork switches self.new }
-        ensures makes { OnOk result (NetworkMakes at (event_at lane Merge) self.old self.new) }
-        ensures others { OthersStay at (groups_in self.old) (groups_in self.new) }
-        ensures ready { OnOk result (AtGroup (λ group. is_ready_at at group ≡ true) (groups_in self.new) lane) }
+        requires switch { at < self.old.switches }
+        requires lane { lane < length self.old.groups }
+        ensures makes { OnOk result (NetworkMakes WAYS (Merges at lane) self.old self.new) }
+        ensures others { OthersStay at self.old.groups self.new.groups }
+        ensures ready { OnOk result (AtGroup (λ group. is_ready_at at group ≡ true) self.new.groups lane) }
         ensures empty { AtFront (λ front. (result ≡ Ok Merged.Empty) ↔ (length front.pipe.records ≡ 0))
-            (groups_in self.old) at lane }
-        ensures err { OnErr result (groups_in self.new ≡ groups_in self.old) }
-        ensures keeps { Keeps self.old self.new }
+            self.old.groups at lane }
+        ensures err { OnErr result (self.new ≡ self.old) }
         ensures steps { steps.old ≤ steps.new }
-        ensures cost { AtSwitchLane (λ one. steps.new ≤ steps.old + lane_merge_cost one) (groups_in self.old) at lane }
+        ensures cost { AtSwitchLane (λ one. steps.new ≤ steps.old + lane_merge_cost one) self.old.groups at lane }
+        ensures most { AtGroup (λ group. steps.new ≤ steps.old + group_merge_cost at group) self.old.groups lane }
     {
         merge_from(&mut self.groups, at as usize, lane as usize, steps)
     }
 
-    // Merges a record of a switch at each groupby where its pipe is full.
-    fn make_room<L: Ledger>(&mut self, at: u32, steps: &mut Steps<L>) -> Result<(), AllocError>
-        requires { (switches : ℕ) × (at < switches) × IsNetwork switches self.old }
-        ensures is { (switches : ℕ) → IsNetwork switches self.old → IsNetwork switches self.new }
-        ensures keeps { Keeps self.old self.new }
-        ensures runs { GroupsRun WAYS (λ n. MergesAlone) (groups_in self.old) (groups_in self.new) }
-        ensures ready { OnOk result (list_all (is_ready_at at) (groups_in self.new) ≡ true) }
-        ensures steps { steps.old ≤ steps.new }
-        ensures cost { steps.new ≤ steps.old + merges_cost at self.old }
+    /// The number of buckets of each cache.
+    pub(crate) fn buckets(&self) -> u32
+        ensures { result ≡ self.now.buckets }
     {
-        make_room(&mut self.groups, at as usize, steps)
+        self.buckets
     }
 
-    // Merges a record of a switch at each groupby that has one.
-    fn catch_up<L: Ledger>(&mut self, at: u32, steps: &mut Steps<L>) -> Result<(), AllocError>
-        requires { (switches : ℕ) × (at < switches) × IsNetwork switches self.old }
-        ensures is { (switches : ℕ) → IsNetwork switches self.old → IsNetwork switches self.new }
-        ensures keeps { Keeps self.old self.new }
-        ensures runs { GroupsRun WAYS (λ n. MergesAlone) (groups_in self.old) (groups_in self.new) }
-        ensures ready { OnOk result (list_all (is_ready_at at) (groups_in self.new) ≡ true) }
-        ensures steps { steps.old ≤ steps.new }
-        ensures cost { steps.new ≤ steps.old + merges_cost at self.old }
-    {
-        merge_groups(&mut self.groups, at as usize, steps)
-    }
-
-    /// A packet of a switch with the merges around it: first each lane whose pipe is full merges a record, then comes
-    /// the packet, and then, where the lag is over, each lane merges a record. Only a store needs memory, for a new
-    /// key. When out of memory, only the first of these events were made.
+    /// A packet of a switch with the merges around it: first each lane whose pipe is full merges a record, then comes the
+    /// packet, and then, where the lag is over, each lane merges a record. Only a store needs memory, for a new key. When
+    /// out of memory, only the first of these events were made.
     pub fn turn<L: Ledger>(
         &mut self,
         at: u32,
@@ -259,52 +267,60 @@ impl<const WAYS: usize> Network<WAYS> {
         lag_over: bool,
         steps: &mut Steps<L>,
     ) -> Result<(), AllocError>
-        requires is { (switches : ℕ) × (at < switches) × IsNetwork switches self.old }
-        ensures is { (switches : ℕ) → IsNetwork switches self.old → IsNetwork switches self.new }
-        ensures keeps { Keeps self.old self.new }
-        ensures runs { OnOk result (GroupsRun WAYS (λ n. IsTurnAt at (taken self.old.plan n packet.now.words))
-            (groups_in self.old) (groups_in self.new)) }
-        ensures err { OnErr result (TurnBreaksOff at packet.now.words self.old self.new) }
-        ensures merged { OnOk result (lag_over ≡ true → list_all (is_ready_at at) (groups_in self.new) ≡ true) }
+        requires { at < self.old.switches }
+        ensures runs { OnOk result (NetworkRuns WAYS (turn_events at packet.now.words lag_over self.old) self.old self.new) }
+        ensures breaks_off { OnErr result (RunBreaksOff WAYS (turn_events at packet.now.words lag_over self.old) self.old self.new) }
+        ensures merged { OnOk result (lag_over ≡ true → list_all (is_ready_at at) self.new.groups ≡ true) }
         ensures steps { steps.old ≤ steps.new }
-        ensures cost { steps.new ≤ steps.old + turn_cost at self.old }
+        ensures cost { steps.new ≤ steps.old + turn_cost WAYS at self.old }
     {
-        self.make_room(at, steps)?;
+        make_room(self, at, steps)?;
         self.packet(at, packet, steps);
         if !lag_over {
             return Ok(());
         }
-        self.catch_up(at, steps)
+        catch_up(self, at, steps)
     }
 
-    /// Closes all open epochs of all switches and merges all that are closed. When out of memory, only the first of
-    /// these evictions and merges were made.
+    /// Closes all open epochs of all switches and merges all that are closed: switch by switch and groupby by groupby, each
+    /// bucket in ascending order. When out of memory, only the first of these evictions were made, and merges among them.
     pub fn drain<L: Ledger>(&mut self, steps: &mut Steps<L>) -> Result<(), AllocError>
-        requires is { (switches : ℕ) × IsNetwork switches self.old }
-        ensures is { (switches : ℕ) → IsNetwork switches self.old → IsNetwork switches self.new }
-        ensures keeps { Keeps self.old self.new }
-        ensures runs { GroupsRun WAYS (λ n. NoPackets) (groups_in self.old) (groups_in self.new) }
-        ensures drained { OnOk result (list_all group_is_drained (groups_in self.new) ≡ true) }
+        ensures runs { OnOk result (RunsWithMerges WAYS (all_evictions self.old) self.old self.new) }
+        ensures breaks_off { OnErr result (MergingBreaksOff WAYS (all_evictions self.old) self.old self.new) }
+        ensures drained { OnOk result (list_all group_is_drained self.new.groups ≡ true) }
         ensures steps { steps.old ≤ steps.new }
     {
-        drain_groups(&mut self.groups, steps)
+        drain_all(self, steps)
     }
 
     /// Whether all caches and pipes of all switches are empty. Then no epoch is open, and the closed ones of all switches are
     /// merged.
     pub fn drained(&self) -> bool
-        ensures value { result ≡ list_all group_is_drained (groups_in self.now) }
-        ensures done { result ≡ true → (lane : ℕ) → AtGroup (AreAllMerged WAYS) (groups_in self.now) lane }
+        ensures value { result ≡ list_all group_is_drained self.now.groups }
+        ensures done { result ≡ true → (lane : ℕ) → AtGroup (AreAllMerged WAYS) self.now.groups lane }
     {
         all_drained(&self.groups)
     }
 
-    /// The tables of the merged epochs, one for each groupby in order.
+    /// The tables of the merged epochs, one for each groupby in order. Where the network is drained, and whatever packets,
+    /// evictions and merges came in whatever order, they are the tables of the query over the packets that were taken, with
+    /// the pieces of each key that the switches closed; and where no eviction was called for before the last packet, those
+    /// of the definition.
     pub fn close(&self) -> Result<Seq<Table>, AllocError>
-        requires is { (switches : ℕ) × IsNetwork switches self.now }
-        ensures { IfOk result (λ tables. (epochs : List (List Epoch)) → StoresHold (groups_in self.now) epochs
-            → tables ≡ shared_tables self.now.plan.groups (groups_in self.now) epochs) }
+        ensures held { IfOk result (λ tables. (epochs : List (List Epoch)) → StoresHold self.now.groups epochs
+            → tables ≡ shared_tables self.now.plan.groups self.now.groups epochs) }
+        ensures pieces { IfOk result (λ tables. (q : TypedQuery) (number : ℕ → ℕ) (events : List NetworkEvent)
+            → CombineOver q self.now.plan number events → NetworkStands WAYS self.now events
+            → list_all group_is_drained self.now.groups ≡ true
+            → tables ≡ tables_of_pieces q (packets_taken events) (pieces_closed number WAYS self.now events)) }
+        ensures defined { IfOk result (λ tables. (q : TypedQuery) (number : ℕ → ℕ) (events : List NetworkEvent)
+            → CombineOver q self.now.plan number events → NetworkStands WAYS self.now events
+            → list_all group_is_drained self.now.groups ≡ true → EvictsLast events
+            → tables ≡ net_tables q (caches_of self.now.buckets WAYS) (packets_taken events)) }
     {
+        alike_foldings_make_one_table();
+        merged_make_the_table();
+        pieces_are_the_epochs();
         group_tables(self.alloc, &self.plan, &self.groups)
     }
 }

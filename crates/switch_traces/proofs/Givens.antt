@@ -1,7 +1,6 @@
--- What the events of a run give each key, and the keys of the merged epochs.
-use Rattle.std.proofs.Common.{◌≡◌, ℕ, suc, true, ◌==◌, List, [], ◌∷◌, ◌++◌, length, map, Option, Some, None, refl, sym, ap, ◌∙◌, subst, arith, append-nil}
+-- What the events of a trace give each key, and the keys of the merged epochs.
+use Rattle.std.proofs.Common.{◌≡◌, ℕ, suc, true, false, ◌==◌, List, [], ◌∷◌, ◌++◌, length, map, Option, Some, None, refl, sym, ap, ◌∙◌, subst, arith, append-nil}
 use Rattle.std.specs.List.{AllByRecursion}
-use Rattle.std.proofs.lemmas.List.{map-append}
 use Rattle.std.proofs.lemmas.List.Sorted.{length_permutation}
 use Rattle.std.proofs.lemmas.Bool.Decides.{nat_tests}
 use Rattle.epoch_model.specs.Keys.{Key, key_eq, has}
@@ -20,36 +19,68 @@ use Rattle.additive_folds.specs.Network.{SwitchEvent, SwitchEpoch, all_events, e
 use Rattle.additive_folds.proofs.Orders.{interleaved_rows}
 use Rattle.additive_folds.proofs.Stores.{given_at, pieces_at, given_rows, lists_all, events_interleave}
 use Rattle.additive_folds.proofs.StoreTables.{same_some}
-use Rattle.switch_traces.specs.Traces.{Step, from_switch, given, whole_uses, unless_merge, without_merges, unrefreshed}
-use Rattle.switch_traces.specs.TraceLaws.{rows_used, RunsGiveTheTrace, MergedKeysAreUsed}
+use Rattle.switch_traces.specs.Traces.{Step, from_switch, given, if_packet, packets_among, taken_of, whole_uses, unless_merge, without_merges, unrefreshed}
+use Rattle.switch_traces.specs.TraceLaws.{rows_used, RunsGiveTheTrace, RunsHavePackets, MergedKeysAreUsed}
+use Rattle.switch_traces.proofs.Runs.{given_other}
 
-events_behind : (xs ys : List SwitchEvent) → all_events (xs ++ ys) ≡ all_events xs ++ all_events ys
-events_behind xs ys = map-append (λ e. e.event) xs ys
+-- ---- the packets of a run
 
--- rows
+packets_on : (xs ys : List SwitchEvent) → packets_among (xs ++ ys) ≡ packets_among xs ++ packets_among ys
+packets_on [] ys = refl
+packets_on (e ∷ xs) ys = ap (if_packet e.switch e.event) (packets_on xs ys) ∙ behind e.switch e.event (packets_among xs) (packets_among ys)
+  where
+    behind : (k : ℕ) (event : Event) (xs ys : List SwitchEvent) → if_packet k event (xs ++ ys) ≡ if_packet k event xs ++ ys
+    behind k (Packet key row) xs ys = refl
+    behind k (Evict bucket) xs ys = refl
+    behind k Merge xs ys = refl
+
+packets_none : (events : List SwitchEvent) → NoPacket (all_events events) → packets_among events ≡ []
+packets_none [] n = refl
+packets_none (e ∷ events) n = none e.switch e.event events (λ more. packets_none events more) n
+  where
+    none : (k : ℕ) (event : Event) (events : List SwitchEvent) → (NoPacket (all_events events) → packets_among events ≡ []) → NoPacket (event ∷ all_events events)
+        → if_packet k event (packets_among events) ≡ []
+    none k (Packet key row) events rest n = absurd n
+    none k (Evict bucket) events rest n = rest n
+    none k Merge events rest n = rest n
+
+packets_unmerged : (events : List SwitchEvent) → packets_among events ≡ packets_among (without_merges events)
+packets_unmerged [] = refl
+packets_unmerged (e ∷ events) = ap (if_packet e.switch e.event) (packets_unmerged events) ∙ unless e.switch e.event (without_merges events)
+  where
+    unless : (k : ℕ) (event : Event) (others : List SwitchEvent) → if_packet k event (packets_among others) ≡ packets_among (unless_merge k event others)
+    unless k (Packet key row) others = refl
+    unless k (Evict bucket) others = refl
+    unless k Merge others = refl
+
+packets_given : (steps : List Step) → packets_among (given steps) ≡ given steps
+packets_given [] = refl
+packets_given (one ∷ steps) = step one.switch one.taken (given steps) (packets_given steps)
+  where
+    step : (k : ℕ) (taken : Option Taken) (more : List SwitchEvent) → packets_among more ≡ more → packets_among (from_switch k (event_of taken) ++ more) ≡ from_switch k (event_of taken) ++ more
+    step k None more h = h
+    step k (Some t) more h = ap (λ es. record { switch = k; event = Packet t.key t.row } ∷ es) h
+
+pub run_has : RunsHavePackets
+run_has steps events r =
+    ap packets_among r.parts
+    ∙ (packets_on r.first r.rest
+    ∙ (ap (λ es. packets_among r.first ++ es) (packets_none r.rest r.ending)
+    ∙ (append-nil (packets_among r.first)
+    ∙ (packets_unmerged r.first ∙ (ap packets_among r.packets ∙ packets_given steps)))))
+
+-- ---- rows
 
 module _ (key : Key) where
-  rows_append : (xs ys : List Event) → rows_given key (xs ++ ys) ≡ rows_given key xs ++ rows_given key ys
-  rows_append [] ys = refl
-  rows_append (Packet k row ∷ xs) ys = by_test (key_eq k key) (λ t. rw t (ap (λ rs. row ∷ rs) (rows_append xs ys))) (λ t. rw t (rows_append xs ys))
-  rows_append (Evict bucket ∷ xs) ys = rows_append xs ys
-  rows_append (Merge ∷ xs) ys = rows_append xs ys
+  if_rows : (k : ℕ) (event : Event) (events : List Event) (others : List SwitchEvent) → rows_given key events ≡ rows_given key (all_events others)
+      → rows_given key (event ∷ events) ≡ rows_given key (all_events (if_packet k event others))
+  if_rows k (Packet j row) events others h = by_test (key_eq j key) (λ t. rw t (ap (λ rs. row ∷ rs) h)) (λ t. rw t h)
+  if_rows k (Evict bucket) events others h = h
+  if_rows k Merge events others h = h
 
-  rows_none : (events : List Event) → NoPacket events → rows_given key events ≡ []
-  rows_none [] n = refl
-  rows_none (Packet k row ∷ events) n = absurd n
-  rows_none (Evict bucket ∷ events) n = rows_none events n
-  rows_none (Merge ∷ events) n = rows_none events n
-
-  unless_rows : (k : ℕ) (event : Event) (events : List Event) (others : List SwitchEvent) → rows_given key events ≡ rows_given key (all_events others)
-      → rows_given key (event ∷ events) ≡ rows_given key (all_events (unless_merge k event others))
-  unless_rows k (Packet j row) events others h = by_test (key_eq j key) (λ t. rw t (ap (λ rs. row ∷ rs) h)) (λ t. rw t h)
-  unless_rows k (Evict bucket) events others h = h
-  unless_rows k Merge events others h = h
-
-  rows_unmerged : (events : List SwitchEvent) → rows_given key (all_events events) ≡ rows_given key (all_events (without_merges events))
-  rows_unmerged [] = refl
-  rows_unmerged (e ∷ events) = unless_rows e.switch e.event (all_events events) (without_merges events) (rows_unmerged events)
+  rows_packets : (events : List SwitchEvent) → rows_given key (all_events events) ≡ rows_given key (all_events (packets_among events))
+  rows_packets [] = refl
+  rows_packets (e ∷ events) = if_rows e.switch e.event (all_events events) (packets_among events) (rows_packets events)
 
   rows_step : (k n : ℕ) (taken : Option Taken) (events : List SwitchEvent) (uses : List Use) → rows_given key (all_events events) ≡ rows_used key uses
       → rows_given key (all_events (from_switch k (event_of taken) ++ events)) ≡ rows_used key (use_at n taken ++ uses)
@@ -60,29 +91,47 @@ module _ (key : Key) where
   rows_steps n [] = refl
   rows_steps n (one ∷ steps) = rows_step one.switch n one.taken (given steps) (uses_taken (suc n) (map (λ x. x.taken) steps)) (rows_steps (suc n) steps)
 
--- keys
+  -- of one switch
 
-keys_append : (xs ys : List Event) → keys_given (xs ++ ys) ≡ keys_given xs ++ keys_given ys
-keys_append [] ys = refl
-keys_append (Packet k row ∷ xs) ys = ap (λ ks. k ∷ ks) (keys_append xs ys)
-keys_append (Evict bucket ∷ xs) ys = keys_append xs ys
-keys_append (Merge ∷ xs) ys = keys_append xs ys
+  own_one : (k s : ℕ) → (k == s) ≡ true → (event : Event) (events : List Event) (others : List SwitchEvent) → rows_given key events ≡ rows_given key (events_at s others)
+      → rows_given key (event ∷ events) ≡ rows_given key (events_at s (if_packet k event others))
+  own_one k s t (Packet j row) events others h = rw t (by_test (key_eq j key) (λ u. rw u (ap (λ rs. row ∷ rs) h)) (λ u. rw u h))
+  own_one k s t (Evict bucket) events others h = h
+  own_one k s t Merge events others h = h
 
-keys_none : (events : List Event) → NoPacket events → keys_given events ≡ []
-keys_none [] n = refl
-keys_none (Packet k row ∷ events) n = absurd n
-keys_none (Evict bucket ∷ events) n = keys_none events n
-keys_none (Merge ∷ events) n = keys_none events n
+  own_other : (k s : ℕ) → (k == s) ≡ false → (event : Event) (others : List SwitchEvent) → events_at s (if_packet k event others) ≡ events_at s others
+  own_other k s t (Packet j row) others = rw t refl
+  own_other k s t (Evict bucket) others = refl
+  own_other k s t Merge others = refl
 
-unless_keys : (k : ℕ) (event : Event) (events : List Event) (others : List SwitchEvent) → keys_given events ≡ keys_given (all_events others)
-    → keys_given (event ∷ events) ≡ keys_given (all_events (unless_merge k event others))
-unless_keys k (Packet j row) events others h = ap (λ ks. j ∷ ks) h
-unless_keys k (Evict bucket) events others h = h
-unless_keys k Merge events others h = h
+  own_packets : (s : ℕ) (events : List SwitchEvent) → rows_given key (events_at s events) ≡ rows_given key (events_at s (packets_among events))
+  own_packets s [] = refl
+  own_packets s (e ∷ events) = by_test (e.switch == s)
+      (λ t. rw t (own_one e.switch s t e.event (events_at s events) (packets_among events) (own_packets s events)))
+      (λ t. rw t (own_packets s events ∙ ap (rows_given key) (sym (own_other e.switch s t e.event (packets_among events)))))
 
-keys_unmerged : (events : List SwitchEvent) → keys_given (all_events events) ≡ keys_given (all_events (without_merges events))
-keys_unmerged [] = refl
-keys_unmerged (e ∷ events) = unless_keys e.switch e.event (all_events events) (without_merges events) (keys_unmerged events)
+  own_step : (k s n : ℕ) → (k == s) ≡ true → (taken : Option Taken) (events : List SwitchEvent) (uses : List Use) → rows_given key (events_at s events) ≡ rows_used key uses
+      → rows_given key (events_at s (from_switch k (event_of taken) ++ events)) ≡ rows_used key (use_at n taken ++ uses)
+  own_step k s n t None events uses h = h
+  own_step k s n t (Some one) events uses h = rw t (by_test (key_eq one.key key) (λ u. rw u (ap (λ rs. one.row ∷ rs) h)) (λ u. rw u h))
+
+  own_steps : (s n : ℕ) (steps : List Step) → rows_given key (events_at s (given steps)) ≡ rows_used key (uses_taken n (taken_of s steps))
+  own_steps s n [] = refl
+  own_steps s n (one ∷ steps) = by_test (one.switch == s)
+      (λ t. rw t (own_step one.switch s n t one.taken (given steps) (uses_taken (suc n) (taken_of s steps)) (own_steps s (suc n) steps)))
+      (λ t. rw t (ap (rows_given key) (given_other one.switch s t one.taken (given steps)) ∙ own_steps s n steps))
+
+-- ---- keys
+
+if_keys : (k : ℕ) (event : Event) (events : List Event) (others : List SwitchEvent) → keys_given events ≡ keys_given (all_events others)
+    → keys_given (event ∷ events) ≡ keys_given (all_events (if_packet k event others))
+if_keys k (Packet j row) events others h = ap (λ ks. j ∷ ks) h
+if_keys k (Evict bucket) events others h = h
+if_keys k Merge events others h = h
+
+keys_packets : (events : List SwitchEvent) → keys_given (all_events events) ≡ keys_given (all_events (packets_among events))
+keys_packets [] = refl
+keys_packets (e ∷ events) = if_keys e.switch e.event (all_events events) (packets_among events) (keys_packets events)
 
 keys_step : (k n : ℕ) (taken : Option Taken) (events : List SwitchEvent) (uses : List Use) → keys_given (all_events events) ≡ map (λ u. u.key) uses
     → keys_given (all_events (from_switch k (event_of taken) ++ events)) ≡ map (λ u. u.key) (use_at n taken ++ uses)
@@ -94,21 +143,10 @@ keys_steps n [] = refl
 keys_steps n (one ∷ steps) = keys_step one.switch n one.taken (given steps) (uses_taken (suc n) (map (λ x. x.taken) steps)) (keys_steps (suc n) steps)
 
 pub gives : RunsGiveTheTrace
-gives steps events r = record {
-  rows = λ key.
-      ap (λ es. rows_given key (all_events es)) r.parts
-      ∙ (ap (rows_given key) (events_behind r.first r.rest)
-      ∙ (rows_append key (all_events r.first) (all_events r.rest)
-      ∙ (ap (λ rs. rows_given key (all_events r.first) ++ rs) (rows_none key (all_events r.rest) r.ending)
-      ∙ (append-nil (rows_given key (all_events r.first))
-      ∙ (rows_unmerged key r.first ∙ (ap (λ es. rows_given key (all_events es)) r.packets ∙ rows_steps key 1 steps))))));
-  keys =
-      ap (λ es. keys_given (all_events es)) r.parts
-      ∙ (ap keys_given (events_behind r.first r.rest)
-      ∙ (keys_append (all_events r.first) (all_events r.rest)
-      ∙ (ap (λ ks. keys_given (all_events r.first) ++ ks) (keys_none (all_events r.rest) r.ending)
-      ∙ (append-nil (keys_given (all_events r.first))
-      ∙ (keys_unmerged r.first ∙ (ap (λ es. keys_given (all_events es)) r.packets ∙ keys_steps 1 steps))))));
+gives steps events has = record {
+  rows = λ key. rows_packets key events ∙ (ap (λ es. rows_given key (all_events es)) has ∙ rows_steps key 1 steps);
+  keys = keys_packets events ∙ (ap (λ es. keys_given (all_events es)) has ∙ keys_steps 1 steps);
+  own = λ s key. own_packets key s events ∙ (ap (λ es. rows_given key (events_at s es)) has ∙ own_steps key s 1 steps);
 }
 
 -- what holds of each switch's row lists holds of all

@@ -78,7 +78,7 @@ given_own : (k s : ℕ) → (k == s) ≡ true → (taken : Option Taken) (events
 given_own k s t None events more h = h
 given_own k s t (Some one) events more h = rw t (ap (λ es. Packet one.key one.row ∷ es) h)
 
-given_other : (k s : ℕ) → (k == s) ≡ false → (taken : Option Taken) (events : List SwitchEvent) → events_at s (from_switch k (event_of taken) ++ events) ≡ events_at s events
+pub given_other : (k s : ℕ) → (k == s) ≡ false → (taken : Option Taken) (events : List SwitchEvent) → events_at s (from_switch k (event_of taken) ++ events) ≡ events_at s events
 given_other k s t None events = refl
 given_other k s t (Some one) events = rw t refl
 

@@ -7,8 +7,8 @@ use Rattle.epoch_model.specs.Machine.{lists_of}
 use Rattle.epoch_model.specs.Laws.{HasRoom, rows_given}
 use Rattle.epoch_model.specs.Tables.{closed_keys}
 use Rattle.epoch_model.specs.TableLaws.{keys_given}
-use Rattle.additive_folds.specs.Network.{SwitchEvent, SwitchEpoch, all_events, all_epochs, epochs_at, AllMerged}
-use Rattle.switch_traces.specs.Traces.{Step, IsRun, own_uses, whole_uses, unrefreshed}
+use Rattle.additive_folds.specs.Network.{SwitchEvent, SwitchEpoch, all_events, all_epochs, epochs_at, events_at, AllMerged}
+use Rattle.switch_traces.specs.Traces.{Step, HasPackets, IsRun, own_uses, whole_uses, unrefreshed}
 
 -- the rows that these uses give the key
 abbrev pub rows_used : Key → List Use → List ArgRow
@@ -20,18 +20,23 @@ OwnEpochs = (buckets ways : ℕ) (steps : List Step) (events : List SwitchEvent)
     → HasRoom (unrefreshed buckets ways) → IsRun steps events → AllMerged (unrefreshed buckets ways) events merged
     → lists_of key (epochs_at switch merged) ≡ epochs (unrefreshed buckets ways) (own_uses switch steps) key
 
--- The events give each key the rows of all its uses, in the order of the trace.
+-- The events give each key the rows of all its uses, in the order of the trace; and each switch's events those of its packets.
 pub record GivenAreUsed (steps : List Step) (events : List SwitchEvent) : Type 0 where
   pub rows : (key : Key) → rows_given key (all_events events) ≡ rows_used key (whole_uses steps)
   pub keys : keys_given (all_events events) ≡ map (λ u. u.key) (whole_uses steps)
+  pub own : (switch : ℕ) (key : Key) → rows_given key (events_at switch events) ≡ rows_used key (own_uses switch steps)
 
 abbrev pub RunsGiveTheTrace : Type 0
-RunsGiveTheTrace = (steps : List Step) (events : List SwitchEvent) → IsRun steps events → GivenAreUsed steps events
+RunsGiveTheTrace = (steps : List Step) (events : List SwitchEvent) → HasPackets steps events → GivenAreUsed steps events
+
+-- The events of a run have the packets of its steps.
+abbrev pub RunsHavePackets : Type 0
+RunsHavePackets = (steps : List Step) (events : List SwitchEvent) → IsRun steps events → HasPackets steps events
 
 -- The merged epochs have the keys of all uses.
 abbrev pub MergedKeysAreUsed : Type 0
 MergedKeysAreUsed = (buckets ways : ℕ) (steps : List Step) (events : List SwitchEvent) (merged : List SwitchEpoch)
-    → HasRoom (unrefreshed buckets ways) → IsRun steps events → AllMerged (unrefreshed buckets ways) events merged
+    → HasRoom (unrefreshed buckets ways) → HasPackets steps events → AllMerged (unrefreshed buckets ways) events merged
     → closed_keys (all_epochs merged) ≡ ascending (map (λ u. u.key) (whole_uses steps))
 
 -- the list has the number

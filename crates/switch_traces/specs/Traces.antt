@@ -43,6 +43,21 @@ abbrev pub without_merges : List SwitchEvent → List SwitchEvent
 without_merges [] = []
 without_merges (e ∷ events) = unless_merge e.switch e.event (without_merges events)
 
+-- the event before these, where it is a packet's
+abbrev pub if_packet : ℕ → Event → List SwitchEvent → List SwitchEvent
+if_packet switch (Packet key row) events = record { switch = switch; event = Packet key row } ∷ events
+if_packet switch (Evict bucket) events = events
+if_packet switch Merge events = events
+
+-- the packet events among these
+abbrev pub packets_among : List SwitchEvent → List SwitchEvent
+packets_among [] = []
+packets_among (e ∷ events) = if_packet e.switch e.event (packets_among events)
+
+-- The packet events among these are those of the steps, in order; evictions and merges may come anywhere.
+abbrev pub HasPackets : List Step → List SwitchEvent → Type 0
+HasPackets steps events = packets_among events ≡ given steps
+
 -- The events are those of the steps in order, with merges anywhere, and then evictions and merges alone.
 pub record IsRun (steps : List Step) (events : List SwitchEvent) : Type 0 where
   pub first : List SwitchEvent

@@ -3,13 +3,20 @@
 #![tactic(auto)]
 
 ghost use Rattle.switch_traces.specs.TraceLaws.{EpochsAddUp, EpochsOfOneSwitch, MergedKeysAreUsed, OwnEpochs, RunsGiveTheTrace};
+ghost use Rattle.switch_traces.specs.TraceLaws.{RunsHavePackets};
 
 /// The merged epochs of each switch are those into which its caches cut what its packets give, wherever merges come.
 pub fn own_epochs()
     ensures { OwnEpochs }
 {}
 
-/// The events of a run give each key the rows of its uses, in the order of the trace.
+/// The events of a run have the packets of its steps.
+pub fn runs_have_packets()
+    ensures { RunsHavePackets }
+{}
+
+/// Events with the packets of a trace give each key the rows of its uses, in the order of the trace, wherever evictions and
+/// merges come.
 pub fn runs_give_the_trace()
     ensures { RunsGiveTheTrace }
 {}

@@ -1,18 +1,14 @@
 -- The packets of a trace, split into parts by a function of each packet's words, and what it means that parts keep a key whole.
-use Rattle.std.specs.Prelude.{◌≡◌, ℕ, ◌==◌, Bool, true, false, is_some, List, [], ◌∷◌, length, map, filter, All}
+use Rattle.std.specs.Prelude.{◌≡◌, ℕ, ◌==◌, true, false, is_some, List, [], ◌∷◌, length, map, filter, All}
 use Rattle.std.specs.Prelude.{suc, if◌then◌else◌, Some, slice_get, slice_index}
-use Rattle.std.specs.List.{list_any}
-use Rattle.std.specs.Str.{bytes_eq}
 use Rattle.marple_base.specs.declared.field.Field.{Field}
-use Rattle.marple_base.specs.Field.{field_name, number_of}
 use Rattle.query_lang.specs.declared.typed.TypedQuery.{TypedQuery}
 use Rattle.query_lang.specs.declared.typed.TypedStream.{TypedStream}
 use Rattle.query_lang.specs.Streams.{taking_of}
 use Rattle.epoch_model.specs.Keys.{Key, ArgRow}
 use Rattle.epoch_model.specs.Epochs.{Use}
 use Rattle.query_types.specs.Uses.{uses}
-use Rattle.stage_plan.specs.Shape.{text_at}
-use Rattle.net_wide.specs.Combining.{columns_made}
+use Rattle.field_laws.specs.Fields.{is_named, makes_field, names_field, word_of}
 use Rattle.switch_traces.specs.TraceLaws.{AreApart, has_number, rows_used}
 
 -- the part that a packet with these words goes to
@@ -50,10 +46,6 @@ part_rows partition q i key packets n = rows_used key (part_uses partition q i p
 
 -- ---- partitions by a field
 
--- the packet's word of the field
-abbrev pub word_of : Field → List ℕ → ℕ
-word_of field words = slice_index words (number_of field)
-
 -- by this function of that word
 abbrev pub by_field : Field → (ℕ → ℕ) → Partition
 by_field field choose words = choose (word_of field words)
@@ -61,18 +53,6 @@ by_field field choose words = choose (word_of field words)
 -- by this function of the packet's words of these fields
 abbrev pub by_fields : List Field → (List ℕ → ℕ) → Partition
 by_fields fields choose words = choose (map (λ field. word_of field words) fields)
-
--- whether the name with this number is the field's
-abbrev pub is_named : Field → List (List ℕ) → ℕ → Bool
-is_named field names id = bytes_eq (field_name field) (text_at names id)
-
--- whether one of these columns has the field's name
-abbrev pub names_field : Field → List (List ℕ) → List ℕ → Bool
-names_field field names columns = list_any (is_named field names) columns
-
--- whether a `map` of these streams makes a column that has the field's name
-abbrev pub makes_field : Field → List (List ℕ) → List TypedStream → Bool
-makes_field field names streams = list_any (λ one. names_field field names (columns_made one.columns one.op)) streams
 
 -- the place of the first of these columns that has the field's name
 abbrev pub first_named : Field → List (List ℕ) → List ℕ → ℕ

@@ -1,14 +1,16 @@
-use Rattle.std.proofs.Common.{◌≡◌, ◌≢◌, ◌++◌, [], ◌∷◌, Some, length, sym, ◌∙◌, subst, arith, length-append}
+use Rattle.std.proofs.Common.{◌≡◌, ◌≢◌, ◌+◌, ◌≤◌, [], ◌∷◌, Some, length, refl, sym, ap, ◌∙◌, subst, arith, length-append}
 use Rattle.std.proofs.lemmas.Bool.Decides.{nat_tests}
 use Rattle.net_wide.specs.Numbering.{place_among, switch_number}
-use Rattle.network.specs.Networks.{IsNetwork}
 use Rattle.driven_net.specs.Follows.{NetFollows}
 use Rattle.driven_net.proofs.Known.{number_is, known_same, known_more}
 use Rattle.driven_net.proofs.Following.{follows_more}
 use Rattle.driven_net.proofs.taking.switch_at.Goals as goal
 
+pub number_switch-requires : goal.number_switch-requires
+number_switch-requires g c = subst (λ n. n ≤ 64) c.requires.switches c.known.ensures.few
+
 pub returns-in-Ok-add_switch-clause-follows : goal.returns-in-Ok-add_switch-clause-follows
-returns-in-Ok-add_switch-clause-follows g c packets f =
+returns-in-Ok-add_switch-clause-follows g c lag packets f =
     let known = c.args.known.now in
     let s = c.args.switch in
     let at = c.in-Some.at in
@@ -23,11 +25,11 @@ returns-in-Ok-add_switch-clause-follows g c packets f =
     let end : at ≡ length known = grind (arith, nat_tests) in
     let last : place_among known s ≡ length known = place ∙ end in
     let after = c.in-Ok.ensures.known ∙ known_more known s last (omega arith) in
-    let grown : IsNetwork (length (known ++ s ∷ [])) new = subst (λ n. IsNetwork n new) (sym (length-append known (s ∷ []))) (c.in-Ok-add_switch.ensures.is (length known) c.requires.is) in
-    subst (λ ks. NetFollows ks packets new) (sym after) (follows_more known s packets old new grown c.in-Ok-add_switch.ensures.keeps c.in-Ok-add_switch.ensures.grow f)
+    let more = follows_more g.row.WAYS lag known s packets old new c.in-Ok-add_switch.ensures.grows c.in-Ok-add_switch.ensures.stands f in
+    subst (λ ks. (n : NetFollows g.row.WAYS lag ks packets new) × (n.events ≡ f.events)) (sym after) more
 
-pub returns-else-at-before-clause-is : goal.returns-else-at-before-clause-is
-returns-else-at-before-clause-is g c =
+pub returns-else-at-before-clause-switches : goal.returns-else-at-before-clause-switches
+returns-else-at-before-clause-switches g c =
     let known = c.args.known.now in
     let s = c.args.switch in
     let at = c.in-Some.at in
@@ -37,10 +39,10 @@ returns-else-at-before-clause-is g c =
     let test = c.if-at-before.false in
     let apart : at ≢ length known = grind (arith, nat_tests) in
     let same = known_same known s (λ e. apart (sym place ∙ e)) in
-    subst (λ ks. IsNetwork (length ks) c.args.network.now) (sym (c.in-Ok.ensures.known ∙ same)) c.requires.is
+    c.requires.switches ∙ ap length (sym (c.in-Ok.ensures.known ∙ same))
 
 pub returns-else-at-before-clause-follows : goal.returns-else-at-before-clause-follows
-returns-else-at-before-clause-follows g c packets f =
+returns-else-at-before-clause-follows g c lag packets f =
     let known = c.args.known.now in
     let s = c.args.switch in
     let at = c.in-Some.at in
@@ -50,4 +52,20 @@ returns-else-at-before-clause-follows g c packets f =
     let test = c.if-at-before.false in
     let apart : at ≢ length known = grind (arith, nat_tests) in
     let same = known_same known s (λ e. apart (sym place ∙ e)) in
-    subst (λ ks. NetFollows ks packets c.args.network.now) (sym (c.in-Ok.ensures.known ∙ same)) f
+    subst (λ ks. (n : NetFollows g.row.WAYS lag ks packets c.args.network.now) × (n.events ≡ f.events)) (sym (c.in-Ok.ensures.known ∙ same)) (f, refl)
+
+pub returns-in-Ok-add_switch-clause-switches : goal.returns-in-Ok-add_switch-clause-switches
+returns-in-Ok-add_switch-clause-switches g c =
+    let known = c.args.known.now in
+    let s = c.args.switch in
+    let at = c.in-Some.at in
+    let number : switch_number known s ≡ Some at = sym c.in-Ok.ensures.number ∙ c.in-Some.is in
+    let is = number_is known s at number in
+    let place = is.0 in
+    let few = is.1 in
+    let long = c.len-before.ensures in
+    let test = c.if-at-before.true in
+    let end : at ≡ length known = grind (arith, nat_tests) in
+    let last : place_among known s ≡ length known = place ∙ end in
+    let after = c.in-Ok.ensures.known ∙ known_more known s last (omega arith) in
+    c.in-Ok-add_switch.ensures.grows.switches ∙ (ap (λ n. n + 1) c.requires.switches ∙ (sym (length-append known (s ∷ [])) ∙ ap length (sym after)))

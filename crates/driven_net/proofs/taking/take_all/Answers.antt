@@ -1,21 +1,26 @@
-use Rattle.std.proofs.Common.{◌≡◌, ◌+◌, ◌++◌, suc, Ok, [], ◌∷◌, length, refl, sym, ap, ◌∙◌, subst, arith, append_assoc, length-append}
+use Rattle.std.proofs.Common.{◌≡◌, ◌+◌, ◌++◌, suc, Ok, [], ◌∷◌, length, replicate, refl, sym, ap, ◌∙◌, subst, arith, append_assoc, length-append}
 use Rattle.std.proofs.Math.Facts.{Fits-below}
 use Rattle.std.proofs.lemmas.List.{length-map}
 use Rattle.trace_drive.specs.Drives.{words_of}
 use Rattle.net_wide.specs.NetTables.{switch_in}
 use Rattle.net_wide.specs.Numbering.{with_switch}
 use Rattle.driven_net.specs.Follows.{NetFollows}
+use Rattle.driven_net.specs.Lags.{HaveCounted}
 use Rattle.driven_net.specs.NetTraces.{fault_at, first_fault}
-use Rattle.driven_net.proofs.Counting.{lag_clocks}
+use Rattle.driven_net.proofs.Counting.{lag_clocks, none_counted}
 use Rattle.driven_net.proofs.Following.{follows_start}
 use Rattle.driven_net.proofs.taking.take_all.Goals as goal
 
 pub packets-init : goal.packets-init
 packets-init g c =
     let trace = c.args.trace in
+    let start = follows_start g.row.WAYS c.args.lag c.args.network c.requires.switches c.requires.fresh in
+    let fresh : (f : NetFollows g.row.WAYS c.args.lag c.new-known.result [] c.args.network) × HaveCounted f.events (replicate 64 c.new-clocks.result) =
+    subst (λ ks. (f : NetFollows g.row.WAYS c.args.lag ks [] c.args.network) × HaveCounted f.events (replicate 64 c.new-clocks.result)) (sym c.new-known.ensures)
+    (start.0, subst (λ es. HaveCounted es (replicate 64 c.new-clocks.result)) (sym start.1) (none_counted c.new-clocks.result c.new-clocks.ensures.counted)) in
     record {
       fault = ap (λ ks. first_fault ks 1 (words_of trace.packets) trace.fault) (sym c.new-known.ensures);
-      follows = ([], refl, refl, subst (λ ks. NetFollows ks [] c.args.network) (sym c.new-known.ensures) (follows_start c.args.network c.requires.is c.requires.fresh));
+      follows = ([], refl, refl, fresh.0, fresh.1);
       keeps = record { plan = refl; buckets = refl; pipe_records = refl };
       clocks = lag_clocks c.args.lag c.new-clocks.result c.new-clocks.ensures.every c.new-clocks.ensures.counted;
       later = omega arith;
@@ -48,6 +53,7 @@ packets-preserved g c =
     let gives = c.next_into.ensures.packet (c.in_ok-next_into.was ∙ ap Ok c.if-branch.true) in
     let one = c.in_ok-take_one.ensures in
     let later = with_switch known (switch_in words) in
+    let next = one.follows c.args.lag f.0 f.3 was.clocks f.4 in
     record {
       fault =
           was.fault
@@ -60,7 +66,8 @@ packets-preserved g c =
         f.0 ++ words ∷ [],
         f.1 ∙ (ap (λ ps. f.0 ++ words_of ps) gives.packets ∙ sym (append_assoc f.0 (words ∷ []) (words_of rest.packets))),
         ap (λ m. m + 1) f.2 ∙ sym (length-append f.0 (words ∷ [])),
-        one.follows f.0 f.3,
+        next.0,
+        next.1,
       );
       keeps = record { plan = one.keeps.plan ∙ was.keeps.plan; buckets = one.keeps.buckets ∙ was.keeps.buckets; pipe_records = one.keeps.pipe_records ∙ was.keeps.pipe_records };
       clocks = c.take_one.ensures.clocks c.args.lag was.clocks;

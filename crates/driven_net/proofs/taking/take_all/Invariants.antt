@@ -2,7 +2,7 @@ use Rattle.std.proofs.Common.{◌≡◌, ◌≤◌, ℕ, suc, List, [], ◌++◌
 use Rattle.network.specs.Networks.{Keeps}
 use Rattle.trace_drive.specs.Drives.{words_of}
 use Rattle.driven_net.specs.Follows.{NetFollows}
-use Rattle.driven_net.specs.Lags.{AreLagClocks}
+use Rattle.driven_net.specs.Lags.{AreLagClocks, HaveCounted}
 use Rattle.driven_net.specs.NetTraces.{first_fault}
 use Rattle.driven_net.proofs.taking.take_all.Given as goal
 
@@ -10,7 +10,7 @@ use Rattle.driven_net.proofs.taking.take_all.Given as goal
 abbrev pub invariant-packets : goal.invariant-packets
 invariant-packets g l = record {
   fault : first_fault [] 1 (words_of l.fn.trace.packets) l.fn.trace.fault ≡ first_fault l.known (suc l.number) (words_of l.trace.packets) l.trace.fault;
-  follows : (done : List (List ℕ)) × (words_of l.fn.trace.packets ≡ done ++ words_of l.trace.packets) × (l.number ≡ length done) × NetFollows l.known done l.network;
+  follows : (done : List (List ℕ)) × (words_of l.fn.trace.packets ≡ done ++ words_of l.trace.packets) × (l.number ≡ length done) × (f : NetFollows g.row.WAYS l.lag l.known done l.network) × HaveCounted f.events l.clocks;
   keeps : Keeps l.fn.network l.network;
   clocks : AreLagClocks l.lag l.clocks;
   later : l.initial.steps ≤ l.steps;

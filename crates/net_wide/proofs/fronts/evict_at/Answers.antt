@@ -12,6 +12,7 @@ returns-clause-makes g c =
     let first = c.index-fronts-at.result in
     one_makes (λ kind. g.K.EpochKind.stands kind) g.row.WAYS c.args.at (Evict c.args.bucket) fronts (get_or fronts c.args.at first) c.evict.new.self
     c.requires.switch (got_here fronts c.args.at first c.requires.switch) c.evict.ensures.makes
+    (c.evict.ensures.cache, λ none. c.evict.ensures.same (c.evict.ensures.some ∙ ap (λ n. not (n == 0)) none))
 
 pub returns-clause-leads : goal.returns-clause-leads
 returns-clause-leads g c =

@@ -1,10 +1,11 @@
-use Rattle.std.proofs.Common.{rules, ◌≡◌, ◌+◌, ◌<◌, ◌≤◌, length, get_or, set, sym, ap, subst, ◌∙◌}
+use Rattle.std.proofs.Common.{rules, ◌≡◌, ◌+◌, ◌<◌, ◌≤◌, length, drop, get_or, set, sym, ap, subst, ◌∙◌}
 use Rattle.epoch_model.specs.Machine.{Merge}
 use Rattle.switch_core.specs.Costs.{merge_cost}
 use Rattle.switch_core.specs.FrontParts.{IsFront}
 use Rattle.switch_core.specs.FrontEvents.{FrontMakes, MergesNext}
 use Rattle.switch_core.proofs.SideBySide.{same_some}
 use Rattle.switch_core.proofs.LaneFacts.{got_set, on_ok, on_err, set_same}
+use Rattle.switch_core.proofs.LaneMakes.{on_both}
 use Rattle.net_wide.specs.Sharing.{AtSwitch, SwitchMakes, LeadsByMerge, StoreTakes}
 use Rattle.net_wide.proofs.Sharing.{one_makes, got_here, merge_leads, store_takes}
 use Rattle.net_wide.proofs.fronts.merge_at.Goals as goal
@@ -15,9 +16,10 @@ returns-clause-makes g c =
     let at = c.args.at in
     let was = get_or fronts at c.index-fronts-at.result in
     let new = c.merge_into.new.self in
-    on_ok (FrontMakes (g.K.EpochKind.stands was.kind) g.row.WAYS Merge was new) (SwitchMakes (λ kind. g.K.EpochKind.stands kind) g.row.WAYS at Merge fronts (set fronts at new)) c.merge_into.result
-    (λ made. one_makes (λ kind. g.K.EpochKind.stands kind) g.row.WAYS at Merge fronts was new c.requires.switch (got_here fronts at c.index-fronts-at.result c.requires.switch) made)
-    c.merge_into.ensures.makes
+    on_both (FrontMakes (g.K.EpochKind.stands was.kind) g.row.WAYS Merge was new) (new.pipe.records ≡ drop 1 was.pipe.records) (SwitchMakes (λ kind. g.K.EpochKind.stands kind) g.row.WAYS at Merge fronts (set fronts at new)) c.merge_into.result
+    (λ made records. one_makes (λ kind. g.K.EpochKind.stands kind) g.row.WAYS at Merge fronts was new c.requires.switch (got_here fronts at c.index-fronts-at.result c.requires.switch) made
+    (c.merge_into.ensures.cache, records))
+    c.merge_into.ensures.makes c.merge_into.ensures.records
 
 pub returns-clause-leads : goal.returns-clause-leads
 returns-clause-leads g c =

@@ -9,7 +9,7 @@ returns-clause-makes g c =
     let fronts = c.args.fronts.now in
     let first = c.index-fronts-at.result in
     one_makes (λ kind. g.K.EpochKind.stands kind) g.row.WAYS c.args.at (Packet c.args.key.now c.args.args.now) fronts (get_or fronts c.args.at first) c.packet.new.self
-    c.requires.switch (got_here fronts c.args.at first c.requires.switch) c.packet.ensures.makes
+    c.requires.switch (got_here fronts c.args.at first c.requires.switch) c.packet.ensures.makes tt
 
 pub returns-clause-leads : goal.returns-clause-leads
 returns-clause-leads g c =

@@ -1,4 +1,4 @@
-use Rattle.std.proofs.Common.{◌≡◌, true, length, get_or, set, sym, ap, ◌∙◌, lit<}
+use Rattle.std.proofs.Common.{◌≡◌, ◌+◌, ◌≤◌, true, length, get_or, set, sym, ap, ◌∙◌, subst, lit<}
 use Rattle.std.specs.Prelude.{slice_get}
 use Rattle.epoch_model.specs.Machine.{Merge}
 use Rattle.stage_plan.specs.Planned.{wiring_at}
@@ -7,6 +7,7 @@ use Rattle.switch_core.proofs.LaneFacts.{got_set, on_err, on_ok, set_same}
 use Rattle.switch_core.proofs.SideBySide.{same_some}
 use Rattle.net_wide.proofs.Sharing.{got_here}
 use Rattle.network.specs.Groups.{GroupView}
+use Rattle.network.specs.Costs.{group_merge_cost}
 use Rattle.network.specs.Events.{AtGroup, GroupMakes, GroupsMake, is_ready_at}
 use Rattle.network.proofs.MakeSteps.{make_one, shares_at, switch_within}
 use Rattle.network.proofs.groups.merge_from.Goals as goal
@@ -61,3 +62,11 @@ returns-clause-cost g c x e front f =
     let group = get_or groups lane c.index-groups-lane.result in
     let same = same_some group x (sym (got_here groups lane c.index-groups-lane.result c.requires.lane) ∙ e) in
     c.merge.ensures.cost front (ap (λ (v : GroupView). slice_get v.fronts c.args.at) same ∙ f)
+
+pub returns-clause-most : goal.returns-clause-most
+returns-clause-most g c x e =
+    let groups = c.args.groups.now in
+    let lane = c.args.lane in
+    let group = get_or groups lane c.index-groups-lane.result in
+    let same = same_some group x (sym (got_here groups lane c.index-groups-lane.result c.requires.lane) ∙ e) in
+    subst (λ v. c.merge.new.steps ≤ c.args.steps.now + group_merge_cost c.args.at v) same c.merge.ensures.most

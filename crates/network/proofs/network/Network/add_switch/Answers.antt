@@ -1,70 +1,54 @@
-use Rattle.std.proofs.Common.{◌≡◌, ◌+◌, ◌++◌, lit<, length, take, drop, sym, ap, ◌∙◌, subst, arith, ℕ, List, [], refl}
-use Rattle.additive_folds.specs.Network.{SwitchEvent}
+use Rattle.std.proofs.Common.{◌+◌, ◌<◌, ◌++◌, lit<, length, take, drop, sym, ap, ◌∙◌, subst, refl}
 use Rattle.switch_core.specs.Rows.{Each}
 use Rattle.switch_core.proofs.LaneFacts.{whole_written}
-use Rattle.network.specs.Groups.{AreGroups, GroupGrows, GroupsRun}
-use Rattle.network.proofs.GroupSteps.{places_grown, wide_grown}
-use Rattle.network.proofs.MakeSteps.{groups_none, if_err}
-use Rattle.network.proofs.NetworkSteps.{ran_whole, still_network}
+use Rattle.network.specs.Groups.{AreGroups, GroupGrows}
+use Rattle.network.specs.Networks.{NetworkGrows, NetworkView}
+use Rattle.network.proofs.MakeSteps.{if_err}
+use Rattle.network.proofs.NetworkSteps.{grown_network, ran_whole, same_network, with_groups}
+use Rattle.network.proofs.Representing.{grown_stands}
 use Rattle.network.proofs.network.Network.add_switch.Goals as goal
-
-pub returns-clause-is : goal.returns-clause-is
-returns-clause-is g c switches is =
-    let net = c.args.self.now in
-    let new = c.add_switch.new.groups in
-    let long = c.add_switch.auto.groups ∙ c.deref_mut.ensures.len in
-    let grown = ran_whole (Each (GroupGrows g.row.WAYS net.buckets net.pipe_records)) net.groups.items c.deref_mut.result.now new net.groups.len c.deref_mut.ensures.value long c.in_ok-add_switch.ensures.grow in
-    record {
-      count = ap (λ n. n + 1) is.count;
-      few = let a = is.count in let b = c.requires.is.2.count in let d = c.requires.is.1 in omega arith;
-      groups = subst (AreGroups net.plan (switches + 1)) (sym (whole_written new (drop (length new) net.groups.items) net.groups.len long))
-          (c.in_ok-add_switch.ensures.are switches (subst (AreGroups net.plan switches) (sym c.deref_mut.ensures.value) is.groups));
-      wide = wide_grown g.row.WAYS net.buckets net.pipe_records net.groups.items _ grown is.wide;
-      pipes = places_grown g.row.WAYS net.buckets net.pipe_records net.groups.items _ grown is.pipes;
-      rooms = is.rooms;
-      some_ways = is.some_ways;
-      some_buckets = is.some_buckets;
-      places = is.places;
-      some_records = is.some_records;
-      most_records = is.most_records;
-    }
 
 pub add_switch-requires : goal.add_switch-requires
 add_switch-requires g c =
-    let net = c.args.self.now in
-    let is = c.requires.is.2 in (
-      lit< tt,
-      (
-        is.some_ways,
-        (
-          is.some_buckets,
-          (
-            is.places,
-            (
-              (is.some_records, is.most_records),
-              subst (AreGroups net.plan net.switches) (sym c.deref_mut.ensures.value) (subst (λ n. AreGroups net.plan n net.groups.items) (sym is.count) is.groups),
-            ),
-          ),
-        ),
-      ),
-    )
+    let p = c.self.inside in
+    let is = c.self.invariant.0 in
+    (lit< tt, (is.some_ways, (is.some_buckets, (is.places, ((is.some_records, is.most_records), subst (AreGroups p.plan p.switches) (sym c.deref_mut.ensures.value) is.groups)))))
+
+pub invariant_of-self : goal.invariant_of-self
+invariant_of-self g c =
+    let p = c.self.inside in
+    let view : NetworkView = record { plan = p.plan; buckets = p.buckets; pipe_records = p.pipe_records; switches = p.switches; groups = p.groups.items } in
+    let new = c.add_switch.new.groups in
+    let same = whole_written new (drop (length new) p.groups.items) p.groups.len (c.add_switch.auto.groups ∙ c.deref_mut.ensures.len) ∙ (c.in_err-add_switch.ensures.err ∙ c.deref_mut.ensures.value) in
+    (same_network g.row.WAYS view _ same c.self.invariant.0, c.self.invariant.1)
+
+pub invariant_of-self-2 : goal.invariant_of-self-2
+invariant_of-self-2 g c =
+    let p = c.self.inside in
+    let view : NetworkView = record { plan = p.plan; buckets = p.buckets; pipe_records = p.pipe_records; switches = p.switches; groups = p.groups.items } in
+    let new = c.add_switch.new.groups in
+    let long = c.add_switch.auto.groups ∙ c.deref_mut.ensures.len in
+    let grown = ran_whole (Each (GroupGrows g.row.WAYS p.buckets p.pipe_records)) p.groups.items c.deref_mut.result.now new p.groups.len c.deref_mut.ensures.value long c.in_ok-add_switch.ensures.grow in
+    let are = subst (AreGroups p.plan (p.switches + 1)) (sym (whole_written new (drop (length new) p.groups.items) p.groups.len long))
+    (c.in_ok-add_switch.ensures.are p.switches (subst (AreGroups p.plan p.switches) (sym c.deref_mut.ensures.value) c.self.invariant.0.groups)) in
+    (grown_network g.row.WAYS view _ (subst (λ (v : NetworkView). v.switches < 64) (sym c.self.view_is) c.requires) are grown c.self.invariant.0, c.self.invariant.1)
+
+pub returns-clause-grows : goal.returns-clause-grows
+returns-clause-grows g c =
+    let p = c.self.inside in
+    let new = c.add_switch.new.groups in
+    let long = c.add_switch.auto.groups ∙ c.deref_mut.ensures.len in
+    let grown = ran_whole (Each (GroupGrows g.row.WAYS p.buckets p.pipe_records)) p.groups.items c.deref_mut.result.now new p.groups.len c.deref_mut.ensures.value long c.in_ok-add_switch.ensures.grow in
+    let after : NetworkView = record { plan = p.plan; buckets = p.buckets; pipe_records = p.pipe_records; switches = p.switches + 1; groups = take p.groups.len (new ++ drop (length new) p.groups.items) } in
+    subst (λ v. NetworkGrows g.row.WAYS v after) c.self.view_is (record { groups = grown; switches = refl; keeps = record { plan = refl; buckets = refl; pipe_records = refl } })
+
+pub returns-clause-stands : goal.returns-clause-stands
+returns-clause-stands g c events stand = grown_stands g.row.WAYS c.args.self.now _ events (returns-clause-grows g c) stand
 
 pub returns-in_err-add_switch-clause-err : goal.returns-in_err-add_switch-clause-err
 returns-in_err-add_switch-clause-err g c =
-    let net = c.args.self.now in
+    let p = c.self.inside in
+    let view : NetworkView = record { plan = p.plan; buckets = p.buckets; pipe_records = p.pipe_records; switches = p.switches; groups = p.groups.items } in
     let new = c.add_switch.new.groups in
-    let whole = whole_written new (drop (length new) net.groups.items) net.groups.len (c.add_switch.auto.groups ∙ c.deref_mut.ensures.len) in
-    if_err (take net.groups.len (new ++ drop (length new) net.groups.items) ≡ net.groups.items) c.from_residual.result
-    (whole ∙ (c.in_err-add_switch.ensures.err ∙ c.deref_mut.ensures.value))
-
-pub returns-in_err-add_switch-clause-still : goal.returns-in_err-add_switch-clause-still
-returns-in_err-add_switch-clause-still g c =
-    let net = c.args.self.now in
-    let ways = g.row.WAYS in
-    let none : ℕ → List SwitchEvent → Type 0 = λ n more. more ≡ [] in
-    let new = c.add_switch.new.groups in
-    let whole = whole_written new (drop (length new) net.groups.items) net.groups.len (c.add_switch.auto.groups ∙ c.deref_mut.ensures.len) in
-    let same : take net.groups.len (new ++ drop (length new) net.groups.items) ≡ net.groups.items = whole ∙ (c.in_err-add_switch.ensures.err ∙ c.deref_mut.ensures.value) in
-    if_err _ c.from_residual.result
-    (λ switches is. still_network none switches net _ refl refl refl refl is.rooms
-    (subst (GroupsRun ways none net.groups.items) (sym same) (groups_none ways 0 none net.groups.items (λ n. refl))) is)
+    let same = whole_written new (drop (length new) p.groups.items) p.groups.len (c.add_switch.auto.groups ∙ c.deref_mut.ensures.len) ∙ (c.in_err-add_switch.ensures.err ∙ c.deref_mut.ensures.value) in
+    if_err _ c.from_residual.result (ap (with_groups view) same ∙ c.self.view_is)

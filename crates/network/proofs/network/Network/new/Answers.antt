@@ -1,21 +1,26 @@
-use Rattle.std.proofs.Common.{rules, refl, arith}
+use Rattle.std.proofs.Common.{rules, arith}
 use Rattle.network.proofs.GroupSteps.{places_start, wide_start}
+use Rattle.network.specs.Networks.{NetworkView}
+use Rattle.network.proofs.Representing.{fresh_stands}
 use Rattle.network.proofs.network.Network.new.Goals as goal
 
-pub returns-clause-is : goal.returns-clause-is
-returns-clause-is g c = record {
-  count = refl;
-  few = omega arith;
-  groups = c.in_ok-groups.ensures.are;
-  wide = wide_start c.args.plan c.args.buckets c.in_ok-groups.groups.items c.in_ok-groups.ensures.are;
-  pipes = places_start c.args.plan c.args.pipe_records c.in_ok-groups.groups.items c.in_ok-groups.ensures.are;
-  rooms = search rules;
-  some_ways = c.requires.ways;
-  some_buckets = c.requires.buckets;
-  places = c.requires.places;
-  some_records = c.requires.pipe.0;
-  most_records = c.requires.pipe.1;
-}
+pub invariant_of-result : goal.invariant_of-result
+invariant_of-result g c = (
+  record {
+    few = omega arith;
+    groups = c.in_ok-groups.ensures.are;
+    wide = wide_start c.args.plan c.args.buckets c.in_ok-groups.groups.items c.in_ok-groups.ensures.are;
+    pipes = places_start c.args.plan c.args.pipe_records c.in_ok-groups.groups.items c.in_ok-groups.ensures.are;
+    some_ways = c.requires.ways;
+    some_buckets = c.requires.buckets;
+    places = c.requires.places;
+    some_records = c.requires.pipe.0;
+    most_records = c.requires.pipe.1;
+  },
+  search rules,
+)
 
-pub returns-clause-stand : goal.returns-clause-stand
-returns-clause-stand g c = c.in_ok-groups.ensures.stand c.args.buckets
+pub returns-clause-stands : goal.returns-clause-stands
+returns-clause-stands g c =
+    let net : NetworkView = record { plan = c.args.plan; buckets = c.args.buckets; pipe_records = c.args.pipe_records; switches = 0; groups = c.in_ok-groups.groups.items } in
+    fresh_stands g.row.WAYS net (c.in_ok-groups.ensures.stand c.args.buckets)

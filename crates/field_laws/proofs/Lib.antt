@@ -1,0 +1,5 @@
+pub mod Columns
+pub mod Tells
+pub mod Rows
+pub mod Made
+pub mod Fields

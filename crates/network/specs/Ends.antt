@@ -1,0 +1,57 @@
+-- What the tables of a drained network are.
+use Rattle.std.specs.Prelude.{◌≡◌, ℕ, None, List, [], ◌∷◌, ◌++◌}
+use Rattle.query_lang.specs.declared.typed.TypedQuery.{TypedQuery}
+use Rattle.query_lang.specs.TypedQueries.{IsValidQuery}
+use Rattle.epoch_model.specs.Keys.{ArgRow, Key}
+use Rattle.stage_plan.specs.Planned.{IsPlanOf}
+use Rattle.stage_plan.specs.Sound.{PlanParts}
+use Rattle.net_wide.specs.Combining.{net_fault}
+use Rattle.net_wide.specs.NetLaws.{AreWhole, TellsSwitches}
+use Rattle.net_wide.specs.NetTables.{caches_of, switch_in}
+use Rattle.net_ends.specs.NetEnds.{AreNumbered, closed_pieces}
+use Rattle.network.specs.Networks.{NetworkView}
+use Rattle.network.specs.Running.{Evicts, Merges, NetworkEvent, Takes, all_given}
+
+-- the packets that were taken, in order
+abbrev pub packets_taken : List NetworkEvent → List (List ℕ)
+packets_taken [] = []
+packets_taken (Takes switch words ∷ events) = words ∷ packets_taken events
+packets_taken (Evicts switch lane bucket ∷ events) = packets_taken events
+packets_taken (Merges switch lane ∷ events) = packets_taken events
+
+-- each of them was taken by the switch that has the number of the packet's switch
+abbrev pub AreAtTheirSwitches : (ℕ → ℕ) → List NetworkEvent → Type 0
+AreAtTheirSwitches number [] = Unit {0}
+AreAtTheirSwitches number (Takes switch words ∷ events) = (switch ≡ number (switch_in words)) × AreAtTheirSwitches number events
+AreAtTheirSwitches number (Evicts switch lane bucket ∷ events) = AreAtTheirSwitches number events
+AreAtTheirSwitches number (Merges switch lane ∷ events) = AreAtTheirSwitches number events
+
+-- A query whose groupbys all combine, with its plan, and events that take whole packets, each at its switch's number.
+pub record CombineOver (q : TypedQuery) (plan : PlanParts) (number : ℕ → ℕ) (events : List NetworkEvent) : Type 0 where
+  pub valid : IsValidQuery q
+  pub combine : net_fault q ≡ None
+  pub tells : TellsSwitches q
+  pub planned : IsPlanOf q plan
+  pub whole : AreWhole (packets_taken events)
+  pub numbered : AreNumbered number (packets_taken events)
+  pub switches : AreAtTheirSwitches number events
+
+-- by groupby and key, the row lists that the machines of all switches closed
+abbrev pub pieces_closed : (ℕ → ℕ) → ℕ → NetworkView → List NetworkEvent → ℕ → Key → List (List ArgRow)
+pieces_closed number ways net events i =
+    closed_pieces number (caches_of net.buckets ways) (all_given net.plan i events) (packets_taken events)
+
+-- no eviction is among these events
+abbrev pub NoEviction : List NetworkEvent → Type 0
+NoEviction [] = Unit {0}
+NoEviction (Takes switch words ∷ events) = NoEviction events
+NoEviction (Evicts switch lane bucket ∷ events) = ⊥
+NoEviction (Merges switch lane ∷ events) = NoEviction events
+
+-- No eviction is called for before the last packet.
+pub record EvictsLast (events : List NetworkEvent) : Type 0 where
+  pub first : List NetworkEvent
+  pub rest : List NetworkEvent
+  pub parts : events ≡ first ++ rest
+  pub before : NoEviction first
+  pub after : packets_taken rest ≡ []
