@@ -3,10 +3,10 @@
 ghost use Rattle.std.specs.Prelude.{◌≡◌, ◌+◌, ◌≤◌, IfSome, length};
 ghost use Rattle.trace_reader.specs.Blocks.{IsFront};
 
-// The number of the first eight bytes, none where one of them is no digit. Each byte is a digit exactly where neither a sum
-// with 0x46 nor a difference from `0` sets its highest bit; and then pairs of digits are added up, pairs of these, and so on.
+/// The number of the first eight bytes, none where one of them is no digit. Each byte is a digit exactly where neither a sum
+/// with 0x46 nor a difference from `0` sets its highest bit; and then pairs of digits are added up, pairs of these, and so on.
 #[inline(always)]
-fn eight(text: &[u8]) -> Option<u64>
+pub fn eight(text: &[u8]) -> Option<u64>
     requires { 8 ≤ length text.now }
     ensures { IfSome result (IsFront text.now 8) }
 {
@@ -23,9 +23,9 @@ fn eight(text: &[u8]) -> Option<u64>
     Some(first.wrapping_add(second) >> 32)
 }
 
-// The number with the next four bytes at its end, none where one of them is no digit. A byte is a digit as in `eight`.
+/// The number with the next four bytes at its end, none where one of them is no digit. A byte is a digit as in `eight`.
 #[inline(always)]
-fn with_four(text: &[u8], read: usize, number: u64) -> Option<u64>
+pub fn with_four(text: &[u8], read: usize, number: u64) -> Option<u64>
     requires front { IsFront text.now read number }
     requires room { read + 4 ≤ length text.now }
     requires few { read ≤ 15 }
@@ -39,35 +39,4 @@ fn with_four(text: &[u8], read: usize, number: u64) -> Option<u64>
     let pairs = digits.wrapping_mul(10).wrapping_add(digits >> 8);
     let four = pairs % 256 * 100 + (pairs >> 16) % 256;
     Some(number * 10_000 + u64::from(four))
-}
-
-// The first eight digits, where there are as many, and how many bytes were read.
-#[inline(always)]
-fn first_eight(text: &[u8]) -> (u64, usize)
-    ensures front { IsFront text.now result.1 result.0 }
-    ensures read { result.1 ≤ 8 }
-    ensures within { result.1 ≤ length text.now }
-{
-    if text.len() >= 8 {
-        if let Some(number) = eight(text) {
-            return (number, 8);
-        }
-    }
-    (0, 0)
-}
-
-/// The number of the first digits of a text, twelve of them at most, and how many were read.
-#[inline(always)]
-pub fn front_digits(text: &[u8]) -> (u64, usize)
-    ensures front { IsFront text.now result.1 result.0 }
-    ensures read { result.1 ≤ 12 }
-    ensures within { result.1 ≤ length text.now }
-{
-    let (number, read) = first_eight(text);
-    if text.len() - read >= 4 {
-        if let Some(number) = with_four(text, read, number) {
-            return (number, read + 4);
-        }
-    }
-    (number, read)
 }

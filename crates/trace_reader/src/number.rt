@@ -3,11 +3,12 @@
 ghost use Rattle.std.specs.Prelude.{◌≡◌, ◌+◌, ◌*◌, ◌^◌, ◌==◌, ◌<◌, ◌≤◌, ◌∷◌, [], drop, length};
 ghost use Rattle.std.specs.Prelude.{take, IfNone, IfSome, MatchOption, Some};
 ghost use Rattle.std.specs.List.{slice_split};
+ghost use Rattle.trace_reader.specs.Blocks.{IsFront};
 ghost use Rattle.trace_reader.specs.Numbers as Numbers;
 ghost use Rattle.trace_reader.specs.Numbers.{decimal_word, is_dot, number_in, octet_word, quad_word, without_blanks};
 ghost use Rattle.trace_reader.specs.Numbers.{without_first_blanks, without_last_blanks, word_of};
 
-use crate::blocks::front_digits;
+use crate::blocks::{eight, with_four};
 use marple_base::Field;
 
 fn is_blank(byte: u8) -> bool
@@ -60,14 +61,15 @@ fn with_digit(number: u64, digit: u64) -> Option<u64>
     number.checked_mul(10)?.checked_add(digit)
 }
 
-// A number of 1 to 19 digits, which always fits.
+// A number of 1 to 19 digits, which always fits, of which the first were read.
 #[inline(always)]
-fn digits(text: &[u8]) -> Option<u64>
+fn rest_of_digits(text: &[u8], read: usize, front: u64) -> Option<u64>
+    requires front { IsFront text.now read front }
+    requires within { read ≤ length text.now }
     requires some { 0 < length text.now }
     requires few { length text.now ≤ 19 }
     ensures { result ≡ number_in 19 (10 ^ 19) text.now }
 {
-    let (front, read) = front_digits(text);
     let mut number = front;
     for i in read..text.len() {
         let byte = text[i];
@@ -77,6 +79,39 @@ fn digits(text: &[u8]) -> Option<u64>
         number = number * 10 + u64::from(byte - b'0');
     }
     Some(number)
+}
+
+// The same, digit by digit.
+#[inline(never)]
+fn digit_by_digit(text: &[u8]) -> Option<u64>
+    requires some { 0 < length text.now }
+    requires few { length text.now ≤ 19 }
+    ensures { result ≡ number_in 19 (10 ^ 19) text.now }
+{
+    rest_of_digits(text, 0, 0)
+}
+
+// The same, with the first eight or four digits read at once. Each case has a separate loop, which is shorter than one loop
+// for all of them.
+#[inline(always)]
+fn digits(text: &[u8]) -> Option<u64>
+    requires some { 0 < length text.now }
+    requires few { length text.now ≤ 19 }
+    ensures { result ≡ number_in 19 (10 ^ 19) text.now }
+{
+    if text.len() >= 8 {
+        return match eight(text) {
+            Some(front) => rest_of_digits(text, 8, front),
+            None => digit_by_digit(text),
+        };
+    }
+    if text.len() >= 4 {
+        return match with_four(text, 0, 0) {
+            Some(front) => rest_of_digits(text, 4, front),
+            None => digit_by_digit(text),
+        };
+    }
+    rest_of_digits(text, 0, 0)
 }
 
 // A number of 1 to 20 digits. Only the last of 20 can pass the most that fits.

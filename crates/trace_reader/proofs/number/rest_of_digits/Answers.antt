@@ -3,7 +3,7 @@ use Rattle.std.specs.Char.{is_ascii_digit}
 use Rattle.std.proofs.lemmas.List.{length-take-le, take_all}
 use Rattle.std.proofs.lemmas.Bool.Decides.{nat_tests}
 use Rattle.trace_reader.proofs.NumberFacts.{digits_below, digits_value_digit, list_all_digit, number_some}
-use Rattle.trace_reader.proofs.number.digits.Goals as goal
+use Rattle.trace_reader.proofs.number.rest_of_digits.Goals as goal
 
 pub overflow_mul-number : goal.overflow_mul-number
 overflow_mul-number c =
