@@ -53,8 +53,7 @@ impl Rows {
         self.words.reserve(words)
     }
 
-    /// Adds a row at the end. On an error the rows are unchanged: out of memory, a key of more than 255 words, more than
-    /// 65,535 values, or 2^32 words of rows before it.
+    /// Adds a row at the end. On an error the rows are unchanged.
     pub fn push(
         &mut self,
         key: &[u64],
@@ -73,17 +72,14 @@ impl Rows {
         ensures err { OnErr result (self.new ≡ self.old) }
     {
         let start = self.words.len();
-        if start > 0xFFFF_FFFF || key.len() > 0xFF || values.len() > 0xFFFF {
-            return Err(AllocError);
-        }
         self.words.extend_from_slice(key)?;
         self.words.extend_from_slice(values)?;
         self.spans.push(Span {
+            start,
+            key_words: key.len(),
+            value_words: values.len(),
             epoch,
             epochs,
-            start: start as u32,
-            value_words: values.len() as u16,
-            key_words: key.len() as u8,
             mark,
         })?;
         Ok(())

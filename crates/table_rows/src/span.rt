@@ -8,18 +8,15 @@ use crate::lent::RowRef;
 use epoch_model::Mark;
 
 /// A row without its words. They begin at `start`: `key_words` words of the key, and then `value_words` of the values.
-/// A table has a span for each row, so each number has no more bits than it needs.
 #[derive(Clone, Copy)]
 pub struct Span {
+    pub start: usize,
+    pub key_words: usize,
+    pub value_words: usize,
     pub epoch: u64,
     pub epochs: u64,
-    pub start: u32,
-    pub value_words: u16,
-    pub key_words: u8,
     pub mark: Mark,
 }
-
-const _: () = prove!(size_of::<Span>() == 24);
 
 /// At most `count` of the words from `start` on, and fewer only where the words end earlier.
 pub fn part(words: &[u64], start: usize, count: usize) -> &[u64]
@@ -38,7 +35,7 @@ pub fn part(words: &[u64], start: usize, count: usize) -> &[u64]
 pub fn key_in<'a>(words: &'a [u64], span: &Span) -> &'a [u64]
     ensures { result.now ≡ key_in words.now span.now }
 {
-    part(words, span.start as usize, span.key_words as usize)
+    part(words, span.start, span.key_words)
 }
 
 /// The words of a span's values.
@@ -46,8 +43,8 @@ pub fn values_in<'a>(words: &'a [u64], span: &Span) -> &'a [u64]
     requires { EndsWithin words.now span.now }
     ensures { result.now ≡ values_in words.now span.now }
 {
-    let start = span.start as usize + span.key_words as usize;
-    &words[start..start + span.value_words as usize]
+    let start = span.start + span.key_words;
+    &words[start..start + span.value_words]
 }
 
 /// The words of a span: those of its key, and then those of its values.
@@ -55,8 +52,8 @@ pub fn columns_in<'a>(words: &'a [u64], span: &Span) -> &'a [u64]
     requires { EndsWithin words.now span.now }
     ensures { result.now ≡ take (span.now.key_words + span.now.value_words) (drop span.now.start words.now) }
 {
-    let start = span.start as usize;
-    &words[start..start + span.key_words as usize + span.value_words as usize]
+    let end = span.start + span.key_words + span.value_words;
+    &words[span.start..end]
 }
 
 /// The row of a span, lent.
@@ -66,7 +63,7 @@ pub fn row_in<'a>(words: &'a [u64], span: &Span) -> RowRef<'a>
     ensures { row_of result ≡ row_in words.now span.now }
 {
     let columns = columns_in(words, span);
-    let (key, values) = columns.split_at(span.key_words as usize);
+    let (key, values) = columns.split_at(span.key_words);
     RowRef {
         key,
         mark: span.mark,
