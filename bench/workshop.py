@@ -78,7 +78,7 @@ def copied_program(shop: Workshop) -> tuple[str, list[str]]:
 
 
 def proved_program(shop: Workshop) -> str:
-    """Proves and builds the bench's folder `program`, with the crates below it where ./build left none, as ./build does.
+    """Proves and builds the bench's folder `program` as ./build does, and the crates below it that it needs.
 
     Gives the program's path.
     """
@@ -91,7 +91,8 @@ def proved_program(shop: Workshop) -> str:
         progress = Progress(sys.stderr)
         held = lock(order, progress)
         try:
-            Proving(order, read_costs(TOP / "bench/build/crates.csv", order), Toolchain(), machine(None), progress).run()
+            costs = read_costs(TOP / "bench/build/crates.csv", order)
+            Proving(order, costs, Toolchain(), machine(None), progress).run()
         finally:
             for it in held:
                 os.close(it)

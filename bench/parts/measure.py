@@ -8,7 +8,6 @@ times. ROOM/cases.json then has the figures as bench/all takes them.
 import filecmp
 import json
 import os
-import re
 import resource
 import shutil
 import subprocess
@@ -27,7 +26,6 @@ from marple.parts.splitting import Splitting, write_piece
 ALL = "1-14"
 COLUMNS = "4,9,10,11"  # those that the query reads
 MILLION = 1_000_000
-QUOTED = re.compile(rb"[^,\n]+")
 STAGES = ("look", "split", "run", "join")
 FASTER, SLOWER = 3.0, 2.0  # the goals: 4 workers beside one, and splitting beside running
 
@@ -132,7 +130,7 @@ def quoted(trace: Path, room: Path) -> Path:
     with open(trace, "rb") as given, open(path, "wb") as file:
         file.write(given.readline())
         for line in given:
-            file.write(QUOTED.sub(rb'"\g<0>"', line))
+            file.write(b'"%s"\n' % line.rstrip(b"\n").replace(b",", b'","'))
     return path
 
 
@@ -305,8 +303,8 @@ def on_paper(record: float, rate: float, workers: int) -> list[str]:
         f"On paper, for a day of a link of 100 Gbit/s with packets of 1,000 bytes: {second / 1e6:.1f} million packets "
         f"a second, {day / 1e12:.2f} trillion a day, {day * record / 1e12:.0f} TB of records of {record:.0f} bytes. "
         f"At {rate / workers:,.0f} packets a second for each of {workers} workers that is "
-        f"{second / rate * workers:,.0f} days of one worker, so as many workers would keep pace if they didn't slow one "
-        "another down, which wasn't measured."
+        f"{second / rate * workers:,.0f} days of one worker, so as many workers would keep pace if they didn't slow "
+        "one another down, which wasn't measured."
     )
     return textwrap.wrap(text, 119, break_on_hyphens=False)
 

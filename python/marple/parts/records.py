@@ -138,7 +138,7 @@ def _whole_records(lines: list[bytes], columns: Sequence[int]) -> tuple[list[byt
     on.
     """
     csv.field_size_limit(2**31 - 1)
-    last = "," * max(columns) + "\n"  # after the lines: a record, or what the one that goes on has next
+    last = "," * (max(columns) + 1) + "\n"  # after the lines: a record, or what the one that goes on has next
     try:
         picked = list(map(itemgetter(*columns), csv.reader(chain(_texts(lines), [last]))))
     except IndexError:  # an empty line, or a record with fewer fields
