@@ -6,6 +6,7 @@ use Rattle.std.specs.Io.KnownBytes.{Appends}
 use Rattle.marple_base.specs.Faults.{Rose}
 use Rattle.marple_base.specs.Inputs.{Input}
 use Rattle.marple_base.specs.Sink.{TakesFront}
+use Rattle.marple_base.specs.declared.field.FieldSet.{FieldSet}
 use Rattle.marple_base.specs.declared.inputs.Which.{Which}
 use Rattle.marple_base.specs.declared.inputs.Which.TheVariants.{Query, Trace}
 use Rattle.query_lang.specs.declared.fault.QueryFault.{QueryFault}
@@ -13,15 +14,17 @@ use Rattle.query_lang.specs.declared.typed.TypedQuery.{TypedQuery}
 use Rattle.stage_plan.specs.Fields.{reads_of}
 use Rattle.stage_plan.specs.Planned.{IsPlanOf}
 use Rattle.stage_plan.specs.Shape.{query_shape, plan_text_of}
+use Rattle.stage_plan.specs.Sound.{PlanParts}
 use Rattle.trace_reader.specs.Traces as traces
 use Rattle.trace_reader.specs.declared.fault.TraceFault.{TraceFault}
-use Rattle.trace_drive.specs.Drives.{words_of}
+use Rattle.trace_drive.specs.Drives.{end_machines, words_of}
 use Rattle.query_run.specs.Answers.{text_unless}
 use Rattle.query_run.specs.Views.{views_text}
 use Rattle.query_run.specs.declared.answer.RunAnswer.{RunAnswer}
 use Rattle.query_run.specs.declared.answer.RunAnswer.TheVariants as breaks
-use Rattle.query_run.specs.Runs.{query_ends}
-use Rattle.switch_core.specs.PlanLanes.{PipelineStands}
+use Rattle.query_run.specs.Runs.{AreWhole, query_ends}
+use Rattle.query_tables.specs.Tables.{query_text}
+use Rattle.switch_core.specs.PlanLanes.{PipelineStands, PipelineView}
 use Rattle.queue_sim.specs.TraceText.{trace_text}
 use Rattle.accepted_query.specs.Accepted.{accepted, query_fault, fault_in}
 use Rattle.command_line.specs.Command.{ways_number}
@@ -30,9 +33,11 @@ use Rattle.command_line.specs.declared.command.Command.TheVariants.{Run, Plan, G
 use Rattle.command_line.specs.declared.command.Generation.{Generation}
 use Rattle.command_line.specs.declared.setting.Setting.{Setting}
 use Rattle.command_line.specs.declared.setting.Ways.{Ways}
-use Rattle.driven_query.specs.Driven.{IsLeftBy, geometry_of, pipeline_in}
-use Rattle.driven_query.specs.declared.driven.Driven.{Driven}
+use Rattle.query_run.specs.Driven.{IsLeftBy, geometry_of, pipeline_in}
+use Rattle.query_run.specs.declared.driven.Driven.{Driven}
 use Rattle.query_run.proofs.Breaking.{nothing_taken}
+use Rattle.query_run.proofs.QueryEnds.{machines_are}
+use Rattle.query_run.proofs.WholePackets.{read_whole}
 use Rattle.marple_cli.specs.Call.{ToldOf}
 use Rattle.marple_cli.specs.Driven.{DrivenAfter, Leaves, StandsForEnd}
 use Rattle.marple_cli.specs.Ends.{Ends, IsReadFrom, OperandEnds, PlanEnds, QueryEnds, QueryTold, ReadEnds, TraceEnds, WriteEnds, status_for, status_of}
@@ -192,26 +197,35 @@ module _ {O : Type 0} (taken : O → Option (List ℕ)) (faults : O → ℕ) (co
           → Ends taken faults command before after old new (status_of result)
       trace_ends_it result status is ended = subst (Ends taken faults command before after old new) (sym (status_is result status is)) (by_trace status ended)
 
+-- the pipeline of a query's plan, which represents the machines of the plan at the end, represents those of the query
+pub query_stands : (setting : Setting) (found : TypedQuery) (plan : PlanParts) → IsPlanOf found plan → (p : PipelineView) → p.plan ≡ plan → (packets : List (List ℕ)) → AreWhole packets
+    → PipelineStands p (end_machines plan (geometry_of setting) packets) → IsPlanOf found p.plan × PipelineStands p (query_ends found (geometry_of setting) packets)
+query_stands setting found plan of_query p same packets whole stands =
+    (subst (IsPlanOf found) (sym same) of_query, subst (PipelineStands p) (machines_are found plan (geometry_of setting) packets of_query whole) stands)
+
 -- a run whose query was accepted
 module _ (setting : Setting) (every : ℕ) (before : Which → Input) (found : TypedQuery) (known : IfSome (before Query).left (λ query. accepted query ≡ Ok found)) where
   read : ToldOf (Run setting every) before (λ query trace. accepted query.text ≡ Ok found)
   read query trace holds = told (λ text. accepted text ≡ Ok found) (before Query).left query.text known (holds.of_query refl)
 
-  pub run_is : ToldOf (Run setting every) before (λ query trace. (trace_refusal (Run setting every) query trace ≡ traces.trace_fault trace (reads_of found))
-      × (output (Run setting every) query trace ≡ views_text found (geometry_of setting) every (words_of (traces.packets trace (reads_of found)))))
-  run_is query trace holds = (
-    ap (λ one. fault_for one trace) (read query trace holds),
-    ap (λ one. run_text setting every one (read_packets trace)) (read query trace holds),
+  pub run_is : (reads : FieldSet) → reads ≡ reads_of found → ToldOf (Run setting every) before (λ query trace. (trace_refusal (Run setting every) query trace ≡ traces.trace_fault trace reads)
+      × (output (Run setting every) query trace ≡ views_text (query_text found (geometry_of setting)) every (words_of (traces.packets trace reads))))
+  run_is reads same query trace holds = (
+    ap (λ one. fault_for one trace) (read query trace holds) ∙ ap (traces.trace_fault trace) (sym same),
+    ap (λ one. run_text setting every one (read_packets trace)) (read query trace holds)
+        ∙ ap (λ reads. views_text (query_text found (geometry_of setting)) every (words_of (traces.packets trace reads))) (sym same),
   )
 
-  pub run_leaves : (old : Option Driven) (driven : Driven) → IsLeftBy setting driven → IsPlanOf found (pipeline_in driven).plan
-      → IfSome (before Trace).left (λ trace. PipelineStands (pipeline_in driven) (query_ends found (geometry_of setting) (words_of (traces.packets trace (reads_of found)))))
+  pub run_leaves : (plan : PlanParts) → IsPlanOf found plan → (old : Option Driven) (driven : Driven) → IsLeftBy setting driven → (pipeline_in driven).plan ≡ plan
+      → IfSome (before Trace).left (λ trace. PipelineStands (pipeline_in driven) (end_machines plan (geometry_of setting) (words_of (traces.packets trace plan.reads))))
       → Leaves (Run setting every) before old (Some driven)
-  run_leaves old driven left plan stands = (
+  run_leaves plan of_query old driven left same stands = (
     left,
     λ query trace holds.
         subst (λ one. StandsForEnd setting one (read_packets trace) (pipeline_in driven)) (sym (read query trace holds))
-        (plan, told (λ trace. PipelineStands (pipeline_in driven) (query_ends found (geometry_of setting) (words_of (traces.packets trace (reads_of found))))) (before Trace).left trace stands (holds.of_trace refl)),
+        (query_stands setting found plan of_query (pipeline_in driven) same (words_of (traces.packets trace (reads_of found))) (read_whole trace (reads_of found))
+        (subst (λ reads. PipelineStands (pipeline_in driven) (end_machines plan (geometry_of setting) (words_of (traces.packets trace reads)))) of_query.reads
+        (told (λ trace. PipelineStands (pipeline_in driven) (end_machines plan (geometry_of setting) (words_of (traces.packets trace plan.reads)))) (before Trace).left trace stands (holds.of_trace refl)))),
   )
 
 -- a plan whose query was accepted
@@ -264,6 +278,9 @@ operand_not_ok Refuses before after status ended is = subst (OperandEnds Refuses
 
 pub query_not_ok : (fault : List ℕ → Option QueryFault) (before after : Input) (status : Status) → QueryEnds fault before after status → status ≡ statuses.Ok → ⊥
 query_not_ok fault before after status ended is = operand_not_ok (λ query found. fault query ≡ Some found) before after status ended is
+
+pub memory_not_ok : statuses.Memory ≡ statuses.Ok → ⊥
+memory_not_ok is = cc
 
 pub answer_not_ok : (answer : RunAnswer) → status_for answer ≡ statuses.Ok → ⊥
 answer_not_ok (breaks.Refused fault) is = cc

@@ -16,8 +16,10 @@ use Rattle.trace_reader.specs.Traces.{Contents, contents, packets}
 use Rattle.trace_reader.specs.Traces as traces
 use Rattle.command_line.specs.declared.command.Command.TheVariants.{RunPlan}
 use Rattle.command_line.specs.declared.setting.Setting.{Setting}
-use Rattle.driven_query.specs.Driven.{IsLeftBy, geometry_of, pipeline_in}
-use Rattle.driven_query.specs.declared.driven.Driven.{Driven}
+use Rattle.query_run.specs.Driven.{IsLeftBy, geometry_of, pipeline_in}
+use Rattle.query_run.specs.Views.{views_text}
+use Rattle.query_run.proofs.ViewTexts.{tables_alone}
+use Rattle.query_run.specs.declared.driven.Driven.{Driven}
 use Rattle.plan_file.specs.Texts.{IsBadAt, IsRefused, Says}
 use Rattle.plan_file.specs.declared.answer.PlanFileAnswer.{PlanFileAnswer}
 use Rattle.plan_file.specs.declared.answer.PlanFileAnswer.TheVariants.{Refused}
@@ -105,12 +107,14 @@ module _ (setting : Setting) (before : Which → Input) (loaded : LoadedPlan) (i
   plan_accepted query has left read = ap (fault_behind (λ (made : Made). None)) (says query left read)
 
   pub plan_is : ToldOf (RunPlan setting) before (λ query trace. (trace_refusal (RunPlan setting) query trace ≡ (contents trace loaded.plan.reads).fault)
-      × (output (RunPlan setting) query trace ≡ plan_output is.made (geometry_of setting) (words_of (contents trace loaded.plan.reads).packets)))
+      × (output (RunPlan setting) query trace ≡ views_text (plan_output is.made (geometry_of setting)) 0 (words_of (contents trace loaded.plan.reads).packets)))
   plan_is query trace holds =
       let plan = says query (holds.of_query refl) holds.read in
       let reads = sym is.from.plan.reads in (
         ap (of_accepted None (λ made. traces.trace_fault trace (reads_in made))) plan ∙ ap (traces.trace_fault trace) reads,
-        ap (of_accepted [] (plan_tables_text setting trace)) plan ∙ ap (λ fields. plan_output is.made (geometry_of setting) (words_of (packets trace fields))) reads,
+        ap (of_accepted [] (plan_tables_text setting trace)) plan
+            ∙ ap (λ fields. plan_output is.made (geometry_of setting) (words_of (packets trace fields))) reads
+            ∙ sym (tables_alone (plan_output is.made (geometry_of setting)) (words_of (packets trace loaded.plan.reads))),
       )
 
   pub plan_leaves : (old : Option Driven) (driven : Driven) → IsLeftBy setting driven → (pipeline_in driven).plan ≡ loaded.plan

@@ -1,15 +1,20 @@
 -- What a call of `marple` is about, and what each of its answers says.
-use Rattle.std.specs.Prelude.{◌≡◌, ℕ, true, List, Option, None, Some, ⊤}
+use Rattle.std.specs.Prelude.{◌≡◌, ℕ, true, List, Option, None, Some, String, map, string_bytes, ⊤}
 use Rattle.std.specs.Io.KnownBytes.{Appends}
 use Rattle.marple_base.specs.Faults.{Rose}
 use Rattle.marple_base.specs.Inputs.{Input}
 use Rattle.marple_base.specs.Sink.{TakesFront}
 use Rattle.marple_base.specs.declared.inputs.Which.{Which}
 use Rattle.marple_base.specs.declared.inputs.Which.TheVariants.{Query, Trace}
+use Rattle.command_line.specs.Command.{asked}
 use Rattle.command_line.specs.declared.command.Command.{Command}
 use Rattle.marple_cli.specs.Output.{IsAccepted, IsRead, Source, output, takes}
 use Rattle.marple_cli.specs.declared.status.Status.{Status}
 use Rattle.marple_cli.specs.declared.status.Status.TheVariants as statuses
+
+-- the command that the words of a command line ask for
+abbrev pub asked_by : {A : Type 0} → List (String A) → Option Command
+asked_by words = asked (map string_bytes words)
 
 -- The command is asked for, and this input is one of its operands.
 abbrev pub Takes : Option Command → Which → Type 0

@@ -17,8 +17,8 @@ use Rattle.accepted_query.specs.Accepted.{accepted}
 use Rattle.command_line.specs.declared.command.Command.{Command}
 use Rattle.command_line.specs.declared.command.Command.TheVariants.{Run, RunPlan, Trial}
 use Rattle.command_line.specs.declared.setting.Setting.{Setting}
-use Rattle.driven_query.specs.Driven.{IsLeftBy, geometry_of, pipeline_in}
-use Rattle.driven_query.specs.declared.driven.Driven.{Driven}
+use Rattle.query_run.specs.Driven.{IsLeftBy, geometry_of, pipeline_in}
+use Rattle.query_run.specs.declared.driven.Driven.{Driven}
 use Rattle.marple_cli.specs.declared.status.Status.{Status}
 use Rattle.marple_cli.specs.declared.status.Status.TheVariants as statuses
 use Rattle.marple_cli.specs.Call.{ToldOf}

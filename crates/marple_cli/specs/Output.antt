@@ -24,7 +24,7 @@ use Rattle.command_line.specs.declared.command.Generation.{Generation}
 use Rattle.command_line.specs.declared.setting.NetSetting.{NetSetting}
 use Rattle.command_line.specs.declared.setting.Setting.{Setting}
 use Rattle.command_line.specs.declared.setting.Ways.{Ways}
-use Rattle.driven_query.specs.Driven.{geometry_of}
+use Rattle.query_run.specs.Driven.{geometry_of}
 use Rattle.net_wide.specs.Combining.{net_fault}
 use Rattle.net_wide.specs.NetTables.{net_text}
 use Rattle.driven_net.specs.NetTraces.{net_packets, net_trace_fault}
@@ -116,7 +116,7 @@ pub record IsAccepted (command : Command) (query : Source) (trace : List ℕ) : 
 
 -- what a run of a query over these packets writes, with a view after every N of them
 abbrev pub run_text : Setting → ℕ → Checked TypedQuery → (TypedQuery → List Packet) → List ℕ
-run_text setting every (Ok q) packets = views_text q (geometry_of setting) every (words_of (packets q))
+run_text setting every (Ok q) packets = views_text (query_text q (geometry_of setting)) every (words_of (packets q))
 run_text setting every (Err fault) packets = []
 
 -- what a query prints over these packets

@@ -5,9 +5,10 @@ ghost use Rattle.query_lang.specs.TypedQueries.{IsValidQuery};
 ghost use Rattle.stage_plan.specs.Planned.{IsPlanOf};
 ghost use Rattle.accepted_query.specs.Accepted.{accepted};
 ghost use Rattle.net_wide.specs.Combining.{net_fault};
+ghost use Rattle.net_wide.specs.NetLaws.{TellsSwitches};
 ghost use Rattle.enclosure_folds.specs.Check.{enclose_fault};
 ghost use Rattle.plan_writer.specs.PlanText.{final_fault};
-ghost use Rattle.marple_cli.specs.Ends.{IsOfText, QueryEnds};
+ghost use Rattle.marple_cli.specs.Ends.{QueryEnds};
 ghost use Rattle.marple_cli.specs.Output.{fault_with};
 
 use crate::operands::read_query;
@@ -15,6 +16,7 @@ use crate::status::Status;
 use accepted_query::AcceptedQuery;
 use enclosure_folds::enclose_check;
 use marple_base::{Inputs, Which};
+use net_order::accepted_tell_switches;
 use net_wide::net_check;
 use plan_writer::final_in_plan;
 use std::alloc::Global;
@@ -24,13 +26,14 @@ pub fn query_for_net<I: Inputs>(alloc: Global, inputs: &mut I) -> Result<Accepte
     requires { IsClosed (I.input inputs.old Which.Query) }
     ensures ok { IfOk result (λ found. IfSome (I.input inputs.old Which.Query).left (λ query. accepted query ≡ Ok found.typed)) }
     ensures combines { IfOk result (λ found. net_fault found.typed ≡ None) }
-    ensures some_text { IfOk result (λ found. IsOfText found.typed) }
+    ensures tells { IfOk result (λ found. TellsSwitches found.typed) }
     ensures valid { IfOk result (λ found. IsValidQuery found.typed) }
     ensures plan { IfOk result (λ found. IsPlanOf found.typed found.plan) }
     ensures err { IfErr result (QueryEnds (fault_with net_fault) (I.input inputs.old Which.Query) (I.input inputs.new Which.Query)) }
     ensures later { (I.input inputs.old Which.Query).faults ≤ (I.input inputs.new Which.Query).faults }
     ensures trace_kept { I.input inputs.new Which.Trace ≡ I.input inputs.old Which.Trace }
 {
+    accepted_tell_switches();
     let query = read_query(alloc, inputs)?;
     match net_check(&query.typed) {
         Some(fault) => Err(Status::QueryRefused(fault)),

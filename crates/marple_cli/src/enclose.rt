@@ -7,9 +7,10 @@ ghost use Rattle.marple_cli.specs.Ends.{Ends, status_of};
 use crate::checked::query_for_bounds;
 use crate::operands::read_trace;
 use crate::status::Status;
+use accepted_query::AcceptedQuery;
 use command_line::{Command, Setting};
-use driven_enclosure::enclose_over_trace;
 use marple_base::{Inputs, Sink, Steps, Which};
+use query_run::{QueryBounds, run_over_trace};
 use std::alloc::Global;
 use std::sync::ledger::Ledger;
 
@@ -33,6 +34,17 @@ pub fn enclose<I: Inputs, O: Sink, L: Ledger>(
 {
     let query = query_for_bounds(alloc, inputs)?;
     let bytes = read_trace(alloc, inputs)?;
-    let _driven = enclose_over_trace(alloc, setting, query, bytes.as_slice(), out, steps)?;
+    let AcceptedQuery { typed, plan } = query;
+    let report = QueryBounds::of(typed);
+    let _left = run_over_trace(
+        alloc,
+        setting,
+        0,
+        &report,
+        plan,
+        bytes.as_slice(),
+        out,
+        steps,
+    )?;
     Ok(())
 }

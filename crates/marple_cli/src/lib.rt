@@ -7,14 +7,15 @@ mod complaint;
 mod enclose;
 mod generate;
 mod operands;
-mod packets;
+mod perform;
 mod run;
 mod run_plan;
 mod staging;
 mod status;
 mod switches;
 mod top;
+mod trial;
 
-pub use driven_query::Driven;
+pub use query_run::Driven;
 pub use status::Status;
 pub use top::marple;

@@ -4,14 +4,15 @@ ghost use Rattle.marple_base.specs.Inputs.{IsClosed};
 ghost use Rattle.query_lang.specs.TypedQueries.{IsValidQuery};
 ghost use Rattle.stage_plan.specs.Planned.{IsPlanOf};
 ghost use Rattle.accepted_query.specs.Accepted.{accepted, query_fault};
+ghost use Rattle.accepted_query.specs.TrialQuery.{trial_query};
 ghost use Rattle.marple_cli.specs.Ends.{IsOfText, IsReadFrom, PlanEnds, QueryEnds, ReadEnds};
 
 use crate::status::Status;
-use accepted_query::{AcceptedQuery, QueryAnswer, accept};
+use accepted_query::{AcceptedQuery, QueryAnswer, accept, trial_is_accepted, trial_query};
 use marple_base::{Inputs, ReadAnswer, Text, Which, read_input};
 use plan_file::PlanFileAnswer;
 use plan_loader::{LoadedPlan, read_plan};
-use std::alloc::Global;
+use std::alloc::{AllocError, Global};
 
 /// The most bytes of a query.
 pub const MAX_QUERY: usize = 65_536;
@@ -42,6 +43,20 @@ pub fn read_query<I: Inputs>(alloc: Global, inputs: &mut I) -> Result<AcceptedQu
         Ok(query) => Ok(query),
         Err(QueryAnswer::Refused(fault)) => Err(Status::QueryRefused(fault)),
         Err(QueryAnswer::Memory) => Err(Status::Memory),
+    }
+}
+
+/// The trial's query with its plan.
+pub fn accept_trial(alloc: Global) -> Result<AcceptedQuery, AllocError>
+    ensures ok { IfOk result (λ found. accepted trial_query ≡ Ok found.typed) }
+    ensures valid { IfOk result (λ found. IsValidQuery found.typed) }
+    ensures plan { IfOk result (λ found. IsPlanOf found.typed found.plan) }
+{
+    trial_is_accepted();
+    match accept(alloc, trial_query()) {
+        Ok(query) => Ok(query),
+        Err(QueryAnswer::Refused(_fault)) => unreachable!(),
+        Err(QueryAnswer::Memory) => Err(AllocError),
     }
 }
 

@@ -8,9 +8,9 @@ ghost use Rattle.marple_cli.specs.Ends.{Ends, status_of};
 use crate::operands::{read_plan_text, read_trace};
 use crate::status::Status;
 use command_line::{Command, Setting};
-use driven_plan::run_plan_over_trace;
-use driven_query::Driven;
 use marple_base::{Inputs, Sink, Steps, Which};
+use plan_loader::LoadedPlan;
+use query_run::{Driven, PlanTables, run_over_trace};
 use std::alloc::Global;
 use std::sync::ledger::Ledger;
 
@@ -36,7 +36,18 @@ pub fn run_plan<I: Inputs, O: Sink, L: Ledger>(
 {
     let loaded = read_plan_text(alloc, inputs)?;
     let bytes = read_trace(alloc, inputs)?;
-    let left = run_plan_over_trace(alloc, setting, loaded, bytes.as_slice(), out, steps)?;
+    let LoadedPlan { plan, prints } = loaded;
+    let report = PlanTables::of(prints);
+    let left = run_over_trace(
+        alloc,
+        setting,
+        0,
+        &report,
+        plan,
+        bytes.as_slice(),
+        out,
+        steps,
+    )?;
     *driven = Some(left);
     Ok(())
 }

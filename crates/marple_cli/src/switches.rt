@@ -10,7 +10,6 @@ use crate::status::Status;
 use command_line::{Command, NetSetting};
 use driven_net::net_over_trace;
 use marple_base::{Inputs, Sink, Steps, Which};
-use net_order::accepted_tell_switches;
 use std::alloc::Global;
 use std::sync::ledger::Ledger;
 
@@ -32,7 +31,6 @@ pub fn run_network<I: Inputs, O: Sink, L: Ledger>(
     ensures out_later { O.faults out.old ≤ O.faults out.new }
     ensures steps { steps.old ≤ steps.new }
 {
-    accepted_tell_switches();
     let query = query_for_net(alloc, inputs)?;
     let bytes = read_trace(alloc, inputs)?;
     net_over_trace(alloc, setting, query, bytes.as_slice(), out, steps)?;

@@ -1,26 +1,26 @@
 //! The top call: all that the program does, over any inputs and sinks.
-ghost use Rattle.std.specs.Prelude.{◌≡◌, ◌≤◌, ◌↔◌, ◌⊎◌, map, string_bytes, None, Some};
+ghost use Rattle.std.specs.Prelude.{◌≡◌, ◌≤◌, ◌↔◌, ◌⊎◌, None, Some};
 ghost use Rattle.std.specs.Io.KnownBytes.{Appends};
 ghost use Rattle.marple_base.specs.Faults.{Rose};
 ghost use Rattle.marple_base.specs.Inputs.{IsClosed};
 ghost use Rattle.marple_base.specs.Sink.{TakesFront};
-ghost use Rattle.command_line.specs.Command.{asked};
-ghost use Rattle.marple_cli.specs.Call.{Takes, WhereTold, WhereQueryTold, WritesOutput, WritesFront, IsQuiet, IsBeforeOutput};
-ghost use Rattle.marple_cli.specs.Call.{IsBeforeTrace};
+ghost use Rattle.marple_cli.specs.Call.{IsBeforeOutput, IsBeforeTrace, IsQuiet, Takes, WhereQueryTold, WhereTold, WritesFront};
+ghost use Rattle.marple_cli.specs.Call.{WritesOutput, asked_by};
 ghost use Rattle.marple_cli.specs.Complaint.{complaint};
 ghost use Rattle.marple_cli.specs.Driven.{DrivenAfter};
 ghost use Rattle.marple_cli.specs.Ends.{Answers};
 ghost use Rattle.marple_cli.specs.Output.{IsAccepted, refusal, trace_refusal, defined_text};
 
 use crate::complaint::complain;
-use crate::run::perform;
+use crate::perform::perform;
 use crate::status::Status;
 use command_line::command_of;
-use driven_query::Driven;
 use marple_base::{Inputs, Sink, Steps, Which};
+use query_run::Driven;
 use std::alloc::Global;
 use std::sync::ledger::Ledger;
 
+// Finds the command that the words ask for, or none, and performs it.
 fn answer<I: Inputs, O: Sink, L: Ledger>(
     alloc: Global,
     words: &[String],
@@ -32,8 +32,8 @@ fn answer<I: Inputs, O: Sink, L: Ledger>(
     requires query_closed { IsClosed (I.input inputs.old Which.Query) }
     requires trace_closed { IsClosed (I.input inputs.old Which.Trace) }
     ensures answers { Answers O.taken O.faults (I.input inputs.old) (I.input inputs.new) out.old out.new
-        (asked (map string_bytes words.now)) result }
-    ensures driven { DrivenAfter (asked (map string_bytes words.now)) (I.input inputs.old) driven.old driven.new result }
+        (asked_by words.now) result }
+    ensures driven { DrivenAfter (asked_by words.now) (I.input inputs.old) driven.old driven.new result }
     ensures query_later { (I.input inputs.old Which.Query).faults ≤ (I.input inputs.new Which.Query).faults }
     ensures trace_later { (I.input inputs.old Which.Trace).faults ≤ (I.input inputs.new Which.Trace).faults }
     ensures out_later { O.faults out.old ≤ O.faults out.new }
@@ -63,54 +63,54 @@ pub fn marple<I: Inputs, O: Sink, E: Sink, L: Ledger>(
     requires trace_closed { IsClosed (I.input inputs.old Which.Trace) }
 
     // The words.
-    ensures usage { (result ≡ Status.Usage) ↔ (asked (map string_bytes words.now) ≡ None) }
+    ensures usage { (result ≡ Status.Usage) ↔ (asked_by words.now ≡ None) }
 
     // Success.
     ensures ok { result ≡ Status.Ok
-        → WhereTold (asked (map string_bytes words.now)) (I.input inputs.old) (WritesOutput (O.taken out.old) (O.taken out.new)) }
-    ensures complete { WhereTold (asked (map string_bytes words.now)) (I.input inputs.old) (λ command query trace.
+        → WhereTold (asked_by words.now) (I.input inputs.old) (WritesOutput (O.taken out.old) (O.taken out.new)) }
+    ensures complete { WhereTold (asked_by words.now) (I.input inputs.old) (λ command query trace.
         IsAccepted command query trace
         → IsQuiet command (I.input inputs.old) (I.input inputs.new) (O.faults out.old) (O.faults out.new) →
         (result ≡ Status.Ok) ⊎ (result ≡ Status.Memory)) }
 
     // Faults.
     ensures input_fault { (which : _) → result ≡ Status.InputFault which →
-        Takes (asked (map string_bytes words.now)) which × Rose (I.input inputs.old which).faults (I.input inputs.new which).faults }
+        Takes (asked_by words.now) which × Rose (I.input inputs.old which).faults (I.input inputs.new which).faults }
     ensures trace_fault { result ≡ Status.InputFault Which.Trace →
-        WhereQueryTold (asked (map string_bytes words.now)) (I.input inputs.old) (λ command query. refusal command query ≡ None) }
+        WhereQueryTold (asked_by words.now) (I.input inputs.old) (λ command query. refusal command query ≡ None) }
     ensures output_fault { result ≡ Status.OutputFault → Rose (O.faults out.old) (O.faults out.new) }
 
     // Refusals.
     ensures query_refused { (fault : _) → result ≡ Status.QueryRefused fault →
-        Takes (asked (map string_bytes words.now)) Which.Query
-        × WhereQueryTold (asked (map string_bytes words.now)) (I.input inputs.old) (λ command query. refusal command query
+        Takes (asked_by words.now) Which.Query
+        × WhereQueryTold (asked_by words.now) (I.input inputs.old) (λ command query. refusal command query
         ≡ Some fault) }
     ensures refuses_query { (fault : _) →
-        WhereQueryTold (asked (map string_bytes words.now)) (I.input inputs.old) (λ command query. refusal command query ≡ Some fault →
+        WhereQueryTold (asked_by words.now) (I.input inputs.old) (λ command query. refusal command query ≡ Some fault →
         (result ≡ Status.QueryRefused fault) ⊎ (result ≡ Status.InputFault Which.Query) ⊎ (result ≡ Status.Memory)) }
     ensures trace_refused { (fault : _) → result ≡ Status.TraceRefused fault →
-        Takes (asked (map string_bytes words.now)) Which.Trace
-        × WhereQueryTold (asked (map string_bytes words.now)) (I.input inputs.old) (λ command query. refusal command query ≡ None)
-        × WhereTold (asked (map string_bytes words.now)) (I.input inputs.old)
+        Takes (asked_by words.now) Which.Trace
+        × WhereQueryTold (asked_by words.now) (I.input inputs.old) (λ command query. refusal command query ≡ None)
+        × WhereTold (asked_by words.now) (I.input inputs.old)
         (λ command query trace. trace_refusal command query trace ≡ Some fault) }
     ensures refuses_trace { (fault : _) →
-        WhereTold (asked (map string_bytes words.now)) (I.input inputs.old) (λ command query trace.
+        WhereTold (asked_by words.now) (I.input inputs.old) (λ command query trace.
         refusal command query ≡ None → trace_refusal command query trace ≡ Some fault →
         (result ≡ Status.TraceRefused fault) ⊎ ((which : _) × (result ≡ Status.InputFault which)) ⊎ (result ≡ Status.Memory)) }
 
     // What was written by then.
     ensures untouched { IsBeforeOutput result → out.new ≡ out.old }
     ensures output_front { result ≡ Status.OutputFault
-        → WhereTold (asked (map string_bytes words.now)) (I.input inputs.old) (WritesFront (O.taken out.old) (O.taken out.new)) }
+        → WhereTold (asked_by words.now) (I.input inputs.old) (WritesFront (O.taken out.old) (O.taken out.new)) }
     ensures memory_front { result ≡ Status.Memory
-        → WhereTold (asked (map string_bytes words.now)) (I.input inputs.old) (λ command query trace.
+        → WhereTold (asked_by words.now) (I.input inputs.old) (λ command query trace.
         TakesFront (O.taken out.old) (O.taken out.new) (defined_text command query trace)) }
     ensures memory_query { (fault : _) → result ≡ Status.Memory →
-        WhereQueryTold (asked (map string_bytes words.now)) (I.input inputs.old) (λ command query. refusal command query
+        WhereQueryTold (asked_by words.now) (I.input inputs.old) (λ command query. refusal command query
         ≡ Some fault → out.new ≡ out.old) }
 
     // Inputs that aren't operands, or weren't reached.
-    ensures no_operand { (which : _) → (Takes (asked (map string_bytes words.now)) which → ⊥)
+    ensures no_operand { (which : _) → (Takes (asked_by words.now) which → ⊥)
         → I.input inputs.new which ≡ I.input inputs.old which }
     ensures not_reached { IsBeforeTrace result → I.input inputs.new Which.Trace ≡ I.input inputs.old Which.Trace }
 
@@ -125,7 +125,7 @@ pub fn marple<I: Inputs, O: Sink, E: Sink, L: Ledger>(
     ensures out_later { O.faults out.old ≤ O.faults out.new }
     ensures err_later { E.faults err.old ≤ E.faults err.new }
 
-    ensures driven { DrivenAfter (asked (map string_bytes words.now)) (I.input inputs.old) driven.old driven.new result }
+    ensures driven { DrivenAfter (asked_by words.now) (I.input inputs.old) driven.old driven.new result }
     ensures steps { steps.old ≤ steps.new }
 {
     let status = answer(alloc, words, inputs, out, driven, steps);

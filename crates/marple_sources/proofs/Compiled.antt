@@ -6,7 +6,7 @@ use Rattle.command_line.specs.declared.setting.Setting.{Setting}
 use Rattle.query_lang.specs.declared.typed.TypedQuery.{TypedQuery}
 use Rattle.query_lang.specs.Checks.{Checked}
 use Rattle.accepted_query.specs.Accepted.{accepted, fault_in}
-use Rattle.driven_query.specs.Driven.{geometry_of}
+use Rattle.query_run.specs.Driven.{geometry_of}
 use Rattle.plan_file.specs.declared.made.Made.{Made}
 use Rattle.plan_loader.specs.Meaning.{plan_output, reads_in}
 use Rattle.plan_laws.specs.Readings.{IsReadingOf}

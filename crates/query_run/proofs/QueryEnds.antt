@@ -17,7 +17,6 @@ use Rattle.epoch_model.specs.Laws.{HasRoom, IsInTrace}
 use Rattle.epoch_model.specs.Machine.{end_of}
 use Rattle.epoch_entry.specs.declared.purpose.Entries.TheVariants.{Folds}
 use Rattle.epoch_entry.specs.Foldings.{folding_of}
-use Rattle.final_queries.specs.declared.table.Table.{Table}
 use Rattle.final_queries.specs.FinalLaws.{AreAlike, AlikeFoldingsMakeOneTable}
 use Rattle.final_queries.specs.GroupTable.{ClosedGiveTheGroupTable, closed_table, group_table}
 use Rattle.stage_plan.specs.declared.group.GroupPlan.{GroupPlan}
@@ -28,9 +27,11 @@ use Rattle.switch_core.specs.Pipelines.{IsLaneOf, heading_of, tables_of}
 use Rattle.switch_core.specs.PlanLanes.{LaneView, AreLanesOf, folding_at}
 use Rattle.epoch_entry.specs.contracts.any.AnyEpochsEpochKind.TheImpl.{ghosts}
 use Rattle.switch_core.specs.Rows.{EachFrom}
-use Rattle.final_queries.specs.Finals.{with_finals}
-use Rattle.query_tables.specs.Tables.{group_tables, tables_from, query_table, table_if, printed, query_text}
+use Rattle.query_tables.specs.Tables.{group_tables, tables_from, query_table, table_if, query_text}
 use Rattle.trace_drive.specs.Drives.{uses_by, ends_from, end_machines}
+use Rattle.query_tables.specs.TableLaws.{QueryTablesAreRead}
+use Rattle.query_run.specs.QueryReports.{AreGroupTables, query_print}
+use Rattle.query_run.specs.Reports.{Reports}
 use Rattle.query_run.specs.Runs.{AreWhole, ends_of, query_ends, EndsAreTheQuerys}
 
 -- the item at a place is the first of those from there on
@@ -148,7 +149,18 @@ ends_are law closed order = record {
 }
 
 -- what is printed of those tables is the query's text
-pub text_is : (q : TypedQuery) (g : Geometry) (packets : List (List ℕ)) (groups : List Table) (text : List ℕ) → groups ≡ group_tables q g packets
-    → text ≡ printed q (with_finals q.names q.folds groups q.finals) → text ≡ query_text q g packets
-unfolding query_text
-text_is q g packets groups text same is = is ∙ ap (λ ts. printed q (with_finals q.names q.folds ts q.finals)) same
+module _ (ends : EndsAreTheQuerys) (read : QueryTablesAreRead) (q : TypedQuery) (plan : PlanParts) (valid : IsValidQuery q) (p : IsPlanOf q plan) where
+  are_group_tables : (g : Geometry) (packets : List (List ℕ)) → AreGroupTables q (group_tables q g packets)
+  are_group_tables g packets = let known = read q g packets valid in record { valid = valid; shapes = known.1; read = known.0 }
+
+  text_is : (g : Geometry) (packets : List (List ℕ)) → query_print q (group_tables q g packets) ≡ query_text q g packets
+  unfolding query_text
+  text_is g packets = refl
+
+  pub query_reports : Reports Folds plan (AreGroupTables q) (query_print q) (query_text q)
+  query_reports = record {
+    may_print = λ buckets lanes g packets planned each room whole. subst (AreGroupTables q) (sym (ends.tables q plan buckets lanes g packets valid p each room whole)) (are_group_tables g packets);
+    prints = record {
+      at_ends = λ buckets lanes g packets planned each room whole. ap (query_print q) (ends.tables q plan buckets lanes g packets valid p each room whole) ∙ text_is g packets;
+    };
+  }

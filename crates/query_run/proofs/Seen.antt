@@ -3,20 +3,18 @@ use Rattle.std.proofs.Common.{◌≡◌, ℕ, suc, ◌≤◌, List, [], ◌∷�
 use Rattle.std.proofs.lemmas.List.{length-map, length-take-le, take-map}
 use Rattle.std.proofs.lemmas.List.Elements.{All-take}
 use Rattle.final_queries.specs.declared.table.Table.{Table}
-use Rattle.epoch_entry.specs.declared.purpose.Entries.TheVariants.{Folds}
+use Rattle.epoch_entry.specs.declared.purpose.Entries.{Entries}
 use Rattle.epoch_model.specs.Driving.{uses_taken}
 use Rattle.epoch_model.specs.Epochs.{Geometry}
 use Rattle.epoch_model.specs.Laws.{SameEpochs}
 use Rattle.epoch_model.specs.Machine.{Machine, after_packets, end_of}
 use Rattle.live_view.specs.Laws.{ViewsEndTheTrace}
 use Rattle.live_view.specs.Views.{all_closed, tables_seen}
-use Rattle.query_lang.specs.declared.typed.TypedQuery.{TypedQuery}
-use Rattle.query_lang.specs.TypedQueries.{IsValidQuery}
-use Rattle.query_run.specs.Runs.{EndsAreTheQuerys}
+use Rattle.query_run.specs.Reports.{end_tables}
+use Rattle.query_run.specs.Runs.{AreWhole}
 use Rattle.query_run.specs.Views.{IsAsFarAs}
-use Rattle.query_tables.specs.Tables.{group_tables}
 use Rattle.stage_plan.specs.declared.group.GroupPlan.{GroupPlan}
-use Rattle.stage_plan.specs.Planned.{IsPlanOf, taken}
+use Rattle.stage_plan.specs.Planned.{taken}
 use Rattle.stage_plan.specs.Sound.{PlanParts}
 use Rattle.switch_core.specs.Pipelines.{tables_of}
 use Rattle.switch_core.specs.PlanLanes.{AreLanesOf, PipelineStands, PipelineView, StandsFor, folding_at}
@@ -42,14 +40,16 @@ ends_seen law plan g packets number within i (group ∷ groups) (m ∷ machines)
     ap₂ (λ x xs. x ∷ xs) (one_end law plan g packets number i m within alike.0)
     (ends_seen law plan g packets number within (suc i) groups machines (omega arith) alike.1)
 
--- the tables of a view are the query's over the packets so far
-pub seen_tables : ViewsEndTheTrace → EndsAreTheQuerys → (q : TypedQuery) (g : Geometry) (packets : List (List ℕ)) (number : ℕ) (p : PipelineView) (tables : List Table) → IsValidQuery q → IsPlanOf q p.plan
-    → AreLanesOf Folds p.plan p.buckets p.lanes → ((machines : List Machine) → PipelineStands p machines → tables ≡ tables_seen p.plan.groups (map folding_at p.lanes) machines)
-    → IsAsFarAs g packets number p → tables ≡ group_tables q g (take number packets)
-seen_tables law ends q g packets number p tables valid plan lanes shown far =
+-- the tables of a view are those at the end of a trace of the packets so far
+pub seen_tables : ViewsEndTheTrace → (entries : Entries) (g : Geometry) (packets : List (List ℕ)) (number : ℕ) (p : PipelineView) (tables : List Table) → AreLanesOf entries p.plan p.buckets p.lanes
+    → ((machines : List Machine) → PipelineStands p machines → tables ≡ tables_seen p.plan.groups (map folding_at p.lanes) machines) → IsAsFarAs g packets number p
+    → tables ≡ end_tables p.plan p.lanes g (take number packets)
+seen_tables law entries g packets number p tables lanes shown far =
     let f = far.follows in
-    let long = sym (each_long (λ n. StandsFor) 0 p.lanes f.machines f.stands) ∙ lanes_long Folds p.plan p.buckets p.lanes lanes in
+    let long = sym (each_long (λ n. StandsFor) 0 p.lanes f.machines f.stands) ∙ lanes_long entries p.plan p.buckets p.lanes lanes in
     let closed = ends_seen law p.plan g packets number far.within 0 p.plan.groups f.machines long f.alike in
-    shown f.machines f.stands
-    ∙ (ap (tables_of p.plan.groups (map folding_at p.lanes)) closed
-    ∙ ends.tables q p.plan p.buckets p.lanes g (take number packets) valid plan lanes far.room (All-take (λ (words : List ℕ). length words ≡ 14) number packets far.whole))
+    shown f.machines f.stands ∙ ap (tables_of p.plan.groups (map folding_at p.lanes)) closed
+
+-- the packets so far have the words of all fields
+pub seen_whole : (g : Geometry) (packets : List (List ℕ)) (number : ℕ) (p : PipelineView) → IsAsFarAs g packets number p → AreWhole (take number packets)
+seen_whole g packets number p far = All-take (λ (words : List ℕ). length words ≡ 14) number packets far.whole

@@ -4,12 +4,9 @@ use Rattle.std.proofs.KnownBytes.{Appends-nil, Appends-trans}
 use Rattle.std.proofs.Math.Nat.{mod-eq_of_lt}
 use Rattle.std.proofs.lemmas.List.{length-map}
 use Rattle.std.specs.Io.KnownBytes.{Appends}
-use Rattle.epoch_model.specs.Epochs.{Geometry}
 use Rattle.marple_base.specs.Faults.{Rose}
 use Rattle.marple_base.specs.Sink.{TakesFront}
 use Rattle.marple_base.specs.declared.field.Packet.{Packet}
-use Rattle.query_lang.specs.declared.typed.TypedQuery.{TypedQuery}
-use Rattle.query_tables.specs.Tables.{query_text}
 use Rattle.trace_drive.specs.Drives.{geometry_for, words_of}
 use Rattle.trace_drive.specs.Replays.{IsUnderWay, pipeline_in}
 use Rattle.trace_drive.specs.declared.replay.Replay.{Replay}
@@ -54,79 +51,79 @@ module _ {O : Type 0} (taken : O → Option (List ℕ)) (faults : O → ℕ) (li
       write_breaks taken faults (line ++ tables) None old mid new line tables [] (ap (λ xs. line ++ xs) (sym (append-nil tables))) refl whole later rose front
 
 -- views of these packets
-module _ (q : TypedQuery) (g : Geometry) (every : ℕ) (all : List Packet) where
+module _ (text : List (List ℕ) → List ℕ) (every : ℕ) (all : List Packet) where
   -- none before the first packet, where views are asked for or not
-  pub none_yet : views_up_to q g every (words_of all) 0 ≡ []
+  pub none_yet : views_up_to text every (words_of all) 0 ≡ []
   unfolding views_up_to
   none_yet = refl
 
   -- none at all, where none are asked for
-  pub none_asked : (number : ℕ) → every ≡ 0 → views_up_to q g every (words_of all) number ≡ []
-  none_asked number is = ap (λ n. views_up_to q g n (words_of all) number) is ∙ no_views q g (words_of all) number
+  pub none_asked : (number : ℕ) → every ≡ 0 → views_up_to text every (words_of all) number ≡ []
+  none_asked number is = ap (λ n. views_up_to text n (words_of all) number) is ∙ no_views text (words_of all) number
 
   -- one more view was written
-  pub one_written : (old mid new : Option (List ℕ)) (number : ℕ) → number % every ≡ 0 → 0 < every → Appends old mid (views_up_to q g every (words_of all) number)
-      → Appends mid new (view_text q g (words_of all) (number + every)) → Appends old new (views_up_to q g every (words_of all) (number + every))
+  pub one_written : (old mid new : Option (List ℕ)) (number : ℕ) → number % every ≡ 0 → 0 < every → Appends old mid (views_up_to text every (words_of all) number)
+      → Appends mid new (view_text text (words_of all) (number + every)) → Appends old new (views_up_to text every (words_of all) (number + every))
   one_written old mid new number multiple some before view =
-      subst (Appends old new) (sym (next_view q g every (words_of all) number multiple some))
-      (Appends-trans old mid new (views_up_to q g every (words_of all) number) (view_text q g (words_of all) (number + every)) before view)
+      subst (Appends old new) (sym (next_view text every (words_of all) number multiple some))
+      (Appends-trans old mid new (views_up_to text every (words_of all) number) (view_text text (words_of all) (number + every)) before view)
 
   -- all views were written, where fewer packets were left than a view needs
-  pub all_shown : (number : ℕ) → number % every ≡ 0 → number ≤ length all → length all < number + every → views_up_to q g every (words_of all) (length all) ≡ views_up_to q g every (words_of all) number
+  pub all_shown : (number : ℕ) → number % every ≡ 0 → number ≤ length all → length all < number + every → views_up_to text every (words_of all) (length all) ≡ views_up_to text every (words_of all) number
   all_shown number multiple within few =
-      subst (λ n. views_up_to q g every (words_of all) n ≡ views_up_to q g every (words_of all) number) (as_long all)
-      (all_views q g every (words_of all) number multiple (omega (arith, as_long all)) (omega (arith, as_long all)))
+      subst (λ n. views_up_to text every (words_of all) n ≡ views_up_to text every (words_of all) number) (as_long all)
+      (all_views text every (words_of all) number multiple (omega (arith, as_long all)) (omega (arith, as_long all)))
 
   -- the views of all packets, and then their tables
-  pub text_is : views_text q g every (words_of all) ≡ views_up_to q g every (words_of all) (length all) ++ query_text q g (words_of all)
-  text_is = whole_text q g every (words_of all) ∙ ap (λ n. views_up_to q g every (words_of all) n ++ query_text q g (words_of all)) (as_long all)
+  pub text_is : views_text text every (words_of all) ≡ views_up_to text every (words_of all) (length all) ++ text (words_of all)
+  text_is = whole_text text every (words_of all) ∙ ap (λ n. views_up_to text every (words_of all) n ++ text (words_of all)) (as_long all)
 
-  pub all_written : (old mid new : Option (List ℕ)) → Appends old mid (views_up_to q g every (words_of all) (length all)) → Appends mid new (query_text q g (words_of all))
-      → Appends old new (views_text q g every (words_of all))
+  pub all_written : (old mid new : Option (List ℕ)) → Appends old mid (views_up_to text every (words_of all) (length all)) → Appends mid new (text (words_of all))
+      → Appends old new (views_text text every (words_of all))
   all_written old mid new views tables =
-      subst (Appends old new) (sym text_is) (Appends-trans old mid new (views_up_to q g every (words_of all) (length all)) (query_text q g (words_of all)) views tables)
+      subst (Appends old new) (sym text_is) (Appends-trans old mid new (views_up_to text every (words_of all) (length all)) (text (words_of all)) views tables)
 
   module _ {O : Type 0} (taken : O → Option (List ℕ)) (faults : O → ℕ) (fault : Option TraceFault) (old mid : O) where
     -- the reader broke off after some views
-    pub reader_broke : (number : ℕ) → fault ≡ None → number ≤ length all → Appends (taken old) (taken mid) (views_up_to q g every (words_of all) number)
-        → (answer : TraceAnswer) → IfRefused answer (λ found. fault ≡ Some found) → BreaksOff taken faults (views_text q g every (words_of all)) fault old mid (answer_for answer)
+    pub reader_broke : (number : ℕ) → fault ≡ None → number ≤ length all → Appends (taken old) (taken mid) (views_up_to text every (words_of all) number)
+        → (answer : TraceAnswer) → IfRefused answer (λ found. fault ≡ Some found) → BreaksOff taken faults (views_text text every (words_of all)) fault old mid (answer_for answer)
     reader_broke number sound within before answer refused =
-        let front = begins q g every (words_of all) number (omega (arith, as_long all)) in
-        reader_breaks taken faults (views_text q g every (words_of all)) fault old mid (views_up_to q g every (words_of all) number) front.0 front.1
+        let front = begins text every (words_of all) number (omega (arith, as_long all)) in
+        reader_breaks taken faults (views_text text every (words_of all)) fault old mid (views_up_to text every (words_of all) number) front.0 front.1
         (λ found is. absurd (none_some found fault sound is)) before answer refused
 
     -- the next view broke off
-    pub view_broke : (new : O) (number : ℕ) → fault ≡ None → number % every ≡ 0 → 0 < every → number + every ≤ length all → Appends (taken old) (taken mid) (views_up_to q g every (words_of all) number)
-        → faults old ≤ faults mid → (answer : RunAnswer) → BreaksOff taken faults (view_text q g (words_of all) (number + every)) None mid new answer
-        → BreaksOff taken faults (views_text q g every (words_of all)) fault old new answer
+    pub view_broke : (new : O) (number : ℕ) → fault ≡ None → number % every ≡ 0 → 0 < every → number + every ≤ length all → Appends (taken old) (taken mid) (views_up_to text every (words_of all) number)
+        → faults old ≤ faults mid → (answer : RunAnswer) → BreaksOff taken faults (view_text text (words_of all) (number + every)) None mid new answer
+        → BreaksOff taken faults (views_text text every (words_of all)) fault old new answer
     view_broke new number sound multiple some within before later answer broke =
-        let front = parted q g every (words_of all) number multiple some (omega (arith, as_long all)) in
-        part_breaks taken faults (views_text q g every (words_of all)) fault old mid new (views_up_to q g every (words_of all) number) (view_text q g (words_of all) (number + every))
+        let front = parted text every (words_of all) number multiple some (omega (arith, as_long all)) in
+        part_breaks taken faults (views_text text every (words_of all)) fault old mid new (views_up_to text every (words_of all) number) (view_text text (words_of all) (number + every))
         front.0 front.1 sound before later answer broke
 
     -- the reader broke off after all views, of which there are some only where the packets are sound
-    pub rest_broke : (every ≡ 0 → mid ≡ old) → (0 < every → fault ≡ None) → Appends (taken old) (taken mid) (views_up_to q g every (words_of all) (length all))
-        → (answer : TraceAnswer) → IfRefused answer (λ found. fault ≡ Some found) → BreaksOff taken faults (views_text q g every (words_of all)) fault old mid (answer_for answer)
+    pub rest_broke : (every ≡ 0 → mid ≡ old) → (0 < every → fault ≡ None) → Appends (taken old) (taken mid) (views_up_to text every (words_of all) (length all))
+        → (answer : TraceAnswer) → IfRefused answer (λ found. fault ≡ Some found) → BreaksOff taken faults (views_text text every (words_of all)) fault old mid (answer_for answer)
     rest_broke untouched sound views answer refused =
-        reader_breaks taken faults (views_text q g every (words_of all)) fault old mid (views_up_to q g every (words_of all) (length all)) (query_text q g (words_of all)) text_is
+        reader_breaks taken faults (views_text text every (words_of all)) fault old mid (views_up_to text every (words_of all) (length all)) (text (words_of all)) text_is
         (λ found is. by_number every refl found is) views answer refused
       where
-        by_number : (n : ℕ) → every ≡ n → (found : TraceFault) → fault ≡ Some found → (views_up_to q g every (words_of all) (length all) ≡ []) × (mid ≡ old)
+        by_number : (n : ℕ) → every ≡ n → (found : TraceFault) → fault ≡ Some found → (views_up_to text every (words_of all) (length all) ≡ []) × (mid ≡ old)
         by_number zero is found e = (none_asked (length all) is, untouched is)
         by_number (suc n) is found e = absurd (none_some found fault (sound (omega arith)) e)
 
     -- the tables could not be made
-    pub tables_broke : fault ≡ None → Appends (taken old) (taken mid) (views_up_to q g every (words_of all) (length all))
-        → BreaksOff taken faults (views_text q g every (words_of all)) fault old mid Memory
+    pub tables_broke : fault ≡ None → Appends (taken old) (taken mid) (views_up_to text every (words_of all) (length all))
+        → BreaksOff taken faults (views_text text every (words_of all)) fault old mid Memory
     tables_broke sound views =
-        memory_behind taken faults (views_text q g every (words_of all)) fault old mid (views_up_to q g every (words_of all) (length all)) (query_text q g (words_of all)) text_is
+        memory_behind taken faults (views_text text every (words_of all)) fault old mid (views_up_to text every (words_of all) (length all)) (text (words_of all)) text_is
         (λ found is. absurd (none_some found fault sound is)) views
 
     -- or they could not be written
-    pub end_broke : (new : O) → fault ≡ None → Appends (taken old) (taken mid) (views_up_to q g every (words_of all) (length all)) → faults old ≤ faults mid
-        → Rose (faults mid) (faults new) → TakesFront (taken mid) (taken new) (query_text q g (words_of all))
-        → BreaksOff taken faults (views_text q g every (words_of all)) fault old new Failed
+    pub end_broke : (new : O) → fault ≡ None → Appends (taken old) (taken mid) (views_up_to text every (words_of all) (length all)) → faults old ≤ faults mid
+        → Rose (faults mid) (faults new) → TakesFront (taken mid) (taken new) (text (words_of all))
+        → BreaksOff taken faults (views_text text every (words_of all)) fault old new Failed
     end_broke new sound views later rose front =
-        let views_are = views_up_to q g every (words_of all) (length all) in
-        write_breaks taken faults (views_text q g every (words_of all)) fault old mid new views_are (query_text q g (words_of all)) []
-        (text_is ∙ ap (λ xs. views_are ++ xs) (sym (append-nil (query_text q g (words_of all))))) sound views later rose front
+        let views_are = views_up_to text every (words_of all) (length all) in
+        write_breaks taken faults (views_text text every (words_of all)) fault old mid new views_are (text (words_of all)) []
+        (text_is ∙ ap (λ xs. views_are ++ xs) (sym (append-nil (text (words_of all))))) sound views later rose front

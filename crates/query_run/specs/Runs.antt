@@ -3,6 +3,7 @@ use Rattle.std.specs.Prelude.{◌≡◌, ◌≤◌, ℕ, suc, List, [], ◌∷�
 use Rattle.query_lang.specs.declared.typed.TypedQuery.{TypedQuery}
 use Rattle.query_lang.specs.Streams.{Taking, takings}
 use Rattle.query_lang.specs.TypedQueries.{IsValidQuery}
+use Rattle.query_lang.specs.Words.{AreWords}
 use Rattle.query_types.specs.Uses.{uses}
 use Rattle.epoch_entry.specs.declared.purpose.Entries.TheVariants.{Folds}
 use Rattle.epoch_model.specs.Epochs.{Geometry}
@@ -38,6 +39,10 @@ pub record EndsAreTheQuerys : Type 0 where
       (packets : List (List ℕ)) → IsValidQuery q → IsPlanOf q plan
       → AreLanesOf Folds plan buckets lanes → HasRoom g → AreWhole packets
       → tables_of plan.groups (map folding_at lanes) (end_machines plan g packets) ≡ group_tables q g packets
+
+-- Each field of each packet that is read from a trace is a word.
+abbrev pub ReadPacketsAreOfWords : Type 0
+ReadPacketsAreOfWords = (text : List ℕ) (reads : FieldSet) → All AreWords (words_of (packets text reads))
 
 -- The packets of a trace have the words of all fields.
 abbrev pub ReadPacketsAreWhole : Type 0

@@ -1,6 +1,8 @@
-//! What the machines at the end of a trace are, and the tables that they give.
+//! What the machines at the end of a trace are, and the tables that they give; and what is known of packets.
 
-ghost use Rattle.query_run.specs.Runs.{EndsAreTheQuerys, ReadPacketsAreFew, ReadPacketsAreWhole};
+ghost use Rattle.query_run.specs.Driven.{MadePacketsAreWhole};
+ghost use Rattle.query_run.specs.PlanReports.{EndsAreTheTexts};
+ghost use Rattle.query_run.specs.Runs.{EndsAreTheQuerys, ReadPacketsAreFew, ReadPacketsAreOfWords, ReadPacketsAreWhole};
 ghost use Rattle.query_run.specs.Views.{NoViewsWithoutNumber};
 
 use epoch_model::taken_uses_are_in_trace;
@@ -15,9 +17,23 @@ pub fn ends_are_the_querys()
     alike_foldings_make_one_table();
 }
 
+/// The tables of a plan's machines at the end of packets are those that its text means.
+pub fn ends_are_the_texts()
+    ensures { EndsAreTheTexts }
+{
+    taken_uses_are_in_trace();
+    closed_give_the_group_table();
+    alike_foldings_make_one_table();
+}
+
 /// The packets that are read from a trace have the words of all fields.
 pub fn read_packets_are_whole()
     ensures { ReadPacketsAreWhole }
+{}
+
+/// Each field of each packet that is read from a trace is a word.
+pub fn read_packets_are_words()
+    ensures { ReadPacketsAreOfWords }
 {}
 
 /// A trace has no more packets than it may have records.
@@ -25,7 +41,12 @@ pub fn read_packets_are_few()
     ensures { ReadPacketsAreFew }
 {}
 
-/// A run without views writes its tables alone.
+/// The packets that the generator makes have the words of all fields.
+pub fn made_packets_are_whole()
+    ensures { MadePacketsAreWhole }
+{}
+
+/// A run without views writes the report of all packets alone.
 pub fn no_views_without_number()
     ensures { NoViewsWithoutNumber }
 {}

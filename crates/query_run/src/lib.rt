@@ -1,15 +1,30 @@
-//! A query over the packets of a trace: its views, the text of its tables, and the pipeline that gave them.
+//! Runs over packets: a plan's pipeline is driven with the setting of a command line, a report of its tables is written, and
+//! the drained pipeline is returned in the variant of its ways. There is a report of a query, one of its bounds, and one of a
+//! plan that was read.
 #![tactic(auto)]
 
+mod acceptance;
 mod answer;
+mod bounds_report;
+mod driven;
 mod laws;
-mod printing;
+mod plan_report;
+mod query_report;
+mod report;
 mod run;
+mod runs;
+mod showing;
 mod views;
+mod ways;
 
 pub use answer::RunAnswer;
+pub use bounds_report::QueryBounds;
+pub use driven::Driven;
 pub use laws::{
-    ends_are_the_querys, no_views_without_number, read_packets_are_few, read_packets_are_whole,
+    ends_are_the_querys, ends_are_the_texts, made_packets_are_whole, no_views_without_number,
+    read_packets_are_few, read_packets_are_whole, read_packets_are_words,
 };
-pub use printing::view_query;
-pub use run::run_query;
+pub use plan_report::PlanTables;
+pub use query_report::QueryTables;
+pub use report::Report;
+pub use runs::{run_over_made, run_over_trace};

@@ -2,24 +2,22 @@
 
 ghost use Rattle.std.specs.Prelude.{◌≡◌, ◌<◌, ◌≤◌, ℕ, List, None, IfErr, IfOk, OnOk, length};
 ghost use Rattle.std.specs.Io.KnownBytes.{Appends};
-ghost use Rattle.epoch_entry.specs.declared.purpose.Entries.TheVariants.{Folds};
 ghost use Rattle.epoch_model.specs.Epochs.{Geometry};
-ghost use Rattle.query_lang.specs.TypedQueries.{IsValidQuery};
-ghost use Rattle.stage_plan.specs.Planned.{IsPlanOf};
 ghost use Rattle.switch_core.specs.Pipelines.{empty_machines, geometry_of};
 ghost use Rattle.switch_core.specs.PlanLanes.{PipelineStands};
 ghost use Rattle.trace_drive.specs.Drives.{coming, fault_of, geometry_for, words_of};
 ghost use Rattle.trace_drive.specs.Follows.{Keeps};
 ghost use Rattle.trace_drive.specs.Replays.{IsUnderWay, fault_in, pipeline_in};
 ghost use Rattle.query_run.specs.Answers.{BreaksOff};
+ghost use Rattle.query_run.specs.Reports.{MayPrint, Prints};
 ghost use Rattle.query_run.specs.Runs.{AreWhole};
 ghost use Rattle.query_run.specs.Views.{CanBeViewed, IsAsFarAs, view_line, view_text, views_text, views_up_to};
 
 use crate::answer::RunAnswer;
-use crate::printing::view_query;
+use crate::report::Report;
+use crate::showing::view_text;
 use itoa::Buffer;
 use marple_base::{Sink, Steps, Text, write_all};
-use query_lang::TypedQuery;
 use std::alloc::{AllocError, Global};
 use std::sync::ledger::Ledger;
 use switch_core::Pipeline;
@@ -37,26 +35,28 @@ fn view_line(alloc: Global, number: u32) -> Result<Text, AllocError>
 }
 
 // Writes the view after this number of packets: all of it, or some prefix.
-fn write_view<const WAYS: usize, O: Sink, L: Ledger>(
+fn write_view<const WAYS: usize, R: Report, O: Sink, L: Ledger>(
     alloc: Global,
-    typed: &TypedQuery,
+    report: &R,
     pipeline: &Pipeline<WAYS>,
     number: u32,
     out: &mut O,
     steps: &mut Steps<L>,
 ) -> Result<(), RunAnswer>
-    requires valid { IsValidQuery typed.now }
-    requires plan { IsPlanOf typed.now pipeline.now.plan }
-    requires entries { pipeline.now.entries ≡ Folds }
+    requires may_print { MayPrint (R.entries report.now) pipeline.now.plan (R.may_print report.now) }
+    requires entries { pipeline.now.entries ≡ R.entries report.now }
     requires seen { (g : Geometry) × (packets : List (List ℕ)) × IsAsFarAs g packets number pipeline.now }
-    ensures written { OnOk result ((g : Geometry) (packets : List (List ℕ)) → IsAsFarAs g packets number pipeline.now
-        → Appends (O.taken out.old) (O.taken out.new) (view_text typed.now g packets number)) }
-    ensures breaks_off { IfErr result (λ answer. (g : Geometry) (packets : List (List ℕ)) → IsAsFarAs g packets number pipeline.now
-        → BreaksOff O.taken O.faults (view_text typed.now g packets number) None out.old out.new answer) }
+    ensures written { OnOk result ((text : Geometry → List (List ℕ) → List ℕ) (g : Geometry) (packets : List (List ℕ))
+        → Prints (R.entries report.now) pipeline.now.plan (R.printed report.now) text → IsAsFarAs g packets number pipeline.now
+        → Appends (O.taken out.old) (O.taken out.new) (view_text (text g) packets number)) }
+    ensures breaks_off { IfErr result (λ answer. (text : Geometry → List (List ℕ) → List ℕ) (g : Geometry)
+        (packets : List (List ℕ)) → Prints (R.entries report.now) pipeline.now.plan (R.printed report.now) text
+        → IsAsFarAs g packets number pipeline.now
+        → BreaksOff O.taken O.faults (view_text (text g) packets number) None out.old out.new answer) }
     ensures out_later { O.faults out.old ≤ O.faults out.new }
     ensures steps { steps.old ≤ steps.new }
 {
-    let text = view_query(alloc, typed, pipeline, steps)?;
+    let text = view_text(alloc, report, pipeline, steps)?;
     let line = view_line(alloc, number)?;
     write_all(out, line.as_slice())?;
     write_all(out, text.as_slice())?;
@@ -65,9 +65,9 @@ fn write_view<const WAYS: usize, O: Sink, L: Ledger>(
 
 /// Writes a view after each packet whose number is a multiple of `every`, and none where that is 0. The packets are taken as
 /// far as the last view needs. The memory of a view is freed before the next one.
-pub(crate) fn write_views<'a, const WAYS: usize, O: Sink, L: Ledger>(
+pub(crate) fn write_views<'a, const WAYS: usize, R: Report, O: Sink, L: Ledger>(
     alloc: Global,
-    typed: &TypedQuery,
+    report: &R,
     pipeline: Pipeline<WAYS>,
     schedule: Schedule,
     every: u32,
@@ -78,20 +78,22 @@ pub(crate) fn write_views<'a, const WAYS: usize, O: Sink, L: Ledger>(
     requires fresh { PipelineStands pipeline (empty_machines (geometry_of WAYS pipeline.buckets) pipeline.plan.groups) }
     requires buckets { pipeline.buckets ≡ schedule.buckets }
     requires room { (0 < WAYS) × (0 < schedule.buckets) }
-    requires valid { IsValidQuery typed.now }
-    requires plan { IsPlanOf typed.now pipeline.plan }
-    requires entries { pipeline.entries ≡ Folds }
+    requires may_print { MayPrint (R.entries report.now) pipeline.plan (R.may_print report.now) }
+    requires entries { pipeline.entries ≡ R.entries report.now }
     requires whole { AreWhole (words_of (coming packets)) }
     requires viewed { 0 < every → CanBeViewed packets }
-    ensures written { IfOk result (λ replay. Appends (O.taken out.old) (O.taken out.new)
-        (views_up_to typed.now (geometry_for WAYS schedule) every (words_of (coming packets.entry)) (length (coming packets.entry)))) }
+    ensures written { IfOk result (λ replay. (text : Geometry → List (List ℕ) → List ℕ)
+        → Prints (R.entries report.now) pipeline.entry.plan (R.printed report.now) text
+        → Appends (O.taken out.old) (O.taken out.new) (views_up_to (text (geometry_for WAYS schedule)) every
+        (words_of (coming packets.entry)) (length (coming packets.entry)))) }
     ensures under_way { IfOk result (λ replay. (count : ℕ) × IsUnderWay schedule (coming packets.entry) count replay) }
     ensures fault { IfOk result (λ replay. fault_in replay ≡ fault_of packets.entry) }
     ensures keeps { IfOk result (λ replay. Keeps pipeline.entry (pipeline_in replay)) }
     ensures untouched { every ≡ 0 → out.new ≡ out.old }
-    ensures breaks_off { IfErr result
-        (BreaksOff O.taken O.faults (views_text typed.now (geometry_for WAYS schedule) every (words_of (coming packets.entry)))
-        (fault_of packets.entry) out.old out.new) }
+    ensures breaks_off { IfErr result (λ answer. (text : Geometry → List (List ℕ) → List ℕ)
+        → Prints (R.entries report.now) pipeline.entry.plan (R.printed report.now) text → BreaksOff O.taken O.faults
+        (views_text (text (geometry_for WAYS schedule)) every (words_of (coming packets.entry)))
+        (fault_of packets.entry) out.old out.new answer) }
     ensures out_later { O.faults out.old ≤ O.faults out.new }
     ensures steps { steps.old ≤ steps.new }
 {
@@ -102,7 +104,7 @@ pub(crate) fn write_views<'a, const WAYS: usize, O: Sink, L: Ledger>(
     let mut number = 0;
     'views: while replay.advance(every, steps)? {
         number += every;
-        write_view(alloc, typed, replay.pipeline(), number, out, steps)?;
+        write_view(alloc, report, replay.pipeline(), number, out, steps)?;
     }
     Ok(replay)
 }

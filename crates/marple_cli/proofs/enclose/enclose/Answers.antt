@@ -1,8 +1,8 @@
 use Rattle.std.proofs.Common.{refl}
 use Rattle.marple_base.specs.Inputs.{Input}
 use Rattle.marple_base.specs.declared.inputs.Which.{Which}
-use Rattle.stage_plan.specs.Fields.{reads_of}
-use Rattle.driven_query.specs.Driven.{geometry_of}
+use Rattle.query_run.specs.Driven.{geometry_of}
+use Rattle.query_run.specs.Views.{views_text}
 use Rattle.enclosure_folds.specs.Check.{enclose_fault}
 use Rattle.enclosed_query.specs.EnclosedTables.{enclose_text}
 use Rattle.trace_reader.specs.Traces.{Contents}
@@ -13,6 +13,9 @@ use Rattle.marple_cli.proofs.Ending.{query_ends_it, query_fits}
 use Rattle.marple_cli.proofs.Texts.{enclose_is}
 use Rattle.marple_cli.proofs.Traced.{broken_off, not_read, whole_written}
 use Rattle.marple_cli.proofs.enclose.enclose.Goals as goal
+
+pub run_over_trace-requires-clause-may_print : goal.run_over_trace-requires-clause-may_print
+run_over_trace-requires-clause-may_print g c = (c.of-report.ensures.reports c.in_ok-query.query.plan c.in_ok-query.ensures.plan).may_print
 
 pub returns-in_err-query-clause-ends : goal.returns-in_err-query-clause-ends
 returns-in_err-query-clause-ends g c =
@@ -28,12 +31,13 @@ returns-in_err-bytes-clause-ends g c =
     let command = Enclose c.args.setting in
     let known = c.in_ok-query.ensures.ok in
     let accepts = query_fits command enclose_fault before q (λ query. refl) known c.in_ok-query.ensures.bounded in
-    let text = λ (found : Contents). enclose_text q (geometry_of c.args.setting) (words_of found.packets) in
-    not_read g.O.Sink.taken g.O.Sink.faults command before middle after accepts (reads_of q) (λ found. found.fault) text refl refl (enclose_is before q known c.args.setting) c.in_ok-query.ensures.trace_kept
+    let reads = c.in_ok-query.query.plan.reads in
+    let text = λ (found : Contents). views_text (enclose_text q (geometry_of c.args.setting)) 0 (words_of found.packets) in
+    not_read g.O.Sink.taken g.O.Sink.faults command before middle after accepts reads (λ found. found.fault) text refl refl (enclose_is before q known c.args.setting reads c.in_ok-query.ensures.plan.reads) c.in_ok-query.ensures.trace_kept
     c.args.out.now c.from_residual-in_err-bytes.result c.in_err-bytes.field-0.0 c.from_residual-in_err-bytes.ensures.1 c.in_err-bytes.ensures.err
 
-pub returns-in_err-_driven-clause-ends : goal.returns-in_err-_driven-clause-ends
-returns-in_err-_driven-clause-ends g c =
+pub returns-in_err-_left-clause-ends : goal.returns-in_err-_left-clause-ends
+returns-in_err-_left-clause-ends g c =
     let before : Which → Input = g.I.Inputs.input c.args.inputs.now in
     let middle : Which → Input = g.I.Inputs.input c.query_for_bounds.new.inputs in
     let after : Which → Input = g.I.Inputs.input c.read_trace.new.inputs in
@@ -41,10 +45,11 @@ returns-in_err-_driven-clause-ends g c =
     let command = Enclose c.args.setting in
     let known = c.in_ok-query.ensures.ok in
     let accepts = query_fits command enclose_fault before q (λ query. refl) known c.in_ok-query.ensures.bounded in
-    let text = λ (found : Contents). enclose_text q (geometry_of c.args.setting) (words_of found.packets) in
-    broken_off g.O.Sink.taken g.O.Sink.faults command before middle after accepts (reads_of q) (λ found. found.fault) text refl refl (enclose_is before q known c.args.setting) c.in_ok-query.ensures.trace_kept
-    c.in_ok-bytes.bytes c.as_slice.result.now c.in_ok-bytes.ensures.ok c.as_slice.ensures c.args.out.now c.enclose_over_trace.new.out
-    c.from_residual-in_err-_driven.result c.in_err-_driven.field-0.0 c.from_residual-in_err-_driven.ensures.1 c.in_err-_driven.ensures.breaks_off
+    let reads = c.in_ok-query.query.plan.reads in
+    let text = λ (found : Contents). views_text (enclose_text q (geometry_of c.args.setting)) 0 (words_of found.packets) in
+    broken_off g.O.Sink.taken g.O.Sink.faults command before middle after accepts reads (λ found. found.fault) text refl refl (enclose_is before q known c.args.setting reads c.in_ok-query.ensures.plan.reads) c.in_ok-query.ensures.trace_kept
+    c.in_ok-bytes.bytes c.as_slice.result.now c.in_ok-bytes.ensures.ok c.as_slice.ensures c.args.out.now c.run_over_trace.new.out
+    c.from_residual-in_err-_left.result c.in_err-_left.field-0.0 c.from_residual-in_err-_left.ensures.1 (c.in_err-_left.ensures.breaks_off (enclose_text q) (c.of-report.ensures.reports c.in_ok-query.query.plan c.in_ok-query.ensures.plan).prints)
 
 pub returns-clause-ends : goal.returns-clause-ends
 returns-clause-ends g c =
@@ -55,7 +60,8 @@ returns-clause-ends g c =
     let command = Enclose c.args.setting in
     let known = c.in_ok-query.ensures.ok in
     let accepts = query_fits command enclose_fault before q (λ query. refl) known c.in_ok-query.ensures.bounded in
-    let text = λ (found : Contents). enclose_text q (geometry_of c.args.setting) (words_of found.packets) in
-    whole_written g.O.Sink.taken g.O.Sink.faults command before middle after accepts (reads_of q) (λ found. found.fault) text refl refl (enclose_is before q known c.args.setting) c.in_ok-query.ensures.trace_kept
-    c.in_ok-bytes.bytes c.as_slice.result.now c.in_ok-bytes.ensures.ok c.as_slice.ensures c.args.out.now c.enclose_over_trace.new.out
-    c.in_ok-_driven.ensures.accepted c.in_ok-_driven.ensures.written
+    let reads = c.in_ok-query.query.plan.reads in
+    let text = λ (found : Contents). views_text (enclose_text q (geometry_of c.args.setting)) 0 (words_of found.packets) in
+    whole_written g.O.Sink.taken g.O.Sink.faults command before middle after accepts reads (λ found. found.fault) text refl refl (enclose_is before q known c.args.setting reads c.in_ok-query.ensures.plan.reads) c.in_ok-query.ensures.trace_kept
+    c.in_ok-bytes.bytes c.as_slice.result.now c.in_ok-bytes.ensures.ok c.as_slice.ensures c.args.out.now c.run_over_trace.new.out
+    c.in_ok-_left.ensures.accepted (c.in_ok-_left.ensures.written (enclose_text q) (c.of-report.ensures.reports c.in_ok-query.query.plan c.in_ok-query.ensures.plan).prints)

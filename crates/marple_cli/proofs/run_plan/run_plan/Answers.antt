@@ -6,10 +6,11 @@ use Rattle.switch_core.specs.PlanLanes.{PipelineStands}
 use Rattle.trace_drive.specs.Drives.{end_machines, words_of}
 use Rattle.trace_reader.specs.Traces.{Contents, contents}
 use Rattle.command_line.specs.declared.command.Command.TheVariants.{RunPlan}
-use Rattle.driven_query.specs.Driven.{geometry_of, pipeline_in}
+use Rattle.query_run.specs.Driven.{geometry_of, pipeline_in}
 use Rattle.plan_file.specs.Texts.{IsRefused}
 use Rattle.plan_file.specs.declared.answer.PlanFileAnswer.TheVariants.{Refused}
 use Rattle.plan_loader.specs.Meaning.{plan_output}
+use Rattle.query_run.specs.Views.{views_text}
 use Rattle.marple_cli.specs.Ends.{status_for}
 use Rattle.marple_cli.proofs.Ending.{answer_not_ok, driven_kept, operand_ends_it, operand_not_ok, read_not_ok}
 use Rattle.marple_cli.proofs.Limits.{told_contents}
@@ -17,8 +18,10 @@ use Rattle.marple_cli.proofs.Plans.{plan_accepted, plan_is, plan_leaves, refuses
 use Rattle.marple_cli.proofs.Traced.{broken_off, not_read, whole_written}
 use Rattle.marple_cli.proofs.run_plan.run_plan.Goals as goal
 
-pub run_plan_over_trace-requires-clause-loaded : goal.run_plan_over_trace-requires-clause-loaded
-run_plan_over_trace-requires-clause-loaded g c = (c.in_ok-loaded.ensures.ok.made, c.in_ok-loaded.ensures.ok.from)
+pub run_over_trace-requires-clause-may_print : goal.run_over_trace-requires-clause-may_print
+run_over_trace-requires-clause-may_print g c =
+    let is = c.in_ok-loaded.ensures.ok in
+    (c.of-report.ensures.reports is.made c.in_ok-loaded.loaded.plan is.from.sound is.from.plan is.from.prints).may_print
 
 pub returns-in_err-loaded-clause-ends : goal.returns-in_err-loaded-clause-ends
 returns-in_err-loaded-clause-ends g c =
@@ -39,7 +42,7 @@ returns-in_err-bytes-clause-ends g c =
     let setting = c.args.setting in
     let loaded = c.in_ok-loaded.loaded in
     let is = c.in_ok-loaded.ensures.ok in
-    let text = λ (found : Contents). plan_output is.made (geometry_of setting) (words_of found.packets) in
+    let text = λ (found : Contents). views_text (plan_output is.made (geometry_of setting)) 0 (words_of found.packets) in
     not_read g.O.Sink.taken g.O.Sink.faults (RunPlan setting) before middle after (plan_accepted setting before loaded is) loaded.plan.reads (λ found. found.fault) text refl refl
     (plan_is setting before loaded is) c.in_ok-loaded.ensures.trace_kept
     c.args.out.now c.from_residual-in_err-bytes.result c.in_err-bytes.field-0.0 c.from_residual-in_err-bytes.ensures.1 c.in_err-bytes.ensures.err
@@ -58,11 +61,12 @@ returns-in_err-left-clause-ends g c =
     let setting = c.args.setting in
     let loaded = c.in_ok-loaded.loaded in
     let is = c.in_ok-loaded.ensures.ok in
-    let text = λ (found : Contents). plan_output is.made (geometry_of setting) (words_of found.packets) in
+    let text = λ (found : Contents). views_text (plan_output is.made (geometry_of setting)) 0 (words_of found.packets) in
     broken_off g.O.Sink.taken g.O.Sink.faults (RunPlan setting) before middle after (plan_accepted setting before loaded is) loaded.plan.reads (λ found. found.fault) text refl refl
     (plan_is setting before loaded is) c.in_ok-loaded.ensures.trace_kept
-    c.in_ok-bytes.bytes c.as_slice.result.now c.in_ok-bytes.ensures.ok c.as_slice.ensures c.args.out.now c.run_plan_over_trace.new.out
-    c.from_residual-in_err-left.result c.in_err-left.field-0.0 c.from_residual-in_err-left.ensures.1 (c.in_err-left.ensures.breaks_off is.made is.from)
+    c.in_ok-bytes.bytes c.as_slice.result.now c.in_ok-bytes.ensures.ok c.as_slice.ensures c.args.out.now c.run_over_trace.new.out
+    c.from_residual-in_err-left.result c.in_err-left.field-0.0 c.from_residual-in_err-left.ensures.1
+    (c.in_err-left.ensures.breaks_off (plan_output is.made) (c.of-report.ensures.reports is.made loaded.plan is.from.sound is.from.plan is.from.prints).prints)
 
 pub returns-in_err-left-clause-driven : goal.returns-in_err-left-clause-driven
 returns-in_err-left-clause-driven g c =
@@ -77,11 +81,11 @@ returns-clause-ends g c =
     let setting = c.args.setting in
     let loaded = c.in_ok-loaded.loaded in
     let is = c.in_ok-loaded.ensures.ok in
-    let text = λ (found : Contents). plan_output is.made (geometry_of setting) (words_of found.packets) in
+    let text = λ (found : Contents). views_text (plan_output is.made (geometry_of setting)) 0 (words_of found.packets) in
     whole_written g.O.Sink.taken g.O.Sink.faults (RunPlan setting) before middle after (plan_accepted setting before loaded is) loaded.plan.reads (λ found. found.fault) text refl refl
     (plan_is setting before loaded is) c.in_ok-loaded.ensures.trace_kept
-    c.in_ok-bytes.bytes c.as_slice.result.now c.in_ok-bytes.ensures.ok c.as_slice.ensures c.args.out.now c.run_plan_over_trace.new.out
-    c.in_ok-left.ensures.accepted (c.in_ok-left.ensures.written is.made is.from)
+    c.in_ok-bytes.bytes c.as_slice.result.now c.in_ok-bytes.ensures.ok c.as_slice.ensures c.args.out.now c.run_over_trace.new.out
+    c.in_ok-left.ensures.accepted (c.in_ok-left.ensures.written (plan_output is.made) (c.of-report.ensures.reports is.made loaded.plan is.from.sound is.from.plan is.from.prints).prints)
 
 pub returns-clause-driven : goal.returns-clause-driven
 returns-clause-driven g c =

@@ -59,8 +59,3 @@ returns-clause-ends g c =
     whole_written g.O.Sink.taken g.O.Sink.faults command before middle after accepts (net_reads q) net_fault_in text refl refl (net_is before q known c.args.setting) c.in_ok-query.ensures.trace_kept
     c.in_ok-bytes.bytes c.as_slice.result.now c.in_ok-bytes.ensures.ok c.as_slice.ensures c.args.out.now c.net_over_trace.new.out
     c.in_ok-net_over_trace.ensures.accepted c.in_ok-net_over_trace.ensures.written
-
-pub net_over_trace-requires-clause-tells : goal.net_over_trace-requires-clause-tells
-net_over_trace-requires-clause-tells g c =
-    let some = c.in_ok-query.ensures.some_text in
-    c.accepted_tell_switches.ensures some.0 c.in_ok-query.query.typed some.1

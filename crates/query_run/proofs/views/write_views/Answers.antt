@@ -1,7 +1,7 @@
-use Rattle.std.proofs.Common.{◌≡◌, ◌+◌, ◌<◌, ◌≤◌, ◌-◌, Some, Ok, length, refl, sym, ap, ◌∙◌, subst, arith, lit<}
+use Rattle.std.proofs.Common.{◌≡◌, ℕ, ◌+◌, ◌<◌, ◌≤◌, ◌-◌, List, Some, Ok, length, refl, sym, ap, ◌∙◌, subst, arith, lit<}
 use Rattle.std.proofs.KnownBytes.{Appends-nil}
 use Rattle.std.specs.Io.KnownBytes.{Appends}
-use Rattle.stage_plan.specs.Planned.{IsPlanOf}
+use Rattle.epoch_model.specs.Epochs.{Geometry}
 use Rattle.switch_core.specs.PlanLanes.{PipelineView}
 use Rattle.trace_drive.specs.Drives.{coming, fault_of, geometry_for, words_of}
 use Rattle.trace_drive.specs.Follows.{Keeps}
@@ -9,6 +9,7 @@ use Rattle.trace_drive.specs.Replays.{pipeline_in}
 use Rattle.trace_drive.proofs.Following.{keeps_along}
 use Rattle.trace_reader.specs.Faults.{IfRefused}
 use Rattle.query_run.specs.Answers.{BreaksOff, answer_for}
+use Rattle.query_run.specs.Reports.{MayPrint, Prints}
 use Rattle.query_run.specs.Views.{IsAsFarAs, views_text}
 use Rattle.query_run.proofs.Breaking.{err_is}
 use Rattle.query_run.proofs.ViewTexts.{next_multiple}
@@ -16,11 +17,11 @@ use Rattle.query_run.proofs.Viewing.{all_shown, as_far, first_multiple, none_ask
 use Rattle.query_run.proofs.views.write_views.Goals as goal
 
 pub returns-then-every-eq0-clause-written : goal.returns-then-every-eq0-clause-written
-returns-then-every-eq0-clause-written g c =
+returns-then-every-eq0-clause-written g c text prints =
     let all = coming c.args.packets in
     let none : c.args.every ≡ 0 = omega arith in
     let bytes = g.O.Sink.taken c.args.out.now in
-    subst (Appends bytes bytes) (sym (none_asked c.args.typed.now (geometry_for g.row.WAYS c.args.schedule) c.args.every all (length all) none)) (Appends-nil bytes)
+    subst (Appends bytes bytes) (sym (none_asked (text (geometry_for g.row.WAYS c.args.schedule)) c.args.every all (length all) none)) (Appends-nil bytes)
 
 pub views-init : goal.views-init
 views-init g c =
@@ -31,7 +32,7 @@ views-init g c =
       multiple = first_multiple c.args.every some;
       fault = c.new-replay.ensures.fault;
       keeps = subst (λ (p : PipelineView). Keeps c.args.pipeline p) (sym c.new-replay.ensures.pipeline) (record { plan = refl; entries = refl; buckets = refl; lanes = refl; places = refl });
-      written = subst (Appends bytes bytes) (sym (none_yet c.args.typed.now (geometry_for g.row.WAYS c.args.schedule) c.args.every (coming c.args.packets))) (Appends-nil bytes);
+      written = λ text prints. subst (Appends bytes bytes) (sym (none_yet (text (geometry_for g.row.WAYS c.args.schedule)) c.args.every (coming c.args.packets))) (Appends-nil bytes);
       out_later = omega arith;
       later = omega arith;
     }
@@ -42,9 +43,10 @@ returns-in_err-advance-clause-breaks_off g c =
     let of = geometry_for g.row.WAYS c.args.schedule in
     let some : 0 < c.args.every = omega arith in
     let was = c.views.invariant in
-    err_is (BreaksOff g.O.Sink.taken g.O.Sink.faults (views_text c.args.typed.now of c.args.every (words_of all)) (fault_of c.args.packets) c.args.out.now c.views.out)
+    err_is (λ answer. (text : Geometry → List (List ℕ) → List ℕ) → Prints (g.R.Report.entries c.args.report.now) c.args.pipeline.plan (g.R.Report.printed c.args.report.now) text
+    → BreaksOff g.O.Sink.taken g.O.Sink.faults (views_text (text of) c.args.every (words_of all)) (fault_of c.args.packets) c.args.out.now c.views.out answer)
     c.from_residual.result (answer_for c.in_err-advance.field-0.0) c.from_residual.ensures.1
-    (reader_broke c.args.typed.now of c.args.every all g.O.Sink.taken g.O.Sink.faults (fault_of c.args.packets) c.args.out.now c.views.out c.views.number (c.requires.viewed some).sound was.way.within was.written
+    (λ text prints. reader_broke (text of) c.args.every all g.O.Sink.taken g.O.Sink.faults (fault_of c.args.packets) c.args.out.now c.views.out c.views.number (c.requires.viewed some).sound was.way.within (was.written text prints)
     c.in_err-advance.field-0.0 (subst (λ fault. IfRefused c.in_err-advance.field-0.0 (λ found. fault ≡ Some found)) was.fault c.in_err-advance.ensures.refused))
 
 pub write_view-requires : goal.write_view-requires
@@ -57,7 +59,7 @@ write_view-requires g c =
     let entries = ap (λ (p : PipelineView). p.entries) c.pipeline.ensures ∙ (done.keeps.entries ∙ (was.keeps.entries ∙ c.requires.entries)) in
     let far = as_far c.args.schedule all (c.views.number + c.args.every) c.advance.new.self c.requires.room.0 c.requires.room.1 c.requires.whole way in
     let seen = subst (λ (p : PipelineView). IsAsFarAs (geometry_for g.row.WAYS c.args.schedule) (words_of all) (c.views.number + c.args.every) p) (sym c.pipeline.ensures) far in
-    (lit< tt, (c.requires.valid, (subst (IsPlanOf c.args.typed.now) (sym plan) c.requires.plan, (entries, (geometry_for g.row.WAYS c.args.schedule, words_of all, seen)))))
+    (lit< tt, (subst (λ plan. MayPrint (g.R.Report.entries c.args.report.now) plan (g.R.Report.may_print c.args.report.now)) (sym plan) c.requires.may_print, (entries, (geometry_for g.row.WAYS c.args.schedule, words_of all, seen))))
 
 pub views-smaller : goal.views-smaller
 views-smaller g c =
@@ -77,13 +79,15 @@ views-preserved g c =
     let way = done.all (ap Ok c.if-branch.true) c.args.schedule all c.views.number was.way in
     let far = as_far c.args.schedule all (c.views.number + c.args.every) c.advance.new.self c.requires.room.0 c.requires.room.1 c.requires.whole way in
     let seen = subst (λ (p : PipelineView). IsAsFarAs of (words_of all) (c.views.number + c.args.every) p) (sym c.pipeline.ensures) far in
+    let plan = ap (λ (p : PipelineView). p.plan) c.pipeline.ensures ∙ (done.keeps.plan ∙ was.keeps.plan) in
     record {
       way = way;
-      multiple = next_multiple c.args.typed.now of c.args.every (words_of all) c.views.number was.multiple;
+      multiple = next_multiple c.args.every c.views.number was.multiple;
       fault = done.fault ∙ was.fault;
       keeps = keeps_along c.args.pipeline (pipeline_in c.views.replay) (pipeline_in c.advance.new.self) was.keeps done.keeps;
-      written = one_written c.args.typed.now of c.args.every all (g.O.Sink.taken c.args.out.now) (g.O.Sink.taken c.views.out) (g.O.Sink.taken c.write_view.new.out) c.views.number was.multiple some was.written
-          (c.in_ok-write_view.ensures.written of (words_of all) seen);
+      written = λ text prints.
+          one_written (text of) c.args.every all (g.O.Sink.taken c.args.out.now) (g.O.Sink.taken c.views.out) (g.O.Sink.taken c.write_view.new.out) c.views.number was.multiple some (was.written text prints)
+          (c.in_ok-write_view.ensures.written text of (words_of all) (subst (λ plan. Prints (g.R.Report.entries c.args.report.now) plan (g.R.Report.printed c.args.report.now) text) (sym plan) prints) seen);
       out_later = let a = was.out_later in let b = c.write_view.ensures.out_later in omega arith;
       later = let a = was.later in let b = c.advance.ensures.steps in let d = c.write_view.ensures.steps in omega arith;
     }
@@ -94,21 +98,26 @@ returns-in_err-write_view-clause-breaks_off g c =
     let of = geometry_for g.row.WAYS c.args.schedule in
     let some : 0 < c.args.every = omega arith in
     let was = c.views.invariant in
-    let way = c.in_ok-advance.ensures.all (ap Ok c.if-branch.true) c.args.schedule all c.views.number was.way in
+    let done = c.in_ok-advance.ensures in
+    let way = done.all (ap Ok c.if-branch.true) c.args.schedule all c.views.number was.way in
     let far = as_far c.args.schedule all (c.views.number + c.args.every) c.advance.new.self c.requires.room.0 c.requires.room.1 c.requires.whole way in
     let seen = subst (λ (p : PipelineView). IsAsFarAs of (words_of all) (c.views.number + c.args.every) p) (sym c.pipeline.ensures) far in
-    err_is (BreaksOff g.O.Sink.taken g.O.Sink.faults (views_text c.args.typed.now of c.args.every (words_of all)) (fault_of c.args.packets) c.args.out.now c.write_view.new.out)
+    let plan = ap (λ (p : PipelineView). p.plan) c.pipeline.ensures ∙ (done.keeps.plan ∙ was.keeps.plan) in
+    err_is (λ answer. (text : Geometry → List (List ℕ) → List ℕ) → Prints (g.R.Report.entries c.args.report.now) c.args.pipeline.plan (g.R.Report.printed c.args.report.now) text
+    → BreaksOff g.O.Sink.taken g.O.Sink.faults (views_text (text of) c.args.every (words_of all)) (fault_of c.args.packets) c.args.out.now c.write_view.new.out answer)
     c.from_residual-in_err-write_view.result c.in_err-write_view.field-0.0 c.from_residual-in_err-write_view.ensures.1
-    (view_broke c.args.typed.now of c.args.every all g.O.Sink.taken g.O.Sink.faults (fault_of c.args.packets) c.args.out.now c.views.out c.write_view.new.out c.views.number (c.requires.viewed some).sound
-    was.multiple some way.within was.written was.out_later c.in_err-write_view.field-0.0 (c.in_err-write_view.ensures.breaks_off of (words_of all) seen))
+    (λ text prints.
+    view_broke (text of) c.args.every all g.O.Sink.taken g.O.Sink.faults (fault_of c.args.packets) c.args.out.now c.views.out c.write_view.new.out c.views.number (c.requires.viewed some).sound
+    was.multiple some way.within (was.written text prints) was.out_later c.in_err-write_view.field-0.0
+    (c.in_err-write_view.ensures.breaks_off text of (words_of all) (subst (λ plan. Prints (g.R.Report.entries c.args.report.now) plan (g.R.Report.printed c.args.report.now) text) (sym plan) prints) seen))
 
 pub returns-clause-written : goal.returns-clause-written
-returns-clause-written g c =
+returns-clause-written g c text prints =
     let all = coming c.args.packets in
     let of = geometry_for g.row.WAYS c.args.schedule in
     let was = c.views.invariant in
     let ended = c.in_ok-advance.ensures.end (ap Ok c.if-branch.false) c.args.schedule all c.views.number was.way in
-    subst (Appends (g.O.Sink.taken c.args.out.now) (g.O.Sink.taken c.views.out)) (sym (all_shown c.args.typed.now of c.args.every all c.views.number was.multiple was.way.within ended.0)) was.written
+    subst (Appends (g.O.Sink.taken c.args.out.now) (g.O.Sink.taken c.views.out)) (sym (all_shown (text of) c.args.every all c.views.number was.multiple was.way.within ended.0)) (was.written text prints)
 
 pub returns-clause-under_way : goal.returns-clause-under_way
 returns-clause-under_way g c =

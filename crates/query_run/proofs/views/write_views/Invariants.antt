@@ -1,8 +1,10 @@
-use Rattle.std.proofs.Common.{◌≡◌, ◌≤◌, ◌-◌, ◌%◌, length}
+use Rattle.std.proofs.Common.{◌≡◌, ◌≤◌, ◌-◌, ◌%◌, ℕ, List, length}
 use Rattle.std.specs.Io.KnownBytes.{Appends}
 use Rattle.trace_drive.specs.Drives.{coming, fault_of, geometry_for, words_of}
 use Rattle.trace_drive.specs.Follows.{Keeps}
 use Rattle.trace_drive.specs.Replays.{IsUnderWay, fault_in, pipeline_in}
+use Rattle.epoch_model.specs.Epochs.{Geometry}
+use Rattle.query_run.specs.Reports.{Prints}
 use Rattle.query_run.specs.Views.{views_up_to}
 use Rattle.query_run.proofs.views.write_views.Given as goal
 
@@ -13,7 +15,8 @@ invariant-views g l = record {
   multiple : l.number % l.every ≡ 0;
   fault : fault_in l.replay ≡ fault_of l.fn.packets;
   keeps : Keeps l.fn.pipeline (pipeline_in l.replay);
-  written : Appends (g.O.Sink.taken l.fn.out) (g.O.Sink.taken l.out) (views_up_to l.typed (geometry_for g.row.WAYS l.fn.schedule) l.every (words_of (coming l.fn.packets)) l.number);
+  written : (text : Geometry → List (List ℕ) → List ℕ) → Prints (g.R.Report.entries l.report) l.fn.pipeline.plan (g.R.Report.printed l.report) text
+      → Appends (g.O.Sink.taken l.fn.out) (g.O.Sink.taken l.out) (views_up_to (text (geometry_for g.row.WAYS l.fn.schedule)) l.every (words_of (coming l.fn.packets)) l.number);
   out_later : g.O.Sink.faults l.fn.out ≤ g.O.Sink.faults l.out;
   later : l.fn.steps ≤ l.steps;
 }

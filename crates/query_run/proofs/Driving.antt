@@ -1,0 +1,37 @@
+-- A run with the setting of a command line.
+use Rattle.std.proofs.Common.{◌≡◌, ℕ, List, Option, Result, IfErr, ap, sym, ◌∙◌, subst}
+use Rattle.std.specs.Result.{IsErrAnd}
+use Rattle.command_line.specs.Command.{ways_number}
+use Rattle.command_line.specs.declared.setting.Setting.{Setting}
+use Rattle.command_line.specs.declared.setting.Ways.{Ways}
+use Rattle.epoch_entry.specs.declared.purpose.Entries.{Entries}
+use Rattle.epoch_model.specs.Epochs.{Geometry}
+use Rattle.final_queries.specs.declared.table.Table.{Table}
+use Rattle.stage_plan.specs.Sound.{PlanParts}
+use Rattle.trace_drive.specs.Drives.{geometry_for}
+use Rattle.trace_drive.specs.declared.schedule.Schedule.{Schedule}
+use Rattle.trace_reader.specs.declared.fault.TraceFault.{TraceFault}
+use Rattle.query_run.specs.Answers.{BreaksOff}
+use Rattle.query_run.specs.Driven.{geometry_of}
+use Rattle.query_run.specs.Reports.{Prints}
+use Rattle.query_run.specs.Views.{views_text}
+use Rattle.query_run.specs.declared.answer.RunAnswer.{RunAnswer}
+use Rattle.query_run.specs.declared.driven.Driven.{Driven}
+use Rattle.query_run.proofs.Breaking.{err_is}
+
+-- the caches of a schedule with the setting's ways are those of the setting
+pub geometry_is : (setting : Setting) (schedule : Schedule) (ways : Ways) → setting.ways ≡ ways
+    → schedule ≡ record { buckets = setting.buckets; pipe = setting.pipe; lag = setting.lag; refresh = setting.refresh } → geometry_for (ways_number ways) schedule ≡ geometry_of setting
+geometry_is setting schedule ways is same =
+    ap (geometry_for (ways_number ways)) same
+    ∙ ap (λ (ways : Ways). record { buckets = setting.buckets; ways = ways_number ways; refresh = setting.refresh }) (sym is)
+
+module _ {O : Type 0} (taken : O → Option (List ℕ)) (faults : O → ℕ) (entries : Entries) (plan : PlanParts) (printed : List Table → List ℕ) (every : ℕ) (packets : List (List ℕ)) (fault : Option TraceFault)
+    (old new : O) where
+  -- a run broke off with this answer, whichever text its report prints of the plan
+  abbrev pub Breaks : Geometry → RunAnswer → Type 0
+  Breaks g answer = (text : Geometry → List (List ℕ) → List ℕ) → Prints entries plan printed text → BreaksOff taken faults (views_text (text g) every packets) fault old new answer
+
+  -- the answer is handed on
+  pub handed_on : (g found : Geometry) (result : Result Driven RunAnswer) (answer : RunAnswer) → g ≡ found → IsErrAnd result (λ one. one ≡ answer) → Breaks g answer → IfErr result (Breaks found)
+  handed_on g found result answer same is broke = err_is (Breaks found) result answer is (subst (λ (g : Geometry). Breaks g answer) same broke)

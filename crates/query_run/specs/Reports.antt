@@ -1,0 +1,34 @@
+-- What a report prints of the tables of a plan's groupbys.
+use Rattle.std.specs.Prelude.{◌≡◌, ℕ, List, map}
+use Rattle.epoch_entry.specs.declared.purpose.Entries.{Entries}
+use Rattle.epoch_model.specs.Epochs.{Geometry}
+use Rattle.epoch_model.specs.Laws.{HasRoom}
+use Rattle.final_queries.specs.declared.table.Table.{Table}
+use Rattle.query_run.specs.Runs.{AreWhole}
+use Rattle.stage_plan.specs.Sound.{IsSoundPlan, PlanParts}
+use Rattle.switch_core.specs.Pipelines.{tables_of}
+use Rattle.switch_core.specs.PlanLanes.{AreLanesOf, LaneView, folding_at}
+use Rattle.trace_drive.specs.Drives.{end_machines}
+
+-- the tables that lanes of the plan give at the end of a trace whose packets have these words
+abbrev pub end_tables : PlanParts → List LaneView → Geometry → List (List ℕ) → List Table
+end_tables plan lanes g packets = tables_of plan.groups (map folding_at lanes) (end_machines plan g packets)
+
+-- P holds of any packets, each of 14 words, and the tables that lanes of the plan, with entries for this, give at their end.
+abbrev pub AtEnds : Entries → PlanParts → (Geometry → List (List ℕ) → List Table → Type 0) → Type 0
+AtEnds entries plan P = (buckets : ℕ) (lanes : List LaneView) (g : Geometry) (packets : List (List ℕ)) → IsSoundPlan plan
+    → AreLanesOf entries plan buckets lanes → HasRoom g → AreWhole packets → P g packets (end_tables plan lanes g packets)
+
+-- All tables at an end are such that they can be printed.
+abbrev pub MayPrint : Entries → PlanParts → (List Table → Type 0) → Type 0
+MayPrint entries plan May = AtEnds entries plan (λ g packets tables. May tables)
+
+-- What is printed of the tables at an end is this text over the packets.
+pub record Prints (entries : Entries) (plan : PlanParts) (printed : List Table → List ℕ) (text : Geometry → List (List ℕ) → List ℕ) : Type 0 where
+  pub at_ends : AtEnds entries plan (λ g packets tables. printed tables ≡ text g packets)
+
+-- Of the plan's tables at an end all can be printed, and what is printed is this text over the packets.
+pub record Reports (entries : Entries) (plan : PlanParts) (May : List Table → Type 0) (printed : List Table → List ℕ) (text : Geometry
+    → List (List ℕ) → List ℕ) : Type 0 where
+  pub may_print : MayPrint entries plan May
+  pub prints : Prints entries plan printed text

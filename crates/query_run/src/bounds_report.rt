@@ -1,0 +1,95 @@
+//! The report of a query's bounds.
+
+ghost use Rattle.std.specs.Prelude.{◌≡◌, ℕ, All, List, None, map, IfOk};
+ghost use Rattle.query_lang.specs.TypedQueries.{IsValidQuery};
+ghost use Rattle.epoch_entry.specs.declared.purpose.Entries.TheVariants.{Bounds};
+ghost use Rattle.epoch_model.specs.Epochs.{Geometry};
+ghost use Rattle.marple_base.specs.declared.field.FieldSet.{FieldSet};
+ghost use Rattle.enclosure_folds.specs.Check.{enclose_fault};
+ghost use Rattle.enclosure_folds.specs.Shown.{MayBeShown, shown};
+ghost use Rattle.enclosed_query.specs.EnclosedTables.{enclose_text};
+ghost use Rattle.enclosed_query.specs.Holding.{ShownHolds};
+ghost use Rattle.stage_plan.specs.Planned.{IsPlanOf};
+ghost use Rattle.stage_plan.specs.Sound.{PlanParts};
+ghost use Rattle.trace_drive.specs.Drives.{words_of};
+ghost use Rattle.trace_reader.specs.Traces.{packets};
+ghost use Rattle.query_run.specs.BoundsReports.{AreBoundsTables, bounds_print};
+ghost use Rattle.query_run.specs.Reports.{Reports};
+
+use crate::laws::read_packets_are_words;
+use crate::report::Report;
+use enclosed_query::{
+    enclosed_tables_are_read, ends_give_enclosed_tables, print_enclosed, shown_tables_hold,
+    starts_known,
+};
+use enclosure_folds::{Enclosed, enclosed_of, triples_give_whole_tables};
+use epoch_entry::Entries;
+use final_queries::Table;
+use marple_base::{Seq, Steps, Text};
+use query_lang::TypedQuery;
+use std::alloc::{AllocError, Global};
+use std::sync::ledger::Ledger;
+
+// What is shown of groupbys with these tables.
+fn shown_of(alloc: Global, tables: Seq<Table>) -> Result<Seq<Enclosed>, AllocError>
+    requires { All MayBeShown tables }
+    ensures { IfOk result (λ made. made ≡ map shown tables) }
+{
+    let mut made = Seq::new(alloc);
+    for table in tables.into_vec() {
+        made.push(enclosed_of(alloc, table)?)?;
+    }
+    Ok(made)
+}
+
+/// The report of a query where bounds are asked for: the tables of linear folds, the bounds of monotone folds over all packets
+/// of a key, and the tables that finals make of the rows that are exact.
+#[derive(Drop)]
+pub struct QueryBounds {
+    typed: TypedQuery,
+}
+
+impl QueryBounds {
+    /// The report of a valid query whose folds are linear or monotone. It prints the bounds with every plan of the query, and
+    /// what is shown holds over all packets of a trace, whatever the caches evict before its end.
+    pub fn of(typed: TypedQuery) -> QueryBounds
+        requires valid { IsValidQuery typed }
+        requires bounded { enclose_fault typed ≡ None }
+        ensures typed { result.typed ≡ typed }
+        ensures reports { (plan : PlanParts) → IsPlanOf typed plan
+            → Reports Bounds plan (AreBoundsTables result.typed) (bounds_print result.typed) (enclose_text typed) }
+        ensures holds { (g : Geometry) (bytes : List ℕ) (reads : FieldSet)
+            → ShownHolds typed g (words_of (packets bytes reads)) }
+    {
+        ends_give_enclosed_tables();
+        enclosed_tables_are_read();
+        triples_give_whole_tables();
+        shown_tables_hold();
+        read_packets_are_words();
+        starts_known(&typed);
+        QueryBounds { typed }
+    }
+}
+
+impl Report for QueryBounds {
+    ghost entries = { λ _. Bounds };
+
+    ghost may_print = { λ report tables. AreBoundsTables report.typed tables };
+
+    ghost printed = { λ report tables. bounds_print report.typed tables };
+
+    fn entries(&self) -> Entries {
+        Entries::Bounds
+    }
+
+    fn print<L: Ledger>(
+        &self,
+        alloc: Global,
+        tables: Seq<Table>,
+        steps: &mut Steps<L>,
+    ) -> Result<Text, AllocError> {
+        let groups = shown_of(alloc, tables)?;
+        let text = print_enclosed(alloc, &self.typed, groups, steps)?;
+        Ok(text)
+    }
+}

@@ -1,0 +1,62 @@
+//! The report of a query.
+
+ghost use Rattle.std.specs.Prelude.{◌≡◌};
+ghost use Rattle.query_lang.specs.TypedQueries.{IsValidQuery};
+ghost use Rattle.epoch_entry.specs.declared.purpose.Entries.TheVariants.{Folds};
+ghost use Rattle.query_tables.specs.Tables.{query_text};
+ghost use Rattle.stage_plan.specs.Planned.{IsPlanOf};
+ghost use Rattle.stage_plan.specs.Sound.{PlanParts};
+ghost use Rattle.query_run.specs.QueryReports.{AreGroupTables, query_print};
+ghost use Rattle.query_run.specs.Reports.{Reports};
+
+use crate::laws::ends_are_the_querys;
+use crate::report::Report;
+use epoch_entry::Entries;
+use final_queries::Table;
+use marple_base::{Seq, Steps, Text};
+use query_lang::TypedQuery;
+use query_tables::{print_tables, query_tables_are_read};
+use std::alloc::{AllocError, Global};
+use std::sync::ledger::Ledger;
+
+/// The report of a query: the tables of its groupbys and finals that it prints.
+#[derive(Drop)]
+pub struct QueryTables {
+    typed: TypedQuery,
+}
+
+impl QueryTables {
+    /// The report of a valid query. It prints what the query does, with every plan of the query.
+    pub fn of(typed: TypedQuery) -> QueryTables
+        requires valid { IsValidQuery typed }
+        ensures typed { result.typed ≡ typed }
+        ensures reports { (plan : PlanParts) → IsPlanOf typed plan
+            → Reports Folds plan (AreGroupTables result.typed) (query_print result.typed) (query_text typed) }
+    {
+        ends_are_the_querys();
+        query_tables_are_read();
+        QueryTables { typed }
+    }
+}
+
+impl Report for QueryTables {
+    ghost entries = { λ _. Folds };
+
+    ghost may_print = { λ report tables. AreGroupTables report.typed tables };
+
+    ghost printed = { λ report tables. query_print report.typed tables };
+
+    fn entries(&self) -> Entries {
+        Entries::Folds
+    }
+
+    fn print<L: Ledger>(
+        &self,
+        alloc: Global,
+        tables: Seq<Table>,
+        steps: &mut Steps<L>,
+    ) -> Result<Text, AllocError> {
+        let text = print_tables(alloc, &self.typed, tables, steps)?;
+        Ok(text)
+    }
+}

@@ -1,0 +1,89 @@
+//! A report over packets, with the ways that a setting gives.
+
+ghost use Rattle.std.specs.Prelude.{◌≡◌, ◌<◌, ◌≤◌, ℕ, List, None, IfOk, IfErr};
+ghost use Rattle.std.specs.Io.KnownBytes.{Appends};
+ghost use Rattle.epoch_model.specs.Epochs.{Geometry};
+ghost use Rattle.switch_core.specs.PlanLanes.{PipelineStands};
+ghost use Rattle.trace_drive.specs.Drives.{coming, end_machines, fault_of, words_of};
+ghost use Rattle.command_line.specs.Command.{IsSetting};
+ghost use Rattle.query_run.specs.Answers.{BreaksOff};
+ghost use Rattle.query_run.specs.Driven.{IsLeftWith, geometry_of, pipeline_in};
+ghost use Rattle.query_run.specs.Reports.{MayPrint, Prints};
+ghost use Rattle.query_run.specs.Runs.{AreWhole};
+ghost use Rattle.query_run.specs.Views.{CanBeViewed, views_text};
+
+use crate::answer::RunAnswer;
+use crate::driven::Driven;
+use crate::report::Report;
+use crate::run::run_report;
+use command_line::{Setting, Ways};
+use marple_base::{Sink, Steps};
+use stage_plan::Plan;
+use std::alloc::Global;
+use std::sync::ledger::Ledger;
+use trace_drive::{Packets, Schedule};
+
+// The schedule of a pipeline with this setting: its sizes, and when it does what no packet asks for.
+fn schedule_of(setting: Setting) -> Schedule
+    ensures { result ≡ record { buckets = setting.buckets; pipe = setting.pipe; lag = setting.lag; refresh = setting.refresh } }
+{
+    Schedule {
+        buckets: setting.buckets,
+        pipe: setting.pipe,
+        lag: setting.lag,
+        refresh: setting.refresh,
+    }
+}
+
+/// Makes the setting's ways, a value, into the number of ways of a pipeline, which is part of its type; and runs the report.
+pub(crate) fn run_with_its_ways<R: Report, O: Sink, L: Ledger>(
+    alloc: Global,
+    setting: Setting,
+    every: u32,
+    report: &R,
+    plan: Plan,
+    packets: Packets<'_>,
+    out: &mut O,
+    steps: &mut Steps<L>,
+) -> Result<Driven, RunAnswer>
+    requires setting { IsSetting setting }
+    requires may_print { MayPrint (R.entries report.now) plan (R.may_print report.now) }
+    requires whole { AreWhole (words_of (coming packets)) }
+    requires viewed { 0 < every → CanBeViewed packets }
+    ensures accepted { IfOk result (λ driven. fault_of packets.entry ≡ None) }
+    ensures written { IfOk result (λ driven. (text : Geometry → List (List ℕ) → List ℕ)
+        → Prints (R.entries report.now) plan (R.printed report.now) text → Appends (O.taken out.old) (O.taken out.new)
+        (views_text (text (geometry_of setting)) every (words_of (coming packets.entry)))) }
+    ensures plan { IfOk result (λ driven. (pipeline_in driven).plan ≡ plan) }
+    ensures left { IfOk result (IsLeftWith (R.entries report.now) setting) }
+    ensures stands { IfOk result (λ driven. PipelineStands (pipeline_in driven)
+        (end_machines plan (geometry_of setting) (words_of (coming packets.entry)))) }
+    ensures breaks_off { IfErr result (λ answer. (text : Geometry → List (List ℕ) → List ℕ)
+        → Prints (R.entries report.now) plan (R.printed report.now) text → BreaksOff O.taken O.faults
+        (views_text (text (geometry_of setting)) every (words_of (coming packets.entry)))
+        (fault_of packets.entry) out.old out.new answer) }
+    ensures out_later { O.faults out.old ≤ O.faults out.new }
+    ensures steps { steps.old ≤ steps.new }
+{
+    let schedule = schedule_of(setting);
+    match setting.ways {
+        Ways::One => Ok(Driven::Ways1(run_report(
+            alloc, report, plan, schedule, every, packets, out, steps,
+        )?)),
+        Ways::Two => Ok(Driven::Ways2(run_report(
+            alloc, report, plan, schedule, every, packets, out, steps,
+        )?)),
+        Ways::Four => Ok(Driven::Ways4(run_report(
+            alloc, report, plan, schedule, every, packets, out, steps,
+        )?)),
+        Ways::Eight => Ok(Driven::Ways8(run_report(
+            alloc, report, plan, schedule, every, packets, out, steps,
+        )?)),
+        Ways::Sixteen => Ok(Driven::Ways16(run_report(
+            alloc, report, plan, schedule, every, packets, out, steps,
+        )?)),
+        Ways::ThirtyTwo => Ok(Driven::Ways32(run_report(
+            alloc, report, plan, schedule, every, packets, out, steps,
+        )?)),
+    }
+}
