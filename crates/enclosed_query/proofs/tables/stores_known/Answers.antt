@@ -16,7 +16,7 @@ loop-i-preserved g c n lane below at =
     (λ e.
     let least = ltb-false n i e in
     let same : n ≡ i = omega (arith, below, least) in
-    let is : lane_view c.lane-lane.result.now ≡ lane = same_some (lane_view c.lane-lane.result.now) lane (sym c.lane-lane.ensures ∙ (ap (slice_get c.args.pipeline.now.lanes) (sym same) ∙ at)) in
+    let is : lane_view c.lane-lane.result.now ≡ lane = same_some (lane_view c.lane-lane.result.now) lane (sym c.lane-lane.ensures.lane ∙ (ap (slice_get c.args.pipeline.now.lanes) (sym same) ∙ at)) in
     subst HasStoredKeys is (record { store = subst IsStore c.store.ensures c.known-in-loop-i.ensures; words = c.known.ensures.store.key }))
 
 pub returns : goal.returns
