@@ -40,8 +40,8 @@ use Rattle.query_run.proofs.QueryEnds.{machines_are}
 use Rattle.query_run.proofs.WholePackets.{read_whole}
 use Rattle.marple_cli.specs.Call.{ToldOf}
 use Rattle.marple_cli.specs.Driven.{DrivenAfter, Leaves, StandsForEnd}
-use Rattle.marple_cli.specs.Ends.{Ends, IsReadFrom, OperandEnds, PlanEnds, QueryEnds, QueryTold, ReadEnds, TraceEnds, WriteEnds, status_for, status_of}
-use Rattle.marple_cli.specs.Output.{IsAccepted, IsRead, SaysPlan, Source, defined_text, fault_behind, fault_for, fault_with, output, read_packets, refusal, run_text, stages_text, tables_text, made_packets, takes, trace_refusal}
+use Rattle.marple_cli.specs.Ends.{Ends, OperandEnds, QueryEnds, QueryTold, ReadEnds, TraceEnds, WriteEnds, status_for, status_of}
+use Rattle.marple_cli.specs.Output.{IsAccepted, IsRead, Source, defined_text, fault_behind, fault_for, fault_with, output, read_packets, refusal, run_text, stages_text, tables_text, made_packets, takes, trace_refusal}
 use Rattle.accepted_query.specs.TrialQuery.{trial_query}
 use Rattle.marple_cli.specs.declared.status.Status.{Status}
 use Rattle.marple_cli.specs.declared.status.Status.TheVariants as statuses

@@ -5,7 +5,6 @@ use Rattle.std.proofs.lemmas.Bool.Decides.{leb_tells, nat_tests}
 use Rattle.std.proofs.lemmas.Grind.{common_steps}
 use Rattle.marple_base.specs.Inputs.{Input}
 use Rattle.marple_base.specs.Sink.{TakesFront}
-use Rattle.marple_base.specs.declared.field.Packet.{Packet}
 use Rattle.marple_base.specs.declared.field.FieldSet.{FieldSet}
 use Rattle.marple_base.specs.declared.inputs.Which.TheVariants.{Query, Trace}
 use Rattle.query_lang.specs.Checks.{Checked}

@@ -1,15 +1,11 @@
 -- The text of a plan as the first operand.
 use Rattle.std.proofs.Common.{inl, inr, ◌≡◌, ℕ, ◌<◌, ◌≤◌, List, [], length, take, Option, None, Some, IfSome, Ok, Err, arith, ap, refl, sym, ◌∙◌, subst}
-use Rattle.std.specs.Io.KnownBytes.{Appends}
 use Rattle.std.proofs.lemmas.Bool.Decides.{leb_tells}
 use Rattle.marple_base.specs.Inputs.{Input}
-use Rattle.marple_base.specs.declared.field.FieldSet.{FieldSet}
 use Rattle.marple_base.specs.declared.inputs.Which.{Which}
 use Rattle.marple_base.specs.declared.inputs.Which.TheVariants.{Query, Trace}
 use Rattle.query_lang.specs.Checks.{Checked}
-use Rattle.query_lang.specs.declared.fault.FaultKind.{FaultKind}
 use Rattle.query_lang.specs.declared.fault.QueryFault.{QueryFault}
-use Rattle.stage_plan.specs.Sound.{PlanParts}
 use Rattle.switch_core.specs.PlanLanes.{PipelineStands}
 use Rattle.trace_drive.specs.Drives.{end_machines, words_of}
 use Rattle.trace_reader.specs.Traces.{Contents, contents, packets}
@@ -27,7 +23,7 @@ use Rattle.plan_file.specs.declared.made.Made.{Made}
 use Rattle.plan_file.proofs.AnswerFacts.{nowhere, only_answer}
 use Rattle.plan_file.proofs.LineLaws.{makes_one}
 use Rattle.plan_file.proofs.TextLaws.{says_one}
-use Rattle.plan_loader.specs.Loaded.{IsLoaded, IsLoadedFrom}
+use Rattle.plan_loader.specs.Loaded.{IsLoaded}
 use Rattle.plan_loader.specs.Meaning.{plan_output, reads_in}
 use Rattle.plan_loader.specs.Parts.{IsPlanFrom}
 use Rattle.plan_loader.specs.declared.loaded.LoadedPlan.{LoadedPlan}
@@ -36,7 +32,7 @@ use Rattle.marple_cli.specs.Driven.{Leaves, StandsForPlan}
 use Rattle.marple_cli.specs.Ends.{IsReadFrom, QueryTold}
 use Rattle.marple_cli.specs.Output.{SaysPlan, Source, fault_behind, of_accepted, output, plan_tables_text, refusal, trace_refusal}
 use Rattle.marple_cli.proofs.Ending.{told}
-use Rattle.marple_cli.proofs.Limits.{take_long, take_whole, told_contents}
+use Rattle.marple_cli.proofs.Limits.{take_long, take_whole}
 
 -- a fault is given by its parts
 same_fault : (one other : QueryFault) → one.kind ≡ other.kind → one.span.start ≡ other.span.start → one.span.end ≡ other.span.end → one ≡ other

@@ -1,5 +1,5 @@
 -- What commands write of a query that they accepted.
-use Rattle.std.proofs.Common.{◌≡◌, ℕ, List, [], Option, None, Some, IfSome, Ok, refl, sym, ap, ◌∙◌}
+use Rattle.std.proofs.Common.{◌≡◌, ℕ, List, [], None, Some, IfSome, Ok, refl, sym, ap, ◌∙◌}
 use Rattle.marple_base.specs.Inputs.{Input}
 use Rattle.marple_base.specs.declared.field.FieldSet.{FieldSet}
 use Rattle.marple_base.specs.declared.inputs.Which.{Which}
@@ -8,7 +8,6 @@ use Rattle.query_lang.specs.declared.typed.TypedQuery.{TypedQuery}
 use Rattle.stage_plan.specs.Fields.{reads_of}
 use Rattle.trace_reader.specs.Traces as traces
 use Rattle.accepted_query.specs.Accepted.{accepted}
-use Rattle.command_line.specs.declared.command.Command.{Command}
 use Rattle.command_line.specs.declared.command.Command.TheVariants.{Net, Enclose, Compile}
 use Rattle.command_line.specs.declared.setting.NetSetting.{NetSetting}
 use Rattle.command_line.specs.declared.setting.Setting.{Setting}

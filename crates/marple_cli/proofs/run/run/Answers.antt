@@ -1,6 +1,4 @@
-use Rattle.std.proofs.Common.{◌≡◌, IfSome, None, refl, subst}
-use Rattle.std.specs.Io.KnownBytes.{Appends}
-use Rattle.epoch_model.specs.Epochs.{Geometry}
+use Rattle.std.proofs.Common.{IfSome, refl, subst}
 use Rattle.marple_base.specs.Inputs.{Input}
 use Rattle.marple_base.specs.declared.inputs.Which.{Which}
 use Rattle.marple_base.specs.declared.inputs.Which.TheVariants.{Query, Trace}

@@ -1,7 +1,5 @@
 use Rattle.std.proofs.Common.{◌≡◌, None, refl, sym, ap, ◌∙◌, subst}
 use Rattle.std.specs.Io.KnownBytes.{Appends}
-use Rattle.accepted_query.specs.Accepted.{accepted}
-use Rattle.accepted_query.specs.TrialQuery.{trial_query}
 use Rattle.command_line.specs.declared.command.Command.TheVariants.{Trial}
 use Rattle.query_run.specs.Answers.{BreaksOff}
 use Rattle.query_run.specs.Driven.{geometry_of, pipeline_in}
