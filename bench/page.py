@@ -44,11 +44,12 @@ def preface(load: float, runs: int | None) -> list[str]:
     ]
     often = "five times each, or three times where a run takes more than 4 s and in `many` and `parts`"
     if runs:
-        often = f"{runs} times each, or three times where a run takes more than 4 s" if runs > 3 else f"{runs} times each"
+        often = "once each" if runs == 1 else f"{runs} times each"
+        often += ", or three times where a run takes more than 4 s" if runs > 3 else ""
     legend = (
         "Times are processor time, and of the clock where the case says so: the median of the runs, with the least and "
-        f"the greatest. The programs of a case run in turn, {often}. A ratio is the figure in the first line of the case "
-        "divided by that of the line. Instructions are counted by callgrind, of `queries` over 100,000 packets."
+        f"the greatest. The programs of a case run in turn, {often}. A ratio is the figure in the first line of the "
+        "case divided by that of the line. Instructions are counted by callgrind, of `queries` over 100,000 packets."
     )
     paragraphs = (textwrap.wrap(text, 119, break_on_hyphens=False) for text in (" ".join(about), legend))
     return [line for paragraph in paragraphs for line in (*paragraph, "")]
