@@ -31,8 +31,8 @@ def machine() -> str:
     return f"{os.cpu_count()} processors {model}, {memory:.0f} GB, {platform.system()} {platform.release()}"
 
 
-def preface(load: float) -> list[str]:
-    """The day, the machine and the versions."""
+def preface(load: float, runs: int | None) -> list[str]:
+    """The day, the machine, the versions, and how often each program ran."""
     today = datetime.date.today()
     versions = [output_of(["rustc", "--version"]), output_of(["rt", "version"]), output_of(["mawk", "-W", "version"])]
     versions += [output_of([name, "--version"]) for name in ("gawk", "datamash", "valgrind")]
@@ -42,15 +42,17 @@ def preface(load: float) -> list[str]:
         f"{today.day} {today:%B %Y}, commit {commit}. Machine: {machine()}; load {load:.1f} when the run began.",
         f"Versions: {'; '.join(version for version in versions if version.strip())}.",
     ]
-    return [
-        *textwrap.wrap(" ".join(about), 119, break_on_hyphens=False),
-        "",
-        "Times are processor time, and of the clock where the case says so: the median of the runs, with the least and",
-        "the greatest. The programs of a case run in turn, five times each, or three times where a run takes more than",
-        "4 s and in `many` and `parts`. A ratio is the figure in the first line of the case divided by that of the",
-        "line. Instructions are counted by callgrind, of `queries` over 100,000 packets.",
-        "",
-    ]
+    often = "five times each, or three times where a run takes more than 4 s and in `many` and `parts`"
+    if runs:
+        often = "once each" if runs == 1 else f"{runs} times each"
+        often += ", or three times where a run takes more than 4 s" if runs > 3 else ""
+    legend = (
+        "Times are processor time, and of the clock where the case says so: the median of the runs, with the least and "
+        f"the greatest. The programs of a case run in turn, {often}. A ratio is the figure in the first line of the "
+        "case divided by that of the line. Instructions are counted by callgrind, of `queries` over 100,000 packets."
+    )
+    paragraphs = (textwrap.wrap(text, 119, break_on_hyphens=False) for text in (" ".join(about), legend))
+    return [line for paragraph in paragraphs for line in (*paragraph, "")]
 
 
 def goal_row(goal: Goal, figures: Figures) -> str:
@@ -111,7 +113,7 @@ def bench_table(name: str, measured: list[tuple[Race, dict[str, Figure]]]) -> li
     return [f"### {name}", "", *heading, *rows, ""]
 
 
-def whole_page(load: float, measured: dict[str, list[tuple[Race, dict[str, Figure]]]]) -> str:
+def whole_page(load: float, runs: int | None, measured: dict[str, list[tuple[Race, dict[str, Figure]]]]) -> str:
     """The page: what it was run on, the goals, and a table for each bench."""
     figures = {
         (bench, race.name, program): figure
@@ -119,7 +121,7 @@ def whole_page(load: float, measured: dict[str, list[tuple[Race, dict[str, Figur
         for race, found in races
         for program, figure in found.items()
     }
-    lines = [*preface(load), *goal_table(figures)]
+    lines = [*preface(load, runs), *goal_table(figures)]
     for bench, races in measured.items():
         lines += bench_table(bench, races)
     return "\n".join(lines)
