@@ -14,6 +14,7 @@ use Rattle.plan_laws.proofs.OneReading.{read_once}
 use Rattle.plan_writer.specs.PlanText.{compiled_text, final_fault}
 use Rattle.plan_laws.proofs.Accepted.{accepted_load}
 use Rattle.query_run.specs.Runs.{ReadPacketsAreWhole}
+use Rattle.query_tables.specs.Tables.{query_text}
 use Rattle.query_run.specs.Views.{NoViewsWithoutNumber}
 use Rattle.stage_plan.specs.Fields.{reads_of}
 use Rattle.trace_drive.specs.Drives.{words_of}
@@ -40,7 +41,7 @@ module _ (alone : NoViewsWithoutNumber) (whole : ReadPacketsAreWhole) (setting :
         let packets : List (List ℕ) = words_of (traces.packets trace (reads_of q)) in
         ap (λ reads. plan_output made (geometry_of setting) (words_of (traces.packets trace reads))) is.reads
         ∙ is.prints (geometry_of setting) packets (whole trace (reads_of q))
-        ∙ sym (alone q (geometry_of setting) packets);
+        ∙ sym (alone (query_text q (geometry_of setting)) packets);
   }
 
   alike : (text : List ℕ) (plan : Source) (found : Checked TypedQuery) → accepted text ≡ found → fault_behind final_fault found ≡ None
