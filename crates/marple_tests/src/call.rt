@@ -5,8 +5,8 @@ ghost use Rattle.marple_base.specs.Inputs.{IsClosed};
 ghost use Rattle.marple_base.specs.MemoryInputs.{memory_input};
 ghost use Rattle.marple_base.specs.declared.inputs.Which.TheVariants.{Query, Trace};
 
-use marple_base::{FailAt, Inputs, MemoryInputs, MemorySink, Seq, Steps, Text, Which};
-use marple_cli::{Driven, Status, marple};
+use marple_base::{FailAt, MemoryInputs, MemorySink, Seq, Steps, Text};
+use marple_cli::{Status, marple};
 use std::alloc::{AllocError, Global};
 use std::marker::Brand;
 use std::sync::ledger::{Blank, Ledger};
@@ -25,13 +25,12 @@ pub struct Outside<'a> {
     pub failing_complaints: &'a [u64],
 }
 
-/// How a call ended, what its sinks took, and the steps that it counted.
+/// How a call ended, and what its sinks took.
 #[derive(Drop)]
 pub struct Told {
     pub status: Status,
     pub text: Text,
     pub complaint: Text,
-    pub steps: u64,
 }
 
 /// The words of a command line, which blanks separate.
@@ -89,75 +88,16 @@ fn parts_of(alloc: Global, line: &str, outside: &Outside<'_>) -> Result<Parts, A
     })
 }
 
-fn run<L: Ledger>(
-    alloc: Global,
-    parts: &mut Parts,
-    driven: &mut Option<Driven>,
-    blank: Blank,
-) -> (Status, u64)
+fn run<L: Ledger>(alloc: Global, parts: &mut Parts, blank: Blank) -> Status
     requires query { IsClosed (memory_input parts.old.inputs Query) }
     requires trace { IsClosed (memory_input parts.old.inputs Trace) }
     requires name { blank.name ≡ L.name }
     requires share { blank.parts ≡ L.parts }
     requires whole { 0 < blank.parts }
 {
-    let mut steps = Steps::<L>::new(blank);
-    let status = marple(
-        alloc,
-        parts.words.as_slice(),
-        &mut parts.inputs,
-        &mut parts.out,
-        &mut parts.err,
-        driven,
-        &mut steps,
-    );
-    (status, steps.shown())
-}
-
-/// Calls the program with the words of a line, where an earlier call left this pipeline.
-pub fn called_after(
-    alloc: Global,
-    line: &str,
-    outside: &Outside<'_>,
-    driven: &mut Option<Driven>,
-) -> Result<Told, AllocError>
-    requires { 0 < outside.now.most }
-{
-    let mut parts = parts_of(alloc, line, outside)?;
-    let (status, steps) = run::<Brand>(alloc, &mut parts, driven, Blank::new(1));
-    Ok(Told {
-        status,
-        text: Text::from_slice(alloc, parts.out.taken())?,
-        complaint: Text::from_slice(alloc, parts.err.taken())?,
-        steps,
-    })
-}
-
-/// Calls the program with the words of a line.
-pub fn called(alloc: Global, line: &str, outside: &Outside<'_>) -> Result<Told, AllocError>
-    requires { 0 < outside.now.most }
-{
-    let mut driven = None;
-    let told = called_after(alloc, line, outside, &mut driven)?;
-    Ok(told)
-}
-
-/// Calls the program with the words of a line, and where it couldn't read the query opens the trace: whether that failed.
-pub fn opened_after<L: Ledger>(
-    alloc: Global,
-    line: &str,
-    outside: &Outside<'_>,
-    blank: Blank,
-) -> Result<bool, AllocError>
-    requires most { 0 < outside.now.most }
-    requires name { blank.name ≡ L.name }
-    requires share { blank.parts ≡ L.parts }
-    requires whole { 0 < blank.parts }
-{
-    let mut parts = parts_of(alloc, line, outside)?;
     let mut driven = None;
     let mut steps = Steps::<L>::new(blank);
-    let status = marple(
+    marple(
         alloc,
         parts.words.as_slice(),
         &mut parts.inputs,
@@ -165,10 +105,18 @@ pub fn opened_after<L: Ledger>(
         &mut parts.err,
         &mut driven,
         &mut steps,
-    );
-    if status == Status::InputFault(Which::Query) {
-        Ok(parts.inputs.open(Which::Trace).is_err())
-    } else {
-        Ok(false)
-    }
+    )
+}
+
+/// Calls the program with the words of a line.
+pub fn called(alloc: Global, line: &str, outside: &Outside<'_>) -> Result<Told, AllocError>
+    requires { 0 < outside.now.most }
+{
+    let mut parts = parts_of(alloc, line, outside)?;
+    let status = run::<Brand>(alloc, &mut parts, Blank::new(1));
+    Ok(Told {
+        status,
+        text: Text::from_slice(alloc, parts.out.taken())?,
+        complaint: Text::from_slice(alloc, parts.err.taken())?,
+    })
 }

@@ -2,15 +2,12 @@
 
 ghost use Rattle.std.specs.Prelude.{◌<◌};
 
-use crate::call::{Outside, called, opened_after};
-use crate::left::{COUNT, RUN as RUN_COUNT, TABLE};
+use crate::call::{Outside, called};
 use crate::realistic::{QUERY, TABLES, TRACE, VIEWS};
 use marple_base::{FailAt, Text, Which};
 use marple_cli::Status;
 use std::alloc::{AllocError, Global};
-use std::marker::Brand;
 use std::process::Abort;
-use std::sync::ledger::Blank;
 use std::test::Fail;
 
 const RUN: &str = "run query trace";
@@ -25,8 +22,8 @@ const SOUND: Outside<'static> = Outside {
     failing_complaints: &[],
 };
 
-/// Calls with this call of an input failing. Where there is such a call the answer is true, and the call ended with this
-/// complaint and no text; where there is none, with the whole text.
+/// Calls with the input's call of this number failing, which ends with this complaint and no text: whether it failed so, and
+/// not at all, since there is no such call.
 fn fail_call(
     rt: &impl Abort,
     alloc: Global,
@@ -153,77 +150,5 @@ fn a_complaint_that_fails_changes_no_status(rt: HostRuntime) -> Result<(), Fail>
     assert_eq!(rt; told.status, Status::InputFault(Which::Trace));
     assert!(rt; told.complaint.is_empty());
     assert!(rt; told.text.is_empty());
-    Ok(())
-}
-
-#[test]
-fn the_trace_is_not_opened_where_the_query_cannot_be_read(rt: HostRuntime) -> Result<(), Fail> {
-    let alloc = rt.alloc();
-    // opening the query, a read of all its bytes, and a read of none
-    for call in 1..4u64 {
-        let failing = [
-            FailAt {
-                which: Which::Query,
-                call,
-            },
-            FailAt {
-                which: Which::Trace,
-                call: 1,
-            },
-        ];
-        let outside = Outside {
-            failing: &failing,
-            ..SOUND
-        };
-        // the trace's first call is the one that is made here
-        assert!(rt;
-            opened_after::<Brand>(alloc, RUN, &outside, Blank::new(1))?,
-            "at {call}"
-        );
-    }
-    Ok(())
-}
-
-#[test]
-fn a_count_whose_second_write_fails_has_written_ten_bytes(rt: HostRuntime) -> Result<(), Fail> {
-    let outside = Outside {
-        most: 10,
-        failing_writes: &[2],
-        ..COUNT
-    };
-    let told = called(rt.alloc(), RUN_COUNT, &outside)?;
-    assert_eq!(rt; told.status, Status::OutputFault);
-    assert_eq!(rt; told.text.as_slice(), b"table r li".as_slice());
-    assert_eq!(rt;
-        told.complaint.as_slice(),
-        b"marple: cannot write\n".as_slice()
-    );
-    Ok(())
-}
-
-#[test]
-fn a_count_whose_trace_fails_writes_nothing(rt: HostRuntime) -> Result<(), Fail> {
-    // the trace's first read fails, and then also the first write of the complaint
-    let failing = [FailAt {
-        which: Which::Trace,
-        call: 2,
-    }];
-    let outside = Outside {
-        failing: &failing,
-        ..COUNT
-    };
-    let complaint = b"marple: cannot read the trace\n".as_slice();
-    for (failing_complaints, complaint) in [([].as_slice(), complaint), (&[1], &[])] {
-        let outside = Outside {
-            failing_complaints,
-            ..outside
-        };
-        let told = called(rt.alloc(), RUN_COUNT, &outside)?;
-        assert_eq!(rt; told.status, Status::InputFault(Which::Trace));
-        assert!(rt; told.text.is_empty());
-        assert_eq!(rt; told.complaint.as_slice(), complaint);
-    }
-    let told = called(rt.alloc(), RUN_COUNT, &COUNT)?;
-    assert_eq!(rt; told.text.as_slice(), TABLE);
     Ok(())
 }

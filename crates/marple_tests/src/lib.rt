@@ -6,6 +6,4 @@ mod call;
 #[cfg(test)]
 mod calls;
 #[cfg(test)]
-mod left;
-#[cfg(test)]
 mod realistic;

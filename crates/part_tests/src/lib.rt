@@ -20,5 +20,3 @@ mod folds;
 mod kinds;
 #[cfg(test)]
 mod lanes;
-#[cfg(test)]
-mod one_lane;

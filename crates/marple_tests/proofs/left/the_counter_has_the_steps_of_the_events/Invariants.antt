@@ -1,4 +1,0 @@
-use Rattle.marple_tests.proofs.left.the_counter_has_the_steps_of_the_events.Given as goal
-
-abbrev pub ghosts-steps_of_the_events : goal.ghosts-steps_of_the_events
-ghosts-steps_of_the_events g a = record { name = a.blank.name; parts = a.blank.parts }
