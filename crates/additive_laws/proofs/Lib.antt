@@ -1,0 +1,9 @@
+pub mod Adding
+pub mod Sums
+pub mod Orders
+pub mod Stores
+pub mod StoreTables
+pub mod Runs
+pub mod OwnEpochs
+pub mod Givens
+pub mod Counts

@@ -1,4 +1,0 @@
-pub mod Runs
-pub mod OwnEpochs
-pub mod Givens
-pub mod Counts
