@@ -4,3 +4,8 @@ pub mod SameTexts
 pub mod Sharing
 pub mod OneSwitch
 pub mod UsesOfOne
+pub mod Places
+pub mod SwitchLists
+pub mod NetRows
+pub mod NetRead
+pub mod PieceTables

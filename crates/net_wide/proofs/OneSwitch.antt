@@ -12,8 +12,8 @@ use Rattle.epoch_model.proofs.Following.{starts-tidy, starts-lists}
 use Rattle.epoch_model.proofs.Cuts.{IsPiece}
 use Rattle.epoch_model.proofs.Rows.{no_row_is_lost_lem}
 use Rattle.epoch_model.proofs.TableRows.{pieces_kept, closed-lists}
-use Rattle.additive_folds.specs.Pieces.{joined}
-use Rattle.additive_folds.specs.Network.{SwitchEvent, SwitchEpoch, events_at, all_epochs, epochs_at, machine_at, AllMerged}
+use Rattle.additive_laws.specs.Pieces.{joined}
+use Rattle.additive_laws.specs.Network.{SwitchEvent, SwitchEpoch, events_at, all_epochs, epochs_at, machine_at, AllMerged}
 use Rattle.net_wide.specs.NetLaws.{KeysOfOneSwitch}
 
 no_pieces : (lists : List (List ArgRow)) → AllByRecursion IsPiece lists → joined lists ≡ [] → lists ≡ []

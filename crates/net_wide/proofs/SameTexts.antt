@@ -27,8 +27,8 @@ use Rattle.final_queries.specs.declared.table.Table.{Table}
 use Rattle.final_queries.specs.declared.table.TableKind.TheVariants as kind
 use Rattle.final_queries.specs.Finals.{with_finals}
 use Rattle.query_tables.specs.Tables.{printed}
-use Rattle.additive_folds.specs.Pieces.{all_rows}
-use Rattle.additive_folds.proofs.Orders.{any_interleaving}
+use Rattle.additive_laws.specs.Pieces.{all_rows}
+use Rattle.additive_laws.proofs.Orders.{any_interleaving}
 use Rattle.net_wide.specs.Combining.{net_fault}
 use Rattle.net_wide.specs.NetTables.{switch_in, switches, uses_at, caches_of, net_epochs, key_args, net_key_rows, net_rows, net_count, net_table, net_table_if, net_pieces, net_tables_from, net_tables, net_text, tables_of_pieces}
 use Rattle.net_wide.specs.NetLaws.{AreWhole, SameOfEachSwitch, TellsSwitches, SwitchesDoNotWait}

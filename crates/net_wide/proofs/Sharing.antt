@@ -24,7 +24,7 @@ use Rattle.switch_core.proofs.Drained.{drained_is_done}
 use Rattle.switch_core.proofs.LaneSteps.{evict_merged_same, packet_merged_same}
 use Rattle.switch_core.proofs.MergeSteps.{merged_next}
 use Rattle.switch_core.proofs.SideBySide.{same_some, got_some}
-use Rattle.additive_folds.specs.Network.{SwitchEvent, SwitchEpoch, all_events, events_at, all_epochs, epochs_at, machine_at, AllMerged}
+use Rattle.additive_laws.specs.Network.{SwitchEvent, SwitchEpoch, all_events, events_at, all_epochs, epochs_at, machine_at, AllMerged}
 use Rattle.net_wide.specs.NetTables.{caches_of}
 use Rattle.net_wide.specs.Sharing.{LeavesParts, SwitchMakes, with_event, epochs_from, FrontsStand, LeadsBy, LeadsByMerge, StoreTakes, merged_at}
 

@@ -11,9 +11,9 @@ use Rattle.epoch_model.specs.Tables.{keys_used}
 use Rattle.epoch_model.proofs.KeyLists.{by_test}
 use Rattle.epoch_model.proofs.KeyOrder.{ascending-ascends, has-ascending, same_ascending}
 use Rattle.epoch_model.proofs.TableRows.{some}
-use Rattle.additive_folds.specs.Pieces.{Given, all_rows, rows_from}
-use Rattle.additive_folds.proofs.Orders.{same_rows}
-use Rattle.additive_folds.proofs.StoreTables.{same_some}
+use Rattle.additive_laws.specs.Pieces.{Given, all_rows, rows_from}
+use Rattle.additive_laws.proofs.Orders.{same_rows}
+use Rattle.additive_laws.proofs.StoreTables.{same_some}
 use Rattle.net_wide.specs.NetTables.{switch_in, packets_at, switches, key_args}
 use Rattle.net_wide.specs.NetLaws.{AreWhole, SameOfEachSwitch}
 

@@ -3,3 +3,4 @@ pub mod NetTables
 pub mod NetLaws
 pub mod Sharing
 pub mod Numbering
+pub mod NetEnds

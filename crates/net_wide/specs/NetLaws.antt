@@ -13,7 +13,7 @@ use Rattle.epoch_model.specs.Driving.{Taken}
 use Rattle.query_types.specs.Uses.{uses}
 use Rattle.epoch_model.specs.Laws.{HasRoom, rows_given}
 use Rattle.epoch_model.specs.Tables.{Folding, closed_key_rows}
-use Rattle.additive_folds.specs.Network.{SwitchEvent, SwitchEpoch, events_at, all_epochs, machine_at, AllMerged}
+use Rattle.additive_laws.specs.Network.{SwitchEvent, SwitchEpoch, events_at, all_epochs, machine_at, AllMerged}
 use Rattle.net_wide.specs.Combining.{is_switch, makes_switch, net_fault}
 use Rattle.net_wide.specs.NetTables.{switch_in, packets_at, uses_at, net_text}
 

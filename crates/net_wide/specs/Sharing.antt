@@ -8,7 +8,7 @@ use Rattle.merged_epochs.specs.Merged.{StoreHolds}
 use Rattle.switch_core.specs.FrontParts.{FrontOf}
 use Rattle.switch_core.specs.FrontEvents.{FrontMakes, next_merged}
 use Rattle.switch_core.specs.Lanes.{Standing, FrontStands}
-use Rattle.additive_folds.specs.Network.{SwitchEvent, SwitchEpoch, events_at, all_epochs, epochs_at, machine_at}
+use Rattle.additive_laws.specs.Network.{SwitchEvent, SwitchEpoch, events_at, all_epochs, epochs_at, machine_at}
 use Rattle.net_wide.specs.NetTables.{caches_of}
 
 -- this holds of the front of this switch

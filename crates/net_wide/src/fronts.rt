@@ -8,7 +8,7 @@ ghost use Rattle.bucket_cache.specs.Caches.{list_at};
 ghost use Rattle.switch_core.specs.FrontParts.{IsFront, FitsStore};
 ghost use Rattle.switch_core.specs.Closing.{is_drained};
 ghost use Rattle.switch_core.specs.Costs.{evict_cost, merge_cost};
-ghost use Rattle.additive_folds.specs.Network.{SwitchEvent, SwitchEpoch, AllMerged};
+ghost use Rattle.additive_laws.specs.Network.{SwitchEvent, SwitchEpoch, AllMerged};
 ghost use Rattle.net_wide.specs.NetTables.{caches_of};
 ghost use Rattle.net_wide.specs.Sharing.{AtSwitch, SwitchMakes, LeadsBy, LeadsByMerge, StoreTakes, FrontsStand, AddsFront};
 

@@ -7,10 +7,10 @@ use Rattle.std.specs.List.{list_any}
 use Rattle.epoch_model.specs.Keys.{Key, key_eq, key_cmp, has, ascending, AreAbove, IsAscending}
 use Rattle.epoch_model.proofs.KeyLists.{by_test, key_eq-true, key_eq-refl}
 use Rattle.epoch_model.proofs.KeyOrder.{ascending-ascends, has-ascending}
-use Rattle.switch_traces.specs.TraceLaws.{has_number, AreApart}
-use Rattle.switch_traces.proofs.Counts.{both_fail, either, same_number, own_number}
+use Rattle.additive_laws.specs.TraceLaws.{has_number, AreApart}
+use Rattle.additive_laws.proofs.Counts.{both_fail, either, same_number, own_number}
 use Rattle.net_wide.specs.NetTables.{switch_in, switches}
-use Rattle.net_ends.specs.NetEnds.{IsSeen, AreNumbered}
+use Rattle.net_wide.specs.NetEnds.{IsSeen, AreNumbered}
 
 less_equal : Less ≡ Equal → ⊥
 less_equal e = cc

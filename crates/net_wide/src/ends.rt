@@ -1,6 +1,6 @@
 //! What the merged epochs of several switches give.
 
-ghost use Rattle.net_ends.specs.NetEnds.{MergedMakeTheTable, NetTablesAreRead, PiecesAreTheEpochs};
+ghost use Rattle.net_wide.specs.NetEnds.{MergedMakeTheTable, NetTablesAreRead, PiecesAreTheEpochs};
 
 use fold_class::additive_is_linear;
 use query_tables::query_tables_are_read;

@@ -36,8 +36,8 @@ use Rattle.query_tables.specs.Tables.{query_table, table_if, tables_from, group_
 use Rattle.query_tables.specs.TableLaws.{QueryTablesAreRead}
 use Rattle.net_wide.specs.NetTables.{net_epochs, key_args, net_key_rows, net_rows, net_table, net_table_if, net_pieces, net_tables_from, net_tables, tables_of_pieces}
 use Rattle.net_wide.specs.NetLaws.{AreWhole}
-use Rattle.net_ends.proofs.Places.{first_at}
-use Rattle.net_ends.specs.NetEnds.{NetTablesAreRead}
+use Rattle.net_wide.proofs.Places.{first_at}
+use Rattle.net_wide.specs.NetEnds.{NetTablesAreRead}
 
 abbrev key_of : Row → Key
 key_of row = row.key

@@ -17,8 +17,8 @@ use Rattle.final_queries.specs.GroupTable.{closed_table}
 use Rattle.query_lang.specs.Streams.{takings}
 use Rattle.epoch_model.specs.Epochs.{Geometry}
 use Rattle.query_tables.specs.Tables.{heading_of}
-use Rattle.additive_folds.specs.Network.{SwitchEvent, SwitchEpoch, all_epochs, machine_at, AllMerged}
-use Rattle.switch_traces.specs.Traces.{Step, HasPackets, IsRun}
+use Rattle.additive_laws.specs.Network.{SwitchEvent, SwitchEpoch, all_epochs, machine_at, AllMerged}
+use Rattle.additive_laws.specs.Traces.{Step, HasPackets, IsRun}
 use Rattle.net_wide.specs.Combining.{net_fault}
 use Rattle.net_wide.specs.NetTables.{switch_in, switches, caches_of, net_epochs, net_table, net_tables}
 use Rattle.net_wide.specs.NetLaws.{AreWhole, TellsSwitches}

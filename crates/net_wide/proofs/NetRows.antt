@@ -32,21 +32,21 @@ use Rattle.final_queries.specs.declared.table.Table.{Table}
 use Rattle.final_queries.specs.declared.table.TableKind.TheVariants as kind
 use Rattle.final_queries.specs.GroupTable.{closed_table}
 use Rattle.query_tables.specs.Tables.{heading_of}
-use Rattle.additive_folds.specs.Pieces.{joined}
-use Rattle.additive_folds.specs.Network.{SwitchEvent, SwitchEpoch, all_events, all_epochs, epochs_at, events_at, machine_at, AllMerged}
-use Rattle.additive_folds.proofs.StoreTables.{store_table}
-use Rattle.switch_traces.specs.Traces.{Step, HasPackets, IsRun, own_uses, whole_uses, taken_of}
-use Rattle.switch_traces.specs.TraceLaws.{rows_used, AreSwitchesOf}
-use Rattle.switch_traces.proofs.OwnEpochs.{own}
-use Rattle.switch_traces.proofs.Givens.{gives, keys_are}
-use Rattle.switch_traces.proofs.Counts.{added, of_one_switch, of_one, same_number, own_number, not_number}
+use Rattle.additive_laws.specs.Pieces.{joined}
+use Rattle.additive_laws.specs.Network.{SwitchEvent, SwitchEpoch, all_events, all_epochs, epochs_at, events_at, machine_at, AllMerged}
+use Rattle.additive_laws.proofs.StoreTables.{store_table}
+use Rattle.additive_laws.specs.Traces.{Step, HasPackets, IsRun, own_uses, whole_uses, taken_of}
+use Rattle.additive_laws.specs.TraceLaws.{rows_used, AreSwitchesOf}
+use Rattle.additive_laws.proofs.OwnEpochs.{own}
+use Rattle.additive_laws.proofs.Givens.{gives, keys_are}
+use Rattle.additive_laws.proofs.Counts.{added, of_one_switch, of_one, same_number, own_number, not_number}
 use Rattle.net_wide.specs.NetTables.{switch_in, packets_at, switches, caches_of, uses_at, key_args, net_key_rows, net_rows, net_count, net_table}
 use Rattle.net_wide.specs.NetLaws.{AreWhole}
 use Rattle.net_wide.proofs.Combined.{HasSwitchKey, Combines, all_combine}
 use Rattle.net_wide.proofs.OneSwitch.{none_closed}
 use Rattle.net_wide.proofs.SameTexts.{flat_maps_alike, sums_alike, tells_switch, at_place}
-use Rattle.net_ends.specs.NetEnds.{IsSeen, AreNumbered, steps_of, closed_pieces, MergedMakeTheTable, PiecesAreTheEpochs}
-use Rattle.net_ends.proofs.SwitchLists.{AreOnes, first, keys_of, ones, ones_rest, one_first, no_number, all_apart}
+use Rattle.net_wide.specs.NetEnds.{IsSeen, AreNumbered, steps_of, closed_pieces, MergedMakeTheTable, PiecesAreTheEpochs}
+use Rattle.net_wide.proofs.SwitchLists.{AreOnes, first, keys_of, ones, ones_rest, one_first, no_number, all_apart}
 
 -- two ways to take, where the uses of one packet are the same
 

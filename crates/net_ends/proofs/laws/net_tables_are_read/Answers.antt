@@ -1,5 +1,0 @@
-use Rattle.net_ends.proofs.NetRead.{tables_read}
-use Rattle.net_ends.proofs.laws.net_tables_are_read.Goals as goal
-
-pub returns : goal.returns
-returns c = tables_read c.query_tables_are_read.ensures
