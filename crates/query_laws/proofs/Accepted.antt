@@ -10,12 +10,12 @@ use Rattle.query_lang.specs.Checks.{and_then}
 use Rattle.query_lang.specs.Typing.{checked}
 use Rattle.query_grammar.specs.Texts.{parsed_text}
 use Rattle.query_grammar.proofs.TextFaults.{query_of_text, text_of_query, fault_of_text}
-use Rattle.query_rules.specs.FaultLaws.{HasFault, IsOfTyping}
-use Rattle.query_rules.specs.QueryRules.{IsTyped}
-use Rattle.query_rules.proofs.FaultSteps.{at_span, by_next, no_fault}
-use Rattle.query_rules.proofs.QueryFaults.{at_some_item, at_end, only_these}
-use Rattle.query_rules.proofs.QueryLaws.{query_sound, query_complete, no_form}
-use Rattle.query_rules.proofs.Steps.{found_first, then_next, same_ok}
+use Rattle.query_laws.specs.FaultLaws.{HasFault, IsOfTyping}
+use Rattle.query_laws.specs.QueryRules.{IsTyped}
+use Rattle.query_laws.proofs.FaultSteps.{at_span, by_next, no_fault}
+use Rattle.query_laws.proofs.QueryFaults.{at_some_item, at_end, only_these}
+use Rattle.query_laws.proofs.QueryLaws.{query_sound, query_complete, no_form}
+use Rattle.query_laws.proofs.Steps.{found_first, then_next, same_ok}
 use Rattle.stage_plan.specs.Depths.{stage_fault}
 use Rattle.accepted_query.specs.Accepted.{accepted, staged, unless_fault}
 use Rattle.query_laws.specs.ByRules.{FitsStages, IsAcceptedAs, BreaksRule, of_item, of_end, IsRefusedFor, by_grammar, by_typing, by_stages}

@@ -11,7 +11,7 @@ use Rattle.query_lang.proofs.NameFacts.{has_number}
 use Rattle.query_lang.specs.Checks.{is_among}
 use Rattle.query_lang.specs.Names.{number_in, with_name}
 use Rattle.query_lang.specs.Typing.{with_fields, typed_names, field_numbers}
-use Rattle.query_rules.proofs.Steps.{nat_same}
+use Rattle.query_laws.proofs.Steps.{nat_same}
 use Rattle.query_laws.proofs.Views.{AreDistinct}
 
 -- ---- each field's name is at its number

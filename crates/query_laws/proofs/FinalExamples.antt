@@ -9,16 +9,16 @@ use Rattle.query_lang.specs.declared.query.FinalOp.TheVariants.{Filter, Map, Joi
 use Rattle.query_lang.specs.declared.query.Key.TheVariants as key
 use Rattle.query_lang.specs.declared.typing.FoldView.{FoldView}
 use Rattle.query_lang.specs.TypedFinals.{five_fields}
-use Rattle.query_rules.specs.Asked.{FinalAsks}
-use Rattle.query_rules.specs.Asked as asks
-use Rattle.query_rules.specs.Context.{IsFold, IsTable}
-use Rattle.query_rules.specs.Demands.{ATable, AQuietFold, Demand, Stands, AColumn, New, Apart, SameKeys, Holds}
-use Rattle.query_rules.specs.ExprRules.{Word, Condition, HasKind, of_number, of_name, of_binary}
-use Rattle.query_rules.proofs.FaultSteps.{no_fault}
-use Rattle.query_rules.proofs.FoldNames.{among_new}
-use Rattle.query_rules.proofs.ItemsMeet.{final_meets}
-use Rattle.query_rules.proofs.NameLaws.{fold_name_sound, fold_name_complete, table_sound, table_complete, apart_sound}
-use Rattle.query_rules.proofs.Steps.{same_ok, place_stands}
+use Rattle.query_laws.specs.Asked.{FinalAsks}
+use Rattle.query_laws.specs.Asked as asks
+use Rattle.query_laws.specs.Context.{IsFold, IsTable}
+use Rattle.query_laws.specs.Demands.{ATable, AQuietFold, Demand, Stands, AColumn, New, Apart, SameKeys, Holds}
+use Rattle.query_laws.specs.ExprRules.{Word, Condition, HasKind, of_number, of_name, of_binary}
+use Rattle.query_laws.proofs.FaultSteps.{no_fault}
+use Rattle.query_laws.proofs.FoldNames.{among_new}
+use Rattle.query_laws.proofs.ItemsMeet.{final_meets}
+use Rattle.query_laws.proofs.NameLaws.{fold_name_sound, fold_name_complete, table_sound, table_complete, apart_sound}
+use Rattle.query_laws.proofs.Steps.{same_ok, place_stands}
 use Rattle.query_laws.specs.TypingExamples.{here, called, first, is_above_0, new_column}
 use Rattle.query_laws.specs.FinalExamples.{group_table, final_table, without_emit, with_emit, tables, three_groupbys, MakesNoTable, table_by, MakesRows, FinalExamples}
 use Rattle.query_laws.proofs.TypingExamples.{no_place, right_of_0}

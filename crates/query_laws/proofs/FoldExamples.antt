@@ -17,18 +17,18 @@ use Rattle.query_lang.specs.Terms.{Term, term_of}
 use Rattle.query_lang.specs.TypedExprs.{expr_checked}
 use Rattle.query_lang.specs.TypedFolds.{fold_nodes}
 use Rattle.query_lang.proofs.TreeLemmas.{term_number, term_slot, term_not, term_binary}
-use Rattle.query_rules.specs.Asked.{StmtAsks, FoldAsks, of_statement, of_emits}
-use Rattle.query_rules.specs.Asked as asks
-use Rattle.query_rules.specs.Demands.{IsOneOf, StandsIn, Demand, Target, Typed, ReadsNone, OneEmit, Holds}
-use Rattle.query_rules.specs.Demands as parts
-use Rattle.query_rules.specs.ExprRules.{Word, Condition, HasKind, of_number, of_binary}
-use Rattle.query_rules.specs.FoldRules.{HasBlock, of_none, of_assign, of_if, of_emit, emit_of, at_most_one, HasFold, fold_of}
-use Rattle.query_rules.proofs.ExprComplete.{condition_complete}
-use Rattle.query_rules.proofs.FaultSteps.{no_fault}
-use Rattle.query_rules.proofs.FoldLaws.{fold_sound}
-use Rattle.query_rules.proofs.FoldNames.{among_new}
-use Rattle.query_rules.proofs.FoldsMeet.{fold_meets}
-use Rattle.query_rules.proofs.Steps.{then_next}
+use Rattle.query_laws.specs.Asked.{StmtAsks, FoldAsks, of_statement, of_emits}
+use Rattle.query_laws.specs.Asked as asks
+use Rattle.query_laws.specs.Demands.{IsOneOf, StandsIn, Demand, Target, Typed, ReadsNone, OneEmit, Holds}
+use Rattle.query_laws.specs.Demands as parts
+use Rattle.query_laws.specs.ExprRules.{Word, Condition, HasKind, of_number, of_binary}
+use Rattle.query_laws.specs.FoldRules.{HasBlock, of_none, of_assign, of_if, of_emit, emit_of, at_most_one, HasFold, fold_of}
+use Rattle.query_laws.proofs.ExprComplete.{condition_complete}
+use Rattle.query_laws.proofs.FaultSteps.{no_fault}
+use Rattle.query_laws.proofs.FoldLaws.{fold_sound}
+use Rattle.query_laws.proofs.FoldNames.{among_new}
+use Rattle.query_laws.proofs.FoldsMeet.{fold_meets}
+use Rattle.query_laws.proofs.Steps.{then_next}
 use Rattle.query_laws.specs.TypingExamples.{here, called, two_columns, first, second, is_less}
 use Rattle.query_laws.specs.FoldExamples.{fold_over, a_fold, typed_fold, HasNoFold, one_more, typed_one_more, on_state, typed_on_state, on_argument, typed_on_argument, below_9, typed_below_9, eight, sixteen, FoldExamples}
 use Rattle.query_laws.proofs.FoldCounts.{Counts, count_counts, emit_counts, choice_counts, argument_counts, else_counts}

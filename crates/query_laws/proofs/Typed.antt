@@ -35,9 +35,9 @@ use Rattle.query_lang.specs.TypedFolds.{fold_checked}
 use Rattle.query_lang.specs.TypedStreams.{meaning_of, as_stream, stream_named, fold_named, column_names, others_from, columns_at, new_columns, no_new_columns, key_names, keys_from, keys_checked, arguments_of, filtered, mapped, next_stream, zipped, grouped, made_stream, with_stream, begun, stream_checked}
 use Rattle.query_lang.specs.TypedFinals.{five_fields, table_named, made_final, final_checked}
 use Rattle.query_lang.specs.Typing.{typed_names, field_numbers, given_of, start_of, fold_added, print_checked, item_checked, items_checked, ended, checked}
-use Rattle.query_rules.specs.ExprRules.{StandsAt}
-use Rattle.query_rules.proofs.Steps.{must_ok, must_not_ok, same_ok, found_first, nat_other, nat_is_not}
-use Rattle.query_rules.proofs.ExprSound.{slot_stands}
+use Rattle.query_laws.specs.ExprRules.{StandsAt}
+use Rattle.query_laws.proofs.Steps.{must_ok, must_not_ok, same_ok, found_first, nat_other, nat_is_not}
+use Rattle.query_laws.proofs.ExprSound.{slot_stands}
 use Rattle.query_laws.proofs.Views.{View, AreDistinct, AreBelow, mapped_columns, Makes, AreMade, made_long, made_last, get_front, get_behind}
 
 -- ---- what names stand for

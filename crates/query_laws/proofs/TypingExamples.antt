@@ -17,20 +17,20 @@ use Rattle.query_lang.specs.declared.typing.Sort.{Sort}
 use Rattle.query_lang.specs.declared.typing.Sort.TheVariants as sort
 use Rattle.query_lang.specs.Checks.{Checked, and_then, collected, is_among, place_of}
 use Rattle.query_lang.specs.TypedExprs.{of_two, call_of, negated, expr_checked}
-use Rattle.query_rules.specs.Asked.{StreamAsks}
-use Rattle.query_rules.specs.Asked as asks
-use Rattle.query_rules.specs.Context.{IsStream, IsFold}
-use Rattle.query_rules.specs.Demands.{HasPart, AStream, Demand, Stands, AColumn, New, Typed, Same, Apart, Holds}
-use Rattle.query_rules.specs.Demands as parts
-use Rattle.query_rules.specs.ExprRules.{Kind, Word, Condition, StandsAt, HasKind, of_number, of_name, of_not, of_binary, of_call}
-use Rattle.query_rules.specs.FoldRules.{IsNew}
-use Rattle.query_rules.specs.StreamRules as rules
-use Rattle.query_rules.proofs.ExprComplete.{complete, word_complete, number_is, named_is, not_is, binary_is, call_is}
-use Rattle.query_rules.proofs.FaultSteps.{no_fault}
-use Rattle.query_rules.proofs.FoldNames.{among_new}
-use Rattle.query_rules.proofs.ItemsMeet.{stream_meets}
-use Rattle.query_rules.proofs.NameLaws.{stream_sound, stream_complete, fold_name_sound, apart_sound}
-use Rattle.query_rules.proofs.Steps.{then_next, place_stands, stands_place}
+use Rattle.query_laws.specs.Asked.{StreamAsks}
+use Rattle.query_laws.specs.Asked as asks
+use Rattle.query_laws.specs.Context.{IsStream, IsFold}
+use Rattle.query_laws.specs.Demands.{HasPart, AStream, Demand, Stands, AColumn, New, Typed, Same, Apart, Holds}
+use Rattle.query_laws.specs.Demands as parts
+use Rattle.query_laws.specs.ExprRules.{Kind, Word, Condition, StandsAt, HasKind, of_number, of_name, of_not, of_binary, of_call}
+use Rattle.query_laws.specs.FoldRules.{IsNew}
+use Rattle.query_laws.specs.StreamRules as rules
+use Rattle.query_laws.proofs.ExprComplete.{complete, word_complete, number_is, named_is, not_is, binary_is, call_is}
+use Rattle.query_laws.proofs.FaultSteps.{no_fault}
+use Rattle.query_laws.proofs.FoldNames.{among_new}
+use Rattle.query_laws.proofs.ItemsMeet.{stream_meets}
+use Rattle.query_laws.proofs.NameLaws.{stream_sound, stream_complete, fold_name_sound, apart_sound}
+use Rattle.query_laws.proofs.Steps.{then_next, place_stands, stands_place}
 use Rattle.query_laws.specs.TypingExamples.{here, called, two_columns, first, second, is_less, typed_is_less, with_first, RefusesNumber, RefusesColumn, ExpressionExamples}
 use Rattle.query_laws.specs.TypingExamples.{fields, zipped, a_field, by_key, mapped, unmapped, of_one_argument, of_no_argument, items_before, MakesNothing, is_above_0, new_column, grouped_by, StreamExamples}
 

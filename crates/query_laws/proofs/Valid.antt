@@ -15,10 +15,10 @@ use Rattle.query_lang.specs.Words.{IsWord, AreWords}
 use Rattle.query_grammar.specs.Texts.{IsQueryOf}
 use Rattle.query_grammar.proofs.Numbered.{readable}
 use Rattle.query_types.proofs.ValidLaws.{query_valid}
-use Rattle.query_rules.specs.Context.{Entry, folds_in}
-use Rattle.query_rules.specs.FoldRules.{HasFold}
-use Rattle.query_rules.specs.QueryRules.{HasItem, HasItems, of_none, of_more}
-use Rattle.query_rules.proofs.QueryLaws.{query_complete}
+use Rattle.query_laws.specs.Context.{Entry, folds_in}
+use Rattle.query_laws.specs.FoldRules.{HasFold}
+use Rattle.query_laws.specs.QueryRules.{HasItem, HasItems, of_none, of_more}
+use Rattle.query_laws.proofs.QueryLaws.{query_complete}
 use Rattle.accepted_query.specs.Accepted.{accepted}
 use Rattle.query_laws.proofs.Accepted.{accepted_sound}
 use Rattle.query_laws.specs.ValidLaws.{StartsAsWords, AcceptedAreValid, AcceptedStartAsWords}

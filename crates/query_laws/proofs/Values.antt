@@ -15,7 +15,7 @@ use Rattle.query_lang.specs.Checks.{is_among}
 use Rattle.query_lang.specs.Streams.{Tuple, values_at, expr_value, emits_at, map_stream, zip_stream, group_stream, list_at, made_of}
 use Rattle.query_lang.specs.TypedStreams.{columns_at}
 use Rattle.query_lang.specs.Words.{holds}
-use Rattle.query_rules.proofs.Steps.{nat_is, nat_is_not}
+use Rattle.query_laws.proofs.Steps.{nat_is, nat_is_not}
 use Rattle.query_laws.proofs.Views.{View, AreDistinct, AreBelow, mapped_columns, OfMap, OfZip, OfGroup}
 
 -- the value of a column, by the number of a packet, where it comes from, and its name

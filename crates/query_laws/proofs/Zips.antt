@@ -12,7 +12,7 @@ use Rattle.query_lang.specs.declared.typing.StreamColumn.{StreamColumn}
 use Rattle.query_lang.specs.Checks.{is_among, place_from}
 use Rattle.query_lang.specs.Streams.{Tuple, all_streams, stream}
 use Rattle.query_lang.specs.TypedStreams.{column_names, same_origin, clashes_with, clash, others_from, columns_at}
-use Rattle.query_rules.proofs.Steps.{nat_same, nat_is}
+use Rattle.query_laws.proofs.Steps.{nat_same, nat_is}
 use Rattle.query_laws.specs.Columns.{columns_of, operator_of, IsZip, value_under}
 use Rattle.query_laws.specs.TupleLaws.{ColumnsAgree, ColumnsAreKept}
 use Rattle.query_laws.proofs.Views.{View, ZipAt, zip_made}

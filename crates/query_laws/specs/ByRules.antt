@@ -6,9 +6,9 @@ use Rattle.query_lang.specs.declared.query.Query.{Query}
 use Rattle.query_lang.specs.declared.typed.TypedQuery.{TypedQuery}
 use Rattle.query_lang.specs.Typing.{checked}
 use Rattle.query_grammar.specs.Texts.{IsQueryOf, IsFaultOf}
-use Rattle.query_rules.specs.Demands.{Tells}
-use Rattle.query_rules.specs.FaultLaws.{Breaks, PrintsNothing}
-use Rattle.query_rules.specs.QueryRules.{IsTyped}
+use Rattle.query_laws.specs.Demands.{Tells}
+use Rattle.query_laws.specs.FaultLaws.{Breaks, PrintsNothing}
+use Rattle.query_laws.specs.QueryRules.{IsTyped}
 use Rattle.stage_plan.specs.Depths.{query_depths, stage_fault}
 use Rattle.accepted_query.specs.Accepted.{accepted}
 

@@ -15,7 +15,7 @@ use Rattle.query_lang.specs.declared.typing.MadeFinal.{MadeFinal}
 use Rattle.query_lang.specs.declared.typing.Meaning.TheVariants as meaning
 use Rattle.query_lang.specs.declared.typing.StreamView.{StreamView}
 use Rattle.query_lang.specs.declared.typing.TableView.{TableView}
-use Rattle.query_rules.specs.FinalRules.{HasFinal}
+use Rattle.query_laws.specs.FinalRules.{HasFinal}
 use Rattle.query_laws.specs.TypingExamples.{here, called, first, a_field, mapped, is_above_0, new_column}
 
 -- the table of the groupby with this number, by one key, whose fold has one variable

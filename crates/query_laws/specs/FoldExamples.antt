@@ -11,7 +11,7 @@ use Rattle.query_lang.specs.declared.query.Expr.TheVariants.{Number, Binary}
 use Rattle.query_lang.specs.declared.query.FoldDef.{FoldDef}
 use Rattle.query_lang.specs.declared.query.Stmt.{Stmt}
 use Rattle.query_lang.specs.declared.query.Stmt.TheVariants.{Assign, If, Emit}
-use Rattle.query_rules.specs.FoldRules.{HasFold, fold_of}
+use Rattle.query_laws.specs.FoldRules.{HasFold, fold_of}
 use Rattle.query_laws.specs.TypingExamples.{here, called, first, second, is_less, is_above_0}
 
 -- a fold with these state variables, which start with 0, these arguments and this body

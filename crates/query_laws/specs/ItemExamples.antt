@@ -19,8 +19,8 @@ use Rattle.query_lang.specs.declared.typing.MadeStream.{MadeStream}
 use Rattle.query_lang.specs.declared.typing.Origin.TheVariants as origin
 use Rattle.query_lang.specs.declared.typing.StreamColumn.{StreamColumn}
 use Rattle.query_lang.specs.Typing.{field_numbers}
-use Rattle.query_rules.specs.Context.{Entry, AFold, AStream, AFinal, APrint}
-use Rattle.query_rules.specs.QueryRules.{HasItem}
+use Rattle.query_laws.specs.Context.{Entry, AFold, AStream, AFinal, APrint}
+use Rattle.query_laws.specs.QueryRules.{HasItem}
 use Rattle.query_laws.specs.TypingExamples.{here, called, a_field}
 
 -- the query's names: `pktstream` is number 0

@@ -1,3 +1,13 @@
+pub mod ExprRules
+pub mod FoldRules
+pub mod Context
+pub mod StreamRules
+pub mod FinalRules
+pub mod QueryRules
+pub mod Demands
+pub mod Asked
+pub mod FaultLaws
+pub mod TypingLaws
 pub mod ByRules
 pub mod TypingExamples
 pub mod FoldExamples

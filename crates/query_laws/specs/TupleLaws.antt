@@ -4,7 +4,7 @@ use Rattle.std.specs.List.Sorted.{IsStrictlyIncreasing}
 use Rattle.query_lang.specs.declared.query.Query.{Query}
 use Rattle.query_lang.specs.declared.typed.TypedQuery.{TypedQuery}
 use Rattle.query_lang.specs.Streams.{Tuple, stream}
-use Rattle.query_rules.specs.QueryRules.{IsTyped}
+use Rattle.query_laws.specs.QueryRules.{IsTyped}
 use Rattle.query_laws.specs.Columns.{columns_of, IsZip, value_under}
 
 -- the numbers of the packets that these are tuples of

@@ -22,8 +22,8 @@ use Rattle.query_lang.specs.declared.typing.Meaning.TheVariants as meaning
 use Rattle.query_lang.specs.declared.typing.Origin.TheVariants as origin
 use Rattle.query_lang.specs.declared.typing.StreamColumn.{StreamColumn}
 use Rattle.query_lang.specs.declared.typing.StreamView.{StreamView}
-use Rattle.query_rules.specs.ExprRules.{Kind, Word, Condition, HasKind}
-use Rattle.query_rules.specs.StreamRules.{HasStream}
+use Rattle.query_laws.specs.ExprRules.{Kind, Word, Condition, HasKind}
+use Rattle.query_laws.specs.StreamRules.{HasStream}
 
 -- where it is doesn't matter here
 abbrev pub here : Span

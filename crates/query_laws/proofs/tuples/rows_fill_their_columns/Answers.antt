@@ -1,4 +1,4 @@
-use Rattle.query_rules.proofs.QueryLaws.{query_complete}
+use Rattle.query_laws.proofs.QueryLaws.{query_complete}
 use Rattle.query_laws.proofs.Rows.{has_rows, rows_fill}
 use Rattle.query_laws.proofs.tuples.rows_fill_their_columns.Goals as goal
 

@@ -1,0 +1,263 @@
+-- The statements of a fold: what the check gives has a rule, and what has a rule is what the check gives.
+use Rattle.std.proofs.Common.{◌≡◌, ℕ, Bool, true, false, List, [], ◌∷◌, ◌++◌, length, map, Option, Some, None, Ok, refl, sym, ap, subst, ◌∙◌, append_assoc, append-nil}
+use Rattle.std.specs.Prelude.{is_some}
+use Rattle.query_lang.specs.declared.fault.FaultKind.TheVariants.{WrongArity}
+use Rattle.query_lang.specs.declared.fault.Span.{Span}
+use Rattle.query_lang.specs.declared.fold.TypedExpr.{TypedExpr}
+use Rattle.query_lang.specs.declared.fold.TypedExpr.TheVariants as typed
+use Rattle.query_lang.specs.declared.fold.TypedStmt.{TypedStmt}
+use Rattle.query_lang.specs.declared.fold.TypedStmt.TheVariants as typed_stmt
+use Rattle.query_lang.specs.declared.query.Name.{Name}
+use Rattle.query_lang.specs.declared.query.Expr.{Expr}
+use Rattle.query_lang.specs.declared.query.Stmt.{Stmt, fold-roll-Stmt, ind-Stmt, roll-Stmt, map-Stmt}
+use Rattle.query_lang.specs.declared.query.Stmt.TheOpen as stmt
+use Rattle.query_lang.specs.declared.query.Stmt.TheVariants as whole
+use Rattle.query_lang.specs.declared.query.Stmt.TheVariants.{rolls-Assign, rolls-If, rolls-Emit}
+use Rattle.query_lang.specs.declared.typing.Body.{Body}
+use Rattle.query_lang.specs.declared.typing.Enclosing.{Enclosing}
+use Rattle.query_lang.specs.Terms.{Term}
+use Rattle.query_lang.specs.Folds.{ReadsArguments}
+use Rattle.query_lang.specs.Checks.{Checked, is_among, place_of}
+use Rattle.query_lang.specs.TypedExprs.{condition_of, word_of}
+use Rattle.query_lang.specs.TypedFolds.{target_at, target_of, state_in, joined, inside, emit_condition, no_state, Adding, in_order, stmt_step, stmt_checked}
+use Rattle.query_lang.proofs.TreeLemmas.{term_not}
+use Rattle.query_laws.specs.ExprRules.{Condition, StandsAt}
+use Rattle.query_laws.specs.FoldRules.{conjunction, emit_of, ReadArguments, HasBlock, of_none, of_assign, of_if, of_emit, at_most_one}
+use Rattle.query_laws.proofs.Steps.{must_not_ok, must_not_holds, same_ok, found_first, then_next, place_stands, stands_place}
+use Rattle.query_laws.proofs.ExprSound.{condition_sound, word_sound}
+use Rattle.query_laws.proofs.ExprComplete.{condition_complete, word_complete}
+use Rattle.query_laws.proofs.FoldNames.{neither, both_none, Reads, reads}
+
+-- ---- the conditions around
+
+abbrev all_of : List TypedExpr → Option TypedExpr
+all_of [] = None
+all_of (t ∷ others) = Some (conjunction t others)
+
+-- what the check knows of the conditions around
+pub record Fits (states : List ℕ) (around : List TypedExpr) (outer : Enclosing) : Type 0 where
+  pub condition : outer.condition ≡ all_of around
+  pub past : outer.state ≡ None → ReadArguments (length states) around
+  pub none : ReadArguments (length states) around → outer.state ≡ None
+
+one_more : (t : TypedExpr) (around : List TypedExpr) → joined (all_of around) t ≡ conjunction t around
+one_more t [] = refl
+one_more t (u ∷ others) = refl
+
+emit_is : (around : List TypedExpr) → emit_condition (all_of around) ≡ emit_of around
+emit_is [] = refl
+emit_is (t ∷ others) = refl
+
+fits_inside : (states : List ℕ) (around : List TypedExpr) (outer : Enclosing) (written : Expr) (t : TypedExpr) → Fits states around outer → Reads states written t → Fits states (t ∷ around) (inside states outer written t)
+fits_inside states around outer written t f r = record {
+  condition = ap (λ (o : Option TypedExpr). Some (joined o t)) f.condition ∙ ap Some (one_more t around);
+  past = λ e. let p = neither outer.state (state_in states written) e in (r.past p.1, f.past p.0);
+  none = λ h. both_none outer.state (state_in states written) (f.none h.1) (r.none h.0);
+}
+
+not_reads : (states : List ℕ) (e : Expr) (t : TypedExpr) → Reads states e t → Reads states e (typed.Not t)
+not_reads states e t r =
+    let V : Term → Type 0 = λ z. ReadsArguments (length states) z in
+    record { past = λ h. subst V (sym (term_not t)) (r.past h); none = λ h. r.none (subst V (term_not t) h) }
+
+pub target_stands : (states args : List ℕ) (name : Name) (v : ℕ) → target_of states args name ≡ Ok v → StandsAt states v name.id
+target_stands states args name v e = go (place_of states name.id) refl (is_among name.id args) e
+  where
+    go : (o : Option ℕ) → place_of states name.id ≡ o → (b : Bool) → target_at o b name.span ≡ Ok v → StandsAt states v name.id
+    go (Some slot) is b e =
+        let same : slot ≡ v = cc in
+        place_stands states name.id v (is ∙ ap Some same)
+    go None is true e = cc e
+    go None is false e = cc e
+
+pub no_state_ok : {A : Type 0} (o : Option Span) (next : Checked A) (x : A) → no_state o next ≡ Ok x → (o ≡ None) × (next ≡ Ok x)
+no_state_ok None next x e = (refl, e)
+no_state_ok (Some span) next x e = cc e
+
+is_none : {A : Type 0} (o : Option A) → is_some o ≡ false → o ≡ None
+is_none None e = refl
+is_none (Some x) e = cc e
+
+-- ---- from the check to the rules
+
+record Added (states args : List ℕ) (around : List TypedExpr) (s : Stmt) (found made : Body) : Type 0 where
+  pub ts : List TypedStmt
+  pub es : List TypedExpr
+  pub statements : made.statements ≡ found.statements ++ ts
+  pub emits : at_most_one found.emit ++ es ≡ at_most_one made.emit
+  pub rule : (rest : List Stmt) (us : List TypedStmt) (fs : List TypedExpr) → HasBlock states args around rest us fs → HasBlock states args around (s ∷ rest) (ts ++ us) (es ++ fs)
+
+pub record IsBlock (states args : List ℕ) (around : List TypedExpr) (ss : List Stmt) (found made : Body) : Type 0 where
+  pub ts : List TypedStmt
+  pub es : List TypedExpr
+  pub statements : made.statements ≡ found.statements ++ ts
+  pub emits : at_most_one found.emit ++ es ≡ at_most_one made.emit
+  pub rule : HasBlock states args around ss ts es
+
+abbrev IsSound : List ℕ → List ℕ → Stmt → Type 0
+IsSound states args s = (around : List TypedExpr) (outer : Enclosing) (found made : Body) → Fits states around outer → stmt_checked states args s outer found ≡ Ok made → Added states args around s found made
+
+abbrev Sound : List ℕ → List ℕ → Type 0
+Sound states args = (s : Stmt) × IsSound states args s
+
+abbrev IsSoundLayer : List ℕ → List ℕ → stmt.Stmt-F Stmt → Type 0
+IsSoundLayer states args x = (around : List TypedExpr) (outer : Enclosing) (found made : Body) → Fits states around outer
+    → stmt_step states args (map-Stmt Stmt Adding (stmt_checked states args) x) outer found ≡ Ok made → Added states args around (roll-Stmt x) found made
+
+of_layer : (states args : List ℕ) (x : stmt.Stmt-F Stmt) → IsSoundLayer states args x → IsSound states args (roll-Stmt x)
+of_layer states args x layer around outer found made f e =
+    layer around outer found made f (sym (ap (λ (g : Adding). g outer found) (fold-roll-Stmt Adding (stmt_step states args) x)) ∙ e)
+
+block_of_sound : (states args : List ℕ) (ss : List (Sound states args)) (around : List TypedExpr) (outer : Enclosing) (found made : Body) → Fits states around outer
+    → in_order (map (stmt_checked states args) (map (λ s. s.0) ss)) outer found ≡ Ok made → IsBlock states args around (map (λ s. s.0) ss) found made
+block_of_sound states args [] around outer found made f e =
+    let same = same_ok found made e in
+    record {
+      ts = [];
+      es = [];
+      statements = sym (ap (λ (b : Body). b.statements) same) ∙ sym (append-nil found.statements);
+      emits = append-nil (at_most_one found.emit) ∙ ap (λ (b : Body). at_most_one b.emit) same;
+      rule = of_none around;
+    }
+block_of_sound states args (s ∷ ss) around outer found made f e =
+    let first = found_first (stmt_checked states args s.0 outer found) _ made e in
+    let one = s.1 around outer found first.0 f first.1 in
+    let rest = block_of_sound states args ss around outer first.0 made f first.2 in
+    record {
+      ts = one.ts ++ rest.ts;
+      es = one.es ++ rest.es;
+      statements = rest.statements ∙ ap (λ (z : List TypedStmt). z ++ rest.ts) one.statements ∙ append_assoc found.statements one.ts rest.ts;
+      emits = sym (append_assoc (at_most_one found.emit) one.es rest.es) ∙ ap (λ (z : List TypedExpr). z ++ rest.es) one.emits ∙ rest.emits;
+      rule = one.rule _ rest.ts rest.es rest.rule;
+    }
+
+moved : (states args : List ℕ) (around : List TypedExpr) (s r : Stmt) (found made : Body) → r ≡ s → Added states args around s found made → Added states args around r found made
+moved states args around s r found made is h = let S : Stmt → Type 0 = λ z. Added states args around z found made in subst S (sym is) h
+
+step : (states args : List ℕ) (y : stmt.Stmt-F (Sound states args)) → IsSoundLayer states args (map-Stmt (Sound states args) Stmt (λ s. s.0) y)
+step states args (stmt.Assign x e) around outer found made f is =
+    let target = found_first (target_of states args x) _ made is in
+    let word = found_first (word_of (states ++ args) [] e) _ made target.2 in
+    let B : Body → Type 0 = λ b. Added states args around (whole.Assign x e) found b in
+    moved states args around _ _ found made (rolls-Assign x e) (subst B (same_ok _ made word.2) (record {
+      ts = typed_stmt.Assign target.0 word.0 ∷ [];
+      es = [];
+      statements = refl;
+      emits = append-nil (at_most_one found.emit);
+      rule = λ rest us fs h. of_assign around x target.0 e word.0 rest us fs (target_stands states args x target.0 target.1) (word_sound (states ++ args) [] e word.0 word.1) h;
+    }))
+step states args (stmt.If c a b) around outer found made f is =
+    let firsts = map (λ (s : Sound states args). s.0) a in
+    let seconds = map (λ (s : Sound states args). s.0) b in
+    let condition = found_first (condition_of (states ++ args) [] c) _ made is in
+    let t = condition.0 in
+    let one = found_first (in_order (map (stmt_checked states args) firsts) (inside states outer c t) (record { statements = []; emit = found.emit })) _ made condition.2 in
+    let two = found_first (in_order (map (stmt_checked states args) seconds) (inside states outer c (typed.Not t)) (record { statements = []; emit = one.0.emit })) _ made one.2 in
+    let rule = condition_sound (states ++ args) [] c t condition.1 in
+    let r = reads states args Condition c t rule in
+    let p = block_of_sound states args a (t ∷ around) _ _ one.0 (fits_inside states around outer c t f r) one.1 in
+    let q = block_of_sound states args b (typed.Not t ∷ around) _ _ two.0 (fits_inside states around outer c (typed.Not t) f (not_reads states c t r)) two.1 in
+    let P : List TypedStmt → Type 0 = λ z. HasBlock states args (t ∷ around) firsts z p.es in
+    let Q : List TypedStmt → Type 0 = λ z. HasBlock states args (typed.Not t ∷ around) seconds z q.es in
+    let B : Body → Type 0 = λ z. Added states args around (whole.If c firsts seconds) found z in
+    moved states args around _ _ found made (rolls-If c firsts seconds) (subst B (same_ok _ made two.2) (record {
+      ts = typed_stmt.If t one.0.statements two.0.statements ∷ [];
+      es = p.es ++ q.es;
+      statements = refl;
+      emits = sym (append_assoc (at_most_one found.emit) p.es q.es) ∙ ap (λ (z : List TypedExpr). z ++ q.es) p.emits ∙ q.emits;
+      rule = λ rest us fs h. of_if around c t firsts seconds rest one.0.statements two.0.statements us p.es q.es fs rule (subst P (sym p.statements) p.rule) (subst Q (sym q.statements) q.rule) h;
+    }))
+step states args (stmt.Emit span) around outer found made f is =
+    let once = must_not_ok (is_some found.emit) WrongArity span _ made is in
+    let none = no_state_ok outer.state _ made once.1 in
+    let B : Body → Type 0 = λ b. Added states args around (whole.Emit span) found b in
+    moved states args around _ _ found made (rolls-Emit span) (subst B (same_ok _ made none.1) (record {
+      ts = [];
+      es = emit_of around ∷ [];
+      statements = sym (append-nil found.statements);
+      emits = ap (λ (o : Option TypedExpr). at_most_one o ++ emit_of around ∷ []) (is_none found.emit once.0)
+          ∙ ap (λ (t : TypedExpr). t ∷ []) (sym (ap emit_condition f.condition ∙ emit_is around));
+      rule = λ rest us fs h. of_emit around span rest us fs (f.past none.0) h;
+    }))
+
+stmt_sound : (states args : List ℕ) (s : Stmt) → IsSound states args s
+stmt_sound states args = ind-Stmt (IsSound states args) (λ x y is.
+    let L : stmt.Stmt-F Stmt → Type 0 = λ z. IsSoundLayer states args z in
+    of_layer states args x (subst L is (step states args y)))
+
+pub block_sound : (states args : List ℕ) (ss : List Stmt) (around : List TypedExpr) (outer : Enclosing) (found made : Body) → Fits states around outer
+    → in_order (map (stmt_checked states args) ss) outer found ≡ Ok made → IsBlock states args around ss found made
+block_sound states args [] around outer found made f e = block_of_sound states args [] around outer found made f e
+block_sound states args (s ∷ ss) around outer found made f e =
+    let first = found_first (stmt_checked states args s outer found) _ made e in
+    let one = stmt_sound states args s around outer found first.0 f first.1 in
+    let rest = block_sound states args ss around outer first.0 made f first.2 in
+    record {
+      ts = one.ts ++ rest.ts;
+      es = one.es ++ rest.es;
+      statements = rest.statements ∙ ap (λ (z : List TypedStmt). z ++ rest.ts) one.statements ∙ append_assoc found.statements one.ts rest.ts;
+      emits = sym (append_assoc (at_most_one found.emit) one.es rest.es) ∙ ap (λ (z : List TypedExpr). z ++ rest.es) one.emits ∙ rest.emits;
+      rule = one.rule _ rest.ts rest.es rest.rule;
+    }
+
+-- ---- from the rules to the check
+
+pub stmt_is : (states args : List ℕ) (x : stmt.Stmt-F Stmt) (s : Stmt) → roll-Stmt x ≡ s → (outer : Enclosing) (found : Body)
+    → stmt_checked states args s outer found ≡ stmt_step states args (map-Stmt Stmt Adding (stmt_checked states args) x) outer found
+stmt_is states args x s is outer found =
+    ap (λ (z : Stmt). stmt_checked states args z outer found) (sym is) ∙ ap (λ (g : Adding). g outer found) (fold-roll-Stmt Adding (stmt_step states args) x)
+
+same_one : (o p : Option TypedExpr) → at_most_one o ≡ at_most_one p → o ≡ p
+same_one None None e = refl
+same_one None (Some t) e = cc e
+same_one (Some t) None e = cc e
+same_one (Some t) (Some u) e = let same : t ≡ u = cc e in ap Some same
+
+-- the first of at most one is at most one
+first_part : (xs ys : List TypedExpr) (last : Option TypedExpr) → xs ++ ys ≡ at_most_one last → (p : Option TypedExpr) × (xs ≡ at_most_one p)
+first_part [] ys last e = (None, refl)
+first_part (x ∷ []) ys last e = (Some x, refl)
+first_part (x ∷ y ∷ xs) ys None e = cc e
+first_part (x ∷ y ∷ xs) ys (Some t) e = cc e
+
+bodies : (xs ys : List TypedStmt) (o p : Option TypedExpr) → xs ≡ ys → o ≡ p → (let r : Checked Body = Ok (record { statements = xs; emit = o }) in r) ≡ Ok (record { statements = ys; emit = p })
+bodies xs ys o p e f = ap (λ (z : List TypedStmt). let r : Checked Body = Ok (record { statements = z; emit = o }) in r) e ∙ ap (λ (z : Option TypedExpr). let r : Checked Body = Ok (record { statements = ys; emit = z }) in r) f
+
+pub block_complete : (states args : List ℕ) (around : List TypedExpr) (ss : List Stmt) (ts : List TypedStmt) (es : List TypedExpr) → HasBlock states args around ss ts es
+    → (outer : Enclosing) (found : Body) (last : Option TypedExpr) → Fits states around outer → at_most_one found.emit ++ es ≡ at_most_one last
+    → in_order (map (stmt_checked states args) ss) outer found ≡ Ok (record { statements = found.statements ++ ts; emit = last })
+block_complete states args _ _ _ _ (of_none around) outer found last f e =
+    bodies found.statements (found.statements ++ []) found.emit last (sym (append-nil found.statements)) (same_one found.emit last (sym (append-nil (at_most_one found.emit)) ∙ e))
+block_complete states args _ _ _ _ (of_assign around x v e t rest ts es stands word h) outer found last f k =
+    then_next _ _ (record { statements = found.statements ++ typed_stmt.Assign v t ∷ []; emit = found.emit }) (
+    stmt_is states args (stmt.Assign x e) (whole.Assign x e) (rolls-Assign x e) outer found
+    ∙ then_next _ _ v (ap (λ (o : Option ℕ). target_at o (is_among x.id args) x.span) (stands_place states x.id v stands))
+    ∙ then_next _ _ t (word_complete (states ++ args) [] e t word))
+    ∙ block_complete states args around rest ts es h outer _ last f k
+    ∙ bodies _ _ last last (append_assoc found.statements (typed_stmt.Assign v t ∷ []) ts) refl
+block_complete states args _ _ _ _ (of_if around c t a b rest xs ys ts first second others rule ha hb h) outer found last f k =
+    let r = reads states args Condition c t rule in
+    let front = append_assoc (at_most_one found.emit) (first ++ second) others ∙ k in
+    let two = first_part (at_most_one found.emit ++ (first ++ second)) others last front in
+    let inner = append_assoc (at_most_one found.emit) first second ∙ two.1 in
+    let one = first_part (at_most_one found.emit ++ first) second two.0 inner in
+    then_next _ _ (record { statements = found.statements ++ typed_stmt.If t xs ys ∷ []; emit = two.0 }) (
+    stmt_is states args (stmt.If c a b) (whole.If c a b) (rolls-If c a b) outer found
+    ∙ then_next _ _ t (condition_complete (states ++ args) [] c t rule)
+    ∙ then_next _ _ _ (block_complete states args (t ∷ around) a xs first ha (inside states outer c t) (record { statements = []; emit = found.emit }) one.0 (fits_inside states around outer c t f r) one.1)
+    ∙ then_next _ _ _ (block_complete states args (typed.Not t ∷ around) b ys second hb (inside states outer c (typed.Not t)) (record { statements = []; emit = one.0 }) two.0
+    (fits_inside states around outer c (typed.Not t) f (not_reads states c t r)) (sym (ap (λ (z : List TypedExpr). z ++ second) one.1) ∙ inner)))
+    ∙ block_complete states args around rest ts others h outer _ last f (sym (ap (λ (z : List TypedExpr). z ++ others) two.1) ∙ front)
+    ∙ bodies _ _ last last (append_assoc found.statements (typed_stmt.If t xs ys ∷ []) ts) refl
+block_complete states args _ _ _ _ (of_emit around span rest ts others past h) outer found last f k =
+    let none = only found.emit k in
+    then_next _ _ (record { statements = found.statements; emit = Some (emit_of around) }) (
+    stmt_is states args (stmt.Emit span) (whole.Emit span) (rolls-Emit span) outer found
+    ∙ must_not_holds _ _ _ _ (ap is_some none)
+    ∙ ap (λ (o : Option Span). no_state o (let r : Checked Body = Ok (record { statements = found.statements; emit = Some (emit_condition outer.condition) }) in r)) (f.none past)
+    ∙ bodies _ _ _ _ refl (ap Some (ap emit_condition f.condition ∙ emit_is around)))
+    ∙ block_complete states args around rest ts others h outer _ last f (sym (ap (λ (o : Option TypedExpr). at_most_one o ++ emit_of around ∷ others) none) ∙ k)
+  where
+    only : (o : Option TypedExpr) → at_most_one o ++ emit_of around ∷ others ≡ at_most_one last → o ≡ None
+    only None k = refl
+    only (Some t) k = (elim last as (λ z. (t ∷ emit_of around ∷ others) ≡ at_most_one z → Some t ≡ None) [ None ↦ λ k. cc k | Some u ↦ λ k. cc k ]) k

@@ -1,0 +1,301 @@
+-- What a fault in an expression says.
+use Rattle.std.proofs.Common.{◌≡◌, ℕ, ◌+◌, Bool, true, false, nat_eq, cond, List, [], ◌∷◌, ◌++◌, length, map, Option, Some, None, Ok, Err, refl, sym, ap, subst, ◌∙◌, arith}
+use Rattle.query_lang.specs.declared.fault.FaultKind.TheVariants.{UnknownName, WrongKind, WrongArity, BadConstant, StateOnLine}
+use Rattle.query_lang.specs.declared.fault.QueryFault.{QueryFault}
+use Rattle.query_lang.specs.declared.fault.Span.{Span}
+use Rattle.query_lang.specs.declared.fold.Op.{Op}
+use Rattle.query_lang.specs.declared.fold.TypedExpr.{TypedExpr}
+use Rattle.query_lang.specs.declared.query.Name.{Name}
+use Rattle.query_lang.specs.declared.query.Expr.{Expr, fold-roll-Expr, ind-Expr, roll-Expr, map-Expr}
+use Rattle.query_lang.specs.declared.query.Expr.TheOpen as expr
+use Rattle.query_lang.specs.declared.query.Expr.TheVariants as whole
+use Rattle.query_lang.specs.declared.query.Expr.TheVariants.{rolls-Number, rolls-Named, rolls-Not, rolls-Binary, rolls-Call}
+use Rattle.query_lang.specs.declared.typing.Found.{Found}
+use Rattle.query_lang.specs.declared.typing.Known.{Known}
+use Rattle.query_lang.specs.Checks.{Checked, collected, is_among, place_from, place_of}
+use Rattle.query_lang.specs.TypedExprs.{slot_at, slot_of, is_operand, is_right_constant, of_two, call_of, expr_step, expr_checked, condition_of, word_of}
+use Rattle.query_laws.specs.Asked.{ExprAsks, of_part, of_name, of_call, of_right, of_second}
+use Rattle.query_laws.specs.Demands.{leftmost, leftmost_step, IsOneOf, HasPart, Demand, AColumn, Typed, Two, Constant, Tells, first, later, of_not, of_left, of_argument}
+use Rattle.query_laws.specs.Demands as parts
+use Rattle.query_laws.specs.ExprRules.{Kind, Word, Condition, other_kind, operand_kind, HasKind}
+use Rattle.query_laws.specs.FoldRules.{IsNew}
+use Rattle.query_laws.proofs.ExprComplete.{complete, operand, right, kind_condition, kind_word}
+use Rattle.query_laws.proofs.ExprSound.{kind_of, Each, collected_each, expr_sound}
+use Rattle.query_laws.proofs.FaultSteps.{at_span, same_fault, no_fault, not_both, by_must, by_next, told}
+use Rattle.query_laws.proofs.FoldNames.{new_among, among_new}
+use Rattle.query_laws.proofs.Steps.{must_ok, same_ok, found_first, nat_other}
+
+-- ---- names
+
+none_from : (names : List ℕ) (at id : ℕ) → place_from at names id ≡ None → IsNew id names
+none_from [] at id e = tt
+none_from (name ∷ rest) at id e = go (nat_eq name id) refl (λ k. none_from rest (at + 1) id k) e
+  where
+    go : (b : Bool) → nat_eq name id ≡ b → (place_from (at + 1) rest id ≡ None → IsNew id rest)
+        → cond b (Some at) (place_from (at + 1) rest id) ≡ None → IsNew id (name ∷ rest)
+    go true is more e = cc e
+    go false is more e = (nat_other name id is, more e)
+
+pub place_none : (names : List ℕ) (id : ℕ) → place_of names id ≡ None → IsNew id names
+place_none names id e = none_from names 0 id e
+
+pub not_new : (id : ℕ) (names : List ℕ) → is_among id names ≡ true → IsNew id names → ⊥
+not_new id names is new = not_both (is_among id names) (new_among id names new) is
+
+pub slot_told : (columns hidden : List ℕ) (x : Name) (fault : QueryFault) → slot_of columns hidden x ≡ Err fault
+    → (known : List Known) → Tells known fault.kind fault.span (AColumn columns hidden x.id x.span)
+slot_told columns hidden x fault e known = go (place_of columns x.id) refl (is_among x.id hidden) refl e
+  where
+    go : (o : Option ℕ) → place_of columns x.id ≡ o → (b : Bool) → is_among x.id hidden ≡ b → slot_at o b x.span ≡ Err fault
+        → Tells known fault.kind fault.span (AColumn columns hidden x.id x.span)
+    go (Some slot) is b among e = no_fault slot fault e
+    go None is true among e = told known (AColumn columns hidden x.id x.span) StateOnLine x.span fault (same_fault _ fault e)
+        (refl, place_none columns x.id is, not_new x.id hidden among)
+    go None is false among e = told known (AColumn columns hidden x.id x.span) UnknownName x.span fault (same_fault _ fault e)
+        (refl, place_none columns x.id is, among_new x.id hidden among)
+
+-- ---- the leftmost token
+
+two_at : (op : Op) (at : Span) (x y found : Found) → of_two op at x y ≡ Ok found → found.at ≡ at
+two_at op at x y found e =
+    let one = must_ok (is_operand op x.sort) WrongKind x.at _ found e in
+    let two = must_ok (is_operand op y.sort) WrongKind y.at _ found one.1 in
+    let three = must_ok (is_right_constant op y.sort) BadConstant y.at _ found two.1 in
+    sym (ap (λ (f : Found). f.at) (same_ok _ found three.1))
+
+call_at : (op : Op) (span : Span) (fs : List Found) (found : Found) → call_of op span fs ≡ Ok found → found.at ≡ span
+call_at op span [] found e = cc e
+call_at op span (f ∷ []) found e = cc e
+call_at op span (f ∷ g ∷ []) found e = two_at op span f g found e
+call_at op span (f ∷ g ∷ h ∷ fs) found e = cc e
+
+abbrev StandsLeft : List ℕ → List ℕ → Expr → Type 0
+StandsLeft columns hidden e = (found : Found) → expr_checked columns hidden e ≡ Ok found → found.at ≡ leftmost e
+
+left_step : (columns hidden : List ℕ) (y : expr.Expr-F ((e : Expr) × StandsLeft columns hidden e)) (found : Found)
+    → expr_step columns hidden (map-Expr Expr (Checked Found) (expr_checked columns hidden) (map-Expr ((e : Expr) × StandsLeft columns hidden e) Expr (λ a. a.0) y)) ≡ Ok found
+    → found.at ≡ leftmost_step (map-Expr Expr Span leftmost (map-Expr ((e : Expr) × StandsLeft columns hidden e) Expr (λ a. a.0) y))
+left_step columns hidden (expr.Number n span) found e = sym (ap (λ (f : Found). f.at) (same_ok _ found e))
+left_step columns hidden (expr.Named x) found e =
+    let first = found_first (slot_of columns hidden x) _ found e in sym (ap (λ (f : Found). f.at) (same_ok _ found first.2))
+left_step columns hidden (expr.Not span a) found e =
+    let first = found_first (expr_checked columns hidden a.0) _ found e in
+    let one = must_ok _ _ _ _ found first.2 in
+    sym (ap (λ (f : Found). f.at) (same_ok _ found one.1))
+left_step columns hidden (expr.Binary op span a b) found e =
+    let first = found_first (expr_checked columns hidden a.0) _ found e in
+    let second = found_first (expr_checked columns hidden b.0) _ found first.2 in
+    two_at op first.0.at first.0 second.0 found second.2 ∙ a.1 first.0 first.1
+left_step columns hidden (expr.Call op span args) found e =
+    let first = found_first (collected [] (map (expr_checked columns hidden) (map (λ a. a.0) args))) _ found e in
+    call_at op span first.0 found first.2
+
+pub stands_left : (columns hidden : List ℕ) (e : Expr) → StandsLeft columns hidden e
+stands_left columns hidden = ind-Expr (StandsLeft columns hidden) (λ x y is found e.
+    let L : expr.Expr-F Expr → Type 0 = λ z. expr_step columns hidden (map-Expr Expr (Checked Found) (expr_checked columns hidden) z) ≡ Ok found
+    → found.at ≡ leftmost_step (map-Expr Expr Span leftmost z) in
+    subst L is (left_step columns hidden y found) (sym (fold-roll-Expr (Checked Found) (expr_step columns hidden) x) ∙ e)
+    ∙ sym (fold-roll-Expr Span leftmost_step x))
+
+-- ---- what is asked of a part is asked
+
+through : (k : Kind) (e : Expr) (l : Kind) (a : Expr) (m : Kind) (p : Expr) → HasPart k e l a → HasPart l a m p → HasPart k e m p
+through _ _ _ _ m p (parts.whole k e) q = q
+through _ _ _ _ m p (of_not k span e l a h) q = of_not k span e m p (through _ _ _ _ m p h q)
+through _ _ _ _ m p (of_left k op span a b l part h) q = of_left k op span a b m p (through _ _ _ _ m p h q)
+through _ _ _ _ m p (parts.of_right k op span a b l part h) q = parts.of_right k op span a b m p (through _ _ _ _ m p h q)
+through _ _ _ _ m p (of_argument k op span arguments a l part i h) q = of_argument k op span arguments a m p i (through _ _ _ _ m p h q)
+
+asks_through : (columns hidden : List ℕ) (k : Kind) (e : Expr) (l : Kind) (a : Expr) (d : Demand) → HasPart k e l a → ExprAsks columns hidden l a d
+    → ExprAsks columns hidden k e d
+asks_through columns hidden k e l a _ p (of_part m part h) = of_part m part (through k e l a m part p h)
+asks_through columns hidden k e l a _ p (of_name m x h) = of_name m x (through k e l a m (whole.Named x) p h)
+asks_through columns hidden k e l a _ p (of_call m op span arguments h) = of_call m op span arguments (through k e l a m (whole.Call op span arguments) p h)
+asks_through columns hidden k e l a _ p (of_right m op span x y h) = of_right m op span x y (through k e l a m (whole.Binary op span x y) p h)
+asks_through columns hidden k e l a _ p (of_second m op span x y h) = of_second m op span x y (through k e l a m (whole.Call op span (x ∷ y ∷ [])) p h)
+
+-- something that an expression asks, of which the fault says that it isn't so
+pub record ExprBroken (columns hidden : List ℕ) (k : Kind) (e : Expr) (fault : QueryFault) : Type 0 where
+  pub demand : Demand
+  pub asks : ExprAsks columns hidden k e demand
+  pub tells : (known : List Known) → Tells known fault.kind fault.span demand
+
+broken_through : (columns hidden : List ℕ) (k : Kind) (e : Expr) (l : Kind) (a : Expr) (fault : QueryFault) → HasPart k e l a
+    → ExprBroken columns hidden l a fault → ExprBroken columns hidden k e fault
+broken_through columns hidden k e l a fault p b = record {
+  demand = b.demand;
+  asks = asks_through columns hidden k e l a b.demand p b.asks;
+  tells = b.tells;
+}
+
+-- ---- kinds and constants
+
+turned : (k l : Kind) → (k ≡ l → ⊥) → k ≡ other_kind l
+turned Word Word differs = absurd (differs refl)
+turned Word Condition differs = refl
+turned Condition Word differs = refl
+turned Condition Condition differs = absurd (differs refl)
+
+has_other_kind : (columns hidden : List ℕ) (l : Kind) (a : Expr) (x : Found) → expr_checked columns hidden a ≡ Ok x → (kind_of x.sort ≡ l → ⊥)
+    → (t : TypedExpr) × HasKind columns (other_kind l) a t
+has_other_kind columns hidden l a x is differs =
+    let K : Kind → Type 0 = λ k. HasKind columns k a x.tree in
+    (x.tree, subst K (turned (kind_of x.sort) l differs) (expr_sound columns hidden a x is).rule)
+
+-- an expression is of one kind
+pub one_kind : (columns : List ℕ) (k l : Kind) (e : Expr) (s t : TypedExpr) → HasKind columns k e s → HasKind columns l e t → k ≡ l
+one_kind columns k l e s t p q =
+    let f = complete columns [] k e s p in
+    let g = complete columns [] l e t q in
+    sym f.kind ∙ ap (λ (x : Found). kind_of x.sort) (same_ok f.found g.found (sym f.is ∙ g.is)) ∙ g.kind
+
+kind_told : (columns hidden : List ℕ) (l : Kind) (a : Expr) (x : Found) (fault : QueryFault) → expr_checked columns hidden a ≡ Ok x → at_span WrongKind x.at ≡ fault
+    → (kind_of x.sort ≡ l → ⊥) → (known : List Known) → Tells known fault.kind fault.span (Typed columns l a)
+kind_told columns hidden l a x fault is e other known =
+    told known (Typed columns l a) WrongKind x.at fault e (sym (stands_left columns hidden a x is), has_other_kind columns hidden l a x is other)
+
+two_told : (columns hidden : List ℕ) (k : Kind) (e : Expr) (op : Op) (at : Span) (a b : Expr) (x y : Found) (fault : QueryFault)
+    → expr_checked columns hidden a ≡ Ok x → expr_checked columns hidden b ≡ Ok y
+    → ExprAsks columns hidden k e (Typed columns (operand_kind op) a) → ExprAsks columns hidden k e (Typed columns (operand_kind op) b)
+    → ExprAsks columns hidden k e (Constant op b) → of_two op at x y ≡ Err fault → ExprBroken columns hidden k e fault
+two_told columns hidden k e op at a b x y fault p q left right_ constant is =
+    by_must _ _ _ _ fault is (λ no same. record {
+      demand = Typed columns (operand_kind op) a;
+      asks = left;
+      tells = kind_told columns hidden (operand_kind op) a x fault p same (λ kind. not_both _ no (operand op x.sort kind));
+    }) (λ yes is.
+    by_must _ _ _ _ fault is (λ no same. record {
+      demand = Typed columns (operand_kind op) b;
+      asks = right_;
+      tells = kind_told columns hidden (operand_kind op) b y fault q same (λ kind. not_both _ no (operand op y.sort kind));
+    }) (λ yes is.
+    by_must _ _ _ _ fault is (λ no same. record {
+      demand = Constant op b;
+      asks = constant;
+      tells = λ known. told known (Constant op b) BadConstant y.at fault same
+          (sym (stands_left columns hidden b y q), λ h. not_both _ no (right columns hidden op b y q h));
+    }) (λ yes is. no_fault _ fault is)))
+
+-- ---- expressions
+
+abbrev IsTold : List ℕ → List ℕ → Expr → Type 0
+IsTold columns hidden e = (fault : QueryFault) → expr_checked columns hidden e ≡ Err fault → (k : Kind) → ExprBroken columns hidden k e fault
+
+abbrev Told : List ℕ → List ℕ → Type 0
+Told columns hidden = (e : Expr) × IsTold columns hidden e
+
+abbrev exprs : (columns hidden : List ℕ) → List (Told columns hidden) → List Expr
+exprs columns hidden args = map (λ a. a.0) args
+
+not_two : (columns hidden : List ℕ) (k : Kind) (op : Op) (span : Span) (es : List Expr) (fault : QueryFault) → (length es ≡ 2 → ⊥)
+    → at_span WrongArity span ≡ fault → ExprBroken columns hidden k (whole.Call op span es) fault
+not_two columns hidden k op span es fault other same = record {
+  demand = Two es span;
+  asks = of_call k op span es (parts.whole k (whole.Call op span es));
+  tells = λ known. told known (Two es span) WrongArity span fault same (refl, other);
+}
+
+call_told : (columns hidden : List ℕ) (k : Kind) (op : Op) (span : Span) (es : List Expr) (fs : List Found) (fault : QueryFault) → Each columns hidden es fs
+    → call_of op span fs ≡ Err fault → ExprBroken columns hidden k (whole.Call op span es) fault
+call_told columns hidden k op span [] [] fault all e = not_two columns hidden k op span [] fault (λ n. omega (arith, n)) (same_fault _ fault e)
+call_told columns hidden k op span [] (f ∷ fs) fault all e = absurd all
+call_told columns hidden k op span (a ∷ es) [] fault all e = absurd all
+call_told columns hidden k op span (a ∷ []) (f ∷ []) fault all e = not_two columns hidden k op span (a ∷ []) fault (λ n. omega (arith, n)) (same_fault _ fault e)
+call_told columns hidden k op span (a ∷ []) (f ∷ g ∷ fs) fault all e = absurd all.1
+call_told columns hidden k op span (a ∷ b ∷ es) (f ∷ []) fault all e = absurd all.1
+call_told columns hidden k op span (a ∷ b ∷ []) (f ∷ g ∷ []) fault all e =
+    let c = whole.Call op span (a ∷ b ∷ []) in
+    two_told columns hidden k c op span a b f g fault all.0 all.1.0
+    (of_part _ a (of_argument k op span (a ∷ b ∷ []) a _ a (first (b ∷ [])) (parts.whole _ a)))
+    (of_part _ b (of_argument k op span (a ∷ b ∷ []) b _ b (later a (b ∷ []) (first [])) (parts.whole _ b)))
+    (of_second k op span a b (parts.whole k c)) e
+call_told columns hidden k op span (a ∷ b ∷ []) (f ∷ g ∷ h ∷ fs) fault all e = absurd all.1.1
+call_told columns hidden k op span (a ∷ b ∷ c ∷ es) (f ∷ g ∷ []) fault all e = absurd all.1.1
+call_told columns hidden k op span (a ∷ b ∷ c ∷ es) (f ∷ g ∷ h ∷ fs) fault all e =
+    not_two columns hidden k op span (a ∷ b ∷ c ∷ es) fault (λ n. omega (arith, n)) (same_fault _ fault e)
+
+-- the argument at which a fault is found
+argument_told : (columns hidden : List ℕ) (args : List (Told columns hidden)) (before : List Found) (fault : QueryFault)
+    → collected before (map (expr_checked columns hidden) (exprs columns hidden args)) ≡ Err fault
+    → (a : Expr) × IsOneOf a (exprs columns hidden args) × ((k : Kind) → ExprBroken columns hidden k a fault)
+argument_told columns hidden [] before fault e = no_fault _ fault e
+argument_told columns hidden (a ∷ args) before fault e =
+    go (expr_checked columns hidden a.0) refl (λ x k. argument_told columns hidden args (before ++ x ∷ []) fault k) e
+  where
+    go : (c : Checked Found) → expr_checked columns hidden a.0 ≡ c
+        → ((x : Found) → collected (before ++ x ∷ []) (map (expr_checked columns hidden) (exprs columns hidden args)) ≡ Err fault
+        → (b : Expr) × IsOneOf b (exprs columns hidden args) × ((k : Kind) → ExprBroken columns hidden k b fault))
+        → collected before (c ∷ map (expr_checked columns hidden) (exprs columns hidden args)) ≡ Err fault
+        → (b : Expr) × IsOneOf b (exprs columns hidden (a ∷ args)) × ((k : Kind) → ExprBroken columns hidden k b fault)
+    go (Ok x) is next e = let m = next x e in (m.0, later a.0 (exprs columns hidden args) m.1, m.2)
+    go (Err found) is next e = (a.0, first (exprs columns hidden args), a.1 fault (is ∙ ap (λ (f : QueryFault). let r : Checked Found = Err f in r) (same_fault found fault e)))
+
+moved : (columns hidden : List ℕ) (k : Kind) (e f : Expr) (fault : QueryFault) → f ≡ e → ExprBroken columns hidden k e fault → ExprBroken columns hidden k f fault
+moved columns hidden k e f fault is h = let E : Expr → Type 0 = λ z. ExprBroken columns hidden k z fault in subst E (sym is) h
+
+step : (columns hidden : List ℕ) (y : expr.Expr-F (Told columns hidden)) (fault : QueryFault)
+    → expr_step columns hidden (map-Expr Expr (Checked Found) (expr_checked columns hidden) (map-Expr (Told columns hidden) Expr (λ a. a.0) y)) ≡ Err fault
+    → (k : Kind) → ExprBroken columns hidden k (roll-Expr (map-Expr (Told columns hidden) Expr (λ a. a.0) y)) fault
+step columns hidden (expr.Number n span) fault e k = no_fault _ fault e
+step columns hidden (expr.Named x) fault e k =
+    moved columns hidden k _ _ fault (rolls-Named x) (
+    by_next (slot_of columns hidden x) _ fault e (λ is. record {
+      demand = AColumn columns hidden x.id x.span;
+      asks = of_name k x (parts.whole k (whole.Named x));
+      tells = slot_told columns hidden x fault is;
+    }) (λ slot is e. no_fault _ fault e))
+step columns hidden (expr.Not span a) fault e k =
+    moved columns hidden k _ _ fault (rolls-Not span a.0) (
+    let inside = of_not k span a.0 Condition a.0 (parts.whole Condition a.0) in
+    by_next (expr_checked columns hidden a.0) _ fault e
+    (λ is. broken_through columns hidden k (whole.Not span a.0) Condition a.0 fault inside (a.1 fault is Condition)) (λ x is e.
+    by_must _ _ _ _ fault e (λ no same. record {
+      demand = Typed columns Condition a.0;
+      asks = of_part Condition a.0 inside;
+      tells = kind_told columns hidden Condition a.0 x fault is same (λ kind. not_both _ no (kind_condition x.sort kind));
+    }) (λ yes e. no_fault _ fault e)))
+step columns hidden (expr.Binary op span a b) fault e k =
+    moved columns hidden k _ _ fault (rolls-Binary op span a.0 b.0) (
+    let both = whole.Binary op span a.0 b.0 in
+    let left = of_left k op span a.0 b.0 (operand_kind op) a.0 (parts.whole (operand_kind op) a.0) in
+    let second = parts.of_right k op span a.0 b.0 (operand_kind op) b.0 (parts.whole (operand_kind op) b.0) in
+    by_next (expr_checked columns hidden a.0) _ fault e
+    (λ is. broken_through columns hidden k both (operand_kind op) a.0 fault left (a.1 fault is (operand_kind op))) (λ x p e.
+    by_next (expr_checked columns hidden b.0) _ fault e
+    (λ is. broken_through columns hidden k both (operand_kind op) b.0 fault second (b.1 fault is (operand_kind op))) (λ y q e.
+    two_told columns hidden k both op x.at a.0 b.0 x y fault p q (of_part _ a.0 left) (of_part _ b.0 second)
+    (of_right k op span a.0 b.0 (parts.whole k both)) e)))
+step columns hidden (expr.Call op span args) fault e k =
+    moved columns hidden k _ _ fault (rolls-Call op span (exprs columns hidden args)) (
+    by_next (collected [] (map (expr_checked columns hidden) (exprs columns hidden args))) _ fault e
+    (λ is.
+    let m = argument_told columns hidden args [] fault is in
+    broken_through columns hidden k (whole.Call op span (exprs columns hidden args)) (operand_kind op) m.0 fault
+    (of_argument k op span (exprs columns hidden args) m.0 (operand_kind op) m.0 m.1 (parts.whole (operand_kind op) m.0)) (m.2 (operand_kind op)))
+    (λ fs is e.
+    let all = collected_each columns hidden (exprs columns hidden args) [] fs is in
+    call_told columns hidden k op span (exprs columns hidden args) all.0 fault all.2 (ap (call_of op span) (sym all.1) ∙ e)))
+
+pub expr_told : (columns hidden : List ℕ) (e : Expr) → IsTold columns hidden e
+expr_told columns hidden = ind-Expr (IsTold columns hidden) (λ x y is fault e k.
+    let L : expr.Expr-F Expr → Type 0 = λ z. expr_step columns hidden (map-Expr Expr (Checked Found) (expr_checked columns hidden) z) ≡ Err fault
+    → (l : Kind) → ExprBroken columns hidden l (roll-Expr z) fault in
+    subst L is (step columns hidden y fault) (sym (fold-roll-Expr (Checked Found) (expr_step columns hidden) x) ∙ e) k)
+
+pub condition_told : (columns hidden : List ℕ) (e : Expr) (fault : QueryFault) → condition_of columns hidden e ≡ Err fault → ExprBroken columns hidden Condition e fault
+condition_told columns hidden e fault is =
+    by_next (expr_checked columns hidden e) _ fault is (λ is. expr_told columns hidden e fault is Condition) (λ x p is.
+    by_must _ _ _ _ fault is (λ no same. record {
+      demand = Typed columns Condition e;
+      asks = of_part Condition e (parts.whole Condition e);
+      tells = kind_told columns hidden Condition e x fault p same (λ kind. not_both _ no (kind_condition x.sort kind));
+    }) (λ yes is. no_fault _ fault is))
+
+pub word_told : (columns hidden : List ℕ) (e : Expr) (fault : QueryFault) → word_of columns hidden e ≡ Err fault → ExprBroken columns hidden Word e fault
+word_told columns hidden e fault is =
+    by_next (expr_checked columns hidden e) _ fault is (λ is. expr_told columns hidden e fault is Word) (λ x p is.
+    by_must _ _ _ _ fault is (λ no same. record {
+      demand = Typed columns Word e;
+      asks = of_part Word e (parts.whole Word e);
+      tells = kind_told columns hidden Word e x fault p same (λ kind. not_both _ no (kind_word x.sort kind));
+    }) (λ yes is. no_fault _ fault is))

@@ -1,0 +1,94 @@
+-- What a fault in a fold says.
+use Rattle.std.proofs.Common.{◌≡◌, ℕ, false, ◌||◌, List, [], ◌∷◌, ◌++◌, length, map, Err, suc, refl, sym, ap, subst, ◌∙◌, append_assoc, arith}
+use Rattle.std.specs.Prelude.{nat_lt}
+use Rattle.query_lang.specs.declared.fault.FaultKind.TheVariants.{NameTaken, WrongArity, OverLimit}
+use Rattle.query_lang.specs.declared.fault.Limit.TheVariants.{States, Args}
+use Rattle.query_lang.specs.declared.fault.QueryFault.{QueryFault}
+use Rattle.query_lang.specs.declared.query.FoldDef.{FoldDef}
+use Rattle.query_lang.specs.declared.query.Name.{Name}
+use Rattle.query_lang.specs.declared.query.StateVar.{StateVar}
+use Rattle.query_lang.specs.declared.typing.Known.{Known}
+use Rattle.query_lang.specs.Checks.{and_then, is_among}
+use Rattle.query_lang.specs.TypedFolds.{states_from, args_from, body_checked, fold_checked}
+use Rattle.query_laws.specs.Asked.{FoldAsks, of_state, of_states, of_arg, of_args, of_statement, of_emits, ids_of}
+use Rattle.query_laws.specs.Demands.{New, Fewer, OneEmit}
+use Rattle.query_laws.specs.FoldRules.{IsNew, state_names_of, arg_names_of}
+use Rattle.query_laws.proofs.BodyFaults.{BlockTold, at_statement, second, follows, body_told}
+use Rattle.query_laws.proofs.ExprFaults.{not_new}
+use Rattle.query_laws.proofs.FaultSteps.{no_fault, by_must, by_must_not, by_next, told, Broken, broken_in}
+use Rattle.query_laws.proofs.FoldLaws.{rest_of}
+use Rattle.query_laws.proofs.FoldNames.{among_append, states_sound, args_sound}
+use Rattle.query_laws.proofs.NameFaults.{at_least, ids_last, ids_long}
+
+abbrev ids : List StateVar → List ℕ
+ids states = map (λ other. other.name.id) states
+
+state_last : (front : List StateVar) (s : StateVar) → ids (front ++ s ∷ []) ≡ ids front ++ s.name.id ∷ []
+state_last [] s = refl
+state_last (x ∷ front) s = ap (λ (z : List ℕ). x.name.id ∷ z) (state_last front s)
+
+states_long : (front : List StateVar) → length (ids front) ≡ length front
+states_long [] = refl
+states_long (x ∷ front) = ap suc (states_long front)
+
+states_told : (d : FoldDef) (front ss : List StateVar) (found : List ℕ) (known : List Known) (fault : QueryFault)
+    → d.states ≡ front ++ ss → found ≡ ids front → states_from found ss ≡ Err fault → Broken (FoldAsks d) known fault
+states_told d front [] found known fault split same e = no_fault found fault e
+states_told d front (s ∷ ss) found known fault split same e =
+    by_must_not (is_among s.name.id found) NameTaken s.name.span _ fault e (λ among at.
+    let N : List ℕ → Type 0 = λ z. IsNew s.name.id z in
+    record {
+      demand = New (ids front) s.name.id s.name.span;
+      asks = of_state front s ss split;
+      tells = told known (New (ids front) s.name.id s.name.span) NameTaken s.name.span fault at
+          (refl, λ fresh. not_new s.name.id found among (subst N (sym same) fresh));
+    }) (λ none e.
+    by_must (nat_lt (length found) 8) (OverLimit States) s.name.span _ fault e (λ full at. record {
+      demand = Fewer States (length front) s.name.span;
+      asks = of_states front s ss split;
+      tells = told known (Fewer States (length front) s.name.span) (OverLimit States) s.name.span fault at
+          (refl, refl, at_least (length found) (length front) 8 (ap length same ∙ states_long front) full);
+    }) (λ few e.
+    states_told d (front ++ s ∷ []) ss (found ++ s.name.id ∷ []) known fault (split ∙ sym (append_assoc front (s ∷ []) ss))
+    (ap (λ (z : List ℕ). z ++ s.name.id ∷ []) same ∙ sym (state_last front s)) e))
+
+args_told : (d : FoldDef) (front args : List Name) (found : List ℕ) (known : List Known) (fault : QueryFault)
+    → d.args ≡ front ++ args → found ≡ ids_of front → args_from (state_names_of d) found args ≡ Err fault → Broken (FoldAsks d) known fault
+args_told d front [] found known fault split same e = no_fault found fault e
+args_told d front (a ∷ args) found known fault split same e =
+    by_must_not (is_among a.id (state_names_of d) || is_among a.id found) NameTaken a.span _ fault e (λ among at.
+    let N : List ℕ → Type 0 = λ z. IsNew a.id (state_names_of d ++ z) in
+    record {
+      demand = New (state_names_of d ++ ids_of front) a.id a.span;
+      asks = of_arg front a args split;
+      tells = told known (New (state_names_of d ++ ids_of front) a.id a.span) NameTaken a.span fault at
+          (refl, λ fresh. not_new a.id (state_names_of d ++ found) (among_append a.id (state_names_of d) found ∙ among) (subst N (sym same) fresh));
+    }) (λ none e.
+    by_must (nat_lt (length found) 16) (OverLimit Args) a.span _ fault e (λ full at. record {
+      demand = Fewer Args (length front) a.span;
+      asks = of_args front a args split;
+      tells = told known (Fewer Args (length front) a.span) (OverLimit Args) a.span fault at
+          (refl, refl, at_least (length found) (length front) 16 (ap length same ∙ ids_long front) full);
+    }) (λ few e.
+    args_told d (front ++ a ∷ []) args (found ++ a.id ∷ []) known fault (split ∙ sym (append_assoc front (a ∷ []) args))
+    (ap (λ (z : List ℕ). z ++ a.id ∷ []) same ∙ sym (ids_last front a)) e))
+
+statements_told : (d : FoldDef) (known : List Known) (fault : QueryFault) → BlockTold (state_names_of d) (arg_names_of d) [] d.body false known fault
+    → Broken (FoldAsks d) known fault
+statements_told d known fault (at_statement around s h b) = broken_in _ _ known fault (λ q asked. of_statement around s q h asked) b
+statements_told d known fault (second span around e h has) = cc has
+statements_told d known fault (follows span e h) =
+    record { demand = OneEmit d.body; asks = of_emits; tells = told known (OneEmit d.body) WrongArity span fault e h }
+
+pub fold_faults : (d : FoldDef) (known : List Known) (fault : QueryFault) → fold_checked d ≡ Err fault → Broken (FoldAsks d) known fault
+fold_faults d known fault e =
+    by_next (states_from [] d.states) _ fault e (λ is. states_told d [] d.states [] known fault refl refl is) (λ states p e.
+    let S = (states_sound d.states [] states (omega arith) p).0 in
+    let A : List ℕ → Type 0 = λ z. and_then (args_from z [] d.args) (λ args. rest_of d z args) ≡ Err fault in
+    by_next (args_from (state_names_of d) [] d.args) (λ args. rest_of d (state_names_of d) args) fault (subst A S e)
+    (λ is. args_told d [] d.args [] known fault refl refl is) (λ args q e.
+    let a = (args_sound (state_names_of d) d.args [] args (omega arith) q).0 in
+    let B : List ℕ → Type 0 = λ z. rest_of d (state_names_of d) z ≡ Err fault in
+    by_next (body_checked (state_names_of d) (arg_names_of d) d.body) _ fault (subst B a e)
+    (λ is. statements_told d known fault (body_told (state_names_of d) (arg_names_of d) known fault d.body [] _ _ (λ span none. cc none) is))
+    (λ body r e. no_fault _ fault e)))

@@ -1,0 +1,59 @@
+-- Folds: the rule and the check agree.
+use Rattle.std.proofs.Common.{◌≡◌, ℕ, List, [], map, None, Ok, refl, sym, ap, subst, ◌∙◌, arith, append-nil}
+use Rattle.query_lang.specs.declared.fold.TypedExpr.{TypedExpr}
+use Rattle.query_lang.specs.declared.fold.TypedStmt.{TypedStmt}
+use Rattle.query_lang.specs.declared.fold.TypedFold.{TypedFold}
+use Rattle.query_lang.specs.declared.query.FoldDef.{FoldDef}
+use Rattle.query_lang.specs.Checks.{Checked, and_then}
+use Rattle.query_lang.specs.TypedFolds.{states_from, args_from, body_checked, fold_checked, fold_nodes, fold_statements}
+use Rattle.query_laws.specs.FoldRules.{AreNew, HasBlock, HasFold, at_most_one, state_names_of, arg_names_of}
+use Rattle.query_laws.proofs.Steps.{same_ok, found_first, then_next}
+use Rattle.query_laws.proofs.FoldNames.{states_sound, states_complete, args_sound, args_complete}
+use Rattle.query_laws.proofs.Blocks.{Fits, block_sound, block_complete}
+
+pub nothing_around : (states : List ℕ) → Fits states [] (record { condition = None; state = None })
+nothing_around states = record { condition = refl; past = λ h. tt; none = λ h. refl }
+
+-- what is left of the check once the names are found
+abbrev pub rest_of : FoldDef → List ℕ → List ℕ → Checked TypedFold
+rest_of d states args = and_then (body_checked states args d.body) (λ body. Ok (record {
+  name = d.name;
+  state_names = states;
+  initial = map (λ state. state.initial) d.states;
+  arg_names = args;
+  body = body.statements;
+  emit = body.emit;
+  nodes = fold_nodes d;
+  statements = fold_statements d;
+}))
+
+pub fold_sound : (d : FoldDef) (f : TypedFold) → fold_checked d ≡ Ok f → HasFold d f
+fold_sound d f e =
+    let states = found_first (states_from [] d.states) _ f e in
+    let args = found_first (args_from states.0 [] d.args) _ f states.2 in
+    let s = states_sound d.states [] states.0 (omega arith) states.1 in
+    let a = args_sound states.0 d.args [] args.0 (omega arith) args.1 in
+    let N : List ℕ → Type 0 = λ z. AreNew z (arg_names_of d) in
+    let whole : rest_of d (state_names_of d) (arg_names_of d) ≡ Ok f = sym (ap (λ (z : List ℕ). rest_of d z args.0) s.0 ∙ ap (λ (z : List ℕ). rest_of d (state_names_of d) z) a.0) ∙ args.2 in
+    let body = found_first (body_checked (state_names_of d) (arg_names_of d) d.body) _ f whole in
+    let b = block_sound (state_names_of d) (arg_names_of d) d.body [] _ _ body.0 (nothing_around (state_names_of d)) body.1 in
+    let B : List TypedStmt → Type 0 = λ z. HasBlock (state_names_of d) (arg_names_of d) [] d.body z (at_most_one body.0.emit) in
+    let E : List TypedExpr → Type 0 = λ z. HasBlock (state_names_of d) (arg_names_of d) [] d.body b.ts z in
+    record {
+      body = body.0.statements;
+      emit = body.0.emit;
+      is = sym (same_ok _ f body.2);
+      states = s.1;
+      args = subst N s.0 (subst N (append-nil states.0) a.1);
+      few_states = omega (arith, s.2);
+      few_args = omega (arith, a.2);
+      statements = subst B (sym b.statements) (subst E b.emits b.rule);
+    }
+
+pub fold_complete : (d : FoldDef) (f : TypedFold) → HasFold d f → fold_checked d ≡ Ok f
+fold_complete d f h =
+    let N : List ℕ → Type 0 = λ z. AreNew z (arg_names_of d) in
+    then_next _ _ (state_names_of d) (states_complete d.states [] h.states (omega (arith, h.few_states)))
+    ∙ then_next _ _ (arg_names_of d) (args_complete (state_names_of d) d.args [] (subst N (sym (append-nil (state_names_of d))) h.args) (omega (arith, h.few_args)))
+    ∙ then_next _ _ _ (block_complete (state_names_of d) (arg_names_of d) [] d.body h.body (at_most_one h.emit) h.statements _ (record { statements = []; emit = None }) h.emit (nothing_around (state_names_of d)) refl)
+    ∙ ap (λ (g : TypedFold). let r : Checked TypedFold = Ok g in r) (sym h.is)

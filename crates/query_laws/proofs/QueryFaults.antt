@@ -1,0 +1,216 @@
+-- What a query's fault says.
+use Rattle.std.proofs.Common.{◌≡◌, ℕ, suc, ◌+◌, true, false, List, [], ◌∷◌, ◌++◌, length, Ok, Err, refl, sym, ap, subst, ◌∙◌, inl, inr, ◌⊎◌, arith}
+use Rattle.std.specs.Prelude.{is_some, nat_lt}
+use Rattle.query_lang.specs.declared.fault.FaultKind.{FaultKind}
+use Rattle.query_lang.specs.declared.fault.FaultKind.TheVariants as kinds
+use Rattle.query_lang.specs.declared.fault.FaultKind.TheVariants.{NameTaken, OverLimit, NothingPrinted}
+use Rattle.query_lang.specs.declared.fault.Limit.TheVariants.{Bindings}
+use Rattle.query_lang.specs.declared.fault.QueryFault.{QueryFault}
+use Rattle.query_lang.specs.declared.fault.Span.{Span}
+use Rattle.query_lang.specs.declared.query.Item.{Item}
+use Rattle.query_lang.specs.declared.query.Item.TheVariants as item
+use Rattle.query_lang.specs.declared.query.Name.{Name}
+use Rattle.query_lang.specs.declared.query.Query.{Query}
+use Rattle.query_lang.specs.declared.typing.Earlier.{Earlier}
+use Rattle.query_lang.specs.declared.typing.Given.{Given}
+use Rattle.query_lang.specs.declared.typing.Known.{Known}
+use Rattle.query_lang.specs.Checks.{Checked, is_among}
+use Rattle.query_lang.specs.TypedFinals.{table_named, five_fields, made_final}
+use Rattle.query_lang.specs.TypedFolds.{fold_checked}
+use Rattle.query_lang.specs.TypedStreams.{meaning_of, begun, made_stream}
+use Rattle.query_lang.specs.Typing.{item_checked, items_checked, ended, start_of, checked, typed_names, given_of}
+use Rattle.query_laws.specs.Asked.{ItemAsks, of_fold_name, of_fold, of_stream_name, of_one_stream, of_stream, of_final_name, of_one_final, of_final, of_print, of_once}
+use Rattle.query_laws.specs.Context.{Entry, streams_in, finals_in, prints_in, printed_in, known_in, earlier_of}
+use Rattle.query_laws.specs.Demands.{ATable, Demand, Free, Stands, New, Fewer, Holds, Tells}
+use Rattle.query_laws.specs.FaultLaws.{Breaks, PrintsNothing, HasFault, IsOfTyping}
+use Rattle.query_laws.specs.QueryRules.{HasItem, HasItems, of_none, of_more}
+use Rattle.query_laws.proofs.ExprFaults.{not_new}
+use Rattle.query_laws.proofs.FaultSteps.{at_span, no_fault, not_both, by_must, by_must_not, by_next, told, Broken, broken_in}
+use Rattle.query_laws.proofs.FoldFaults.{fold_faults}
+use Rattle.query_laws.proofs.NameFaults.{table_told, at_least}
+use Rattle.query_laws.proofs.NameLaws.{free_complete}
+use Rattle.query_laws.proofs.QueryLaws.{item_sound, item_complete, items_sound}
+use Rattle.query_laws.proofs.StreamFaults.{stream_op_told, final_op_told}
+use Rattle.query_laws.proofs.Unmet.{unmet}
+
+-- ---- items
+
+taken_told : (known : List Known) (x : Name) (fault : QueryFault) → is_some (meaning_of known x.id) ≡ true → at_span NameTaken x.span ≡ fault
+    → Tells known fault.kind fault.span (Free x)
+taken_told known x fault taken e = told known (Free x) NameTaken x.span fault e (refl, λ free. not_both _ (free_complete known x.id free) taken)
+
+bindings_told : (names : List (List ℕ)) (items : List Entry) (x : Name) (fault : QueryFault) → nat_lt (length (streams_in items) + length (finals_in items)) 32 ≡ false
+    → at_span (OverLimit Bindings) x.span ≡ fault
+    → Tells (known_in names items) fault.kind fault.span (Fewer Bindings (length (streams_in items) + length (finals_in items)) x.span)
+bindings_told names items x fault full e =
+    told (known_in names items) (Fewer Bindings (length (streams_in items) + length (finals_in items)) x.span) (OverLimit Bindings) x.span fault e
+    (refl, refl, at_least (length (streams_in items) + length (finals_in items)) (length (streams_in items) + length (finals_in items)) 32 refl full)
+
+begun_told : (names : List (List ℕ)) (items : List Entry) (x : Name) (fault : QueryFault) (Asks : Demand → Type 0) → begun (earlier_of names items) x ≡ Err fault
+    → Asks (Free x) → Asks (Fewer Bindings (length (streams_in items) + length (finals_in items)) x.span) → Broken Asks (known_in names items) fault
+begun_told names items x fault Asks e free one =
+    by_must_not (is_some (meaning_of (known_in names items) x.id)) NameTaken x.span _ fault e
+    (λ taken at. record { demand = Free x; asks = free; tells = taken_told (known_in names items) x fault taken at }) (λ none e.
+    by_must (nat_lt (length (streams_in items) + length (finals_in items)) 32) (OverLimit Bindings) x.span _ fault e (λ full at. record {
+      demand = Fewer Bindings (length (streams_in items) + length (finals_in items)) x.span;
+      asks = one;
+      tells = bindings_told names items x fault full at;
+    }) (λ few e. no_fault _ fault e))
+
+abbrev ItemTold : Given → List (List ℕ) → List Entry → Item → QueryFault → Type 0
+ItemTold given names items i fault = Broken (ItemAsks (five_fields given.fields) names items i) (known_in names items) fault
+
+item_told : (given : Given) (names : List (List ℕ)) (items : List Entry) (i : Item) (fault : QueryFault) → item_checked given (earlier_of names items) i ≡ Err fault
+    → ItemTold given names items i fault
+item_told given names items (item.Fold d) fault e =
+    by_must_not (is_some (meaning_of (known_in names items) d.name.id)) NameTaken d.name.span _ fault e (λ taken at. record {
+      demand = Free d.name;
+      asks = of_fold_name d;
+      tells = taken_told (known_in names items) d.name fault taken at;
+    }) (λ none e.
+    by_next (fold_checked d) _ fault e
+    (λ is. broken_in _ _ (known_in names items) fault (λ q asked. of_fold d q asked) (fold_faults d (known_in names items) fault is))
+    (λ f p e. no_fault _ fault e))
+item_told given names items (item.Stream d) fault e =
+    by_next (begun (earlier_of names items) d.name) _ fault e
+    (λ is. begun_told names items d.name fault _ is (of_stream_name d) (of_one_stream d)) (λ u p e.
+    by_next (made_stream (five_fields given.fields) (earlier_of names items) d.name d.op) _ fault e
+    (λ is. broken_in _ _ (known_in names items) fault (λ q asked. of_stream d q asked)
+    (stream_op_told (five_fields given.fields) (earlier_of names items) d.name d.op fault is))
+    (λ made q e. no_fault _ fault e))
+item_told given names items (item.Final d) fault e =
+    by_next (begun (earlier_of names items) d.name) _ fault e
+    (λ is. begun_told names items d.name fault _ is (of_final_name d) (of_one_final d)) (λ u p e.
+    by_next (made_final given (earlier_of names items) d.op) _ fault e
+    (λ is. broken_in _ _ (known_in names items) fault (λ q asked. of_final d q asked) (final_op_told given (earlier_of names items) d.op fault is))
+    (λ made q e. no_fault _ fault e))
+item_told given names items (item.Print x) fault e =
+    by_next (table_named (known_in names items) x) _ fault e (λ is. record {
+      demand = Stands ATable x;
+      asks = of_print x;
+      tells = table_told (known_in names items) x fault is;
+    }) (λ table p e.
+    by_must_not (is_among x.id (printed_in items)) NameTaken x.span _ fault e (λ among at. record {
+      demand = New (printed_in items) x.id x.span;
+      asks = of_once x;
+      tells = told (known_in names items) (New (printed_in items) x.id x.span) NameTaken x.span fault at (refl, not_new x.id (printed_in items) among);
+    }) (λ none e. no_fault _ fault e))
+
+-- where all that an item asks is so, the check finds no fault
+pub all_met : (given : Given) (names : List (List ℕ)) (items : List Entry) (i : Item)
+    → ((demand : Demand) → ItemAsks (five_fields given.fields) names items i demand → Holds (known_in names items) demand)
+    → (one : Entry) × HasItem given names items i one
+all_met given names items i met = go (item_checked given (earlier_of names items) i) refl
+  where
+    go : (c : Checked Earlier) → item_checked given (earlier_of names items) i ≡ c → (one : Entry) × HasItem given names items i one
+    go (Ok more) is = let one = item_sound given names items i more is in (one.0, one.1)
+    go (Err fault) is =
+        let b = item_told given names items i fault is in
+        absurd (unmet (known_in names items) fault.kind fault.span b.demand b.tells (met b.demand b.asks))
+
+-- ---- whole queries
+
+-- the first item that has no typed form, after those before
+record AtItem (given : Given) (names : List (List ℕ)) (before : List Entry) (list : List Item) (fault : QueryFault) : Type 0 where
+  pub front : List Item
+  pub one : Item
+  pub rest : List Item
+  pub split : list ≡ front ++ one ∷ rest
+  pub items : List Entry
+  pub typed : HasItems given names before front items
+  pub untyped : (entry : Entry) → HasItem given names items one entry → ⊥
+  pub told : ItemTold given names items one fault
+
+at_item : (given : Given) (names : List (List ℕ)) (before : List Entry) (list : List Item) (fault : QueryFault)
+    → items_checked given (earlier_of names before) list ≡ Err fault → AtItem given names before list fault
+at_item given names before [] fault e = no_fault _ fault e
+at_item given names before (i ∷ list) fault e =
+    by_next (item_checked given (earlier_of names before) i) _ fault e (λ is. record {
+      front = [];
+      one = i;
+      rest = list;
+      split = refl;
+      items = before;
+      typed = of_none before;
+      untyped = λ entry h. no_fault (earlier_of names (entry ∷ before)) fault (sym (item_complete given names before i entry h) ∙ is);
+      told = item_told given names before i fault is;
+    }) (λ more p e.
+    let one = item_sound given names before i more p in
+    let others = at_item given names (one.0 ∷ before) list fault (ap (λ (z : Earlier). items_checked given z list) (sym one.2) ∙ e) in
+    record {
+      front = i ∷ others.front;
+      one = others.one;
+      rest = others.rest;
+      split = ap (λ (z : List Item). i ∷ z) others.split;
+      items = others.items;
+      typed = of_more before i one.0 others.front others.items one.1 others.typed;
+      untyped = others.untyped;
+      told = others.told;
+    })
+
+-- what a fault says, at an item or at the end
+abbrev IsTold : Query → QueryFault → Type 0
+IsTold q fault = Breaks (λ known d. Tells known fault.kind fault.span d) q ⊎ ((at_span NothingPrinted q.end ≡ fault) × PrintsNothing q)
+
+some_more : (n : ℕ) → nat_lt 0 (suc n) ≡ false → ⊥
+some_more n e = grind arith
+
+empty : {A : Type 0} (xs : List A) → nat_lt 0 (length xs) ≡ false → xs ≡ []
+empty [] e = refl
+empty (x ∷ xs) e = absurd (some_more (length xs) e)
+
+fault_told : (q : Query) (fault : QueryFault) → checked q ≡ Err fault → IsTold q fault
+fault_told q fault e =
+    let names = typed_names q.names in
+    let given = given_of names q.items in
+    by_next (items_checked given (start_of names) q.items) (ended names q.end) fault e (λ is.
+    let a = at_item given names [] q.items fault is in
+    inl (record {
+      front = a.front;
+      item = a.one;
+      rest = a.rest;
+      split = a.split;
+      before = a.items;
+      typed = a.typed;
+      untyped = a.untyped;
+      demand = a.told.demand;
+      asked = a.told.asks;
+      unmet = unmet (known_in names a.items) fault.kind fault.span a.told.demand a.told.tells;
+      says = a.told.tells;
+    })) (λ more p e.
+    let all = items_sound given names [] q.items more p in
+    by_must (nat_lt 0 (length more.prints)) NothingPrinted q.end _ fault e (λ none at.
+    inr (at, record { all = all.0; typed = all.1; none = empty (prints_in all.0) (ap (λ (z : Earlier). nat_lt 0 (length z.prints)) (sym all.2) ∙ none) }))
+    (λ some e. no_fault _ fault e))
+
+-- a fault of another kind than *NothingPrinted* is at an item
+pub at_some_item : (q : Query) (kind : FaultKind) (at : Span) → (NothingPrinted ≡ kind → ⊥) → HasFault kind at q → Breaks (λ known d. Tells known kind at d) q
+at_some_item q kind at other e = go (fault_told q (at_span kind at) e)
+  where
+    go : IsTold q (at_span kind at) → Breaks (λ known d. Tells known kind at d) q
+    go (inl b) = b
+    go (inr h) = absurd (other (ap (λ (f : QueryFault). f.kind) h.0))
+
+pub at_end : (q : Query) (at : Span) → HasFault NothingPrinted at q → (at ≡ q.end) × PrintsNothing q
+at_end q at e = go (fault_told q (at_span NothingPrinted at) e)
+  where
+    go : IsTold q (at_span NothingPrinted at) → (at ≡ q.end) × PrintsNothing q
+    go (inl b) = absurd b.says
+    go (inr h) = (sym (ap (λ (f : QueryFault). f.span) h.0), h.1)
+
+of_typing : (known : List Known) (kind : FaultKind) (at : Span) (d : Demand) → Tells known kind at d → IsOfTyping kind
+of_typing known kinds.UnknownName at d t = tt
+of_typing known kinds.StateOnLine at d t = tt
+of_typing known kinds.NameTaken at d t = tt
+of_typing known kinds.WrongKind at d t = tt
+of_typing known kinds.WrongArity at d t = tt
+of_typing known kinds.BadConstant at d t = tt
+of_typing known (kinds.OverLimit limit) at d t = tt
+of_typing known _ at d t = absurd t
+
+pub only_these : (q : Query) (fault : QueryFault) → checked q ≡ Err fault → IsOfTyping fault.kind
+only_these q fault e = go (fault_told q fault e)
+  where
+    go : IsTold q fault → IsOfTyping fault.kind
+    go (inl b) = of_typing (known_in (typed_names q.names) b.before) fault.kind fault.span b.demand b.says
+    go (inr h) = let K : QueryFault → Type 0 = λ f. IsOfTyping f.kind in subst K h.0 tt

@@ -1,0 +1,196 @@
+-- What a fault in the operator of a stream or a final says.
+use Rattle.std.proofs.Common.{◌≡◌, ℕ, ◌≤◌, true, ◌&&◌, List, [], Ok, Err, refl, ap, subst, arith}
+use Rattle.std.specs.Prelude.{flat_map, nat_lt, nat_le}
+use Rattle.std.specs.List.{list_any}
+use Rattle.query_lang.specs.declared.fault.FaultKind.TheVariants.{NameTaken, WrongKind, BadConstant, OverLimit}
+use Rattle.query_lang.specs.declared.fault.Limit.TheVariants.{Groupbys}
+use Rattle.query_lang.specs.declared.fault.QueryFault.{QueryFault}
+use Rattle.query_lang.specs.declared.query.FinalOp.{FinalOp}
+use Rattle.query_lang.specs.declared.query.FinalOp.TheVariants as final
+use Rattle.query_lang.specs.declared.query.Name.{Name}
+use Rattle.query_lang.specs.declared.query.StreamOp.{StreamOp}
+use Rattle.query_lang.specs.declared.query.StreamOp.TheVariants as stream
+use Rattle.query_lang.specs.declared.typing.Earlier.{Earlier}
+use Rattle.query_lang.specs.declared.typing.FoldView.{FoldView}
+use Rattle.query_lang.specs.declared.typing.Given.{Given}
+use Rattle.query_lang.specs.declared.typing.Picked.{Picked}
+use Rattle.query_lang.specs.Checks.{is_among}
+use Rattle.query_lang.specs.TypedExprs.{slot_of, condition_of}
+use Rattle.query_lang.specs.TypedFinals.{table_named, quiet_fold, five_fields, same_names, key_columns, other_columns, made_final}
+use Rattle.query_lang.specs.TypedStreams.{column_names, key_names, no_new_columns, new_columns, clash, stream_named, fold_named, keys_checked, arguments_of, made_stream}
+use Rattle.query_laws.specs.Asked.{StreamAsks, FinalAsks, KeysAsk, ArgumentsAsk, of_filtered, of_condition, of_mapped, of_columns, of_first, of_second, of_both, of_limit, of_grouped, of_keys, of_fold, of_arguments}
+use Rattle.query_laws.specs.Asked as asks
+use Rattle.query_laws.specs.Context.{IsFold}
+use Rattle.query_laws.specs.Demands.{AStream, ATable, AFold, AQuietFold, Stands, AColumn, Kept, Fewer, Same, Apart, SameKeys}
+use Rattle.query_laws.specs.StreamRules.{key_ids}
+use Rattle.query_laws.proofs.ExprFaults.{slot_told, condition_told}
+use Rattle.query_laws.proofs.FaultSteps.{no_fault, not_both, by_must, by_must_not, by_next, told, Broken, broken_in}
+use Rattle.query_laws.proofs.FinalLaws.{at_most, both_hold, same_complete}
+use Rattle.query_laws.proofs.FoldNames.{below}
+use Rattle.query_laws.proofs.NameFaults.{stream_told, fold_told, table_told, quiet_told, columns_told, at_least, keys_told, arguments_told}
+use Rattle.query_laws.proofs.NameLaws.{stream_sound, fold_name_sound, table_sound, apart_complete}
+use Rattle.query_laws.proofs.Steps.{must_not_ok, same_ok, found_first}
+use Rattle.query_laws.proofs.StreamLaws.{all_same_complete, picked_sound}
+
+pub stream_op_told : (five : List ℕ) (earlier : Earlier) (name : Name) (op : StreamOp) (fault : QueryFault) → made_stream five earlier name op ≡ Err fault
+    → Broken (StreamAsks five earlier.known earlier.groups name op) earlier.known fault
+stream_op_told five earlier name (stream.Filter input e) fault is =
+    by_next (stream_named earlier.known input) _ fault is (λ is. record {
+      demand = Stands AStream input;
+      asks = of_filtered input e;
+      tells = stream_told earlier.known input fault is;
+    }) (λ source p is.
+    by_next (condition_of (column_names source.columns) source.hidden e) _ fault is (λ is.
+    let b = condition_told (column_names source.columns) source.hidden e fault is in
+    record { demand = b.demand; asks = of_condition input e source b.demand (stream_sound earlier.known input source p) b.asks; tells = b.tells earlier.known })
+    (λ condition q is. no_fault _ fault is))
+stream_op_told five earlier name (stream.Map input new) fault is =
+    by_next (stream_named earlier.known input) _ fault is (λ is. record {
+      demand = Stands AStream input;
+      asks = of_mapped input new;
+      tells = stream_told earlier.known input fault is;
+    }) (λ source p is.
+    by_next (new_columns (column_names source.columns) source.hidden no_new_columns new) _ fault is (λ is.
+    broken_in _ _ earlier.known fault (λ d asked. of_columns input new source d (stream_sound earlier.known input source p) asked)
+    (columns_told (column_names source.columns) source.hidden new [] new no_new_columns earlier.known fault refl refl is))
+    (λ made q is. no_fault _ fault is))
+stream_op_told five earlier name (stream.Zip first second) fault is =
+    by_next (stream_named earlier.known first) _ fault is (λ is. record {
+      demand = Stands AStream first;
+      asks = of_first first second;
+      tells = stream_told earlier.known first fault is;
+    }) (λ left p is.
+    by_next (stream_named earlier.known second) _ fault is (λ is. record {
+      demand = Stands AStream second;
+      asks = of_second first second;
+      tells = stream_told earlier.known second fault is;
+    }) (λ right q is.
+    by_must_not (clash left.columns right.columns) NameTaken second.span _ fault is (λ clashes at. record {
+      demand = Same left.columns right.columns second.span;
+      asks = of_both first second left right (stream_sound earlier.known first left p) (stream_sound earlier.known second right q);
+      tells = told earlier.known (Same left.columns right.columns second.span) NameTaken second.span fault at
+          (refl, λ same. not_both _ (all_same_complete left.columns right.columns same) clashes);
+    }) (λ none is. no_fault _ fault is)))
+stream_op_told five earlier name (stream.Group input keys fold_name) fault is =
+    by_must (nat_lt earlier.groups 8) (OverLimit Groupbys) name.span _ fault is (λ full at. record {
+      demand = Fewer Groupbys earlier.groups name.span;
+      asks = of_limit input keys fold_name;
+      tells = told earlier.known (Fewer Groupbys earlier.groups name.span) (OverLimit Groupbys) name.span fault at
+          (refl, refl, at_least earlier.groups earlier.groups 8 refl full);
+    }) (λ few is.
+    by_next (stream_named earlier.known input) _ fault is (λ is. record {
+      demand = Stands AStream input;
+      asks = of_grouped input keys fold_name;
+      tells = stream_told earlier.known input fault is;
+    }) (λ source p is.
+    by_next (keys_checked five (column_names source.columns) source.hidden keys) _ fault is (λ is.
+    broken_in _ _ earlier.known fault (λ d asked. of_keys input keys fold_name source d (stream_sound earlier.known input source p) asked)
+    (keys_told (column_names source.columns) source.hidden (flat_map (key_names five) keys) [] (flat_map (key_names five) keys) (record { names = []; slots = [] })
+    earlier.known fault refl refl is)) (λ picked q is.
+    by_next (fold_named earlier.known fold_name) _ fault is (λ is. record {
+      demand = Stands AFold fold_name;
+      asks = of_fold input keys fold_name;
+      tells = fold_told earlier.known fold_name fault is;
+    }) (λ f r is.
+    by_next (arguments_of (column_names source.columns) source.hidden picked.names f fold_name.span) _ fault is (λ is.
+    let k = picked_sound five (column_names source.columns) source.hidden keys picked q in
+    let A : List ℕ → Type 0 = λ z. arguments_of (column_names source.columns) source.hidden z f fold_name.span ≡ Err fault in
+    broken_in _ _ earlier.known fault
+    (λ d asked. of_arguments input keys fold_name source f d (stream_sound earlier.known input source p) (fold_name_sound earlier.known fold_name f r) asked)
+    (arguments_told (column_names source.columns) source.hidden (key_ids five keys) f fold_name.span earlier.known fault
+    (subst A (ap (λ (z : Picked). z.names) k.2) is))) (λ arguments s is. no_fault _ fault is)))))
+
+quiet_stands : (earlier : Earlier) (name : Name) (f : FoldView) → quiet_fold earlier.known name ≡ Ok f → IsFold earlier.known name.id f
+quiet_stands earlier name f e =
+    let loud = found_first (fold_named earlier.known name) _ f e in
+    let quiet = must_not_ok loud.0.emits WrongKind name.span _ f loud.2 in
+    let F : FoldView → Type 0 = λ z. IsFold earlier.known name.id z in
+    subst F (same_ok loud.0 f quiet.1) (fold_name_sound earlier.known name loud.0 loud.1)
+
+kept : (rows : ℕ) → 1 ≤ rows → rows ≤ 65536 → (nat_lt 0 rows && nat_le rows 65536) ≡ true
+kept rows some few = both_hold (nat_lt 0 rows) (nat_le rows 65536) (below 0 rows (omega (arith, some))) (at_most rows 65536 few)
+
+pub final_op_told : (given : Given) (earlier : Earlier) (op : FinalOp) (fault : QueryFault) → made_final given earlier op ≡ Err fault
+    → Broken (FinalAsks (five_fields given.fields) earlier.known op) earlier.known fault
+final_op_told given earlier (final.Filter input e) fault is =
+    by_next (table_named earlier.known input) _ fault is (λ is. record {
+      demand = Stands ATable input;
+      asks = asks.of_filtered input e;
+      tells = table_told earlier.known input fault is;
+    }) (λ source p is.
+    by_next (condition_of source.columns [] e) _ fault is (λ is.
+    let b = condition_told source.columns [] e fault is in
+    record { demand = b.demand; asks = asks.of_condition input e source b.demand (table_sound earlier.known input source p) b.asks; tells = b.tells earlier.known })
+    (λ condition q is. no_fault _ fault is))
+final_op_told given earlier (final.Map input new) fault is =
+    by_next (table_named earlier.known input) _ fault is (λ is. record {
+      demand = Stands ATable input;
+      asks = asks.of_mapped input new;
+      tells = table_told earlier.known input fault is;
+    }) (λ source p is.
+    by_next (new_columns source.columns [] no_new_columns new) _ fault is (λ is.
+    broken_in _ _ earlier.known fault (λ d asked. asks.of_columns input new source d (table_sound earlier.known input source p) asked)
+    (columns_told source.columns [] new [] new no_new_columns earlier.known fault refl refl is))
+    (λ made q is. no_fault _ fault is))
+final_op_told given earlier (final.Group input keys fold_name) fault is =
+    let five = five_fields given.fields in
+    by_next (table_named earlier.known input) _ fault is (λ is. record {
+      demand = Stands ATable input;
+      asks = asks.of_grouped input keys fold_name;
+      tells = table_told earlier.known input fault is;
+    }) (λ source p is.
+    by_next (keys_checked five source.columns [] keys) _ fault is (λ is.
+    broken_in _ _ earlier.known fault (λ d asked. asks.of_keys input keys fold_name source d (table_sound earlier.known input source p) asked)
+    (keys_told source.columns [] (flat_map (key_names five) keys) [] (flat_map (key_names five) keys) (record { names = []; slots = [] })
+    earlier.known fault refl refl is)) (λ picked q is.
+    by_next (quiet_fold earlier.known fold_name) _ fault is (λ is. record {
+      demand = Stands AQuietFold fold_name;
+      asks = asks.of_fold input keys fold_name;
+      tells = quiet_told earlier.known fold_name fault is;
+    }) (λ f r is.
+    by_next (arguments_of source.columns [] picked.names f fold_name.span) _ fault is (λ is.
+    let k = picked_sound five source.columns [] keys picked q in
+    let A : List ℕ → Type 0 = λ z. arguments_of source.columns [] z f fold_name.span ≡ Err fault in
+    broken_in _ _ earlier.known fault
+    (λ d asked. asks.of_arguments input keys fold_name source f d (table_sound earlier.known input source p) (quiet_stands earlier fold_name f r) asked)
+    (arguments_told source.columns [] (key_ids five keys) f fold_name.span earlier.known fault (subst A (ap (λ (z : Picked). z.names) k.2) is)))
+    (λ arguments s is. no_fault _ fault is))))
+final_op_told given earlier (final.Join first second) fault is =
+    by_next (table_named earlier.known first) _ fault is (λ is. record {
+      demand = Stands ATable first;
+      asks = asks.of_first first second;
+      tells = table_told earlier.known first fault is;
+    }) (λ left p is.
+    by_next (table_named earlier.known second) _ fault is (λ is. record {
+      demand = Stands ATable second;
+      asks = asks.of_second first second;
+      tells = table_told earlier.known second fault is;
+    }) (λ right q is.
+    by_must (same_names (key_columns left) (key_columns right)) WrongKind second.span _ fault is (λ differ at. record {
+      demand = SameKeys left right second.span;
+      asks = asks.of_both first second left right (table_sound earlier.known first left p) (table_sound earlier.known second right q);
+      tells = told earlier.known (SameKeys left right second.span) WrongKind second.span fault at
+          (refl, λ same. not_both _ differ (same_complete (key_columns left) (key_columns right) same));
+    }) (λ same is.
+    by_must_not (list_any (λ name. is_among name left.columns) (other_columns right)) NameTaken second.span _ fault is (λ among at. record {
+      demand = Apart (other_columns right) left.columns second.span;
+      asks = asks.of_others first second left right (table_sound earlier.known first left p) (table_sound earlier.known second right q);
+      tells = told earlier.known (Apart (other_columns right) left.columns second.span) NameTaken second.span fault at
+          (refl, λ apart. not_both _ (apart_complete (other_columns right) left.columns apart) among);
+    }) (λ none is. no_fault _ fault is))))
+final_op_told given earlier (final.Top input column rows span) fault is =
+    by_next (table_named earlier.known input) _ fault is (λ is. record {
+      demand = Stands ATable input;
+      asks = asks.of_ranked input column rows span;
+      tells = table_told earlier.known input fault is;
+    }) (λ source p is.
+    by_next (slot_of source.columns [] column) _ fault is (λ is. record {
+      demand = AColumn source.columns [] column.id column.span;
+      asks = asks.of_column input column rows span source (table_sound earlier.known input source p);
+      tells = slot_told source.columns [] column fault is earlier.known;
+    }) (λ slot q is.
+    by_must (nat_lt 0 rows && nat_le rows 65536) BadConstant span _ fault is (λ bad at. record {
+      demand = Kept rows span;
+      asks = asks.of_rows input column rows span;
+      tells = told earlier.known (Kept rows span) BadConstant span fault at (refl, λ h. not_both _ bad (kept rows h.0 h.1));
+    }) (λ good is. no_fault _ fault is)))

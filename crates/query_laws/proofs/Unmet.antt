@@ -1,0 +1,83 @@
+-- What a fault says of something that is asked: it isn't so.
+use Rattle.std.proofs.Common.{◌≡◌, ℕ, zero, suc, ◌<◌, List, [], ◌∷◌, subst, inl, inr, arith}
+use Rattle.query_lang.specs.declared.fault.FaultKind.{FaultKind}
+use Rattle.query_lang.specs.declared.fault.FaultKind.TheVariants as kinds
+use Rattle.query_lang.specs.declared.fault.Limit.{Limit}
+use Rattle.query_lang.specs.declared.fault.Span.{Span}
+use Rattle.query_lang.specs.declared.typing.Known.{Known}
+use Rattle.query_lang.specs.declared.typing.Meaning.TheVariants as meaning
+use Rattle.query_laws.specs.Context.{IsFree}
+use Rattle.query_laws.specs.Demands.{AStream, ATable, AFold, AQuietFold, Sought, IsSought, Demand, Free, Stands, AColumn, New, Target, Typed, Two, Constant, Kept, Fewer, Same, Apart, SameKeys, ReadsNone, OneEmit, most, Holds, IsUnknown, IsHiddenState, IsTaken, IsOtherKind, IsOtherArity, IsBadConstant, IsOneTooMany, Tells}
+use Rattle.query_laws.specs.ExprRules.{Kind, Word, Condition, other_kind, StandsAt}
+use Rattle.query_laws.specs.FoldRules.{IsNew}
+use Rattle.query_laws.proofs.ExprFaults.{one_kind}
+use Rattle.query_laws.proofs.NameFaults.{not_free}
+use Rattle.query_laws.proofs.NameLaws.{meaning_complete}
+
+stands_taken : (names : List ℕ) (place id : ℕ) → StandsAt names place id → IsNew id names → ⊥
+stands_taken [] place id h new = absurd h
+stands_taken (name ∷ rest) zero id h new = new.0 h
+stands_taken (name ∷ rest) (suc place) id h new = stands_taken rest place id h.1 new.1
+
+sought_taken : (known : List Known) (sought : Sought) (id : ℕ) → IsSought known sought id → IsFree known id → ⊥
+sought_taken known AStream id h = not_free known id (meaning.Stream h.0) (meaning_complete known id (meaning.Stream h.0) h.1)
+sought_taken known ATable id (t, inl h) = not_free known id (meaning.Final t) (meaning_complete known id (meaning.Final t) h)
+sought_taken known ATable id (t, inr h) = not_free known id (meaning.Stream h.0) (meaning_complete known id (meaning.Stream h.0) h.1)
+sought_taken known AFold id h = not_free known id (meaning.Fold h.0) (meaning_complete known id (meaning.Fold h.0) h.1)
+sought_taken known AQuietFold id h = not_free known id (meaning.Fold h.0) (meaning_complete known id (meaning.Fold h.0) h.1)
+
+unknown_unmet : (known : List Known) (at : Span) (d : Demand) → IsUnknown known at d → Holds known d → ⊥
+unknown_unmet known at (Stands sought x) t h = sought_taken known sought x.id h t.1
+unknown_unmet known at (AColumn columns hidden id span) t h = stands_taken columns h.0 id h.1 t.1
+unknown_unmet known at (Target states args x) t h = stands_taken states h.0 x.id h.1 t.1
+unknown_unmet known at _ t h = absurd t
+
+hidden_unmet : (known : List Known) (at : Span) (d : Demand) → IsHiddenState at d → Holds known d → ⊥
+hidden_unmet known at (AColumn columns hidden id span) t h = stands_taken columns h.0 id h.1 t.1
+hidden_unmet known at (ReadsNone states c) t h = t.3 (h t.0 t.1)
+hidden_unmet known at _ t h = absurd t
+
+taken_unmet : (known : List Known) (at : Span) (d : Demand) → IsTaken known at d → Holds known d → ⊥
+taken_unmet known at (Free x) t h = t.1 h
+taken_unmet known at (New taken id span) t h = t.1 h
+taken_unmet known at (Same left right span) t h = t.1 h
+taken_unmet known at (Apart others those span) t h = t.1 h
+taken_unmet known at _ t h = absurd t
+
+not_other : (k : Kind) → other_kind k ≡ k → ⊥
+not_other Word e = cc e
+not_other Condition e = cc e
+
+kind_unmet : (known : List Known) (at : Span) (d : Demand) → IsOtherKind known at d → Holds known d → ⊥
+kind_unmet known at (Stands sought x) t h = t.2 h
+kind_unmet known at (Typed columns kind e) t h = not_other kind (one_kind columns (other_kind kind) kind e t.1.0 h.0 t.1.1 h.1)
+kind_unmet known at (Target states args x) t h = stands_taken states h.0 x.id h.1 t.1
+kind_unmet known at (SameKeys left right span) t h = t.1 h
+kind_unmet known at _ t h = absurd t
+
+arity_unmet : (known : List Known) (at : Span) (d : Demand) → IsOtherArity at d → Holds known d → ⊥
+arity_unmet known at (Two arguments span) t h = t.1 h
+arity_unmet known at (OneEmit body) t h = h at t
+arity_unmet known at _ t h = absurd t
+
+constant_unmet : (known : List Known) (at : Span) (d : Demand) → IsBadConstant at d → Holds known d → ⊥
+constant_unmet known at (Constant op e) t h = t.1 h
+constant_unmet known at (Kept rows span) t h = t.1 h
+constant_unmet known at _ t h = absurd t
+
+limit_unmet : (known : List Known) (limit : Limit) (at : Span) (d : Demand) → IsOneTooMany limit at d → Holds known d → ⊥
+limit_unmet known limit at (Fewer one count span) t h =
+    let M : Limit → Type 0 = λ z. count < most z in
+    let below : count < most limit = subst M t.0 h in
+    absurd (omega (arith, below, t.2))
+limit_unmet known limit at _ t h = absurd t
+
+pub unmet : (known : List Known) (kind : FaultKind) (at : Span) (d : Demand) → Tells known kind at d → Holds known d → ⊥
+unmet known kinds.UnknownName at d t = unknown_unmet known at d t
+unmet known kinds.StateOnLine at d t = hidden_unmet known at d t
+unmet known kinds.NameTaken at d t = taken_unmet known at d t
+unmet known kinds.WrongKind at d t = kind_unmet known at d t
+unmet known kinds.WrongArity at d t = arity_unmet known at d t
+unmet known kinds.BadConstant at d t = constant_unmet known at d t
+unmet known (kinds.OverLimit limit) at d t = limit_unmet known limit at d t
+unmet known _ at d t = absurd t

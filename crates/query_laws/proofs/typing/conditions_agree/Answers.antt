@@ -1,0 +1,6 @@
+use Rattle.query_laws.proofs.ExprSound.{condition_sound}
+use Rattle.query_laws.proofs.ExprComplete.{condition_complete}
+use Rattle.query_laws.proofs.typing.conditions_agree.Goals as goal
+
+pub returns : goal.returns
+returns c = λ columns hidden e tree. (λ h. condition_complete columns hidden e tree h, λ h. condition_sound columns hidden e tree h)

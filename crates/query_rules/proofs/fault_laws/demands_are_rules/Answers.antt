@@ -1,7 +1,0 @@
-use Rattle.query_rules.proofs.ItemsMeet.{item_meets}
-use Rattle.query_rules.proofs.QueryFaults.{all_met}
-use Rattle.query_rules.proofs.fault_laws.demands_are_rules.Goals as goal
-
-pub returns : goal.returns
-returns c = λ given names items i.
-    (λ h demand asked. item_meets given names items i h.0 demand h.1 asked, λ met. all_met given names items i met)
