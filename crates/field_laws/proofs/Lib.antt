@@ -1,5 +1,0 @@
-pub mod Columns
-pub mod Tells
-pub mod Rows
-pub mod Made
-pub mod Fields

@@ -1,9 +1,0 @@
-use Rattle.marple_base.specs.declared.field.Field.TheVariants.{Switch}
-use Rattle.query_rules.proofs.QueryLaws.{query_sound}
-use Rattle.query_laws.proofs.Valid.{parts}
-use Rattle.net_order.proofs.laws.accepted_tell_switches.Goals as goal
-
-pub returns : goal.returns
-returns c = λ text q e.
-    let p = parts text q e in
-    record { keys = c.keys_are_fields.ensures p.0 q Switch (query_sound p.0 q p.2); words = c.accepted_start_as_words.ensures text q e }

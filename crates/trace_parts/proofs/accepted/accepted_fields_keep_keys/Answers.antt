@@ -1,8 +1,0 @@
-use Rattle.query_rules.proofs.QueryLaws.{query_sound}
-use Rattle.query_laws.proofs.Valid.{parts}
-use Rattle.trace_parts.proofs.accepted.accepted_fields_keep_keys.Goals as goal
-
-pub returns : goal.returns
-returns c = λ text q i fields choose e all.
-    let p = parts text q e in
-    c.fields_keep_keys.ensures.several p.0 q i fields choose (query_sound p.0 q p.2) all

@@ -1,5 +1,0 @@
-use Rattle.trace_parts.proofs.FinalRows.{filters_of_parts}
-use Rattle.trace_parts.proofs.finals.filters_are_of_parts.Goals as goal
-
-pub returns : goal.returns
-returns c = filters_of_parts
