@@ -22,7 +22,7 @@ use Rattle.trace_reader.specs.Traces as traces
 use Rattle.plan_laws.specs.MadeOf.{made_of}
 use Rattle.plan_laws.specs.RunLaws.{IsAsTheQuery}
 use Rattle.marple_cli.specs.Output.{IsRead, Source, fault_behind, fault_for, of_accepted, plan_tables_text, read_packets, run_text}
-use Rattle.marple_sources.specs.Compiled.{CompiledPlansRunAsQueries}
+use Rattle.marple_laws.specs.Compiled.{CompiledPlansRunAsQueries}
 
 module _ (alone : NoViewsWithoutNumber) (whole : ReadPacketsAreWhole) (setting : Setting) (trace : List ℕ) where
   -- runs of a query and of a plan by what their texts are read to

@@ -10,7 +10,7 @@ use Rattle.plan_laws.specs.Readings.{IsReadingOf}
 use Rattle.plan_laws.proofs.OneReading.{read_once}
 use Rattle.plan_laws.proofs.TextReadings.{every_text}
 use Rattle.marple_cli.specs.Output.{Source, defined_text, refusal, trace_refusal}
-use Rattle.marple_sources.specs.Sources.{AreAlike, SourcesAreOne, SourcesAreThere}
+use Rattle.marple_laws.specs.Sources.{AreAlike, SourcesAreOne, SourcesAreThere}
 
 abbrev source_of : List ℕ → Checked Made → Source
 source_of text plan = record { text = text; plan = plan }

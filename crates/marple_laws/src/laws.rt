@@ -1,7 +1,7 @@
 //! Laws of the sources of texts.
 
-ghost use Rattle.marple_sources.specs.Compiled.{CompiledPlansRunAsQueries};
-ghost use Rattle.marple_sources.specs.Sources.{SourcesAreOne, SourcesAreThere};
+ghost use Rattle.marple_laws.specs.Compiled.{CompiledPlansRunAsQueries};
+ghost use Rattle.marple_laws.specs.Sources.{SourcesAreOne, SourcesAreThere};
 
 use query_run::{no_views_without_number, read_packets_are_whole};
 
