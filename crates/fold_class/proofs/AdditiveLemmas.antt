@@ -12,6 +12,7 @@ use Rattle.fold_class.specs.declared.class.Kind.{Kind}
 use Rattle.fold_class.specs.declared.class.Kind.TheVariants.{Pure, Affine}
 use Rattle.fold_class.specs.Tables.{update, all_below}
 use Rattle.fold_class.specs.Depth.{assigns, expr_reads, reads_after, reads_first, fold_reads, is_within, is_history}
+use Rattle.fold_code.proofs.BlockLemmas.{argument_is}
 use Rattle.fold_code.specs.Additive.{names_no_state, adds_or_subtracts, is_variable, is_increment, is_additive_block, is_additive}
 use Rattle.fold_class.specs.Kinds.{greater, expr_kind, outside_kind, role, role_kind, marked, chosen_kinds, kinds_after, kinds_first, fold_kinds, is_no_other, is_linear_by}
 use Rattle.fold_class.proofs.TableLemmas.{and_true_left, and_true_right, or_true_left, implied, below_at}
@@ -59,7 +60,7 @@ module _ (states : ℕ) where
 
   clean_pure : (e : Term) (kinds : ℕ → Kind) → ((s : ℕ) → states ≤ s → kinds s ≡ Pure) → names_no_state states e ≡ true → expr_kind (role Sums) e kinds ≡ Pure
   clean_pure (Literal n) kinds p h = refl
-  clean_pure (Read s) kinds p h = let ge : states ≤ s = grind (arith, nat_tests) in p s ge
+  clean_pure (Read s) kinds p h = p s (argument_is states s h)
   clean_pure (Negation e) kinds p h = ap (outside_kind Pure) (clean_pure e kinds p h)
   clean_pure (Operation op a b) kinds p h =
       ap (λ z. role_kind (role Sums op) z (expr_kind (role Sums) b kinds)) (clean_pure a kinds p (and_true_left (names_no_state states a) (names_no_state states b) h))

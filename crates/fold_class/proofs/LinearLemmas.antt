@@ -1,33 +1,35 @@
--- The walk from the kinds at the start says whether a fold is linear.
+-- The walk from the kinds at the start says whether a variable is Other at the end.
 use Rattle.std.proofs.Common.{◌≡◌, ◌≢◌, ℕ, ◌+◌, ◌<◌, Bool, true, false, ◌==◌, nat_lt, if◌then◌else◌, List, length, set, refl, sym, ap, ◌∙◌, subst, arith, get_or-set_same, get_or-set_other}
 use Rattle.std.proofs.lemmas.Bool.Decides.{nat_tests}
 use mathlib.Core.Path.{fun_ext}
+use Rattle.query_lang.specs.declared.fold.Op.{Op}
 use Rattle.query_lang.specs.declared.fold.TypedFold.{TypedFold}
 use Rattle.query_lang.specs.declared.fold.TypedStmt.{TypedStmt}
 use Rattle.query_lang.specs.Blocks.{block_of}
 use Rattle.query_lang.specs.Folds.{fold_states, fold_block}
-use Rattle.fold_class.specs.declared.class.Algebra.{Algebra}
 use Rattle.fold_class.specs.declared.class.Kind.{Kind}
 use Rattle.fold_class.specs.declared.class.Kind.TheVariants.{Pure, Affine}
 use Rattle.fold_class.specs.Tables.{all_below}
-use Rattle.fold_class.specs.Depth.{is_history}
-use Rattle.fold_class.specs.Kinds.{role, kinds_after, kinds_first, is_no_other, is_linear_by}
-use Rattle.fold_class.specs.Walk.{kinds_in, flag_in}
+use Rattle.fold_class.specs.Kinds.{Role, kinds_after, kinds_from, is_no_other, has_no_other}
+use Rattle.fold_class.specs.Walk.{kinds_in}
 
-pub start_first : (f : TypedFold) (n : ℕ) (history : List Bool) (start : List Kind) → n ≡ fold_states f → ((v : ℕ) → v < fold_states f → flag_in history v ≡ is_history f v) →
-    ((s : ℕ) → kinds_in start s ≡ (if nat_lt s n then (if flag_in history s then Pure else Affine) else Pure)) → kinds_in start ≡ kinds_first f
-start_first f n history start en eh es = fun_ext (λ s. es s ∙ ap (λ m. if nat_lt s m then (if flag_in history s then Pure else Affine) else Pure) en ∙ at s (nat_lt s (fold_states f)) refl)
+-- what is fixed counts for the fold's variables alone
+pub same_fixed : (roles : Op → Role) (f : TypedFold) (fixed other : ℕ → Bool) → ((v : ℕ) → v < fold_states f → fixed v ≡ other v) → has_no_other roles fixed f ≡ has_no_other roles other f
+same_fixed roles f fixed other h =
+    ap (λ (z : ℕ → Kind). all_below (fold_states f) (λ v. is_no_other (kinds_after roles (fold_block f) z v))) (fun_ext (λ s. at s (nat_lt s (fold_states f)) refl))
   where
-    at : (s : ℕ) (b : Bool) → nat_lt s (fold_states f) ≡ b → (if b then (if flag_in history s then Pure else Affine) else Pure) ≡ (if b then (if is_history f s then Pure else Affine) else Pure)
-    at s true e = let lt : s < fold_states f = grind (arith, nat_tests) in ap (λ z. if z then Pure else Affine) (eh s lt)
+    at : (s : ℕ) (b : Bool) → nat_lt s (fold_states f) ≡ b → (if b then (if fixed s then Pure else Affine) else Pure) ≡ (if b then (if other s then Pure else Affine) else Pure)
+    at s true e = let lt : s < fold_states f = grind (arith, nat_tests) in ap (λ z. if z then Pure else Affine) (h s lt)
     at s false e = refl
 
-pub linear_from : (f : TypedFold) (algebra : Algebra) (n : ℕ) (block : List TypedStmt) (start walked : List Kind) (b : Bool) → n ≡ fold_states f → block ≡ f.body → kinds_in start ≡ kinds_first f →
-    kinds_in walked ≡ kinds_after (role algebra) (block_of block) (kinds_in start) → b ≡ all_below n (λ v. is_no_other (kinds_in walked v)) → b ≡ is_linear_by algebra f
-linear_from f algebra n block start walked b en eb es ew e =
+pub kept_from : (roles : Op → Role) (f : TypedFold) (fixed : ℕ → Bool) (n : ℕ) (block : List TypedStmt) (start walked : List Kind) (b : Bool) → n ≡ fold_states f → block ≡ f.body →
+    ((s : ℕ) → kinds_in start s ≡ (if nat_lt s n then (if fixed s then Pure else Affine) else Pure)) → kinds_in walked ≡ kinds_after roles (block_of block) (kinds_in start) →
+    b ≡ all_below n (λ v. is_no_other (kinds_in walked v)) → b ≡ has_no_other roles fixed f
+kept_from roles f fixed n block start walked b en eb es ew e =
+    let first : kinds_in start ≡ kinds_from fixed f = fun_ext (λ s. es s ∙ ap (λ m. if nat_lt s m then (if fixed s then Pure else Affine) else Pure) en) in
     e
     ∙ ap (λ m. all_below m (λ v. is_no_other (kinds_in walked v))) en
-    ∙ ap (λ z. all_below (fold_states f) (λ v. is_no_other (z v))) (ew ∙ ap (λ l. kinds_after (role algebra) (block_of l) (kinds_in start)) eb ∙ ap (kinds_after (role algebra) (fold_block f)) es)
+    ∙ ap (λ z. all_below (fold_states f) (λ v. is_no_other (z v))) (ew ∙ ap (λ l. kinds_after roles (block_of l) (kinds_in start)) eb ∙ ap (kinds_after roles (fold_block f)) first)
 
 -- one more variable has its kind
 pub kind_step : (kinds : List Kind) (g : ℕ → Kind) (v : ℕ) (k : Kind) → v < length kinds → k ≡ g v → ((s : ℕ) → kinds_in kinds s ≡ (if nat_lt s v then g s else Pure)) →

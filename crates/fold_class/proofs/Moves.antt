@@ -1,37 +1,23 @@
 -- What a translation does to two states with the same history.
-use Rattle.std.proofs.Common.{◌≡◌, ℕ, ◌<◌, ◌≤◌, Bool, true, false, not, ◌&&◌, ◌||◌, ◌==◌, nat_lt, if◌then◌else◌, List, ◌++◌, length, set, slice_index, refl, sym, ap, ◌∙◌, subst, arith, length-set}
+use Rattle.std.proofs.Common.{◌≡◌, ℕ, ◌<◌, Bool, true, false, ◌&&◌, ◌||◌, ◌==◌, if◌then◌else◌, List, ◌++◌, length, set, slice_index, refl, sym, ap, ◌∙◌, subst, arith, length-set}
 use Rattle.std.proofs.lemmas.Bool.Decides.{nat_tests}
-use Rattle.std.proofs.lemmas.List.{get_or_append_left, get_or-append_right}
+use Rattle.std.proofs.lemmas.List.{get_or_append_left}
 use Rattle.query_lang.specs.declared.fold.Op.{Op}
-use Rattle.query_lang.specs.Words.{flag, holds, op_value}
+use Rattle.query_lang.specs.Words.{holds, op_value}
 use Rattle.query_lang.specs.Terms.{Term, Literal, Read, Negation, Operation}
 use Rattle.query_lang.specs.Blocks.{Block, End, Set, Fork}
 use Rattle.query_lang.specs.Folds.{term_value, after, IsValidBlock}
 use Rattle.fold_class.specs.declared.class.Algebra.{Algebra}
-use Rattle.fold_class.proofs.History.{length-after}
+use Rattle.fold_code.proofs.BlockLemmas.{length-after, known_value, idle}
 use Rattle.fold_class.proofs.TableLemmas.{and_true_left, and_true_right, set_index}
-use Rattle.fold_class.specs.Translations.{moves_left, moves_right, names_known, is_move, is_moving}
+use Rattle.fold_code.specs.Checks.{names_known}
+use Rattle.fold_class.specs.Translations.{moves_left, moves_right, is_move, keeps_moves, is_moving}
 
 and_false : (b : Bool) → (b && false) ≡ false
 and_false true = refl
 and_false false = refl
 
 module _ (algebra : Algebra) (states : ℕ) (known : ℕ → Bool) where
-  -- where the conditions around a block are not known, it assigns no variable
-  idle : (b : Block) (args state : List ℕ) → is_moving algebra states known false b ≡ true → after b args state ≡ state
-  idle End args state h = refl
-  idle (Set v e rest) args state h = cc
-  idle (Fork c a b rest) args state h =
-      let front = and_true_left (is_moving algebra states known false a && is_moving algebra states known false b) (is_moving algebra states known false rest) h in
-      let ia = idle a args state (and_true_left (is_moving algebra states known false a) (is_moving algebra states known false b) front) in
-      let ib = idle b args state (and_true_right (is_moving algebra states known false a) (is_moving algebra states known false b) front) in
-      ap (after rest args) (either (holds (term_value c (state ++ args))) ia ib)
-      ∙ idle rest args state (and_true_right (is_moving algebra states known false a && is_moving algebra states known false b) (is_moving algebra states known false rest) h)
-    where
-      either : (h : Bool) → after a args state ≡ state → after b args state ≡ state → (if h then after a args state else after b args state) ≡ state
-      either true p q = p
-      either false p q = q
-
   -- a relation between two words of a variable, which each move keeps
   module _ (R : ℕ → ℕ → ℕ → Type 0)
       (left : (v : ℕ) (op : Op) (x y w : ℕ) → moves_left algebra op ≡ true → R v x y → R v (op_value op x w) (op_value op y w))
@@ -41,24 +27,8 @@ module _ (algebra : Algebra) (states : ℕ) (known : ℕ → Bool) where
       pub same : (s : ℕ) → s < states → known s ≡ true → slice_index xs s ≡ slice_index ys s
       pub related : (s : ℕ) → s < states → known s ≡ false → R s (slice_index xs s) (slice_index ys s)
 
-    slots_same : (args xs ys : List ℕ) (s : ℕ) → length xs ≡ states → length ys ≡ states → Related xs ys → (not (nat_lt s states) || known s) ≡ true → slice_index (xs ++ args) s ≡ slice_index (ys ++ args) s
-    slots_same args xs ys s hx hy r h = at (nat_lt s states) refl h
-      where
-        at : (b : Bool) → nat_lt s states ≡ b → (not b || known s) ≡ true → slice_index (xs ++ args) s ≡ slice_index (ys ++ args) s
-        at true t k =
-            let lt : s < states = grind (arith, nat_tests) in
-            get_or_append_left xs args 0 s (omega arith) ∙ r.same s lt k ∙ sym (get_or_append_left ys args 0 s (omega arith))
-        at false t k =
-            let ge : states ≤ s = grind (arith, nat_tests) in
-            get_or-append_right xs args (length xs) s 0 refl (omega arith) ∙ sym (get_or-append_right ys args (length xs) s 0 (hy ∙ sym hx) (omega arith))
-
     known_same : (args xs ys : List ℕ) (e : Term) → length xs ≡ states → length ys ≡ states → Related xs ys → names_known states known e ≡ true → term_value e (xs ++ args) ≡ term_value e (ys ++ args)
-    known_same args xs ys (Literal n) hx hy r h = refl
-    known_same args xs ys (Read s) hx hy r h = slots_same args xs ys s hx hy r h
-    known_same args xs ys (Negation e) hx hy r h = ap (λ z. flag (not (holds z))) (known_same args xs ys e hx hy r h)
-    known_same args xs ys (Operation op a b) hx hy r h =
-        ap (λ z. op_value op z (term_value b (xs ++ args))) (known_same args xs ys a hx hy r (and_true_left (names_known states known a) (names_known states known b) h))
-        ∙ ap (op_value op (term_value a (ys ++ args))) (known_same args xs ys b hx hy r (and_true_right (names_known states known a) (names_known states known b) h))
+    known_same args xs ys e hx hy r h = known_value states known args xs ys e hx hy r.same h
 
     move_keeps : (args xs ys : List ℕ) (v : ℕ) (e : Term) → length xs ≡ states → length ys ≡ states → v < states → known v ≡ false → Related xs ys → is_move algebra states known v e ≡ true →
         R v (term_value e (xs ++ args)) (term_value e (ys ++ args))
@@ -154,8 +124,8 @@ module _ (algebra : Algebra) (states : ℕ) (known : ℕ → Bool) where
         either false false e p q = q
 
         stays : (zs : List ℕ) (k : Bool) → is_moving algebra states known false a ≡ true → is_moving algebra states known false b ≡ true → (if k then after a args zs else after b args zs) ≡ zs
-        stays zs true p q = idle a args zs p
-        stays zs false p q = idle b args zs q
+        stays zs true p q = idle states known (keeps_moves algebra states known) a args zs p
+        stays zs false p q = idle states known (keeps_moves algebra states known) b args zs q
 
         branches : (t : Bool) → names_known states known c ≡ t → is_moving algebra states known (free && names_known states known c) a ≡ true → is_moving algebra states known (free && names_known states known c) b ≡ true →
             Related (after a args xs) (after a args ys) → Related (after b args xs) (after b args ys) →

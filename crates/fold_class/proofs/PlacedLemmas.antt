@@ -3,13 +3,11 @@ use Rattle.std.proofs.Common.{◌≡◌, ℕ, zero, suc, Bool, true, false, ◌&
 use Rattle.std.proofs.lemmas.Bool.Decides.{nat_tests}
 use mathlib.Core.Path.{fun_ext}
 use Rattle.query_lang.specs.declared.fold.TypedFold.{TypedFold}
-use Rattle.query_lang.specs.declared.fold.TypedStmt.{TypedStmt}
-use Rattle.query_lang.specs.Blocks.{block_of}
-use Rattle.query_lang.specs.Folds.{fold_states, fold_block}
-use Rattle.fold_class.specs.declared.class.Algebra.{Algebra}
+use Rattle.query_lang.specs.Folds.{fold_states}
 use Rattle.fold_class.specs.Depth.{is_history}
 use Rattle.fold_class.specs.Step.{places, history_places}
-use Rattle.fold_class.specs.Translations.{is_in, is_moving, is_translation_by}
+use Rattle.fold_code.specs.Checks.{is_in}
+use Rattle.fold_class.specs.Translations.{is_remembered}
 
 or_false : (b : Bool) → (b || false) ≡ b
 or_false true = refl
@@ -52,11 +50,6 @@ in_places p (suc n) v = at (in_places p n v) (p n) refl ∙ last (nat_lt v n) re
         let off : nat_lt v (suc n) ≡ false = grind (arith, nat_tests) in
         ap (λ z. (z && p v) || ((v == n) && p n)) t ∙ ap (λ z. z && p n) u ∙ sym (ap (λ z. z && p v) off)
 
--- the walk over a fold by the list of its history variables
-pub walked : (f : TypedFold) (algebra : Algebra) (states : ℕ) (list : List ℕ) (items : List TypedStmt) (r : Bool) → states ≡ fold_states f → list ≡ history_places f → items ≡ f.body →
-    is_moving algebra states (is_in list) true (block_of items) ≡ r → r ≡ is_translation_by algebra f
-walked f algebra states list items r es el ei er =
-    sym er
-    ∙ ap (λ z. is_moving algebra states (is_in list) true (block_of z)) ei
-    ∙ ap (λ z. is_moving algebra z (is_in list) true (fold_block f)) es
-    ∙ ap (λ z. is_moving algebra (fold_states f) z true (fold_block f)) (ap is_in el ∙ fun_ext (λ v. in_places (is_history f) (fold_states f) v))
+-- the list of a fold's history variables has them
+pub listed : (f : TypedFold) (list : List ℕ) → list ≡ history_places f → is_in list ≡ is_remembered f
+listed f list e = ap is_in e ∙ fun_ext (λ v. in_places (is_history f) (fold_states f) v)

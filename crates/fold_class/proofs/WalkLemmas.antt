@@ -1,19 +1,19 @@
--- The walk over a block is that over its first statement and then that over the rest.
-use Rattle.std.proofs.Common.{◌≡◌, ◌≢◌, ℕ, ◌+◌, ◌<◌, ◌≤◌, Bool, true, false, ◌==◌, if◌then◌else◌, List, length, get_or, set, drop, refl, sym, ap, ◌∙◌, subst, arith, get_or-set_same, get_or-set_other}
+-- What the walk over a table of kinds leaves.
+use Rattle.std.proofs.Common.{◌≡◌, ◌≢◌, ℕ, ◌<◌, ◌≤◌, Bool, true, false, ◌==◌, if◌then◌else◌, List, length, get_or, set, drop, refl, sym, ap, ◌∙◌, subst, arith, get_or-set_same, get_or-set_other}
 use Rattle.std.proofs.lemmas.Bool.Decides.{nat_tests}
-use Rattle.std.proofs.lemmas.List.{drop_more, drop_all}
+use Rattle.std.proofs.lemmas.List.{drop_all}
 use mathlib.Core.Path.{fun_ext}
 use Rattle.query_lang.specs.declared.fold.Op.{Op}
 use Rattle.query_lang.specs.declared.fold.TypedExpr.{TypedExpr}
 use Rattle.query_lang.specs.declared.fold.TypedStmt.{TypedStmt, If}
 use Rattle.query_lang.specs.Terms.{term_of}
-use Rattle.query_lang.specs.Blocks.{Block, End, Set, Fork, followed, stmt_block, block_of}
+use Rattle.query_lang.specs.Blocks.{stmt_block, block_of}
 use Rattle.query_lang.proofs.TreeLemmas.{block_if}
 use Rattle.fold_class.specs.declared.class.Kind.{Kind}
 use Rattle.fold_class.specs.declared.class.Kind.TheVariants.{Pure}
 use Rattle.fold_class.specs.Tables.{update}
 use Rattle.fold_class.specs.Kinds.{Role, greater, expr_kind, marked, chosen_kinds, kinds_after}
-use Rattle.fold_class.specs.Walk.{kinds_in, AssignsBelow}
+use Rattle.fold_class.specs.Walk.{kinds_in}
 
 -- a table with one entry changed
 pub set_kind : (kinds : List Kind) (v : ℕ) (k : Kind) → v < length kinds → kinds_in (set kinds v k) ≡ update (kinds_in kinds) v k
@@ -28,21 +28,6 @@ set_kind kinds v k h = fun_ext (λ s. at s (s == v) refl)
         get_or-set_other kinds v s k Pure off ∙ sym (ap (λ b. if b then k else get_or kinds s Pure) e)
 
 module _ (roles : Op → Role) where
-  kinds_followed : (p q : Block) (kinds : ℕ → Kind) → kinds_after roles (followed p q) kinds ≡ kinds_after roles q (kinds_after roles p kinds)
-  kinds_followed End q kinds = refl
-  kinds_followed (Set v e rest) q kinds = kinds_followed rest q (update kinds v (expr_kind roles e kinds))
-  kinds_followed (Fork c a b rest) q kinds =
-      kinds_followed rest q (chosen_kinds (expr_kind roles c kinds) (kinds_after roles a kinds) (kinds_after roles b kinds) (marked b (marked a kinds)))
-
-  -- one more statement
-  pub kinds_rest : (xs : List TypedStmt) (i : ℕ) (x : TypedStmt) (t t' : ℕ → Kind) (all : ℕ → Kind) → i < length xs → x ≡ get_or xs i x → t' ≡ kinds_after roles (stmt_block x) t →
-      kinds_after roles (block_of (drop i xs)) t ≡ all → kinds_after roles (block_of (drop (i + 1) xs)) t' ≡ all
-  kinds_rest xs i x t t' all h is e so =
-      ap (kinds_after roles (block_of (drop (i + 1) xs))) e
-      ∙ sym (kinds_followed (stmt_block x) (block_of (drop (i + 1) xs)) t)
-      ∙ ap (λ z. kinds_after roles (followed (stmt_block z) (block_of (drop (i + 1) xs))) t) is
-      ∙ sym (ap (λ z. kinds_after roles (block_of z) t) (drop_more xs i x h)) ∙ so
-
   pub kinds_end : (xs : List TypedStmt) (i : ℕ) (t all : ℕ → Kind) → length xs ≤ i → kinds_after roles (block_of (drop i xs)) t ≡ all → t ≡ all
   kinds_end xs i t all h so = sym (ap (λ z. kinds_after roles (block_of z) t) (drop_all i xs h)) ∙ so
 
@@ -61,37 +46,3 @@ module _ (roles : Op → Role) where
       ∙ ap {B = ℕ → Kind} (λ (z : ℕ → Kind) (v : ℕ). greater (A v) (z v)) (eb ∙ ap (λ z. kinds_after roles (block_of z) t) eq)
       ∙ ap (λ z. chosen_kinds z A B (marked (block_of b) (marked (block_of a) t))) ek
       ∙ sym (kinds_if s c a b t is)
-
-marked_followed : (p q : Block) (kinds : ℕ → Kind) → marked (followed p q) kinds ≡ marked q (marked p kinds)
-marked_followed End q kinds = refl
-marked_followed (Set v e rest) q kinds = marked_followed rest q (update kinds v Kind.Other)
-marked_followed (Fork c a b rest) q kinds = marked_followed rest q (marked b (marked a kinds))
-
-pub marked_rest : (xs : List TypedStmt) (i : ℕ) (x : TypedStmt) (t t' : ℕ → Kind) (all : ℕ → Kind) → i < length xs → x ≡ get_or xs i x → t' ≡ marked (stmt_block x) t →
-    marked (block_of (drop i xs)) t ≡ all → marked (block_of (drop (i + 1) xs)) t' ≡ all
-marked_rest xs i x t t' all h is e so =
-    ap (marked (block_of (drop (i + 1) xs))) e
-    ∙ sym (marked_followed (stmt_block x) (block_of (drop (i + 1) xs)) t)
-    ∙ ap (λ z. marked (followed (stmt_block z) (block_of (drop (i + 1) xs))) t) is
-    ∙ sym (ap (λ z. marked (block_of z) t) (drop_more xs i x h)) ∙ so
-
-pub marked_end : (xs : List TypedStmt) (i : ℕ) (t all : ℕ → Kind) → length xs ≤ i → marked (block_of (drop i xs)) t ≡ all → t ≡ all
-marked_end xs i t all h so = sym (ap (λ z. marked (block_of z) t) (drop_all i xs h)) ∙ so
-
-pub marked_if : (s : TypedStmt) (c : TypedExpr) (a b : List TypedStmt) (t : ℕ → Kind) → s ≡ If c a b → marked (stmt_block s) t ≡ marked (block_of b) (marked (block_of a) t)
-marked_if s c a b t is = ap (λ z. marked (stmt_block z) t) is ∙ ap (λ z. marked z t) (block_if c a b)
-
-below_followed : (n : ℕ) (p q : Block) → AssignsBelow n (followed p q) → AssignsBelow n p × AssignsBelow n q
-below_followed n End q h = (tt, h)
-below_followed n (Set v e rest) q h = let r = below_followed n rest q h.1 in ((h.0, r.0), r.1)
-below_followed n (Fork c a b rest) q h = let r = below_followed n rest q h.2 in ((h.0, h.1, r.0), r.1)
-
-pub below_rest : (n : ℕ) (xs : List TypedStmt) (i : ℕ) (x : TypedStmt) → i < length xs → x ≡ get_or xs i x → AssignsBelow n (block_of (drop i xs)) → AssignsBelow n (stmt_block x) × AssignsBelow n (block_of (drop (i + 1) xs))
-below_rest n xs i x h is below =
-    let first : AssignsBelow n (followed (stmt_block (get_or xs i x)) (block_of (drop (i + 1) xs))) = subst (λ z. AssignsBelow n (block_of z)) (drop_more xs i x h) below in
-    below_followed n (stmt_block x) (block_of (drop (i + 1) xs)) (subst (λ z. AssignsBelow n (followed (stmt_block z) (block_of (drop (i + 1) xs)))) (sym is) first)
-
-pub below_if : (n : ℕ) (s : TypedStmt) (c : TypedExpr) (a b : List TypedStmt) → s ≡ If c a b → AssignsBelow n (stmt_block s) → AssignsBelow n (block_of a) × AssignsBelow n (block_of b)
-below_if n s c a b is h =
-    let r : AssignsBelow n (Fork (term_of c) (block_of a) (block_of b) End) = subst (AssignsBelow n) (block_if c a b) (subst (λ z. AssignsBelow n (stmt_block z)) is h) in
-    (r.0, r.1)

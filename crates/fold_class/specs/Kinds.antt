@@ -73,20 +73,31 @@ kinds_after roles (Fork c a b rest) kinds =
     kinds_after roles rest (chosen_kinds (expr_kind roles c kinds) (kinds_after roles a kinds) (kinds_after roles b kinds)
     (marked b (marked a kinds)))
 
--- at the start history variables and arguments are Pure, and linear variables Affine
-abbrev pub kinds_first : TypedFold → ℕ → Kind
-kinds_first f s = if nat_lt s (fold_states f) then (if is_history f s then Pure else Affine) else Pure
+-- at the start fixed variables and arguments are Pure, and other variables Affine
+abbrev pub kinds_from : (ℕ → Bool) → TypedFold → ℕ → Kind
+kinds_from fixed f s = if nat_lt s (fold_states f) then (if fixed s then Pure else Affine) else Pure
 
-abbrev pub fold_kinds : Algebra → TypedFold → ℕ → Kind
-fold_kinds algebra f = kinds_after (role algebra) (fold_block f) (kinds_first f)
+-- the kinds at the end of the body
+abbrev pub end_kinds : (Op → Role) → (ℕ → Bool) → TypedFold → ℕ → Kind
+end_kinds roles fixed f = kinds_after roles (fold_block f) (kinds_from fixed f)
 
 abbrev pub is_no_other : Kind → Bool
 is_no_other Kind.Other = false
 is_no_other _ = true
 
--- no variable is Other at the end of the walk
+-- no variable is Other at the end of the body
+abbrev pub has_no_other : (Op → Role) → (ℕ → Bool) → TypedFold → Bool
+has_no_other roles fixed f = all_below (fold_states f) (λ v. is_no_other (end_kinds roles fixed f v))
+
+-- the history variables are fixed
+abbrev pub kinds_first : TypedFold → ℕ → Kind
+kinds_first f = kinds_from (is_history f) f
+
+abbrev pub fold_kinds : Algebra → TypedFold → ℕ → Kind
+fold_kinds algebra f = end_kinds (role algebra) (is_history f) f
+
 abbrev pub is_linear_by : Algebra → TypedFold → Bool
-is_linear_by algebra f = all_below (fold_states f) (λ v. is_no_other (fold_kinds algebra f v))
+is_linear_by algebra f = has_no_other (role algebra) (is_history f) f
 
 abbrev pub class_of : TypedFold → Class
 class_of f = if is_linear_by Sums f || is_linear_by Maxima f then Linear else Class.Other

@@ -1,12 +1,13 @@
 -- Folds that move each linear variable by what the history and the arguments alone give.
-use Rattle.std.specs.Prelude.{◌≡◌, ℕ, ◌+◌, ◌%◌, ◌^◌, ◌<◌, max, Bool, true, false, not, ◌&&◌, ◌||◌}
-use Rattle.std.specs.Prelude.{◌==◌, nat_lt, if◌then◌else◌, List, [], ◌∷◌, length, slice_index}
+use Rattle.std.specs.Prelude.{◌≡◌, ℕ, ◌+◌, ◌%◌, ◌^◌, ◌<◌, max, Bool, true, false, ◌&&◌, ◌||◌}
+use Rattle.std.specs.Prelude.{◌==◌, nat_lt, if◌then◌else◌, List, length, slice_index}
 use Rattle.query_lang.specs.declared.fold.Op.{Op}
 use Rattle.query_lang.specs.declared.fold.Op.TheVariants.{Add, Sub, Max}
 use Rattle.query_lang.specs.Terms.{Term, Literal, Read, Negation, Operation}
 use Rattle.query_lang.specs.declared.fold.TypedFold.{TypedFold}
-use Rattle.query_lang.specs.Blocks.{Block, End, Set, Fork}
+use Rattle.query_lang.specs.Blocks.{Block}
 use Rattle.query_lang.specs.Folds.{fold_states, fold_block, IsValidFold}
+use Rattle.fold_code.specs.Checks.{names_known, all_pass}
 use Rattle.fold_class.specs.declared.class.Algebra.{Algebra}
 use Rattle.fold_class.specs.declared.class.Algebra.TheVariants.{Sums, Maxima}
 use Rattle.fold_class.specs.Depth.{is_history}
@@ -29,13 +30,6 @@ moves_right Sums Add = true
 moves_right Maxima Max = true
 moves_right _ _ = false
 
--- whether an expression over this many state variables names known ones and arguments alone
-abbrev pub names_known : ℕ → (ℕ → Bool) → Term → Bool
-names_known states known (Literal n) = true
-names_known states known (Read s) = not (nat_lt s states) || known s
-names_known states known (Negation e) = names_known states known e
-names_known states known (Operation op a b) = names_known states known a && names_known states known b
-
 module _ (algebra : Algebra) (states : ℕ) (known : ℕ → Bool) where
   -- whether an expression is the variable, moved by what names known variables and arguments alone
   abbrev pub is_move : ℕ → Term → Bool
@@ -46,13 +40,13 @@ module _ (algebra : Algebra) (states : ℕ) (known : ℕ → Bool) where
       (moves_left algebra op && (is_move v a && names_known states known b)) ||
       (moves_right algebra op && (names_known states known a && is_move v b))
 
-  -- whether each assignment gives a known variable a known value, or moves another one, under conditions that are known; `free`
-  -- says so of those around the block
+  -- an assignment gives a known variable a known value, or moves another one
+  abbrev pub keeps_moves : ℕ → Term → Bool
+  keeps_moves v e = if known v then names_known states known e else is_move v e
+
+  -- whether each assignment does, under conditions that are known; `free` says so of those around the block
   abbrev pub is_moving : Bool → Block → Bool
-  is_moving free End = true
-  is_moving free (Set v e rest) = (free && (if known v then names_known states known e else is_move v e)) && is_moving free rest
-  is_moving free (Fork c a b rest) =
-      (is_moving (free && names_known states known c) a && is_moving (free && names_known states known c) b) && is_moving free rest
+  is_moving free b = all_pass states known keeps_moves free b
 
 -- whether a number is that of a history variable
 abbrev pub is_remembered : TypedFold → ℕ → Bool
@@ -66,11 +60,6 @@ is_translation_by algebra f = is_moving algebra (fold_states f) (is_remembered f
 -- whether it is one by its own algebra
 abbrev pub is_translation : TypedFold → Bool
 is_translation f = is_translation_by (algebra_of f) f
-
--- whether a number is in a list
-abbrev pub is_in : List ℕ → ℕ → Bool
-is_in [] v = false
-is_in (place ∷ rest) v = (v == place) || is_in rest v
 
 -- two states have the same history
 abbrev pub SameHistory : TypedFold → List ℕ → List ℕ → Type 0

@@ -1,20 +1,18 @@
 -- The walk over a fold's statements with a table of kinds, as code makes it.
-use Rattle.std.specs.Prelude.{ℕ, ◌<◌, Bool, true, false, if◌then◌else◌, List, slice_index_or, Option, Some, None}
+use Rattle.std.specs.Prelude.{ℕ, ◌<◌, Bool, true, false, if◌then◌else◌, List, slice_index_or}
 use Rattle.query_lang.specs.declared.fold.Op.{Op}
 use Rattle.query_lang.specs.Blocks.{Block, End, Set, Fork}
-use Rattle.fold_class.specs.declared.class.Algebra.{Algebra}
 use Rattle.fold_class.specs.declared.class.Kind.{Kind}
 use Rattle.fold_class.specs.declared.class.Kind.TheVariants.{Pure}
-use Rattle.fold_class.specs.Kinds.{Role, Outside, role}
+use Rattle.fold_class.specs.Kinds.{Role, Outside}
 
 -- the kinds of the slots: those of a list, and Pure past its end
 abbrev pub kinds_in : List Kind → ℕ → Kind
 kinds_in kinds s = slice_index_or kinds s Pure
 
--- the roles of operators in a walk: those of an algebra, or none where only reads count
-abbrev pub roles_of : Option Algebra → Op → Role
-roles_of (Some algebra) op = role algebra op
-roles_of None op = Outside
+-- the roles where only reads count
+abbrev pub outside : Op → Role
+outside op = Outside
 
 -- each assignment goes to a variable below a number
 abbrev pub AssignsBelow : ℕ → Block → Type 0

@@ -1,10 +1,5 @@
 //! The algebra of a fold, the kind of an expression, and the role of an operator.
 
-ghost use Rattle.std.specs.Prelude.{◌≡◌};
-ghost use Rattle.fold_class.specs.Kinds.{role};
-
-use query_lang::Op;
-
 /// Over which sums and products it is affine.
 #[derive(Clone, Copy, Debug, PartialEq, Eq)]
 pub enum Algebra {
@@ -12,38 +7,26 @@ pub enum Algebra {
     Maxima,
 }
 
-/// What is known of the value of an expression, or of a variable.
+/// What a walk knows of the value of an expression, or of a variable.
 #[derive(Clone, Copy, Debug, PartialEq, Eq)]
 pub enum Kind {
+    /// It depends on none of the variables that the walk follows.
     Pure,
+    /// It depends on them by sums and products of the walk alone.
     Affine,
+    /// Nothing is known of it.
     Other,
 }
 
-/// The role of an operator in an algebra.
+/// What an operator is to a walk: how the kind of its result follows from those of its operands.
 #[derive(Clone, Copy, Debug, PartialEq, Eq)]
 pub enum Role {
+    /// The greater kind of its operands.
     Sum,
+    /// The same.
     Difference,
+    /// The kind of one operand where the other is Pure, else Other.
     Product,
+    /// Pure if both operands are Pure, else Other.
     Outside,
-}
-
-/// The role of an operator in an algebra.
-pub(crate) fn role_of(algebra: Algebra, op: Op) -> Role
-    ensures { result ≡ role algebra op }
-{
-    match algebra {
-        Algebra::Sums => match op {
-            Op::Add => Role::Sum,
-            Op::Sub => Role::Difference,
-            Op::Mul => Role::Product,
-            _ => Role::Outside,
-        },
-        Algebra::Maxima => match op {
-            Op::Max => Role::Sum,
-            Op::Sadd => Role::Product,
-            _ => Role::Outside,
-        },
-    }
 }

@@ -1,60 +1,24 @@
 //! The class of a fold, and its program.
 
-ghost use Rattle.std.specs.Prelude.{◌≡◌, ℕ, ◌<◌, ◌≤◌, Bool, nat_lt, if◌then◌else◌, length, IfOk};
+ghost use Rattle.std.specs.Prelude.{◌≡◌, ℕ, ◌<◌, length, IfOk};
 ghost use Rattle.query_lang.specs.Folds.{IsValidFold, fold_states};
 ghost use Rattle.fold_code.specs.Meaning.{IsCodeOf};
-ghost use Rattle.fold_class.specs.Tables.{all_below};
 ghost use Rattle.fold_class.specs.Depth.{is_history};
-ghost use Rattle.fold_class.specs.Kinds.{is_no_other, is_linear_by, class_of, algebra_of};
-ghost use Rattle.fold_class.specs.Walk.{kinds_in, flag_in};
+ghost use Rattle.fold_class.specs.Kinds.{is_linear_by, class_of, algebra_of};
+ghost use Rattle.fold_class.specs.Walk.{flag_in};
 ghost use Rattle.fold_class.specs.Program.{IsRowsOf, IsLayoutOf, IsProgramOf};
 
-use crate::class::{Algebra, Kind};
+use crate::class::Algebra;
 use crate::depth::{depth_of, history_of};
+use crate::kept::has_no_other;
 use crate::layout::{Layout, Places, places_of};
 use crate::program::FoldProgram;
 use crate::rows::AffineRows;
 use crate::translation::is_translation;
-use crate::walk::walk_block;
 use fold_code::{FoldCode, compile};
 use marple_base::Seq;
 use query_lang::{Class, TypedFold};
 use std::alloc::{AllocError, Global};
-
-// The kind of a variable at the start of a body.
-fn start_kind(has_depth: bool) -> Kind
-    ensures { result ≡ (if has_depth then Kind.Pure else Kind.Affine) }
-{
-    if has_depth { Kind::Pure } else { Kind::Affine }
-}
-
-// The kinds at the start of a body: Pure for a variable with a depth, and Affine for the others.
-fn first_kinds(states: usize, history: &[bool]) -> [Kind; 8]
-    requires size { length history.now ≡ 8 }
-    requires few { states ≤ 8 }
-    ensures { (s : ℕ) → kinds_in result s
-        ≡ (if nat_lt s states then (if flag_in history.now s then Kind.Pure else Kind.Affine) else Kind.Pure) }
-{
-    let mut kinds = [Kind::Pure; 8];
-    for v in 0..states {
-        kinds[v] = start_kind(history[v]);
-    }
-    kinds
-}
-
-// Whether none of the first variables is Other.
-fn none_other(states: usize, kinds: &[Kind]) -> bool
-    requires { states ≤ length kinds.now }
-    ensures { result ≡ all_below states (λ v. is_no_other (kinds_in kinds.now v)) }
-{
-    let mut none = true;
-    for v in 0..states {
-        if let Kind::Other = kinds[v] {
-            none = false;
-        }
-    }
-    none
-}
 
 // Whether a fold is linear by the sums and products of an algebra.
 fn is_linear(f: &TypedFold, algebra: Algebra, history: &[bool]) -> bool
@@ -63,10 +27,7 @@ fn is_linear(f: &TypedFold, algebra: Algebra, history: &[bool]) -> bool
     requires history { (v : ℕ) → v < fold_states f.now → flag_in history.now v ≡ is_history f.now v }
     ensures { result ≡ is_linear_by algebra f.now }
 {
-    let states = f.state_names.len();
-    let mut kinds = first_kinds(states, history);
-    walk_block(Some(algebra), &mut kinds, f.body.as_slice());
-    none_other(states, &kinds)
+    has_no_other(&algebra, f, history)
 }
 
 // The class of a fold and its algebra.

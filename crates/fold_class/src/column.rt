@@ -8,7 +8,8 @@ ghost use Rattle.fold_class.specs.Parts.{parts, part_operation, part_negation, p
 ghost use Rattle.fold_class.specs.Step.{list_of};
 ghost use Rattle.fold_class.specs.Stored.{part_of, part_at, IfKeeps};
 
-use crate::class::{Algebra, Role, role_of};
+use crate::class::{Algebra, Role};
+use crate::operators::Operators;
 use crate::part::Part;
 use coeff_algebra::Coeff;
 use fold_code::Instr;
@@ -119,7 +120,7 @@ fn combine<C: Coeff>(
     match left {
         Part::Fixed(x) => match right {
             Part::Fixed(y) => Part::Fixed(op.value(x, y)),
-            Part::Share(e) => match role_of(algebra, op) {
+            Part::Share(e) => match algebra.role_of(op) {
                 Role::Sum => Part::Share(lift::<C>(x, column, dimension).add(e)),
                 Role::Difference => Part::Share(lift::<C>(x, column, dimension).add(C::embed(
                     u64::MAX,
@@ -130,7 +131,7 @@ fn combine<C: Coeff>(
             Part::Lost => Part::Lost,
         },
         Part::Share(d) => match right {
-            Part::Fixed(y) => match role_of(algebra, op) {
+            Part::Fixed(y) => match algebra.role_of(op) {
                 Role::Sum => Part::Share(d.add(lift::<C>(y, column, dimension))),
                 Role::Difference => Part::Share(d.add(C::embed(u64::MAX).mul(lift::<C>(
                     y, column, dimension,
@@ -138,7 +139,7 @@ fn combine<C: Coeff>(
                 Role::Product => Part::Share(C::embed(y).mul(d)),
                 Role::Outside => Part::Lost,
             },
-            Part::Share(e) => match role_of(algebra, op) {
+            Part::Share(e) => match algebra.role_of(op) {
                 Role::Sum => Part::Share(d.add(e)),
                 Role::Difference => Part::Share(d.add(C::embed(u64::MAX).mul(e))),
                 Role::Product => Part::Lost,

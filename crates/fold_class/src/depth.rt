@@ -7,6 +7,7 @@ ghost use Rattle.fold_class.specs.Depth.{fold_reads, is_within, is_history, IsDe
 ghost use Rattle.fold_class.specs.Walk.{kinds_in, is_other, flag_in};
 
 use crate::class::Kind;
+use crate::operators::Reads;
 use crate::walk::walk_block;
 use query_lang::TypedFold;
 
@@ -18,7 +19,7 @@ fn readers_of(f: &TypedFold, u: usize) -> [Kind; 8]
 {
     let mut kinds = [Kind::Pure; 8];
     kinds[u] = Kind::Other;
-    walk_block(None, &mut kinds, f.body.as_slice());
+    walk_block(&Reads, &mut kinds, f.body.as_slice());
     kinds
 }
 

@@ -3,12 +3,13 @@
 ghost use Rattle.std.specs.Prelude.{◌≡◌, ℕ, ◌<◌, ◌≤◌, length};
 ghost use Rattle.query_lang.specs.Terms.{term_of};
 ghost use Rattle.query_lang.specs.Blocks.{stmt_block, block_of};
-ghost use Rattle.fold_class.specs.Kinds.{role, greater, product_kind, outside_kind, role_kind, expr_kind, marked, kinds_after};
+ghost use Rattle.fold_class.specs.Kinds.{greater, product_kind, outside_kind, role_kind, expr_kind, marked, kinds_after};
 ghost use Rattle.fold_class.specs.Tables.{update};
-ghost use Rattle.fold_class.specs.Walk.{kinds_in, roles_of, AssignsBelow};
+ghost use Rattle.fold_class.specs.Walk.{kinds_in, AssignsBelow};
 
-use crate::class::{Algebra, Kind, Role, role_of};
-use query_lang::{Op, TypedExpr, TypedStmt};
+use crate::class::{Kind, Role};
+use crate::operators::Operators;
+use query_lang::{TypedExpr, TypedStmt};
 
 // The greater kind.
 fn greater_of(left: Kind, right: Kind) -> Kind
@@ -53,19 +54,9 @@ fn combined(role: Role, left: Kind, right: Kind) -> Kind
     }
 }
 
-// The role of an operator in a walk.
-fn role_in(walk: Option<Algebra>, op: Op) -> Role
-    ensures { result ≡ roles_of walk op }
-{
-    match walk {
-        Some(algebra) => role_of(algebra, op),
-        None => Role::Outside,
-    }
-}
-
 // The kind of an expression.
-fn kind_of(walk: Option<Algebra>, kinds: &[Kind], e: &TypedExpr) -> Kind
-    ensures { result ≡ expr_kind (roles_of walk) (term_of e.now) (kinds_in kinds.now) }
+fn kind_of<O: Operators>(operators: &O, kinds: &[Kind], e: &TypedExpr) -> Kind
+    ensures { result ≡ expr_kind (O.roles operators.now) (term_of e.now) (kinds_in kinds.now) }
 {
     match e {
         TypedExpr::Number(_) => Kind::Pure,
@@ -79,12 +70,12 @@ fn kind_of(walk: Option<Algebra>, kinds: &[Kind], e: &TypedExpr) -> Kind
         TypedExpr::Not(inner) => combined(
             Role::Outside,
             Kind::Pure,
-            kind_of(walk, kinds, inner.get()),
+            kind_of(operators, kinds, inner.get()),
         ),
         TypedExpr::Binary(op, left, right) => {
-            let first = kind_of(walk, kinds, left.get());
-            let second = kind_of(walk, kinds, right.get());
-            combined(role_in(walk, *op), first, second)
+            let first = kind_of(operators, kinds, left.get());
+            let second = kind_of(operators, kinds, right.get());
+            combined(operators.role_of(*op), first, second)
         }
     }
 }
@@ -137,24 +128,24 @@ fn copied(kinds: &[Kind]) -> [Kind; 8]
 }
 
 // The kinds after a statement.
-fn walk_stmt(walk: Option<Algebra>, kinds: &mut [Kind], s: &TypedStmt)
+fn walk_stmt<O: Operators>(operators: &O, kinds: &mut [Kind], s: &TypedStmt)
     requires size { length kinds.old ≡ 8 }
     requires below { AssignsBelow 8 (stmt_block s.now) }
-    ensures { kinds_in kinds.new ≡ kinds_after (roles_of walk) (stmt_block s.now) (kinds_in kinds.old) }
+    ensures { kinds_in kinds.new ≡ kinds_after (O.roles operators.now) (stmt_block s.now) (kinds_in kinds.old) }
 {
     match s {
         TypedStmt::Assign(v, e) => {
-            let kind = kind_of(walk, kinds, e);
+            let kind = kind_of(operators, kinds, e);
             set_kind(kinds, *v, kind);
         }
-        TypedStmt::If(c, a, b) => match kind_of(walk, kinds, c) {
+        TypedStmt::If(c, a, b) => match kind_of(operators, kinds, c) {
             Kind::Pure => {
                 let mut others = copied(kinds);
                 'then_block: for inner in a.as_slice() {
-                    walk_stmt(walk, kinds, inner);
+                    walk_stmt(operators, kinds, inner);
                 }
                 'else_block: for inner in b.as_slice() {
-                    walk_stmt(walk, &mut others, inner);
+                    walk_stmt(operators, &mut others, inner);
                 }
                 join(kinds, &others);
             }
@@ -164,12 +155,12 @@ fn walk_stmt(walk: Option<Algebra>, kinds: &mut [Kind], s: &TypedStmt)
 }
 
 /// The kinds after statements.
-pub(crate) fn walk_block(walk: Option<Algebra>, kinds: &mut [Kind], block: &[TypedStmt])
+pub(crate) fn walk_block<O: Operators>(operators: &O, kinds: &mut [Kind], block: &[TypedStmt])
     requires size { length kinds.old ≡ 8 }
     requires below { AssignsBelow 8 (block_of block.now) }
-    ensures { kinds_in kinds.new ≡ kinds_after (roles_of walk) (block_of block.now) (kinds_in kinds.old) }
+    ensures { kinds_in kinds.new ≡ kinds_after (O.roles operators.now) (block_of block.now) (kinds_in kinds.old) }
 {
     for s in block {
-        walk_stmt(walk, kinds, s);
+        walk_stmt(operators, kinds, s);
     }
 }

@@ -1,18 +1,20 @@
 -- Folds whose assignments add to a variable what does not depend on the state.
-use Rattle.std.specs.Prelude.{ℕ, Bool, true, false, not, ◌&&◌, ◌==◌, nat_lt}
+use Rattle.std.specs.Prelude.{ℕ, Bool, true, false, ◌&&◌, ◌==◌, []}
 use Rattle.query_lang.specs.declared.fold.Op.{Op}
 use Rattle.query_lang.specs.declared.fold.Op.TheVariants.{Add, Sub}
-use Rattle.query_lang.specs.Terms.{Term, Literal, Read, Negation, Operation}
+use Rattle.query_lang.specs.Terms.{Term, Read, Operation}
 use Rattle.query_lang.specs.declared.fold.TypedFold.{TypedFold}
-use Rattle.query_lang.specs.Blocks.{Block, End, Set, Fork}
+use Rattle.query_lang.specs.Blocks.{Block}
 use Rattle.query_lang.specs.Folds.{fold_states, fold_block}
+use Rattle.fold_code.specs.Checks.{is_in, names_known, all_pass}
+
+-- no state variable counts as known
+abbrev pub no_state : ℕ → Bool
+no_state = is_in []
 
 -- whether an expression names no state variable
 abbrev pub names_no_state : ℕ → Term → Bool
-names_no_state states (Literal n) = true
-names_no_state states (Read s) = not (nat_lt s states)
-names_no_state states (Negation e) = names_no_state states e
-names_no_state states (Operation op a b) = names_no_state states a && names_no_state states b
+names_no_state states e = names_known states no_state e
 
 abbrev pub adds_or_subtracts : Op → Bool
 adds_or_subtracts Add = true
@@ -24,18 +26,18 @@ abbrev pub is_variable : ℕ → Term → Bool
 is_variable v (Read s) = s == v
 is_variable v _ = false
 
--- whether an expression is the variable as the whole left operand, plus or minus what names no state variable
+-- whether an expression is the variable as the whole left operand, plus or minus what names known variables and arguments alone
+abbrev pub adds_known : ℕ → (ℕ → Bool) → ℕ → Term → Bool
+adds_known states known v (Operation op a b) = adds_or_subtracts op && (is_variable v a && names_known states known b)
+adds_known states known v _ = false
+
+-- plus or minus what names no state variable
 abbrev pub is_increment : ℕ → ℕ → Term → Bool
-is_increment states v (Operation op a b) = adds_or_subtracts op && (is_variable v a && names_no_state states b)
-is_increment states v _ = false
+is_increment states v e = adds_known states no_state v e
 
 -- whether each assignment is an increment under conditions that name no state variable; `free` says so of those around the block
 abbrev pub is_additive_block : ℕ → Bool → Block → Bool
-is_additive_block states free End = true
-is_additive_block states free (Set v e rest) = (free && is_increment states v e) && is_additive_block states free rest
-is_additive_block states free (Fork c a b rest) =
-    (is_additive_block states (free && names_no_state states c) a && is_additive_block states
-    (free && names_no_state states c) b) && is_additive_block states free rest
+is_additive_block states free b = all_pass states no_state (is_increment states) free b
 
 -- whether a fold is additive
 abbrev pub is_additive : TypedFold → Bool

@@ -2,6 +2,7 @@
 #![tactic(auto)]
 
 mod additive;
+mod checks;
 mod code;
 mod emit;
 mod finding;
@@ -9,5 +10,6 @@ mod instr;
 mod moves;
 
 pub use additive::is_additive;
+pub use checks::{Checks, body_passes, contains, is_known};
 pub use code::{FoldCode, compile};
 pub use instr::Instr;

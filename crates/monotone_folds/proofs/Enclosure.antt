@@ -1,5 +1,5 @@
 -- The laws of monotone folds.
-use Rattle.std.proofs.Common.{◌≡◌, ℕ, zero, suc, ◌-◌, ◌^◌, ◌<◌, ◌≤◌, Bool, true, false, not, ◌&&◌, nat_lt, if◌then◌else◌, List, [], ◌∷◌, ◌++◌, All, length, slice_index, refl, sym, ap, ◌∙◌, subst, arith}
+use Rattle.std.proofs.Common.{◌≡◌, ℕ, suc, ◌-◌, ◌^◌, ◌<◌, ◌≤◌, Bool, true, false, nat_lt, if◌then◌else◌, List, [], ◌∷◌, ◌++◌, All, length, slice_index, refl, sym, ap, ◌∙◌, subst, arith}
 use Rattle.std.proofs.lemmas.Bool.Decides.{nat_tests}
 use Rattle.std.proofs.lemmas.List.{get_or_append_left, get_or-append_right, length-replicate, get_or-replicate}
 use Rattle.std.proofs.lemmas.List.Elements.{AllZip-get_or, length_all_zip}
@@ -9,9 +9,10 @@ use Rattle.query_lang.specs.Words.{AreWords}
 use Rattle.query_lang.specs.Folds.{body, folded, initial_state, fold_states, fold_args, fold_block, IsValidFold}
 use Rattle.fold_class.proofs.History.{length-after}
 use Rattle.epoch_entry.proofs.FoldLemmas.{word_at, body_words, length-body, length-folded}
-use Rattle.monotone_folds.specs.declared.kind.Kind.TheVariants.{Free, Rising}
-use Rattle.fold_class.specs.Tables.{all_below}
-use Rattle.monotone_folds.specs.Kinds.{kinds_first, fold_kinds, is_wild, is_monotone}
+use Rattle.fold_class.specs.declared.class.Kind.TheVariants.{Pure as Free, Affine as Rising}
+use Rattle.fold_class.specs.Kinds.{kinds_from, end_kinds, is_no_other}
+use Rattle.fold_class.proofs.TableLemmas.{below_at}
+use Rattle.monotone_folds.specs.Kinds.{role, none_fixed, is_monotone}
 use Rattle.monotone_folds.specs.States.{IsAtMost}
 use Rattle.epoch_entry.specs.Bounds.{least_state, greatest_state}
 use Rattle.monotone_folds.proofs.Ties.{Tied, Ties, tied_order}
@@ -31,25 +32,9 @@ both_at_most [] (y ∷ ys) p q = absurd p
 both_at_most (x ∷ xs) [] p q = absurd p
 both_at_most (x ∷ xs) (y ∷ ys) p q = let e : x ≡ y = omega (arith, p.0, q.0) in ap (λ z. z ∷ xs) e ∙ ap (λ z. y ∷ z) (both_at_most xs ys p.1 q.1)
 
-below_at : (n : ℕ) (p : ℕ → Bool) (u : ℕ) → u < n → all_below n p ≡ true → p u ≡ true
-below_at zero p u h e = absurd (omega arith)
-below_at (suc n) p u h e = last (λ lt. below_at n p u lt (left (all_below n p) (p n) e)) (nat_lt u n) refl
-  where
-    left : (a b : Bool) → (a && b) ≡ true → a ≡ true
-    left true b e = refl
-    left false b e = e
-
-    right : (a b : Bool) → (a && b) ≡ true → b ≡ true
-    right true b e = e
-    right false b e = cc
-
-    last : (u < n → p u ≡ true) → (b : Bool) → nat_lt u n ≡ b → p u ≡ true
-    last front true t = front (grind (arith, nat_tests))
-    last front false t = let same : n ≡ u = grind (arith, nat_tests) in subst (λ k. p k ≡ true) same (right (all_below n p) (p n) e)
-
 -- one step
 
-start_tied : (f : TypedFold) (low high args : List ℕ) → length low ≡ fold_states f → length high ≡ fold_states f → IsAtMost low high → Ties (kinds_first f) (low ++ args) (high ++ args)
+start_tied : (f : TypedFold) (low high args : List ℕ) → length low ≡ fold_states f → length high ≡ fold_states f → IsAtMost low high → Ties (kinds_from none_fixed f) (low ++ args) (high ++ args)
 start_tied f low high args hl hh h s = place (nat_lt s (fold_states f)) refl
   where
     place : (b : Bool) → nat_lt s (fold_states f) ≡ b → Tied (if nat_lt s (fold_states f) then Rising else Free) (slice_index (low ++ args) s) (slice_index (high ++ args) s)
@@ -84,9 +69,9 @@ keeps_step f low high args valid mono hl h = at_most (body f low args) (body f h
         let in_high : i < length (body f high args) = omega (arith, inside, lh) in
         let el : slice_index (body f low args ++ args) i ≡ slice_index (body f low args) i = get_or_append_left (body f low args) args 0 i lt in
         let eh : slice_index (body f high args ++ args) i ≡ slice_index (body f high args) i = get_or_append_left (body f high args) args 0 i in_high in
-        let le = tied_order (fold_kinds f i) (slice_index (body f low args ++ args) i) (slice_index (body f high args ++ args) i)
-        (below_at (fold_states f) (λ v. not (is_wild (fold_kinds f v))) i inside mono)
-        (block_tied (fold_states f) (fold_args f) args (fold_block f) (kinds_first f) low high valid.statements hl hh (start_tied f low high args hl hh h) i) in
+        let le = tied_order (end_kinds role none_fixed f i) (slice_index (body f low args ++ args) i) (slice_index (body f high args ++ args) i)
+        (below_at (fold_states f) (λ v. is_no_other (end_kinds role none_fixed f v)) i inside mono)
+        (block_tied (fold_states f) (fold_args f) args (fold_block f) (kinds_from none_fixed f) low high valid.statements hl hh (start_tied f low high args hl hh h) i) in
         omega (arith, el, eh, le)
 
 -- many steps

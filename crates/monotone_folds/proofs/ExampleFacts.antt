@@ -1,17 +1,18 @@
 -- The examples, from their definitions.
-use Rattle.std.proofs.Common.{◌≡◌, ℕ, ◌-◌, ◌^◌, Bool, true, false, not, nat_lt, if◌then◌else◌, List, [], ◌∷◌, replicate, ap, ◌∙◌}
+use Rattle.std.proofs.Common.{◌≡◌, ℕ, ◌-◌, ◌^◌, Bool, true, false, nat_lt, if◌then◌else◌, List, [], ◌∷◌, replicate, ap, ◌∙◌}
 use Rattle.query_lang.specs.declared.fold.TypedFold.{TypedFold}
 use Rattle.query_lang.specs.Words.{op_value}
 use Rattle.query_lang.specs.Blocks.{Block}
 use Rattle.query_lang.specs.Folds.{after, fold_block, folded}
-use Rattle.monotone_folds.specs.declared.kind.Kind.TheVariants.{Free, Rising}
+use Rattle.fold_class.specs.declared.class.Kind.TheVariants.{Pure, Affine}
 use Rattle.fold_class.specs.Tables.{all_below}
-use Rattle.monotone_folds.specs.Kinds.{kinds_after, is_wild, is_monotone}
+use Rattle.fold_class.specs.Kinds.{kinds_after, is_no_other}
+use Rattle.monotone_folds.specs.Kinds.{role, is_monotone}
 use Rattle.epoch_entry.specs.Bounds.{least_state, greatest_state}
 use Rattle.monotone_folds.specs.Examples.{HasBody, IsFound, AreBounds, decayed_sum, clamped, wrapping_sum, shifted_left, choice_by_argument, choice_by_state, overwritten}
 
 abbrev walk : ℕ → Block → Bool
-walk n b = all_below n (λ v. not (is_wild (kinds_after b (λ s. if nat_lt s n then Rising else Free) v)))
+walk n b = all_below n (λ v. is_no_other (kinds_after role b (λ s. if nat_lt s n then Affine else Pure) v))
 
 found : (n : ℕ) (b : Block) (f : TypedFold) → HasBody f n b → is_monotone f ≡ walk n b
 found n b f h = ap (λ z. walk z (fold_block f)) h.0 ∙ ap (walk n) h.1

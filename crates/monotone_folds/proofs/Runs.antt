@@ -4,12 +4,13 @@ use Rattle.std.proofs.lemmas.List.{set-append_left}
 use Rattle.query_lang.specs.Words.{holds}
 use Rattle.query_lang.specs.Blocks.{Block, End, Set, Fork}
 use Rattle.query_lang.specs.Folds.{term_value, after, IsValidBlock}
-use Rattle.monotone_folds.specs.declared.kind.Kind.{Kind}
-use Rattle.monotone_folds.specs.declared.kind.Kind.TheVariants.{Free, Rising, Wild}
+use Rattle.fold_class.specs.declared.class.Kind.{Kind}
+use Rattle.fold_class.specs.declared.class.Kind.TheVariants.{Pure as Free, Affine as Rising, Other as Wild}
 use Rattle.fold_class.specs.Tables.{update}
 use Rattle.fold_class.proofs.History.{length-after}
 use Rattle.fold_class.proofs.TableLemmas.{set_index}
-use Rattle.monotone_folds.specs.Kinds.{greater, expr_kind, marked, chosen_kinds, kinds_after, is_wild}
+use Rattle.fold_class.specs.Kinds.{greater, expr_kind, marked, chosen_kinds, kinds_after, is_no_other}
+use Rattle.monotone_folds.specs.Kinds.{role}
 use Rattle.monotone_folds.proofs.Ties.{Tied, Ties, greater_left, greater_right, expr_tied}
 
 set_row : (xs args : List ℕ) (v x s : ℕ) → v < length xs → slice_index (set xs v x ++ args) s ≡ update (slice_index (xs ++ args)) v x s
@@ -31,13 +32,13 @@ module _ (states nargs : ℕ) (args : List ℕ) where
   module _ (kinds : ℕ → Kind) (start : List ℕ) where
     -- a variable that is not Wild in a later table has its kind and its value from the start
     abbrev pub Kept : (ℕ → Kind) → List ℕ → Type 0
-    Kept later state = (s : ℕ) → is_wild (later s) ≡ false → (later s ≡ kinds s) × (slice_index (state ++ args) s ≡ slice_index (start ++ args) s)
+    Kept later state = (s : ℕ) → is_no_other (later s) ≡ true → (later s ≡ kinds s) × (slice_index (state ++ args) s ≡ slice_index (start ++ args) s)
 
     set_kept : (later : ℕ → Kind) (state : List ℕ) (v x : ℕ) → v < length state → Kept later state → Kept (update later v Wild) (set state v x)
     set_kept later state v x hv h s =
-        subst (λ z. is_wild (update later v Wild s) ≡ false → (update later v Wild s ≡ kinds s) × (z ≡ slice_index (start ++ args) s)) (sym (set_row state args v x s hv)) (at (s == v))
+        subst (λ z. is_no_other (update later v Wild s) ≡ true → (update later v Wild s ≡ kinds s) × (z ≡ slice_index (start ++ args) s)) (sym (set_row state args v x s hv)) (at (s == v))
       where
-        at : (b : Bool) → is_wild (if b then Wild else later s) ≡ false → ((if b then Wild else later s) ≡ kinds s) × ((if b then x else slice_index (state ++ args) s) ≡ slice_index (start ++ args) s)
+        at : (b : Bool) → is_no_other (if b then Wild else later s) ≡ true → ((if b then Wild else later s) ≡ kinds s) × ((if b then x else slice_index (state ++ args) s) ≡ slice_index (start ++ args) s)
         at true e = cc
         at false e = h s e
 
@@ -46,7 +47,7 @@ module _ (states nargs : ℕ) (args : List ℕ) where
     mark_kept End later state h = h
     mark_kept (Set v e rest) later state h = mark_kept rest (update later v Wild) state (λ s. at s (s == v))
       where
-        at : (s : ℕ) (b : Bool) → is_wild (if b then Wild else later s) ≡ false → ((if b then Wild else later s) ≡ kinds s) × (slice_index (state ++ args) s ≡ slice_index (start ++ args) s)
+        at : (s : ℕ) (b : Bool) → is_no_other (if b then Wild else later s) ≡ true → ((if b then Wild else later s) ≡ kinds s) × (slice_index (state ++ args) s ≡ slice_index (start ++ args) s)
         at s true e = cc
         at s false e = h s e
     mark_kept (Fork c a b rest) later state h = mark_kept rest (marked b (marked a later)) state (mark_kept b (marked a later) state (mark_kept a later state h))
@@ -77,25 +78,25 @@ module _ (states nargs : ℕ) (args : List ℕ) where
   same_tied : (k l : Kind) (x y p q : ℕ) → (k ≡ l) × (x ≡ p) → (k ≡ l) × (y ≡ q) → Tied l p q → Tied k x y
   same_tied k l x y p q hx hy t = subst (λ z. Tied z x y) (sym hx.0) (subst (λ z. Tied l z y) (sym hx.1) (subst (λ z. Tied l p z) (sym hy.1) t))
 
-  kept_tied : (k l : Kind) (x y p q : ℕ) → (is_wild k ≡ false → (k ≡ l) × (x ≡ p)) → (is_wild k ≡ false → (k ≡ l) × (y ≡ q)) → Tied l p q → Tied k x y
+  kept_tied : (k l : Kind) (x y p q : ℕ) → (is_no_other k ≡ true → (k ≡ l) × (x ≡ p)) → (is_no_other k ≡ true → (k ≡ l) × (y ≡ q)) → Tied l p q → Tied k x y
   kept_tied Free l x y p q hx hy t = same_tied Free l x y p q (hx refl) (hy refl) t
   kept_tied Rising l x y p q hx hy t = same_tied Rising l x y p q (hx refl) (hy refl) t
   kept_tied Wild l x y p q hx hy t = tt
 
   pub block_tied : (b : Block) (kinds : ℕ → Kind) (xs ys : List ℕ) → IsValidBlock states nargs b → length xs ≡ states → length ys ≡ states → Ties kinds (xs ++ args) (ys ++ args) →
-      Ties (kinds_after b kinds) (after b args xs ++ args) (after b args ys ++ args)
+      Ties (kinds_after role b kinds) (after b args xs ++ args) (after b args ys ++ args)
   block_tied End kinds xs ys valid hx hy h = h
   block_tied (Set v e rest) kinds xs ys valid hx hy h =
       let x = term_value e (xs ++ args) in
       let y = term_value e (ys ++ args) in
-      block_tied rest (update kinds v (expr_kind e kinds)) (set xs v x) (set ys v y) valid.3 (length-set xs v x ∙ hx) (length-set ys v y ∙ hy)
-      (set_tied kinds xs ys args v (expr_kind e kinds) x y (omega (arith, valid.0)) (omega (arith, valid.0)) h (expr_tied (states + nargs) e kinds (xs ++ args) (ys ++ args) valid.1 h))
+      block_tied rest (update kinds v (expr_kind role e kinds)) (set xs v x) (set ys v y) valid.3 (length-set xs v x ∙ hx) (length-set ys v y ∙ hy)
+      (set_tied kinds xs ys args v (expr_kind role e kinds) x y (omega (arith, valid.0)) (omega (arith, valid.0)) h (expr_tied (states + nargs) e kinds (xs ++ args) (ys ++ args) valid.1 h))
   block_tied (Fork c a b rest) kinds xs ys valid hx hy h =
       let cx = term_value c (xs ++ args) in
       let cy = term_value c (ys ++ args) in
-      block_tied rest (chosen_kinds (expr_kind c kinds) (kinds_after a kinds) (kinds_after b kinds) (marked b (marked a kinds)))
+      block_tied rest (chosen_kinds (expr_kind role c kinds) (kinds_after role a kinds) (kinds_after role b kinds) (marked b (marked a kinds)))
       (if holds cx then after a args xs else after b args xs) (if holds cy then after a args ys else after b args ys) valid.4 (size xs hx (holds cx)) (size ys hy (holds cy))
-      (choice (expr_kind c kinds) cx cy (expr_tied (states + nargs) c kinds (xs ++ args) (ys ++ args) valid.0 h) (block_tied a kinds xs ys valid.2 hx hy h) (block_tied b kinds xs ys valid.3 hx hy h))
+      (choice (expr_kind role c kinds) cx cy (expr_tied (states + nargs) c kinds (xs ++ args) (ys ++ args) valid.0 h) (block_tied a kinds xs ys valid.2 hx hy h) (block_tied b kinds xs ys valid.3 hx hy h))
     where
       size : (zs : List ℕ) → length zs ≡ states → (t : Bool) → length (if t then after a args zs else after b args zs) ≡ states
       size zs hz true = length-after a args zs ∙ hz
@@ -103,12 +104,12 @@ module _ (states nargs : ℕ) (args : List ℕ) where
 
       -- a Free condition takes the same branch in both runs
       same_branch : (p q : Bool) → p ≡ q →
-          Ties (kinds_after a kinds) (after a args xs ++ args) (after a args ys ++ args) → Ties (kinds_after b kinds) (after b args xs ++ args) (after b args ys ++ args) →
-          Ties (λ v. greater (kinds_after a kinds v) (kinds_after b kinds v)) ((if p then after a args xs else after b args xs) ++ args) ((if q then after a args ys else after b args ys) ++ args)
-      same_branch true true e ta tb s = greater_left (kinds_after a kinds s) (kinds_after b kinds s) (slice_index (after a args xs ++ args) s) (slice_index (after a args ys ++ args) s) (ta s)
+          Ties (kinds_after role a kinds) (after a args xs ++ args) (after a args ys ++ args) → Ties (kinds_after role b kinds) (after b args xs ++ args) (after b args ys ++ args) →
+          Ties (λ v. greater (kinds_after role a kinds v) (kinds_after role b kinds v)) ((if p then after a args xs else after b args xs) ++ args) ((if q then after a args ys else after b args ys) ++ args)
+      same_branch true true e ta tb s = greater_left (kinds_after role a kinds s) (kinds_after role b kinds s) (slice_index (after a args xs ++ args) s) (slice_index (after a args ys ++ args) s) (ta s)
       same_branch true false e ta tb s = cc
       same_branch false true e ta tb s = cc
-      same_branch false false e ta tb s = greater_right (kinds_after a kinds s) (kinds_after b kinds s) (slice_index (after b args xs ++ args) s) (slice_index (after b args ys ++ args) s) (tb s)
+      same_branch false false e ta tb s = greater_right (kinds_after role a kinds s) (kinds_after role b kinds s) (slice_index (after b args xs ++ args) s) (slice_index (after b args ys ++ args) s) (tb s)
 
       any_branch : (p q : Bool) → Ties (marked b (marked a kinds)) ((if p then after a args xs else after b args xs) ++ args) ((if q then after a args ys else after b args ys) ++ args)
       any_branch p q s =
@@ -117,8 +118,8 @@ module _ (states nargs : ℕ) (args : List ℕ) where
           (choice_kept kinds xs a b p valid.2 valid.3 hx s) (choice_kept kinds ys a b q valid.2 valid.3 hy s) (h s)
 
       choice : (k : Kind) (cx cy : ℕ) → Tied k cx cy →
-          Ties (kinds_after a kinds) (after a args xs ++ args) (after a args ys ++ args) → Ties (kinds_after b kinds) (after b args xs ++ args) (after b args ys ++ args) →
-          Ties (chosen_kinds k (kinds_after a kinds) (kinds_after b kinds) (marked b (marked a kinds)))
+          Ties (kinds_after role a kinds) (after a args xs ++ args) (after a args ys ++ args) → Ties (kinds_after role b kinds) (after b args xs ++ args) (after b args ys ++ args) →
+          Ties (chosen_kinds k (kinds_after role a kinds) (kinds_after role b kinds) (marked b (marked a kinds)))
           ((if holds cx then after a args xs else after b args xs) ++ args) ((if holds cy then after a args ys else after b args ys) ++ args)
       choice Free cx cy e ta tb = same_branch (holds cx) (holds cy) (ap holds e) ta tb
       choice Rising cx cy e ta tb = any_branch (holds cx) (holds cy)

@@ -1,4 +1,3 @@
 pub mod Kinds
 pub mod States
 pub mod Examples
-pub mod Walk

@@ -1,12 +1,9 @@
 //! Which folds keep the order of states, and what the last rows alone say of such a fold.
 #![tactic(auto)]
 
-mod kind;
 mod laws;
 mod monotone;
-mod walk;
 
-pub use kind::{Kind, Role};
 pub use laws::{
     equal_bounds_are_exact, last_rows_enclose, rows_keep_order, small_folds, step_keeps_order,
 };

@@ -1,18 +1,9 @@
-use Rattle.std.proofs.Common.{subst, sym}
-use Rattle.query_lang.specs.Blocks.{block_of}
-use Rattle.query_lang.specs.Folds.{fold_states, fold_args}
-use Rattle.fold_class.specs.Walk.{AssignsBelow}
-use Rattle.fold_class.proofs.ReadLemmas.{valid_below}
-use Rattle.fold_class.proofs.LinearLemmas.{start_first, linear_from}
+use Rattle.std.proofs.Common.{◌∙◌}
+use Rattle.fold_class.specs.Depth.{is_history}
+use Rattle.fold_class.specs.Kinds.{role}
+use Rattle.fold_class.specs.Walk.{flag_in}
+use Rattle.fold_class.proofs.LinearLemmas.{same_fixed}
 use Rattle.fold_class.proofs.classifier.is_linear.Goals as goal
 
-pub walk_block-requires-clause-below : goal.walk_block-requires-clause-below
-walk_block-requires-clause-below c =
-    let f = c.args.f.now in
-    subst (λ z. AssignsBelow 8 (block_of z)) (sym c.as_slice.ensures) (valid_below 8 (fold_states f) (fold_args f) (block_of f.body) c.requires.valid.states c.requires.valid.statements)
-
 pub returns : goal.returns
-returns c =
-    linear_from c.args.f.now c.args.algebra c.len-states.result c.as_slice.result.now c.first_kinds-kinds.result c.walk_block.new.kinds c.none_other.result c.len-states.ensures c.as_slice.ensures
-    (start_first c.args.f.now c.len-states.result c.args.history.now c.first_kinds-kinds.result c.len-states.ensures c.requires.history c.first_kinds-kinds.ensures)
-    c.walk_block.ensures c.none_other.ensures
+returns c = c.has_no_other.ensures ∙ same_fixed (role c.args.algebra) c.args.f.now (flag_in c.args.history.now) (is_history c.args.f.now) c.requires.history

@@ -1,9 +1,9 @@
-use Rattle.std.proofs.Common.{ap, ◌∙◌, sym, subst, refl, arith, ◌∷◌, [], set, None}
+use Rattle.std.proofs.Common.{ap, ◌∙◌, sym, subst, refl, arith, ◌∷◌, [], set}
 use Rattle.query_lang.specs.Blocks.{block_of}
 use Rattle.query_lang.specs.Folds.{fold_states, fold_args}
 use Rattle.fold_class.specs.declared.class.Kind.TheVariants.{Pure, Other}
 use Rattle.fold_class.specs.Kinds.{kinds_after}
-use Rattle.fold_class.specs.Walk.{kinds_in, roles_of, AssignsBelow}
+use Rattle.fold_class.specs.Walk.{kinds_in, outside, AssignsBelow}
 use Rattle.fold_class.proofs.ReadLemmas.{valid_below, column_shows, start_is}
 use Rattle.fold_class.proofs.depth.readers_of.Goals as goal
 
@@ -18,4 +18,4 @@ returns c =
     let pures = Pure ∷ Pure ∷ Pure ∷ Pure ∷ Pure ∷ Pure ∷ Pure ∷ Pure ∷ [] in
     column_shows f c.args.u _ c.walk_block.new.kinds c.requires.variable
     (start_is pures c.args.u (refl, (refl, (refl, (refl, (refl, (refl, (refl, (refl, tt)))))))) (omega (arith, c.requires.variable, c.requires.valid.states)))
-    (c.walk_block.ensures ∙ ap (λ z. kinds_after (roles_of None) (block_of z) (kinds_in (set pures c.args.u Other))) c.as_slice.ensures)
+    (c.walk_block.ensures ∙ ap (λ z. kinds_after outside (block_of z) (kinds_in (set pures c.args.u Other))) c.as_slice.ensures)

@@ -1,13 +1,13 @@
 use Rattle.std.proofs.Common.{ap, ◌∙◌}
 use Rattle.query_lang.specs.Blocks.{block_of}
 use Rattle.fold_class.specs.Kinds.{kinds_after}
-use Rattle.fold_class.specs.Walk.{kinds_in, roles_of}
+use Rattle.fold_class.specs.Walk.{kinds_in}
 use Rattle.fold_class.proofs.WalkLemmas.{kinds_end, branches_from}
 use Rattle.fold_class.proofs.walk.+walk_stmt.Goals as goal
 
 pub returns-after-else_block : goal.returns-after-else_block
-returns-after-else_block t c =
-    let roles = roles_of c.args.walk in
+returns-after-else_block g t c =
+    let roles = g.O.Operators.roles c.args.operators.now in
     let p = c.as_slice-inner-items.result.now in
     let q = c.as_slice-inner-items-in-Pure.result.now in
     branches_from roles c.args.s.now c.in-If.c c.in-If.a c.in-If.b p q (kinds_in c.args.kinds.now) (kinds_in c.then_block.kinds) (kinds_in c.else_block.others) (kinds_in c.join.new.kinds)

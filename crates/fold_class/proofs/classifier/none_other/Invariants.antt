@@ -1,8 +1,0 @@
-use Rattle.std.proofs.Common.{◌≡◌}
-use Rattle.fold_class.specs.Tables.{all_below}
-use Rattle.fold_class.specs.Kinds.{is_no_other}
-use Rattle.fold_class.specs.Walk.{kinds_in}
-use Rattle.fold_class.proofs.classifier.none_other.Given as goal
-
-abbrev pub invariant-loop-v : goal.invariant-loop-v
-invariant-loop-v l = l.none ≡ all_below l.v (λ v. is_no_other (kinds_in l.kinds v))

@@ -1,0 +1,10 @@
+use Rattle.std.proofs.Common.{◌≡◌, ℕ, nat_lt, if◌then◌else◌, length}
+use Rattle.fold_class.specs.declared.class.Kind.TheVariants.{Pure, Affine}
+use Rattle.fold_class.specs.Walk.{kinds_in, flag_in}
+use Rattle.fold_class.proofs.kept.first_kinds.Given as goal
+
+abbrev pub invariant-loop-v : goal.invariant-loop-v
+invariant-loop-v l = record {
+  kinds : (s : ℕ) → kinds_in l.kinds s ≡ (if nat_lt s l.v then (if flag_in l.fixed s then Pure else Affine) else Pure);
+  long : length l.kinds ≡ 8;
+}

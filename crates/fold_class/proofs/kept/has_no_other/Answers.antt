@@ -1,0 +1,17 @@
+use Rattle.std.proofs.Common.{subst, sym}
+use Rattle.query_lang.specs.Blocks.{block_of}
+use Rattle.query_lang.specs.Folds.{fold_states, fold_args}
+use Rattle.fold_class.specs.Walk.{AssignsBelow, flag_in}
+use Rattle.fold_class.proofs.ReadLemmas.{valid_below}
+use Rattle.fold_class.proofs.LinearLemmas.{kept_from}
+use Rattle.fold_class.proofs.kept.has_no_other.Goals as goal
+
+pub walk_block-requires-clause-below : goal.walk_block-requires-clause-below
+walk_block-requires-clause-below g c =
+    let f = c.args.f.now in
+    subst (λ z. AssignsBelow 8 (block_of z)) (sym c.as_slice.ensures) (valid_below 8 (fold_states f) (fold_args f) (block_of f.body) c.requires.valid.states c.requires.valid.statements)
+
+pub returns : goal.returns
+returns g c =
+    kept_from (g.O.Operators.roles c.args.operators.now) c.args.f.now (flag_in c.args.fixed.now) c.len-states.result c.as_slice.result.now c.first_kinds-kinds.result c.walk_block.new.kinds c.none_other.result
+    c.len-states.ensures c.as_slice.ensures c.first_kinds-kinds.ensures c.walk_block.ensures c.none_other.ensures

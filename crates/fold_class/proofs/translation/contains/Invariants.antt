@@ -1,6 +1,0 @@
-use Rattle.std.proofs.Common.{◌≡◌, drop}
-use Rattle.fold_class.specs.Translations.{is_in}
-use Rattle.fold_class.proofs.translation.contains.Given as goal
-
-abbrev pub invariant-loop-place : goal.invariant-loop-place
-invariant-loop-place l = is_in (drop l.place-index l.places) l.v ≡ is_in l.places l.v
