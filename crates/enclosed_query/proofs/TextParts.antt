@@ -1,6 +1,6 @@
 -- The texts of tables in two parts are those of what is shown.
-use Rattle.std.proofs.Common.{◌≡◌, ℕ, zero, suc, List, [], ◌∷◌, ◌++◌, Option, length, map, drop, refl, sym, ap, ◌∙◌, append-nil, append_assoc}
-use Rattle.std.specs.Prelude.{unwrap_or}
+use Rattle.std.proofs.Common.{◌≡◌, ℕ, zero, suc, List, [], ◌∷◌, ◌++◌, Option, None, Some, length, map, drop, refl, sym, ap, ap₂, ◌∙◌, append-nil, append_assoc}
+use Rattle.std.specs.Prelude.{option_map, unwrap_or}
 use Rattle.std.specs.List.{All, flat_map, slice_get}
 use Rattle.std.proofs.Math.Seq.{drop-append_seam}
 use Rattle.std.proofs.lemmas.List.{length-map}
@@ -19,10 +19,13 @@ use Rattle.table_printer.specs.TableText.{table_text}
 use Rattle.enclosure_folds.specs.declared.table.BoundsTable.{BoundsTable}
 use Rattle.enclosure_folds.specs.declared.table.Enclosed.{Enclosed}
 use Rattle.enclosure_folds.specs.declared.table.Enclosed.TheVariants.{Linear, Bounds}
-use Rattle.epoch_model.specs.Epochs.{Geometry}
-use Rattle.enclosed_query.specs.EnclosedTables.{all_texts, enclose_text, enclosed_print, enclosed_tables, shown_text, table_read}
-use Rattle.enclosed_query.specs.Parts.{IsWholeIfThere, bounds_shown, text_at}
+use Rattle.enclosed_query.specs.EnclosedTables.{all_texts, enclosed_print, shown_text, table_read}
+use Rattle.enclosed_query.specs.Parts.{IsWholeIfThere, bounds_at, bounds_shown, text_at, text_shown}
 use Rattle.enclosed_query.specs.Reading.{IsWhole}
+
+-- a table that has no bounds
+pub table_text_at : (bounds : List (Option BoundsTable)) (tables : List Table) (n : ℕ) (t : Table) → slice_get tables n ≡ Some t → bounds_at bounds n ≡ None → text_at bounds tables n ≡ table_text t
+table_text_at bounds tables n t is none = ap₂ (λ b t. unwrap_or (option_map (text_shown b) t) []) none is
 
 -- the text of the table with this number, by what is shown of groupbys and other tables after these
 
@@ -95,8 +98,3 @@ whole_parts (one ∷ groups) whole =
     by_one : (one : Enclosed) → IsWhole one → IsWholeIfThere (bounds_shown one)
     by_one (Linear t) w = tt
     by_one (Bounds t) w = w
-
--- what is printed of what is shown of the query's groupbys
-pub text_is : (q : TypedQuery) (g : Geometry) (packets : List (List ℕ)) (groups : List Enclosed) → groups ≡ enclosed_tables q g packets → enclosed_print q groups ≡ enclose_text q g packets
-unfolding enclose_text
-text_is q g packets groups same = ap (enclosed_print q) same

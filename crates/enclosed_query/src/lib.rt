@@ -7,6 +7,6 @@ mod starts;
 mod tables;
 
 pub use laws::{enclosed_tables_are_read, ends_give_enclosed_tables, shown_tables_hold};
-pub use printing::{enclosed_text, print_enclosed};
+pub use printing::write_enclosed;
 pub use starts::starts_known;
 pub use tables::enclosed;

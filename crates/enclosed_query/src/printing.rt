@@ -1,30 +1,27 @@
 //! What a query prints where bounds are asked for.
 
-ghost use Rattle.std.specs.Prelude.{◌≡◌, ◌++◌, ◌<◌, ◌≤◌, ℕ, All, List, [], ◌∷◌, length, map, flat_map, true};
-ghost use Rattle.std.specs.Prelude.{IfOk, OnOk};
-ghost use Rattle.std.specs.List.{list_all};
+ghost use Rattle.std.specs.Prelude.{◌≡◌, ◌++◌, ◌<◌, ◌≤◌, All, [], ◌∷◌, length, map, flat_map};
+ghost use Rattle.std.specs.Prelude.{IfOk, IsErrOf, OnErr, OnOk};
+ghost use Rattle.marple_base.specs.Faults.{Rose};
+ghost use Rattle.marple_base.specs.Sink.{TakesFront};
 ghost use Rattle.query_lang.specs.TypedQueries.{IsValidQuery, group_shape};
 ghost use Rattle.query_lang.specs.Streams.{takings};
 ghost use Rattle.query_lang.specs.TypedFinals.{table_number};
-ghost use Rattle.epoch_entry.specs.declared.purpose.Entries.TheVariants.{Bounds};
-ghost use Rattle.epoch_model.specs.Epochs.{Geometry};
-ghost use Rattle.switch_core.specs.PlanLanes.{lane_is_drained};
 ghost use Rattle.final_queries.specs.Finals.{IsTable, table_shape};
-ghost use Rattle.enclosed_query.specs.EnclosedTables.{EndsAt, enclose_text, enclosed_print, table_read};
+ghost use Rattle.enclosed_query.specs.EnclosedTables.{enclosed_print, table_read};
 ghost use Rattle.enclosed_query.specs.Parts.{IsWholeIfThere, bounds_at, bounds_shown, text_at};
 ghost use Rattle.enclosed_query.specs.Reading.{IsWhole};
+ghost use Rattle.text_buffer.specs.Pieces.{TakesAllBut};
 
-use crate::laws::enclosed_tables_are_read;
-use crate::tables::enclosed;
-use enclosure_folds::{BoundsTable, Enclosed, bounds_text, exact_rows};
+use enclosure_folds::{BoundsTable, Enclosed, exact_rows, write_bounds};
 use final_queries::Table;
-use marple_base::{Seq, Steps, Text};
+use marple_base::{Seq, Sink, Steps};
 use query_lang::{PrintOf, TypedQuery};
 use query_tables::{add_finals, table_number};
 use std::alloc::{AllocError, Global};
 use std::sync::ledger::Ledger;
-use switch_core::Pipeline;
-use table_printer::table_text;
+use table_printer::write_table;
+use text_buffer::{TextBuffer, WriteError};
 
 // What is shown of groupbys: the tables that finals read, and the bounds that are shown instead of some of them.
 #[derive(Drop)]
@@ -67,87 +64,81 @@ fn parts_of(alloc: Global, groups: Seq<Enclosed>) -> Result<Parts, AllocError>
     Ok(parts)
 }
 
-// The text of the table with this number.
-fn text_at(
-    alloc: Global,
+// Writes the text of the table with this number.
+fn write_at<O: Sink>(
     bounds: &Seq<Option<BoundsTable>>,
     tables: &Seq<Table>,
     number: usize,
-) -> Result<Text, AllocError>
+    text: &mut TextBuffer,
+    out: &mut O,
+) -> Result<(), WriteError>
     requires number { number < length tables.now }
     requires bounds { All IsWholeIfThere bounds.now }
     requires tables { All IsTable tables.now }
-    ensures { IfOk result (λ text. text ≡ text_at bounds.now tables.now number) }
+    ensures ok { OnOk result
+        (TakesAllBut (O.taken out.old) (O.taken out.new) text.new (text.old ++ text_at bounds.now tables.now number)) }
+    ensures err { OnErr result
+        (TakesFront (O.taken out.old) (O.taken out.new) (text.old ++ text_at bounds.now tables.now number)) }
+    ensures failed { IsErrOf result WriteError.Failed → Rose (O.faults out.old) (O.faults out.new) }
+    ensures out_later { O.faults out.old ≤ O.faults out.new }
 {
     if number < bounds.len() {
         if let Some(shown) = bounds.get(number) {
-            return bounds_text(alloc, shown);
+            return write_bounds(text, shown, out);
         }
     }
-    table_text(alloc, tables.get(number))
+    write_table(text, tables.get(number), out)
 }
 
-// The texts of the printed tables, in the order of the prints.
-fn printed_texts(
-    alloc: Global,
+// Writes the texts of the printed tables, in the order of the prints.
+fn write_printed<O: Sink>(
     prints: &[PrintOf],
     groups: usize,
     bounds: &Seq<Option<BoundsTable>>,
     tables: &Seq<Table>,
-) -> Result<Text, AllocError>
+    text: &mut TextBuffer,
+    out: &mut O,
+) -> Result<(), WriteError>
     requires groups { groups ≤ 8 }
     requires prints { All (λ one. table_number groups one < length tables.now) prints.now }
     requires bounds { All IsWholeIfThere bounds.now }
     requires tables { All IsTable tables.now }
-    ensures { IfOk result (λ text. text ≡ flat_map (λ one. text_at bounds.now tables.now (table_number groups one)) prints.now) }
+    ensures ok { OnOk result (TakesAllBut (O.taken out.old) (O.taken out.new) text.new
+        (text.old ++ flat_map (λ one. text_at bounds.now tables.now (table_number groups one)) prints.now)) }
+    ensures err { OnErr result (TakesFront (O.taken out.old) (O.taken out.new)
+        (text.old ++ flat_map (λ one. text_at bounds.now tables.now (table_number groups one)) prints.now)) }
+    ensures failed { IsErrOf result WriteError.Failed → Rose (O.faults out.old) (O.faults out.new) }
+    ensures out_later { O.faults out.old ≤ O.faults out.new }
 {
-    let mut text = Text::new(alloc);
     for one in prints {
-        let shown = text_at(alloc, bounds, tables, table_number(groups, *one))?;
-        text.push_slice(shown.as_slice())?;
+        write_at(bounds, tables, table_number(groups, *one), text, out)?;
     }
-    Ok(text)
+    Ok(())
 }
 
-/// What a query prints, by what is shown of its groupbys: the tables that it names, in the order of its prints. Finals read the
-/// table of a linear fold, and of a table of bounds the rows whose bounds are equal.
-pub fn print_enclosed<L: Ledger>(
+/// Writes what a query prints, by what is shown of its groupbys, after the bytes that wait in the buffer: the tables that it
+/// names, in the order of its prints. Finals read the table of a linear fold, and of a table of bounds the rows whose bounds are
+/// equal. The last bytes wait in the buffer. After an `Err` the sink has some first bytes of what was to be written.
+pub fn write_enclosed<O: Sink, L: Ledger>(
     alloc: Global,
     q: &TypedQuery,
     groups: Seq<Enclosed>,
+    text: &mut TextBuffer,
+    out: &mut O,
     steps: &mut Steps<L>,
-) -> Result<Text, AllocError>
+) -> Result<(), WriteError>
     requires valid { IsValidQuery q.now }
     requires whole { All IsWhole groups }
     requires tables { All IsTable (map table_read groups) }
     requires shapes { map table_shape (map table_read groups) ≡ map (group_shape q.now.folds) (takings q.now.streams) }
-    ensures text { IfOk result (λ text. text ≡ enclosed_print q.now groups) }
+    ensures ok { OnOk result (TakesAllBut (O.taken out.old) (O.taken out.new) text.new (text.old ++ enclosed_print q.now groups)) }
+    ensures err { OnErr result (TakesFront (O.taken out.old) (O.taken out.new) (text.old ++ enclosed_print q.now groups)) }
+    ensures failed { IsErrOf result WriteError.Failed → Rose (O.faults out.old) (O.faults out.new) }
+    ensures out_later { O.faults out.old ≤ O.faults out.new }
     ensures steps { steps.old ≤ steps.new }
 {
     let count = groups.len();
     let Parts { bounds, tables } = parts_of(alloc, groups)?;
     let tables = add_finals(alloc, q, tables, steps)?;
-    let text = printed_texts(alloc, q.prints.as_slice(), count, &bounds, &tables)?;
-    Ok(text)
-}
-
-/// What a query prints, by a drained pipeline whose entries are for bounds. The pipeline represents the machines of the query's
-/// plan at the end of some packets.
-pub fn enclosed_text<const WAYS: usize, L: Ledger>(
-    alloc: Global,
-    typed: &TypedQuery,
-    pipeline: &Pipeline<WAYS>,
-    steps: &mut Steps<L>,
-) -> Result<Text, AllocError>
-    requires entries { pipeline.now.entries ≡ Bounds }
-    requires drained { list_all lane_is_drained pipeline.now.lanes ≡ true }
-    requires ends { (g : Geometry) × (packets : List (List ℕ)) × EndsAt typed.now g packets pipeline.now }
-    ensures text { IfOk result (λ text. (g : Geometry) (packets : List (List ℕ)) → EndsAt typed.now g packets pipeline.now
-        → text ≡ enclose_text typed.now g packets) }
-    ensures steps { steps.old ≤ steps.new }
-{
-    enclosed_tables_are_read();
-    let groups = enclosed(alloc, pipeline)?;
-    let text = print_enclosed(alloc, typed, groups, steps)?;
-    Ok(text)
+    write_printed(q.prints.as_slice(), count, &bounds, &tables, text, out)
 }

@@ -19,6 +19,6 @@ pub use laws::{
     no_fault_means_bounds, rows_enclose, small_bounds, table_rows_enclose, tables_give_bounds,
     triples_give_whole_tables,
 };
-pub use printer::bounds_text;
+pub use printer::write_bounds;
 pub use rows::exact_rows;
 pub use table::{BoundsRow, BoundsTable, Enclosed};

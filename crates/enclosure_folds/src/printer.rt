@@ -1,18 +1,22 @@
 //! The text of tables of bounds.
 
-ghost use Rattle.std.specs.Prelude.{◌≡◌, ◌<◌, ◌++◌, ◌∷◌, [], length, flat_map, codes, decimal, IfOk, OnOk};
+ghost use Rattle.std.specs.Prelude.{◌≡◌, ◌<◌, ◌≤◌, ◌++◌, ◌∷◌, [], length, flat_map, codes, decimal, IsErrOf, OnErr, OnOk};
+ghost use Rattle.marple_base.specs.Faults.{Rose};
+ghost use Rattle.marple_base.specs.Sink.{TakesFront};
 ghost use Rattle.table_printer.specs.TableText.{continued, joined, line, numbers};
 ghost use Rattle.enclosure_folds.specs.BoundsTables.{IsBoundsTable, row_is_exact, mark_text, in_turn, bound_names, bounds_title};
 ghost use Rattle.enclosure_folds.specs.BoundsTables.{bounds_heading, bounds_parts, bounds_text};
+ghost use Rattle.text_buffer.specs.Pieces.{TakesAllBut};
 
 use crate::rows::is_exact;
 use crate::table::{BoundsRow, BoundsTable};
 use itoa::Buffer;
-use marple_base::Text;
-use std::alloc::{AllocError, Global};
+use marple_base::{Sink, Text};
+use std::alloc::AllocError;
+use text_buffer::{TextBuffer, WriteError};
 
 // Writes the decimal digits of a number.
-fn push_number(text: &mut Text, n: u64) -> Result<(), AllocError>
+fn push_number(text: &mut TextBuffer, n: u64) -> Result<(), AllocError>
     ensures { OnOk result (text.new ≡ text.old ++ decimal n) }
 {
     let mut buffer = Buffer::new();
@@ -20,14 +24,14 @@ fn push_number(text: &mut Text, n: u64) -> Result<(), AllocError>
 }
 
 // Writes one more part of a line, after a comma.
-fn push_next(text: &mut Text, part: &[u8]) -> Result<(), AllocError>
+fn push_next(text: &mut TextBuffer, part: &[u8]) -> Result<(), AllocError>
     ensures { OnOk result (text.new ≡ text.old ++ 44 ∷ part.now) }
 {
     text.push(b',')?;
     text.push_slice(part)
 }
 
-fn push_next_number(text: &mut Text, n: u64) -> Result<(), AllocError>
+fn push_next_number(text: &mut TextBuffer, n: u64) -> Result<(), AllocError>
     ensures { OnOk result (text.new ≡ text.old ++ 44 ∷ decimal n) }
 {
     text.push(b',')?;
@@ -35,7 +39,7 @@ fn push_next_number(text: &mut Text, n: u64) -> Result<(), AllocError>
 }
 
 // Writes more numbers into a line.
-fn push_next_numbers(text: &mut Text, words: &[u64]) -> Result<(), AllocError>
+fn push_next_numbers(text: &mut TextBuffer, words: &[u64]) -> Result<(), AllocError>
     ensures { OnOk result (text.new ≡ text.old ++ continued (numbers words.now)) }
 {
     for word in words {
@@ -45,7 +49,7 @@ fn push_next_numbers(text: &mut Text, words: &[u64]) -> Result<(), AllocError>
 }
 
 // Writes more names into a line.
-fn push_next_names(text: &mut Text, names: &[Text]) -> Result<(), AllocError>
+fn push_next_names(text: &mut TextBuffer, names: &[Text]) -> Result<(), AllocError>
     ensures { OnOk result (text.new ≡ text.old ++ continued names.now) }
 {
     for name in names {
@@ -55,7 +59,7 @@ fn push_next_names(text: &mut Text, names: &[Text]) -> Result<(), AllocError>
 }
 
 // Writes the numbers that begin a line.
-fn push_numbers(text: &mut Text, words: &[u64]) -> Result<(), AllocError>
+fn push_numbers(text: &mut TextBuffer, words: &[u64]) -> Result<(), AllocError>
     ensures { OnOk result (text.new ≡ text.old ++ joined (numbers words.now)) }
 {
     if let Some((first, rest)) = words.split_first() {
@@ -66,7 +70,7 @@ fn push_numbers(text: &mut Text, words: &[u64]) -> Result<(), AllocError>
 }
 
 // Writes the names that begin a line.
-fn push_names(text: &mut Text, names: &[Text]) -> Result<(), AllocError>
+fn push_names(text: &mut TextBuffer, names: &[Text]) -> Result<(), AllocError>
     ensures { OnOk result (text.new ≡ text.old ++ joined names.now) }
 {
     if let Some((first, rest)) = names.split_first() {
@@ -77,7 +81,7 @@ fn push_names(text: &mut Text, names: &[Text]) -> Result<(), AllocError>
 }
 
 // Writes the bounds of each state in turn.
-fn push_bounds(text: &mut Text, low: &[u64], high: &[u64]) -> Result<(), AllocError>
+fn push_bounds(text: &mut TextBuffer, low: &[u64], high: &[u64]) -> Result<(), AllocError>
     requires { length low.now ≡ length high.now }
     ensures { OnOk result (text.new ≡ text.old ++ continued (numbers (in_turn low.now high.now))) }
 {
@@ -89,7 +93,7 @@ fn push_bounds(text: &mut Text, low: &[u64], high: &[u64]) -> Result<(), AllocEr
 }
 
 // Writes the names of a state's columns.
-fn push_state(text: &mut Text, name: &[u8]) -> Result<(), AllocError>
+fn push_state(text: &mut TextBuffer, name: &[u8]) -> Result<(), AllocError>
     ensures { OnOk result (text.new ≡ text.old ++ continued (bound_names name.now)) }
 {
     push_next(text, name)?;
@@ -98,7 +102,7 @@ fn push_state(text: &mut Text, name: &[u8]) -> Result<(), AllocError>
     text.push_slice(b".hi")
 }
 
-fn push_states(text: &mut Text, names: &[Text]) -> Result<(), AllocError>
+fn push_states(text: &mut TextBuffer, names: &[Text]) -> Result<(), AllocError>
     ensures { OnOk result (text.new ≡ text.old ++ continued (flat_map bound_names names.now)) }
 {
     for name in names {
@@ -108,7 +112,7 @@ fn push_states(text: &mut Text, names: &[Text]) -> Result<(), AllocError>
 }
 
 // Writes the line that says what a table is.
-fn push_title(text: &mut Text, t: &BoundsTable) -> Result<(), AllocError>
+fn push_title(text: &mut TextBuffer, t: &BoundsTable) -> Result<(), AllocError>
     ensures { OnOk result (text.new ≡ text.old ++ bounds_title t.now) }
 {
     text.push_slice(b"table ")?;
@@ -121,7 +125,7 @@ fn push_title(text: &mut Text, t: &BoundsTable) -> Result<(), AllocError>
 }
 
 // Writes the names of the two columns that every table of bounds has.
-fn push_own_names(text: &mut Text) -> Result<(), AllocError>
+fn push_own_names(text: &mut TextBuffer) -> Result<(), AllocError>
     ensures { OnOk result (text.new ≡ text.old ++ continued (codes "mark" ∷ codes "epochs" ∷ [])) }
 {
     push_next(text, b"mark")?;
@@ -129,7 +133,7 @@ fn push_own_names(text: &mut Text) -> Result<(), AllocError>
 }
 
 // Writes the names of all columns.
-fn push_columns(text: &mut Text, keys: &[Text], states: &[Text]) -> Result<(), AllocError>
+fn push_columns(text: &mut TextBuffer, keys: &[Text], states: &[Text]) -> Result<(), AllocError>
     requires { 0 < length keys.now }
     ensures { OnOk result (text.new
         ≡ text.old ++ joined (keys.now ++ (codes "mark" ∷ codes "epochs" ∷ []) ++ flat_map bound_names states.now)) }
@@ -140,7 +144,7 @@ fn push_columns(text: &mut Text, keys: &[Text], states: &[Text]) -> Result<(), A
     Ok(())
 }
 
-fn push_heading(text: &mut Text, t: &BoundsTable) -> Result<(), AllocError>
+fn push_heading(text: &mut TextBuffer, t: &BoundsTable) -> Result<(), AllocError>
     requires { 0 < length t.now.key_names }
     ensures { OnOk result (text.new ≡ text.old ++ line (bounds_heading t.now)) }
 {
@@ -154,7 +158,7 @@ fn mark_word(row: &BoundsRow) -> &'static [u8]
     if is_exact(row) { b"exact" } else { b"within" }
 }
 
-fn push_row(text: &mut Text, row: &BoundsRow) -> Result<(), AllocError>
+fn push_row(text: &mut TextBuffer, row: &BoundsRow) -> Result<(), AllocError>
     requires key { 0 < length row.now.key }
     requires bounds { length row.now.low ≡ length row.now.high }
     ensures { OnOk result (text.new ≡ text.old ++ line (bounds_parts row.now)) }
@@ -166,16 +170,32 @@ fn push_row(text: &mut Text, row: &BoundsRow) -> Result<(), AllocError>
     text.push(b'\n')
 }
 
-/// The text of a table of bounds: a line that says what it is, a heading, and a line for each row.
-pub fn bounds_text(alloc: Global, t: &BoundsTable) -> Result<Text, AllocError>
-    requires { IsBoundsTable t.now }
-    ensures { IfOk result (λ text. text ≡ bounds_text t.now) }
+// Writes the two lines before the rows.
+fn push_head(text: &mut TextBuffer, t: &BoundsTable) -> Result<(), AllocError>
+    requires { 0 < length t.now.key_names }
+    ensures { OnOk result (text.new ≡ text.old ++ bounds_title t.now ++ line (bounds_heading t.now)) }
 {
-    let mut text = Text::new(alloc);
-    push_title(&mut text, t)?;
-    push_heading(&mut text, t)?;
+    push_title(text, t)?;
+    push_heading(text, t)
+}
+
+/// Writes the text of a table of bounds after the bytes that wait in the buffer: a line that says what it is, a heading, and a
+/// line for each row. Its last bytes wait there. After an `Err` the sink has some first bytes of what was to be written.
+pub fn write_bounds<O: Sink>(
+    text: &mut TextBuffer,
+    t: &BoundsTable,
+    out: &mut O,
+) -> Result<(), WriteError>
+    requires { IsBoundsTable t.now }
+    ensures ok { OnOk result (TakesAllBut (O.taken out.old) (O.taken out.new) text.new (text.old ++ bounds_text t.now)) }
+    ensures err { OnErr result (TakesFront (O.taken out.old) (O.taken out.new) (text.old ++ bounds_text t.now)) }
+    ensures failed { IsErrOf result WriteError.Failed → Rose (O.faults out.old) (O.faults out.new) }
+    ensures out_later { O.faults out.old ≤ O.faults out.new }
+{
+    push_head(text, t)?;
     for row in t.rows.as_slice() {
-        push_row(&mut text, row)?;
+        push_row(text, row)?;
+        text.write_when_full(out)?;
     }
-    Ok(text)
+    Ok(())
 }

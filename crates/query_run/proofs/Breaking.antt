@@ -1,14 +1,16 @@
 -- How a run breaks off, at whatever step.
-use Rattle.std.proofs.Common.{◌≡◌, ℕ, ◌≤◌, List, [], ◌++◌, Option, None, Some, length, refl, sym, subst, arith, inl, inr, length-append, Result, Ok, Err, IfErr}
+use Rattle.std.proofs.Common.{◌≡◌, ℕ, ◌≤◌, List, [], ◌++◌, Option, None, Some, length, refl, sym, subst, arith, inl, inr, length-append, Result, Ok, Err, IfErr, OnOk}
 use Rattle.std.specs.Result.{IsErrAnd}
 use Rattle.std.proofs.Math.Seq.{take-append_seam}
 use Rattle.std.proofs.KnownBytes.{Appends-nil}
 use Rattle.std.specs.Io.KnownBytes.{Appends}
 use Rattle.marple_base.specs.Faults.{Rose}
 use Rattle.marple_base.specs.Sink.{TakesFront}
-use Rattle.query_run.specs.Answers.{BreaksOff, answer_for, text_unless}
-use Rattle.query_run.specs.declared.answer.RunAnswer.{RunAnswer}
-use Rattle.query_run.specs.declared.answer.RunAnswer.TheVariants.{Refused, Memory, Failed}
+use Rattle.query_run.specs.Answers.{BreaksOff, answer_for, answer_of, text_unless}
+use Rattle.query_run.specs.declared.answer.RunError.{RunError}
+use Rattle.query_run.specs.declared.answer.RunError.TheVariants.{Refused, Memory, Failed}
+use Rattle.text_buffer.specs.declared.answer.WriteError.{WriteError}
+use Rattle.text_buffer.specs.declared.answer.WriteError.TheVariants as writes
 use Rattle.trace_reader.specs.Faults.{IfRefused}
 use Rattle.trace_reader.specs.declared.fault.TraceAnswer.{TraceAnswer}
 use Rattle.trace_reader.specs.declared.fault.TraceAnswer.TheVariants as answers
@@ -19,6 +21,15 @@ use Rattle.query_run.proofs.Pieces.{TakesFront-more}
 pub err_is : {A E : Type 0} (P : E → Type 0) (result : Result A E) (answer : E) → IsErrAnd result (λ found. found ≡ answer) → P answer → IfErr result P
 err_is P (Ok done) answer is known = tt
 err_is P (Err found) answer is known = subst P (sym is) known
+
+-- what follows from what is known of a result
+pub then_ok : {A E : Type 0} (result : Result A E) (P Q : Type 0) → (P → Q) → OnOk result P → OnOk result Q
+then_ok (Ok done) P Q so known = so known
+then_ok (Err found) P Q so known = tt
+
+pub then_err : {A E : Type 0} (result : Result A E) (P Q : E → Type 0) → ((answer : E) → P answer → Q answer) → IfErr result P → IfErr result Q
+then_err (Ok done) P Q so known = tt
+then_err (Err found) P Q so known = so found known
 
 pub nothing_taken : (bytes : Option (List ℕ)) (text : List ℕ) → TakesFront bytes bytes text
 nothing_taken bytes text = record { count = 0; within = omega arith; taken = Appends-nil bytes }
@@ -31,7 +42,7 @@ part_taken old new done rest whole = record {
   taken = subst (Appends old new) (sym (take-append_seam done rest)) whole;
 }
 
-rose_since : (old mid new : ℕ) → old ≤ mid → Rose mid new → Rose old new
+pub rose_since : (old mid new : ℕ) → old ≤ mid → Rose mid new → Rose old new
 rose_since old mid new later (inl less) = inl (omega arith)
 rose_since old mid new later (inr last) = inr last
 
@@ -66,9 +77,15 @@ module _ {O : Type 0} (taken : O → Option (List ℕ)) (faults : O → ℕ) (te
 
   -- a part of the text broke off after what was written
   pub part_breaks : (old mid new : O) (done piece rest : List ℕ) → text ≡ done ++ (piece ++ rest) → fault ≡ None → Appends (taken old) (taken mid) done → faults old ≤ faults mid
-      → (answer : RunAnswer) → BreaksOff taken faults piece None mid new answer → BreaksOff taken faults text fault old new answer
+      → (answer : RunError) → BreaksOff taken faults piece None mid new answer → BreaksOff taken faults text fault old new answer
   part_breaks old mid new done piece rest is sound whole later (Refused found) broke = absurd (none_some found None refl broke.0)
   part_breaks old mid new done piece rest is sound whole later Memory broke =
       subst (λ f. TakesFront (taken old) (taken new) (text_unless f text)) (sym sound) (subst (TakesFront (taken old) (taken new)) (sym is) (TakesFront-more (taken old) (taken mid) (taken new) done piece rest whole broke))
   part_breaks old mid new done piece rest is sound whole later Failed broke =
       write_breaks old mid new done piece rest is sound whole later broke.1 broke.2
+
+  -- a sound trace's text wasn't written whole
+  pub unwritten : (old new : O) → fault ≡ None → (answer : WriteError) → (answer ≡ writes.Failed → Rose (faults old) (faults new)) → TakesFront (taken old) (taken new) text
+      → BreaksOff taken faults text fault old new (answer_of answer)
+  unwritten old new sound writes.Failed rose front = (sound, rose refl, front)
+  unwritten old new sound writes.Memory rose front = subst (λ f. TakesFront (taken old) (taken new) (text_unless f text)) (sym sound) front

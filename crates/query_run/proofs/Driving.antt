@@ -15,7 +15,7 @@ use Rattle.query_run.specs.Answers.{BreaksOff}
 use Rattle.query_run.specs.Driven.{geometry_of}
 use Rattle.query_run.specs.Reports.{Prints}
 use Rattle.query_run.specs.Views.{views_text}
-use Rattle.query_run.specs.declared.answer.RunAnswer.{RunAnswer}
+use Rattle.query_run.specs.declared.answer.RunError.{RunError}
 use Rattle.query_run.specs.declared.driven.Driven.{Driven}
 use Rattle.query_run.proofs.Breaking.{err_is}
 
@@ -29,9 +29,9 @@ geometry_is setting schedule ways is same =
 module _ {O : Type 0} (taken : O → Option (List ℕ)) (faults : O → ℕ) (entries : Entries) (plan : PlanParts) (printed : List Table → List ℕ) (every : ℕ) (packets : List (List ℕ)) (fault : Option TraceFault)
     (old new : O) where
   -- a run broke off with this answer, whichever text its report prints of the plan
-  abbrev pub Breaks : Geometry → RunAnswer → Type 0
+  abbrev pub Breaks : Geometry → RunError → Type 0
   Breaks g answer = (text : Geometry → List (List ℕ) → List ℕ) → Prints entries plan printed text → BreaksOff taken faults (views_text (text g) every packets) fault old new answer
 
   -- the answer is handed on
-  pub handed_on : (g found : Geometry) (result : Result Driven RunAnswer) (answer : RunAnswer) → g ≡ found → IsErrAnd result (λ one. one ≡ answer) → Breaks g answer → IfErr result (Breaks found)
+  pub handed_on : (g found : Geometry) (result : Result Driven RunError) (answer : RunError) → g ≡ found → IsErrAnd result (λ one. one ≡ answer) → Breaks g answer → IfErr result (Breaks found)
   handed_on g found result answer same is broke = err_is (Breaks found) result answer is (subst (λ (g : Geometry). Breaks g answer) same broke)

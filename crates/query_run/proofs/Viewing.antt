@@ -4,8 +4,6 @@ use Rattle.std.proofs.KnownBytes.{Appends-nil, Appends-trans}
 use Rattle.std.proofs.Math.Nat.{mod-eq_of_lt}
 use Rattle.std.proofs.lemmas.List.{length-map}
 use Rattle.std.specs.Io.KnownBytes.{Appends}
-use Rattle.marple_base.specs.Faults.{Rose}
-use Rattle.marple_base.specs.Sink.{TakesFront}
 use Rattle.marple_base.specs.declared.field.Packet.{Packet}
 use Rattle.trace_drive.specs.Drives.{geometry_for, words_of}
 use Rattle.trace_drive.specs.Replays.{IsUnderWay, pipeline_in}
@@ -17,9 +15,8 @@ use Rattle.trace_reader.specs.declared.fault.TraceFault.{TraceFault}
 use Rattle.query_run.specs.Answers.{BreaksOff, answer_for}
 use Rattle.query_run.specs.Runs.{AreWhole}
 use Rattle.query_run.specs.Views.{IsAsFarAs, view_text, views_text, views_up_to}
-use Rattle.query_run.specs.declared.answer.RunAnswer.{RunAnswer}
-use Rattle.query_run.specs.declared.answer.RunAnswer.TheVariants.{Failed, Memory}
-use Rattle.query_run.proofs.Breaking.{memory_behind, none_some, part_breaks, reader_breaks, write_breaks}
+use Rattle.query_run.specs.declared.answer.RunError.{RunError}
+use Rattle.query_run.proofs.Breaking.{none_some, part_breaks, reader_breaks}
 use Rattle.query_run.proofs.ViewTexts.{all_views, begins, next_view, no_views, parted, whole_text}
 
 -- as many words as packets
@@ -39,16 +36,6 @@ as_far schedule all count replay some_ways some_buckets whole way = record {
 -- 0 is a multiple of each number
 pub first_multiple : (every : ℕ) → 0 < every → 0 % every ≡ 0
 first_multiple every some = mod-eq_of_lt some
-
--- a view whose line is written, and then its tables
-module _ {O : Type 0} (taken : O → Option (List ℕ)) (faults : O → ℕ) (line tables : List ℕ) (old : O) where
-  pub line_cut : (mid : O) → Rose (faults old) (faults mid) → TakesFront (taken old) (taken mid) line → BreaksOff taken faults (line ++ tables) None old mid Failed
-  line_cut mid rose front = write_breaks taken faults (line ++ tables) None old old mid [] line tables refl refl (Appends-nil (taken old)) (omega arith) rose front
-
-  pub tables_cut : (mid new : O) → Appends (taken old) (taken mid) line → faults old ≤ faults mid → Rose (faults mid) (faults new) → TakesFront (taken mid) (taken new) tables
-      → BreaksOff taken faults (line ++ tables) None old new Failed
-  tables_cut mid new whole later rose front =
-      write_breaks taken faults (line ++ tables) None old mid new line tables [] (ap (λ xs. line ++ xs) (sym (append-nil tables))) refl whole later rose front
 
 -- views of these packets
 module _ (text : List (List ℕ) → List ℕ) (every : ℕ) (all : List Packet) where
@@ -94,7 +81,7 @@ module _ (text : List (List ℕ) → List ℕ) (every : ℕ) (all : List Packet)
 
     -- the next view broke off
     pub view_broke : (new : O) (number : ℕ) → fault ≡ None → number % every ≡ 0 → 0 < every → number + every ≤ length all → Appends (taken old) (taken mid) (views_up_to text every (words_of all) number)
-        → faults old ≤ faults mid → (answer : RunAnswer) → BreaksOff taken faults (view_text text (words_of all) (number + every)) None mid new answer
+        → faults old ≤ faults mid → (answer : RunError) → BreaksOff taken faults (view_text text (words_of all) (number + every)) None mid new answer
         → BreaksOff taken faults (views_text text every (words_of all)) fault old new answer
     view_broke new number sound multiple some within before later answer broke =
         let front = parted text every (words_of all) number multiple some (omega (arith, as_long all)) in
@@ -112,18 +99,11 @@ module _ (text : List (List ℕ) → List ℕ) (every : ℕ) (all : List Packet)
         by_number zero is found e = (none_asked (length all) is, untouched is)
         by_number (suc n) is found e = absurd (none_some found fault (sound (omega arith)) e)
 
-    -- the tables could not be made
-    pub tables_broke : fault ≡ None → Appends (taken old) (taken mid) (views_up_to text every (words_of all) (length all))
-        → BreaksOff taken faults (views_text text every (words_of all)) fault old mid Memory
-    tables_broke sound views =
-        memory_behind taken faults (views_text text every (words_of all)) fault old mid (views_up_to text every (words_of all) (length all)) (text (words_of all)) text_is
-        (λ found is. absurd (none_some found fault sound is)) views
-
-    -- or they could not be written
+    -- the report of all packets broke off
     pub end_broke : (new : O) → fault ≡ None → Appends (taken old) (taken mid) (views_up_to text every (words_of all) (length all)) → faults old ≤ faults mid
-        → Rose (faults mid) (faults new) → TakesFront (taken mid) (taken new) (text (words_of all))
-        → BreaksOff taken faults (views_text text every (words_of all)) fault old new Failed
-    end_broke new sound views later rose front =
+        → (answer : RunError) → BreaksOff taken faults (text (words_of all)) None mid new answer
+        → BreaksOff taken faults (views_text text every (words_of all)) fault old new answer
+    end_broke new sound views later answer broke =
         let views_are = views_up_to text every (words_of all) (length all) in
-        write_breaks taken faults (views_text text every (words_of all)) fault old mid new views_are (text (words_of all)) []
-        (text_is ∙ ap (λ xs. views_are ++ xs) (sym (append-nil (text (words_of all))))) sound views later rose front
+        part_breaks taken faults (views_text text every (words_of all)) fault old mid new views_are (text (words_of all)) []
+        (text_is ∙ ap (λ xs. views_are ++ xs) (sym (append-nil (text (words_of all))))) sound views later answer broke

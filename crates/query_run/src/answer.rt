@@ -1,44 +1,56 @@
 //! Why a run over packets breaks off.
 
 ghost use Rattle.std.specs.Prelude.{◌≡◌};
-ghost use Rattle.query_run.specs.Answers.{answer_for};
-ghost use Rattle.query_run.specs.declared.answer.RunAnswer.TheVariants.{Failed as WriteFailed, Memory as OutOfMemory};
+ghost use Rattle.query_run.specs.Answers.{answer_for, answer_of};
+ghost use Rattle.query_run.specs.declared.answer.RunError.TheVariants.{Failed as WriteFailed, Memory as OutOfMemory};
 
 use marple_base::Failed;
 use std::alloc::AllocError;
+use text_buffer::WriteError;
 use trace_reader::{TraceAnswer, TraceFault};
 
 /// Why a run over packets breaks off: the trace has a fault, memory ran out, or a write failed.
 #[derive(Clone, Copy, Debug, PartialEq, Eq)]
-pub enum RunAnswer {
+pub enum RunError {
     Refused(TraceFault),
     Memory,
     Failed,
 }
 
-impl From<AllocError> for RunAnswer {
+impl From<AllocError> for RunError {
     ghost from_gives = { λ _ answer. answer ≡ OutOfMemory };
 
-    fn from(_: AllocError) -> RunAnswer {
-        RunAnswer::Memory
+    fn from(_: AllocError) -> RunError {
+        RunError::Memory
     }
 }
 
-impl From<TraceAnswer> for RunAnswer {
+impl From<TraceAnswer> for RunError {
     ghost from_gives = { λ found answer. answer ≡ answer_for found };
 
-    fn from(found: TraceAnswer) -> RunAnswer {
+    fn from(found: TraceAnswer) -> RunError {
         match found {
-            TraceAnswer::Refused(fault) => RunAnswer::Refused(fault),
-            TraceAnswer::Memory => RunAnswer::Memory,
+            TraceAnswer::Refused(fault) => RunError::Refused(fault),
+            TraceAnswer::Memory => RunError::Memory,
         }
     }
 }
 
-impl From<Failed> for RunAnswer {
+impl From<Failed> for RunError {
     ghost from_gives = { λ _ answer. answer ≡ WriteFailed };
 
-    fn from(_: Failed) -> RunAnswer {
-        RunAnswer::Failed
+    fn from(_: Failed) -> RunError {
+        RunError::Failed
+    }
+}
+
+impl From<WriteError> for RunError {
+    ghost from_gives = { λ found answer. answer ≡ answer_of found };
+
+    fn from(found: WriteError) -> RunError {
+        match found {
+            WriteError::Failed => RunError::Failed,
+            WriteError::Memory => RunError::Memory,
+        }
     }
 }

@@ -19,16 +19,17 @@ ghost use Rattle.query_run.specs.Reports.{Reports};
 use crate::laws::read_packets_are_words;
 use crate::report::Report;
 use enclosed_query::{
-    enclosed_tables_are_read, ends_give_enclosed_tables, print_enclosed, shown_tables_hold,
-    starts_known,
+    enclosed_tables_are_read, ends_give_enclosed_tables, shown_tables_hold, starts_known,
+    write_enclosed,
 };
 use enclosure_folds::{Enclosed, enclosed_of, triples_give_whole_tables};
 use epoch_entry::Entries;
 use final_queries::Table;
-use marple_base::{Seq, Steps, Text};
+use marple_base::{Seq, Sink, Steps};
 use query_lang::TypedQuery;
 use std::alloc::{AllocError, Global};
 use std::sync::ledger::Ledger;
+use text_buffer::{TextBuffer, WriteError};
 
 // What is shown of groupbys with these tables.
 fn shown_of(alloc: Global, tables: Seq<Table>) -> Result<Seq<Enclosed>, AllocError>
@@ -82,14 +83,15 @@ impl Report for QueryBounds {
         Entries::Bounds
     }
 
-    fn print<L: Ledger>(
+    fn print<O: Sink, L: Ledger>(
         &self,
         alloc: Global,
         tables: Seq<Table>,
+        text: &mut TextBuffer,
+        out: &mut O,
         steps: &mut Steps<L>,
-    ) -> Result<Text, AllocError> {
+    ) -> Result<(), WriteError> {
         let groups = shown_of(alloc, tables)?;
-        let text = print_enclosed(alloc, &self.typed, groups, steps)?;
-        Ok(text)
+        write_enclosed(alloc, &self.typed, groups, text, out, steps)
     }
 }

@@ -17,7 +17,7 @@ mod showing;
 mod views;
 mod ways;
 
-pub use answer::RunAnswer;
+pub use answer::RunError;
 pub use bounds_report::QueryBounds;
 pub use driven::Driven;
 pub use laws::{
@@ -28,3 +28,4 @@ pub use plan_report::PlanTables;
 pub use query_report::QueryTables;
 pub use report::Report;
 pub use runs::{run_over_made, run_over_trace};
+pub use showing::write_report;

@@ -1,7 +1,9 @@
 //! The report of a plan that was read.
 
-ghost use Rattle.std.specs.Prelude.{◌≡◌, ◌<◌, All, flat_map, length, IfOk};
+ghost use Rattle.std.specs.Prelude.{◌≡◌, ◌++◌, ◌<◌, ◌≤◌, All, length, IsErrOf, OnErr, OnOk};
 ghost use Rattle.epoch_entry.specs.declared.purpose.Entries.TheVariants.{Folds};
+ghost use Rattle.marple_base.specs.Faults.{Rose};
+ghost use Rattle.marple_base.specs.Sink.{TakesFront};
 ghost use Rattle.plan_file.specs.declared.made.Made.{Made};
 ghost use Rattle.plan_loader.specs.Meaning.{plan_output};
 ghost use Rattle.plan_loader.specs.Parts.{IsPlanFrom, IsSoundMade};
@@ -9,28 +11,54 @@ ghost use Rattle.query_tables.specs.Tables.{text_at};
 ghost use Rattle.stage_plan.specs.Sound.{PlanParts};
 ghost use Rattle.query_run.specs.PlanReports.{HasKeys, HaveNumbers, numbered_print};
 ghost use Rattle.query_run.specs.Reports.{Reports};
+ghost use Rattle.text_buffer.specs.Pieces.{TakesAllBut};
 
 use crate::laws::ends_are_the_texts;
 use crate::report::Report;
 use epoch_entry::Entries;
 use final_queries::Table;
-use marple_base::{Seq, Steps, Text};
-use std::alloc::{AllocError, Global};
+use marple_base::{Seq, Sink, Steps};
+use std::alloc::Global;
 use std::sync::ledger::Ledger;
-use table_printer::table_text;
+use table_printer::write_table;
+use text_buffer::{TextBuffer, WriteError};
 
-// The texts of the tables with these numbers, in order.
-fn printed(alloc: Global, prints: &[u16], tables: &Seq<Table>) -> Result<Text, AllocError>
+// Writes the text of the table with this number.
+fn write_at<O: Sink>(
+    tables: &Seq<Table>,
+    number: usize,
+    text: &mut TextBuffer,
+    out: &mut O,
+) -> Result<(), WriteError>
+    requires number { number < length tables.now }
+    requires tables { All HasKeys tables.now }
+    ensures ok { OnOk result (TakesAllBut (O.taken out.old) (O.taken out.new) text.new (text.old ++ text_at tables.now number)) }
+    ensures err { OnErr result (TakesFront (O.taken out.old) (O.taken out.new) (text.old ++ text_at tables.now number)) }
+    ensures failed { IsErrOf result WriteError.Failed → Rose (O.faults out.old) (O.faults out.new) }
+    ensures out_later { O.faults out.old ≤ O.faults out.new }
+{
+    write_table(text, tables.get(number), out)
+}
+
+// Writes the texts of the tables with these numbers, in order.
+fn write_numbered<O: Sink>(
+    prints: &[u16],
+    tables: &Seq<Table>,
+    text: &mut TextBuffer,
+    out: &mut O,
+) -> Result<(), WriteError>
     requires prints { All (λ number. number < length tables.now) prints.now }
     requires tables { All HasKeys tables.now }
-    ensures { IfOk result (λ text. text ≡ flat_map (text_at tables.now) prints.now) }
+    ensures ok { OnOk result
+        (TakesAllBut (O.taken out.old) (O.taken out.new) text.new (text.old ++ numbered_print prints.now tables.now)) }
+    ensures err { OnErr result (TakesFront (O.taken out.old) (O.taken out.new) (text.old ++ numbered_print prints.now tables.now)) }
+    ensures failed { IsErrOf result WriteError.Failed → Rose (O.faults out.old) (O.faults out.new) }
+    ensures out_later { O.faults out.old ≤ O.faults out.new }
 {
-    let mut text = Text::new(alloc);
     for number in prints {
-        let table = table_text(alloc, tables.get(usize::from(*number)))?;
-        text.push_slice(table.as_slice())?;
+        write_at(tables, usize::from(*number), text, out)?;
     }
-    Ok(text)
+    Ok(())
 }
 
 /// The report of a plan that was read: the tables whose numbers its text prints.
@@ -62,13 +90,14 @@ impl Report for PlanTables {
         Entries::Folds
     }
 
-    fn print<L: Ledger>(
+    fn print<O: Sink, L: Ledger>(
         &self,
-        alloc: Global,
+        _alloc: Global,
         tables: Seq<Table>,
+        text: &mut TextBuffer,
+        out: &mut O,
         _steps: &mut Steps<L>,
-    ) -> Result<Text, AllocError> {
-        let text = printed(alloc, self.prints.as_slice(), &tables)?;
-        Ok(text)
+    ) -> Result<(), WriteError> {
+        write_numbered(self.prints.as_slice(), &tables, text, out)
     }
 }

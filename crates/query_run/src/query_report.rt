@@ -13,11 +13,12 @@ use crate::laws::ends_are_the_querys;
 use crate::report::Report;
 use epoch_entry::Entries;
 use final_queries::Table;
-use marple_base::{Seq, Steps, Text};
+use marple_base::{Seq, Sink, Steps};
 use query_lang::TypedQuery;
-use query_tables::{print_tables, query_tables_are_read};
-use std::alloc::{AllocError, Global};
+use query_tables::{query_tables_are_read, write_tables};
+use std::alloc::Global;
 use std::sync::ledger::Ledger;
+use text_buffer::{TextBuffer, WriteError};
 
 /// The report of a query: the tables of its groupbys and finals that it prints.
 #[derive(Drop)]
@@ -50,13 +51,14 @@ impl Report for QueryTables {
         Entries::Folds
     }
 
-    fn print<L: Ledger>(
+    fn print<O: Sink, L: Ledger>(
         &self,
         alloc: Global,
         tables: Seq<Table>,
+        text: &mut TextBuffer,
+        out: &mut O,
         steps: &mut Steps<L>,
-    ) -> Result<Text, AllocError> {
-        let text = print_tables(alloc, &self.typed, tables, steps)?;
-        Ok(text)
+    ) -> Result<(), WriteError> {
+        write_tables(alloc, &self.typed, tables, text, out, steps)
     }
 }

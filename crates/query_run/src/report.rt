@@ -1,14 +1,18 @@
 //! What a run prints of the tables of its groupbys.
 
-ghost use Rattle.std.specs.Prelude.{◌≡◌, ◌≤◌, ℕ, List, IfOk};
+ghost use Rattle.std.specs.Prelude.{◌≡◌, ◌++◌, ◌≤◌, ℕ, List, IsErrOf, OnErr, OnOk};
 ghost use Rattle.epoch_entry.specs.declared.purpose.Entries.{Entries as AnyEntries};
 ghost use Rattle.final_queries.specs.declared.table.Table.{Table as AnyTable};
+ghost use Rattle.marple_base.specs.Faults.{Rose};
+ghost use Rattle.marple_base.specs.Sink.{TakesFront};
+ghost use Rattle.text_buffer.specs.Pieces.{TakesAllBut};
 
 use epoch_entry::Entries;
 use final_queries::Table;
-use marple_base::{Seq, Steps, Text};
-use std::alloc::{AllocError, Global};
+use marple_base::{Seq, Sink, Steps};
+use std::alloc::Global;
 use std::sync::ledger::Ledger;
+use text_buffer::{TextBuffer, WriteError};
 
 /// What a run prints of the tables of its groupbys: in each view of those of the packets so far, and at the end of those of
 /// all packets.
@@ -26,14 +30,20 @@ pub trait Report {
     fn entries(&self) -> Entries
         ensures { result ≡ entries self.now };
 
-    /// The text of the tables of the groupbys, which come in the order of the plan.
-    fn print<L: Ledger>(
+    /// Writes what is printed of the tables of the groupbys, which come in the order of the plan, after the bytes that wait in
+    /// the buffer. Its last bytes wait there. After an `Err` the sink has some first bytes of what was to be written.
+    fn print<O: Sink, L: Ledger>(
         &self,
         alloc: Global,
         tables: Seq<Table>,
+        text: &mut TextBuffer,
+        out: &mut O,
         steps: &mut Steps<L>,
-    ) -> Result<Text, AllocError>
+    ) -> Result<(), WriteError>
         requires may_print { may_print self.now tables }
-        ensures text { IfOk result (λ text. text ≡ printed self.now tables) }
+        ensures ok { OnOk result (TakesAllBut (O.taken out.old) (O.taken out.new) text.new (text.old ++ printed self.now tables)) }
+        ensures err { OnErr result (TakesFront (O.taken out.old) (O.taken out.new) (text.old ++ printed self.now tables)) }
+        ensures failed { IsErrOf result WriteError.Failed → Rose (O.faults out.old) (O.faults out.new) }
+        ensures out_later { O.faults out.old ≤ O.faults out.new }
         ensures steps { steps.old ≤ steps.new };
 }

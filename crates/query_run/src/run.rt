@@ -11,11 +11,11 @@ ghost use Rattle.query_run.specs.Reports.{MayPrint, Prints};
 ghost use Rattle.query_run.specs.Runs.{AreWhole};
 ghost use Rattle.query_run.specs.Views.{CanBeViewed, views_text};
 
-use crate::answer::RunAnswer;
+use crate::answer::RunError;
 use crate::report::Report;
-use crate::showing::end_text;
+use crate::showing::write_end;
 use crate::views::write_views;
-use marple_base::{Sink, Steps, write_all};
+use marple_base::{Sink, Steps};
 use stage_plan::Plan;
 use std::alloc::Global;
 use std::sync::ledger::Ledger;
@@ -34,7 +34,7 @@ pub(crate) fn run_report<const WAYS: usize, R: Report, O: Sink, L: Ledger>(
     packets: Packets<'_>,
     out: &mut O,
     steps: &mut Steps<L>,
-) -> Result<Pipeline<WAYS>, RunAnswer>
+) -> Result<Pipeline<WAYS>, RunError>
     requires ways { 0 < WAYS }
     requires buckets { 0 < schedule.buckets }
     requires places { schedule.buckets * WAYS ≤ 65536 }
@@ -69,7 +69,6 @@ pub(crate) fn run_report<const WAYS: usize, R: Report, O: Sink, L: Ledger>(
     )?;
     let replay = write_views(alloc, report, fresh, schedule, every, packets, out, steps)?;
     let pipeline = replay.finish(steps)?;
-    let text = end_text(alloc, report, &pipeline, steps)?;
-    write_all(out, text.as_slice())?;
+    write_end(alloc, report, &pipeline, out, steps)?;
     Ok(pipeline)
 }

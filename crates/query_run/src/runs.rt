@@ -14,7 +14,7 @@ ghost use Rattle.query_run.specs.Runs.{AreWhole};
 ghost use Rattle.query_run.specs.Views.{views_text};
 
 use crate::acceptance::opened_trace;
-use crate::answer::RunAnswer;
+use crate::answer::RunError;
 use crate::driven::Driven;
 use crate::laws::{read_packets_are_few, read_packets_are_whole};
 use crate::report::Report;
@@ -39,7 +39,7 @@ pub fn run_over_trace<R: Report, O: Sink, L: Ledger>(
     bytes: &[u8],
     out: &mut O,
     steps: &mut Steps<L>,
-) -> Result<Driven, RunAnswer>
+) -> Result<Driven, RunError>
     requires setting { IsSetting setting }
     requires may_print { MayPrint (R.entries report.now) plan (R.may_print report.now) }
     ensures accepted { IfOk result (λ driven. trace_fault bytes.now plan.reads ≡ None) }
@@ -81,7 +81,7 @@ pub fn run_over_made<R: Report, O: Sink, L: Ledger>(
     made: Seq<Packet>,
     out: &mut O,
     steps: &mut Steps<L>,
-) -> Result<Driven, RunAnswer>
+) -> Result<Driven, RunError>
     requires setting { IsSetting setting }
     requires may_print { MayPrint (R.entries report.now) plan (R.may_print report.now) }
     requires whole { AreWhole (words_of made) }

@@ -1,66 +1,119 @@
-//! What a report prints of a pipeline, in the middle of a trace and at its end.
+//! What a report writes of a pipeline, in the middle of a trace and at its end.
 
-ghost use Rattle.std.specs.Prelude.{◌≡◌, ◌≤◌, ℕ, List, IfOk, take, true};
+ghost use Rattle.std.specs.Prelude.{◌≡◌, ◌++◌, ◌≤◌, ℕ, List, None, IfErr, IfOk, OnOk, true};
+ghost use Rattle.std.specs.Io.KnownBytes.{Appends};
 ghost use Rattle.std.specs.List.{list_all};
 ghost use Rattle.epoch_model.specs.Epochs.{Geometry};
 ghost use Rattle.epoch_model.specs.Laws.{HasRoom};
 ghost use Rattle.switch_core.specs.PlanLanes.{PipelineStands, lane_is_drained};
 ghost use Rattle.trace_drive.specs.Drives.{end_machines};
+ghost use Rattle.query_run.specs.Answers.{BreaksOff};
 ghost use Rattle.query_run.specs.Reports.{MayPrint, Prints};
 ghost use Rattle.query_run.specs.Runs.{AreWhole};
-ghost use Rattle.query_run.specs.Views.{IsAsFarAs};
+ghost use Rattle.query_run.specs.Views.{IsAsFarAs, view_line, view_text};
 
+use crate::answer::RunError;
 use crate::report::Report;
+use final_queries::Table;
+use itoa::Buffer;
 use live_view::{view, views_end_the_trace};
-use marple_base::{Steps, Text};
+use marple_base::{Seq, Sink, Steps};
 use std::alloc::{AllocError, Global};
 use std::sync::ledger::Ledger;
 use switch_core::Pipeline;
+use text_buffer::TextBuffer;
 
-/// What a report prints of a drained pipeline, at the end of packets.
-pub(crate) fn end_text<const WAYS: usize, R: Report, L: Ledger>(
+/// Writes these bytes, and then what a report prints of tables: all of it, or some first bytes.
+pub fn write_report<R: Report, O: Sink, L: Ledger>(
+    alloc: Global,
+    report: &R,
+    tables: Seq<Table>,
+    first: TextBuffer,
+    out: &mut O,
+    steps: &mut Steps<L>,
+) -> Result<(), RunError>
+    requires may_print { R.may_print report.now tables }
+    ensures written { OnOk result (Appends (O.taken out.old) (O.taken out.new) (first ++ R.printed report.now tables)) }
+    ensures breaks_off { IfErr result
+        (BreaksOff O.taken O.faults (first ++ R.printed report.now tables) None out.old out.new) }
+    ensures out_later { O.faults out.old ≤ O.faults out.new }
+    ensures steps { steps.old ≤ steps.new }
+{
+    let mut text = first;
+    report.print(alloc, tables, &mut text, out, steps)?;
+    text.write_rest(out)?;
+    Ok(())
+}
+
+/// Writes what a report prints of a drained pipeline, at the end of packets: all of it, or some first bytes.
+pub(crate) fn write_end<const WAYS: usize, R: Report, O: Sink, L: Ledger>(
     alloc: Global,
     report: &R,
     pipeline: &Pipeline<WAYS>,
+    out: &mut O,
     steps: &mut Steps<L>,
-) -> Result<Text, AllocError>
+) -> Result<(), RunError>
     requires may_print { MayPrint (R.entries report.now) pipeline.now.plan (R.may_print report.now) }
     requires entries { pipeline.now.entries ≡ R.entries report.now }
     requires drained { list_all lane_is_drained pipeline.now.lanes ≡ true }
     requires ends { (g : Geometry) × (packets : List (List ℕ)) × HasRoom g × AreWhole packets
         × PipelineStands pipeline.now (end_machines pipeline.now.plan g packets) }
-    ensures text { IfOk result (λ shown. (text : Geometry → List (List ℕ) → List ℕ) (g : Geometry) (packets : List (List ℕ))
+    ensures written { OnOk result ((text : Geometry → List (List ℕ) → List ℕ) (g : Geometry) (packets : List (List ℕ))
         → Prints (R.entries report.now) pipeline.now.plan (R.printed report.now) text → HasRoom g → AreWhole packets
-        → PipelineStands pipeline.now (end_machines pipeline.now.plan g packets) → shown ≡ text g packets) }
+        → PipelineStands pipeline.now (end_machines pipeline.now.plan g packets)
+        → Appends (O.taken out.old) (O.taken out.new) (text g packets)) }
+    ensures breaks_off { IfErr result (λ answer. (text : Geometry → List (List ℕ) → List ℕ) (g : Geometry)
+        (packets : List (List ℕ)) → Prints (R.entries report.now) pipeline.now.plan (R.printed report.now) text
+        → HasRoom g → AreWhole packets → PipelineStands pipeline.now (end_machines pipeline.now.plan g packets)
+        → BreaksOff O.taken O.faults (text g packets) None out.old out.new answer) }
+    ensures out_later { O.faults out.old ≤ O.faults out.new }
     ensures steps { steps.old ≤ steps.new }
 {
     pipeline.known();
     pipeline.plan().known();
     let tables = pipeline.close()?;
-    let text = report.print(alloc, tables, steps)?;
-    Ok(text)
+    write_report(alloc, report, tables, TextBuffer::new(alloc), out, steps)
 }
 
-/// What a report prints in the middle of a trace: of the packets that were taken so far, as if the trace ended with them. The
-/// pipeline is left unchanged.
-pub(crate) fn view_text<const WAYS: usize, R: Report, L: Ledger>(
+// The first line of the view after this number of packets.
+fn view_line(alloc: Global, number: u32) -> Result<TextBuffer, AllocError>
+    ensures { IfOk result (λ line. line ≡ view_line number) }
+{
+    let mut buffer = Buffer::new();
+    let mut line = TextBuffer::new(alloc);
+    line.push_slice(b"view ")?;
+    line.push_slice(buffer.format(number).as_bytes())?;
+    line.push(b'\n')?;
+    Ok(line)
+}
+
+/// Writes the view after this number of packets, all of it or some first bytes: a line, and what a report prints of the packets
+/// that were taken so far, as if the trace ended with them. The pipeline is left unchanged.
+pub(crate) fn write_view<const WAYS: usize, R: Report, O: Sink, L: Ledger>(
     alloc: Global,
     report: &R,
     pipeline: &Pipeline<WAYS>,
+    number: u32,
+    out: &mut O,
     steps: &mut Steps<L>,
-) -> Result<Text, AllocError>
+) -> Result<(), RunError>
     requires may_print { MayPrint (R.entries report.now) pipeline.now.plan (R.may_print report.now) }
     requires entries { pipeline.now.entries ≡ R.entries report.now }
-    requires seen { (g : Geometry) × (packets : List (List ℕ)) × (number : ℕ) × IsAsFarAs g packets number pipeline.now }
-    ensures text { IfOk result (λ shown. (text : Geometry → List (List ℕ) → List ℕ) (g : Geometry) (packets : List (List ℕ))
-        (number : ℕ) → Prints (R.entries report.now) pipeline.now.plan (R.printed report.now) text
-        → IsAsFarAs g packets number pipeline.now → shown ≡ text g (take number packets)) }
+    requires seen { (g : Geometry) × (packets : List (List ℕ)) × IsAsFarAs g packets number pipeline.now }
+    ensures written { OnOk result ((text : Geometry → List (List ℕ) → List ℕ) (g : Geometry) (packets : List (List ℕ))
+        → Prints (R.entries report.now) pipeline.now.plan (R.printed report.now) text → IsAsFarAs g packets number pipeline.now
+        → Appends (O.taken out.old) (O.taken out.new) (view_text (text g) packets number)) }
+    ensures breaks_off { IfErr result (λ answer. (text : Geometry → List (List ℕ) → List ℕ) (g : Geometry)
+        (packets : List (List ℕ)) → Prints (R.entries report.now) pipeline.now.plan (R.printed report.now) text
+        → IsAsFarAs g packets number pipeline.now
+        → BreaksOff O.taken O.faults (view_text (text g) packets number) None out.old out.new answer) }
+    ensures out_later { O.faults out.old ≤ O.faults out.new }
     ensures steps { steps.old ≤ steps.new }
 {
     views_end_the_trace();
     pipeline.known();
     pipeline.plan().known();
     let tables = view(alloc, pipeline, steps)?;
-    let text = report.print(alloc, tables, steps)?;
-    Ok(text)
+    let line = view_line(alloc, number)?;
+    write_report(alloc, report, tables, line, out, steps)
 }

@@ -1,6 +1,6 @@
 //! The views of a trace, written in turn.
 
-ghost use Rattle.std.specs.Prelude.{◌≡◌, ◌<◌, ◌≤◌, ℕ, List, None, IfErr, IfOk, OnOk, length};
+ghost use Rattle.std.specs.Prelude.{◌≡◌, ◌<◌, ◌≤◌, ℕ, List, IfErr, IfOk, length};
 ghost use Rattle.std.specs.Io.KnownBytes.{Appends};
 ghost use Rattle.epoch_model.specs.Epochs.{Geometry};
 ghost use Rattle.switch_core.specs.Pipelines.{empty_machines, geometry_of};
@@ -11,57 +11,16 @@ ghost use Rattle.trace_drive.specs.Replays.{IsUnderWay, fault_in, pipeline_in};
 ghost use Rattle.query_run.specs.Answers.{BreaksOff};
 ghost use Rattle.query_run.specs.Reports.{MayPrint, Prints};
 ghost use Rattle.query_run.specs.Runs.{AreWhole};
-ghost use Rattle.query_run.specs.Views.{CanBeViewed, IsAsFarAs, view_line, view_text, views_text, views_up_to};
+ghost use Rattle.query_run.specs.Views.{CanBeViewed, views_text, views_up_to};
 
-use crate::answer::RunAnswer;
+use crate::answer::RunError;
 use crate::report::Report;
-use crate::showing::view_text;
-use itoa::Buffer;
-use marple_base::{Sink, Steps, Text, write_all};
-use std::alloc::{AllocError, Global};
+use crate::showing::write_view;
+use marple_base::{Sink, Steps};
+use std::alloc::Global;
 use std::sync::ledger::Ledger;
 use switch_core::Pipeline;
 use trace_drive::{Packets, Replay, Schedule};
-
-// The first line of the view after this number of packets.
-fn view_line(alloc: Global, number: u32) -> Result<Text, AllocError>
-    ensures { IfOk result (λ line. line ≡ view_line number) }
-{
-    let mut buffer = Buffer::new();
-    let mut line = Text::from_slice(alloc, b"view ")?;
-    line.push_slice(buffer.format(number).as_bytes())?;
-    line.push(b'\n')?;
-    Ok(line)
-}
-
-// Writes the view after this number of packets: all of it, or some prefix.
-fn write_view<const WAYS: usize, R: Report, O: Sink, L: Ledger>(
-    alloc: Global,
-    report: &R,
-    pipeline: &Pipeline<WAYS>,
-    number: u32,
-    out: &mut O,
-    steps: &mut Steps<L>,
-) -> Result<(), RunAnswer>
-    requires may_print { MayPrint (R.entries report.now) pipeline.now.plan (R.may_print report.now) }
-    requires entries { pipeline.now.entries ≡ R.entries report.now }
-    requires seen { (g : Geometry) × (packets : List (List ℕ)) × IsAsFarAs g packets number pipeline.now }
-    ensures written { OnOk result ((text : Geometry → List (List ℕ) → List ℕ) (g : Geometry) (packets : List (List ℕ))
-        → Prints (R.entries report.now) pipeline.now.plan (R.printed report.now) text → IsAsFarAs g packets number pipeline.now
-        → Appends (O.taken out.old) (O.taken out.new) (view_text (text g) packets number)) }
-    ensures breaks_off { IfErr result (λ answer. (text : Geometry → List (List ℕ) → List ℕ) (g : Geometry)
-        (packets : List (List ℕ)) → Prints (R.entries report.now) pipeline.now.plan (R.printed report.now) text
-        → IsAsFarAs g packets number pipeline.now
-        → BreaksOff O.taken O.faults (view_text (text g) packets number) None out.old out.new answer) }
-    ensures out_later { O.faults out.old ≤ O.faults out.new }
-    ensures steps { steps.old ≤ steps.new }
-{
-    let text = view_text(alloc, report, pipeline, steps)?;
-    let line = view_line(alloc, number)?;
-    write_all(out, line.as_slice())?;
-    write_all(out, text.as_slice())?;
-    Ok(())
-}
 
 /// Writes a view after each packet whose number is a multiple of `every`, and none where that is 0. The packets are taken as
 /// far as the last view needs. The memory of a view is freed before the next one.
@@ -74,7 +33,7 @@ pub(crate) fn write_views<'a, const WAYS: usize, R: Report, O: Sink, L: Ledger>(
     packets: Packets<'a>,
     out: &mut O,
     steps: &mut Steps<L>,
-) -> Result<Replay<'a, WAYS>, RunAnswer>
+) -> Result<Replay<'a, WAYS>, RunError>
     requires fresh { PipelineStands pipeline (empty_machines (geometry_of WAYS pipeline.buckets) pipeline.plan.groups) }
     requires buckets { pipeline.buckets ≡ schedule.buckets }
     requires room { (0 < WAYS) × (0 < schedule.buckets) }

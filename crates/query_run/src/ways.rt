@@ -12,7 +12,7 @@ ghost use Rattle.query_run.specs.Reports.{MayPrint, Prints};
 ghost use Rattle.query_run.specs.Runs.{AreWhole};
 ghost use Rattle.query_run.specs.Views.{CanBeViewed, views_text};
 
-use crate::answer::RunAnswer;
+use crate::answer::RunError;
 use crate::driven::Driven;
 use crate::report::Report;
 use crate::run::run_report;
@@ -45,7 +45,7 @@ pub(crate) fn run_with_its_ways<R: Report, O: Sink, L: Ledger>(
     packets: Packets<'_>,
     out: &mut O,
     steps: &mut Steps<L>,
-) -> Result<Driven, RunAnswer>
+) -> Result<Driven, RunError>
     requires setting { IsSetting setting }
     requires may_print { MayPrint (R.entries report.now) plan (R.may_print report.now) }
     requires whole { AreWhole (words_of (coming packets)) }

@@ -1,19 +1,23 @@
 //! The printed tables.
 
-ghost use Rattle.std.specs.Prelude.{◌≡◌, ◌+◌, ◌++◌, ◌≤◌, ◌<◌, All, List, [], length, map, flat_map, IfOk, OnOk};
+ghost use Rattle.std.specs.Prelude.{◌≡◌, ◌+◌, ◌++◌, ◌≤◌, ◌<◌, All, List, [], length, map, flat_map, IfOk, IsErrOf, OnErr, OnOk};
+ghost use Rattle.marple_base.specs.Faults.{Rose};
+ghost use Rattle.marple_base.specs.Sink.{TakesFront};
 ghost use Rattle.query_lang.specs.TypedQueries.{IsValidQuery, AreValidFinals, final_shape, group_shape};
 ghost use Rattle.query_lang.specs.Folds.{IsValidFold};
 ghost use Rattle.query_lang.specs.Streams.{takings};
 ghost use Rattle.query_lang.specs.TypedFinals.{table_number};
 ghost use Rattle.final_queries.specs.Finals.{IsTable, table_shape, with_finals};
 ghost use Rattle.query_tables.specs.Tables.{printed, text_at};
+ghost use Rattle.text_buffer.specs.Pieces.{TakesAllBut};
 
 use final_queries::{Table, run_final};
-use marple_base::{Seq, Steps, Text};
+use marple_base::{Seq, Sink, Steps};
 use query_lang::{PrintOf, TypedQuery};
 use std::alloc::{AllocError, Global};
 use std::sync::ledger::Ledger;
-use table_printer::push_table;
+use table_printer::{push_table, write_table};
+use text_buffer::{TextBuffer, WriteError};
 
 /// The tables of the groupbys, followed by those of the finals, each made of the tables before it.
 pub fn add_finals<L: Ledger>(
@@ -49,8 +53,12 @@ pub fn table_number(groups: usize, one: PrintOf) -> usize
     }
 }
 
-// Writes the text of the table with this number after the others.
-fn push_table_at(text: &mut Text, tables: &Seq<Table>, number: usize) -> Result<(), AllocError>
+// Puts the text of the table with this number after the others.
+fn push_table_at(
+    text: &mut TextBuffer,
+    tables: &Seq<Table>,
+    number: usize,
+) -> Result<(), AllocError>
     requires number { number < length tables.now }
     requires tables { All IsTable tables.now }
     ensures { OnOk result (text.new ≡ text.old ++ text_at tables.now number) }
@@ -64,27 +72,27 @@ fn printed_texts(
     prints: &[PrintOf],
     groups: usize,
     tables: &Seq<Table>,
-) -> Result<Text, AllocError>
+) -> Result<TextBuffer, AllocError>
     requires groups { groups ≤ 8 }
     requires prints { All (λ one. table_number groups one < length tables.now) prints.now }
     requires tables { All IsTable tables.now }
     ensures { IfOk result (λ text. text ≡ flat_map (λ one. text_at tables.now (table_number groups one)) prints.now) }
 {
-    let mut text = Text::new(alloc);
+    let mut text = TextBuffer::new(alloc);
     for one in prints {
         push_table_at(&mut text, tables, table_number(groups, *one))?;
     }
     Ok(text)
 }
 
-/// What a query prints: the tables that it names, of its groupbys and finals, in the order of its prints. These are the
+/// What a query prints, whole: the tables that it names, of its groupbys and finals, in the order of its prints. These are the
 /// tables of its groupbys.
 pub fn print_tables<L: Ledger>(
     alloc: Global,
     q: &TypedQuery,
     groups: Seq<Table>,
     steps: &mut Steps<L>,
-) -> Result<Text, AllocError>
+) -> Result<TextBuffer, AllocError>
     requires valid { IsValidQuery q.now }
     requires shapes { map table_shape groups ≡ map (group_shape q.now.folds) (takings q.now.streams) }
     requires tables { All IsTable groups }
@@ -94,4 +102,71 @@ pub fn print_tables<L: Ledger>(
     let count = groups.len();
     let tables = add_finals(alloc, q, groups, steps)?;
     printed_texts(alloc, q.prints.as_slice(), count, &tables)
+}
+
+// Writes the text of the table with this number.
+fn write_table_at<O: Sink>(
+    tables: &Seq<Table>,
+    number: usize,
+    text: &mut TextBuffer,
+    out: &mut O,
+) -> Result<(), WriteError>
+    requires number { number < length tables.now }
+    requires tables { All IsTable tables.now }
+    ensures ok { OnOk result (TakesAllBut (O.taken out.old) (O.taken out.new) text.new (text.old ++ text_at tables.now number)) }
+    ensures err { OnErr result (TakesFront (O.taken out.old) (O.taken out.new) (text.old ++ text_at tables.now number)) }
+    ensures failed { IsErrOf result WriteError.Failed → Rose (O.faults out.old) (O.faults out.new) }
+    ensures out_later { O.faults out.old ≤ O.faults out.new }
+{
+    write_table(text, tables.get(number), out)
+}
+
+// Writes the texts of the printed tables, in the order of the prints.
+fn write_printed<O: Sink>(
+    prints: &[PrintOf],
+    groups: usize,
+    tables: &Seq<Table>,
+    text: &mut TextBuffer,
+    out: &mut O,
+) -> Result<(), WriteError>
+    requires groups { groups ≤ 8 }
+    requires prints { All (λ one. table_number groups one < length tables.now) prints.now }
+    requires tables { All IsTable tables.now }
+    ensures ok { OnOk result (TakesAllBut (O.taken out.old) (O.taken out.new) text.new
+        (text.old ++ flat_map (λ one. text_at tables.now (table_number groups one)) prints.now)) }
+    ensures err { OnErr result (TakesFront (O.taken out.old) (O.taken out.new)
+        (text.old ++ flat_map (λ one. text_at tables.now (table_number groups one)) prints.now)) }
+    ensures failed { IsErrOf result WriteError.Failed → Rose (O.faults out.old) (O.faults out.new) }
+    ensures out_later { O.faults out.old ≤ O.faults out.new }
+{
+    for one in prints {
+        write_table_at(tables, table_number(groups, *one), text, out)?;
+    }
+    Ok(())
+}
+
+/// Writes what a query prints, as `print_tables` makes it, after the bytes that wait in the buffer. Its last bytes wait there.
+/// After an `Err` the sink has some first bytes of what was to be written.
+pub fn write_tables<O: Sink, L: Ledger>(
+    alloc: Global,
+    q: &TypedQuery,
+    groups: Seq<Table>,
+    text: &mut TextBuffer,
+    out: &mut O,
+    steps: &mut Steps<L>,
+) -> Result<(), WriteError>
+    requires valid { IsValidQuery q.now }
+    requires shapes { map table_shape groups ≡ map (group_shape q.now.folds) (takings q.now.streams) }
+    requires tables { All IsTable groups }
+    ensures ok { OnOk result (TakesAllBut (O.taken out.old) (O.taken out.new) text.new
+        (text.old ++ printed q.now (with_finals q.now.names q.now.folds groups q.now.finals))) }
+    ensures err { OnErr result (TakesFront (O.taken out.old) (O.taken out.new)
+        (text.old ++ printed q.now (with_finals q.now.names q.now.folds groups q.now.finals))) }
+    ensures failed { IsErrOf result WriteError.Failed → Rose (O.faults out.old) (O.faults out.new) }
+    ensures out_later { O.faults out.old ≤ O.faults out.new }
+    ensures steps { steps.old ≤ steps.new }
+{
+    let count = groups.len();
+    let tables = add_finals(alloc, q, groups, steps)?;
+    write_printed(q.prints.as_slice(), count, &tables, text, out)
 }

@@ -6,9 +6,10 @@ ghost use Rattle.table_printer.specs.Parts.{parts_from};
 use itoa::Buffer;
 use marple_base::Text;
 use std::alloc::AllocError;
+use text_buffer::TextBuffer;
 
 /// Writes the decimal digits of a number.
-pub fn push_number(text: &mut Text, n: u64) -> Result<(), AllocError>
+pub fn push_number(text: &mut TextBuffer, n: u64) -> Result<(), AllocError>
     ensures { OnOk result (text.new ≡ text.old ++ decimal n) }
 {
     let mut buffer = Buffer::new();
@@ -16,7 +17,7 @@ pub fn push_number(text: &mut Text, n: u64) -> Result<(), AllocError>
 }
 
 /// Writes a part of a line, with a comma before it unless it is the line's first.
-pub fn push_part(text: &mut Text, is_first: bool, part: &[u8]) -> Result<(), AllocError>
+pub fn push_part(text: &mut TextBuffer, is_first: bool, part: &[u8]) -> Result<(), AllocError>
     ensures { OnOk result (text.new ≡ text.old ++ parts_from is_first (part.now ∷ [])) }
 {
     if !is_first {
@@ -26,7 +27,7 @@ pub fn push_part(text: &mut Text, is_first: bool, part: &[u8]) -> Result<(), All
 }
 
 /// Writes a number as a part of a line.
-pub fn push_word(text: &mut Text, is_first: bool, word: u64) -> Result<(), AllocError>
+pub fn push_word(text: &mut TextBuffer, is_first: bool, word: u64) -> Result<(), AllocError>
     ensures { OnOk result (text.new ≡ text.old ++ parts_from is_first (decimal word ∷ [])) }
 {
     let mut buffer = Buffer::new();
@@ -34,7 +35,7 @@ pub fn push_word(text: &mut Text, is_first: bool, word: u64) -> Result<(), Alloc
 }
 
 /// Writes words as parts of a line.
-pub fn push_words(text: &mut Text, begins: bool, words: &[u64]) -> Result<(), AllocError>
+pub fn push_words(text: &mut TextBuffer, begins: bool, words: &[u64]) -> Result<(), AllocError>
     ensures { OnOk result (text.new ≡ text.old ++ parts_from begins (numbers words.now)) }
 {
     let mut is_first = begins;
@@ -46,7 +47,7 @@ pub fn push_words(text: &mut Text, begins: bool, words: &[u64]) -> Result<(), Al
 }
 
 /// Writes names as parts of a line.
-pub fn push_names(text: &mut Text, begins: bool, names: &[Text]) -> Result<(), AllocError>
+pub fn push_names(text: &mut TextBuffer, begins: bool, names: &[Text]) -> Result<(), AllocError>
     ensures { OnOk result (text.new ≡ text.old ++ parts_from begins names.now) }
 {
     let mut is_first = begins;

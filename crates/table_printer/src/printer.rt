@@ -1,15 +1,19 @@
 //! Titles, headings and rows.
-ghost use Rattle.std.specs.Prelude.{◌≡◌, ◌≤◌, ◌++◌, ◌∷◌, [], length, map, flat_map, codes, decimal, IfOk, OnOk};
+ghost use Rattle.std.specs.Prelude.{◌≡◌, ◌≤◌, ◌++◌, ◌∷◌, [], length, map, flat_map, codes, decimal, IfOk, IsErrOf, OnErr, OnOk};
+ghost use Rattle.marple_base.specs.Faults.{Rose};
+ghost use Rattle.marple_base.specs.Sink.{TakesFront};
 ghost use Rattle.table_rows.specs.LentRows.{row_of};
 ghost use Rattle.table_printer.specs.TableText.{joined, mark_text, class_text, epoch_text, numbers, line, group_parts, final_parts};
 ghost use Rattle.table_printer.specs.TableText.{row_parts, heading, kind_text, title, table_text};
 ghost use Rattle.table_printer.specs.Parts.{parts_from};
+ghost use Rattle.text_buffer.specs.Pieces.{TakesAllBut};
 
 use crate::parts::{push_names, push_number, push_part, push_word, push_words};
 use final_queries::{Mark, RowRef, Table, TableKind};
-use marple_base::Text;
+use marple_base::{Sink, Text};
 use query_lang::Class;
 use std::alloc::{AllocError, Global};
+use text_buffer::{TextBuffer, WriteError};
 
 fn class_word(class: Class) -> &'static [u8]
     ensures { result.now ≡ class_text class }
@@ -32,7 +36,7 @@ fn mark_word(mark: Mark) -> &'static [u8]
 }
 
 /// Writes the line that says what a table is.
-fn push_title(text: &mut Text, table: &Table) -> Result<(), AllocError>
+fn push_title(text: &mut TextBuffer, table: &Table) -> Result<(), AllocError>
     ensures { OnOk result (text.new ≡ text.old ++ title table.now) }
 {
     text.push_slice(b"table ")?;
@@ -42,7 +46,7 @@ fn push_title(text: &mut Text, table: &Table) -> Result<(), AllocError>
     text.push(b'\n')
 }
 
-fn push_kind(text: &mut Text, kind: TableKind, rows: usize) -> Result<(), AllocError>
+fn push_kind(text: &mut TextBuffer, kind: TableKind, rows: usize) -> Result<(), AllocError>
     ensures { OnOk result (text.new ≡ text.old ++ kind_text kind rows) }
 {
     match kind {
@@ -61,7 +65,7 @@ fn push_kind(text: &mut Text, kind: TableKind, rows: usize) -> Result<(), AllocE
 }
 
 /// Writes the names of the three columns that every groupby's table has.
-fn push_epoch_names(text: &mut Text, begins: bool) -> Result<(), AllocError>
+fn push_epoch_names(text: &mut TextBuffer, begins: bool) -> Result<(), AllocError>
     ensures { OnOk result (text.new ≡ text.old ++ parts_from begins (codes "mark" ∷ codes "epoch" ∷ codes "epochs" ∷ [])) }
 {
     push_part(text, begins, b"mark")?;
@@ -70,7 +74,7 @@ fn push_epoch_names(text: &mut Text, begins: bool) -> Result<(), AllocError>
 }
 
 /// Writes the heading of a groupby's table.
-fn push_group_names(text: &mut Text, keys: &[Text], others: &[Text]) -> Result<(), AllocError>
+fn push_group_names(text: &mut TextBuffer, keys: &[Text], others: &[Text]) -> Result<(), AllocError>
     ensures { OnOk result (text.new
         ≡ text.old ++ joined (keys.now ++ (codes "mark" ∷ codes "epoch" ∷ codes "epochs" ∷ []) ++ others.now)) }
 {
@@ -81,7 +85,7 @@ fn push_group_names(text: &mut Text, keys: &[Text], others: &[Text]) -> Result<(
 }
 
 /// Writes the names of the columns.
-fn push_heading(text: &mut Text, table: &Table) -> Result<(), AllocError>
+fn push_heading(text: &mut TextBuffer, table: &Table) -> Result<(), AllocError>
     requires { table.now.keys ≤ length table.now.columns }
     ensures { OnOk result (text.new ≡ text.old ++ line (heading table.now.kind table.now.keys table.now.columns)) }
 {
@@ -97,7 +101,7 @@ fn push_heading(text: &mut Text, table: &Table) -> Result<(), AllocError>
 }
 
 /// Writes what a groupby's row says of its key's epochs.
-fn push_epoch(text: &mut Text, begins: bool, row: &RowRef) -> Result<(), AllocError>
+fn push_epoch(text: &mut TextBuffer, begins: bool, row: &RowRef) -> Result<(), AllocError>
     ensures { OnOk result (text.new
         ≡ text.old ++ parts_from begins (mark_text row.now.mark ∷ epoch_text row.now.mark row.now.epoch
         ∷ decimal row.now.epochs ∷ [])) }
@@ -111,7 +115,7 @@ fn push_epoch(text: &mut Text, begins: bool, row: &RowRef) -> Result<(), AllocEr
     push_word(text, false, row.epochs)
 }
 
-fn push_row(text: &mut Text, kind: TableKind, row: &RowRef) -> Result<(), AllocError>
+fn push_row(text: &mut TextBuffer, kind: TableKind, row: &RowRef) -> Result<(), AllocError>
     ensures { OnOk result (text.new ≡ text.old ++ line (row_parts kind (row_of row.now))) }
 {
     push_words(text, true, row.key)?;
@@ -124,25 +128,55 @@ fn push_row(text: &mut Text, kind: TableKind, row: &RowRef) -> Result<(), AllocE
     text.push(b'\n')
 }
 
-/// Writes the text of a table: a line that says what it is, a heading, and a line for each row.
-pub fn push_table(text: &mut Text, table: &Table) -> Result<(), AllocError>
+// Writes the two lines before the rows.
+fn push_head(text: &mut TextBuffer, table: &Table) -> Result<(), AllocError>
+    requires keys { table.now.keys ≤ length table.now.columns }
+    ensures { OnOk result (text.new
+        ≡ text.old ++ title table.now ++ line (heading table.now.kind table.now.keys table.now.columns)) }
+{
+    push_title(text, table)?;
+    push_heading(text, table)
+}
+
+/// Puts the text of a table into a buffer: a line that says what it is, a heading, and a line for each row.
+pub fn push_table(text: &mut TextBuffer, table: &Table) -> Result<(), AllocError>
     requires keys { table.now.keys ≤ length table.now.columns }
     ensures { OnOk result (text.new ≡ text.old ++ table_text table.now) }
 {
-    push_title(text, table)?;
-    push_heading(text, table)?;
+    push_head(text, table)?;
     'rows: for at in 0..table.rows.len() {
         push_row(text, table.kind, &table.rows.get(at))?;
     }
     Ok(())
 }
 
-/// The text of a table, as `push_table` writes it.
+/// The text of a table, as `push_table` makes it.
 pub fn table_text(alloc: Global, table: &Table) -> Result<Text, AllocError>
     requires keys { table.now.keys ≤ length table.now.columns }
     ensures { IfOk result (λ text. text ≡ table_text table.now) }
 {
-    let mut text = Text::new(alloc);
+    let mut text = TextBuffer::new(alloc);
     push_table(&mut text, table)?;
-    Ok(text)
+    Text::from_slice(alloc, text.as_slice())
+}
+
+/// Writes the text of a table, as `push_table` makes it, after the bytes that wait in the buffer. Its last bytes wait there.
+/// After an `Err` the sink has some first bytes of what was to be written.
+pub fn write_table<O: Sink>(
+    text: &mut TextBuffer,
+    table: &Table,
+    out: &mut O,
+) -> Result<(), WriteError>
+    requires keys { table.now.keys ≤ length table.now.columns }
+    ensures ok { OnOk result (TakesAllBut (O.taken out.old) (O.taken out.new) text.new (text.old ++ table_text table.now)) }
+    ensures err { OnErr result (TakesFront (O.taken out.old) (O.taken out.new) (text.old ++ table_text table.now)) }
+    ensures failed { IsErrOf result WriteError.Failed → Rose (O.faults out.old) (O.faults out.new) }
+    ensures out_later { O.faults out.old ≤ O.faults out.new }
+{
+    push_head(text, table)?;
+    'rows: for at in 0..table.rows.len() {
+        push_row(text, table.kind, &table.rows.get(at))?;
+        text.write_when_full(out)?;
+    }
+    Ok(())
 }

@@ -1,7 +1,5 @@
 use Rattle.std.proofs.Common.{◌≡◌, ℕ, List, Some, lit<, sym, ◌∙◌, subst}
-use Rattle.std.specs.Io.KnownBytes.{Appends}
 use Rattle.epoch_model.specs.Epochs.{Geometry}
-use Rattle.marple_base.specs.Sink.{TakesFront}
 use Rattle.stage_plan.specs.Sound.{PlanParts}
 use Rattle.switch_core.specs.PlanLanes.{PipelineStands}
 use Rattle.trace_drive.specs.Drives.{coming, end_machines, fault_of, geometry_for, words_of}
@@ -11,9 +9,9 @@ use Rattle.trace_reader.specs.Faults.{IfRefused}
 use Rattle.query_run.specs.Answers.{BreaksOff, answer_for}
 use Rattle.query_run.specs.Reports.{MayPrint, Prints}
 use Rattle.query_run.specs.Views.{views_text}
-use Rattle.query_run.specs.declared.answer.RunAnswer.TheVariants.{Failed, Memory}
+use Rattle.query_run.specs.declared.answer.RunError.TheVariants.{Memory}
 use Rattle.query_run.proofs.Breaking.{err_is, out_of_memory}
-use Rattle.query_run.proofs.Viewing.{all_written, end_broke, rest_broke, tables_broke}
+use Rattle.query_run.proofs.Viewing.{all_written, end_broke, rest_broke}
 use Rattle.query_run.proofs.run.run_report.Goals as goal
 
 pub returns-in_err-fresh-clause-breaks_off : goal.returns-in_err-fresh-clause-breaks_off
@@ -53,8 +51,8 @@ returns-in_err-pipeline-clause-breaks_off g c =
     (c.in_ok-replay.ensures.written text (subst (λ plan. Prints (g.R.Report.entries c.args.report.now) plan (g.R.Report.printed c.args.report.now) text) (sym c.in_ok-fresh.ensures.plan) prints))
     answer (subst (λ fault. IfRefused answer (λ found. fault ≡ Some found)) c.in_ok-replay.ensures.fault c.in_err-pipeline.ensures.refused))
 
-pub end_text-requires : goal.end_text-requires
-end_text-requires g c =
+pub write_end-requires : goal.write_end-requires
+write_end-requires g c =
     let all = coming c.args.packets in
     let of = geometry_for g.row.WAYS c.args.schedule in
     let way = c.in_ok-replay.ensures.under_way in
@@ -74,52 +72,37 @@ end_text-requires g c =
       ),
     )
 
-pub returns-in_err-text-clause-breaks_off : goal.returns-in_err-text-clause-breaks_off
-returns-in_err-text-clause-breaks_off g c =
+pub returns-in_err-write_end-clause-breaks_off : goal.returns-in_err-write_end-clause-breaks_off
+returns-in_err-write_end-clause-breaks_off g c =
     let all = coming c.args.packets in
     let of = geometry_for g.row.WAYS c.args.schedule in
     let mid = c.write_views.new.out in
-    err_is (λ answer. (text : Geometry → List (List ℕ) → List ℕ) → Prints (g.R.Report.entries c.args.report.now) c.args.plan (g.R.Report.printed c.args.report.now) text
-    → BreaksOff g.O.Sink.taken g.O.Sink.faults (views_text (text of) c.args.every (words_of all)) (fault_of c.args.packets) c.args.out.now mid answer)
-    c.from_residual-in_err-text.result Memory c.from_residual-in_err-text.ensures.1
-    (λ text prints.
-    tables_broke (text of) c.args.every all g.O.Sink.taken g.O.Sink.faults (fault_of c.args.packets) c.args.out.now mid (sym c.in_ok-replay.ensures.fault ∙ c.in_ok-pipeline.ensures.accepted)
-    (c.in_ok-replay.ensures.written text (subst (λ plan. Prints (g.R.Report.entries c.args.report.now) plan (g.R.Report.printed c.args.report.now) text) (sym c.in_ok-fresh.ensures.plan) prints)))
-
-pub returns-in_err-write_all-clause-breaks_off : goal.returns-in_err-write_all-clause-breaks_off
-returns-in_err-write_all-clause-breaks_off g c =
-    let all = coming c.args.packets in
-    let of = geometry_for g.row.WAYS c.args.schedule in
-    let mid = c.write_views.new.out in
-    let new = c.write_all.new.out in
+    let new = c.write_end.new.out in
+    let answer = c.in_err-write_end.field-0.0 in
     let way = c.in_ok-replay.ensures.under_way in
     let stands = c.in_ok-pipeline.ensures.machines c.args.schedule all way.0 way.1 in
     let plan = c.in_ok-pipeline.ensures.keeps.plan ∙ (c.in_ok-replay.ensures.keeps.plan ∙ c.in_ok-fresh.ensures.plan) in
     err_is (λ answer. (text : Geometry → List (List ℕ) → List ℕ) → Prints (g.R.Report.entries c.args.report.now) c.args.plan (g.R.Report.printed c.args.report.now) text
     → BreaksOff g.O.Sink.taken g.O.Sink.faults (views_text (text of) c.args.every (words_of all)) (fault_of c.args.packets) c.args.out.now new answer)
-    c.from_residual-in_err-write_all.result Failed c.from_residual-in_err-write_all.ensures.1
+    c.from_residual-in_err-write_end.result answer c.from_residual-in_err-write_end.ensures.1
     (λ text prints.
     let Printed = λ (plan : PlanParts). Prints (g.R.Report.entries c.args.report.now) plan (g.R.Report.printed c.args.report.now) text in
-    let shown = c.as_slice.ensures ∙ c.in_ok-text.ensures.text text of (words_of all) (subst Printed (sym plan) prints) (c.requires.buckets, c.requires.ways) c.requires.whole stands in
     end_broke (text of) c.args.every all g.O.Sink.taken g.O.Sink.faults (fault_of c.args.packets) c.args.out.now mid new
     (sym c.in_ok-replay.ensures.fault ∙ c.in_ok-pipeline.ensures.accepted) (c.in_ok-replay.ensures.written text (subst Printed (sym c.in_ok-fresh.ensures.plan) prints))
-    c.in_ok-replay.ensures.out_later c.in_err-write_all.ensures.cause.failed
-    (subst (TakesFront (g.O.Sink.taken mid) (g.O.Sink.taken new)) shown c.in_err-write_all.ensures.front))
+    c.in_ok-replay.ensures.out_later answer
+    (c.in_err-write_end.ensures.breaks_off text of (words_of all) (subst Printed (sym plan) prints) (c.requires.buckets, c.requires.ways) c.requires.whole stands))
 
 pub returns-clause-written : goal.returns-clause-written
 returns-clause-written g c text prints =
     let all = coming c.args.packets in
     let of = geometry_for g.row.WAYS c.args.schedule in
-    let mid = c.write_views.new.out in
-    let new = c.write_all.new.out in
     let way = c.in_ok-replay.ensures.under_way in
     let stands = c.in_ok-pipeline.ensures.machines c.args.schedule all way.0 way.1 in
     let plan = c.in_ok-pipeline.ensures.keeps.plan ∙ (c.in_ok-replay.ensures.keeps.plan ∙ c.in_ok-fresh.ensures.plan) in
     let Printed = λ (plan : PlanParts). Prints (g.R.Report.entries c.args.report.now) plan (g.R.Report.printed c.args.report.now) text in
-    let shown = c.as_slice.ensures ∙ c.in_ok-text.ensures.text text of (words_of all) (subst Printed (sym plan) prints) (c.requires.buckets, c.requires.ways) c.requires.whole stands in
-    all_written (text of) c.args.every all (g.O.Sink.taken c.args.out.now) (g.O.Sink.taken mid) (g.O.Sink.taken new)
+    all_written (text of) c.args.every all (g.O.Sink.taken c.args.out.now) (g.O.Sink.taken c.write_views.new.out) (g.O.Sink.taken c.write_end.new.out)
     (c.in_ok-replay.ensures.written text (subst Printed (sym c.in_ok-fresh.ensures.plan) prints))
-    (subst (Appends (g.O.Sink.taken mid) (g.O.Sink.taken new)) shown c.in_ok-write_all.ensures.ok)
+    (c.in_ok-write_end.ensures.written text of (words_of all) (subst Printed (sym plan) prints) (c.requires.buckets, c.requires.ways) c.requires.whole stands)
 
 pub returns-clause-machines : goal.returns-clause-machines
 returns-clause-machines g c =

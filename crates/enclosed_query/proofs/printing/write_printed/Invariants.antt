@@ -1,0 +1,15 @@
+use Rattle.std.proofs.Common.{◌≤◌, ◌++◌, drop}
+use Rattle.std.specs.List.{flat_map}
+use Rattle.query_lang.specs.TypedFinals.{table_number}
+use Rattle.enclosed_query.specs.Parts.{text_at}
+use Rattle.text_buffer.specs.Pieces.{TakesAllBut}
+use Rattle.enclosed_query.proofs.printing.write_printed.Given as goal
+
+-- what waits, and then the texts of the prints that are left, is all that isn't written
+abbrev pub invariant-loop-one : goal.invariant-loop-one
+invariant-loop-one g l = record {
+  written : TakesAllBut (g.O.Sink.taken l.fn.out) (g.O.Sink.taken l.out)
+      (l.text ++ flat_map (λ one. text_at l.bounds l.tables (table_number l.groups one)) (drop l.one-index l.prints))
+      (l.fn.text ++ flat_map (λ one. text_at l.bounds l.tables (table_number l.groups one)) l.prints);
+  out_later : g.O.Sink.faults l.fn.out ≤ g.O.Sink.faults l.out;
+}
