@@ -1,11 +1,12 @@
 //! The statements of a fold.
 
-ghost use Rattle.std.specs.Prelude.{◌≡◌, ◌≤◌, ◌∷◌, ◌++◌, [], Ok, Some, IfOk, length, map};
+ghost use Rattle.std.specs.Prelude.{◌≡◌, ◌<◌, ◌≤◌, ◌^◌, ◌∷◌, ◌++◌, [], Ok, Some, IfOk, OnOk, length, map};
 ghost use Rattle.query_lang.specs.TypedExprs.{condition_of, word_of};
 ghost use Rattle.query_lang.specs.TypedFolds.{target_of, state_in, joined, inside, in_order, emit_condition, emitted, stmt_checked};
 ghost use Rattle.query_lang.specs.TypedFolds.{body_checked};
 ghost use Rattle.query_types.specs.Answers.{Answers, Leaves};
 ghost use Rattle.query_types.specs.Bodies.{IsScope, choice_of, assigned};
+ghost use Rattle.query_types.specs.Numbers.{greatest_of, greatest_number, greatest_in};
 
 use crate::answer::{CheckAnswer, fault, refused};
 use crate::copies::{copy_expr, names_of_both};
@@ -77,7 +78,8 @@ fn find_state(states: &[u32], e: &Expr) -> Option<Span>
 // An expression over a fold's columns that has to be a word.
 fn fold_word(alloc: Global, scope: Scope<'_>, e: &Expr) -> Result<TypedExpr, CheckAnswer>
     requires { IsScope scope }
-    ensures { Answers result (word_of (scope.entry.states.now ++ scope.entry.args.now) [] e.now) }
+    ensures given { Answers result (word_of (scope.entry.states.now ++ scope.entry.args.now) [] e.now) }
+    ensures numbers { IfOk result (λ _. greatest_number e.now < 2 ^ 64) }
 {
     check_word(alloc, scope.columns, &[], e)
 }
@@ -85,7 +87,8 @@ fn fold_word(alloc: Global, scope: Scope<'_>, e: &Expr) -> Result<TypedExpr, Che
 // An expression over a fold's columns that has to be a condition.
 fn fold_condition(alloc: Global, scope: Scope<'_>, e: &Expr) -> Result<TypedExpr, CheckAnswer>
     requires { IsScope scope }
-    ensures { Answers result (condition_of (scope.entry.states.now ++ scope.entry.args.now) [] e.now) }
+    ensures given { Answers result (condition_of (scope.entry.states.now ++ scope.entry.args.now) [] e.now) }
+    ensures numbers { IfOk result (λ _. greatest_number e.now < 2 ^ 64) }
 {
     check_condition(alloc, scope.columns, &[], e)
 }
@@ -166,7 +169,8 @@ fn open_choice(
     written: &Expr,
 ) -> Result<Boxed<Choice>, CheckAnswer>
     requires { IsScope scope }
-    ensures { Answers result (choice_of scope.entry.states.now scope.entry.args.now outer.now written.now) }
+    ensures given { Answers result (choice_of scope.entry.states.now scope.entry.args.now outer.now written.now) }
+    ensures numbers { IfOk result (λ _. greatest_number written.now < 2 ^ 64) }
 {
     let condition = fold_condition(alloc, scope, written)?;
     let copy = copy_expr(alloc, &condition)?;
@@ -243,7 +247,8 @@ fn add_assignment(
     e: &Expr,
 ) -> Result<(), CheckAnswer>
     requires { IsScope scope }
-    ensures { Leaves result found.new (assigned scope.entry.states.now scope.entry.args.now name e.now found.old) }
+    ensures given { Leaves result found.new (assigned scope.entry.states.now scope.entry.args.now name e.now found.old) }
+    ensures numbers { OnOk result (greatest_number e.now < 2 ^ 64) }
 {
     let v = find_target(scope, name)?;
     let value = fold_word(alloc, scope, e)?;
@@ -260,7 +265,8 @@ pub fn check_stmt(
     s: &Stmt,
 ) -> Result<(), CheckAnswer>
     requires { IsScope scope }
-    ensures { Leaves result found.new (stmt_checked scope.entry.states.now scope.entry.args.now s.now outer.now found.old) }
+    ensures given { Leaves result found.new (stmt_checked scope.entry.states.now scope.entry.args.now s.now outer.now found.old) }
+    ensures numbers { OnOk result (greatest_in s.now < 2 ^ 64) }
 {
     match s {
         Stmt::Assign(name, e) => {
@@ -296,8 +302,9 @@ fn check_all(
     body: &[Stmt],
 ) -> Result<(), CheckAnswer>
     requires { IsScope scope }
-    ensures { Leaves result found.new
+    ensures given { Leaves result found.new
         (in_order (map (stmt_checked scope.entry.states.now scope.entry.args.now) body.now) outer.now found.old) }
+    ensures numbers { OnOk result (greatest_of (map greatest_in body.now) < 2 ^ 64) }
 {
     for one in body {
         check_stmt(alloc, scope, outer, found, one)?;
@@ -308,7 +315,8 @@ fn check_all(
 // The statements of a fold in its scope, with no condition around them.
 fn check_within(alloc: Global, scope: Scope<'_>, body: &[Stmt]) -> Result<Body, CheckAnswer>
     requires { IsScope scope }
-    ensures { Answers result (body_checked scope.entry.states.now scope.entry.args.now body.now) }
+    ensures given { Answers result (body_checked scope.entry.states.now scope.entry.args.now body.now) }
+    ensures numbers { IfOk result (λ _. greatest_of (map greatest_in body.now) < 2 ^ 64) }
 {
     let outer = Enclosing {
         condition: None,
@@ -332,7 +340,8 @@ pub fn check_body(
 ) -> Result<Body, CheckAnswer>
     requires states { length states.now ≤ 8 }
     requires args { length args.now ≤ 16 }
-    ensures { Answers result (body_checked states.now args.now body.now) }
+    ensures given { Answers result (body_checked states.now args.now body.now) }
+    ensures numbers { IfOk result (λ _. greatest_of (map greatest_in body.now) < 2 ^ 64) }
 {
     let columns = names_of_both(alloc, states, args)?;
     let scope = Scope {

@@ -1,6 +1,6 @@
 //! Columns: those that a `map` adds, those of a `zip`, keys, and the arguments of a fold.
 
-ghost use Rattle.std.specs.Prelude.{◌≡◌, ◌≤◌, ◌++◌, [], Ok, IfOk, OnOk, length, map, flat_map, slice_get};
+ghost use Rattle.std.specs.Prelude.{◌≡◌, ◌<◌, ◌≤◌, ◌^◌, ◌++◌, [], Ok, IfOk, OnOk, length, map, flat_map, slice_get};
 ghost use Rattle.std.specs.List.{list_any};
 ghost use Rattle.query_lang.specs.Checks.{collected, is_among};
 ghost use Rattle.query_lang.specs.TypedExprs.{slot_of};
@@ -8,6 +8,7 @@ ghost use Rattle.query_lang.specs.TypedStreams.{new_columns, no_new_columns, sam
 ghost use Rattle.query_lang.specs.TypedStreams.{columns_at, key_names, keys_from, keys_checked, arguments_of};
 ghost use Rattle.query_types.specs.Answers.{Answers};
 ghost use Rattle.query_types.specs.Fitting.{IsNarrow};
+ghost use Rattle.query_types.specs.Numbers.{columns_number};
 
 use crate::answer::{CheckAnswer, refused};
 use crate::exprs::{check_word, find_slot, has_name};
@@ -24,7 +25,8 @@ pub fn check_columns(
     new: &[Column],
 ) -> Result<NewColumns, CheckAnswer>
     requires { IsNarrow columns.now }
-    ensures { Answers result (new_columns columns.now hidden.now no_new_columns new.now) }
+    ensures given { Answers result (new_columns columns.now hidden.now no_new_columns new.now) }
+    ensures numbers { IfOk result (λ _. columns_number new.now < 2 ^ 64) }
 {
     let mut made = NewColumns {
         names: Seq::new(alloc),

@@ -1,11 +1,12 @@
 //! Expressions over columns.
 
-ghost use Rattle.std.specs.Prelude.{◌≡◌, ◌<◌, ◌∷◌, [], Ok, IfSome, length};
+ghost use Rattle.std.specs.Prelude.{◌≡◌, ◌<◌, ◌^◌, ◌∷◌, [], Ok, IfOk, IfSome, length};
 ghost use Rattle.query_lang.specs.Checks.{is_among, place_of};
 ghost use Rattle.query_lang.specs.TypedExprs.{slot_of, is_condition_sort, is_operand, is_right_constant, sort_of, of_two, call_of};
 ghost use Rattle.query_lang.specs.TypedExprs.{negated, expr_checked, condition_of, word_of};
 ghost use Rattle.query_types.specs.Answers.{Answers};
 ghost use Rattle.query_types.specs.Fitting.{IsNarrow};
+ghost use Rattle.query_types.specs.Numbers.{greatest_number};
 
 use crate::answer::{CheckAnswer, fault, refused};
 use marple_base::{Boxed, Seq};
@@ -168,7 +169,8 @@ pub fn check_expr(
     e: &Expr,
 ) -> Result<Found, CheckAnswer>
     requires { IsNarrow columns.now }
-    ensures { Answers result (expr_checked columns.now hidden.now e.now) }
+    ensures given { Answers result (expr_checked columns.now hidden.now e.now) }
+    ensures numbers { IfOk result (λ _. greatest_number e.now < 2 ^ 64) }
 {
     match e {
         Expr::Number(n, span) => Ok(Found {
@@ -216,7 +218,8 @@ pub fn check_condition(
     e: &Expr,
 ) -> Result<TypedExpr, CheckAnswer>
     requires { IsNarrow columns.now }
-    ensures { Answers result (condition_of columns.now hidden.now e.now) }
+    ensures given { Answers result (condition_of columns.now hidden.now e.now) }
+    ensures numbers { IfOk result (λ _. greatest_number e.now < 2 ^ 64) }
 {
     let found = check_expr(alloc, columns, hidden, e)?;
     if !is_condition(found.sort) {
@@ -233,7 +236,8 @@ pub fn check_word(
     e: &Expr,
 ) -> Result<TypedExpr, CheckAnswer>
     requires { IsNarrow columns.now }
-    ensures { Answers result (word_of columns.now hidden.now e.now) }
+    ensures given { Answers result (word_of columns.now hidden.now e.now) }
+    ensures numbers { IfOk result (λ _. greatest_number e.now < 2 ^ 64) }
 {
     let found = check_expr(alloc, columns, hidden, e)?;
     if is_condition(found.sort) {

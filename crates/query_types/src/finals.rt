@@ -1,6 +1,6 @@
 //! Finals.
 
-ghost use Rattle.std.specs.Prelude.{◌≡◌, ◌+◌, ◌<◌, ◌≤◌, ◌++◌, [], IfOk, OnOk, length};
+ghost use Rattle.std.specs.Prelude.{◌≡◌, ◌+◌, ◌<◌, ◌≤◌, ◌^◌, ◌++◌, [], IfOk, OnOk, length};
 ghost use Rattle.query_lang.specs.TypedExprs.{condition_of, slot_of};
 ghost use Rattle.query_lang.specs.TypedStreams.{new_columns, no_new_columns, keys_checked, arguments_of};
 ghost use Rattle.query_lang.specs.TypedFinals.{table_number, five_fields, final_filter, final_map, final_group, final_join, final_top};
@@ -8,6 +8,7 @@ ghost use Rattle.query_lang.specs.TypedFinals.{made_final, with_final, final_che
 ghost use Rattle.query_types.specs.Answers.{Answers, Leaves};
 ghost use Rattle.query_types.specs.Fitting.{Fits, IsEarly, IsNarrow};
 ghost use Rattle.query_types.specs.MadeFinals.{with_values, with_table_keys, with_others, with_kept};
+ghost use Rattle.query_types.specs.Numbers.{greatest_number, columns_number, final_number};
 
 use crate::answer::{CheckAnswer, refused};
 use crate::columns::{check_arguments, check_columns, check_keys};
@@ -61,7 +62,8 @@ fn check_filter(
 ) -> Result<MadeFinal, CheckAnswer>
     requires fits { Fits earlier.now }
     requires groups { groups ≤ 8 }
-    ensures { Answers result (final_filter groups earlier.now input e.now) }
+    ensures given { Answers result (final_filter groups earlier.now input e.now) }
+    ensures numbers { IfOk result (λ _. greatest_number e.now < 2 ^ 64) }
 {
     let source = find_table(earlier, input)?;
     let condition = table_condition(alloc, source, e)?;
@@ -71,7 +73,8 @@ fn check_filter(
 // The condition of a filter over a table.
 fn table_condition(alloc: Global, source: &TableView, e: &Expr) -> Result<TypedExpr, CheckAnswer>
     requires { IsNarrow source.now.columns }
-    ensures { Answers result (condition_of source.now.columns [] e.now) }
+    ensures given { Answers result (condition_of source.now.columns [] e.now) }
+    ensures numbers { IfOk result (λ _. greatest_number e.now < 2 ^ 64) }
 {
     check_condition(alloc, source.columns.as_slice(), &[], e)
 }
@@ -83,7 +86,8 @@ fn table_columns(
     columns: &[Column],
 ) -> Result<NewColumns, CheckAnswer>
     requires { IsNarrow source.now.columns }
-    ensures { Answers result (new_columns source.now.columns [] no_new_columns columns.now) }
+    ensures given { Answers result (new_columns source.now.columns [] no_new_columns columns.now) }
+    ensures numbers { IfOk result (λ _. columns_number columns.now < 2 ^ 64) }
 {
     check_columns(alloc, source.columns.as_slice(), &[], columns)
 }
@@ -118,7 +122,8 @@ fn check_map(
 ) -> Result<MadeFinal, CheckAnswer>
     requires fits { Fits earlier.now }
     requires groups { groups ≤ 8 }
-    ensures { Answers result (final_map groups earlier.now input columns.now) }
+    ensures given { Answers result (final_map groups earlier.now input columns.now) }
+    ensures numbers { IfOk result (λ _. columns_number columns.now < 2 ^ 64) }
 {
     let source = find_table(earlier, input)?;
     let new = table_columns(alloc, source, columns)?;
@@ -323,7 +328,8 @@ fn check_operator(
 ) -> Result<MadeFinal, CheckAnswer>
     requires fits { Fits earlier.now }
     requires groups { given.now.groups ≤ 8 }
-    ensures { Answers result (made_final given.now earlier.now op.now) }
+    ensures given { Answers result (made_final given.now earlier.now op.now) }
+    ensures numbers { IfOk result (λ _. final_number op.now < 2 ^ 64) }
 {
     let groups = given.groups;
     match op {
@@ -379,7 +385,8 @@ pub fn check_final(
 ) -> Result<(), CheckAnswer>
     requires fits { Fits earlier.old }
     requires groups { given.now.groups ≤ 8 }
-    ensures { Leaves result earlier.new (final_checked given.now earlier.old d.now) }
+    ensures given { Leaves result earlier.new (final_checked given.now earlier.old d.now) }
+    ensures numbers { OnOk result (final_number d.now.op < 2 ^ 64) }
 {
     check_binding(earlier, d.name)?;
     let made = check_operator(alloc, given, earlier, &d.op)?;

@@ -11,7 +11,6 @@ ghost use Rattle.query_types.specs.Bodies.{with_parts};
 use crate::answer::{CheckAnswer, refused};
 use crate::bodies::check_body;
 use crate::exprs::has_name;
-use crate::numbers::greatest_in_body;
 use marple_base::Seq;
 use query_lang::typing::Body;
 use query_lang::{Expr, FaultKind, FoldDef, Limit, Name, StateVar, Stmt, TypedFold};
@@ -170,7 +169,8 @@ fn fold_body(
 ) -> Result<Body, CheckAnswer>
     requires states { length states.now ≤ 8 }
     requires args { length args.now ≤ 16 }
-    ensures { Answers result (body_checked states.now args.now d.now.body) }
+    ensures given { Answers result (body_checked states.now args.now d.now.body) }
+    ensures numbers { IfOk result (λ _. greatest_of (map greatest_in d.now.body) < 2 ^ 64) }
 {
     check_body(alloc, states.as_slice(), args.as_slice(), d.body.as_slice())
 }
@@ -210,20 +210,14 @@ fn fold_of(
 fn check_parts(alloc: Global, d: &FoldDef) -> Result<TypedFold, CheckAnswer>
     requires nodes { fold_nodes d.now ≤ 512 }
     requires statements { fold_statements d.now ≤ 64 }
-    ensures { Answers result (fold_checked d.now) }
+    ensures given { Answers result (fold_checked d.now) }
+    ensures numbers { IfOk result (λ _. greatest_of (map greatest_in d.now.body) < 2 ^ 64) }
 {
     let states = check_states(alloc, d.states.as_slice())?;
     let args = fold_args(alloc, &states, d)?;
     let body = fold_body(alloc, &states, &args, d)?;
     let whole = fold_of(alloc, d, states, args, body)?;
     Ok(whole)
-}
-
-// The numbers in a fold are words.
-fn know_numbers(d: &FoldDef)
-    ensures { greatest_of (map greatest_in d.now.body) < 2 ^ 64 }
-{
-    let _greatest = greatest_in_body(d.body.as_slice());
 }
 
 /// A fold: its state variables, its arguments, and then its body. A fold of a text that was read has at most 512 nodes and
@@ -233,8 +227,8 @@ pub fn check_fold(alloc: Global, d: &FoldDef) -> Result<TypedFold, CheckAnswer>
     requires statements { fold_statements d.now ≤ 64 }
     ensures given { Answers result (fold_checked d.now) }
     ensures valid { IfOk result IsValidFold }
+    ensures numbers { IfOk result (λ _. greatest_of (map greatest_in d.now.body) < 2 ^ 64) }
 {
-    know_numbers(d);
     match check_parts(alloc, d) {
         Ok(f) => Ok(f),
         Err(answer) => Err(answer),

@@ -1,11 +1,12 @@
 //! The items of a query in order.
 
-ghost use Rattle.std.specs.Prelude.{◌≡◌, ◌<◌, ◌≤◌, IfOk, OnOk, length, is_some, All};
+ghost use Rattle.std.specs.Prelude.{◌≡◌, ◌<◌, ◌≤◌, ◌^◌, IfOk, OnOk, length, map, is_some, All};
 ghost use Rattle.query_lang.specs.Limits.{KeepsLimits, IsNumbered};
 ghost use Rattle.query_lang.specs.TypedFolds.{fold_nodes, fold_statements};
 ghost use Rattle.query_lang.specs.Typing.{with_fold, fold_added, print_checked, item_checked, items_checked};
 ghost use Rattle.query_types.specs.Answers.{Leaves};
 ghost use Rattle.query_types.specs.Fitting.{Fits};
+ghost use Rattle.query_types.specs.Numbers.{greatest_of, greatest_in, item_number};
 
 use crate::answer::{CheckAnswer, refused};
 use crate::copies::copy_words;
@@ -58,7 +59,8 @@ fn check_fold_item(alloc: Global, earlier: &mut Earlier, d: &FoldDef) -> Result<
     requires fits { Fits earlier.old }
     requires nodes { fold_nodes d.now ≤ 512 }
     requires statements { fold_statements d.now ≤ 64 }
-    ensures { Leaves result earlier.new (fold_added earlier.old d.now) }
+    ensures given { Leaves result earlier.new (fold_added earlier.old d.now) }
+    ensures numbers { OnOk result (greatest_of (map greatest_in d.now.body) < 2 ^ 64) }
 {
     if is_taken(earlier, d.name.id) {
         return Err(refused(FaultKind::NameTaken, d.name.span));
@@ -91,7 +93,8 @@ fn check_item(
     requires limits { KeepsLimits item.now }
     requires groups { given.now.groups ≤ 8 }
     requires fits { Fits earlier.old }
-    ensures { Leaves result earlier.new (item_checked given.now earlier.old item.now) }
+    ensures given { Leaves result earlier.new (item_checked given.now earlier.old item.now) }
+    ensures numbers { OnOk result (item_number item.now < 2 ^ 64) }
 {
     match item {
         Item::Fold(d) => check_fold_item(alloc, earlier, d),
@@ -117,6 +120,7 @@ fn check_next(
     requires fits { Fits earlier.old }
     ensures given { Leaves result earlier.new (item_checked given.now earlier.old item.now) }
     ensures fits { OnOk result (Fits earlier.new) }
+    ensures numbers { OnOk result (item_number item.now < 2 ^ 64) }
 {
     check_item(alloc, given, earlier, item)?;
     Ok(())
@@ -133,7 +137,8 @@ pub fn check_items(
     requires names { All (IsNumbered 65536) items.now }
     requires groups { given.now.groups ≤ 8 }
     requires fits { Fits earlier.old }
-    ensures { Leaves result earlier.new (items_checked given.now earlier.old items.now) }
+    ensures given { Leaves result earlier.new (items_checked given.now earlier.old items.now) }
+    ensures numbers { OnOk result (greatest_of (map item_number items.now) < 2 ^ 64) }
 {
     for item in items {
         check_next(alloc, given, earlier, item)?;

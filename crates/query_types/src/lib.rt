@@ -12,7 +12,6 @@ mod folds;
 mod items;
 pub mod laws;
 mod names;
-mod numbers;
 mod streams;
 mod tables;
 mod typing;

@@ -1,6 +1,6 @@
 //! Streams.
 
-ghost use Rattle.std.specs.Prelude.{◌≡◌, ◌+◌, ◌<◌, ◌≤◌, ◌++◌, Ok, None, IfOk, OnOk, length, map, is_some};
+ghost use Rattle.std.specs.Prelude.{◌≡◌, ◌+◌, ◌<◌, ◌≤◌, ◌^◌, ◌++◌, Ok, None, IfOk, OnOk, length, map, is_some};
 ghost use Rattle.std.specs.Prelude.{if◌then◌else◌};
 ghost use Rattle.query_lang.specs.TypedExprs.{condition_of};
 ghost use Rattle.query_lang.specs.TypedStreams.{column_names, new_columns, no_new_columns, others_from, keys_checked, arguments_of};
@@ -8,6 +8,7 @@ ghost use Rattle.query_lang.specs.TypedStreams.{filtered, next_stream, mapped, z
 ghost use Rattle.query_types.specs.Answers.{Answers, Leaves};
 ghost use Rattle.query_types.specs.Fitting.{Fits, IsNarrow};
 ghost use Rattle.query_types.specs.MadeStreams.{with_columns, with_slots, with_keys};
+ghost use Rattle.query_types.specs.Numbers.{greatest_number, columns_number, stream_number};
 
 use crate::answer::{CheckAnswer, refused};
 use crate::columns::{
@@ -49,7 +50,8 @@ fn columns_of_both(
 // The condition of a filter over a stream.
 fn stream_condition(alloc: Global, source: &StreamView, e: &Expr) -> Result<TypedExpr, CheckAnswer>
     requires { IsNarrow (column_names source.now.columns) }
-    ensures { Answers result (condition_of (column_names source.now.columns) source.now.hidden e.now) }
+    ensures given { Answers result (condition_of (column_names source.now.columns) source.now.hidden e.now) }
+    ensures numbers { IfOk result (λ _. greatest_number e.now < 2 ^ 64) }
 {
     let names = names_of(alloc, source.columns.as_slice())?;
     check_condition(alloc, names.as_slice(), source.hidden.as_slice(), e)
@@ -86,7 +88,8 @@ fn check_filter(
     e: &Expr,
 ) -> Result<MadeStream, CheckAnswer>
     requires { Fits earlier.now }
-    ensures { Answers result (filtered earlier.now input e.now) }
+    ensures given { Answers result (filtered earlier.now input e.now) }
+    ensures numbers { IfOk result (λ _. greatest_number e.now < 2 ^ 64) }
 {
     let source = find_stream(earlier, input)?;
     let condition = stream_condition(alloc, source, e)?;
@@ -100,7 +103,8 @@ fn stream_columns(
     columns: &[Column],
 ) -> Result<NewColumns, CheckAnswer>
     requires { IsNarrow (column_names source.now.columns) }
-    ensures { Answers result (new_columns (column_names source.now.columns) source.now.hidden no_new_columns columns.now) }
+    ensures given { Answers result (new_columns (column_names source.now.columns) source.now.hidden no_new_columns columns.now) }
+    ensures numbers { IfOk result (λ _. columns_number columns.now < 2 ^ 64) }
 {
     let names = names_of(alloc, source.columns.as_slice())?;
     check_columns(alloc, names.as_slice(), source.hidden.as_slice(), columns)
@@ -161,7 +165,8 @@ fn check_map(
 ) -> Result<MadeStream, CheckAnswer>
     requires fits { Fits earlier.now }
     requires room { length earlier.now.streams + length earlier.now.finals < 32 }
-    ensures { Answers result (mapped earlier.now input columns.now) }
+    ensures given { Answers result (mapped earlier.now input columns.now) }
+    ensures numbers { IfOk result (λ _. columns_number columns.now < 2 ^ 64) }
 {
     let source = find_stream(earlier, input)?;
     let new = stream_columns(alloc, source, columns)?;
@@ -347,7 +352,8 @@ fn check_operator(
 ) -> Result<MadeStream, CheckAnswer>
     requires fits { Fits earlier.now }
     requires room { length earlier.now.streams + length earlier.now.finals < 32 }
-    ensures { Answers result (made_stream five.now earlier.now name op.now) }
+    ensures given { Answers result (made_stream five.now earlier.now name op.now) }
+    ensures numbers { IfOk result (λ _. stream_number op.now < 2 ^ 64) }
 {
     match op {
         StreamOp::Filter(input, e) => check_filter(alloc, earlier, *input, e),
@@ -411,7 +417,8 @@ pub fn check_stream(
     d: &StreamDef,
 ) -> Result<(), CheckAnswer>
     requires { Fits earlier.old }
-    ensures { Leaves result earlier.new (stream_checked five.now earlier.old d.now) }
+    ensures given { Leaves result earlier.new (stream_checked five.now earlier.old d.now) }
+    ensures numbers { OnOk result (stream_number d.now.op < 2 ^ 64) }
 {
     check_binding(earlier, d.name)?;
     let made = check_operator(alloc, five, earlier, d.name, &d.op)?;

@@ -12,7 +12,6 @@ ghost use Rattle.query_types.specs.Fitting.{Fits, AreReady};
 use crate::answer::{CheckAnswer, fault};
 use crate::items::check_items;
 use crate::names::{add_fields, number_fields};
-use crate::numbers::greatest_in_items;
 use marple_base::{Field, Seq};
 use query_lang::typing::{Earlier, Given, Known, Meaning, Origin, StreamColumn, StreamView};
 use query_lang::{FaultKind, Item, Names, Query, QueryFault, Span, StreamOp, TypedQuery};
@@ -142,7 +141,8 @@ fn check_from(
     requires names { All (IsNumbered 65536) items.now }
     requires groups { given.now.groups ≤ 8 }
     requires fits { Fits start }
-    ensures { Answers result (items_checked given.now start items.now) }
+    ensures given { Answers result (items_checked given.now start items.now) }
+    ensures numbers { IfOk result (λ _. greatest_of (map item_number items.now) < 2 ^ 64) }
 {
     let mut earlier = start;
     check_items(alloc, given, &mut earlier, items.as_slice())?;
@@ -153,7 +153,8 @@ fn check_from(
 #[tactic(auto, using(crate::proofs::StartLaws::given_few, crate::proofs::StartLaws::start_is))]
 fn check_all(alloc: Global, names: &Names, items: &Seq<Item>) -> Result<Earlier, CheckAnswer>
     requires { AreReady names.now items.now }
-    ensures { Answers result (items_checked (given_of names.now items.now) (start_of names.now) items.now) }
+    ensures given { Answers result (items_checked (given_of names.now items.now) (start_of names.now) items.now) }
+    ensures numbers { IfOk result (λ _. greatest_of (map item_number items.now) < 2 ^ 64) }
 {
     let given = given_from(alloc, names, items)?;
     let start = start_from(alloc, names, &given)?;
@@ -178,23 +179,18 @@ fn check_with(
     end: Span,
 ) -> Result<TypedQuery, CheckAnswer>
     requires { AreReady names items.now }
-    ensures { Answers result (checked_with names items.now end) }
+    ensures given { Answers result (checked_with names items.now end) }
+    ensures numbers { IfOk result (λ _. greatest_of (map item_number items.now) < 2 ^ 64) }
 {
     let earlier = check_all(alloc, &names, items)?;
     Ok(end_with(names, end, earlier)?)
 }
 
-// The numbers in a query are words.
-fn know_numbers(q: &Query)
-    ensures { greatest_of (map item_number q.now.items) < 2 ^ 64 }
-{
-    let _greatest = greatest_in_items(q.items.as_slice());
-}
-
 // The typed query, or the first fault.
 fn check_query(alloc: Global, q: Query) -> Result<TypedQuery, CheckAnswer>
     requires { IsReadable q }
-    ensures { Answers result (checked q) }
+    ensures given { Answers result (checked q) }
+    ensures numbers { IfOk result (λ _. greatest_of (map item_number q.items) < 2 ^ 64) }
 {
     let Query { names, items, end } = q;
     let all = names_with_fields(names)?;
@@ -211,7 +207,6 @@ pub fn check(alloc: Global, q: Query) -> Result<TypedQuery, CheckAnswer>
     ensures valid { IfOk result IsValidQuery }
     ensures names { IfOk result (λ typed. typed.names ≡ typed_names q.names) }
 {
-    know_numbers(&q);
     match check_query(alloc, q) {
         Ok(typed) => Ok(typed),
         Err(answer) => Err(answer),
