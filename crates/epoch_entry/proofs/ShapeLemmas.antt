@@ -1,5 +1,7 @@
 -- The parts of a fold's program fit together.
 use Rattle.std.proofs.Common.{◌≡◌, ◌≢◌, ℕ, zero, suc, ◌<◌, ◌≤◌, Bool, true, false, not, nat_lt, if◌then◌else◌, List, [], ◌∷◌, ◌++◌, length, slice_index, All, refl, sym, ap, ◌∙◌, subst, arith, length-append}
+use Rattle.std.proofs.Math.Logic.{∥∥₁_elim}
+use Rattle.std.proofs.Props.{props}
 use Rattle.std.proofs.lemmas.Bool.Decides.{nat_tests}
 use Rattle.std.proofs.lemmas.List.{get_or_append_left, get_or_push}
 use Rattle.query_lang.specs.declared.fold.TypedFold.{TypedFold}
@@ -7,7 +9,7 @@ use Rattle.query_lang.specs.Folds.{fold_states}
 use Rattle.fold_class.specs.declared.program.FoldProgram.{FoldProgram}
 use Rattle.fold_class.specs.Depth.{is_history}
 use Rattle.fold_class.specs.Step.{places, history_places}
-use Rattle.fold_class.specs.Program.{IsProgramOf}
+use Rattle.fold_class.specs.Program.{IsProgram, IsProgramOf}
 use Rattle.fold_class.proofs.DepthLemmas.{history_rounds}
 use Rattle.fold_class.proofs.PlaceLemmas.{placed, both_sorts}
 use Rattle.epoch_entry.specs.Shape.{IsShaped, IsAscending}
@@ -70,3 +72,6 @@ shape_of f p h =
       history_ascends = subst IsAscending (sym h.layout.history) (places_ascend (is_history f) (fold_states f));
       apart = subst (λ l. AreApart l p.layout.linear) (sym h.layout.history) (subst (λ l. AreApart (history_places f) l) (sym h.layout.linear) (sorts_apart (is_history f) (fold_states f)));
     }
+
+pub program_shaped : (p : FoldProgram) → IsProgram p → IsShaped p
+program_shaped p is = ∥∥₁_elim is (hlevel props) (λ h. shape_of h.0 p h.1)

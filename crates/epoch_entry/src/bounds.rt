@@ -2,9 +2,9 @@
 
 ghost use Rattle.std.specs.Prelude.{◌≡◌, ℕ, ◌+◌, ◌*◌, ◌<◌, ◌≤◌, length};
 ghost use Rattle.fold_class.specs.Program.{IsProgram, IsProgramOf};
+ghost use Rattle.epoch_entry.specs.Shape.{IsShaped};
 
 use crate::kind::EpochKind;
-use crate::known::shape_known;
 use crate::triple::{run_three, start_three, write_three};
 use fold_class::FoldProgram;
 use marple_base::{Steps, copy_words};
@@ -16,6 +16,7 @@ use std::sync::ledger::Ledger;
 pub struct BoundsEpochs {
     program: FoldProgram,
     ghost sound: { IsProgram program },
+    ghost shape: { IsShaped program },
 }
 
 impl BoundsEpochs {
@@ -56,12 +57,10 @@ impl EpochKind for BoundsEpochs {
     }
 
     fn entry_words(&self) -> usize {
-        shape_known(&self.program);
         self.program.layout.initial.len() * 3
     }
 
     fn state_words(&self) -> usize {
-        shape_known(&self.program);
         self.program.layout.initial.len() * 3
     }
 
@@ -88,7 +87,6 @@ impl EpochKind for BoundsEpochs {
         scratch: &mut [u64],
         steps: &mut Steps<L>,
     ) {
-        shape_known(&self.program);
         run_three(&self.program.code, entry, args, scratch, steps);
     }
 

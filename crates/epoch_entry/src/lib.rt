@@ -6,7 +6,6 @@ mod bounds;
 mod column;
 mod identity;
 mod kind;
-mod known;
 mod laws;
 mod linear;
 mod log;

@@ -2,9 +2,9 @@
 
 ghost use Rattle.std.specs.Prelude.{◌≡◌, ℕ, ◌+◌, ◌<◌, ◌≤◌, length};
 ghost use Rattle.fold_class.specs.Program.{IsProgram, IsProgramOf};
+ghost use Rattle.epoch_entry.specs.Shape.{IsShaped};
 
 use crate::kind::EpochKind;
-use crate::known::shape_known;
 use fold_class::FoldProgram;
 use marple_base::{Steps, copy_words};
 use std::sync::ledger::Ledger;
@@ -15,6 +15,7 @@ use std::sync::ledger::Ledger;
 pub struct OtherEpochs {
     program: FoldProgram,
     ghost sound: { IsProgram program },
+    ghost shape: { IsShaped program },
 }
 
 impl OtherEpochs {
@@ -85,7 +86,6 @@ impl EpochKind for OtherEpochs {
         scratch: &mut [u64],
         steps: &mut Steps<L>,
     ) {
-        shape_known(&self.program);
         self.program.code.exec(entry, args, scratch, steps);
     }
 

@@ -2,12 +2,11 @@
 
 ghost use Rattle.std.specs.Prelude.{◌≡◌, ℕ, ◌+◌, ◌*◌, ◌<◌, ◌≤◌, length};
 ghost use Rattle.fold_code.specs.Meaning.{code_steps, code_scratch};
-ghost use Rattle.fold_class.specs.Program.{IsProgram};
 ghost use Rattle.epoch_entry.specs.Entries.{linear_rank, history_words, map_words};
 ghost use Rattle.epoch_entry.specs.Absorbing.{Remembers, Moves};
+ghost use Rattle.epoch_entry.specs.Shape.{IsShaped};
 
 use crate::column::{column_to_state, state_to_column};
-use crate::known::shape_known;
 use crate::words::{gather, scatter};
 use coeff_algebra::Coeff;
 use fold_class::FoldProgram;
@@ -23,7 +22,7 @@ pub(crate) fn step_history<L: Ledger>(
     run: &mut [u64],
     steps: &mut Steps<L>,
 )
-    requires program { IsProgram program.now }
+    requires shape { IsShaped program.now }
     requires history { length history.old ≡ history_words program.now }
     requires args { length args.now ≡ program.now.layout.args }
     requires state { length state.old ≡ length program.now.layout.initial }
@@ -31,7 +30,6 @@ pub(crate) fn step_history<L: Ledger>(
     ensures remembers { Remembers program.now args.now history.old history.new }
     ensures cost { steps.new ≡ steps.old + (2 * history_words program.now + code_steps program.now.code) }
 {
-    shape_known(program);
     let places = program.layout.history.as_slice();
     scatter(history, places, state, steps);
     program.code.exec(state, args, run, steps);
@@ -48,7 +46,7 @@ pub(crate) fn step_column<C: Coeff, L: Ledger>(
     run: &mut [u64],
     steps: &mut Steps<L>,
 )
-    requires program { IsProgram program.now }
+    requires shape { IsShaped program.now }
     requires history { length history.old ≡ history_words program.now }
     requires map { length map.old ≡ map_words C.WORDS program.now }
     requires args { length args.now ≡ program.now.layout.args }
@@ -58,7 +56,6 @@ pub(crate) fn step_column<C: Coeff, L: Ledger>(
     ensures cost { steps.new ≡ steps.old + (2 * history_words program.now + code_steps program.now.code
         + (linear_rank program.now + linear_rank program.now * C.WORDS)) }
 {
-    shape_known(program);
     let linear = program.layout.linear.as_slice();
     let places = program.layout.history.as_slice();
     scatter(history, places, state, steps);

@@ -1,6 +1,7 @@
-// Words at places of a state, with a step for each that is written.
+// Words at places of a state, with a step for each that is written. And that numbers of 64 bits are words.
 
 ghost use Rattle.std.specs.Prelude.{◌≡◌, ◌≢◌, ℕ, ◌+◌, ◌<◌, length, map, slice_index, All};
+ghost use Rattle.query_lang.specs.Words.{AreWords};
 ghost use Rattle.fold_class.specs.Step.{words_at};
 ghost use Rattle.epoch_entry.specs.Shape.{IsAscending};
 
@@ -46,4 +47,11 @@ pub(crate) fn scatter<L: Ledger>(
         state[*v as usize] = words[at];
         steps.tick();
     }
+}
+
+// Numbers of 64 bits are words.
+pub(crate) fn words_known(words: &[u64])
+    ensures { AreWords words.now }
+{
+    let _words = words;
 }

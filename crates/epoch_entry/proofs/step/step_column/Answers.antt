@@ -16,7 +16,7 @@ returns-clause-moves g c =
     let el = c.as_slice-linear.ensures in
     let eh = c.as_slice-places.ensures in (
       state,
-      column_moved g.met.C.Coeff.algebra m.from_words m.WORDS g.met.C.Coeff.storage p c.shape_known.ensures c.args.args.now c.args.history.now map' c.gather.new.to map'' first state after
+      column_moved g.met.C.Coeff.algebra m.from_words m.WORDS g.met.C.Coeff.storage p c.requires.shape c.args.args.now c.args.history.now map' c.gather.new.to map'' first state after
           c.requires.history
           (c.column_to_state.auto.state ∙ c.scatter.auto.state ∙ c.requires.state)
           (subst (λ (l : List ℕ). (i : ℕ) → i < length l → slice_index first (slice_index l i) ≡ slice_index c.args.history.now i) eh c.scatter.ensures.written)

@@ -1,5 +1,9 @@
 use Rattle.epoch_entry.proofs.TripleLemmas.{bounds_kind, bounds_merged}
+use Rattle.epoch_entry.proofs.ShapeLemmas.{program_shaped}
 use Rattle.epoch_entry.proofs.bounds.BoundsEpochs.of.Goals as goal
+
+pub invariant_of-result-clause-shape : goal.invariant_of-result-clause-shape
+invariant_of-result-clause-shape c = program_shaped c.args.program c.requires
 
 pub returns-clause-kind : goal.returns-clause-kind
 returns-clause-kind c f h = bounds_kind f c.args.program h
