@@ -8,3 +8,4 @@ pub mod PairLists
 pub mod BucketLists
 pub mod Shapes
 pub mod CacheLists
+pub mod LentEntries

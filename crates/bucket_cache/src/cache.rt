@@ -1,11 +1,11 @@
 //! The buckets of a cache.
 
 ghost use Rattle.std.specs.Prelude.{◌≡◌, ℕ, List, ◌+◌, ◌-◌, ◌*◌, ◌<◌, ◌≤◌, length, take, false, IfOk, Some};
-ghost use Rattle.std.specs.Prelude.{slice_get, sum_by};
+ghost use Rattle.std.specs.Prelude.{slice_get, slice_set, sum_by};
 ghost use Rattle.std.specs.Borrow.{sem};
 ghost use Rattle.bucket_cache.specs.Buckets.{Pair, has_key, places_of};
 ghost use Rattle.bucket_cache.specs.Touches.{Touches, IsLeast, least_place, with_front, touch_cost, replace_cost};
-ghost use Rattle.bucket_cache.specs.LendingRows.{written_over};
+ghost use Rattle.bucket_cache.specs.LendingRows.{with_entry};
 ghost use Rattle.bucket_cache.specs.Caches.{Cache, list_at, entry_at, with_list, empty_cache, IsSoundCache};
 
 use crate::bucket::Touch;
@@ -202,7 +202,7 @@ impl<const WAYS: usize> BucketCache<WAYS> {
         ensures value { result.now ≡ entry_at self.old at }
         ensures length { length result.now ≡ self.old.entry_words }
         ensures whole { (words : List ℕ) → length words ≡ self.old.entry_words
-            → written_over (entry_at self.old at) words ≡ words }
+            → with_entry self.old.entries at words ≡ slice_set self.old.entries at words }
     {
         self.entries.entry_mut(at)
     }

@@ -2,6 +2,7 @@
 //! unchanged.
 #![tactic(auto)]
 
+mod keeping;
 mod lane;
 mod laws;
 mod merging;

@@ -10,6 +10,7 @@ ghost use Rattle.switch_core.specs.Pipelines.{heading_of};
 ghost use Rattle.switch_core.specs.PlanLanes.{PipelineStands, folding_at};
 ghost use Rattle.live_view.specs.Views.{all_epochs, tables_seen};
 
+use crate::keeping::keep_released;
 use crate::lane::full_store;
 use backing_store::BackingStore;
 use epoch_entry::{EpochKind, entries_are_small};
@@ -96,6 +97,7 @@ pub fn view<const WAYS: usize, L: Ledger>(
 {
     entries_are_small();
     p.known();
+    keep_released(alloc);
     let plan = p.plan();
     plan.known();
     let mut tables = Seq::new(alloc);
