@@ -25,7 +25,8 @@ pub const TRACE: &[u8] =
 /// The tables of the whole trace.
 pub const TABLES: &[u8] = AFTER_FIVE;
 
-const AFTER_TWO: &[u8] = b"table w final 2\n\
+const VIEW_OF_TWO: &[u8] = b"view 2\n\
+table w final 2\n\
 srcip,dstip,srcport,dstport,proto,c\n\
 167772161,167772417,1000,80,6,1\n\
 167772162,167772417,1001,80,6,1\n\
@@ -38,7 +39,8 @@ srcip,dstip,srcport,dstport,proto,mark,epoch,epochs,last,n\n\
 167772161,167772417,1000,80,6,exact,*,1,100,0\n\
 167772162,167772417,1001,80,6,exact,*,1,107,1\n";
 
-const AFTER_FOUR: &[u8] = b"table w final 3\n\
+const VIEW_OF_FOUR: &[u8] = b"view 4\n\
+table w final 3\n\
 srcip,dstip,srcport,dstport,proto,c\n\
 167772161,167772417,1000,80,6,2\n\
 167772162,167772417,1001,80,6,1\n\
@@ -71,4 +73,4 @@ srcip,dstip,srcport,dstport,proto,mark,epoch,epochs,last,n\n\
 167772164,167772417,1003,80,6,exact,*,1,100,0\n";
 
 /// What a run with a view after every second packet writes, piece by piece.
-pub const VIEWS: [&[u8]; 5] = [b"view 2\n", AFTER_TWO, b"view 4\n", AFTER_FOUR, AFTER_FIVE];
+pub const VIEWS: [&[u8]; 3] = [VIEW_OF_TWO, VIEW_OF_FOUR, AFTER_FIVE];
