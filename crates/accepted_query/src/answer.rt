@@ -4,7 +4,7 @@ use query_lang::QueryFault;
 
 /// Why a query's text isn't accepted.
 #[derive(Clone, Copy, Debug, PartialEq, Eq)]
-pub enum QueryAnswer {
+pub enum QueryError {
     /// The text's first fault.
     Refused(QueryFault),
     /// Memory ran out.

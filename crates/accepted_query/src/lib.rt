@@ -5,6 +5,6 @@ mod answer;
 mod steps;
 mod trial;
 
-pub use answer::QueryAnswer;
+pub use answer::QueryError;
 pub use steps::{AcceptedQuery, accept};
 pub use trial::{trial_is_accepted, trial_query};

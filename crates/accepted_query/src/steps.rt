@@ -9,7 +9,7 @@ ghost use Rattle.stage_plan.specs.Planned.{IsPlanOf};
 ghost use Rattle.accepted_query.specs.Accepted.{accepted, staged};
 ghost use Rattle.accepted_query.specs.Answers.{IsAnswerTo, IsParsed, IsTyped, IsStaged};
 
-use crate::answer::QueryAnswer;
+use crate::answer::QueryError;
 use query_lang::{Query, TypedQuery};
 use query_parser::{ParseAnswer, parse};
 use query_types::{CheckAnswer, check};
@@ -23,19 +23,19 @@ pub struct AcceptedQuery {
     pub plan: Plan,
 }
 
-fn parsed(alloc: Global, text: &[u8]) -> Result<Query, QueryAnswer>
+fn parsed(alloc: Global, text: &[u8]) -> Result<Query, QueryError>
     ensures query { IfOk result (λ q. parsed_text text.now ≡ Ok q) }
     ensures readable { IfOk result (λ q. IsReadable q) }
     ensures err { IfErr result (IsParsed text.now) }
 {
     match parse(alloc, text) {
         Ok(query) => Ok(query),
-        Err(ParseAnswer::Refused(fault)) => Err(QueryAnswer::Refused(fault)),
-        Err(ParseAnswer::Memory) => Err(QueryAnswer::Memory),
+        Err(ParseAnswer::Refused(fault)) => Err(QueryError::Refused(fault)),
+        Err(ParseAnswer::Memory) => Err(QueryError::Memory),
     }
 }
 
-fn typed(alloc: Global, query: Query) -> Result<TypedQuery, QueryAnswer>
+fn typed(alloc: Global, query: Query) -> Result<TypedQuery, QueryError>
     requires { IsReadable query }
     ensures typed { IfOk result (λ q. checked query ≡ Ok q) }
     ensures valid { IfOk result IsValidQuery }
@@ -43,12 +43,12 @@ fn typed(alloc: Global, query: Query) -> Result<TypedQuery, QueryAnswer>
 {
     match check(alloc, query) {
         Ok(typed) => Ok(typed),
-        Err(CheckAnswer::Refused(fault)) => Err(QueryAnswer::Refused(fault)),
-        Err(CheckAnswer::Memory) => Err(QueryAnswer::Memory),
+        Err(CheckAnswer::Refused(fault)) => Err(QueryError::Refused(fault)),
+        Err(CheckAnswer::Memory) => Err(QueryError::Memory),
     }
 }
 
-fn planned(alloc: Global, typed: &TypedQuery) -> Result<Plan, QueryAnswer>
+fn planned(alloc: Global, typed: &TypedQuery) -> Result<Plan, QueryError>
     requires { IsValidQuery typed.now }
     ensures plan { IfOk result (λ p. IsPlanOf typed.now p) }
     ensures staged { IfOk result (λ p. staged typed.now ≡ Ok typed.now) }
@@ -56,14 +56,14 @@ fn planned(alloc: Global, typed: &TypedQuery) -> Result<Plan, QueryAnswer>
 {
     match plan(alloc, typed) {
         Ok(plan) => Ok(plan),
-        Err(PlanAnswer::Refused(fault)) => Err(QueryAnswer::Refused(fault)),
-        Err(PlanAnswer::Memory) => Err(QueryAnswer::Memory),
+        Err(PlanAnswer::Refused(fault)) => Err(QueryError::Refused(fault)),
+        Err(PlanAnswer::Memory) => Err(QueryError::Memory),
     }
 }
 
 /// The typed query and the plan of a text, or its first fault.
 #[tactic(auto, unfolding(crate::specs::Accepted::accepted))]
-pub fn accept(alloc: Global, text: &[u8]) -> Result<AcceptedQuery, QueryAnswer>
+pub fn accept(alloc: Global, text: &[u8]) -> Result<AcceptedQuery, QueryError>
     ensures typed { IfOk result (λ found. accepted text.now ≡ Ok found.typed) }
     ensures valid { IfOk result (λ found. IsValidQuery found.typed) }
     ensures plan { IfOk result (λ found. IsPlanOf found.typed found.plan) }

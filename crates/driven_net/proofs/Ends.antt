@@ -11,7 +11,7 @@ use Rattle.net_wide.specs.Combining.{net_fault}
 use Rattle.net_wide.specs.NetTables.{caches_of, net_tables, net_text}
 use Rattle.net_wide.specs.NetLaws.{AreWhole, TellsSwitches}
 use Rattle.net_wide.specs.Numbering.{place_among}
-use Rattle.net_ends.specs.NetEnds.{IsSeen}
+use Rattle.net_wide.specs.NetEnds.{IsSeen}
 use Rattle.network.specs.Ends.{CombineOver, EvictsLast, packets_taken}
 use Rattle.network.specs.Groups.{group_is_drained}
 use Rattle.network.specs.Networks.{NetworkView}

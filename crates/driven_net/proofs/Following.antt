@@ -6,7 +6,7 @@ use Rattle.epoch_model.specs.Epochs.{is_refresh}
 use Rattle.switch_core.proofs.SideBySide.{each_long}
 use Rattle.net_wide.specs.NetTables.{switch_in}
 use Rattle.net_wide.specs.Numbering.{place_among}
-use Rattle.net_ends.specs.NetEnds.{IsSeen}
+use Rattle.net_wide.specs.NetEnds.{IsSeen}
 use Rattle.network.specs.Ends.{AreAtTheirSwitches, NoEviction, packets_taken}
 use Rattle.network.specs.Groups.{GroupGrows}
 use Rattle.network.specs.Networks.{NetworkGrows, NetworkView}
@@ -75,13 +75,13 @@ after_over at false net e = cc
 -- a packet's turn
 lag_turn : (lag at : ℕ) (words : List ℕ) (over : Bool) (net : NetworkView) (before : List NetworkEvent) → is_refresh lag (suc (taken_by at before)) ≡ over
     → MergesAtLag lag (length net.groups) before (turn_events at words over net)
-lag_turn lag at words over net before strikes =
+lag_turn lag at words over net before is_due =
     let lanes = length net.groups in
     let room = merges_for_room at net in
     let count : taken_by at (before ++ room) ≡ taken_by at before =
     (let a = by_on at before room in let b = by_merges at room (room_is_merges at net) in omega arith) in
     lag_on lag lanes before room (Takes at words ∷ after_packet at over net) (lag_merges lag lanes before room (room_is_merges at net)) (
-      (λ e. after_over at over net (sym strikes ∙ (ap (λ n. is_refresh lag (suc n)) (sym count) ∙ e))),
+      (λ e. after_over at over net (sym is_due ∙ (ap (λ n. is_refresh lag (suc n)) (sym count) ∙ e))),
       lag_merges lag lanes ((before ++ room) ++ Takes at words ∷ []) (after_packet at over net) (after_is_merges at over net),
     )
 
@@ -156,7 +156,7 @@ follows_more ways lag known s packets old new grown stand f = (
 pub follows_turn : RunsFollowEvents → (ways lag : ℕ) (known : List ℕ) (packets : List (List ℕ)) (words : List ℕ) (at : ℕ) (over : Bool) (old new : NetworkView)
     → NetworkRuns ways (turn_events at words over old) old new → place_among known (switch_in words) ≡ at → at < length known → (f : NetFollows ways lag known packets old)
     → is_refresh lag (suc (taken_by at f.events)) ≡ over → (n : NetFollows ways lag known (packets ++ words ∷ []) new) × (n.events ≡ f.events ++ turn_events at words over old)
-follows_turn law ways lag known packets words at over old new ran place within f strikes =
+follows_turn law ways lag known packets words at over old new ran place within f is_due =
     let turn = turn_events at words over old in
     let kept = runs_kept ways turn old new ran in (
       record {
@@ -171,7 +171,7 @@ follows_turn law ways lag known packets words at over old new ran place within f
         theirs = theirs_on (place_among known) f.events turn f.theirs (turn_theirs (place_among known) at words over old (sym place));
         none = none_on f.events turn f.none (turn_evicts_none at words over old);
         merges = subst (λ n. MergesAtLag lag n [] (f.events ++ turn)) (sym (kept_long old new kept))
-            (lag_on lag (length old.groups) [] f.events turn f.merges (lag_turn lag at words over old f.events strikes));
+            (lag_on lag (length old.groups) [] f.events turn f.merges (lag_turn lag at words over old f.events is_due));
       },
       refl,
     )

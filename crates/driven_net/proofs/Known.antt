@@ -6,10 +6,10 @@ use Rattle.std.proofs.lemmas.Bool.{true≢false}
 use Rattle.std.proofs.lemmas.Bool.Decides.{nat_tests}
 use Rattle.epoch_model.specs.Driving.{Taken}
 use Rattle.epoch_model.proofs.KeyLists.{by_test}
-use Rattle.switch_traces.proofs.Counts.{same_number, own_number}
+use Rattle.additive_laws.proofs.Counts.{same_number, own_number}
 use Rattle.net_wide.specs.NetTables.{switch_in}
 use Rattle.net_wide.specs.Numbering.{place_among, switch_number, with_switch}
-use Rattle.net_ends.specs.NetEnds.{IsSeen, AreNumbered, steps_of}
+use Rattle.net_wide.specs.NetEnds.{IsSeen, AreNumbered, steps_of}
 
 place_of : (known : List ℕ) (s : ℕ) → place_among known s < length known → slice_index known (place_among known s) ≡ s
 place_of [] s h = absurd (omega arith)

@@ -1,7 +1,7 @@
 -- A network that has taken the packets of a trace.
 use Rattle.std.specs.Prelude.{◌≡◌, ℕ, ◌<◌, List, [], length}
 use Rattle.net_wide.specs.Numbering.{place_among}
-use Rattle.net_ends.specs.NetEnds.{IsSeen}
+use Rattle.net_wide.specs.NetEnds.{IsSeen}
 use Rattle.network.specs.Ends.{AreAtTheirSwitches, NoEviction, packets_taken}
 use Rattle.network.specs.Networks.{NetworkView}
 use Rattle.network.specs.Running.{NetworkEvent, NetworkStands}

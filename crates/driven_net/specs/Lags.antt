@@ -5,7 +5,7 @@ use Rattle.trace_drive.specs.Clocks.{HasCounted}
 use Rattle.trace_drive.specs.declared.clock.Clock.{Clock}
 use Rattle.network.specs.Running.{AreFirst, Evicts, Merges, NetworkEvent, Takes, merges_of_each}
 
--- a clock for each of 64 switches, which strikes at each multiple of the lag and counts the packets of its switch
+-- a clock for each of 64 switches, which is due at each multiple of the lag and counts the packets of its switch
 pub record AreLagClocks (lag : ℕ) (clocks : List Clock) : Type 0 where
   pub count : length clocks ≡ 64
   pub lags : (at : ℕ) (clock : Clock) → slice_get clocks at ≡ Some clock → clock.every ≡ lag

@@ -10,13 +10,14 @@ ghost use Rattle.net_wide.specs.NetTables.{caches_of, net_text};
 ghost use Rattle.net_wide.specs.NetLaws.{TellsSwitches};
 ghost use Rattle.driven_net.specs.Follows.{NetFollows};
 
-use marple_base::{Steps, Text};
-use net_ends::net_tables_are_read;
+use marple_base::Steps;
+use net_wide::net_tables_are_read;
 use network::{Network, runs_follow_events};
 use query_lang::TypedQuery;
 use query_tables::print_tables;
 use std::alloc::{AllocError, Global};
 use std::sync::ledger::Ledger;
+use text_buffer::TextBuffer;
 
 /// Closes and merges all epochs, and makes the text of what the query prints.
 pub(crate) fn end_text<const WAYS: usize, L: Ledger>(
@@ -24,7 +25,7 @@ pub(crate) fn end_text<const WAYS: usize, L: Ledger>(
     typed: &TypedQuery,
     network: &mut Network<WAYS>,
     steps: &mut Steps<L>,
-) -> Result<Text, AllocError>
+) -> Result<TextBuffer, AllocError>
     requires valid { IsValidQuery typed.now }
     requires plan { IsPlanOf typed.now network.old.plan }
     requires combines { net_fault typed.now ≡ None }

@@ -17,7 +17,7 @@ use crate::ways::text_with_its_ways;
 use accepted_query::AcceptedQuery;
 use command_line::NetSetting;
 use marple_base::{FieldSet, Sink, Steps, write_all};
-use query_run::{RunAnswer, read_packets_are_few, read_packets_are_whole};
+use query_run::{RunError, read_packets_are_few, read_packets_are_whole};
 use stage_plan::Plan;
 use std::alloc::Global;
 use std::sync::ledger::Ledger;
@@ -42,7 +42,7 @@ pub fn net_over_trace<O: Sink, L: Ledger>(
     bytes: &[u8],
     out: &mut O,
     steps: &mut Steps<L>,
-) -> Result<(), RunAnswer>
+) -> Result<(), RunError>
     requires setting { IsNetSetting setting }
     requires valid { IsValidQuery query.typed }
     requires plan { IsPlanOf query.typed query.plan }

@@ -63,16 +63,16 @@ fn switch_at<const WAYS: usize, L: Ledger>(
 }
 
 // Counts a packet of a switch, and says whether the switch's lag is over with it.
-fn strikes(clocks: &mut [Clock], at: usize) -> bool
+fn is_due(clocks: &mut [Clock], at: usize) -> bool
     requires at { at < 64 }
     requires clocks { (lag : ℕ) × AreLagClocks lag clocks.old }
     ensures clocks { (lag : ℕ) → AreLagClocks lag clocks.old → AreLagClocks lag clocks.new }
     ensures counts { CountsAt at clocks.old clocks.new }
-    ensures strikes { (lag number : ℕ) (clock : Clock) → AreLagClocks lag clocks.old → slice_get clocks.old at ≡ Some clock
+    ensures is_due { (lag number : ℕ) (clock : Clock) → AreLagClocks lag clocks.old → slice_get clocks.old at ≡ Some clock
         → HasCounted number clock → result ≡ is_refresh lag (suc number) }
 {
     let clock = &mut clocks[at];
-    clock.strikes()
+    clock.is_due()
 }
 
 // A packet at its switch.
@@ -99,7 +99,7 @@ fn take_one<const WAYS: usize, L: Ledger>(
 {
     runs_follow_events();
     let at = switch_at(network, known, packet.get(Field::Switch), number, steps)?;
-    let lag_over = strikes(clocks, at as usize);
+    let lag_over = is_due(clocks, at as usize);
     match network.turn(at, packet, lag_over, steps) {
         Ok(()) => Ok(()),
         Err(AllocError) => Err(TraceAnswer::Memory),

@@ -19,11 +19,12 @@ use crate::ending::end_text;
 use crate::taking::take_all;
 use accepted_query::AcceptedQuery;
 use command_line::{NetSetting, Ways};
-use marple_base::{Steps, Text};
+use marple_base::Steps;
 use network::Network;
 use stage_plan::Plan;
 use std::alloc::{AllocError, Global};
 use std::sync::ledger::Ledger;
+use text_buffer::TextBuffer;
 use trace_reader::{Trace, TraceAnswer};
 
 // The plan's network after all packets of the trace, with caches and pipes of the setting's sizes.
@@ -62,7 +63,7 @@ fn text_with<const WAYS: usize, L: Ledger>(
     query: AcceptedQuery,
     trace: Trace<'_>,
     steps: &mut Steps<L>,
-) -> Result<Text, TraceAnswer>
+) -> Result<TextBuffer, TraceAnswer>
     requires ways { 0 < WAYS }
     requires buckets { 0 < setting.buckets }
     requires places { setting.buckets * WAYS ≤ 65536 }
@@ -94,7 +95,7 @@ pub(crate) fn text_with_its_ways<L: Ledger>(
     query: AcceptedQuery,
     trace: Trace<'_>,
     steps: &mut Steps<L>,
-) -> Result<Text, TraceAnswer>
+) -> Result<TextBuffer, TraceAnswer>
     requires setting { IsNetSetting setting }
     requires valid { IsValidQuery query.typed }
     requires plan { IsPlanOf query.typed query.plan }

@@ -20,8 +20,8 @@ use Rattle.trace_reader.specs.declared.fault.TraceFault.{TraceFault}
 use Rattle.trace_drive.specs.Drives.{end_machines, words_of}
 use Rattle.query_run.specs.Answers.{text_unless}
 use Rattle.query_run.specs.Views.{views_text}
-use Rattle.query_run.specs.declared.answer.RunAnswer.{RunAnswer}
-use Rattle.query_run.specs.declared.answer.RunAnswer.TheVariants as breaks
+use Rattle.query_run.specs.declared.answer.RunError.{RunError}
+use Rattle.query_run.specs.declared.answer.RunError.TheVariants as breaks
 use Rattle.query_run.specs.Runs.{AreWhole, query_ends}
 use Rattle.query_tables.specs.Tables.{query_text}
 use Rattle.switch_core.specs.PlanLanes.{PipelineStands, PipelineView}
@@ -282,7 +282,7 @@ query_not_ok fault before after status ended is = operand_not_ok (λ query found
 pub memory_not_ok : statuses.Memory ≡ statuses.Ok → ⊥
 memory_not_ok is = cc
 
-pub answer_not_ok : (answer : RunAnswer) → status_for answer ≡ statuses.Ok → ⊥
+pub answer_not_ok : (answer : RunError) → status_for answer ≡ statuses.Ok → ⊥
 answer_not_ok (breaks.Refused fault) is = cc
 answer_not_ok breaks.Memory is = cc
 answer_not_ok breaks.Failed is = cc

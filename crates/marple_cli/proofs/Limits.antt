@@ -17,11 +17,11 @@ use Rattle.trace_reader.specs.declared.fault.TraceFault.TheVariants as faults
 use Rattle.trace_reader.specs.declared.fault.TraceFault.{TraceFault}
 use Rattle.accepted_query.specs.Accepted.{accepted, fault_in, query_fault}
 use Rattle.accepted_query.specs.Answers.{IsAnswerTo}
-use Rattle.accepted_query.specs.declared.answer.QueryAnswer.{QueryAnswer}
-use Rattle.accepted_query.specs.declared.answer.QueryAnswer.TheVariants.{Refused}
+use Rattle.accepted_query.specs.declared.answer.QueryError.{QueryError}
+use Rattle.accepted_query.specs.declared.answer.QueryError.TheVariants.{Refused}
 use Rattle.query_run.specs.Answers.{BreaksOff, text_unless}
-use Rattle.query_run.specs.declared.answer.RunAnswer.{RunAnswer}
-use Rattle.query_run.specs.declared.answer.RunAnswer.TheVariants as breaks
+use Rattle.query_run.specs.declared.answer.RunError.{RunError}
+use Rattle.query_run.specs.declared.answer.RunError.TheVariants as breaks
 use Rattle.marple_cli.specs.Ends.{ReadEnds, TraceEnds, WriteEnds, status_for}
 use Rattle.marple_cli.specs.declared.status.Status.{Status}
 use Rattle.marple_cli.specs.declared.status.Status.TheVariants as statuses
@@ -81,7 +81,7 @@ told_answer P left text slice read same known =
     IfSome-map (λ bytes. accepted bytes ≡ accepted text) (λ bytes. P (accepted bytes)) left
     (λ bytes is. subst P (ap accepted same ∙ sym is) known) (told_query left text read)
 
-pub told_refused : (left : Option (List ℕ)) (text slice : List ℕ) (answer : QueryAnswer) (fault : QueryFault) → IfSome left (λ bytes. text ≡ take 65537 bytes) → slice ≡ text
+pub told_refused : (left : Option (List ℕ)) (text slice : List ℕ) (answer : QueryError) (fault : QueryFault) → IfSome left (λ bytes. text ≡ take 65537 bytes) → slice ≡ text
     → answer ≡ Refused fault → IsAnswerTo slice answer → IfSome left (λ bytes. query_fault bytes ≡ Some fault)
 told_refused left text slice answer fault read same is refused =
     told_answer (λ found. fault_in found ≡ Some fault) left text slice read same (ap fault_in (subst (IsAnswerTo slice) is refused))
@@ -95,7 +95,7 @@ told_contents P reads left text slice read same known =
 
 -- how the phase of the trace ends, where the run over its packets broke off with this answer
 pub trace_ends : {O : Type 0} (taken : O → Option (List ℕ)) (faults : O → ℕ) (reads : FieldSet) (fault : Contents → Option TraceFault) (shown : Contents → List ℕ)
-    (before after : Input) (old new : O) (text slice : List ℕ) (answer : RunAnswer)
+    (before after : Input) (old new : O) (text slice : List ℕ) (answer : RunError)
     → IfSome before.left (λ bytes. text ≡ take 268435457 bytes) → slice ≡ text → BreaksOff taken faults (shown (contents slice reads)) (fault (contents slice reads)) old new answer
     → TraceEnds taken faults (λ bytes. fault (contents bytes reads)) (λ bytes. shown (contents bytes reads)) before after old new (status_for answer)
 trace_ends taken faults reads fault shown before after old new text slice breaks.Memory read same ended =
@@ -122,7 +122,7 @@ read_ends taken faults fault shown before after out (statuses.TraceRefused found
 read_ends taken faults fault shown before after out statuses.OutputFault ended = absurd ended
 
 -- how a phase that writes ends, where a run over generated packets broke off with this answer
-pub made_ends : {O : Type 0} (taken : O → Option (List ℕ)) (faults : O → ℕ) (text : List ℕ) (old new : O) (answer : RunAnswer) → BreaksOff taken faults text None old new answer
+pub made_ends : {O : Type 0} (taken : O → Option (List ℕ)) (faults : O → ℕ) (text : List ℕ) (old new : O) (answer : RunError) → BreaksOff taken faults text None old new answer
     → WriteEnds taken faults text old new (status_for answer)
 made_ends taken faults text old new breaks.Memory ended = ended
 made_ends taken faults text old new (breaks.Refused found) ended = absurd (no_fault ended.0)

@@ -9,7 +9,7 @@ use Rattle.marple_base.specs.declared.inputs.Which.TheVariants.{Query, Trace}
 use Rattle.trace_reader.specs.Traces.{Contents, contents}
 use Rattle.trace_reader.specs.declared.fault.TraceFault.{TraceFault}
 use Rattle.query_run.specs.Answers.{BreaksOff}
-use Rattle.query_run.specs.declared.answer.RunAnswer.{RunAnswer}
+use Rattle.query_run.specs.declared.answer.RunError.{RunError}
 use Rattle.command_line.specs.declared.command.Command.{Command}
 use Rattle.marple_cli.specs.Call.{ToldOf}
 use Rattle.marple_cli.specs.Ends.{Ends, QueryTold, ReadEnds, TraceEnds, status_for, status_of}
@@ -38,7 +38,7 @@ module _ {O : Type 0} (taken : O → Option (List ℕ)) (faults : O → ℕ) (co
 
   -- the bytes that were read
   module _ (bytes slice : List ℕ) (read : IfSome (middle Trace).left (λ trace. bytes ≡ take 268435457 trace)) (sliced : slice ≡ bytes) where
-    pub broken_off : (old new : O) (result : Result (Unit {0}) Status) (answer : RunAnswer) → IsErrAnd result (λ found. found ≡ status_for answer)
+    pub broken_off : (old new : O) (result : Result (Unit {0}) Status) (answer : RunError) → IsErrAnd result (λ found. found ≡ status_for answer)
         → BreaksOff taken faults (text (contents slice reads)) (fault (contents slice reads)) old new answer → Ends taken faults command before after old new (status_of result)
     broken_off old new result answer is ended =
         ends_by old new result (status_for answer) is (trace_ends taken faults reads fault text (middle Trace) (after Trace) old new bytes slice answer read sliced ended)

@@ -9,8 +9,8 @@ use Rattle.query_lang.specs.declared.fault.QueryFault.{QueryFault}
 use Rattle.query_lang.specs.declared.typed.TypedQuery.{TypedQuery}
 use Rattle.accepted_query.specs.Accepted.{accepted}
 use Rattle.query_run.specs.Answers.{text_unless}
-use Rattle.query_run.specs.declared.answer.RunAnswer.{RunAnswer}
-use Rattle.query_run.specs.declared.answer.RunAnswer.TheVariants as breaks
+use Rattle.query_run.specs.declared.answer.RunError.{RunError}
+use Rattle.query_run.specs.declared.answer.RunError.TheVariants as breaks
 use Rattle.trace_reader.specs.declared.fault.TraceFault.{TraceFault}
 use Rattle.command_line.specs.declared.command.Command.{Command}
 use Rattle.marple_cli.specs.Call.{ToldOf, WritesOutput, WritesFront}
@@ -29,7 +29,7 @@ QueryTold command inputs P = (query : Source) → takes command Query ≡ true �
     → IsRead command query → P query
 
 -- the status of a run over packets that broke off
-abbrev pub status_for : RunAnswer → Status
+abbrev pub status_for : RunError → Status
 status_for (breaks.Refused fault) = statuses.TraceRefused fault
 status_for breaks.Memory = statuses.Memory
 status_for breaks.Failed = statuses.OutputFault

@@ -16,7 +16,7 @@ use crate::status::Status;
 use accepted_query::AcceptedQuery;
 use enclosure_folds::enclose_check;
 use marple_base::{Inputs, Which};
-use net_order::accepted_tell_switches;
+use net_laws::accepted_tell_switches;
 use net_wide::net_check;
 use plan_writer::final_in_plan;
 use std::alloc::Global;

@@ -8,7 +8,7 @@ ghost use Rattle.marple_cli.specs.Ends.{Ends, status_of};
 use crate::status::Status;
 use command_line::{Command, Generation};
 use marple_base::Sink;
-use queue_sim::{WriteAnswer, write_trace};
+use queue_sim::{WriteError, write_trace};
 use std::alloc::Global;
 
 /// How many packets wait in a queue at most.
@@ -23,7 +23,7 @@ pub fn generate<O: Sink>(alloc: Global, generation: Generation, out: &mut O) -> 
 {
     match write_trace(alloc, generation.packets, generation.start, CAPACITY, out) {
         Ok(()) => Ok(()),
-        Err(WriteAnswer::Memory) => Err(Status::Memory),
-        Err(WriteAnswer::Failed) => Err(Status::OutputFault),
+        Err(WriteError::Memory) => Err(Status::Memory),
+        Err(WriteError::Failed) => Err(Status::OutputFault),
     }
 }

@@ -8,7 +8,7 @@ ghost use Rattle.accepted_query.specs.TrialQuery.{trial_query};
 ghost use Rattle.marple_cli.specs.Ends.{IsOfText, IsReadFrom, PlanEnds, QueryEnds, ReadEnds};
 
 use crate::status::Status;
-use accepted_query::{AcceptedQuery, QueryAnswer, accept, trial_is_accepted, trial_query};
+use accepted_query::{AcceptedQuery, QueryError, accept, trial_is_accepted, trial_query};
 use marple_base::{Inputs, ReadAnswer, Text, Which, read_input};
 use plan_file::PlanFileAnswer;
 use plan_loader::{LoadedPlan, read_plan};
@@ -41,8 +41,8 @@ pub fn read_query<I: Inputs>(alloc: Global, inputs: &mut I) -> Result<AcceptedQu
     };
     match accept(alloc, text.as_slice()) {
         Ok(query) => Ok(query),
-        Err(QueryAnswer::Refused(fault)) => Err(Status::QueryRefused(fault)),
-        Err(QueryAnswer::Memory) => Err(Status::Memory),
+        Err(QueryError::Refused(fault)) => Err(Status::QueryRefused(fault)),
+        Err(QueryError::Memory) => Err(Status::Memory),
     }
 }
 
@@ -55,8 +55,8 @@ pub fn accept_trial(alloc: Global) -> Result<AcceptedQuery, AllocError>
     trial_is_accepted();
     match accept(alloc, trial_query()) {
         Ok(query) => Ok(query),
-        Err(QueryAnswer::Refused(_fault)) => unreachable!(),
-        Err(QueryAnswer::Memory) => Err(AllocError),
+        Err(QueryError::Refused(_fault)) => unreachable!(),
+        Err(QueryError::Memory) => Err(AllocError),
     }
 }
 

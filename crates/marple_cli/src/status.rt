@@ -6,7 +6,7 @@ ghost use Rattle.marple_cli.specs.declared.status.Status.TheVariants.{Memory, Ou
 
 use marple_base::{Failed, Which};
 use query_lang::QueryFault;
-use query_run::RunAnswer;
+use query_run::RunError;
 use std::alloc::AllocError;
 use trace_reader::TraceFault;
 
@@ -47,14 +47,14 @@ impl From<AllocError> for Status {
     }
 }
 
-impl From<RunAnswer> for Status {
+impl From<RunError> for Status {
     ghost from_gives = { λ answer status. status ≡ status_for answer };
 
-    fn from(answer: RunAnswer) -> Status {
+    fn from(answer: RunError) -> Status {
         match answer {
-            RunAnswer::Refused(fault) => Status::TraceRefused(fault),
-            RunAnswer::Memory => Status::Memory,
-            RunAnswer::Failed => Status::OutputFault,
+            RunError::Refused(fault) => Status::TraceRefused(fault),
+            RunError::Memory => Status::Memory,
+            RunError::Failed => Status::OutputFault,
         }
     }
 }

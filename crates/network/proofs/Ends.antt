@@ -29,13 +29,13 @@ use Rattle.switch_core.specs.Pipelines.{event_at, heading_of}
 use Rattle.switch_core.specs.Rows.{EachFrom}
 use Rattle.switch_core.proofs.LaneFacts.{all_at}
 use Rattle.switch_core.proofs.SideBySide.{each_long}
-use Rattle.additive_folds.specs.Network.{SwitchEvent, SwitchEpoch, all_epochs, all_events, AllMerged}
-use Rattle.switch_traces.specs.Traces.{HasPackets, IsRun, from_switch, given, packets_among, without_merges}
+use Rattle.additive_laws.specs.Network.{SwitchEvent, SwitchEpoch, all_epochs, all_events, AllMerged}
+use Rattle.additive_laws.specs.Traces.{HasPackets, IsRun, from_switch, given, packets_among, without_merges}
 use Rattle.net_wide.specs.NetTables.{caches_of, net_pieces, net_table, net_table_if, net_tables, net_tables_from, tables_of_pieces}
 use Rattle.net_wide.proofs.SameTexts.{at_place}
-use Rattle.net_ends.specs.NetEnds.{MergedMakeTheTable, PiecesAreTheEpochs, steps_of}
-use Rattle.net_ends.proofs.PieceTables.{pieces_same}
-use Rattle.net_ends.proofs.Places.{first_at}
+use Rattle.net_wide.specs.NetEnds.{MergedMakeTheTable, PiecesAreTheEpochs, steps_of}
+use Rattle.net_wide.proofs.PieceTables.{pieces_same}
+use Rattle.net_wide.proofs.Places.{first_at}
 use Rattle.network.specs.Ends.{AreAtTheirSwitches, CombineOver, EvictsLast, NoEviction, packets_taken, pieces_closed}
 use Rattle.network.specs.Groups.{GroupView, IsGroup, StoresHold, folding_in, group_is_drained, shared_tables}
 use Rattle.network.specs.Networks.{IsNetwork, NetworkView}

@@ -16,7 +16,7 @@ use Rattle.switch_core.specs.Lanes.{Standing}
 use Rattle.switch_core.specs.Pipelines.{event_at}
 use Rattle.switch_core.specs.Rows.{Each, EachFrom}
 use Rattle.switch_core.proofs.SideBySide.{each_at, each_map, each_set, got_some, same_some, untouched_start}
-use Rattle.additive_folds.specs.Network.{all_epochs}
+use Rattle.additive_laws.specs.Network.{all_epochs}
 use Rattle.net_wide.specs.Sharing.{AtSwitch, LeadsBy, LeadsByMerge, StoreTakes, SwitchMakes, merged_at, with_event}
 use Rattle.net_wide.proofs.Sharing.{all_done, packet_leads}
 use Rattle.network.specs.Shared.{AllShare, FrontKept, StoreKept}

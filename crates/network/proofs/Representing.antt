@@ -3,8 +3,8 @@ use Rattle.std.proofs.Common.{◌≡◌, ℕ, List, [], ◌∷◌, ◌++◌, ref
 use Rattle.std.specs.List.{All}
 use Rattle.epoch_model.specs.Machine.{Event}
 use Rattle.stage_plan.specs.Sound.{PlanParts}
-use Rattle.additive_folds.specs.Network.{SwitchEvent}
-use Rattle.switch_traces.specs.Traces.{from_switch}
+use Rattle.additive_laws.specs.Network.{SwitchEvent}
+use Rattle.additive_laws.specs.Traces.{from_switch}
 use Rattle.net_wide.specs.Sharing.{with_event}
 use Rattle.net_wide.proofs.SameTexts.{at_place}
 use Rattle.network.specs.Groups.{GroupGrows, GroupStands, GroupView}

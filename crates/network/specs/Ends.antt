@@ -8,7 +8,7 @@ use Rattle.stage_plan.specs.Sound.{PlanParts}
 use Rattle.net_wide.specs.Combining.{net_fault}
 use Rattle.net_wide.specs.NetLaws.{AreWhole, TellsSwitches}
 use Rattle.net_wide.specs.NetTables.{caches_of, switch_in}
-use Rattle.net_ends.specs.NetEnds.{AreNumbered, closed_pieces}
+use Rattle.net_wide.specs.NetEnds.{AreNumbered, closed_pieces}
 use Rattle.network.specs.Networks.{NetworkView}
 use Rattle.network.specs.Running.{Evicts, Merges, NetworkEvent, Takes, all_given}
 

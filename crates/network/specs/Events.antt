@@ -7,7 +7,7 @@ use Rattle.epoch_entry.specs.contracts.any.AnyEpochsEpochKind.TheImpl.{ghosts}
 use Rattle.switch_core.specs.FrontParts.{FrontOf}
 use Rattle.switch_core.specs.Lanes.{Standing}
 use Rattle.switch_core.specs.Rows.{Each, EachFrom}
-use Rattle.additive_folds.specs.Network.{AllMerged, SwitchEvent, SwitchEpoch}
+use Rattle.additive_laws.specs.Network.{AllMerged, SwitchEvent, SwitchEpoch}
 use Rattle.net_wide.specs.NetTables.{caches_of}
 use Rattle.net_wide.specs.Sharing.{AtSwitch, SwitchMakes, merged_at, with_event}
 use Rattle.network.specs.Shared.{StoreKept}

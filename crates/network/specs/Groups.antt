@@ -21,7 +21,7 @@ use Rattle.switch_core.specs.FrontParts.{FrontOf}
 use Rattle.switch_core.specs.Closing.{is_drained}
 use Rattle.switch_core.specs.Pipelines.{heading_of}
 use Rattle.switch_core.specs.Rows.{Each, EachFrom}
-use Rattle.additive_folds.specs.Network.{SwitchEvent, SwitchEpoch}
+use Rattle.additive_laws.specs.Network.{SwitchEvent, SwitchEpoch}
 use Rattle.network.specs.Shared.{AllShare, FrontKept, SharedStand, StoreKept}
 
 -- a groupby: the kind of its entries, the fronts of switches 0, 1 and so on, and the store that they share

@@ -7,8 +7,8 @@ use Rattle.bucket_cache.specs.Caches.{list_at}
 use Rattle.stage_plan.specs.Sound.{PlanParts}
 use Rattle.switch_core.specs.FrontParts.{FrontOf}
 use Rattle.switch_core.specs.Pipelines.{event_at, packet_events}
-use Rattle.additive_folds.specs.Network.{SwitchEvent, SwitchEpoch}
-use Rattle.switch_traces.specs.Traces.{from_switch}
+use Rattle.additive_laws.specs.Network.{SwitchEvent, SwitchEpoch}
+use Rattle.additive_laws.specs.Traces.{from_switch}
 use Rattle.network.specs.Groups.{GroupStands, GroupView}
 use Rattle.network.specs.Events.{AtGroup, GroupsMake, is_ready_at, merged_by}
 use Rattle.network.specs.Networks.{Keeps, NetworkView}

@@ -7,7 +7,7 @@ use Rattle.final_queries.specs.FinalLaws.{AreAlike}
 use Rattle.epoch_entry.specs.Kinds.{Sizes}
 use Rattle.switch_core.specs.FrontParts.{FrontOf, FitsStore}
 use Rattle.switch_core.specs.Lanes.{Standing}
-use Rattle.additive_folds.specs.Network.{SwitchEvent, SwitchEpoch, all_epochs}
+use Rattle.additive_laws.specs.Network.{SwitchEvent, SwitchEpoch, all_epochs}
 use Rattle.net_wide.specs.Sharing.{FrontsStand}
 
 -- a front's kind and sizes are unchanged

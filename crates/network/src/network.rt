@@ -29,7 +29,7 @@ use epoch_entry::entries_suit_folds;
 use final_queries::{Table, alike_foldings_make_one_table};
 use fold_class::depth_is_found;
 use marple_base::{Packet, Seq, Steps};
-use net_ends::{merged_make_the_table, pieces_are_the_epochs};
+use net_wide::{merged_make_the_table, pieces_are_the_epochs};
 use stage_plan::Plan;
 use std::alloc::{AllocError, Global};
 use std::marker::Model;

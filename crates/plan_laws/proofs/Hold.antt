@@ -8,8 +8,8 @@ use Rattle.query_lang.specs.Checks.{and_then}
 use Rattle.query_lang.specs.Names.{number_in}
 use Rattle.query_lang.specs.Typing.{checked, typed_names}
 use Rattle.query_grammar.specs.Texts.{IsQueryOf, parsed_text}
-use Rattle.query_rules.proofs.QueryLaws.{query_sound}
-use Rattle.query_rules.proofs.Steps.{found_first, same_ok}
+use Rattle.query_laws.proofs.QueryLaws.{query_sound}
+use Rattle.query_laws.proofs.Steps.{found_first, same_ok}
 use Rattle.stage_plan.specs.Depths.{stage_fault}
 use Rattle.accepted_query.specs.Accepted.{accepted, staged, unless_fault}
 use Rattle.query_laws.proofs.Valid.{parts, accepted_valid, accepted_starts}

@@ -9,4 +9,4 @@ mod writing;
 
 pub use generator::simulate;
 pub use text::{texts_read_back, trace_text};
-pub use writing::{WriteAnswer, write_trace};
+pub use writing::{WriteError, write_trace};

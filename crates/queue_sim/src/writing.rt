@@ -7,7 +7,7 @@ ghost use Rattle.marple_base.specs.Sink.{TakesFront};
 ghost use Rattle.queue_sim.specs.Generator.{simulated};
 ghost use Rattle.queue_sim.specs.Pieces.{TakesAllBut};
 ghost use Rattle.queue_sim.specs.TraceText.{trace_text};
-ghost use Rattle.queue_sim.specs.declared.writing.WriteAnswer.TheVariants.{Failed as WriteFailed, Memory as OutOfMemory};
+ghost use Rattle.queue_sim.specs.declared.writing.WriteError.TheVariants.{Failed as WriteFailed, Memory as OutOfMemory};
 
 use crate::generator::Generator;
 use crate::text::{HEADER, LineBuffer};
@@ -16,24 +16,24 @@ use std::alloc::{AllocError, Global};
 
 /// Why a trace wasn't written whole.
 #[derive(Clone, Copy, Debug, PartialEq, Eq)]
-pub enum WriteAnswer {
+pub enum WriteError {
     Failed,
     Memory,
 }
 
-impl From<Failed> for WriteAnswer {
+impl From<Failed> for WriteError {
     ghost from_gives = { λ _ answer. answer ≡ WriteFailed };
 
-    fn from(_: Failed) -> WriteAnswer {
-        WriteAnswer::Failed
+    fn from(_: Failed) -> WriteError {
+        WriteError::Failed
     }
 }
 
-impl From<AllocError> for WriteAnswer {
+impl From<AllocError> for WriteError {
     ghost from_gives = { λ _ answer. answer ≡ OutOfMemory };
 
-    fn from(_: AllocError) -> WriteAnswer {
-        WriteAnswer::Memory
+    fn from(_: AllocError) -> WriteError {
+        WriteError::Memory
     }
 }
 
@@ -41,11 +41,11 @@ impl From<AllocError> for WriteAnswer {
 const PIECE: usize = 65_536;
 
 // Adds a line to the bytes that wait. Where it has no room beside them, they are written first.
-fn add_line<O: Sink>(waiting: &mut Vec<u8>, line: &[u8], out: &mut O) -> Result<(), WriteAnswer>
+fn add_line<O: Sink>(waiting: &mut Vec<u8>, line: &[u8], out: &mut O) -> Result<(), WriteError>
     ensures ok { OnOk result
         (TakesAllBut (O.taken out.old) (O.taken out.new) waiting.new.items (waiting.old.items ++ line.now)) }
     ensures err { OnErr result (TakesFront (O.taken out.old) (O.taken out.new) waiting.old.items) }
-    ensures failed { IsErrOf result WriteAnswer.Failed → Rose (O.faults out.old) (O.faults out.new) }
+    ensures failed { IsErrOf result WriteError.Failed → Rose (O.faults out.old) (O.faults out.new) }
     ensures out_later { O.faults out.old ≤ O.faults out.new }
 {
     if waiting.len() + line.len() > PIECE {
@@ -65,12 +65,12 @@ pub fn write_trace<O: Sink>(
     start: u32,
     capacity: u32,
     out: &mut O,
-) -> Result<(), WriteAnswer>
+) -> Result<(), WriteError>
     requires packets { (1 ≤ packets) × (packets ≤ 1000000) }
     requires start { start < 2 ^ 31 }
     ensures ok { OnOk result (Appends (O.taken out.old) (O.taken out.new) (trace_text (simulated packets start capacity))) }
     ensures err { OnErr result (TakesFront (O.taken out.old) (O.taken out.new) (trace_text (simulated packets start capacity))) }
-    ensures failed { IsErrOf result WriteAnswer.Failed → Rose (O.faults out.old) (O.faults out.new) }
+    ensures failed { IsErrOf result WriteError.Failed → Rose (O.faults out.old) (O.faults out.new) }
     ensures out_later { O.faults out.old ≤ O.faults out.new }
 {
     let mut generator = Generator::new(alloc, start, capacity)?;

@@ -21,7 +21,7 @@ clock_rests every since number is room =
     let some : 0 < suc number % every = omega arith in
     grind (arith, nat_tests)
 
-pub clock_strikes : (every since number : ℕ) → 0 < every → since ≡ number % every → every ≤ since + 1 → true ≡ is_refresh every (suc number)
-clock_strikes every since number some is full =
+pub clock_is_due : (every since number : ℕ) → 0 < every → since ≡ number % every → every ≤ since + 1 → true ≡ is_refresh every (suc number)
+clock_is_due every since number some is full =
     let next = next_around every since number some is full in
     grind (arith, nat_tests)

@@ -86,13 +86,13 @@ run_as g h (Some t) m b w =
     ap (λ n. run (record { buckets = n; ways = g.ways; refresh = 0 }) (Packet t.key t.row ∷ []) m) b
     ∙ ap (λ n. run (record { buckets = h.buckets; ways = n; refresh = 0 }) (Packet t.key t.row ∷ []) m) w
 
--- a packet, and a sweep where the clock strikes
-pub turn_as : (ways number : ℕ) (g : Geometry) (strikes : Bool) (buckets next : ℕ) (taking : Option Taken) (m : Machine) → g.ways ≡ ways → g.buckets ≡ buckets → next ≡ buckets → strikes ≡ is_refresh g.refresh number
-    → (if strikes then empty_buckets next (run (geometry_of ways buckets) (event_of taking) m) else run (geometry_of ways buckets) (event_of taking) m) ≡ after_packet g number (event_of taking) m
-turn_as ways number g strikes buckets next taking m w b k s =
+-- a packet, and a sweep where the clock is_due
+pub turn_as : (ways number : ℕ) (g : Geometry) (is_due : Bool) (buckets next : ℕ) (taking : Option Taken) (m : Machine) → g.ways ≡ ways → g.buckets ≡ buckets → next ≡ buckets → is_due ≡ is_refresh g.refresh number
+    → (if is_due then empty_buckets next (run (geometry_of ways buckets) (event_of taking) m) else run (geometry_of ways buckets) (event_of taking) m) ≡ after_packet g number (event_of taking) m
+turn_as ways number g is_due buckets next taking m w b k s =
     let same = run_as (geometry_of ways buckets) g taking m (sym b) (sym w) in
-    ap (λ x. if strikes then empty_buckets next x else x) same
-    ∙ (ap (λ n. if strikes then empty_buckets n (run g (event_of taking) m) else run g (event_of taking) m) (k ∙ sym b)
+    ap (λ x. if is_due then empty_buckets next x else x) same
+    ∙ (ap (λ n. if is_due then empty_buckets n (run g (event_of taking) m) else run g (event_of taking) m) (k ∙ sym b)
     ∙ ap (λ (t : Bool). if t then empty_buckets g.buckets (run g (event_of taking) m) else run g (event_of taking) m) s)
 
 start_alike : EventsKeepAlike → (g : Geometry) (i : ℕ) (groups : List GroupPlan) → AlikeFrom (λ j. empty_machine g) i (empty_machines g groups)

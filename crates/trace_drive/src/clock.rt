@@ -4,7 +4,7 @@ ghost use Rattle.std.specs.Prelude.{◌≡◌, ◌+◌, ℕ, suc};
 ghost use Rattle.epoch_model.specs.Epochs.{is_refresh};
 ghost use Rattle.trace_drive.specs.Clocks.{HasCounted};
 
-/// Strikes at each multiple of a number of packets, and never where that is 0.
+/// Is due at each multiple of a number of packets, and never where that is 0.
 #[derive(Clone, Copy, Debug, PartialEq, Eq)]
 pub struct Clock {
     every: u32,
@@ -21,9 +21,9 @@ impl Clock {
     }
 
     /// Counts a packet, and says whether its number is a multiple.
-    pub fn strikes(&mut self) -> bool
+    pub fn is_due(&mut self) -> bool
         requires { (number : ℕ) × HasCounted number self.old }
-        ensures strikes { (number : ℕ) → HasCounted number self.old → result ≡ is_refresh self.old.every (suc number) }
+        ensures is_due { (number : ℕ) → HasCounted number self.old → result ≡ is_refresh self.old.every (suc number) }
         ensures counted { (number : ℕ) → HasCounted number self.old → HasCounted (suc number) self.new }
         ensures every { self.new.every ≡ self.old.every }
     {

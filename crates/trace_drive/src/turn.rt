@@ -54,15 +54,15 @@ pub fn sweep<const WAYS: usize, L: Ledger>(
 // A sweep, where this is a refresh.
 fn refresh<const WAYS: usize, L: Ledger>(
     pipeline: &mut Pipeline<WAYS>,
-    strikes: bool,
+    is_due: bool,
     steps: &mut Steps<L>,
 ) -> Result<(), AllocError>
     ensures follows { OnOk result ((after : ℕ → Machine) → FollowsBy after pipeline.old
-        → FollowsBy (λ i. if strikes then empty_buckets pipeline.old.buckets (after i) else after i) pipeline.new) }
+        → FollowsBy (λ i. if is_due then empty_buckets pipeline.old.buckets (after i) else after i) pipeline.new) }
     ensures keeps { OnOk result (Keeps pipeline.old pipeline.new) }
     ensures steps { steps.old ≤ steps.new }
 {
-    if strikes {
+    if is_due {
         sweep(pipeline, steps)
     } else {
         Ok(())
@@ -72,15 +72,15 @@ fn refresh<const WAYS: usize, L: Ledger>(
 // A merge of each lane, where the lag is over.
 fn catch_up<const WAYS: usize, L: Ledger>(
     pipeline: &mut Pipeline<WAYS>,
-    strikes: bool,
+    is_due: bool,
     steps: &mut Steps<L>,
 ) -> Result<(), AllocError>
     ensures follows { OnOk result ((after : ℕ → Machine) → FollowsBy after pipeline.old → FollowsBy after pipeline.new) }
     ensures keeps { OnOk result (Keeps pipeline.old pipeline.new) }
-    ensures ready { OnOk result (strikes ≡ true → list_all lane_is_ready pipeline.new.lanes ≡ true) }
+    ensures ready { OnOk result (is_due ≡ true → list_all lane_is_ready pipeline.new.lanes ≡ true) }
     ensures steps { steps.old ≤ steps.new }
 {
-    if strikes {
+    if is_due {
         merge_each(pipeline, steps)
     } else {
         Ok(())
@@ -113,8 +113,8 @@ pub fn turn<const WAYS: usize, L: Ledger>(
     ensures every { (refreshes.new.every ≡ refreshes.old.every) × (lags.new.every ≡ lags.old.every) }
     ensures steps { steps.old ≤ steps.new }
 {
-    let refresh_now = refreshes.strikes();
-    let lag_over = lags.strikes();
+    let refresh_now = refreshes.is_due();
+    let lag_over = lags.is_due();
     take_packet(pipeline, packet, steps)?;
     refresh(pipeline, refresh_now, steps)?;
     catch_up(pipeline, lag_over, steps)

@@ -37,7 +37,7 @@ returns-in-Ok-clause-follows g c lag packets f are counted =
     let at = c.in_ok-at.at in
     let now = c.switch_at.new.known in
     let mid = c.switch_at.new.network in
-    let over = c.strikes-lag_over.result in
+    let over = c.is_due-lag_over.result in
     let same : c.get.result ≡ switch_in words = switch_is words c.get.result c.get.ensures in
     let number : switch_number known (switch_in words) ≡ Some at = subst (λ s. switch_number known s ≡ Some at) same c.in_ok-at.ensures.at in
     let after : now ≡ with_switch known (switch_in words) = c.in_ok-at.ensures.known ∙ ap (with_switch known) same in
@@ -46,24 +46,24 @@ returns-in-Ok-clause-follows g c lag packets f are counted =
     let m = c.in_ok-at.ensures.follows lag packets f in
     let clock = got_some clocks at (subst (λ n. at < n) (sym are.count) few) in
     let struck : is_refresh lag (suc (taken_by at (m.0).events)) ≡ over =
-    sym (c.strikes-lag_over.ensures.strikes lag (taken_by at (m.0).events) clock.0 are clock.1 (subst (λ es. HasCounted (taken_by at es) clock.0) (sym m.1) (counted at clock.0 clock.1))) in
+    sym (c.is_due-lag_over.ensures.is_due lag (taken_by at (m.0).events) clock.0 are clock.1 (subst (λ es. HasCounted (taken_by at es) clock.0) (sym m.1) (counted at clock.0 clock.1))) in
     let n = follows_turn c.runs_follow_events.ensures g.row.WAYS lag now packets words at over mid c.turn.new.self c.in-Ok.ensures.runs
     (ap (λ ks. place_among ks (switch_in words)) after ∙ stays.0) (subst (λ ks. at < length ks) (sym after) stays.1) m.0 struck in (
       n.0,
-      subst (λ es. HaveCounted es c.strikes-lag_over.new.clocks) (sym n.1)
-          (counted_on at words over mid (m.0).events clocks c.strikes-lag_over.new.clocks clock.0 clock.1 (subst (λ es. HaveCounted es clocks) (sym m.1) counted) c.strikes-lag_over.ensures.counts),
+      subst (λ es. HaveCounted es c.is_due-lag_over.new.clocks) (sym n.1)
+          (counted_on at words over mid (m.0).events clocks c.is_due-lag_over.new.clocks clock.0 clock.1 (subst (λ es. HaveCounted es clocks) (sym m.1) counted) c.is_due-lag_over.ensures.counts),
     )
 
 pub returns-in-Ok-clause-keeps : goal.returns-in-Ok-clause-keeps
 returns-in-Ok-clause-keeps g c =
     let mid = c.switch_at.new.network in
-    let turn = turn_events c.in_ok-at.at c.args.packet.now.words c.strikes-lag_over.result mid in
+    let turn = turn_events c.in_ok-at.at c.args.packet.now.words c.is_due-lag_over.result mid in
     let kept = (runs_kept g.row.WAYS turn mid c.turn.new.self c.in-Ok.ensures.runs).keeps in
     let was = c.in_ok-at.ensures.keeps in
     record { plan = kept.plan ∙ was.plan; buckets = kept.buckets ∙ was.buckets; pipe_records = kept.pipe_records ∙ was.pipe_records }
 
-pub strikes-lag_over-requires : goal.strikes-lag_over-requires
-strikes-lag_over-requires g c =
+pub is_due-lag_over-requires : goal.is_due-lag_over-requires
+is_due-lag_over-requires g c =
     let known = c.args.known.now in
     let at = c.in_ok-at.at in
     let number : switch_number known c.get.result ≡ Some at = c.in_ok-at.ensures.at in

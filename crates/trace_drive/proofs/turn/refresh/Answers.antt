@@ -4,10 +4,10 @@ use Rattle.trace_drive.specs.Follows.{FollowsBy}
 use Rattle.trace_drive.proofs.Following.{on_ok}
 use Rattle.trace_drive.proofs.turn.refresh.Goals as goal
 
-pub returns-then-strikes-clause-follows : goal.returns-then-strikes-clause-follows
-returns-then-strikes-clause-follows g c =
+pub returns-then-is_due-clause-follows : goal.returns-then-is_due-clause-follows
+returns-then-is_due-clause-follows g c =
     let old = c.args.pipeline.now in
     let new = c.sweep.new.pipeline in
     on_ok ((after : ℕ → Machine) → FollowsBy after old → FollowsBy (λ i. empty_buckets old.buckets (after i)) new)
-    ((after : ℕ → Machine) → FollowsBy after old → FollowsBy (λ i. if c.args.strikes then empty_buckets old.buckets (after i) else after i) new) c.sweep.result
-    (λ led after f. subst (λ (b : Bool). FollowsBy (λ i. if b then empty_buckets old.buckets (after i) else after i) new) (sym c.if-strikes.true) (led after f)) c.sweep.ensures.follows
+    ((after : ℕ → Machine) → FollowsBy after old → FollowsBy (λ i. if c.args.is_due then empty_buckets old.buckets (after i) else after i) new) c.sweep.result
+    (λ led after f. subst (λ (b : Bool). FollowsBy (λ i. if b then empty_buckets old.buckets (after i) else after i) new) (sym c.if-is_due.true) (led after f)) c.sweep.ensures.follows

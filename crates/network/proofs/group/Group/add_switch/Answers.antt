@@ -8,7 +8,7 @@ use Rattle.stage_plan.specs.declared.group.GroupWiring.{GroupWiring}
 use Rattle.stage_plan.specs.Sound.{IsSoundGroup}
 use Rattle.switch_core.proofs.LaneFacts.{on_err, on_ok}
 use Rattle.switch_core.proofs.LaneMakes.{on_both}
-use Rattle.additive_folds.specs.Network.{SwitchEvent, SwitchEpoch}
+use Rattle.additive_laws.specs.Network.{SwitchEvent, SwitchEpoch}
 use Rattle.net_wide.specs.Sharing.{AddsFront, FrontsStand}
 use Rattle.network.specs.Groups.{GroupGrows, GroupView, IsGroup}
 use Rattle.network.proofs.GroupSteps.{grown_group, others_push, places_push, wide_push}

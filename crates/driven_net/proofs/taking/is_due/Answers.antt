@@ -6,14 +6,14 @@ use Rattle.epoch_model.specs.Epochs.{is_refresh}
 use Rattle.trace_drive.specs.Clocks.{HasCounted}
 use Rattle.trace_drive.specs.declared.clock.Clock.{Clock}
 use Rattle.driven_net.proofs.Counting.{clock_counts, still_clocks}
-use Rattle.driven_net.proofs.taking.strikes.Goals as goal
+use Rattle.driven_net.proofs.taking.is_due.Goals as goal
 
 -- where there is no clock
 abbrev none : Clock
 none = record { every = 0; since = 0 }
 
-pub strikes-requires : goal.strikes-requires
-strikes-requires c =
+pub is_due-requires : goal.is_due-requires
+is_due-requires c =
     let clocks = c.args.clocks.now in
     let at = c.args.at in
     let are = c.requires.clocks.1 in
@@ -25,21 +25,21 @@ returns-clause-clocks c lag are =
     let clocks = c.args.clocks.now in
     let at = c.args.at in
     let below : at < length clocks = subst (λ n. at < n) (sym are.count) c.requires.at in
-    still_clocks clocks at (get_or clocks at none) c.strikes.new.self (got_here clocks at none below) c.strikes.ensures.counted lag c.strikes.ensures.every are
+    still_clocks clocks at (get_or clocks at none) c.is_due.new.self (got_here clocks at none below) c.is_due.ensures.counted lag c.is_due.ensures.every are
 
 pub returns-clause-counts : goal.returns-clause-counts
 returns-clause-counts c =
     let clocks = c.args.clocks.now in
     let at = c.args.at in
     let below : at < length clocks = subst (λ n. at < n) (sym c.requires.clocks.1.count) c.requires.at in
-    clock_counts clocks at (get_or clocks at none) c.strikes.new.self (got_here clocks at none below) c.strikes.ensures.counted
+    clock_counts clocks at (get_or clocks at none) c.is_due.new.self (got_here clocks at none below) c.is_due.ensures.counted
 
-pub returns-clause-strikes : goal.returns-clause-strikes
-returns-clause-strikes c lag number clock are e counted =
+pub returns-clause-is_due : goal.returns-clause-is_due
+returns-clause-is_due c lag number clock are e counted =
     let clocks = c.args.clocks.now in
     let at = c.args.at in
     let old = get_or clocks at none in
     let below : at < length clocks = subst (λ n. at < n) (sym are.count) c.requires.at in
     let here : slice_get clocks at ≡ Some old = got_here clocks at none below in
-    c.strikes.ensures.strikes number (subst (HasCounted number) (same_some clock old (sym e ∙ here)) counted)
+    c.is_due.ensures.is_due number (subst (HasCounted number) (same_some clock old (sym e ∙ here)) counted)
     ∙ ap (λ n. is_refresh n (suc number)) (are.lags at old here)
