@@ -18,7 +18,8 @@ from query_help.situations import part_at, situation
 from query_help.tokens import decoded, tokens_of
 
 CAUSES = {
-    "if": "a condition", "forms": "two forms", "min": "min", "decay": "decay", "/": "a division", "%": "a division",
+    "if": "a condition", "greatest": "a condition that keeps the greatest", "least": "min", "forms": "two forms",
+    "min": "min", "decay": "decay", "/": "a division", "%": "a division",
     "<<": "a shift", ">>": "a shift", "&": "a bit operation", "|": "a bit operation", "^": "a bit operation",
     "*": "a product", "sadd": "a sum of two",
 }
@@ -137,7 +138,7 @@ def other_words(query: Query, remedies: dict[str, str]) -> str:
 
 def cause_words(cause: folds.Cause) -> str:
     carried = f"`{cause.reads}`, which is carried on from packet to packet"
-    if cause.op == "if":
+    if cause.op in ("if", "greatest", "least"):
         return f"the condition reads {carried}"
     if cause.op == "forms":
         return "it has sums and maxima"

@@ -14,7 +14,11 @@ FORMS = ("+", "-", "*", "max", "sadd")
 
 @dataclass(frozen=True)
 class Cause:
-    """What spoils a variable: the operator or "if", the byte where it stands, and the variable that it reads there."""
+    """What spoils a variable, the byte where it stands, and the variable that it reads there.
+
+    What spoils is an operator, or a condition: "greatest" or "least" where it only keeps that of the variable and a
+    value in the variable, else "if".
+    """
 
     op: str
     start: int
@@ -119,11 +123,34 @@ def monotone_value(_form, expression: Expression, values: Values) -> Value:
     return spoilt_by(expression, values)
 
 
-def condition_cause(value: Value, condition: Expression, values: Values) -> Cause:
+def alike(one: Expression, other: Expression) -> bool:
+    """Are both the same expression?"""
+    pairs = zip(one.operands, other.operands)
+    return (one.op == other.op and one.token.text == other.token.text
+            and len(one.operands) == len(other.operands) and all(alike(left, right) for left, right in pairs))
+
+
+def kept_by(statement: If) -> str:
+    """The cause that a condition is: "greatest" of `if (x > m) { m = x; }`, "least" of `if (x < m) { m = x; }`."""
+    condition = statement.condition
+    if condition.op not in ("<", "<=", ">", ">=") or len(statement.then) != 1 or statement.otherwise:
+        return "if"
+    assign = statement.then[0]
+    if not isinstance(assign, Assign):
+        return "if"
+    # m < x and x > m keep the greatest
+    for (kept, new), greater in ((condition.operands, "<"), (condition.operands[::-1], ">")):
+        if kept.op == "name" and kept.token.text == assign.target.text and alike(new, assign.value):
+            return "greatest" if condition.op.startswith(greater) else "least"
+    return "if"
+
+
+def condition_cause(value: Value, statement: If, values: Values) -> Cause:
     """The cause that a condition gives the variables assigned under it: it, or what spoilt a variable that it reads."""
+    condition = statement.condition
     if value.cause is not None and not condition.contains(value.cause.start):
         return value.cause
-    return Cause("if", condition.start(), carried_name(values, condition))
+    return Cause(kept_by(statement), condition.start(), carried_name(values, condition))
 
 
 def values_after(evaluate, form, values: Values, body: list[Statement]) -> Values:
@@ -139,7 +166,7 @@ def values_after(evaluate, form, values: Values, body: list[Statement]) -> Value
                 two = values_after(evaluate, form, values, statement.otherwise)
                 values = {name: max(one[name], two[name], key=lambda value: value.kind) for name in values}
             else:
-                cause = condition_cause(tested, statement.condition, values)
+                cause = condition_cause(tested, statement, values)
                 values.update({name: Value(SPOILT, cause) for name in assigned([statement])})
     return values
 

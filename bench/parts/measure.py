@@ -337,7 +337,7 @@ def main() -> None:
         *parts_table(traces, measured),
         "",
         f"The process that asks, which has the scheduler too, has a peak of {asking} MB. The peak of a run is at least",
-        "that of the worker that starts it, since Linux counts it so.",
+        "what its worker had in memory when it started the run, since Linux counts it so.",
         "",
         *whole,
         "",
