@@ -91,7 +91,7 @@ impl BackingStore {
     }
 
     /// What holds of every store: keys and rows have their numbers of words, and no key is there twice.
-    pub fn known(&self)
+    pub fn invariant(&self)
         ensures { IsStore self.now }
     {
         let _merged = &self.merged;

@@ -38,7 +38,7 @@ pub(crate) fn end_text<const WAYS: usize, L: Ledger>(
 {
     net_tables_are_read();
     runs_follow_events();
-    network.plan().known();
+    network.plan().invariant();
     network.drain(steps)?;
     let tables = network.close()?;
     let text = print_tables(alloc, typed, tables, steps)?;

@@ -44,7 +44,7 @@ fn switch_at<const WAYS: usize, L: Ledger>(
         (fault ≡ SwitchFault number) × (switch_number known.old switch ≡ None))) }
     ensures steps { steps.old ≤ steps.new }
 {
-    network.known();
+    network.invariant();
     let before = known.len();
     let numbered = match number_switch(known, switch, steps) {
         Ok(numbered) => numbered,
@@ -143,6 +143,6 @@ pub(crate) fn take_all<const WAYS: usize, L: Ledger>(
             steps,
         )?;
     }
-    network.known();
+    network.invariant();
     Ok(network)
 }

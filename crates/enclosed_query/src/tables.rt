@@ -52,8 +52,8 @@ fn stores_known<const WAYS: usize>(pipeline: &Pipeline<WAYS>)
 {
     for i in 0..pipeline.lanes() {
         let lane = pipeline.lane(i);
-        lane.known();
-        lane.store().known();
+        lane.invariant();
+        lane.store().invariant();
     }
 }
 
@@ -70,8 +70,8 @@ fn machines_known<const WAYS: usize>(pipeline: &Pipeline<WAYS>)
 {
     closed_tables_give_bounds();
     closed_tables_hold();
-    pipeline.known();
-    pipeline.plan().known();
+    pipeline.invariant();
+    pipeline.plan().invariant();
     stores_known(pipeline);
     let _drained = pipeline.drained();
 }
@@ -97,8 +97,8 @@ pub fn enclosed<const WAYS: usize>(
     ensures whole { IfOk result (All IsWhole) }
 {
     ends_give_enclosed_tables();
-    pipeline.known();
-    pipeline.plan().known();
+    pipeline.invariant();
+    pipeline.plan().invariant();
     machines_known(pipeline);
     let tables = pipeline.close()?;
     let made = all_shown(alloc, tables)?;

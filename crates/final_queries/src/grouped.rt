@@ -46,9 +46,9 @@ fn fold_args_in<L: Ledger>(
     ensures steps { steps.old ≤ steps.new }
 {
     merged_epochs_are_held();
-    store.known();
+    store.invariant();
     let place = store.row_for(key, initial, false)?;
-    store.known();
+    store.invariant();
     let state = store.row_mut(place);
     code.exec(state, args, scratch, steps);
     Ok(())
@@ -173,7 +173,7 @@ pub fn grouped<L: Ledger>(
     let code = compile(alloc, f)?;
     let initial = f.initial.as_slice();
     let store = fold_rows(alloc, &code, initial, keys, args, rows, width, steps)?;
-    store.known();
+    store.invariant();
     let stored = store.sorted()?;
     Ok(plain_rows(stored))
 }

@@ -29,7 +29,7 @@ pub fn full_store<K: EpochKind, const WAYS: usize, L: Ledger>(
         → StoreHolds (K.folding lane.now.kind) store (all_epochs m)) }
     ensures steps { steps.old ≤ steps.new }
 {
-    lane.known();
+    lane.invariant();
     let (kind, pipe, cache) = (lane.kind(), lane.pipe(), lane.cache());
     let mut initial = vec![in alloc; 0; kind.state_words()]?;
     kind.initial(&mut initial);

@@ -48,7 +48,7 @@ fn store_table(
         → f.row_per_epoch ≡ row_per_epoch → StoreHolds f store epochs → table ≡ closed_table (heading_of group.now) f epochs) }
 {
     held_rows_are_the_tables();
-    store.known();
+    store.invariant();
     let name = Text::from_slice(alloc, group.name.as_slice())?;
     let columns = columns(alloc, group)?;
     let keys = group.key_names.len() as u8;
@@ -78,7 +78,7 @@ pub fn view_lane<K: EpochKind, const WAYS: usize, L: Ledger>(
         → table ≡ closed_table (heading_of group.now) (K.folding lane.now.kind) (all_epochs m)) }
     ensures steps { steps.old ≤ steps.new }
 {
-    lane.known();
+    lane.invariant();
     let store = full_store(alloc, lane, group.key_names.len(), steps)?;
     let row_per_epoch = lane.kind().row_per_epoch();
     store_table(alloc, group, store, row_per_epoch)
@@ -96,10 +96,10 @@ pub fn view<const WAYS: usize, L: Ledger>(
     ensures steps { steps.old ≤ steps.new }
 {
     entries_are_small();
-    p.known();
+    p.invariant();
     keep_released(alloc);
     let plan = p.plan();
-    plan.known();
+    plan.invariant();
     let mut tables = Seq::new(alloc);
     for i in 0..p.lanes() {
         tables.push(view_lane(alloc, plan.group(i), p.lane(i), steps)?)?;

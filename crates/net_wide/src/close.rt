@@ -42,7 +42,7 @@ pub fn store_table<K: EpochKind>(
         (K.folding kind.now) epochs) }
 {
     held_rows_are_the_tables();
-    store.known();
+    store.invariant();
     let keys = key_names.len() as u8;
     let stored = store.sorted()?;
     let shown = shown_rows(stored, kind.row_per_epoch());

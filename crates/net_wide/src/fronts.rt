@@ -87,7 +87,7 @@ pub fn merge_at<K: EpochKind, const WAYS: usize, L: Ledger>(
     ensures known { AtSwitch (λ front. IsFront WAYS (K.sizes front.kind) front.cache front.pipe) fronts.old at }
 {
     let front = &mut fronts[at];
-    front.known();
+    front.invariant();
     front.merge_into(store, steps)
 }
 

@@ -38,7 +38,7 @@ fn empty_bucket<const WAYS: usize, L: Ledger>(
     ensures others { FrontsStay lane at network.old network.new }
     ensures steps { steps.old ≤ steps.new }
 {
-    network.known();
+    network.invariant();
     'epochs: while network.evict(at, lane, bucket, steps) {
         let _merged = network.merge(at, lane, steps)?;
     }
@@ -83,7 +83,7 @@ fn empty_pipe<const WAYS: usize, L: Ledger>(
     ensures others { FrontsStay lane at network.old network.new }
     ensures steps { steps.old ≤ steps.new }
 {
-    network.known();
+    network.invariant();
     'records: while let Merged::Done = network.merge(at, lane, steps)? {}
     Ok(())
 }
@@ -104,7 +104,7 @@ fn drain_lane<const WAYS: usize, L: Ledger>(
     ensures others { FrontsStay lane at network.old network.new }
     ensures steps { steps.old ≤ steps.new }
 {
-    network.known();
+    network.invariant();
     make_ready(network, at, lane, steps)?;
     empty_cache(network, at, lane, steps)?;
     empty_pipe(network, at, lane, steps)
@@ -139,7 +139,7 @@ pub(crate) fn drain_all<const WAYS: usize, L: Ledger>(
     ensures drained { OnOk result (list_all group_is_drained network.new.groups ≡ true) }
     ensures steps { steps.old ≤ steps.new }
 {
-    network.known();
+    network.invariant();
     for at in 0..network.switches() {
         drain_switch(network, at, steps)?;
     }

@@ -34,7 +34,7 @@ pub fn made_groups<const WAYS: usize>(
     ensures are { IfOk result (λ groups. AreGroups plan.now 0 groups.items) }
     ensures stand { IfOk result (λ groups. (buckets : ℕ) → All (λ group. GroupStands WAYS buckets group [] []) groups.items) }
 {
-    plan.known();
+    plan.invariant();
     let mut groups = Vec::new(alloc);
     for i in 0..plan.groups() {
         let group = Group::new(alloc, plan.group(i))?;
@@ -61,7 +61,7 @@ fn add_fronts<const WAYS: usize>(
     ensures grow { OnOk result (Each (GroupGrows WAYS buckets pipe_records) groups.old groups.new) }
     ensures others { Each (λ old new. with_first (length old.fronts) new ≡ old) groups.old groups.new }
 {
-    plan.known();
+    plan.invariant();
     for i in 0..groups.len() {
         let group = &mut groups[i];
         group.add_switch(alloc, plan.group(i as u32), buckets, pipe_records)?;
@@ -140,7 +140,7 @@ pub fn packet_groups<const WAYS: usize, L: Ledger>(
     ensures steps { steps.old ≤ steps.new }
     ensures cost { steps.new ≤ steps.old + sum_by (group_cost WAYS at) groups.old }
 {
-    plan.known();
+    plan.invariant();
     for i in 0..groups.len() {
         let group = &mut groups[i];
         group.packet(plan, i as u32, registers, at, key, args, steps);
@@ -214,7 +214,7 @@ pub fn group_tables<const WAYS: usize>(
     ensures { IfOk result (λ tables. (epochs : List (List Epoch)) → StoresHold groups.now epochs
         → tables ≡ shared_tables plan.now.groups groups.now epochs) }
 {
-    plan.known();
+    plan.invariant();
     let mut tables = Seq::new(alloc);
     for i in 0..groups.len() {
         let group = &groups[i];

@@ -112,7 +112,7 @@ impl<const WAYS: usize> Network<WAYS> {
 
     /// What holds of every network: its groupbys are those of the plan, with a cache and a pipe of its sizes for each of at
     /// most 64 switches.
-    pub fn known(&self)
+    pub fn invariant(&self)
         ensures { IsNetwork WAYS self.now }
     {
         let _buckets = self.buckets;
@@ -190,7 +190,7 @@ impl<const WAYS: usize> Network<WAYS> {
     {
         depth_is_found();
         entries_suit_folds();
-        self.plan.known();
+        self.plan.invariant();
         self.plan.row(packet, &mut self.registers, steps);
         packet_groups(
             &self.plan,

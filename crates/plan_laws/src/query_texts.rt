@@ -21,7 +21,7 @@ pub fn written_plan_is_valid(q: &TypedQuery, p: &Plan)
     requires plan { IsPlanOf q.now p.now }
     ensures { Says (compiled_text q.now) (made_of q.now) }
 {
-    p.known();
+    p.invariant();
 }
 
 /// What the text of a plan prints is what the query prints, byte for byte.
@@ -31,7 +31,7 @@ pub fn written_plan_runs_as_the_query(q: &TypedQuery, p: &Plan)
     requires no_finals { final_fault q.now ≡ None }
     ensures { RunsAsTheQuery q.now }
 {
-    p.known();
+    p.invariant();
 }
 
 /// The fields that the text of a plan names are those that the query reads.
@@ -47,5 +47,5 @@ pub fn compile_then_run(q: &TypedQuery, p: &Plan)
     requires no_finals { final_fault q.now ≡ None }
     ensures { LoadsAsTheQuery q.now }
 {
-    p.known();
+    p.invariant();
 }

@@ -41,7 +41,7 @@ impl Names {
     }
 
     /// No two numbers have the same text.
-    pub fn known(&self)
+    pub fn invariant(&self)
         ensures { AreOnce self.now }
     {
         let _count = self.texts.len();

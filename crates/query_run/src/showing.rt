@@ -69,8 +69,8 @@ pub(crate) fn write_end<const WAYS: usize, R: Report, O: Sink, L: Ledger>(
     ensures out_later { O.faults out.old ≤ O.faults out.new }
     ensures steps { steps.old ≤ steps.new }
 {
-    pipeline.known();
-    pipeline.plan().known();
+    pipeline.invariant();
+    pipeline.plan().invariant();
     let tables = pipeline.close()?;
     write_report(alloc, report, tables, TextBuffer::new(alloc), out, steps)
 }
@@ -111,8 +111,8 @@ pub(crate) fn write_view<const WAYS: usize, R: Report, O: Sink, L: Ledger>(
     ensures steps { steps.old ≤ steps.new }
 {
     views_end_the_trace();
-    pipeline.known();
-    pipeline.plan().known();
+    pipeline.invariant();
+    pipeline.plan().invariant();
     let tables = view(alloc, pipeline, steps)?;
     let line = view_line(alloc, number)?;
     write_report(alloc, report, tables, line, out, steps)

@@ -62,7 +62,7 @@ impl Plan {
     }
 
     /// What holds of each plan.
-    pub fn known(&self)
+    pub fn invariant(&self)
         ensures { IsSoundPlan self.now }
     {
         let _ = &self.ops;

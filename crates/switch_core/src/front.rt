@@ -95,7 +95,7 @@ impl<K: EpochKind, const WAYS: usize> Front<K, WAYS> {
     }
 
     /// What holds of every front: the words of keys, entries and records are as many as the kind says.
-    pub fn known(&self)
+    pub fn invariant(&self)
         ensures { IsFront WAYS (K.sizes self.now.kind) self.now.cache self.now.pipe }
     {
         let _kind = &self.kind;

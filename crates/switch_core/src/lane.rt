@@ -73,11 +73,11 @@ impl<K: EpochKind, const WAYS: usize> Lane<K, WAYS> {
     }
 
     /// What holds of every lane: its words are as many as the kind says.
-    pub fn known(&self)
+    pub fn invariant(&self)
         ensures front { IsFront WAYS (K.sizes self.now.kind) self.now.cache self.now.pipe }
         ensures store { FitsStore (K.sizes self.now.kind) self.now.cache self.now.store }
     {
-        self.front.known();
+        self.front.invariant();
     }
 
     /// Whether the pipe has room for a record.
@@ -191,8 +191,8 @@ impl<K: EpochKind, const WAYS: usize> Lane<K, WAYS> {
             }) (K.folding self.now.kind) m.closed) }
     {
         held_rows_are_the_tables();
-        self.known();
-        self.store.known();
+        self.invariant();
+        self.store.invariant();
         let keys = key_names.len() as u8;
         let stored = self.store.sorted()?;
         let shown = shown_rows(stored, self.front.kind().row_per_epoch());

@@ -88,7 +88,7 @@ pub fn packet_lanes<const WAYS: usize, L: Ledger>(
     ensures steps { steps.old ≤ steps.new }
     ensures cost { steps.new ≤ steps.old + sum_by (lane_cost WAYS) (map lane_view lanes.old) }
 {
-    plan.known();
+    plan.invariant();
     for i in 0..lanes.len() {
         let lane = &mut lanes[i];
         take_packet(plan, i as u32, registers, lane, key, args, steps);

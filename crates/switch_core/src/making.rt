@@ -61,7 +61,7 @@ pub fn made_lanes<const WAYS: usize>(
         (empty_machines (geometry_of WAYS buckets) plan.now.groups)) }
 {
     entries_suit_folds();
-    plan.known();
+    plan.invariant();
     let mut lanes = Vec::new(alloc);
     for i in 0..plan.groups() {
         let lane = made_lane(alloc, plan.group(i), entries, buckets, pipe_records)?;

@@ -41,9 +41,9 @@ pub fn merge_entry<K: EpochKind, L: Ledger>(
     ensures cost { steps.new ≤ steps.old + K.merge_bound kind.now }
 {
     merged_epochs_are_held();
-    store.known();
+    store.invariant();
     let place = store.row_for(key, initial, kind.row_per_epoch())?;
-    store.known();
+    store.invariant();
     let state = store.row_mut(place);
     kind.merge(entry, state, scratch, steps);
     Ok(())

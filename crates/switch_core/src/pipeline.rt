@@ -102,7 +102,7 @@ impl<const WAYS: usize> Pipeline<WAYS> {
 
     /// What holds of every pipeline: its lanes are those of the plan's groupbys, each with entries of its fold's
     /// kind for what they are for.
-    pub fn known(&self)
+    pub fn invariant(&self)
         ensures { AreLanesOf self.now.entries self.now.plan self.now.buckets self.now.lanes }
     {
         let _buckets = self.buckets;
@@ -141,7 +141,7 @@ impl<const WAYS: usize> Pipeline<WAYS> {
     {
         depth_is_found();
         entries_suit_folds();
-        self.plan.known();
+        self.plan.invariant();
         fill_registers(&self.plan, p, &mut self.registers, steps);
         let registers = registers_of(&self.plan, p, &self.registers);
         packet_lanes(
@@ -204,7 +204,7 @@ impl<const WAYS: usize> Pipeline<WAYS> {
         ensures number { AtLane (λ at. result ≡ held_in at.cache) self.now.lanes lane }
         ensures bound { result ≤ self.now.buckets * WAYS }
     {
-        self.known();
+        self.invariant();
         let lane = self.lane(lane);
         lane.held()
     }

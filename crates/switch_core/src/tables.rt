@@ -58,7 +58,7 @@ pub fn lane_tables<const WAYS: usize>(
     ensures { IfOk result (λ tables. (machines : List Machine) → Each StandsFor (map lane_view lanes.now) machines
         → tables ≡ tables_of plan.now.groups (map folding_at (map lane_view lanes.now)) machines) }
 {
-    plan.known();
+    plan.invariant();
     let mut tables = Seq::new(alloc);
     for i in 0..lanes.len() {
         tables.push(lane_table(alloc, plan.group(i as u32), &lanes[i])?)?;

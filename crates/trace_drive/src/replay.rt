@@ -175,7 +175,7 @@ impl<'a, const WAYS: usize> Replay<'a, WAYS> {
         let Replay { mut pipeline, .. } = self;
         match drain(&mut pipeline, steps) {
             Ok(()) => {
-                pipeline.known();
+                pipeline.invariant();
                 Ok(pipeline)
             }
             Err(AllocError) => Err(TraceAnswer::Memory),

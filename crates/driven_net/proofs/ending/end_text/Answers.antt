@@ -15,7 +15,7 @@ print_tables-requires-clause-shapes g c =
     end_tables c.runs_follow_events.ensures g.row.WAYS r.0 q r.1 r.2 old c.drain.new.self c.in_ok-tables.tables c.requires.valid c.requires.combines c.requires.tells c.requires.plan r.3 r.4
     c.in_ok-drain.ensures.runs c.in_ok-drain.ensures.drained c.in_ok-tables.ensures.defined in
     ap (map table_shape) same
-    ∙ (c.net_tables_are_read.ensures q old.plan (caches_of old.buckets g.row.WAYS) r.2 c.requires.valid c.requires.plan (subst IsSoundPlan c.plan.ensures c.known.ensures) r.3).1
+    ∙ (c.net_tables_are_read.ensures q old.plan (caches_of old.buckets g.row.WAYS) r.2 c.requires.valid c.requires.plan (subst IsSoundPlan c.plan.ensures c.invariant.ensures) r.3).1
 
 pub print_tables-requires-clause-tables : goal.print_tables-requires-clause-tables
 print_tables-requires-clause-tables g c =
@@ -26,7 +26,7 @@ print_tables-requires-clause-tables g c =
     end_tables c.runs_follow_events.ensures g.row.WAYS r.0 q r.1 r.2 old c.drain.new.self c.in_ok-tables.tables c.requires.valid c.requires.combines c.requires.tells c.requires.plan r.3 r.4
     c.in_ok-drain.ensures.runs c.in_ok-drain.ensures.drained c.in_ok-tables.ensures.defined in
     subst (All IsTable) (sym same)
-    (c.net_tables_are_read.ensures q old.plan (caches_of old.buckets g.row.WAYS) r.2 c.requires.valid c.requires.plan (subst IsSoundPlan c.plan.ensures c.known.ensures) r.3).0
+    (c.net_tables_are_read.ensures q old.plan (caches_of old.buckets g.row.WAYS) r.2 c.requires.valid c.requires.plan (subst IsSoundPlan c.plan.ensures c.invariant.ensures) r.3).0
 
 pub returns-clause-text : goal.returns-clause-text
 returns-clause-text g c lag known packets whole f =

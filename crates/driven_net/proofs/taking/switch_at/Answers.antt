@@ -7,7 +7,7 @@ use Rattle.driven_net.proofs.Following.{follows_more}
 use Rattle.driven_net.proofs.taking.switch_at.Goals as goal
 
 pub number_switch-requires : goal.number_switch-requires
-number_switch-requires g c = subst (λ n. n ≤ 64) c.requires.switches c.known.ensures.few
+number_switch-requires g c = subst (λ n. n ≤ 64) c.requires.switches c.invariant.ensures.few
 
 pub returns-in-Ok-add_switch-clause-follows : goal.returns-in-Ok-add_switch-clause-follows
 returns-in-Ok-add_switch-clause-follows g c lag packets f =

@@ -15,7 +15,7 @@ returns-clause-holds g c m s =
     let same : LaneStands stands f lane.cache lane.pipe lane.store m =
     subst (λ k. LaneStands (g.K.EpochKind.stands k) (g.K.EpochKind.folding k) lane.cache lane.pipe lane.store m) (sym c.kind-kind.ensures) s in
     let kept : StoreHolds f start (take m.merged m.closed) = subst (λ x. StoreHolds f x (take m.merged m.closed)) (sym copied) same.kept in
-    let key_words : start.key_words ≡ lane.cache.key_words = ap (λ x. x.key_words) copied ∙ c.known.ensures.store.key in
+    let key_words : start.key_words ≡ lane.cache.key_words = ap (λ x. x.key_words) copied ∙ c.invariant.ensures.store.key in
     let piped : RecordsStand stands start.key_words c.pipe-pipe.result.now.records (drop m.merged m.closed) =
     subst (λ n. RecordsStand stands n c.pipe-pipe.result.now.records (drop m.merged m.closed)) (sym key_words)
     (subst (λ p. RecordsStand stands lane.cache.key_words p.records (drop m.merged m.closed)) (sym c.pipe-pipe.ensures) same.front.piped) in

@@ -9,7 +9,7 @@ use Rattle.live_view.proofs.tables.view.Goals as goal
 pub group-requires : goal.group-requires
 group-requires g c =
     let p = c.args.p.now in
-    let long = each_long _ 0 p.lanes p.plan.groups c.known.ensures in
+    let long = each_long _ 0 p.lanes p.plan.groups c.invariant.ensures in
     let same = ap (λ x. length x.groups) c.plan-plan.ensures in
     let below = c.loop-i-test.true in
     let lanes = c.lanes-i-end.ensures in
@@ -21,7 +21,7 @@ view_lane-requires g c =
     let i = c.loop-i.i in
     let lane = lane_view c.lane.result.now in
     let at : slice_get p.plan.groups i ≡ Some c.group.result.now = ap (λ x. slice_get x.groups i) (sym c.plan-plan.ensures) ∙ c.group.ensures in
-    let fits = lane_fits p.entries p.plan p.buckets i p.lanes c.group.result.now lane c.entries_are_small.ensures (subst IsSoundPlan c.plan-plan.ensures c.known-2.ensures) c.known.ensures at c.lane.ensures.lane in
+    let fits = lane_fits p.entries p.plan p.buckets i p.lanes c.group.result.now lane c.entries_are_small.ensures (subst IsSoundPlan c.plan-plan.ensures c.invariant-2.ensures) c.invariant.ensures at c.lane.ensures.lane in
     (lit< tt, (sym fits.keys, fits.small))
 
 pub loop-i-preserved : goal.loop-i-preserved

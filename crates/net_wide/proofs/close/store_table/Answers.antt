@@ -11,7 +11,7 @@ pub returns : goal.returns
 returns g c epochs held =
     let f = g.K.EpochKind.folding c.args.kind.now in
     let store = c.args.store.now in
-    let known = c.known.ensures in
+    let known = c.invariant.ensures in
     let tables = c.held_rows_are_the_tables.ensures in
     let each = c.row_per_epoch.ensures in
     let rows : c.shown_rows-shown.result.rows ≡ closed_rows f epochs =

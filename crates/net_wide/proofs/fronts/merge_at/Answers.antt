@@ -84,7 +84,7 @@ returns-clause-known g c x e =
     let fronts = c.args.fronts.now in
     let first = c.index-fronts-at.result in
     let same = same_some (get_or fronts c.args.at first) x (sym (got_here fronts c.args.at first c.requires.switch) ∙ e) in
-    subst (λ v. IsFront g.row.WAYS (g.K.EpochKind.sizes v.kind) v.cache v.pipe) same c.known.ensures
+    subst (λ v. IsFront g.row.WAYS (g.K.EpochKind.sizes v.kind) v.cache v.pipe) same c.invariant.ensures
 
 pub merge_into-requires : goal.merge_into-requires
 merge_into-requires g c =

@@ -72,7 +72,7 @@ returns-clause-drained g c =
     let many = (merging_kept ways events old cur was.runs).switches in
     let a = c.loop-at-test.false in
     let d = c.switches-at-end.ensures in
-    all_drained ways cur (merging_is ways events old cur was.runs c.known.ensures) (λ lane s within. was.drained lane s (omega arith))
+    all_drained ways cur (merging_is ways events old cur was.runs c.invariant.ensures) (λ lane s within. was.drained lane s (omega arith))
 
 pub returns-in_err-drain_switch-clause-breaks_off : goal.returns-in_err-drain_switch-clause-breaks_off
 returns-in_err-drain_switch-clause-breaks_off g c =

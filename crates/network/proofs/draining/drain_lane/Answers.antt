@@ -103,7 +103,7 @@ returns-clause-drained g c =
     let both = merging_on ways [] evictions old a b first second in
     let new = c.empty_pipe.new.network in
     let all = merging_behind ways evictions old b new both c.empty_pipe.ensures.runs in
-    let is = merging_is ways evictions old new all c.known.ensures in
+    let is = merging_is ways evictions old new all c.invariant.ensures in
     let sizes = merging_kept ways evictions old new all in
     on_ok (waiting_in (front_at new lane at) ≡ 0) (AtFront (λ front. is_drained front.cache front.pipe ≡ true) new.groups at lane) c.empty_pipe.result
     (λ none group e front f.

@@ -18,7 +18,7 @@ loop-i-init g c = record {
 
 pub overflow_cast-i : goal.overflow_cast-i
 overflow_cast-i g c =
-    let many = c.known.ensures.most_groups in
+    let many = c.invariant.ensures.most_groups in
     let long : length c.args.groups.now ≡ length c.args.plan.now.groups = each_long _ 0 c.args.groups.now c.args.plan.now.groups c.requires.groups.1 in
     let kept = c.loop-i.auto.groups in
     let below = c.loop-i-test.true in
@@ -39,7 +39,7 @@ add_switch-requires g c =
     let kept = c.loop-i.auto.groups in
     let below : i < length c.loop-i.groups = let b = c.loop-i-test.true in omega arith in
     let was = untouched_was i first c.loop-i.groups group c.loop-i.invariant.same (omega arith) (got_here c.loop-i.groups i c.index-groups-i.result below) in
-    let own = part_of c.args.plan.now c.requires.groups.0 i first group c.known.ensures c.requires.groups.1 was in
+    let own = part_of c.args.plan.now c.requires.groups.0 i first group c.invariant.ensures c.requires.groups.1 was in
     let same = same_some own.part c.group.result.now (sym own.there ∙ c.group.ensures) in
     let sound = subst (λ p. IsSoundGroup own.registers p (wiring_at c.args.plan.now i)) same own.sound in
     (lit< tt, (c.requires.ways, (c.requires.buckets, (c.requires.places, (c.requires.pipe, (sound.program, (sound.some_keys, sound.most_keys)))))))
@@ -55,7 +55,7 @@ loop-i-preserved g c =
     let kept = c.loop-i.auto.groups in
     let below : i < length groups = let b = c.loop-i-test.true in omega arith in
     let was = untouched_was i first groups group c.loop-i.invariant.same (omega arith) (got_here groups i c.index-groups-i.result below) in
-    let own = part_of plan c.requires.groups.0 i first group c.known.ensures c.requires.groups.1 was in
+    let own = part_of plan c.requires.groups.0 i first group c.invariant.ensures c.requires.groups.1 was in
     let grown : Grown plan i group new =
     λ switches part there is.
     let one = same_some own.part part (sym own.there ∙ there) in

@@ -11,7 +11,7 @@ use Rattle.network.proofs.groups.group_tables.Goals as goal
 
 pub overflow_cast-i : goal.overflow_cast-i
 overflow_cast-i g c =
-    let many = c.known.ensures.most_groups in
+    let many = c.invariant.ensures.most_groups in
     let long : length c.args.groups.now ≡ length c.args.plan.now.groups = each_long _ 0 c.args.groups.now c.args.plan.now.groups c.requires.groups.1 in
     let below = c.loop-i-test.true in
     Fits-below {n = 8} tt (omega arith)
@@ -28,7 +28,7 @@ table-requires g c =
     let groups = c.args.groups.now in
     let group = c.index-groups-i.result in
     let here : slice_get groups i ≡ Some group = got_here groups i group c.loop-i-test.true ∙ ap (λ x. Some x) (sym c.index-groups-i.is) in
-    let own = part_of c.args.plan.now c.requires.groups.0 i groups group c.known.ensures c.requires.groups.1 here in
+    let own = part_of c.args.plan.now c.requires.groups.0 i groups group c.invariant.ensures c.requires.groups.1 here in
     let same = same_some own.part c.group.result.now (sym own.there ∙ c.group.ensures) in
     let keys = ap (λ x. length x.key_names) same in
     let few = own.sound.most_keys in

@@ -11,7 +11,7 @@ use Rattle.network.specs.Groups.{GroupStands, GroupView, IsGroup}
 use Rattle.network.proofs.groups.made_groups.Goals as goal
 
 pub new-requires : goal.new-requires
-new-requires g c = (lit< tt, (group_sound c.args.plan.now c.loop-i.i c.group.result.now c.known.ensures c.group.ensures).2.program)
+new-requires g c = (lit< tt, (group_sound c.args.plan.now c.loop-i.i c.group.result.now c.invariant.ensures c.group.ensures).2.program)
 
 pub loop-i-preserved : goal.loop-i-preserved
 loop-i-preserved g c =

@@ -28,7 +28,7 @@ loop-i-init g c = record {
 
 pub overflow_cast-i : goal.overflow_cast-i
 overflow_cast-i g c =
-    let many = c.known.ensures.most_groups in
+    let many = c.invariant.ensures.most_groups in
     let long : length c.args.groups.now ≡ length c.args.plan.now.groups = each_long _ 0 c.args.groups.now c.args.plan.now.groups c.requires.groups.2 in
     let kept = c.loop-i.auto.groups in
     let below = c.loop-i-test.true in
@@ -42,7 +42,7 @@ packet-requires g c =
     let kept = c.loop-i.auto.groups in
     let below : i < length c.loop-i.groups = let b = c.loop-i-test.true in omega arith in
     let was = untouched_was i first c.loop-i.groups group c.loop-i.invariant.same (omega arith) (got_here c.loop-i.groups i c.index-groups-i.result below) in
-    let own = part_of c.args.plan.now c.requires.groups.0 i first group c.known.ensures c.requires.groups.2 was in
+    let own = part_of c.args.plan.now c.requires.groups.0 i first group c.invariant.ensures c.requires.groups.2 was in
     let at : c.args.at < length group.fronts = let a = c.requires.groups.1 in let b = own.is.count in omega arith in
     let ready = all_at (is_ready_at c.args.at) first i group c.requires.ready was in
     let key = c.loop-i.invariant.key in
@@ -64,7 +64,7 @@ loop-i-preserved g c =
     let below : i < length groups = let b = c.loop-i-test.true in omega arith in
     let was = untouched_was i first groups group c.loop-i.invariant.same (omega arith) (got_here groups i c.index-groups-i.result below) in
     let made : ℕ → GroupView → GroupView → Type 0 = λ n. GroupMakesAll g.row.WAYS c.args.at (event_of (taken_at (wiring_at c.args.plan.now n) c.args.registers.now)) in
-    let own = part_of c.args.plan.now c.requires.groups.0 i first group c.known.ensures c.requires.groups.2 was in
+    let own = part_of c.args.plan.now c.requires.groups.0 i first group c.invariant.ensures c.requires.groups.2 was in
     let at : c.args.at < length group.fronts = let a = c.requires.groups.1 in let b = own.is.count in omega arith in
     record {
       makes = done_next made i first groups new c.loop-i.invariant.makes (λ x e. subst (λ v. made i v new) (same_some group x (sym was ∙ e)) c.packet.ensures.makes);

@@ -16,8 +16,8 @@ pub write_report-requires : goal.write_report-requires
 write_report-requires g c =
     let p = c.args.pipeline.now in
     let e = c.requires.ends in
-    let planned = subst IsSoundPlan c.plan.ensures c.known-2.ensures in
-    let lanes = subst (λ e. AreLanesOf e p.plan p.buckets p.lanes) c.requires.entries c.known.ensures in
+    let planned = subst IsSoundPlan c.plan.ensures c.invariant-2.ensures in
+    let lanes = subst (λ e. AreLanesOf e p.plan p.buckets p.lanes) c.requires.entries c.invariant.ensures in
     record {
       may_print = subst (g.R.Report.may_print c.args.report.now) (sym (c.in_ok-tables.ensures (end_machines p.plan e.0 e.1) e.4))
           (c.requires.may_print p.buckets p.lanes e.0 e.1 planned lanes e.2 e.3);
@@ -37,8 +37,8 @@ returns-clause-written g c =
     let report = c.args.report.now in
     let old = g.O.Sink.taken c.args.out.now in
     let new = g.O.Sink.taken c.write_report.new.out in
-    let planned = subst IsSoundPlan c.plan.ensures c.known-2.ensures in
-    let lanes = subst (λ e. AreLanesOf e p.plan p.buckets p.lanes) c.requires.entries c.known.ensures in
+    let planned = subst IsSoundPlan c.plan.ensures c.invariant-2.ensures in
+    let lanes = subst (λ e. AreLanesOf e p.plan p.buckets p.lanes) c.requires.entries c.invariant.ensures in
     then_ok c.write_report.result _ _
     (λ written text of packets prints room whole stands.
     subst (Appends old new)
@@ -54,8 +54,8 @@ returns-clause-breaks_off g c =
     let report = c.args.report.now in
     let old = c.args.out.now in
     let new = c.write_report.new.out in
-    let planned = subst IsSoundPlan c.plan.ensures c.known-2.ensures in
-    let lanes = subst (λ e. AreLanesOf e p.plan p.buckets p.lanes) c.requires.entries c.known.ensures in
+    let planned = subst IsSoundPlan c.plan.ensures c.invariant-2.ensures in
+    let lanes = subst (λ e. AreLanesOf e p.plan p.buckets p.lanes) c.requires.entries c.invariant.ensures in
     then_err c.write_report.result _ _
     (λ answer broke text of packets prints room whole stands.
     subst (λ written. BreaksOff g.O.Sink.taken g.O.Sink.faults written None old new answer)

@@ -15,8 +15,8 @@ pub write_report-requires : goal.write_report-requires
 write_report-requires g c =
     let p = c.args.pipeline.now in
     let r = c.requires.seen in
-    let planned = subst IsSoundPlan c.plan.ensures c.known-2.ensures in
-    let lanes = subst (λ e. AreLanesOf e p.plan p.buckets p.lanes) c.requires.entries c.known.ensures in
+    let planned = subst IsSoundPlan c.plan.ensures c.invariant-2.ensures in
+    let lanes = subst (λ e. AreLanesOf e p.plan p.buckets p.lanes) c.requires.entries c.invariant.ensures in
     record {
       may_print = subst (g.R.Report.may_print c.args.report.now)
           (sym (seen_tables c.views_end_the_trace.ensures (g.R.Report.entries c.args.report.now) r.0 r.1 c.args.number p c.in_ok-tables.tables lanes c.in_ok-tables.ensures.tables r.2))
@@ -46,8 +46,8 @@ returns-clause-written g c =
     let number = c.args.number in
     let old = g.O.Sink.taken c.args.out.now in
     let new = g.O.Sink.taken c.write_report.new.out in
-    let planned = subst IsSoundPlan c.plan.ensures c.known-2.ensures in
-    let lanes = subst (λ e. AreLanesOf e p.plan p.buckets p.lanes) c.requires.entries c.known.ensures in
+    let planned = subst IsSoundPlan c.plan.ensures c.invariant-2.ensures in
+    let lanes = subst (λ e. AreLanesOf e p.plan p.buckets p.lanes) c.requires.entries c.invariant.ensures in
     then_ok c.write_report.result _ _
     (λ written text of packets prints far.
     subst (Appends old new)
@@ -64,8 +64,8 @@ returns-clause-breaks_off g c =
     let number = c.args.number in
     let old = c.args.out.now in
     let new = c.write_report.new.out in
-    let planned = subst IsSoundPlan c.plan.ensures c.known-2.ensures in
-    let lanes = subst (λ e. AreLanesOf e p.plan p.buckets p.lanes) c.requires.entries c.known.ensures in
+    let planned = subst IsSoundPlan c.plan.ensures c.invariant-2.ensures in
+    let lanes = subst (λ e. AreLanesOf e p.plan p.buckets p.lanes) c.requires.entries c.invariant.ensures in
     then_err c.write_report.result _ _
     (λ answer broke text of packets prints far.
     subst (λ written. BreaksOff g.O.Sink.taken g.O.Sink.faults written None old new answer)

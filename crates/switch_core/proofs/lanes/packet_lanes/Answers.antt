@@ -21,7 +21,7 @@ loop-i-init g c = record {
 
 pub overflow_cast-i : goal.overflow_cast-i
 overflow_cast-i g c =
-    let many = c.known.ensures.most_groups in
+    let many = c.invariant.ensures.most_groups in
     let long : length c.args.lanes.now ≡ length c.args.plan.now.groups = sym (length-map c.args.lanes.now lane_view) ∙ each_long _ 0 (map lane_view c.args.lanes.now) c.args.plan.now.groups c.requires.lanes.2 in
     let kept = c.loop-i.auto.lanes in
     let below = c.loop-i-test.true in
@@ -35,7 +35,7 @@ take_packet-requires g c =
     let below : i < length c.loop-i.lanes = let b = c.loop-i-test.true in omega arith in
     let long = length-map c.args.lanes.now lane_view in
     let was = untouched_was i (map lane_view c.args.lanes.now) (map lane_view c.loop-i.lanes) (lane_view lane) c.loop-i.invariant.same (omega arith) (got_view c.loop-i.lanes i c.index-lanes-i.result below) in
-    let fits = lane_fits c.requires.lanes.0 c.args.plan.now c.requires.lanes.1 i (map lane_view c.args.lanes.now) (lane_view lane) c.known.ensures c.requires.lanes.2 was in
+    let fits = lane_fits c.requires.lanes.0 c.args.plan.now c.requires.lanes.1 i (map lane_view c.args.lanes.now) (lane_view lane) c.invariant.ensures c.requires.lanes.2 was in
     let ready = all_at lane_is_ready (map lane_view c.args.lanes.now) i (lane_view lane) c.requires.ready was in
     let key = c.loop-i.invariant.key in
     let args = c.loop-i.invariant.args in

@@ -15,7 +15,7 @@ use Rattle.switch_core.proofs.making.made_lanes.Goals as goal
 
 pub made_lane-requires : goal.made_lane-requires
 made_lane-requires g c =
-    let own = group_sound c.args.plan.now c.loop-i.i c.group.result.now c.known.ensures c.group.ensures in
+    let own = group_sound c.args.plan.now c.loop-i.i c.group.result.now c.invariant.ensures c.group.ensures in
     (lit< tt, (c.requires.ways, (c.requires.buckets, (c.requires.places, (c.requires.pipe, (own.2.program, (own.2.some_keys, own.2.most_keys)))))))
 
 pub loop-i-preserved : goal.loop-i-preserved
@@ -29,7 +29,7 @@ loop-i-preserved g c =
     let pushed : map lane_view c.push.new.self.items ≡ lanes ++ lane ∷ [] = ap (map lane_view) c.in_ok-push.ensures.items ∙ map-append lane_view c.loop-i.lanes.items (c.in_ok-lane.lane ∷ []) in
     let more : take (i + 1) plan.groups ≡ take i plan.groups ++ group ∷ [] = take_next plan.groups i group c.group.ensures in
     let many : length lanes ≡ i = each_long _ 0 lanes (take i plan.groups) c.loop-i.invariant.lanes ∙ length-take-le i plan.groups (let b = got_below plan.groups i group c.group.ensures in omega arith) in
-    let own = lane_made c.entries_suit_folds.ensures c.args.entries plan c.args.buckets i lane group c.known.ensures c.group.ensures made.buckets made.keys made.kind in
+    let own = lane_made c.entries_suit_folds.ensures c.args.entries plan c.args.buckets i lane group c.invariant.ensures c.group.ensures made.buckets made.keys made.kind in
     let R : ℕ → LaneView → GroupPlan → Type 0 = λ n l x. IsLaneOf c.args.entries c.args.buckets l.cache (ghosts.sizes l.kind) (ghosts.folding l.kind) (ghosts.open_bound l.kind) (ghosts.absorb_bound l.kind) x (wiring_at plan n) in
     let empties : empty_machines (geometry_of g.row.WAYS c.args.buckets) (take (i + 1) plan.groups) ≡ empty_machines (geometry_of g.row.WAYS c.args.buckets) (take i plan.groups) ++ empty_machine (geometry_of g.row.WAYS c.args.buckets) ∷ [] =
     ap (empty_machines (geometry_of g.row.WAYS c.args.buckets)) more ∙ empties_push (geometry_of g.row.WAYS c.args.buckets) (take i plan.groups) group in

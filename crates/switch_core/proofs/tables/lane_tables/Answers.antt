@@ -12,7 +12,7 @@ use Rattle.switch_core.proofs.tables.lane_tables.Goals as goal
 
 pub overflow_cast-i : goal.overflow_cast-i
 overflow_cast-i g c =
-    let many = c.known.ensures.most_groups in
+    let many = c.invariant.ensures.most_groups in
     let long : length c.args.lanes.now ≡ length c.args.plan.now.groups = sym (length-map c.args.lanes.now lane_view) ∙ each_long _ 0 (map lane_view c.args.lanes.now) c.args.plan.now.groups c.requires.lanes.2 in
     let below = c.loop-i-test.true in
     Fits-below {n = 8} tt (omega arith)

@@ -91,6 +91,6 @@ pub returns-clause-bound : goal.returns-clause-bound
 returns-clause-bound g c =
     let net = c.args.self.now in
     let is = subst (IsNetwork g.row.WAYS) c.self.view_is c.self.invariant.0 in
-    let sound = subst (λ (v : NetworkView). IsSoundPlan v.plan) c.self.view_is c.known.ensures in
+    let sound = subst (λ (v : NetworkView). IsSoundPlan v.plan) c.self.view_is c.invariant.ensures in
     under c.args.steps.now c.packet_groups.new.steps (network_cost g.row.WAYS c.args.at net) (plan_bound net.plan g.row.WAYS) (returns-clause-cost g c)
     (groups_within g.row.WAYS c.args.at net.switches net.buckets net.plan net.groups c.depth_is_found.ensures c.entries_suit_folds.ensures sound c.requires.switch is.wide is.groups)

@@ -46,7 +46,7 @@ pub returns-clause-bound : goal.returns-clause-bound
 returns-clause-bound g c =
     let p = c.self.inside in
     let before : PipelineView = record { plan = p.plan; entries = p.entries; buckets = p.buckets; lanes = map lane_view p.lanes.items } in
-    let within : pipeline_cost g.row.WAYS before ≤ runs_of p.entries * plan_bound p.plan g.row.WAYS = packet_within c.depth_is_found.ensures c.entries_suit_folds.ensures g.row.WAYS before c.known.ensures c.self.invariant.lanes in
+    let within : pipeline_cost g.row.WAYS before ≤ runs_of p.entries * plan_bound p.plan g.row.WAYS = packet_within c.depth_is_found.ensures c.entries_suit_folds.ensures g.row.WAYS before c.invariant.ensures c.self.invariant.lanes in
     let row = c.fill_registers.ensures.steps in
     let lanes : c.packet_lanes.new.steps ≤ c.fill_registers.new.steps + sum_by (lane_cost g.row.WAYS) before.lanes =
     subst (λ xs. c.packet_lanes.new.steps ≤ c.fill_registers.new.steps + sum_by (lane_cost g.row.WAYS) (map lane_view xs)) c.deref_mut-2.ensures.value c.packet_lanes.ensures.cost in
