@@ -26,8 +26,8 @@ use Rattle.accepted_query.proofs.TrialParts.{at, named, count_fold, lost_fold, o
 abbrev top : Enclosing
 top = record { condition = None; state = None }
 
-abbrev behind : List TypedStmt → Body
-behind before = record { statements = before; emit = None }
+abbrev after : List TypedStmt → Body
+after before = record { statements = before; emit = None }
 
 -- the statement that adds 1 to a variable
 abbrev increment : ℕ → TypedStmt
@@ -50,16 +50,16 @@ abbrev condition_found : TypedExpr → Span → Found
 condition_found tree span = record { tree = tree; sort = sort.Condition; at = span }
 
 abbrev pub count_typed : TypedFold
-count_typed = typed_as count_fold (1 ∷ []) [] (behind (increment 0 ∷ []))
+count_typed = typed_as count_fold (1 ∷ []) [] (after (increment 0 ∷ []))
 
 pub count_is : fold_checked count_fold ≡ Ok count_typed
 count_is =
-    let one = increment_is (1 ∷ []) [] (named 1 21 22) (named 1 25 26) (at 27 28) (at 29 30) 0 top (behind []) refl refl in
-    let body : body_checked (1 ∷ []) [] count_fold.body ≡ Ok (behind (increment 0 ∷ [])) = ap (λ r. and_then r (λ more. in_order [] top more)) one in
-    fold_is count_fold (1 ∷ []) [] (behind (increment 0 ∷ [])) refl refl body
+    let one = increment_is (1 ∷ []) [] (named 1 21 22) (named 1 25 26) (at 27 28) (at 29 30) 0 top (after []) refl refl in
+    let body : body_checked (1 ∷ []) [] count_fold.body ≡ Ok (after (increment 0 ∷ [])) = ap (λ r. and_then r (λ more. in_order [] top more)) one in
+    fold_is count_fold (1 ∷ []) [] (after (increment 0 ∷ [])) refl refl body
 
 abbrev lost_body : Body
-lost_body = behind (typed_stmt.If (typed.Binary Eq (typed.Slot 1) (typed.Number (2 ^ 64 - 1))) (increment 0 ∷ []) [] ∷ [])
+lost_body = after (typed_stmt.If (typed.Binary Eq (typed.Slot 1) (typed.Number (2 ^ 64 - 1))) (increment 0 ∷ []) [] ∷ [])
 
 abbrev pub lost_typed : TypedFold
 lost_typed = typed_as lost_fold (3 ∷ []) (4 ∷ []) lost_body
@@ -73,8 +73,8 @@ lost_is =
     (binary_is (3 ∷ 4 ∷ []) Eq (at 67 69) (whole.Named (named 4 62 66)) (whole.Number (2 ^ 64 - 1) (at 70 78)) (slot_found 1 (at 62 66)) (number_found (2 ^ 64 - 1) (at 70 78)) (condition_found holds (at 62 66))
     (named_is (3 ∷ 4 ∷ []) (named 4 62 66) 1 refl) (number_is (3 ∷ 4 ∷ []) (2 ^ 64 - 1) (at 70 78)) refl)
     in
-    let one = increment_is (3 ∷ []) (4 ∷ []) (named 3 82 83) (named 3 86 87) (at 88 89) (at 90 91) 0 (inside (3 ∷ []) top written holds) (behind []) refl refl in
-    let choice = if_is (3 ∷ []) (4 ∷ []) written (plus_one 3 82 86 88 90) top (behind []) (behind (increment 0 ∷ [])) holds condition one in
+    let one = increment_is (3 ∷ []) (4 ∷ []) (named 3 82 83) (named 3 86 87) (at 88 89) (at 90 91) 0 (inside (3 ∷ []) top written holds) (after []) refl refl in
+    let choice = if_is (3 ∷ []) (4 ∷ []) written (plus_one 3 82 86 88 90) top (after []) (after (increment 0 ∷ [])) holds condition one in
     let body : body_checked (3 ∷ []) (4 ∷ []) lost_fold.body ≡ Ok lost_body = ap (λ r. and_then r (λ more. in_order [] top more)) choice in
     fold_is lost_fold (3 ∷ []) (4 ∷ []) lost_body refl refl body
 
@@ -85,7 +85,7 @@ abbrev oos_sum : TypedExpr
 oos_sum = typed.Binary Add (typed.Slot 2) (typed.Slot 3)
 
 abbrev oos_body : Body
-oos_body = behind (typed_stmt.If oos_condition (increment 1 ∷ []) [] ∷ typed_stmt.Assign 0 oos_sum ∷ [])
+oos_body = after (typed_stmt.If oos_condition (increment 1 ∷ []) [] ∷ typed_stmt.Assign 0 oos_sum ∷ [])
 
 abbrev pub oos_typed : TypedFold
 oos_typed = typed_as oos_fold (6 ∷ 7 ∷ []) (8 ∷ 9 ∷ []) oos_body
@@ -95,13 +95,13 @@ oos_is =
     let columns : List ℕ = 6 ∷ 7 ∷ 8 ∷ 9 ∷ [] in
     let written : Expr = whole.Binary Ne (at 150 152) (whole.Named (named 6 145 149)) (whole.Named (named 8 153 159)) in
     let sum : Expr = whole.Binary Add (at 190 191) (whole.Named (named 8 183 189)) (whole.Named (named 9 192 203)) in
-    let first : Body = behind (typed_stmt.If oos_condition (increment 1 ∷ []) [] ∷ []) in
+    let first : Body = after (typed_stmt.If oos_condition (increment 1 ∷ []) [] ∷ []) in
     let condition : condition_of columns [] written ≡ Ok oos_condition =
     condition_is columns written oos_condition (at 145 149) (names_is columns Ne (at 150 152) (named 6 145 149) (named 8 153 159) 0 2 (condition_found oos_condition (at 145 149)) refl refl refl)
     in
     let word : word_of columns [] sum ≡ Ok oos_sum = word_is columns sum oos_sum (at 183 189) (names_is columns Add (at 190 191) (named 8 183 189) (named 9 192 203) 2 3 (word_found oos_sum (at 183 189)) refl refl refl) in
-    let one = increment_is (6 ∷ 7 ∷ []) (8 ∷ 9 ∷ []) (named 7 163 164) (named 7 167 168) (at 169 170) (at 171 172) 1 (inside (6 ∷ 7 ∷ []) top written oos_condition) (behind []) refl refl in
-    let choice = if_is (6 ∷ 7 ∷ []) (8 ∷ 9 ∷ []) written (plus_one 7 163 167 169 171) top (behind []) (behind (increment 1 ∷ [])) oos_condition condition one in
+    let one = increment_is (6 ∷ 7 ∷ []) (8 ∷ 9 ∷ []) (named 7 163 164) (named 7 167 168) (at 169 170) (at 171 172) 1 (inside (6 ∷ 7 ∷ []) top written oos_condition) (after []) refl refl in
+    let choice = if_is (6 ∷ 7 ∷ []) (8 ∷ 9 ∷ []) written (plus_one 7 163 167 169 171) top (after []) (after (increment 1 ∷ [])) oos_condition condition one in
     let last = assign_is (6 ∷ 7 ∷ []) (8 ∷ 9 ∷ []) (named 6 176 180) sum 0 oos_sum top first refl word in
     let body : body_checked (6 ∷ 7 ∷ []) (8 ∷ 9 ∷ []) oos_fold.body ≡ Ok oos_body =
     ap (λ r. and_then r (λ more. and_then (stmt_checked (6 ∷ 7 ∷ []) (8 ∷ 9 ∷ []) (statement.Assign (named 6 176 180) sum) top more) (λ next. in_order [] top next))) choice
@@ -113,7 +113,7 @@ abbrev greater : TypedExpr
 greater = typed.Binary Max (typed.Slot 0) (typed.Slot 1)
 
 abbrev deepest_body : Body
-deepest_body = behind (typed_stmt.Assign 0 greater ∷ [])
+deepest_body = after (typed_stmt.Assign 0 greater ∷ [])
 
 abbrev pub deepest_typed : TypedFold
 deepest_typed = typed_as deepest_fold (11 ∷ []) (12 ∷ []) deepest_body
@@ -127,6 +127,6 @@ deepest_is =
     (call_is columns Max (at 239 242) (whole.Named (named 11 243 244)) (whole.Named (named 12 246 251)) (slot_found 0 (at 243 244)) (slot_found 1 (at 246 251)) (word_found greater (at 239 242))
     (named_is columns (named 11 243 244) 0 refl) (named_is columns (named 12 246 251) 1 refl) refl)
     in
-    let one = assign_is (11 ∷ []) (12 ∷ []) (named 11 235 236) call 0 greater top (behind []) refl word in
+    let one = assign_is (11 ∷ []) (12 ∷ []) (named 11 235 236) call 0 greater top (after []) refl word in
     let body : body_checked (11 ∷ []) (12 ∷ []) deepest_fold.body ≡ Ok deepest_body = ap (λ r. and_then r (λ more. in_order [] top more)) one in
     fold_is deepest_fold (11 ∷ []) (12 ∷ []) deepest_body refl refl body

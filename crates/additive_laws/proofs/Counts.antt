@@ -63,8 +63,8 @@ module _ (key : Key) where
   first_of : (e : SwitchEpoch) (merged : List SwitchEpoch) → is_of key e.epoch ≡ true → own (e ∷ merged) e.switch ≡ e.epoch.rows ∷ own merged e.switch
   first_of e merged u = rw (own_number e.switch) (rw u refl)
 
-  none_behind : (e : SwitchEpoch) (merged : List SwitchEpoch) (s : ℕ) → own (e ∷ merged) s ≡ [] → own merged s ≡ []
-  none_behind e merged s h = by_test (e.switch == s)
+  none_after : (e : SwitchEpoch) (merged : List SwitchEpoch) (s : ℕ) → own (e ∷ merged) s ≡ [] → own merged s ≡ []
+  none_after e merged s h = by_test (e.switch == s)
       (λ t. by_test (is_of key e.epoch)
       (λ u. absurd (not_empty e.epoch.rows (own merged s) (rw u at (rw t at h))))
       (λ u. rw u at (rw t at h)))
@@ -74,7 +74,7 @@ module _ (key : Key) where
   all_gone [] h = refl
   all_gone (e ∷ merged) h = by_test (is_of key e.epoch)
       (λ u. absurd (not_empty e.epoch.rows (own merged e.switch) (sym (first_of e merged u) ∙ h e.switch)))
-      (λ u. rw u (all_gone merged (λ s. none_behind e merged s (h s))))
+      (λ u. rw u (all_gone merged (λ s. none_after e merged s (h s))))
 
   same_lists : (s : ℕ) (merged : List SwitchEpoch) (switches : List ℕ) → has_number s switches ≡ false → flat_map (own (apart_from s merged)) switches ≡ flat_map (own merged) switches
   same_lists s merged [] h = refl
@@ -101,7 +101,7 @@ module _ (key : Key) where
   pub of_one : (s : ℕ) (merged : List SwitchEpoch) → ((k : ℕ) → k ≢ s → own merged k ≡ []) → lists_of key (all_epochs merged) ≡ own merged s
   of_one s [] h = refl
   of_one s (e ∷ merged) h =
-      let rest = of_one s merged (λ k d. none_behind e merged k (h k d)) in
+      let rest = of_one s merged (λ k d. none_after e merged k (h k d)) in
       by_test (e.switch == s)
       (λ t. by_test (is_of key e.epoch)
       (λ u. rw t (rw u (ap (λ ls. e.epoch.rows ∷ ls) rest)))

@@ -20,12 +20,12 @@ use Rattle.additive_laws.proofs.Runs.{given_other}
 
 packets_on : (xs ys : List SwitchEvent) → packets_among (xs ++ ys) ≡ packets_among xs ++ packets_among ys
 packets_on [] ys = refl
-packets_on (e ∷ xs) ys = ap (if_packet e.switch e.event) (packets_on xs ys) ∙ behind e.switch e.event (packets_among xs) (packets_among ys)
+packets_on (e ∷ xs) ys = ap (if_packet e.switch e.event) (packets_on xs ys) ∙ after e.switch e.event (packets_among xs) (packets_among ys)
   where
-    behind : (k : ℕ) (event : Event) (xs ys : List SwitchEvent) → if_packet k event (xs ++ ys) ≡ if_packet k event xs ++ ys
-    behind k (Packet key row) xs ys = refl
-    behind k (Evict bucket) xs ys = refl
-    behind k Merge xs ys = refl
+    after : (k : ℕ) (event : Event) (xs ys : List SwitchEvent) → if_packet k event (xs ++ ys) ≡ if_packet k event xs ++ ys
+    after k (Packet key row) xs ys = refl
+    after k (Evict bucket) xs ys = refl
+    after k Merge xs ys = refl
 
 packets_none : (events : List SwitchEvent) → NoPacket (all_events events) → packets_among events ≡ []
 packets_none [] n = refl

@@ -152,9 +152,9 @@ asked_net (query ∷ trace ∷ options) = option_map Net (net_setting_from optio
 asked_net words = None
 
 -- the setting that the words after two operands give, where they name no views
-abbrev pub setting_behind : List (List ℕ) → Option Setting
-setting_behind (first ∷ second ∷ options) = setting_from options
-setting_behind words = None
+abbrev pub setting_after : List (List ℕ) → Option Setting
+setting_after (first ∷ second ∷ options) = setting_from options
+setting_after words = None
 
 -- compile QUERY
 abbrev pub asked_compile : List (List ℕ) → Option Command
@@ -171,9 +171,9 @@ asked (name ∷ words) =
     else if bytes_eq name (codes "gen") then asked_gen words
     else if bytes_eq name (codes "trial") then asked_trial words
     else if bytes_eq name (codes "net") then asked_net words
-    else if bytes_eq name (codes "enclose") then option_map Enclose (setting_behind words)
+    else if bytes_eq name (codes "enclose") then option_map Enclose (setting_after words)
     else if bytes_eq name (codes "compile") then asked_compile words
-    else if bytes_eq name (codes "run-plan") then option_map RunPlan (setting_behind words)
+    else if bytes_eq name (codes "run-plan") then option_map RunPlan (setting_after words)
     else None
 
 -- The numbers of a setting are in their limits.

@@ -2,7 +2,7 @@
 
 ghost use Rattle.std.specs.Prelude.{◌≡◌, ◌≤◌, map, string_bytes, IfSome};
 ghost use Rattle.command_line.specs.Command.{IsCommand, IsGeneration, IsSetting, asked, asked_compile, asked_gen, asked_net, asked_plan};
-ghost use Rattle.command_line.specs.Command.{asked_run, asked_trial, generation_of, setting_behind};
+ghost use Rattle.command_line.specs.Command.{asked_run, asked_trial, generation_of, setting_after};
 
 use crate::number::number_within;
 use crate::options::{net_setting_from, options_of, setting_from};
@@ -102,8 +102,8 @@ fn net_of(words: &[String]) -> Option<Command>
 }
 
 // The setting that the words after two operands give.
-fn setting_behind(words: &[String]) -> Option<Setting>
-    ensures setting { result ≡ setting_behind (map string_bytes words.now) }
+fn setting_after(words: &[String]) -> Option<Setting>
+    ensures setting { result ≡ setting_after (map string_bytes words.now) }
     ensures within { IfSome result IsSetting }
 {
     let (_first, more) = words.split_first()?;
@@ -133,9 +133,9 @@ pub fn command_of(words: &[String]) -> Option<Command>
         "gen" => gen_of(operands),
         "trial" => trial_of(operands),
         "net" => net_of(operands),
-        "enclose" => Some(Command::Enclose(setting_behind(operands)?)),
+        "enclose" => Some(Command::Enclose(setting_after(operands)?)),
         "compile" => compile_of(operands),
-        "run-plan" => Some(Command::RunPlan(setting_behind(operands)?)),
+        "run-plan" => Some(Command::RunPlan(setting_after(operands)?)),
         _ => None,
     }
 }

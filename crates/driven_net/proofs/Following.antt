@@ -15,7 +15,7 @@ use Rattle.network.proofs.EventLists.{each_is_merges, merges_evict_none, merges_
 use Rattle.network.proofs.Runs.{first_in, first_of, kept_long, runs_kept}
 use Rattle.driven_net.specs.Follows.{NetFollows}
 use Rattle.driven_net.specs.Lags.{MergesAtLag, taken_by}
-use Rattle.driven_net.proofs.Known.{place_behind, seen_first, seen_last, seen_more}
+use Rattle.driven_net.proofs.Known.{place_after, seen_first, seen_last, seen_more}
 
 -- ---- packets by switch
 
@@ -141,11 +141,11 @@ pub follows_more : (ways lag : ℕ) (known : List ℕ) (s : ℕ) (packets : List
 follows_more ways lag known s packets old new grown stand f = (
   record {
     switches = grown.switches ∙ (ap (λ n. n + 1) f.switches ∙ sym (length-append known (s ∷ [])));
-    all_known = λ t seen. let a = f.all_known t seen in let b = place_behind known s t (f.all_known t seen) in let l = length-append known (s ∷ []) in omega arith;
+    all_known = λ t seen. let a = f.all_known t seen in let b = place_after known s t (f.all_known t seen) in let l = length-append known (s ∷ []) in omega arith;
     events = f.events;
     stands = stand f.events f.stands;
     takes = f.takes;
-    theirs = theirs_as (place_among known) (place_among (known ++ s ∷ [])) f.events (λ t seen. sym (place_behind known s t (f.all_known t (subst (IsSeen t) f.takes seen)))) f.theirs;
+    theirs = theirs_as (place_among known) (place_among (known ++ s ∷ [])) f.events (λ t seen. sym (place_after known s t (f.all_known t (subst (IsSeen t) f.takes seen)))) f.theirs;
     none = f.none;
     merges = subst (λ n. MergesAtLag lag n [] f.events) (each_long (λ k. GroupGrows ways old.buckets old.pipe_records) 0 old.groups new.groups grown.groups) f.merges;
   },

@@ -24,11 +24,11 @@ place_within : (known : List ℕ) (s : ℕ) → place_among known s ≤ length k
 place_within [] s = omega arith
 place_within (other ∷ known) s = let r = place_within known s in by_test (other == s) (λ t. rw t (omega arith)) (λ t. rw t (omega arith))
 
-pub place_behind : (known : List ℕ) (s t : ℕ) → place_among known t < length known → place_among (known ++ s ∷ []) t ≡ place_among known t
-place_behind [] s t h = absurd (omega arith)
-place_behind (other ∷ known) s t h = by_test (other == t)
+pub place_after : (known : List ℕ) (s t : ℕ) → place_among known t < length known → place_among (known ++ s ∷ []) t ≡ place_among known t
+place_after [] s t h = absurd (omega arith)
+place_after (other ∷ known) s t h = by_test (other == t)
     (λ e. rw e refl)
-    (λ e. let less : suc (place_among known t) < suc (length known) = rw e at h in rw e (ap (λ n. suc n) (place_behind known s t (omega arith))))
+    (λ e. let less : suc (place_among known t) < suc (length known) = rw e at h in rw e (ap (λ n. suc n) (place_after known s t (omega arith))))
 
 place_new : (known : List ℕ) (s : ℕ) → place_among known s ≡ length known → place_among (known ++ s ∷ []) s ≡ length known
 place_new [] s e = let t : (s == s) ≡ true = own_number s in rw t refl

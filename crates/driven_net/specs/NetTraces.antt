@@ -24,9 +24,9 @@ fault_at record_number (Some at) later = later
 -- The first fault of packets from the record with this number on, where these switches came before them: that of the 65th switch,
 -- and otherwise the one after them.
 abbrev pub first_fault : List ℕ → ℕ → List (List ℕ) → Option TraceFault → Option TraceFault
-first_fault known number [] behind = behind
-first_fault known number (words ∷ packets) behind =
-    fault_at number (switch_number known (switch_in words)) (first_fault (with_switch known (switch_in words)) (suc number) packets behind)
+first_fault known number [] past = past
+first_fault known number (words ∷ packets) past =
+    fault_at number (switch_number known (switch_in words)) (first_fault (with_switch known (switch_in words)) (suc number) packets past)
 
 -- the first fault of what a trace contains: a 65th switch among the packets before the trace's own fault comes before that
 abbrev pub net_fault_in : Contents → Option TraceFault

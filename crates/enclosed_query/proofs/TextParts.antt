@@ -40,17 +40,17 @@ parts_at (one ∷ groups) rest (suc n) = parts_at groups rest n
 
 -- finals leave the tables before them unchanged
 
-others_behind : (names : List (List ℕ)) (folds : List TypedFold) (tables : List Table) (finals : List TypedFinal) → (rest : List Table) × (with_finals names folds tables finals ≡ tables ++ rest)
-others_behind names folds tables [] = ([], sym (append-nil tables))
-others_behind names folds tables (one ∷ finals) =
+others_after : (names : List (List ℕ)) (folds : List TypedFold) (tables : List Table) (finals : List TypedFinal) → (rest : List Table) × (with_finals names folds tables finals ≡ tables ++ rest)
+others_after names folds tables [] = ([], sym (append-nil tables))
+others_after names folds tables (one ∷ finals) =
     let made = final_table names folds tables one in
-    let later = others_behind names folds (tables ++ made ∷ []) finals in
+    let later = others_after names folds (tables ++ made ∷ []) finals in
     (made ∷ later.0, later.1 ∙ append_assoc tables (made ∷ []) later.0)
 
-behind_are : (names : List (List ℕ)) (folds : List TypedFold) (tables : List Table) (finals : List TypedFinal)
+after_are : (names : List (List ℕ)) (folds : List TypedFold) (tables : List Table) (finals : List TypedFinal)
     → with_finals names folds tables finals ≡ tables ++ drop (length tables) (with_finals names folds tables finals)
-behind_are names folds tables finals =
-    let others = others_behind names folds tables finals in
+after_are names folds tables finals =
+    let others = others_after names folds tables finals in
     others.1 ∙ ap (λ rest. tables ++ rest) (sym (drop-append_seam tables others.0) ∙ ap (drop (length tables)) (sym others.1))
 
 -- all of what a query prints
@@ -60,7 +60,7 @@ module _ (q : TypedQuery) (groups : List Enclosed) where
 
   one_text : (n : ℕ) → text_at (map bounds_shown groups) all_tables n ≡ unwrap_or (slice_get (all_texts q groups) n) []
   one_text n =
-      ap (λ ts. text_at (map bounds_shown groups) ts n) (behind_are q.names q.folds (map table_read groups) q.finals)
+      ap (λ ts. text_at (map bounds_shown groups) ts n) (after_are q.names q.folds (map table_read groups) q.finals)
       ∙ (parts_at groups (drop (length (map table_read groups)) all_tables) n
       ∙ ap (λ k. unwrap_or (slice_get (map shown_text groups ++ map table_text (drop k all_tables)) n) []) (length-map groups table_read))
 

@@ -11,7 +11,7 @@ pub fn write_record<L: Ledger>(row: &mut [u64], key: &[u64], entry: &[u64], step
     ensures written { row.new ≡ key.now ++ entry.now }
     ensures cost { steps.new ≡ steps.old + length row.old }
 {
-    let (front, behind) = row.split_at_mut(key.len());
+    let (front, rest) = row.split_at_mut(key.len());
     copy_words(key, front, steps);
-    copy_words(entry, behind, steps);
+    copy_words(entry, rest, steps);
 }

@@ -24,8 +24,8 @@ use Rattle.final_queries.proofs.KeyFacts.{key_cmp-itself, key_cmp-back}
 passes_on : (a t q : Rank) → is_before t a ≡ false → is_before t q ≡ true → is_before a q ≡ true
 passes_on a t q up h = grind (arith, nat_tests)
 
-stays_behind : (a t q : Rank) → is_before a t ≡ false → is_before t q ≡ false → is_before a q ≡ false
-stays_behind a t q up h = grind (arith, nat_tests)
+stays_after : (a t q : Rank) → is_before a t ≡ false → is_before t q ≡ false → is_before a q ≡ false
+stays_after a t q up h = grind (arith, nat_tests)
 
 count_first : {X : Type 0} (p : X → Bool) (x : X) (xs : List X) → count_by p (x ∷ xs) ≡ cond (p x) 1 0 + count_by p xs
 count_first p x xs = sum_by-cons (λ y. cond (p y) 1 0) x xs
@@ -55,7 +55,7 @@ too_few count front long kept e f l some = let less : count < kept = omega arith
 pub split_count : (ranks front back : List Rank) (t q : Rank) (kept : ℕ) → IsPermutation ranks (front ++ t ∷ back) → length front ≡ kept - 1 → 0 < kept
     → ((k : ℕ) (d : Rank) → k < length front → is_before t (get_or front k d) ≡ false) → ((k : ℕ) (d : Rank) → k < length back → is_before (get_or back k d) t ≡ false)
     → not (is_before t q) ≡ nat_lt (count_by (λ o. is_before o q) ranks) kept
-split_count ranks front back t q kept perm long some ahead behind = by (λ o. is_before o q) refl
+split_count ranks front back t q kept perm long some ahead later = by (λ o. is_before o q) refl
   where
     by : (p : Rank → Bool) → p ≡ (λ o. is_before o q) → not (is_before t q) ≡ nat_lt (count_by p ranks) kept
     by p is =
@@ -68,7 +68,7 @@ split_count ranks front back t q kept perm long some ahead behind = by (λ o. is
         let total = same ∙ (ap (λ n. n + (cond (p t) 1 0 + count_by p back)) all ∙ ap (λ b. length front + (cond b 1 0 + count_by p back)) (at t ∙ h)) in
         rw h (enough (count_by p ranks) (length front) (count_by p back) kept total long some))
         (λ h.
-        let none = count_none p back (λ k d within. at (get_or back k d) ∙ stays_behind (get_or back k d) t q (behind k d within) h) in
+        let none = count_none p back (λ k d within. at (get_or back k d) ∙ stays_after (get_or back k d) t q (later k d within) h) in
         let total = same ∙ (ap (λ n. count_by p front + (cond (p t) 1 0 + n)) none ∙ ap (λ b. count_by p front + (cond b 1 0 + 0)) (at t ∙ h)) in
         rw h (too_few (count_by p ranks) (count_by p front) (length front) kept total (count_by-le-length p front) long some))
 
@@ -115,13 +115,13 @@ lt_true m n h = grind (arith, nat_tests)
 lt_false : (m n : ℕ) → n ≤ m → false ≡ nat_lt m n
 lt_false m n h = grind (arith, nat_tests)
 
-behind_place : (at place : ℕ) (rows : List Row) (row : Row) → place < at → AreAbove row.key (map key_of (reads rows)) → AreOrdered at rows place row
-behind_place at place [] row h above = tt
-behind_place at place (o ∷ rows) row h above = by_test (is_read o.mark)
+after_place : (at place : ℕ) (rows : List Row) (row : Row) → place < at → AreAbove row.key (map key_of (reads rows)) → AreOrdered at rows place row
+after_place at place [] row h above = tt
+after_place at place (o ∷ rows) row h above = by_test (is_read o.mark)
     (λ t.
     let up : AreAbove row.key (map key_of (o ∷ reads rows)) = rw t at above in
-    (λ _. rw (key_cmp-back row.key o.key up.0) (lt_false at place (omega arith)), behind_place (suc at) place rows row (omega arith) up.1))
-    (λ t. (λ s. absurd (true≢false (sym s ∙ t)), behind_place (suc at) place rows row (omega arith) (rw t at above)))
+    (λ _. rw (key_cmp-back row.key o.key up.0) (lt_false at place (omega arith)), after_place (suc at) place rows row (omega arith) up.1))
+    (λ t. (λ s. absurd (true≢false (sym s ∙ t)), after_place (suc at) place rows row (omega arith) (rw t at above)))
 
 above_in : (key : List ℕ) (front more : List Row) (row : Row) → is_read row.mark ≡ true → AreAbove key (map key_of (reads (front ++ row ∷ more))) → key_cmp key row.key ≡ Less
 above_in key [] more row t above = (subst (λ xs. AreAbove key (map key_of xs)) (one t) above).0
@@ -137,7 +137,7 @@ in_order : (at place : ℕ) (front more : List Row) (row : Row) → place ≡ at
 in_order at place [] more row e t order =
     let one : reads (row ∷ more) ≡ row ∷ reads more = rw t refl in
     let up : IsAscending (map key_of (row ∷ reads more)) = subst (λ xs. IsAscending (map key_of xs)) one order in
-    (λ _. rw (key_cmp-itself row.key) (lt_false at place (omega arith)), behind_place (suc at) place more row (omega arith) up.0)
+    (λ _. rw (key_cmp-itself row.key) (lt_false at place (omega arith)), after_place (suc at) place more row (omega arith) up.0)
 in_order at place (o ∷ front) more row e t order = by_test (is_read o.mark)
     (λ s.
     let up : IsAscending (map key_of (o ∷ reads (front ++ row ∷ more))) = rw s at order in

@@ -53,15 +53,15 @@ pair_before R pairs epochs i place s found =
     at (p ∷ pairs) (e ∷ epochs) (suc i) s found = at pairs epochs i s.1 found
 
 -- where there is no such pair there are no more epochs
-pub none_behind : (R : Pair → Epoch → Type 0) (pairs : List Pair) (epochs : List Epoch) (i : ℕ) → PairsStand R pairs epochs → slice_get (places_of pairs) i ≡ None → length epochs ≤ i
-none_behind R [] [] i s none = omega arith
-none_behind R [] (e ∷ epochs) i s none = absurd s
-none_behind R (p ∷ pairs) [] i s none = absurd s
-none_behind R (p ∷ pairs) (e ∷ epochs) zero s none = absurd (some none)
+pub none_after : (R : Pair → Epoch → Type 0) (pairs : List Pair) (epochs : List Epoch) (i : ℕ) → PairsStand R pairs epochs → slice_get (places_of pairs) i ≡ None → length epochs ≤ i
+none_after R [] [] i s none = omega arith
+none_after R [] (e ∷ epochs) i s none = absurd s
+none_after R (p ∷ pairs) [] i s none = absurd s
+none_after R (p ∷ pairs) (e ∷ epochs) zero s none = absurd (some none)
   where
     some : Some p.place ≡ None → ⊥
     some e = cc
-none_behind R (p ∷ pairs) (e ∷ epochs) (suc i) s none = let rest = none_behind R pairs epochs i s.1 none in omega arith
+none_after R (p ∷ pairs) (e ∷ epochs) (suc i) s none = let rest = none_after R pairs epochs i s.1 none in omega arith
 
 -- a place that a pair has
 pub place_is_there : (pairs : List Pair) (n i place : ℕ) → All (λ pair. pair.place < n) pairs → slice_get (places_of pairs) i ≡ Some place → place < n
@@ -83,16 +83,16 @@ one_before epochs opened i j e key same split =
     ∙ ap (λ es. epochs ++ es) (sym (ap (λ es. reverse es) split ∙ reverse-append (e ∷ []) (drop i opened))))
 
 -- one record more
-pub one_behind : (epochs waiting : List Epoch) (i : ℕ) (e : Epoch) (key : Key) → key ≡ e.key → take (i + 1) waiting ≡ take i waiting ++ e ∷ []
+pub one_after : (epochs waiting : List Epoch) (i : ℕ) (e : Epoch) (key : Key) → key ≡ e.key → take (i + 1) waiting ≡ take i waiting ++ e ∷ []
     → (epochs ++ take i waiting) ++ record { key = key; rows = e.rows } ∷ [] ≡ epochs ++ take (i + 1) waiting
-one_behind epochs waiting i e key same split =
+one_after epochs waiting i e key same split =
     let this : record { key = key; rows = e.rows } ≡ e = ap (λ k. record { key = k; rows = e.rows }) same in
     ap (λ x. (epochs ++ take i waiting) ++ x ∷ []) this ∙ (append_assoc epochs (take i waiting) (e ∷ []) ∙ ap (λ es. epochs ++ es) (sym split))
 
 -- one bucket more
-pub bucket_behind : (epochs : List Epoch) (recent : List (List Epoch)) (bucket : ℕ) → bucket < length recent
+pub bucket_after : (epochs : List Epoch) (recent : List (List Epoch)) (bucket : ℕ) → bucket < length recent
     → (epochs ++ flat_map (λ es. reverse es) (take bucket recent)) ++ reverse (get_or recent bucket []) ≡ epochs ++ flat_map (λ es. reverse es) (take (bucket + 1) recent)
-bucket_behind epochs recent bucket below =
+bucket_after epochs recent bucket below =
     let opened = get_or recent bucket [] in
     append_assoc epochs (flat_map (λ es. reverse es) (take bucket recent)) (reverse opened)
     ∙ ap (λ es. epochs ++ es) (sym (ap (flat_map (λ es. reverse es)) (take_more recent bucket [] below)

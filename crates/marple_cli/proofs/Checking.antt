@@ -7,14 +7,14 @@ use Rattle.query_lang.specs.declared.fault.QueryFault.{QueryFault}
 use Rattle.query_lang.specs.declared.typed.TypedQuery.{TypedQuery}
 use Rattle.accepted_query.specs.Accepted.{accepted, fault_in, query_fault}
 use Rattle.marple_cli.specs.Ends.{QueryEnds}
-use Rattle.marple_cli.specs.Output.{fault_behind, fault_with}
+use Rattle.marple_cli.specs.Output.{fault_after, fault_with}
 use Rattle.marple_cli.specs.declared.status.Status.{Status}
 use Rattle.marple_cli.specs.declared.status.Status.TheVariants as statuses
 use Rattle.marple_cli.proofs.Limits.{IfSome-map}
 
 module _ (own : TypedQuery → Option QueryFault) where
   -- a fault of the text comes first
-  text_first : (found : Checked TypedQuery) (fault : QueryFault) → fault_in found ≡ Some fault → fault_behind own found ≡ Some fault
+  text_first : (found : Checked TypedQuery) (fault : QueryFault) → fault_in found ≡ Some fault → fault_after own found ≡ Some fault
   text_first (Ok q) fault is = absurd (clash is)
     where
       clash : {x : QueryFault} → None ≡ Some x → ⊥
@@ -37,4 +37,4 @@ module _ (own : TypedQuery → Option QueryFault) where
   pub own_refused : (left : Option (List ℕ)) (q : TypedQuery) (fault : QueryFault) → IfSome left (λ query. accepted query ≡ Ok q) → own q ≡ Some fault
       → IfSome left (λ query. fault_with own query ≡ Some fault)
   own_refused left q fault known is =
-      IfSome-map (λ query. accepted query ≡ Ok q) (λ query. fault_with own query ≡ Some fault) left (λ query read. ap (fault_behind own) read ∙ is) known
+      IfSome-map (λ query. accepted query ≡ Ok q) (λ query. fault_with own query ≡ Some fault) left (λ query read. ap (fault_after own) read ∙ is) known

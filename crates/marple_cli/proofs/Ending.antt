@@ -41,7 +41,7 @@ use Rattle.query_run.proofs.WholePackets.{read_whole}
 use Rattle.marple_cli.specs.Call.{ToldOf}
 use Rattle.marple_cli.specs.Driven.{DrivenAfter, Leaves, StandsForEnd}
 use Rattle.marple_cli.specs.Ends.{Ends, OperandEnds, QueryEnds, QueryTold, ReadEnds, TraceEnds, WriteEnds, status_for, status_of}
-use Rattle.marple_cli.specs.Output.{IsAccepted, IsRead, Source, defined_text, fault_behind, fault_for, fault_with, output, read_packets, refusal, run_text, stages_text, tables_text, made_packets, takes, trace_refusal}
+use Rattle.marple_cli.specs.Output.{IsAccepted, IsRead, Source, defined_text, fault_after, fault_for, fault_with, output, read_packets, refusal, run_text, stages_text, tables_text, made_packets, takes, trace_refusal}
 use Rattle.accepted_query.specs.TrialQuery.{trial_query}
 use Rattle.marple_cli.specs.declared.status.Status.{Status}
 use Rattle.marple_cli.specs.declared.status.Status.TheVariants as statuses
@@ -63,7 +63,7 @@ query_told command before found by known query takes is read = by query ∙ ap f
 pub query_fits : (command : Command) (own : TypedQuery → Option QueryFault) (before : Which → Input) (found : TypedQuery) → ((query : Source) → refusal command query ≡ fault_with own query.text)
     → IfSome (before Query).left (λ query. accepted query ≡ Ok found) → own found ≡ None → QueryTold command before (λ query. refusal command query ≡ None)
 query_fits command own before found by known none query takes is read =
-    by query ∙ ap (fault_behind own) (told (λ text. accepted text ≡ Ok found) (before Query).left query.text known is) ∙ none
+    by query ∙ ap (fault_after own) (told (λ text. accepted text ≡ Ok found) (before Query).left query.text known is) ∙ none
 
 -- where the text is what the command writes of accepted operands
 abbrev pub IsText : Command → (Which → Input) → List ℕ → Type 0

@@ -30,7 +30,7 @@ use Rattle.plan_loader.specs.declared.loaded.LoadedPlan.{LoadedPlan}
 use Rattle.marple_cli.specs.Call.{ToldOf}
 use Rattle.marple_cli.specs.Driven.{Leaves, StandsForPlan}
 use Rattle.marple_cli.specs.Ends.{IsReadFrom, QueryTold}
-use Rattle.marple_cli.specs.Output.{SaysPlan, Source, fault_behind, of_accepted, output, plan_tables_text, refusal, trace_refusal}
+use Rattle.marple_cli.specs.Output.{SaysPlan, Source, fault_after, of_accepted, output, plan_tables_text, refusal, trace_refusal}
 use Rattle.marple_cli.proofs.Ending.{told}
 use Rattle.marple_cli.proofs.Limits.{take_long, take_whole}
 
@@ -55,7 +55,7 @@ refused_alone text fault (Err other) refused read =
 
 -- the command refuses a text for this fault
 pub refuses_plan : (setting : Setting) (query : Source) (fault : QueryFault) → SaysPlan query.text query.plan → IsRefused query.text (Refused fault) → refusal (RunPlan setting) query ≡ Some fault
-refuses_plan setting query fault read refused = ap (fault_behind (λ (made : Made). None)) (refused_alone query.text fault query.plan refused read)
+refuses_plan setting query fault read refused = ap (fault_after (λ (made : Made). None)) (refused_alone query.text fault query.plan refused read)
 
 -- what was read of a text, to one byte more than the limit, says what the text says
 pub told_says : (left : Option (List ℕ)) (text slice : List ℕ) (made : Made) → IfSome left (λ bytes. text ≡ take 2097153 bytes) → slice ≡ text → Says slice made → IfSome left (λ bytes. Says bytes made)
@@ -100,7 +100,7 @@ module _ (setting : Setting) (before : Which → Input) (loaded : LoadedPlan) (i
   says query left read = says_alone query.text is.made query.plan (told (λ text. Says text is.made) (before Query).left query.text is.says left) read
 
   pub plan_accepted : QueryTold (RunPlan setting) before (λ query. refusal (RunPlan setting) query ≡ None)
-  plan_accepted query has left read = ap (fault_behind (λ (made : Made). None)) (says query left read)
+  plan_accepted query has left read = ap (fault_after (λ (made : Made). None)) (says query left read)
 
   pub plan_is : ToldOf (RunPlan setting) before (λ query trace. (trace_refusal (RunPlan setting) query trace ≡ (contents trace loaded.plan.reads).fault)
       × (output (RunPlan setting) query trace ≡ views_text (plan_output is.made (geometry_of setting)) 0 (words_of (contents trace loaded.plan.reads).packets)))

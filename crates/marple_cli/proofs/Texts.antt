@@ -19,7 +19,7 @@ use Rattle.query_run.proofs.ViewTexts.{tables_alone}
 use Rattle.trace_drive.specs.Drives.{words_of}
 use Rattle.plan_writer.specs.PlanText.{compiled_text, final_fault}
 use Rattle.marple_cli.specs.Call.{ToldOf}
-use Rattle.marple_cli.specs.Output.{Source, enclosures_text, fault_behind, fault_for, network_text, of_accepted, output, trace_refusal}
+use Rattle.marple_cli.specs.Output.{Source, enclosures_text, fault_after, fault_for, network_text, of_accepted, output, trace_refusal}
 use Rattle.marple_cli.proofs.Ending.{IsText, told}
 
 module _ (before : Which → Input) (found : TypedQuery) (known : IfSome (before Query).left (λ query. accepted query ≡ Ok found)) where
@@ -46,4 +46,4 @@ module _ (before : Which → Input) (found : TypedQuery) (known : IfSome (before
   pub compiled_is : (text : List ℕ) → final_fault found ≡ None → text ≡ compiled_text found → IsText Compile before text
   compiled_is text none is query trace holds =
       let accepts = read query (holds.of_query refl) in
-      (record { by_query = ap (fault_behind final_fault) accepts ∙ none; by_trace = refl }, is ∙ sym (ap (of_accepted [] compiled_text) accepts))
+      (record { by_query = ap (fault_after final_fault) accepts ∙ none; by_trace = refl }, is ∙ sym (ap (of_accepted [] compiled_text) accepts))

@@ -71,13 +71,13 @@ of_accepted refused say (Ok q) = say q
 of_accepted refused say (Err fault) = refused
 
 -- the fault of a query or a plan, or where it has none, the fault that a command's own check finds in it
-abbrev pub fault_behind : {X : Type 0} → (X → Option QueryFault) → Checked X → Option QueryFault
-fault_behind own (Ok q) = own q
-fault_behind own (Err fault) = Some fault
+abbrev pub fault_after : {X : Type 0} → (X → Option QueryFault) → Checked X → Option QueryFault
+fault_after own (Ok q) = own q
+fault_after own (Err fault) = Some fault
 
 -- the first fault of a query's text for a command that has a check of its own: its faults come after all others
 abbrev pub fault_with : (TypedQuery → Option QueryFault) → List ℕ → Option QueryFault
-fault_with own query = fault_behind own (accepted query)
+fault_with own query = fault_after own (accepted query)
 
 -- Why the command refuses its query, where it does: the query's first fault. Where there is none, `net` refuses a groupby
 -- that doesn't combine, `enclose` one that has no bounds, and `compile` a final. The text of a plan is refused where it
@@ -90,7 +90,7 @@ refusal (Trial generation setting) query = None
 refusal (Net setting) query = fault_with net_fault query.text
 refusal (Enclose setting) query = fault_with enclose_fault query.text
 refusal Compile query = fault_with final_fault query.text
-refusal (RunPlan setting) query = fault_behind (λ made. None) query.plan
+refusal (RunPlan setting) query = fault_after (λ made. None) query.plan
 
 -- the first fault of a trace's bytes for what a query reads; a query that is refused reads nothing
 abbrev pub fault_for : Checked TypedQuery → List ℕ → Option TraceFault

@@ -21,14 +21,14 @@ use Rattle.trace_drive.specs.Drives.{words_of}
 use Rattle.trace_reader.specs.Traces as traces
 use Rattle.plan_laws.specs.MadeOf.{made_of}
 use Rattle.plan_laws.specs.RunLaws.{IsAsTheQuery}
-use Rattle.marple_cli.specs.Output.{IsRead, Source, fault_behind, fault_for, of_accepted, plan_tables_text, read_packets, run_text}
+use Rattle.marple_cli.specs.Output.{IsRead, Source, fault_after, fault_for, of_accepted, plan_tables_text, read_packets, run_text}
 use Rattle.marple_laws.specs.Compiled.{CompiledPlansRunAsQueries}
 
 module _ (alone : NoViewsWithoutNumber) (whole : ReadPacketsAreWhole) (setting : Setting) (trace : List ℕ) where
   -- runs of a query and of a plan by what their texts are read to
   record AreAlike (found : Checked TypedQuery) (read : Checked Made) : Type 0 where
     query_accepted : fault_in found ≡ None
-    plan_accepted : fault_behind (λ (made : Made). None) read ≡ None
+    plan_accepted : fault_after (λ (made : Made). None) read ≡ None
     trace_refused : of_accepted None (λ made. traces.trace_fault trace (reads_in made)) read ≡ fault_for found trace
     written : of_accepted [] (plan_tables_text setting trace) read ≡ run_text setting 0 found (read_packets trace)
 
@@ -44,7 +44,7 @@ module _ (alone : NoViewsWithoutNumber) (whole : ReadPacketsAreWhole) (setting :
         ∙ sym (alone (query_text q (geometry_of setting)) packets);
   }
 
-  alike : (text : List ℕ) (plan : Source) (found : Checked TypedQuery) → accepted text ≡ found → fault_behind final_fault found ≡ None
+  alike : (text : List ℕ) (plan : Source) (found : Checked TypedQuery) → accepted text ≡ found → fault_after final_fault found ≡ None
       → plan.text ≡ of_accepted [] compiled_text found → IsRead (RunPlan setting) plan → AreAlike found plan.plan
   alike text plan (Err fault) e accepted written read = absurd (refused accepted)
     where

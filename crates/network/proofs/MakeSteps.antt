@@ -73,8 +73,8 @@ pub groups_kept : (ways at : ℕ) (events : ℕ → List Event) (olds news : Lis
 groups_kept ways at events olds news made =
     each_map (λ n. GroupMakesAll ways at (events n)) (λ n. GroupKept) 0 olds news (λ j n a b q e f r. makes_kept ways at (events n) a b r) made
 
-pub kept_behind : (olds mids news : List GroupView) → Each GroupKept olds mids → Each GroupKept mids news → Each GroupKept olds news
-kept_behind olds mids news one two = each_on (λ n. GroupKept) (λ n. GroupKept) (λ n. GroupKept) 0 olds mids news (λ n a b c. group_on a b c) one two
+pub kept_after : (olds mids news : List GroupView) → Each GroupKept olds mids → Each GroupKept mids news → Each GroupKept olds news
+kept_after olds mids news one two = each_on (λ n. GroupKept) (λ n. GroupKept) (λ n. GroupKept) 0 olds mids news (λ n a b c. group_on a b c) one two
 
 pub none_kept : (k : ℕ) (groups : List GroupView) → EachFrom (λ n. GroupKept) k groups groups
 none_kept k [] = tt

@@ -13,7 +13,7 @@ use Rattle.network.specs.Costs.{group_cost}
 use Rattle.network.specs.Networks.{IsNetwork, Keeps, NetworkView, merges_cost, network_cost}
 use Rattle.network.specs.Running.{AreFirst, Evicts, Merges, MergingBreaksOff, NetworkEvent, NetworkMakes, NetworkRuns, RunBreaksOff, RunsWithMerges, Takes, gives, joined_below, room_events, switch_of, without_merges}
 use Rattle.network.proofs.CostSteps.{costs_kept, merges_kept}
-use Rattle.network.proofs.MakeSteps.{groups_kept, kept_behind, none_kept}
+use Rattle.network.proofs.MakeSteps.{groups_kept, kept_after, none_kept}
 use Rattle.network.proofs.NetworkSteps.{made_network, with_groups}
 
 -- ---- lists of events
@@ -95,7 +95,7 @@ runs_kept ways (e ∷ events) a b ran =
         pipe_records = rest.keeps.pipe_records ∙ first.keeps.pipe_records;
       };
       switches = rest.switches ∙ first.switches;
-      groups = kept_behind a.groups (ran.0).groups b.groups (groups_kept ways (switch_of e) (gives a.plan e) a.groups (ran.0).groups first.groups) rest.groups;
+      groups = kept_after a.groups (ran.0).groups b.groups (groups_kept ways (switch_of e) (gives a.plan e) a.groups (ran.0).groups first.groups) rest.groups;
     }
 
 pub kept_long : (a b : NetworkView) → NetworkKept a b → length b.groups ≡ length a.groups
@@ -151,8 +151,8 @@ merging_on ways xs ys a b c one two = (
 )
 
 -- merges after the events change none of them
-pub merging_behind : (ways : ℕ) (xs : List NetworkEvent) (a b c : NetworkView) → RunsWithMerges ways xs a b → RunsWithMerges ways [] b c → RunsWithMerges ways xs a c
-merging_behind ways xs a b c one two = subst (λ es. RunsWithMerges ways es a c) (append-nil xs) (merging_on ways xs [] a b c one two)
+pub merging_after : (ways : ℕ) (xs : List NetworkEvent) (a b c : NetworkView) → RunsWithMerges ways xs a b → RunsWithMerges ways [] b c → RunsWithMerges ways xs a c
+merging_after ways xs a b c one two = subst (λ es. RunsWithMerges ways es a c) (append-nil xs) (merging_on ways xs [] a b c one two)
 
 pub merging_next : (ways : ℕ) (lists : ℕ → List NetworkEvent) (i : ℕ) (a b c : NetworkView) → RunsWithMerges ways (joined_below i lists) a b → RunsWithMerges ways (lists i) b c
     → RunsWithMerges ways (joined_below (i + 1) lists) a c

@@ -43,8 +43,8 @@ last_is (p ∷ q ∷ qs) (suc i) x e =
     let more = last_is (q ∷ qs) i x e in
     record { count = omega (arith, more.count); last = more.last }
 
-pub behind_lines : (text : List ℕ) (i at : ℕ) → IsLineStart text i at → slice_split is_line_feed (drop at text) ≡ drop at text ∷ [] → IsBehindLines text i at
-behind_lines text i at start none =
+pub after_lines : (text : List ℕ) (i at : ℕ) → IsLineStart text i at → slice_split is_line_feed (drop at text) ≡ drop at text ∷ [] → IsBehindLines text i at
+after_lines text i at start none =
     let last = last_is (pieces text) i (drop at text) (sym start.rest ∙ none) in
     record { count = last.count; rest = last.last }
 

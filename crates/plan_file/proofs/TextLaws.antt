@@ -47,25 +47,25 @@ not_refused one text plan place says (inr (size, inr (ends, at))) = by ends.bad
         omega (arith, says.printed, size, ap length none)
 
 -- no line after a bad one is reached
-not_behind : MakesOne → (ls : List (List ℕ)) (x b c : Made) (i j : ℕ) (l : List ℕ) → i < j → Make (take i ls) x b → slice_get ls i ≡ Some l → (IsValidAfter b l → ⊥) → Make (take j ls) x c → ⊥
-not_behind one [] x b c zero j l lt p e bad q = cc
-not_behind one [] x b c (suc i) j l lt p e bad q = cc
-not_behind one (m ∷ ls) x b c zero zero l lt p e bad q = omega (arith, lt)
-not_behind one (m ∷ ls) x b c zero (suc j) l lt p e bad q =
+not_after : MakesOne → (ls : List (List ℕ)) (x b c : Made) (i j : ℕ) (l : List ℕ) → i < j → Make (take i ls) x b → slice_get ls i ≡ Some l → (IsValidAfter b l → ⊥) → Make (take j ls) x c → ⊥
+not_after one [] x b c zero j l lt p e bad q = cc
+not_after one [] x b c (suc i) j l lt p e bad q = cc
+not_after one (m ∷ ls) x b c zero zero l lt p e bad q = omega (arith, lt)
+not_after one (m ∷ ls) x b c zero (suc j) l lt p e bad q =
     let same : m ≡ l = cc in
     bad (q.0, subst (λ t. IsLine b t q.0) same (subst (λ y. IsLine y m q.0) (sym p) q.1))
-not_behind one (m ∷ ls) x b c (suc i) zero l lt p e bad q = omega (arith, lt)
-not_behind one (m ∷ ls) x b c (suc i) (suc j) l lt p e bad q =
+not_after one (m ∷ ls) x b c (suc i) zero l lt p e bad q = omega (arith, lt)
+not_after one (m ∷ ls) x b c (suc i) (suc j) l lt p e bad q =
     let same : q.0 ≡ p.0 = one x m q.0 p.0 q.1 p.1 in
-    not_behind one ls p.0 b c i j l (omega (arith, lt)) p.2 e bad (subst (λ y. Make (take j ls) y c) same q.2)
+    not_after one ls p.0 b c i j l (omega (arith, lt)) p.2 e bad (subst (λ y. Make (take j ls) y c) same q.2)
 
 -- a text has one first bad line
 pub first_bad_once : MakesOne → (text : List ℕ) (i j : ℕ) → IsFirstBadLine text i → IsFirstBadLine text j → i ≡ j
 first_bad_once one text i j p q = by (nat_lt i j) (nat_lt j i) refl refl
   where
     by : (a b : Bool) → nat_lt i j ≡ a → nat_lt j i ≡ b → i ≡ j
-    by true b f g = absurd (not_behind one (lines text) nothing p.before q.before i j p.line (grind (arith, nat_tests)) p.valid_before p.is p.bad q.valid_before)
-    by false true f g = absurd (not_behind one (lines text) nothing q.before p.before j i q.line (grind (arith, nat_tests)) q.valid_before q.is q.bad p.valid_before)
+    by true b f g = absurd (not_after one (lines text) nothing p.before q.before i j p.line (grind (arith, nat_tests)) p.valid_before p.is p.bad q.valid_before)
+    by false true f g = absurd (not_after one (lines text) nothing q.before p.before j i q.line (grind (arith, nat_tests)) q.valid_before q.is q.bad p.valid_before)
     by false false f g = grind (arith, nat_tests)
 
 -- a text is refused at one place at most

@@ -142,9 +142,9 @@ left_ahead states args found left b rest c some (Fork t x y next, v, f, is) = re
         ≡ (w ++ (word.Open ∷ (p ++ (word.Close ∷ word.Open ∷ (q ++ (word.Close ∷ [])))))) ++ (n ++ r)
     assoc w p q n r = simp append_assoc
 
-pub left_more : (states args : ℕ) (found : List TypedStmt) (left behind : List Lexeme) (stmt : TypedStmt) (b : Block) (rest : List Lexeme) (a : IsAhead states args found left b rest)
-    → stmt_block stmt ≡ a.one → behind ≡ written_block states a.next ++ rest → IsLeft states args (found ++ stmt ∷ []) behind b rest
-left_more states args found left behind stmt b rest a same is =
+pub left_more : (states args : ℕ) (found : List TypedStmt) (left past : List Lexeme) (stmt : TypedStmt) (b : Block) (rest : List Lexeme) (a : IsAhead states args found left b rest)
+    → stmt_block stmt ≡ a.one → past ≡ written_block states a.next ++ rest → IsLeft states args (found ++ stmt ∷ []) past b rest
+left_more states args found left past stmt b rest a same is =
     (a.next, a.valid_next, ap (λ f. followed f a.next) (block_push found stmt ∙ ap (followed (block_of found)) same) ∙ followed_assoc (block_of found) a.one a.next ∙ a.whole, is)
 
 count_by-append : (p : Lexeme → Bool) (xs ys : List Lexeme) → count_by p (xs ++ ys) ≡ count_by p xs + count_by p ys

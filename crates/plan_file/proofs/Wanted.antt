@@ -13,7 +13,7 @@ use Rattle.plan_file.specs.declared.lexemes.Lexeme.TheVariants as word
 use Rattle.plan_file.specs.declared.wants.Want.{Want}
 use Rattle.plan_file.specs.declared.wants.Want.TheVariants.{Word, Condition, Divisor, Shift, Target, Open, Block}
 use Rattle.plan_file.specs.Bodies.{slot_lexeme, written, written_block, open_braces, IsBody}
-use Rattle.plan_file.specs.Wants.{operands, where_true, behind_word, behind_condition, behind_number, behind_target, behind_if, behind_open, behind_block, behind, Steps, Sticks}
+use Rattle.plan_file.specs.Wants.{operands, where_true, past_word, after_condition, after_number, after_target, after_if, after_open, after_block, past, Steps, Sticks}
 
 head_same : (a b : Lexeme) (xs ys : List Lexeme) → a ∷ xs ≡ b ∷ ys → a ≡ b
 head_same a b xs ys e = cc
@@ -171,24 +171,24 @@ module _ (states args : ℕ) where
   slot_argument s t = rw t refl
 
   -- an expression whose value is a word
-  slot_goes : (s : ℕ) (wants : List Want) (b : Bool) → behind_word states slots (if b then word.State s else word.Argument (s - states)) ≡ Some wants → wants ≡ []
+  slot_goes : (s : ℕ) (wants : List Want) (b : Bool) → past_word states slots (if b then word.State s else word.Argument (s - states)) ≡ Some wants → wants ≡ []
   slot_goes s wants true h = (where_some (nat_lt s states) [] wants h).1
   slot_goes s wants false h = (where_some (nat_lt (states + (s - states)) slots) [] wants h).1
 
-  word_goes : (e : Term) (wants : List Want) → behind_word states slots (first_of e) ≡ Some wants → IsValidTerm slots e → is_condition e ≡ false → AllRead (reverse wants) (rest_of e)
+  word_goes : (e : Term) (wants : List Want) → past_word states slots (first_of e) ≡ Some wants → IsValidTerm slots e → is_condition e ≡ false → AllRead (reverse wants) (rest_of e)
   word_goes (Literal n) wants h v k = nothing_wanted wants (where_some (nat_lt n (2 ^ 64)) [] wants h).1
   word_goes (Read s) wants h v k = nothing_wanted wants (slot_goes s wants (nat_lt s states) h)
   word_goes (Negation e) wants h v k = cc
   word_goes (Operation op a b) wants h v k =
       wanted_go (operands op) wants (written states a ++ written states b) (where_some (not (gives_condition op)) (operands op) wants h).1 (operands_go op a b v.0 v.1 v.2)
 
-  slot_sticks : (s : ℕ) → s < slots → (b : Bool) → nat_lt s states ≡ b → behind_word states slots (if b then word.State s else word.Argument (s - states)) ≡ None → ⊥
+  slot_sticks : (s : ℕ) → s < slots → (b : Bool) → nat_lt s states ≡ b → past_word states slots (if b then word.State s else word.Argument (s - states)) ≡ None → ⊥
   slot_sticks s lt true t h = cc (where_none (nat_lt s states) [] h)
   slot_sticks s lt false t h =
       let out : nat_lt (states + (s - states)) slots ≡ false = where_none (nat_lt (states + (s - states)) slots) [] h in
       grind (arith, nat_tests)
 
-  word_sticks : (e : Term) → behind_word states slots (first_of e) ≡ None → IsValidTerm slots e → is_condition e ≡ false → ⊥
+  word_sticks : (e : Term) → past_word states slots (first_of e) ≡ None → IsValidTerm slots e → is_condition e ≡ false → ⊥
   word_sticks (Literal n) h v k =
       let out : nat_lt n (2 ^ 64) ≡ false = where_none (nat_lt n (2 ^ 64)) [] h in
       let small : n < 2 ^ 64 = v in
@@ -201,7 +201,7 @@ module _ (states args : ℕ) where
       not_both true e f = cc
       not_both false e f = cc
 
-  word_back : (w : Lexeme) (wants : List Want) (front : List Lexeme) → behind_word states slots w ≡ Some wants → AllRead (reverse wants) front → ReadsTerm false (w ∷ front)
+  word_back : (w : Lexeme) (wants : List Want) (front : List Lexeme) → past_word states slots w ≡ Some wants → AllRead (reverse wants) front → ReadsTerm false (w ∷ front)
   word_back (word.Number n) wants front h p =
       let t = where_some (nat_lt n (2 ^ 64)) [] wants h in
       let small : n < 2 ^ 64 = (let e : nat_lt n (2 ^ 64) ≡ true = t.0 in grind (arith, nat_tests)) in
@@ -213,9 +213,9 @@ module _ (states args : ℕ) where
   word_back (word.Argument a) wants front h p =
       let t = where_some (nat_lt (states + a) slots) [] wants h in
       let small : states + a < slots = (let e : nat_lt (states + a) slots ≡ true = t.0 in grind (arith, nat_tests)) in
-      let behind_states : nat_lt (states + a) states ≡ false = grind (arith, nat_tests) in
+      let after_states : nat_lt (states + a) states ≡ false = grind (arith, nat_tests) in
       let number : states + a - states ≡ a = omega arith in
-      (Read (states + a), ap (λ l. word.Argument a ∷ l) (nothing_read wants front t.1 p) ∙ ap (λ n. word.Argument n ∷ []) (sym number) ∙ ap (λ l. l ∷ []) (sym (slot_argument (states + a) behind_states)), small, refl)
+      (Read (states + a), ap (λ l. word.Argument a ∷ l) (nothing_read wants front t.1 p) ∙ ap (λ n. word.Argument n ∷ []) (sym number) ∙ ap (λ l. l ∷ []) (sym (slot_argument (states + a) after_states)), small, refl)
   word_back (word.Function op) wants front h p =
       let t = where_some (not (gives_condition op)) (operands op) wants h in
       let q = operands_back op front (wanted_back (operands op) wants front t.1 p) in
@@ -228,7 +228,7 @@ module _ (states args : ℕ) where
   word_back word.Other wants front h p = cc
 
   -- an expression whose value is a condition
-  condition_goes : (e : Term) (wants : List Want) → behind_condition (first_of e) ≡ Some wants → IsValidTerm slots e → is_condition e ≡ true → AllRead (reverse wants) (rest_of e)
+  condition_goes : (e : Term) (wants : List Want) → after_condition (first_of e) ≡ Some wants → IsValidTerm slots e → is_condition e ≡ true → AllRead (reverse wants) (rest_of e)
   condition_goes (Literal n) wants h v k = cc
   condition_goes (Read s) wants h v k = cc
   condition_goes (Negation e) wants h v k =
@@ -237,13 +237,13 @@ module _ (states args : ℕ) where
   condition_goes (Operation op a b) wants h v k =
       wanted_go (operands op) wants (written states a ++ written states b) (where_some (gives_condition op) (operands op) wants h).1 (operands_go op a b v.0 v.1 v.2)
 
-  condition_sticks : (e : Term) → behind_condition (first_of e) ≡ None → is_condition e ≡ true → ⊥
+  condition_sticks : (e : Term) → after_condition (first_of e) ≡ None → is_condition e ≡ true → ⊥
   condition_sticks (Literal n) h k = cc
   condition_sticks (Read s) h k = cc
   condition_sticks (Negation e) h k = cc
   condition_sticks (Operation op a b) h k = cc (k, where_none (gives_condition op) (operands op) h)
 
-  condition_back : (w : Lexeme) (wants : List Want) (front : List Lexeme) → behind_condition w ≡ Some wants → AllRead (reverse wants) front → ReadsTerm true (w ∷ front)
+  condition_back : (w : Lexeme) (wants : List Want) (front : List Lexeme) → after_condition w ≡ Some wants → AllRead (reverse wants) front → ReadsTerm true (w ∷ front)
   condition_back word.Not wants front h p =
       let same : wants ≡ Condition ∷ [] = cc in
       let q = only_one Condition front (wanted_back (Condition ∷ []) wants front same p) in
@@ -273,19 +273,19 @@ module _ (states args : ℕ) where
   room_more zero c a b n o = absurd (omega (arith, o))
   room_more (suc r) c a b n o = (r, refl, omega (arith, o), omega (arith, o), omega (arith, o))
 
-  block_goes : (room : ℕ) (block : blocks.Block) (w : Lexeme) (front : List Lexeme) (wants : List Want) → behind_block room w ≡ Some wants
+  block_goes : (room : ℕ) (block : blocks.Block) (w : Lexeme) (front : List Lexeme) (wants : List Want) → after_block room w ≡ Some wants
       → w ∷ front ≡ written_block states block ++ word.Close ∷ [] → IsValidBlock states args block → open_braces block ≤ room → AllRead (reverse wants) front
   block_goes room blocks.End w front wants h e v o =
       let first : w ≡ word.Close = head_same w word.Close front [] e in
       let none : front ≡ [] = tail_same w word.Close front [] e in
-      let here : behind_block room word.Close ≡ Some wants = sym (ap (behind_block room) first) ∙ h in
+      let here : after_block room word.Close ≡ Some wants = sym (ap (after_block room) first) ∙ h in
       let same : wants ≡ [] = cc in
       wanted_go [] wants front same none
   block_goes room (blocks.Set v e next) w front wants h eq valid o =
       let rest : List Lexeme = word.State v ∷ ((written states e ++ written_block states next) ++ word.Close ∷ []) in
       let first : w ≡ word.Set = head_same w word.Set front rest eq in
       let tail : front ≡ rest = tail_same w word.Set front rest eq in
-      let here : behind_block room word.Set ≡ Some wants = sym (ap (behind_block room) first) ∙ h in
+      let here : after_block room word.Set ≡ Some wants = sym (ap (after_block room) first) ∙ h in
       let same : wants ≡ Block room ∷ Word ∷ Target ∷ [] = cc in
       let last : List Lexeme = written_block states next ++ word.Close ∷ [] in
       wanted_go (Block room ∷ Word ∷ Target ∷ []) wants front same (
@@ -303,10 +303,10 @@ module _ (states args : ℕ) where
       let rest : List Lexeme = (wc ++ (word.Open ∷ (wa ++ (word.Close ∷ word.Open ∷ (wb ++ (word.Close ∷ wn)))))) ++ word.Close ∷ [] in
       let first : w ≡ word.If = head_same w word.If front rest eq in
       let tail : front ≡ rest = tail_same w word.If front rest eq in
-      let here : behind_block room word.If ≡ Some wants = sym (ap (behind_block room) first) ∙ h in
+      let here : after_block room word.If ≡ Some wants = sym (ap (after_block room) first) ∙ h in
       let m = room_more room c a b next o in
       let r : ℕ = m.0 in
-      let more : behind_if (suc r) ≡ Some wants = sym (ap behind_if m.1) ∙ here in
+      let more : after_if (suc r) ≡ Some wants = sym (ap after_if m.1) ∙ here in
       let same : wants ≡ Block (suc r) ∷ Block r ∷ Open ∷ Block r ∷ Open ∷ Condition ∷ [] = cc in
       let last : List Lexeme = wn ++ word.Close ∷ [] in
       let second : List Lexeme = wb ++ (word.Close ∷ last) in
@@ -343,20 +343,20 @@ module _ (states args : ℕ) where
         ),
       )
 
-  block_sticks : (room : ℕ) (block : blocks.Block) (w : Lexeme) (front : List Lexeme) → behind_block room w ≡ None
+  block_sticks : (room : ℕ) (block : blocks.Block) (w : Lexeme) (front : List Lexeme) → after_block room w ≡ None
       → w ∷ front ≡ written_block states block ++ word.Close ∷ [] → open_braces block ≤ room → ⊥
   block_sticks room blocks.End w front h e o =
-      let here : behind_block room word.Close ≡ None = sym (ap (behind_block room) (head_same w word.Close front [] e)) ∙ h in
+      let here : after_block room word.Close ≡ None = sym (ap (after_block room) (head_same w word.Close front [] e)) ∙ h in
       cc
   block_sticks room (blocks.Set v e next) w front h eq o =
       let first : w ≡ word.Set = head_same w word.Set front _ eq in
-      let here : behind_block room word.Set ≡ None = sym (ap (behind_block room) first) ∙ h in
+      let here : after_block room word.Set ≡ None = sym (ap (after_block room) first) ∙ h in
       cc
   block_sticks room (blocks.Fork c a b next) w front h eq o =
       let first : w ≡ word.If = head_same w word.If front _ eq in
-      let here : behind_block room word.If ≡ None = sym (ap (behind_block room) first) ∙ h in
+      let here : after_block room word.If ≡ None = sym (ap (after_block room) first) ∙ h in
       let m = room_more room c a b next o in
-      let more : behind_if (suc m.0) ≡ None = sym (ap behind_if m.1) ∙ here in
+      let more : after_if (suc m.0) ≡ None = sym (ap after_if m.1) ∙ here in
       cc
 
   set_back : (room : ℕ) (front : List Lexeme) → AllRead (Target ∷ Word ∷ Block room ∷ []) front → ReadsBlock room (word.Set ∷ front)
@@ -386,13 +386,13 @@ module _ (states args : ℕ) where
       let room : open_braces (blocks.Fork c a b n.0) ≤ suc r = (let on : open_braces n.0 ≤ suc r = n.3 in omega arith) in
       (blocks.Fork c a b n.0, ap (λ l. word.If ∷ l) (words ∙ sym (choice_tail wc wa wb wn close)), (vc, kc, va, vb, n.2), room)
 
-  if_back : (room : ℕ) (wants : List Want) (front : List Lexeme) → behind_if room ≡ Some wants → AllRead (reverse wants) front → ReadsBlock room (word.If ∷ front)
+  if_back : (room : ℕ) (wants : List Want) (front : List Lexeme) → after_if room ≡ Some wants → AllRead (reverse wants) front → ReadsBlock room (word.If ∷ front)
   if_back zero wants front h p = cc
   if_back (suc r) wants front h p =
       let same : wants ≡ Block (suc r) ∷ Block r ∷ Open ∷ Block r ∷ Open ∷ Condition ∷ [] = cc in
       choice_back r front (wanted_back (Block (suc r) ∷ Block r ∷ Open ∷ Block r ∷ Open ∷ Condition ∷ []) wants front same p)
 
-  block_back : (room : ℕ) (w : Lexeme) (wants : List Want) (front : List Lexeme) → behind_block room w ≡ Some wants → AllRead (reverse wants) front → ReadsBlock room (w ∷ front)
+  block_back : (room : ℕ) (w : Lexeme) (wants : List Want) (front : List Lexeme) → after_block room w ≡ Some wants → AllRead (reverse wants) front → ReadsBlock room (w ∷ front)
   block_back room word.Close wants front h p =
       let same : wants ≡ [] = cc in
       (blocks.End, ap (λ l. word.Close ∷ l) (nothing_read wants front same p), tt, omega arith)
@@ -409,14 +409,14 @@ module _ (states args : ℕ) where
   block_back room word.Other wants front h p = cc
 
   -- a number for which a test holds
-  number_goes : (test : ℕ → Bool) (w : Lexeme) (n : ℕ) (front : List Lexeme) (wants : List Want) → behind_number test w ≡ Some wants → w ∷ front ≡ word.Number n ∷ [] → AllRead (reverse wants) front
+  number_goes : (test : ℕ → Bool) (w : Lexeme) (n : ℕ) (front : List Lexeme) (wants : List Want) → after_number test w ≡ Some wants → w ∷ front ≡ word.Number n ∷ [] → AllRead (reverse wants) front
   number_goes test w n front wants h e =
-      let here : behind_number test (word.Number n) ≡ Some wants = sym (ap (behind_number test) (head_same w (word.Number n) front [] e)) ∙ h in
+      let here : after_number test (word.Number n) ≡ Some wants = sym (ap (after_number test) (head_same w (word.Number n) front [] e)) ∙ h in
       wanted_go [] wants front (where_some (nat_lt n (2 ^ 64) && test n) [] wants here).1 (tail_same w (word.Number n) front [] e)
 
-  number_sticks : (test : ℕ → Bool) (w : Lexeme) (n : ℕ) (front : List Lexeme) → behind_number test w ≡ None → w ∷ front ≡ word.Number n ∷ [] → n < 2 ^ 64 → test n ≡ true → ⊥
+  number_sticks : (test : ℕ → Bool) (w : Lexeme) (n : ℕ) (front : List Lexeme) → after_number test w ≡ None → w ∷ front ≡ word.Number n ∷ [] → n < 2 ^ 64 → test n ≡ true → ⊥
   number_sticks test w n front h e small holds =
-      let here : behind_number test (word.Number n) ≡ None = sym (ap (behind_number test) (head_same w (word.Number n) front [] e)) ∙ h in
+      let here : after_number test (word.Number n) ≡ None = sym (ap (after_number test) (head_same w (word.Number n) front [] e)) ∙ h in
       let out : (nat_lt n (2 ^ 64) && test n) ≡ false = where_none (nat_lt n (2 ^ 64) && test n) [] here in
       let first : nat_lt n (2 ^ 64) ≡ true = grind (arith, nat_tests) in
       both (nat_lt n (2 ^ 64)) (test n) first holds out
@@ -426,7 +426,7 @@ module _ (states args : ℕ) where
       both true false p q r = cc
       both false b p q r = cc
 
-  number_from : (test : ℕ → Bool) (w : Lexeme) (wants : List Want) (front : List Lexeme) → behind_number test w ≡ Some wants → AllRead (reverse wants) front
+  number_from : (test : ℕ → Bool) (w : Lexeme) (wants : List Want) (front : List Lexeme) → after_number test w ≡ Some wants → AllRead (reverse wants) front
       → (n : ℕ) × (w ∷ front ≡ word.Number n ∷ []) × (n < 2 ^ 64) × (test n ≡ true)
   number_from test (word.Number n) wants front h p =
       let t = where_some (nat_lt n (2 ^ 64) && test n) [] wants h in
@@ -443,18 +443,18 @@ module _ (states args : ℕ) where
   number_from test (word.Argument n) wants front h p = cc
   number_from test word.Other wants front h p = cc
 
-  target_goes : (w : Lexeme) (v : ℕ) (front : List Lexeme) (wants : List Want) → behind_target states w ≡ Some wants → w ∷ front ≡ word.State v ∷ [] → AllRead (reverse wants) front
+  target_goes : (w : Lexeme) (v : ℕ) (front : List Lexeme) (wants : List Want) → after_target states w ≡ Some wants → w ∷ front ≡ word.State v ∷ [] → AllRead (reverse wants) front
   target_goes w v front wants h e =
-      let here : behind_target states (word.State v) ≡ Some wants = sym (ap (behind_target states) (head_same w (word.State v) front [] e)) ∙ h in
+      let here : after_target states (word.State v) ≡ Some wants = sym (ap (after_target states) (head_same w (word.State v) front [] e)) ∙ h in
       wanted_go [] wants front (where_some (nat_lt v states) [] wants here).1 (tail_same w (word.State v) front [] e)
 
-  target_sticks : (w : Lexeme) (v : ℕ) (front : List Lexeme) → behind_target states w ≡ None → w ∷ front ≡ word.State v ∷ [] → v < states → ⊥
+  target_sticks : (w : Lexeme) (v : ℕ) (front : List Lexeme) → after_target states w ≡ None → w ∷ front ≡ word.State v ∷ [] → v < states → ⊥
   target_sticks w v front h e lt =
-      let here : behind_target states (word.State v) ≡ None = sym (ap (behind_target states) (head_same w (word.State v) front [] e)) ∙ h in
+      let here : after_target states (word.State v) ≡ None = sym (ap (after_target states) (head_same w (word.State v) front [] e)) ∙ h in
       let out : nat_lt v states ≡ false = where_none (nat_lt v states) [] here in
       grind (arith, nat_tests)
 
-  target_back : (w : Lexeme) (wants : List Want) (front : List Lexeme) → behind_target states w ≡ Some wants → AllRead (reverse wants) front → Reads Target (w ∷ front)
+  target_back : (w : Lexeme) (wants : List Want) (front : List Lexeme) → after_target states w ≡ Some wants → AllRead (reverse wants) front → Reads Target (w ∷ front)
   target_back (word.State v) wants front h p =
       let t = where_some (nat_lt v states) [] wants h in
       let small : v < states = (let e : nat_lt v states ≡ true = t.0 in grind (arith, nat_tests)) in
@@ -469,7 +469,7 @@ module _ (states args : ℕ) where
   target_back (word.Argument n) wants front h p = cc
   target_back word.Other wants front h p = cc
 
-  open_back : (w : Lexeme) (wants : List Want) (front : List Lexeme) → behind_open w ≡ Some wants → AllRead (reverse wants) front → Reads Open (w ∷ front)
+  open_back : (w : Lexeme) (wants : List Want) (front : List Lexeme) → after_open w ≡ Some wants → AllRead (reverse wants) front → Reads Open (w ∷ front)
   open_back word.Open wants front h p = let same : wants ≡ [] = cc in ap (λ l. word.Open ∷ l) (nothing_read wants front same p)
   open_back word.Set wants front h p = cc
   open_back word.If wants front h p = cc
@@ -487,23 +487,23 @@ module _ (states args : ℕ) where
       let both : w ∷ front ≡ first_of e ∷ rest_of e = eq ∙ first_rest e in
       (head_same w (first_of e) front (rest_of e) both, tail_same w (first_of e) front (rest_of e) both)
 
-  goes : (want : Want) (w : Lexeme) (front : List Lexeme) (wants : List Want) → behind states slots want w ≡ Some wants → Reads want (w ∷ front) → AllRead (reverse wants) front
+  goes : (want : Want) (w : Lexeme) (front : List Lexeme) (wants : List Want) → past states slots want w ≡ Some wants → Reads want (w ∷ front) → AllRead (reverse wants) front
   goes Word w front wants h (e, eq, v, k) =
       let t = term_first e w front eq in
-      subst (AllRead (reverse wants)) (sym t.1) (word_goes e wants (sym (ap (behind_word states slots) t.0) ∙ h) v k)
+      subst (AllRead (reverse wants)) (sym t.1) (word_goes e wants (sym (ap (past_word states slots) t.0) ∙ h) v k)
   goes Condition w front wants h (e, eq, v, k) =
       let t = term_first e w front eq in
-      subst (AllRead (reverse wants)) (sym t.1) (condition_goes e wants (sym (ap behind_condition t.0) ∙ h) v k)
+      subst (AllRead (reverse wants)) (sym t.1) (condition_goes e wants (sym (ap after_condition t.0) ∙ h) v k)
   goes Divisor w front wants h (n, eq, s, p) = number_goes (λ m. nat_lt 0 m) w n front wants h eq
   goes Shift w front wants h (n, eq, s, p) = number_goes (λ m. nat_lt m 64) w n front wants h eq
   goes Target w front wants h (v, eq, lt) = target_goes w v front wants h eq
   goes Open w front wants h eq =
-      let here : behind_open word.Open ≡ Some wants = sym (ap behind_open (head_same w word.Open front [] eq)) ∙ h in
+      let here : after_open word.Open ≡ Some wants = sym (ap after_open (head_same w word.Open front [] eq)) ∙ h in
       let same : wants ≡ [] = cc in
       wanted_go [] wants front same (tail_same w word.Open front [] eq)
   goes (Block room) w front wants h (b, eq, v, o) = block_goes room b w front wants h eq v o
 
-  back : (want : Want) (w : Lexeme) (front : List Lexeme) (wants : List Want) → behind states slots want w ≡ Some wants → AllRead (reverse wants) front → Reads want (w ∷ front)
+  back : (want : Want) (w : Lexeme) (front : List Lexeme) (wants : List Want) → past states slots want w ≡ Some wants → AllRead (reverse wants) front → Reads want (w ∷ front)
   back Word w front wants h p = word_back w wants front h p
   back Condition w front wants h p = condition_back w wants front h p
   back Divisor w front wants h p =
@@ -518,14 +518,14 @@ module _ (states args : ℕ) where
   back Open w front wants h p = open_back w wants front h p
   back (Block room) w front wants h p = block_back room w wants front h p
 
-  stuck : (want : Want) (w : Lexeme) (front : List Lexeme) → behind states slots want w ≡ None → Reads want (w ∷ front) → ⊥
-  stuck Word w front h (e, eq, v, k) = let t = term_first e w front eq in word_sticks e (sym (ap (behind_word states slots) t.0) ∙ h) v k
-  stuck Condition w front h (e, eq, v, k) = let t = term_first e w front eq in condition_sticks e (sym (ap behind_condition t.0) ∙ h) k
+  stuck : (want : Want) (w : Lexeme) (front : List Lexeme) → past states slots want w ≡ None → Reads want (w ∷ front) → ⊥
+  stuck Word w front h (e, eq, v, k) = let t = term_first e w front eq in word_sticks e (sym (ap (past_word states slots) t.0) ∙ h) v k
+  stuck Condition w front h (e, eq, v, k) = let t = term_first e w front eq in condition_sticks e (sym (ap after_condition t.0) ∙ h) k
   stuck Divisor w front h (n, eq, s, p) = number_sticks (λ m. nat_lt 0 m) w n front h eq s (let lt : 0 < n = p in grind (arith, nat_tests))
   stuck Shift w front h (n, eq, s, p) = number_sticks (λ m. nat_lt m 64) w n front h eq s (let lt : n < 64 = p in grind (arith, nat_tests))
   stuck Target w front h (v, eq, lt) = target_sticks w v front h eq lt
   stuck Open w front h eq =
-      let here : behind_open word.Open ≡ None = sym (ap behind_open (head_same w word.Open front [] eq)) ∙ h in
+      let here : after_open word.Open ≡ None = sym (ap after_open (head_same w word.Open front [] eq)) ∙ h in
       cc
   stuck (Block room) w front h (b, eq, v, o) = block_sticks room b w front h eq o
 
@@ -560,7 +560,7 @@ module _ (states args : ℕ) where
   pub step_goes : (old new : List Want) (w : Lexeme) (ls : List Lexeme) → Steps states slots w old new → StackReads old (w ∷ ls) → StackReads new ls
   step_goes old new w ls s p =
       let t = top_reads s.front s.want w ls (subst (λ st. AllRead st (w ∷ ls)) (top_is old s.front s.want s.old_is) p) in
-      let inner : AllRead (reverse s.wants) t.0 = goes s.want w t.0 s.wants s.behind_is t.3 in
+      let inner : AllRead (reverse s.wants) t.0 = goes s.want w t.0 s.wants s.after_is t.3 in
       let joined : AllRead (reverse s.wants ++ reverse s.front) (t.0 ++ t.1) = all_join (reverse s.wants) (reverse s.front) t.0 t.1 inner t.4 in
       let stack : reverse new ≡ reverse s.wants ++ reverse s.front = ap reverse s.new_is ∙ reverse-append s.front s.wants in
       subst (λ st. AllRead st ls) (sym stack) (subst (AllRead (reverse s.wants ++ reverse s.front)) (sym t.2) joined)
@@ -569,7 +569,7 @@ module _ (states args : ℕ) where
   step_back old new w ls s p =
       let stack : reverse new ≡ reverse s.wants ++ reverse s.front = ap reverse s.new_is ∙ reverse-append s.front s.wants in
       let t = all_split (reverse s.wants) (reverse s.front) ls (subst (λ st. AllRead st ls) stack p) in
-      let one : Reads s.want (w ∷ t.0) = back s.want w t.0 s.wants s.behind_is t.3 in
+      let one : Reads s.want (w ∷ t.0) = back s.want w t.0 s.wants s.after_is t.3 in
       subst (λ st. AllRead st (w ∷ ls)) (sym (top_is old s.front s.want s.old_is)) (w ∷ t.0, t.1, ap (λ l. w ∷ l) t.2, one, t.4)
 
   -- a stack is empty, or has a last entry

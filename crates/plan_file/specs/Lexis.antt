@@ -61,20 +61,20 @@ number (digit ∷ rest) =
     if list_all is_digit (digit ∷ rest) && is_first_digit digit rest then below_limit (digits_value 10 (digit ∷ rest)) else None
 
 -- the number after a first byte
-abbrev pub number_behind : ℕ → List ℕ → Option ℕ
-number_behind byte [] = None
-number_behind byte (first ∷ rest) = if first == byte then number rest else None
+abbrev pub number_after : ℕ → List ℕ → Option ℕ
+number_after byte [] = None
+number_after byte (first ∷ rest) = if first == byte then number rest else None
 
 -- a number that is written out, `#N`
 abbrev pub literal : List ℕ → Option ℕ
-literal token = number_behind 35 token
+literal token = number_after 35 token
 
 -- a state variable of a body, `sI`, and an argument, `aI`
 abbrev pub state_number : List ℕ → Option ℕ
-state_number token = number_behind 115 token
+state_number token = number_after 115 token
 
 abbrev pub argument_number : List ℕ → Option ℕ
-argument_number token = number_behind 97 token
+argument_number token = number_after 97 token
 
 -- a name: letters, digits and underscores, with no digit first, and no reserved word
 abbrev pub is_name : List ℕ → Bool

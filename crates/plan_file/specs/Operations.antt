@@ -12,11 +12,11 @@ use Rattle.stage_plan.specs.declared.op.Operand.TheVariants.{Register, Number}
 use Rattle.stage_plan.specs.declared.op.Operation.{Operation}
 use Rattle.stage_plan.specs.declared.op.Operation.TheVariants.{Not, Two}
 use Rattle.stage_plan.specs.declared.op.PlanOp.{PlanOp}
-use Rattle.plan_file.specs.Lexis.{tokens, number, number_behind, literal, function_named}
+use Rattle.plan_file.specs.Lexis.{tokens, number, number_after, literal, function_named}
 
 -- an operand: a register, `rN`, or a number, `#N`
 abbrev pub register : List ℕ → Option ℕ
-register token = number_behind 114 token
+register token = number_after 114 token
 
 abbrev pub either_operand : Option ℕ → Option ℕ → Option Operand
 either_operand (Some n) other = Some (Register n)

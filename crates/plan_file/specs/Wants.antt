@@ -25,52 +25,52 @@ where_true true wants = Some wants
 where_true false wants = None
 
 -- what is expected after the first token of an expression whose value is a word
-abbrev pub behind_word : ℕ → ℕ → Lexeme → Option (List Want)
-behind_word states slots (word.Number n) = where_true (nat_lt n (2 ^ 64)) []
-behind_word states slots (word.State s) = where_true (nat_lt s states) []
-behind_word states slots (word.Argument a) = where_true (nat_lt (states + a) slots) []
-behind_word states slots (word.Function op) = where_true (not (gives_condition op)) (operands op)
-behind_word states slots _ = None
+abbrev pub past_word : ℕ → ℕ → Lexeme → Option (List Want)
+past_word states slots (word.Number n) = where_true (nat_lt n (2 ^ 64)) []
+past_word states slots (word.State s) = where_true (nat_lt s states) []
+past_word states slots (word.Argument a) = where_true (nat_lt (states + a) slots) []
+past_word states slots (word.Function op) = where_true (not (gives_condition op)) (operands op)
+past_word states slots _ = None
 
 -- the same where its value is a condition
-abbrev pub behind_condition : Lexeme → Option (List Want)
-behind_condition word.Not = Some (Condition ∷ [])
-behind_condition (word.Function op) = where_true (gives_condition op) (operands op)
-behind_condition _ = None
+abbrev pub after_condition : Lexeme → Option (List Want)
+after_condition word.Not = Some (Condition ∷ [])
+after_condition (word.Function op) = where_true (gives_condition op) (operands op)
+after_condition _ = None
 
-abbrev pub behind_number : (ℕ → Bool) → Lexeme → Option (List Want)
-behind_number test (word.Number n) = where_true (nat_lt n (2 ^ 64) && test n) []
-behind_number test _ = None
+abbrev pub after_number : (ℕ → Bool) → Lexeme → Option (List Want)
+after_number test (word.Number n) = where_true (nat_lt n (2 ^ 64) && test n) []
+after_number test _ = None
 
-abbrev pub behind_target : ℕ → Lexeme → Option (List Want)
-behind_target states (word.State s) = where_true (nat_lt s states) []
-behind_target states _ = None
+abbrev pub after_target : ℕ → Lexeme → Option (List Want)
+after_target states (word.State s) = where_true (nat_lt s states) []
+after_target states _ = None
 
 -- what is expected after `if`, where this many braces may still be opened: the block continues after the two blocks of the choice
-abbrev pub behind_if : ℕ → Option (List Want)
-behind_if zero = None
-behind_if (suc room) = Some (Block (suc room) ∷ Block room ∷ Open ∷ Block room ∷ Open ∷ Condition ∷ [])
+abbrev pub after_if : ℕ → Option (List Want)
+after_if zero = None
+after_if (suc room) = Some (Block (suc room) ∷ Block room ∷ Open ∷ Block room ∷ Open ∷ Condition ∷ [])
 
-abbrev pub behind_open : Lexeme → Option (List Want)
-behind_open word.Open = Some []
-behind_open _ = None
+abbrev pub after_open : Lexeme → Option (List Want)
+after_open word.Open = Some []
+after_open _ = None
 
 -- what is expected after the first token of a block: of its first statement, or its closing brace
-abbrev pub behind_block : ℕ → Lexeme → Option (List Want)
-behind_block room word.Close = Some []
-behind_block room word.Set = Some (Block room ∷ Word ∷ Target ∷ [])
-behind_block room word.If = behind_if room
-behind_block room _ = None
+abbrev pub after_block : ℕ → Lexeme → Option (List Want)
+after_block room word.Close = Some []
+after_block room word.Set = Some (Block room ∷ Word ∷ Target ∷ [])
+after_block room word.If = after_if room
+after_block room _ = None
 
 -- what is expected after a token that begins what was expected, the nearest one last, where the token can begin it
-abbrev pub behind : ℕ → ℕ → Want → Lexeme → Option (List Want)
-behind states slots Word word = behind_word states slots word
-behind states slots Condition word = behind_condition word
-behind states slots Divisor word = behind_number (λ n. nat_lt 0 n) word
-behind states slots Shift word = behind_number (λ n. nat_lt n 64) word
-behind states slots Target word = behind_target states word
-behind states slots Open word = behind_open word
-behind states slots (Block room) word = behind_block room word
+abbrev pub past : ℕ → ℕ → Want → Lexeme → Option (List Want)
+past states slots Word word = past_word states slots word
+past states slots Condition word = after_condition word
+past states slots Divisor word = after_number (λ n. nat_lt 0 n) word
+past states slots Shift word = after_number (λ n. nat_lt n 64) word
+past states slots Target word = after_target states word
+past states slots Open word = after_open word
+past states slots (Block room) word = after_block room word
 
 -- whether a token fits, and the stack after it, where this is what is expected after it
 abbrev pub GoesOn : Option (List Want) → List Want → Bool → List Want → Type 0
@@ -83,9 +83,9 @@ pub record Steps (states slots : ℕ) (word : Lexeme) (old new : List Want) : Ty
   pub want : Want
   pub wants : List Want
   pub old_is : old ≡ front ++ want ∷ []
-  pub behind_is : behind states slots want word ≡ Some wants
+  pub after_is : past states slots want word ≡ Some wants
   pub new_is : new ≡ front ++ wants
 
 -- a token begins nothing that was expected next
 pub record Sticks (states slots : ℕ) (word : Lexeme) (old : List Want) : Type 0 where
-  pub none : (front : List Want) (want : Want) → old ≡ front ++ want ∷ [] → behind states slots want word ≡ None
+  pub none : (front : List Want) (want : Want) → old ≡ front ++ want ∷ [] → past states slots want word ≡ None

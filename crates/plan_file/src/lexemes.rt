@@ -4,7 +4,7 @@ ghost use Rattle.std.specs.Prelude.{◌≡◌, map, IfOk};
 ghost use Rattle.plan_file.specs.Lexis.{tokens_left, function_named, literal, state_number, argument_number};
 ghost use Rattle.plan_file.specs.Lexemes as Lexemes;
 
-use crate::lexis::{behind, first_token, function_named, is_text};
+use crate::lexis::{first_token, function_named, is_text, past};
 use marple_base::Seq;
 use query_lang::Op;
 use std::alloc::{AllocError, Global};
@@ -32,13 +32,13 @@ fn lexeme_among(token: &[u8]) -> Lexeme
     if let Some(op) = function_named(token) {
         return Lexeme::Function(op);
     }
-    if let Some(n) = behind(b'#', token) {
+    if let Some(n) = past(b'#', token) {
         return Lexeme::Number(n);
     }
-    if let Some(s) = behind(b's', token) {
+    if let Some(s) = past(b's', token) {
         return Lexeme::State(s);
     }
-    match behind(b'a', token) {
+    match past(b'a', token) {
         Some(a) => Lexeme::Argument(a),
         None => Lexeme::Other,
     }
@@ -72,9 +72,9 @@ pub(crate) fn lexemes(alloc: Global, text: &[u8], more: bool) -> Result<Seq<Lexe
     let mut rest = text;
     let mut left = more;
     'tokens: while left {
-        let (token, behind, another) = first_token(rest);
+        let (token, past, another) = first_token(rest);
         all.push(lexeme_of(token))?;
-        rest = behind;
+        rest = past;
         left = another;
     }
     Ok(all)

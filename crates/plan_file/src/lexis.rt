@@ -8,7 +8,7 @@ ghost use Rattle.std.specs.Str.{bytes_eq};
 ghost use Rattle.std.specs.Str.Parse.{digits_value};
 ghost use Rattle.query_lang.specs.Lexis.{below_limit, is_digit};
 ghost use Rattle.plan_file.specs.Lexis as Lexis;
-ghost use Rattle.plan_file.specs.Lexis.{is_line_feed, is_space, number_behind, tokens, tokens_left};
+ghost use Rattle.plan_file.specs.Lexis.{is_line_feed, is_space, number_after, tokens, tokens_left};
 
 use query_lang::Op;
 
@@ -110,8 +110,8 @@ pub(crate) fn number(text: &[u8]) -> Option<u64>
 }
 
 // The number after a first byte.
-pub(crate) fn behind(byte: u8, token: &[u8]) -> Option<u64>
-    ensures { result ≡ number_behind byte token.now }
+pub(crate) fn past(byte: u8, token: &[u8]) -> Option<u64>
+    ensures { result ≡ number_after byte token.now }
 {
     match token {
         [] => None,

@@ -8,7 +8,7 @@ ghost use Rattle.plan_file.specs.Operations as Operations;
 ghost use Rattle.plan_file.specs.Operations.{IsAllowed, IsKnown, IsKnownRegister, IsOpLine, IsStaged, is_right_of, not_of, takes_right};
 ghost use Rattle.plan_file.specs.Operations.{two_of};
 
-use crate::lexis::{behind, cut_at_space, function_named, is_text, number};
+use crate::lexis::{cut_at_space, function_named, is_text, number, past};
 use marple_base::Field;
 use query_lang::Op;
 use stage_plan::{Operand, Operation, PlanOp};
@@ -45,7 +45,7 @@ pub(crate) fn operand(fields: &[Field], ops: &[PlanOp], token: &[u8]) -> Option<
     ensures { MatchOption result ((v : Operand) → Operations.operand token.now ≡ Some v → IsKnown fields.now ops.now v
         → ⊥) (λ v. (Operations.operand token.now ≡ Some v) × IsKnown fields.now ops.now v) }
 {
-    match behind(b'r', token) {
+    match past(b'r', token) {
         Some(n) => {
             if n < 65536 && is_known(fields, ops, n) {
                 Some(Operand::Register(n as u32))
@@ -53,7 +53,7 @@ pub(crate) fn operand(fields: &[Field], ops: &[PlanOp], token: &[u8]) -> Option<
                 None
             }
         }
-        None => match behind(b'#', token) {
+        None => match past(b'#', token) {
             Some(n) => Some(Operand::Number(n)),
             None => None,
         },

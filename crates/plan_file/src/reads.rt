@@ -43,11 +43,11 @@ pub(crate) fn reads_line(alloc: Global, line: &[u8]) -> Result<Option<Seq<Field>
     let mut found = Seq::new(alloc);
     for i in 0..14 {
         if left {
-            let (token, behind, more) = first_token(rest);
+            let (token, past, more) = first_token(rest);
             let field = field_at(i);
             if is_text(token, field.name()) {
                 found.push(field)?;
-                rest = behind;
+                rest = past;
                 left = more;
             }
         }

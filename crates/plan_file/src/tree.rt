@@ -112,7 +112,7 @@ fn expression<'a>(
     };
     match first {
         Lexeme::Not => match expression(alloc, states, slots, rest)? {
-            Some((inner, behind)) => Ok(Some((TypedExpr::Not(Boxed::new(alloc, inner)?), behind))),
+            Some((inner, past)) => Ok(Some((TypedExpr::Not(Boxed::new(alloc, inner)?), past))),
             None => Ok(None),
         },
         Lexeme::Function(op) => {
@@ -121,9 +121,9 @@ fn expression<'a>(
                 None => return Ok(None),
             };
             match expression(alloc, states, slots, middle)? {
-                Some((right, behind)) => Ok(Some((
+                Some((right, past)) => Ok(Some((
                     TypedExpr::Binary(op, Boxed::new(alloc, left)?, Boxed::new(alloc, right)?),
-                    behind,
+                    past,
                 ))),
                 None => Ok(None),
             }
@@ -136,7 +136,7 @@ fn expression<'a>(
 }
 
 // The tokens after the first one, where that is a brace of this kind.
-fn behind_brace(words: &[Lexeme], opens: bool) -> Option<&[Lexeme]>
+fn after_brace(words: &[Lexeme], opens: bool) -> Option<&[Lexeme]>
     ensures { MatchOption result ((rest : List Lexeme) → words.now ≡ Trees.brace opens ∷ rest
         → ⊥) (λ rest. words.now ≡ Trees.brace opens ∷ rest.now) }
 {
@@ -167,7 +167,7 @@ fn choice<'a>(
         Some(found) => found,
         None => return Ok(None),
     };
-    let rest = match behind_brace(rest, true) {
+    let rest = match after_brace(rest, true) {
         Some(rest) => rest,
         None => return Ok(None),
     };
@@ -175,11 +175,11 @@ fn choice<'a>(
         Some(found) => found,
         None => return Ok(None),
     };
-    let rest = match behind_brace(rest, false) {
+    let rest = match after_brace(rest, false) {
         Some(rest) => rest,
         None => return Ok(None),
     };
-    let rest = match behind_brace(rest, true) {
+    let rest = match after_brace(rest, true) {
         Some(rest) => rest,
         None => return Ok(None),
     };
@@ -187,7 +187,7 @@ fn choice<'a>(
         Some(found) => found,
         None => return Ok(None),
     };
-    match behind_brace(rest, false) {
+    match after_brace(rest, false) {
         Some(rest) => Ok(Some((TypedStmt::If(condition, then_block, else_block), rest))),
         None => Ok(None),
     }
@@ -214,7 +214,7 @@ fn statement<'a>(
                 return Ok(None);
             }
             match expression(alloc, states, slots, rest)? {
-                Some((value, behind)) => Ok(Some((TypedStmt::Assign(*v as u16, value), behind))),
+                Some((value, past)) => Ok(Some((TypedStmt::Assign(*v as u16, value), past))),
                 None => Ok(None),
             }
         }
@@ -249,9 +249,9 @@ fn statements<'a>(
     let mut left = words;
     'statements: while begins_statement(left) {
         match statement(alloc, states, slots, left)? {
-            Some((one, behind)) => {
+            Some((one, past)) => {
                 found.push(one)?;
-                left = behind;
+                left = past;
             }
             None => return Ok(None),
         }

@@ -6,8 +6,8 @@ ghost use Rattle.query_lang.specs.Blocks as blocks;
 ghost use Rattle.query_lang.specs.Folds as Folds;
 ghost use Rattle.plan_file.specs.Bodies.{IsBody};
 ghost use Rattle.plan_file.specs.Wants as Wants;
-ghost use Rattle.plan_file.specs.Wants.{behind_word, behind_condition, behind_number, behind_target, behind_open, behind_if};
-ghost use Rattle.plan_file.specs.Wants.{behind_block, behind, GoesOn, Steps, Sticks};
+ghost use Rattle.plan_file.specs.Wants.{past_word, after_condition, after_number, after_target, after_open, after_if};
+ghost use Rattle.plan_file.specs.Wants.{after_block, past, GoesOn, Steps, Sticks};
 
 use crate::lexemes::Lexeme;
 use query_lang::Op;
@@ -61,7 +61,7 @@ fn read_word(
     word: Lexeme,
 ) -> Result<bool, AllocError>
     requires { states ≤ slots }
-    ensures { IfOk result (λ fits. GoesOn (behind_word states slots word) wants.old.items fits wants.new.items) }
+    ensures { IfOk result (λ fits. GoesOn (past_word states slots word) wants.old.items fits wants.new.items) }
 {
     match word {
         Lexeme::Number(_) => Ok(true),
@@ -80,7 +80,7 @@ fn read_word(
 
 // The first token of an expression whose value is a condition.
 fn read_condition(wants: &mut Vec<Want>, word: Lexeme) -> Result<bool, AllocError>
-    ensures { IfOk result (λ fits. GoesOn (behind_condition word) wants.old.items fits wants.new.items) }
+    ensures { IfOk result (λ fits. GoesOn (after_condition word) wants.old.items fits wants.new.items) }
 {
     match word {
         Lexeme::Not => {
@@ -100,7 +100,7 @@ fn read_condition(wants: &mut Vec<Want>, word: Lexeme) -> Result<bool, AllocErro
 
 // The two blocks of a choice, and what continues after them.
 fn push_choice(wants: &mut Vec<Want>, room: u32) -> Result<bool, AllocError>
-    ensures { IfOk result (λ fits. GoesOn (behind_if room) wants.old.items fits wants.new.items) }
+    ensures { IfOk result (λ fits. GoesOn (after_if room) wants.old.items fits wants.new.items) }
 {
     if room == 0 {
         return Ok(false);
@@ -119,7 +119,7 @@ fn push_choice(wants: &mut Vec<Want>, room: u32) -> Result<bool, AllocError>
 
 // The first token of a block: of its first statement, or its closing brace.
 fn read_block(wants: &mut Vec<Want>, room: u32, word: Lexeme) -> Result<bool, AllocError>
-    ensures { IfOk result (λ fits. GoesOn (behind_block room word) wants.old.items fits wants.new.items) }
+    ensures { IfOk result (λ fits. GoesOn (after_block room word) wants.old.items fits wants.new.items) }
 {
     match word {
         Lexeme::Close => Ok(true),
@@ -141,7 +141,7 @@ fn read_first(
     word: Lexeme,
 ) -> Result<bool, AllocError>
     requires { states ≤ slots }
-    ensures { IfOk result (λ fits. GoesOn (behind states slots want word) wants.old.items fits wants.new.items) }
+    ensures { IfOk result (λ fits. GoesOn (past states slots want word) wants.old.items fits wants.new.items) }
 {
     match want {
         Want::Word => read_word(wants, states, slots, word),

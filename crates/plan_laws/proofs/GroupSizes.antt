@@ -21,7 +21,7 @@ use Rattle.plan_writer.specs.PlanText.{group_lines, named_lines}
 use Rattle.plan_writer.specs.Words.{block_words, line, operand_word}
 use Rattle.plan_laws.specs.WellNamed.{AllWords}
 use Rattle.plan_laws.proofs.OpLines.{Fits}
-use Rattle.plan_laws.proofs.LineSizes.{behind_size, block_size, decimal_size, line_size, operand_size}
+use Rattle.plan_laws.proofs.LineSizes.{after_size, block_size, decimal_size, line_size, operand_size}
 use Rattle.plan_laws.proofs.NameSizes.{total}
 use Rattle.plan_laws.proofs.Texts.{all_at}
 
@@ -49,8 +49,8 @@ named_size word short (name ∷ names) [] are = omega arith
 named_size word short (name ∷ names) (last ∷ lasts) are =
     let n = length-append (line word (name ∷ last ∷ [])) (named_lines word names lasts) in
     let l = line_size word (name ∷ last ∷ []) in
-    let a = behind_size name (last ∷ []) in
-    let b = behind_size last [] in
+    let a = after_size name (last ∷ []) in
+    let b = after_size last [] in
     let s = are.0 in
     let h = named_size word short names lasts are.1 in
     omega (arith, n, l, a, b, s, h, short)
@@ -60,7 +60,7 @@ args_size [] fit = omega arith
 args_size (o ∷ args) fit =
     let n = length-append (line (codes "arg") (operand_word o ∷ [])) (flat_map (λ a. line (codes "arg") (operand_word a ∷ [])) args) in
     let l = line_size (codes "arg") (operand_word o ∷ []) in
-    let a = behind_size (operand_word o) [] in
+    let a = after_size (operand_word o) [] in
     let s = operand_size o fit.0 in
     let h = args_size args fit.1 in
     omega (arith, n, l, a, s, h)
@@ -87,8 +87,8 @@ head_size : (shape : GroupShape) (wiring : GroupWiring) (f : TypedFold) → IsLi
     → length (line (codes "group") (shape.name ∷ operand_word wiring.present ∷ [])) ≤ 29 + length shape.name
 head_size shape wiring f l =
     let n = line_size (codes "group") (shape.name ∷ operand_word wiring.present ∷ []) in
-    let a = behind_size shape.name (operand_word wiring.present ∷ []) in
-    let b = behind_size (operand_word wiring.present) [] in
+    let a = after_size shape.name (operand_word wiring.present ∷ []) in
+    let b = after_size (operand_word wiring.present) [] in
     let s = operand_size wiring.present l.present in
     omega (arith, n, a, b, s)
 
@@ -108,10 +108,10 @@ fold_size : (shape : GroupShape) → shape.depth ≤ 8 → shape.nodes ≤ 512 �
     → length (line (codes "fold") (class_word shape.class ∷ decimal shape.depth ∷ decimal shape.nodes ∷ decimal shape.statements ∷ [])) ≤ 75
 fold_size shape depth nodes statements =
     let n = line_size (codes "fold") (class_word shape.class ∷ decimal shape.depth ∷ decimal shape.nodes ∷ decimal shape.statements ∷ []) in
-    let a = behind_size (class_word shape.class) (decimal shape.depth ∷ decimal shape.nodes ∷ decimal shape.statements ∷ []) in
-    let b = behind_size (decimal shape.depth) (decimal shape.nodes ∷ decimal shape.statements ∷ []) in
-    let c = behind_size (decimal shape.nodes) (decimal shape.statements ∷ []) in
-    let d = behind_size (decimal shape.statements) [] in
+    let a = after_size (class_word shape.class) (decimal shape.depth ∷ decimal shape.nodes ∷ decimal shape.statements ∷ []) in
+    let b = after_size (decimal shape.depth) (decimal shape.nodes ∷ decimal shape.statements ∷ []) in
+    let c = after_size (decimal shape.nodes) (decimal shape.statements ∷ []) in
+    let d = after_size (decimal shape.statements) [] in
     let e = class_size shape.class in
     let f = decimal_size shape.depth (omega (arith, depth)) in
     let g = decimal_size shape.nodes (omega (arith, nodes)) in

@@ -34,7 +34,7 @@ use Rattle.plan_laws.proofs.GroupLines.{outside}
 use Rattle.plan_laws.proofs.Groups.{HasGroup, groups_written}
 use Rattle.plan_laws.proofs.Numbers.{number_decimal, token_decimal}
 use Rattle.plan_laws.proofs.OpLines.{with_ops, ops_written}
-use Rattle.plan_laws.proofs.Tokens.{lines_of, nothing_behind}
+use Rattle.plan_laws.proofs.Tokens.{lines_of, nothing_after}
 use Rattle.plan_laws.proofs.Written.{IsWritten, nothing_written, written_then, line_written}
 
 -- as many groups are made as there are groupbys
@@ -132,6 +132,6 @@ module _ (q : TypedQuery) (p : PlanParts) (valid : IsValidQuery q) (text : HasPl
       record {
         size = text.short;
         valid = subst (λ l. Make l nothing (made_of q)) (sym (ap lines w.text_is ∙ lines_of w.all w.each)) w.make;
-        ended = ap bytes_after_lines w.text_is ∙ nothing_behind w.all w.each;
+        ended = ap bytes_after_lines w.text_is ∙ nothing_after w.all w.each;
         printed = text.printed;
       }

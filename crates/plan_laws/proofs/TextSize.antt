@@ -36,7 +36,7 @@ use Rattle.stage_plan.proofs.Sorted.{op_at, ordered}
 use Rattle.plan_file.specs.Texts.{most_bytes}
 use Rattle.plan_writer.specs.Ordered.{query_ops, query_order, query_registers, query_wiring, register_in}
 use Rattle.plan_writer.specs.PlanText.{compiled_text, fields_of, group_lines_of, group_text, op_line, print_line, reads_line}
-use Rattle.plan_writer.specs.Words.{behind, line}
+use Rattle.plan_writer.specs.Words.{spaced, line}
 use Rattle.plan_laws.specs.WellNamed.{AllWords, AreNew, IsNamedWell}
 use Rattle.plan_laws.proofs.Known.{AllAreGood, AreFit, AreFrom, IsFrom, IsGood, IsWritable, query_good, writable_at}
 use Rattle.plan_laws.proofs.OpLines.{Fits}
@@ -45,20 +45,20 @@ use Rattle.plan_laws.proofs.Prints.{AreGroups}
 use Rattle.plan_laws.proofs.Texts.{IsMadeBy, all_at, group_from, made_by, stream_below}
 use Rattle.plan_laws.proofs.Differ.{HasOwnColumns}
 use Rattle.plan_laws.proofs.Counts.{few_ops, made_of_query}
-use Rattle.plan_laws.proofs.LineSizes.{behind_size, decimal_size, line_size, op_size}
+use Rattle.plan_laws.proofs.LineSizes.{after_size, decimal_size, line_size, op_size}
 use Rattle.plan_laws.proofs.NameSizes.{columns_total, field_size, group_names_total, taken, texts_in, total, weigh}
 use Rattle.plan_laws.proofs.GroupSizes.{AllFit, IsLimited, group_size, groups_size, shallow, taking_few}
 
 -- ---- the fields and the prints
 
-fields_size : (reads : FieldSet) (fields : List Field) → length (behind (map field_name (filter (has_field reads) fields))) ≤ 12 * length fields
+fields_size : (reads : FieldSet) (fields : List Field) → length (spaced (map field_name (filter (has_field reads) fields))) ≤ 12 * length fields
 fields_size reads [] = omega arith
 fields_size reads (f ∷ fields) = go (has_field reads f) (fields_size reads fields)
   where
-    go : (b : Bool) → length (behind (map field_name (filter (has_field reads) fields))) ≤ 12 * length fields
-        → length (behind (map field_name (cond b (f ∷ filter (has_field reads) fields) (filter (has_field reads) fields)))) ≤ 12 * length (f ∷ fields)
+    go : (b : Bool) → length (spaced (map field_name (filter (has_field reads) fields))) ≤ 12 * length fields
+        → length (spaced (map field_name (cond b (f ∷ filter (has_field reads) fields) (filter (has_field reads) fields)))) ≤ 12 * length (f ∷ fields)
     go true h =
-        let a = behind_size (field_name f) (map field_name (filter (has_field reads) fields)) in
+        let a = after_size (field_name f) (map field_name (filter (has_field reads) fields)) in
         let s = field_size f in
         omega (arith, h, a, s)
     go false h = omega (arith, h)
@@ -75,7 +75,7 @@ prints_size q few (place.Group i ∷ prints) all =
     let lt : i < length (takings q.streams) = All-head (IsTable q) (place.Group i) prints all in
     let n = length-append (line (codes "print") (decimal i ∷ [])) (flat_map print_line prints) in
     let l = line_size (codes "print") (decimal i ∷ []) in
-    let b = behind_size (decimal i) [] in
+    let b = after_size (decimal i) [] in
     let d = decimal_size i (omega (arith, lt, few)) in
     let h = prints_size q few prints (All-tail (IsTable q) (place.Group i) prints all) in
     omega (arith, n, l, b, d, h)
@@ -328,7 +328,7 @@ module _ (q : TypedQuery) (v : IsValidQuery q) (staged : stage_fault q ≡ None)
   unfolding compiled_text
   text_size names are new =
       let first : length (line (codes "marple-plan") (codes "1" ∷ [])) ≤ 14 =
-      (let n = line_size (codes "marple-plan") (codes "1" ∷ []) in let b = behind_size (codes "1") [] in omega (arith, n, b)) in
+      (let n = line_size (codes "marple-plan") (codes "1" ∷ []) in let b = after_size (codes "1") [] in omega (arith, n, b)) in
       let reads = reads_size (reads_of q) in
       let ops = ops_size (query_ops q) each_op in
       let groups = groups_size (group_text q) (query_groups q) 0 (length (takings q.streams))

@@ -6,7 +6,7 @@ use Rattle.std.proofs.lemmas.List.Elements.{All-nil, All-cons}
 use Rattle.std.proofs.lemmas.List.Folds.{list_all-append}
 use Rattle.std.proofs.lemmas.List.Splits.{slice_split_at, slice_split_none}
 use Rattle.plan_file.specs.Lexis.{is_line_feed, is_space, pieces, lines, bytes_after_lines, all_but_last, last_of, tokens}
-use Rattle.plan_writer.specs.Words.{behind}
+use Rattle.plan_writer.specs.Words.{spaced}
 
 -- both of two tests
 pub both_true : (a b : Bool) → (a && b) ≡ true → (a ≡ true) × (b ≡ true)
@@ -56,22 +56,22 @@ no_line_feed (b ∷ word) e =
     both_are (not (is_line_feed b)) (has_none is_line_feed word) q.1 (no_line_feed word p.1)
 
 -- the tokens of words with a space between each two
-pub tokens_of : (first : List ℕ) (words : List (List ℕ)) → is_token first ≡ true → AreTokens words → tokens (first ++ behind words) ≡ first ∷ words
+pub tokens_of : (first : List ℕ) (words : List (List ℕ)) → is_token first ≡ true → AreTokens words → tokens (first ++ spaced words) ≡ first ∷ words
 tokens_of first [] e are = ap tokens (append-nil first) ∙ slice_split_none is_space first (none_pass is_space first (no_space first e))
 tokens_of first (word ∷ words) e are =
-    slice_split_at is_space first 32 (word ++ behind words) (none_pass is_space first (no_space first e)) refl
+    slice_split_at is_space first 32 (word ++ spaced words) (none_pass is_space first (no_space first e)) refl
     ∙ ap (λ l. first ∷ l) (tokens_of word words are.0 are.1)
 
-none_behind : (words : List (List ℕ)) → AreTokens words → has_none is_line_feed (behind words) ≡ true
-none_behind [] are = refl
-none_behind (word ∷ words) are =
-    list_all-append (λ b. not (is_line_feed b)) word (behind words)
-    ∙ both_are (has_none is_line_feed word) (has_none is_line_feed (behind words)) (no_line_feed word are.0) (none_behind words are.1)
+none_after : (words : List (List ℕ)) → AreTokens words → has_none is_line_feed (spaced words) ≡ true
+none_after [] are = refl
+none_after (word ∷ words) are =
+    list_all-append (λ b. not (is_line_feed b)) word (spaced words)
+    ∙ both_are (has_none is_line_feed word) (has_none is_line_feed (spaced words)) (no_line_feed word are.0) (none_after words are.1)
 
-pub none_in_line : (first : List ℕ) (words : List (List ℕ)) → is_token first ≡ true → AreTokens words → has_none is_line_feed (first ++ behind words) ≡ true
+pub none_in_line : (first : List ℕ) (words : List (List ℕ)) → is_token first ≡ true → AreTokens words → has_none is_line_feed (first ++ spaced words) ≡ true
 none_in_line first words e are =
-    list_all-append (λ b. not (is_line_feed b)) first (behind words)
-    ∙ both_are (has_none is_line_feed first) (has_none is_line_feed (behind words)) (no_line_feed first e) (none_behind words are)
+    list_all-append (λ b. not (is_line_feed b)) first (spaced words)
+    ∙ both_are (has_none is_line_feed first) (has_none is_line_feed (spaced words)) (no_line_feed first e) (none_after words are)
 
 -- lines without LF
 abbrev pub AreLines : List (List ℕ) → Type 0
@@ -106,5 +106,5 @@ the_last (one ∷ next ∷ all) = the_last (next ∷ all)
 pub lines_of : (all : List (List ℕ)) → AreLines all → lines (ended all) ≡ all
 lines_of all are = ap all_but_last (pieces_of all are) ∙ but_last all
 
-pub nothing_behind : (all : List (List ℕ)) → AreLines all → bytes_after_lines (ended all) ≡ []
-nothing_behind all are = ap last_of (pieces_of all are) ∙ the_last all
+pub nothing_after : (all : List (List ℕ)) → AreLines all → bytes_after_lines (ended all) ≡ []
+nothing_after all are = ap last_of (pieces_of all are) ∙ the_last all

@@ -7,7 +7,7 @@ use Rattle.plan_file.specs.LineWords.{first_of, line_word, word_named}
 use Rattle.plan_file.specs.Lexis.{tokens}
 use Rattle.plan_file.specs.Lines.{IsLineOf}
 use Rattle.plan_file.specs.Texts.{Make}
-use Rattle.plan_writer.specs.Words.{behind, line}
+use Rattle.plan_writer.specs.Words.{spaced, line}
 use Rattle.plan_laws.proofs.Tokens.{is_token, AreTokens, AreLines, ended, tokens_of, none_in_line, lines_append}
 
 pub make_both : (xs ys : List (List ℕ)) (before mid after : Made) → Make xs before mid → Make ys mid after → Make (xs ++ ys) before after
@@ -34,13 +34,13 @@ written_then a b before mid after p q = record {
 
 -- one line of these words
 pub line_written : (word : LineWord) (first : List ℕ) (words : List (List ℕ)) (before after : Made) → is_token first ≡ true → AreTokens words → word_named first ≡ word →
-    (tokens (first ++ behind words) ≡ first ∷ words → IsLineOf word before (first ++ behind words) after) → IsWritten (line first words) before after
+    (tokens (first ++ spaced words) ≡ first ∷ words → IsLineOf word before (first ++ spaced words) after) → IsWritten (line first words) before after
 line_written word first words before after t are named valid = record {
-  all = (first ++ behind words) ∷ [];
+  all = (first ++ spaced words) ∷ [];
   each = (none_in_line first words t are, tt);
-  text_is = sym (append_assoc first (behind words) (10 ∷ [])) ∙ sym (append-nil ((first ++ behind words) ++ 10 ∷ []));
-  make = (after, subst (λ w. IsLineOf w before (first ++ behind words) after) (sym (first_is ∙ named)) (valid (tokens_of first words t are)), refl);
+  text_is = sym (append_assoc first (spaced words) (10 ∷ [])) ∙ sym (append-nil ((first ++ spaced words) ++ 10 ∷ []));
+  make = (after, subst (λ w. IsLineOf w before (first ++ spaced words) after) (sym (first_is ∙ named)) (valid (tokens_of first words t are)), refl);
 }
   where
-    first_is : line_word (first ++ behind words) ≡ word_named first
+    first_is : line_word (first ++ spaced words) ≡ word_named first
     first_is = ap (λ l. word_named (first_of l)) (tokens_of first words t are)

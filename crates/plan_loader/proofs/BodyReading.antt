@@ -58,16 +58,16 @@ closed (suc n) states (word.Other ∷ rest) c = absurd c
 
 -- the parts of a choice, in sequence
 module _ (n states : ℕ) where
-  abbrev behind_else : Term → Block → Front Block → Front Block
-  behind_else c a b =
+  abbrev after_else : Term → Block → Front Block → Front Block
+  after_else c a b =
       let next = read_block n states (drop 1 b.left) in
       front (Fork c a b.found next.found) next.left
 
-  abbrev behind_then : Term → Front Block → Front Block
-  behind_then c a = behind_else c a.found (read_block n states (drop 2 a.left))
+  abbrev after_then : Term → Front Block → Front Block
+  after_then c a = after_else c a.found (read_block n states (drop 2 a.left))
 
-  abbrev behind_condition : Front Term → Front Block
-  behind_condition c = behind_then c.found (read_block n states (drop 1 c.left))
+  abbrev after_condition : Front Term → Front Block
+  after_condition c = after_then c.found (read_block n states (drop 1 c.left))
 
 block_read : (n states : ℕ) (b : Block) (rest : List Lexeme) → Closes rest → length (written_block states b) ≤ n → read_block n states (written_block states b ++ rest) ≡ front b rest
 block_read n states End rest c le = closed n states rest c
@@ -86,23 +86,23 @@ block_read (suc n) states (Fork t a b next) rest c le =
     let wa = written_block states a in
     let wb = written_block states b in
     let wn = written_block states next in
-    let behind_b = word.Close ∷ wn in
-    let behind_a = word.Close ∷ word.Open ∷ (wb ++ behind_b) in
-    let behind_t = word.Open ∷ (wa ++ behind_a) in
+    let after_b = word.Close ∷ wn in
+    let after_a = word.Close ∷ word.Open ∷ (wb ++ after_b) in
+    let after_t = word.Open ∷ (wa ++ after_a) in
     let sizes : (length wt ≤ n) × (length wa ≤ n) × (length wb ≤ n) × (length wn ≤ n) = (
-      omega (arith, le, length-append wt behind_t),
-      omega (arith, le, length-append wt behind_t, length-append wa behind_a),
-      omega (arith, le, length-append wt behind_t, length-append wa behind_a, length-append wb behind_b),
-      omega (arith, le, length-append wt behind_t, length-append wa behind_a, length-append wb behind_b),
+      omega (arith, le, length-append wt after_t),
+      omega (arith, le, length-append wt after_t, length-append wa after_a),
+      omega (arith, le, length-append wt after_t, length-append wa after_a, length-append wb after_b),
+      omega (arith, le, length-append wt after_t, length-append wa after_a, length-append wb after_b),
     ) in
-    let first : read_term n states ((wt ++ behind_t) ++ rest) ≡ front t (behind_t ++ rest) =
-    ap (read_term n states) (append_assoc wt behind_t rest) ∙ term_read n states t (behind_t ++ rest) sizes.0 in
-    let second : read_block n states ((wa ++ behind_a) ++ rest) ≡ front a (behind_a ++ rest) =
-    ap (read_block n states) (append_assoc wa behind_a rest) ∙ block_read n states a (behind_a ++ rest) tt sizes.1 in
-    let third : read_block n states ((wb ++ behind_b) ++ rest) ≡ front b (behind_b ++ rest) =
-    ap (read_block n states) (append_assoc wb behind_b rest) ∙ block_read n states b (behind_b ++ rest) tt sizes.2 in
+    let first : read_term n states ((wt ++ after_t) ++ rest) ≡ front t (after_t ++ rest) =
+    ap (read_term n states) (append_assoc wt after_t rest) ∙ term_read n states t (after_t ++ rest) sizes.0 in
+    let second : read_block n states ((wa ++ after_a) ++ rest) ≡ front a (after_a ++ rest) =
+    ap (read_block n states) (append_assoc wa after_a rest) ∙ block_read n states a (after_a ++ rest) tt sizes.1 in
+    let third : read_block n states ((wb ++ after_b) ++ rest) ≡ front b (after_b ++ rest) =
+    ap (read_block n states) (append_assoc wb after_b rest) ∙ block_read n states b (after_b ++ rest) tt sizes.2 in
     let fourth = block_read n states next rest c sizes.3 in
-    ap (behind_condition n states) first ∙ ap (behind_then n states t) second ∙ ap (behind_else n states t a) third
+    ap (after_condition n states) first ∙ ap (after_then n states t) second ∙ ap (after_else n states t a) third
     ∙ ap (λ g. front (Fork t a b g.found) g.left) fourth
 
 whole : (states args : ℕ) (words : List Lexeme) (body : Block) → IsBody states args words body → block_written states words ≡ body

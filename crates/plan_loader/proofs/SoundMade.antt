@@ -31,7 +31,7 @@ record IsBegun (registers : ℕ) (group : Group) : Type 0 where
   present : IsWithin registers group.present
   key_registers : All (IsWithin registers) group.keys
   arg_registers : All (IsWithin registers) group.args
-  behind_keys : IfSome group.body (λ words. 0 < length group.keys)
+  after_keys : IfSome group.body (λ words. 0 < length group.keys)
 
 -- what lines make while they are read
 record IsSoundSoFar (made : Made) : Type 0 where
@@ -75,7 +75,7 @@ key_begun fs ops g line n p b =
       present = b.present;
       key_registers = All-push (IsWithin registers) g.keys p.value b.key_registers (known_within fs ops p.value p.valid.known);
       arg_registers = b.arg_registers;
-      behind_keys = subst B (sym p.body) tt;
+      after_keys = subst B (sym p.body) tt;
     })
 
 arg_begun : (fs : List Field) (ops : List PlanOp) (g : Group) (line : List ℕ) (n : Group) → IsArgLine fs ops g line n → IsBegun (14 + length ops) g → IsBegun (14 + length ops) n
@@ -91,7 +91,7 @@ arg_begun fs ops g line n p b =
       present = b.present;
       key_registers = b.key_registers;
       arg_registers = All-push (IsWithin registers) g.args p.value b.arg_registers (known_within fs ops p.value p.valid.known);
-      behind_keys = b.behind_keys;
+      after_keys = b.after_keys;
     })
 
 state_begun : (registers : ℕ) (g : Group) (line : List ℕ) (n : Group) → IsStateLine g line n → IsBegun registers g → IsBegun registers n
@@ -107,7 +107,7 @@ state_begun registers g line n p b =
       present = b.present;
       key_registers = b.key_registers;
       arg_registers = b.arg_registers;
-      behind_keys = b.behind_keys;
+      after_keys = b.after_keys;
     })
 
 body_begun : (registers : ℕ) (g : Group) (line : List ℕ) (n : Group) → IsGroupBody g line n → IsBegun registers g → IsBegun registers n
@@ -121,7 +121,7 @@ body_begun registers g line n p b =
       present = b.present;
       key_registers = b.key_registers;
       arg_registers = b.arg_registers;
-      behind_keys = p.keys;
+      after_keys = p.keys;
     })
 
 group_begun : (word : LineWord) (fs : List Field) (ops : List PlanOp) (g : Group) (line : List ℕ) (n : Group) → IsInGroup word fs ops g line n → IsBegun (14 + length ops) g → IsBegun (14 + length ops) n
@@ -139,7 +139,7 @@ group_begun words.Other fs ops g line n p b = absurd p
 
 folded_sound : (registers : ℕ) (g : Group) (line : List ℕ) (after : Folded) → IsFoldLine g line after → IsBegun registers g → IsSoundFolded registers after
 folded_sound registers g line after p b =
-    let keys : 0 < length g.keys = subst (λ o. IfSome o (λ words. 0 < length g.keys)) p.is_fold.has_body b.behind_keys in
+    let keys : 0 < length g.keys = subst (λ o. IfSome o (λ words. 0 < length g.keys)) p.is_fold.has_body b.after_keys in
     let group = sym p.made in
     record {
       some_keys = subst (λ (x : Group). 0 < length x.keys) group keys;
@@ -188,7 +188,7 @@ begun_more b line a p s =
       present = known_within p.fields b.ops p.group.present p.valid.valid.known;
       key_registers = All-nil (IsWithin registers);
       arg_registers = All-nil (IsWithin registers);
-      behind_keys = tt;
+      after_keys = tt;
     } in
     subst IsSoundSoFar (sym p.made) (record {
       ops = s.ops;

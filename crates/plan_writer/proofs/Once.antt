@@ -30,7 +30,7 @@ append_cases (y ∷ xs) ys (suc k) x e = elim (append_cases xs ys k x e) [
 -- a number of a stage, where the first operation has number n
 record Numbered (ops : List PlanOp) (stage n c : ℕ) : Type 0 where
   place : ℕ
-  behind : c ≡ n + place
+  spaced : c ≡ n + place
   one : PlanOp
   found : slice_get ops place ≡ Some one
   stage_is : one.stage ≡ stage
@@ -40,11 +40,11 @@ numbers_in stage n [] k c e = no_item c e
 numbers_in stage n (one ∷ ops) k c e = go (eqb one.stage stage) refl k (numbers_in stage (n + 1) ops) e
   where
     later : Numbered ops stage (n + 1) c → Numbered (one ∷ ops) stage n c
-    later r = record { place = suc r.place; behind = omega (arith, r.behind); one = r.one; found = r.found; stage_is = r.stage_is }
+    later r = record { place = suc r.place; spaced = omega (arith, r.beyond); one = r.one; found = r.found; stage_is = r.stage_is }
 
     go : (b : Bool) → eqb one.stage stage ≡ b → (k : ℕ) → ((k c : ℕ) → slice_get (numbers_at stage (n + 1) ops) k ≡ Some c → Numbered ops stage (n + 1) c) →
         slice_get (cond b (n ∷ numbers_at stage (n + 1) ops) (numbers_at stage (n + 1) ops)) k ≡ Some c → Numbered (one ∷ ops) stage n c
-    go true is zero rest e = let here : n ≡ c = same_Some n c e in record { place = 0; behind = omega arith; one = one; found = refl; stage_is = grind (arith, nat_tests) }
+    go true is zero rest e = let here : n ≡ c = same_Some n c e in record { place = 0; spaced = omega arith; one = one; found = refl; stage_is = grind (arith, nat_tests) }
     go true is (suc k) rest e = later (rest k c e)
     go false is k rest e = later (rest k c e)
 
@@ -58,7 +58,7 @@ numbers_ascend stage n (one ∷ ops) i j a b lt e f = go (eqb one.stage stage) i
         slice_get (cond t (n ∷ numbers_at stage (n + 1) ops) (numbers_at stage (n + 1) ops)) i ≡ Some a →
         slice_get (cond t (n ∷ numbers_at stage (n + 1) ops) (numbers_at stage (n + 1) ops)) j ≡ Some b → a < b
     go true zero zero lt rest e f = absurd (omega arith)
-    go true zero (suc j) lt rest e f = let here : n ≡ a = same_Some n a e in omega (arith, here, (numbers_in stage (n + 1) ops j b f).behind)
+    go true zero (suc j) lt rest e f = let here : n ≡ a = same_Some n a e in omega (arith, here, (numbers_in stage (n + 1) ops j b f).beyond)
     go true (suc i) zero lt rest e f = absurd (omega arith)
     go true (suc i) (suc j) lt rest e f = rest i j a b (omega arith) e f
     go false i j lt rest e f = rest i j a b lt e f
@@ -75,7 +75,7 @@ stands_once ops (suc s) i j c lt e f =
     apart : slice_get (order_of ops s) i ≡ Some c → Numbered ops (s + 1) 0 c → ⊥
     apart p n =
         let o = ordered ops s i c p in
-        let at : c ≡ n.place = omega (arith, n.behind) in
+        let at : c ≡ n.place = omega (arith, n.beyond) in
         let same : o.one.stage ≡ n.one.stage = ap (λ (x : PlanOp). x.stage) (same_Some o.one n.one (sym o.found ∙ ap (slice_get ops) at ∙ n.found)) in
         omega (arith, o.most, n.stage_is)
 
@@ -121,8 +121,8 @@ registers_are ops s registers staged placed long =
         let here : get_or (order_of ops s) h.place 0 ≡ c = get_or_from_slice_get (order_of ops s) h.place c 0 h.found in
         let p : IsPlaced (order_of ops s) c (get_or registers c 0) = subst (λ x. IsPlaced (order_of ops s) x (get_or registers x 0)) here (placed h.place in_order) in
         let k : ℕ = get_or registers c 0 - 14 in
-        let at : get_or registers c 0 ≡ 14 + k = omega (arith, p.behind) in
-        let within : k < length (order_of ops s) = omega (arith, p.within, p.behind) in
+        let at : get_or registers c 0 ≡ 14 + k = omega (arith, p.beyond) in
+        let within : k < length (order_of ops s) = omega (arith, p.within, p.beyond) in
         let number : slice_get (order_of ops s) k ≡ Some c = slice_get-get_or (order_of ops s) k 0 within ∙ ap Some p.place in
         at ∙ ap (λ n. 14 + n) (sym (place_is ops s k c number))
       where
@@ -134,7 +134,7 @@ registers_are ops s registers staged placed long =
 -- the registers by places in the order are those that a plan's operations have
 pub registers_placed : (ops : List PlanOp) (s : ℕ) → ArePlaced (order_of ops s) (registers_in (order_of ops s) (length ops)) (length (order_of ops s))
 registers_placed ops s k lt = subst (IsPlaced (order_of ops s) number) (sym register) (record {
-  behind = omega arith;
+  spaced = omega arith;
   within = omega (arith, lt);
   place = (let back : 14 + k - 14 ≡ k = omega arith in ap (λ place. get_or (order_of ops s) place 0) back);
 })

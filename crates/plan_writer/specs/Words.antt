@@ -10,12 +10,12 @@ use Rattle.stage_plan.specs.declared.op.Operation as operation
 use Rattle.stage_plan.specs.declared.op.Operation.TheVariants.{Not, Two}
 
 -- words after another one, each with a space before it
-abbrev pub behind : List (List ℕ) → List ℕ
-behind words = flat_map (λ word. 32 ∷ word) words
+abbrev pub spaced : List (List ℕ) → List ℕ
+spaced words = flat_map (λ word. 32 ∷ word) words
 
 -- a line is a first word and others after it, with a space between two of them, and LF ends it
 abbrev pub line : List ℕ → List (List ℕ) → List ℕ
-line first words = first ++ (behind words ++ 10 ∷ [])
+line first words = first ++ (spaced words ++ 10 ∷ [])
 
 -- the name of an operator or a function of two words
 abbrev pub function_word : Op → List ℕ

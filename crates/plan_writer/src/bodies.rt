@@ -3,7 +3,7 @@
 ghost use Rattle.std.specs.Prelude.{◌≡◌, ◌++◌, ◌∷◌, [], OnOk};
 ghost use Rattle.query_lang.specs.Blocks.{stmt_block, block_of};
 ghost use Rattle.query_lang.specs.Terms.{term_of};
-ghost use Rattle.plan_writer.specs.Words.{behind, slot_word, term_words, block_words};
+ghost use Rattle.plan_writer.specs.Words.{spaced, slot_word, term_words, block_words};
 
 use crate::operations::function_name;
 use crate::words::{push_marked, push_word};
@@ -13,7 +13,7 @@ use std::alloc::AllocError;
 
 // A slot of a row that has this many state variables, and the arguments after them.
 fn push_slot(text: &mut Text, states: u16, s: u16) -> Result<(), AllocError>
-    ensures { OnOk result (text.new ≡ text.old ++ behind (slot_word states s ∷ [])) }
+    ensures { OnOk result (text.new ≡ text.old ++ spaced (slot_word states s ∷ [])) }
 {
     if s < states {
         push_marked(text, b's', u64::from(s))
@@ -24,7 +24,7 @@ fn push_slot(text: &mut Text, states: u16, s: u16) -> Result<(), AllocError>
 
 // An expression.
 fn push_expr(text: &mut Text, states: u16, e: &TypedExpr) -> Result<(), AllocError>
-    ensures { OnOk result (text.new ≡ text.old ++ behind (term_words states (term_of e.now))) }
+    ensures { OnOk result (text.new ≡ text.old ++ spaced (term_words states (term_of e.now))) }
 {
     match e {
         TypedExpr::Number(n) => push_marked(text, b'#', *n)?,
@@ -44,7 +44,7 @@ fn push_expr(text: &mut Text, states: u16, e: &TypedExpr) -> Result<(), AllocErr
 
 // A statement.
 fn push_stmt(text: &mut Text, states: u16, s: &TypedStmt) -> Result<(), AllocError>
-    ensures { OnOk result (text.new ≡ text.old ++ behind (block_words states (stmt_block s.now))) }
+    ensures { OnOk result (text.new ≡ text.old ++ spaced (block_words states (stmt_block s.now))) }
 {
     match s {
         TypedStmt::Assign(v, e) => {
@@ -72,7 +72,7 @@ fn push_stmt(text: &mut Text, states: u16, s: &TypedStmt) -> Result<(), AllocErr
 
 /// The statements of a fold with this many state variables.
 pub(crate) fn push_body(text: &mut Text, states: u16, body: &[TypedStmt]) -> Result<(), AllocError>
-    ensures { OnOk result (text.new ≡ text.old ++ behind (block_words states (block_of body.now))) }
+    ensures { OnOk result (text.new ≡ text.old ++ spaced (block_words states (block_of body.now))) }
 {
     for s in body {
         push_stmt(text, states, s)?;

@@ -8,7 +8,7 @@ ghost use Rattle.query_lang.specs.Streams.{taking_of, takings};
 ghost use Rattle.query_lang.specs.TypedQueries.{IsValidQuery};
 ghost use Rattle.stage_plan.specs.Planned.{IsPlanOf, fold_at};
 ghost use Rattle.stage_plan.specs.Shape.{class_word, group_shape};
-ghost use Rattle.plan_writer.specs.Words.{behind, line, operand_word, block_words};
+ghost use Rattle.plan_writer.specs.Words.{spaced, line, operand_word, block_words};
 ghost use Rattle.plan_writer.specs.PlanText.{named_lines, group_lines, group_text};
 
 use crate::bodies::push_body;

@@ -2,7 +2,7 @@
 
 ghost use Rattle.std.specs.Prelude.{◌≡◌, ◌∷◌, ◌++◌, [], map, filter, flat_map, codes, decimal, OnOk};
 ghost use Rattle.marple_base.specs.Field.{field_name, has_field};
-ghost use Rattle.plan_writer.specs.Words.{behind, line};
+ghost use Rattle.plan_writer.specs.Words.{spaced, line};
 ghost use Rattle.plan_writer.specs.PlanText.{reads_line, print_line};
 
 use crate::words::{push_number, push_word};
@@ -12,7 +12,7 @@ use std::alloc::AllocError;
 
 // The name of a field, if it is in a set.
 fn push_field(text: &mut Text, reads: FieldSet, f: Field) -> Result<(), AllocError>
-    ensures { OnOk result (text.new ≡ text.old ++ behind (map field_name (filter (has_field reads) (f ∷ [])))) }
+    ensures { OnOk result (text.new ≡ text.old ++ spaced (map field_name (filter (has_field reads) (f ∷ [])))) }
 {
     if reads.has(f) {
         return push_word(text, f.name());
@@ -22,7 +22,7 @@ fn push_field(text: &mut Text, reads: FieldSet, f: Field) -> Result<(), AllocErr
 
 // The names of those fields that are in a set.
 fn push_fields(text: &mut Text, reads: FieldSet, fields: &[Field]) -> Result<(), AllocError>
-    ensures { OnOk result (text.new ≡ text.old ++ behind (map field_name (filter (has_field reads) fields.now))) }
+    ensures { OnOk result (text.new ≡ text.old ++ spaced (map field_name (filter (has_field reads) fields.now))) }
 {
     for f in fields {
         push_field(text, reads, *f)?;

@@ -1,7 +1,7 @@
 //! The operations of a plan.
 
 ghost use Rattle.std.specs.Prelude.{◌≡◌, ◌++◌, flat_map, OnOk};
-ghost use Rattle.plan_writer.specs.Words.{behind, function_word, operation_words};
+ghost use Rattle.plan_writer.specs.Words.{spaced, function_word, operation_words};
 ghost use Rattle.plan_writer.specs.PlanText.{op_line};
 
 use crate::words::{push_number, push_operand, push_word};
@@ -42,7 +42,7 @@ pub(crate) fn function_name(op: Op) -> &'static [u8]
 
 // What an operation does, and with which operands.
 fn push_operation(text: &mut Text, one: &PlanOp) -> Result<(), AllocError>
-    ensures { OnOk result (text.new ≡ text.old ++ behind (operation_words one.now.op one.now.left one.now.right)) }
+    ensures { OnOk result (text.new ≡ text.old ++ spaced (operation_words one.now.op one.now.left one.now.right)) }
 {
     match one.op {
         Operation::Not => {

@@ -1,7 +1,7 @@
 //! Words after others, each with a space before it.
 
 ghost use Rattle.std.specs.Prelude.{◌≡◌, ◌++◌, ◌∷◌, [], decimal, OnOk};
-ghost use Rattle.plan_writer.specs.Words.{behind, operand_word};
+ghost use Rattle.plan_writer.specs.Words.{spaced, operand_word};
 
 use itoa::Buffer;
 use marple_base::Text;
@@ -10,7 +10,7 @@ use std::alloc::AllocError;
 
 // A word.
 pub(crate) fn push_word(text: &mut Text, word: &[u8]) -> Result<(), AllocError>
-    ensures { OnOk result (text.new ≡ text.old ++ behind (word.now ∷ [])) }
+    ensures { OnOk result (text.new ≡ text.old ++ spaced (word.now ∷ [])) }
 {
     text.push(b' ')?;
     text.push_slice(word)
@@ -18,7 +18,7 @@ pub(crate) fn push_word(text: &mut Text, word: &[u8]) -> Result<(), AllocError>
 
 // A number.
 pub(crate) fn push_number(text: &mut Text, n: u64) -> Result<(), AllocError>
-    ensures { OnOk result (text.new ≡ text.old ++ behind (decimal n ∷ [])) }
+    ensures { OnOk result (text.new ≡ text.old ++ spaced (decimal n ∷ [])) }
 {
     let mut buffer = Buffer::new();
     push_word(text, buffer.format(n).as_bytes())
@@ -26,7 +26,7 @@ pub(crate) fn push_number(text: &mut Text, n: u64) -> Result<(), AllocError>
 
 // A byte that says what kind of number follows, and the number.
 pub(crate) fn push_marked(text: &mut Text, mark: u8, n: u64) -> Result<(), AllocError>
-    ensures { OnOk result (text.new ≡ text.old ++ behind ((mark ∷ decimal n) ∷ [])) }
+    ensures { OnOk result (text.new ≡ text.old ++ spaced ((mark ∷ decimal n) ∷ [])) }
 {
     let mut buffer = Buffer::new();
     text.push(b' ')?;
@@ -36,7 +36,7 @@ pub(crate) fn push_marked(text: &mut Text, mark: u8, n: u64) -> Result<(), Alloc
 
 // An operand.
 pub(crate) fn push_operand(text: &mut Text, operand: Operand) -> Result<(), AllocError>
-    ensures { OnOk result (text.new ≡ text.old ++ behind (operand_word operand ∷ [])) }
+    ensures { OnOk result (text.new ≡ text.old ++ spaced (operand_word operand ∷ [])) }
 {
     match operand {
         Operand::Register(r) => push_marked(text, b'r', u64::from(r)),

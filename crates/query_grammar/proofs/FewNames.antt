@@ -30,9 +30,9 @@ begins_once (b ∷ bytes) = go (is_word_byte b)
     go false = omega arith
 
 -- no word begins right after a word
-behind_word : (bytes : List ℕ) → word_begins (drop (prefix_len is_word_byte bytes) bytes) ≡ 0
-behind_word [] = refl
-behind_word (b ∷ bytes) = go (is_word_byte b) refl (behind_word bytes)
+past_word : (bytes : List ℕ) → word_begins (drop (prefix_len is_word_byte bytes) bytes) ≡ 0
+past_word [] = refl
+past_word (b ∷ bytes) = go (is_word_byte b) refl (past_word bytes)
   where
     go : (w : Bool) → is_word_byte b ≡ w → word_begins (drop (prefix_len is_word_byte bytes) bytes) ≡ 0 → word_begins (drop (cond w (1 + prefix_len is_word_byte bytes) 0) (b ∷ bytes)) ≡ 0
     go true e h = let same : 1 + prefix_len is_word_byte bytes ≡ suc (prefix_len is_word_byte bytes) = omega arith in ap (λ n. word_begins (drop n (b ∷ bytes))) same ∙ h
@@ -84,9 +84,9 @@ same_found : (a b : Pair) → ◌≡◌ {A = Cut} (Ok a) (Ok b) → a ≡ b
 same_found a b e = cc
 
 -- what comes after the first token of a cut text
-behind_front : (t : Token) (o : Cut) (found : Pair) → with_front t o ≡ Ok found → (got : Pair) × (o ≡ Ok got) × (got.1 ≡ found.1)
-behind_front t (Ok got) found e = (got, refl, ap (λ (p : Pair). p.1) (same_found (t ∷ got.0, got.1) found e))
-behind_front t (Err fault) found e = absurd cc
+after_front : (t : Token) (o : Cut) (found : Pair) → with_front t o ≡ Ok found → (got : Pair) × (o ≡ Ok got) × (got.1 ≡ found.1)
+after_front t (Ok got) found e = (got, refl, ap (λ (p : Pair). p.1) (same_found (t ∷ got.0, got.1) found e))
+after_front t (Err fault) found e = absurd cc
 
 one_more : (known : List (List ℕ)) (w : List ℕ) → length (with_name known w) ≤ length known + 1
 one_more known w = go (list_any (bytes_eq w) known)
@@ -106,13 +106,13 @@ piece_few (pieces.Blank n) at known bytes next found some whole h e =
     omega (arith, more, some.0, some.1, length-drop n bytes, begins_once (drop n bytes))
 piece_few (pieces.Name n) at known bytes next found some whole h e =
     let w = take n bytes in
-    let got = behind_front (token_at (kinds.Name (number_in known w)) at (at + n)) (next n (with_name known w)) found e in
+    let got = after_front (token_at (kinds.Name (number_in known w)) at (at + n)) (next n (with_name known w)) found e in
     let more = h n (with_name known w) got.0 got.1 in
-    let ends : word_begins (drop n bytes) ≡ 0 = ap (λ k. word_begins (drop k bytes)) whole.1 ∙ behind_word bytes in
+    let ends : word_begins (drop n bytes) ≡ 0 = ap (λ k. word_begins (drop k bytes)) whole.1 ∙ past_word bytes in
     let all : length got.0.1 ≡ length found.1 = ap length got.2 in
     omega (arith, more, ends, all, some.0, some.1, whole.0, length-drop n bytes, one_more known w)
 piece_few (pieces.Token kind n) at known bytes next found some whole h e =
-    let got = behind_front (token_at kind at (at + n)) (next n known) found e in
+    let got = after_front (token_at kind at (at + n)) (next n known) found e in
     let more = h n known got.0 got.1 in
     let all : length got.0.1 ≡ length found.1 = ap length got.2 in
     omega (arith, more, all, some.0, some.1, length-drop n bytes, begins_once (drop n bytes))

@@ -118,7 +118,7 @@ with_more _ _ back _ _ (parts.in_first outer c a b rest around s h) = parts.in_f
 with_more _ _ back _ _ (parts.in_second outer c a b rest around s h) = parts.in_second outer c a b (rest ++ back) around s h
 
 follows_more : (span : Span) (front back : List Stmt) → FollowsEmit span front → FollowsEmit span (front ++ back)
-follows_more span _ back (parts.behind s rest around h i) = parts.behind s (rest ++ back) around h (with_more [] rest back around (block.Emit span) i)
+follows_more span _ back (parts.beyond s rest around h i) = parts.beyond s (rest ++ back) around h (with_more [] rest back around (block.Emit span) i)
 follows_more span _ back (parts.later s rest h) = parts.later s (rest ++ back) (follows_more span rest back h)
 follows_more span _ back (parts.across c a b rest around h i) = parts.across c a b (rest ++ back) around h i
 follows_more span _ back (parts.in_first c a b rest h) = parts.in_first c a b (rest ++ back) h
@@ -148,8 +148,8 @@ Emitting states args = (s : Stmt) × TellsEmit states args s
 abbrev stmts : (states args : List ℕ) → List (Emitting states args) → List Stmt
 stmts states args ss = map (λ s. s.0) ss
 
-emit_behind : (s : Stmt) (rest : List Stmt) → HasEmit rest → HasEmit (s ∷ rest)
-emit_behind s rest h = (h.0, h.1, parts.later [] s rest h.0 (block.Emit h.1) h.2)
+emit_after : (s : Stmt) (rest : List Stmt) → HasEmit rest → HasEmit (s ∷ rest)
+emit_after s rest h = (h.0, h.1, parts.later [] s rest h.0 (block.Emit h.1) h.2)
 
 emit_before : (s : Stmt) (rest : List Stmt) → HasEmit (s ∷ []) → HasEmit (s ∷ rest)
 emit_before s rest h = (h.0, h.1, with_more [] (s ∷ []) rest h.0 (block.Emit h.1) h.2)
@@ -163,7 +163,7 @@ emits_both found middle made s rest one two some = go (two some)
 
     go : (is_some middle.emit ≡ true) ⊎ HasEmit rest → (is_some found.emit ≡ true) ⊎ HasEmit (s ∷ rest)
     go (inl h) = front (one h)
-    go (inr h) = inr (emit_behind s rest h)
+    go (inr h) = inr (emit_after s rest h)
 
 block_emits : (states args : List ℕ) (ss : List (Emitting states args)) (outer : Enclosing) (found made : Body)
     → in_order (map (stmt_checked states args) (stmts states args ss)) outer found ≡ Ok made → Emits found made (stmts states args ss)
@@ -243,15 +243,15 @@ module _ (states args : List ℕ) (known : List Known) (fault : QueryFault) wher
   told_more outer front back has (second span around e h is) = second span around e (with_more outer front back around (block.Emit span) h) is
   told_more outer front back has (follows span e h) = follows span e (follows_more span front back h)
 
-  told_behind : (outer : List Expr) (s : Stmt) (rest : List Stmt) (has has_then : Bool) → (has_then ≡ true → (has ≡ true) ⊎ HasEmit (s ∷ []))
+  told_after : (outer : List Expr) (s : Stmt) (rest : List Stmt) (has has_then : Bool) → (has_then ≡ true → (has ≡ true) ⊎ HasEmit (s ∷ []))
       → InBlock outer rest has_then → InBlock outer (s ∷ rest) has
-  told_behind outer s rest has has_then emits (at_statement around r h b) = at_statement around r (parts.later outer s rest around r h) b
-  told_behind outer s rest has has_then emits (second span around e h is) = go (emits is)
+  told_after outer s rest has has_then emits (at_statement around r h b) = at_statement around r (parts.later outer s rest around r h) b
+  told_after outer s rest has has_then emits (second span around e h is) = go (emits is)
     where
       go : (has ≡ true) ⊎ HasEmit (s ∷ []) → InBlock outer (s ∷ rest) has
       go (inl had) = second span around e (parts.later outer s rest around (block.Emit span) h) had
-      go (inr there) = let m = elsewhere outer [] rest around (block.Emit span) h in follows span e (parts.behind s rest m.0 there m.1)
-  told_behind outer s rest has has_then emits (follows span e h) = follows span e (parts.later s rest h)
+      go (inr there) = let m = elsewhere outer [] rest around (block.Emit span) h in follows span e (parts.beyond s rest m.0 there m.1)
+  told_after outer s rest has has_then emits (follows span e h) = follows span e (parts.later s rest h)
 
   told_first : (outer : List Expr) (c : Expr) (a b : List Stmt) (has : Bool) → InBlock (c ∷ outer) a has → InBlock outer (block.If c a b ∷ []) has
   told_first outer c a b has (at_statement around s h k) = at_statement around s (parts.in_first outer c a b [] around s h) k
@@ -301,7 +301,7 @@ module _ (states args : List ℕ) (known : List Known) (fault : QueryFault) wher
   block_told (s ∷ ss) around outer found knows e =
       by_next (stmt_checked states args s.0 outer found) _ fault e
       (λ is. told_more around (s.0 ∷ []) (all_of ss) (is_some found.emit) (s.1 around outer found knows is)) (λ more is e.
-      told_behind around s.0 (all_of ss) (is_some found.emit) (is_some more.emit) (stmt_emits states args s.0 outer found more is)
+      told_after around s.0 (all_of ss) (is_some found.emit) (is_some more.emit) (stmt_emits states args s.0 outer found more is)
       (block_told ss around outer more knows e))
 
   stmt_moved : (around : List Expr) (s r : Stmt) (has : Bool) → r ≡ s → InBlock around (s ∷ []) has → InBlock around (r ∷ []) has
@@ -370,5 +370,5 @@ module _ (states args : List ℕ) (known : List Known) (fault : QueryFault) wher
   body_told (s ∷ ss) around outer found knows e =
       by_next (stmt_checked states args s outer found) _ fault e
       (λ is. told_more around (s ∷ []) ss (is_some found.emit) (stmt_told s around outer found knows is)) (λ more is e.
-      told_behind around s ss (is_some found.emit) (is_some more.emit) (stmt_emits states args s outer found more is)
+      told_after around s ss (is_some found.emit) (is_some more.emit) (stmt_emits states args s outer found more is)
       (body_told ss around outer more knows e))

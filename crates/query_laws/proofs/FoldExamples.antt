@@ -144,7 +144,7 @@ fold_examples = record {
       (parts.in_first (on_state ∷ []) on_argument (Emit here ∷ []) [] [] (on_argument ∷ on_state ∷ []) (Emit here) (emit_first (on_argument ∷ on_state ∷ []))))
       (parts.later on_argument (on_state ∷ []) (parts.first []));
   second_emit = unmet (a_fold (Emit here ∷ Emit here ∷ [])) (OneEmit (Emit here ∷ Emit here ∷ [])) of_emits
-      (λ alone. alone here (parts.behind (Emit here) (Emit here ∷ []) [] ([], here, emit_first []) (emit_first [])));
+      (λ alone. alone here (parts.beyond (Emit here) (Emit here ∷ []) [] ([], here, emit_first []) (emit_first [])));
   emit_in_each_block = unmet (a_fold (If on_argument (Emit here ∷ []) (Emit here ∷ []) ∷ [])) (OneEmit (If on_argument (Emit here ∷ []) (Emit here ∷ []) ∷ [])) of_emits
       (λ alone. alone here (parts.across on_argument (Emit here ∷ []) (Emit here ∷ []) [] [] ([], here, emit_first []) (emit_first [])));
   assigned_argument = unmet (a_fold (Assign (called 2) (Number 0 here) ∷ [])) (Target (1 ∷ []) (2 ∷ []) (called 2))

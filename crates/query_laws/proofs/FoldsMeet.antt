@@ -217,7 +217,7 @@ module _ (states args : List ℕ) where
 
   one_emit : (span : Span) (ss : List Stmt) → FollowsEmit span ss → (outer : Enclosing) (found made : Body)
       → in_order (map (stmt_checked states args) ss) outer found ≡ Ok made → ⊥
-  one_emit span _ (parts.behind s rest around h stands) outer found made e =
+  one_emit span _ (parts.beyond s rest around h stands) outer found made e =
       let f = found_first (stmt_checked states args s outer found) _ made e in
       let alone : in_order (map (stmt_checked states args) (s ∷ [])) outer found ≡ Ok f.0 = ap (λ (c : Checked Body). and_then c (λ more. Ok more)) f.1 in
       let one = emits [] (s ∷ []) h.0 (block.Emit h.1) h.1 h.2 refl outer found f.0 alone in

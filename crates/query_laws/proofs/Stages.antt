@@ -18,9 +18,9 @@ abbrev operations : List StreamDepths → List ℕ
 operations streams = flat_map (λ (one : StreamDepths). one.operations) streams
 
 -- the depths of the streams after these
-abbrev behind : List TypedFold → List StreamDepths → List TypedStream → List StreamDepths
-behind folds depths [] = []
-behind folds depths (one ∷ list) = depths_made folds depths one.op ∷ behind folds (depths ++ depths_made folds depths one.op ∷ []) list
+abbrev beyond : List TypedFold → List StreamDepths → List TypedStream → List StreamDepths
+beyond folds depths [] = []
+beyond folds depths (one ∷ list) = depths_made folds depths one.op ∷ beyond folds (depths ++ depths_made folds depths one.op ∷ []) list
 
 -- ---- lists
 
@@ -53,21 +53,21 @@ fits_shallow (depth ∷ depths) h =
 
 -- ---- streams
 
-all_behind : (folds : List TypedFold) (depths : List StreamDepths) (list : List TypedStream)
-    → fold (λ streams one. streams ++ depths_made folds streams one.op ∷ []) depths list ≡ depths ++ behind folds depths list
-all_behind folds depths [] = sym (append-nil depths)
-all_behind folds depths (one ∷ list) =
-    all_behind folds (depths ++ depths_made folds depths one.op ∷ []) list
-    ∙ append_assoc depths (depths_made folds depths one.op ∷ []) (behind folds (depths ++ depths_made folds depths one.op ∷ []) list)
+all_after : (folds : List TypedFold) (depths : List StreamDepths) (list : List TypedStream)
+    → fold (λ streams one. streams ++ depths_made folds streams one.op ∷ []) depths list ≡ depths ++ beyond folds depths list
+all_after folds depths [] = sym (append-nil depths)
+all_after folds depths (one ∷ list) =
+    all_after folds (depths ++ depths_made folds depths one.op ∷ []) list
+    ∙ append_assoc depths (depths_made folds depths one.op ∷ []) (beyond folds (depths ++ depths_made folds depths one.op ∷ []) list)
 
-depths_are : (q : TypedQuery) → all_depths q ≡ packet_depths ∷ behind q.folds (packet_depths ∷ []) q.streams
-depths_are q = all_behind q.folds (packet_depths ∷ []) q.streams
+depths_are : (q : TypedQuery) → all_depths q ≡ packet_depths ∷ beyond q.folds (packet_depths ∷ []) q.streams
+depths_are q = all_after q.folds (packet_depths ∷ []) q.streams
 
 some_deep : {P : Type 0} (fault : QueryFault) → (let o : Option QueryFault = Some fault in o) ≡ None → P
 some_deep fault e = cc e
 
-none_deep : (folds : List TypedFold) (depths : List StreamDepths) (list : List TypedStream) → first_too_deep list (behind folds depths list) ≡ None
-    → All Fits (operations (behind folds depths list))
+none_deep : (folds : List TypedFold) (depths : List StreamDepths) (list : List TypedStream) → first_too_deep list (beyond folds depths list) ≡ None
+    → All Fits (operations (beyond folds depths list))
 none_deep folds depths [] e = All-nil Fits
 none_deep folds depths (one ∷ list) e = go (is_too_deep made.operations) refl (λ k. none_deep folds (depths ++ made ∷ []) list k) e
   where
@@ -75,7 +75,7 @@ none_deep folds depths (one ∷ list) e = go (is_too_deep made.operations) refl 
     made = depths_made folds depths one.op
 
     rest : List StreamDepths
-    rest = behind folds (depths ++ made ∷ []) list
+    rest = beyond folds (depths ++ made ∷ []) list
 
     go : (b : Bool) → is_too_deep made.operations ≡ b → (first_too_deep list rest ≡ None → All Fits (operations rest))
         → cond b (Some (record { kind = OverLimit Stages; span = one.name.span })) (first_too_deep list rest) ≡ None
@@ -83,12 +83,12 @@ none_deep folds depths (one ∷ list) e = go (is_too_deep made.operations) refl 
     go true is more e = some_deep _ e
     go false is more e = All-append Fits made.operations (operations rest) (shallow_fits made.operations is) (more e)
 
-all_fit : (folds : List TypedFold) (depths : List StreamDepths) (list : List TypedStream) → All Fits (operations (behind folds depths list))
-    → first_too_deep list (behind folds depths list) ≡ None
+all_fit : (folds : List TypedFold) (depths : List StreamDepths) (list : List TypedStream) → All Fits (operations (beyond folds depths list))
+    → first_too_deep list (beyond folds depths list) ≡ None
 all_fit folds depths [] h = refl
 all_fit folds depths (one ∷ list) h =
     let made : StreamDepths = depths_made folds depths one.op in
-    let rest : List StreamDepths = behind folds (depths ++ made ∷ []) list in
+    let rest : List StreamDepths = beyond folds (depths ++ made ∷ []) list in
     ap (λ (b : Bool). cond b (Some (record { kind = OverLimit Stages; span = one.name.span })) (first_too_deep list rest))
     (fits_shallow made.operations (all_front made.operations (operations rest) h))
     ∙ all_fit folds (depths ++ made ∷ []) list (all_back made.operations (operations rest) h)

@@ -38,7 +38,7 @@ use Rattle.query_lang.specs.Typing.{typed_names, field_numbers, given_of, start_
 use Rattle.query_laws.specs.ExprRules.{StandsAt}
 use Rattle.query_laws.proofs.Steps.{must_ok, must_not_ok, same_ok, found_first, nat_other, nat_is_not}
 use Rattle.query_laws.proofs.ExprSound.{slot_stands}
-use Rattle.query_laws.proofs.Views.{View, AreDistinct, AreBelow, mapped_columns, Makes, AreMade, made_long, made_last, get_front, get_behind}
+use Rattle.query_laws.proofs.Views.{View, AreDistinct, AreBelow, mapped_columns, Makes, AreMade, made_long, made_last, get_front, get_after}
 
 -- ---- what names stand for
 
@@ -251,7 +251,7 @@ module _ (fields : View) where
         made = made_last (fields ∷ []) earlier.streams h.views (record { name = name; columns = column_names made.columns; op = made.op }) made.columns h.made
             (subst (λ n. Makes (fields ∷ h.views) n made.op made.columns) long k) refl;
         told = tell_last (fields ∷ h.views ++ made.columns ∷ []) earlier.known _ (tell_more (fields ∷ h.views) made.columns earlier.known h.told)
-            (get_behind (fields ∷ h.views) made.columns [] (next_stream earlier) long);
+            (get_after (fields ∷ h.views) made.columns [] (next_stream earlier) long);
       }
 
   stream_item : (five : List ℕ) (d : StreamDef) (earlier more : Earlier) → HasViews fields earlier → stream_checked five earlier d ≡ Ok more

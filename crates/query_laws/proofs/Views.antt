@@ -92,10 +92,10 @@ get_front [] ys n x e = cc e
 get_front (z ∷ xs) ys zero x e = e
 get_front (z ∷ xs) ys (suc n) x e = get_front xs ys n x e
 
-pub get_behind : {A : Type 0} (xs : List A) (y : A) (ys : List A) (n : ℕ) → n ≡ length xs → slice_get (xs ++ y ∷ ys) n ≡ Some y
-get_behind [] y ys n e = ap (λ k. slice_get (y ∷ ys) k) e
-get_behind (x ∷ xs) y ys zero e = absurd (omega (arith, e))
-get_behind (x ∷ xs) y ys (suc n) e = get_behind xs y ys n (omega (arith, e))
+pub get_after : {A : Type 0} (xs : List A) (y : A) (ys : List A) (n : ℕ) → n ≡ length xs → slice_get (xs ++ y ∷ ys) n ≡ Some y
+get_after [] y ys n e = ap (λ k. slice_get (y ∷ ys) k) e
+get_after (x ∷ xs) y ys zero e = absurd (omega (arith, e))
+get_after (x ∷ xs) y ys (suc n) e = get_after xs y ys n (omega (arith, e))
 
 -- ---- the slots that a zip takes
 
@@ -150,7 +150,7 @@ zip_made before [] (v ∷ views) h i left right slots e = absurd h
 zip_made before (s ∷ streams) [] h i left right slots e = absurd h
 zip_made before (s ∷ streams) (v ∷ views) h zero left right slots e = record {
   view = v;
-  stands = get_behind before v views (length before + 0) (omega arith);
+  stands = get_after before v views (length before + 0) (omega arith);
   made = zip_front before (v ∷ views) left right slots v
       (subst (λ op. Makes before (length before) op v) (same_Some s.op (typed.Zip left right slots) e) h.0);
 }

@@ -30,9 +30,9 @@ named (c ∷ view) id = if nat_eq c.name id then Some c else named view id
 abbrev value_of : Values → ℕ → Option StreamColumn → Option ℕ
 value_of V packet o = option_map (λ c. V packet c.origin c.name) o
 
-index_behind : (front : List ℕ) (x : ℕ) (rest : List ℕ) → slice_index (front ++ x ∷ rest) (length front) ≡ x
-index_behind [] x rest = refl
-index_behind (y ∷ front) x rest = index_behind front x rest
+index_after : (front : List ℕ) (x : ℕ) (rest : List ℕ) → slice_index (front ++ x ∷ rest) (length front) ≡ x
+index_after [] x rest = refl
+index_after (y ∷ front) x rest = index_after front x rest
 
 value_from : (V : Values) (packet id : ℕ) (front : List ℕ) (view : View)
     → option_map (λ slot. slice_index (front ++ row_of V packet view) slot) (place_from (length front) (column_names view) id)
@@ -54,7 +54,7 @@ value_from V packet id front (c ∷ view) =
         → option_map (λ slot. slice_index whole slot) (place_from (length front + 1) (column_names view) id) ≡ value_of V packet (named view id)
         → option_map (λ slot. slice_index whole slot) (cond b (Some (length front)) (place_from (length front + 1) (column_names view) id))
         ≡ value_of V packet (cond b (Some c) (named view id))
-    go true more = ap (λ n. Some n) (index_behind front x (row_of V packet view))
+    go true more = ap (λ n. Some n) (index_after front x (row_of V packet view))
     go false more = more
 
 value_named : (V : Values) (packet id : ℕ) (view : View)
@@ -138,9 +138,9 @@ named_front (x ∷ view) more id c e = go (nat_eq x.name id) (λ k. named_front 
     go true rest k = k
     go false rest k = rest k
 
-named_behind : (view more : View) (id : ℕ) → named view id ≡ None → named (view ++ more) id ≡ named more id
-named_behind [] more id e = refl
-named_behind (x ∷ view) more id e = go (nat_eq x.name id) (λ k. named_behind view more id k) e
+named_after : (view more : View) (id : ℕ) → named view id ≡ None → named (view ++ more) id ≡ named more id
+named_after [] more id e = refl
+named_after (x ∷ view) more id e = go (nat_eq x.name id) (λ k. named_after view more id k) e
   where
     go : (b : Bool) → (named view id ≡ None → named (view ++ more) id ≡ named more id) → cond b (Some x) (named view id) ≡ None
         → cond b (Some x) (named (view ++ more) id) ≡ named more id
@@ -169,10 +169,10 @@ named_kept names (c ∷ view) id h = go (is_among c.name names) (nat_eq c.name i
     go false true is same more = ap (λ b. cond b (Some c) (named (kept names view) id)) same
     go false false is same more = ap (λ b. cond b (Some c) (named (kept names view) id)) same ∙ more
 
-zip_behind : (first second : View) (id : ℕ) → named first id ≡ None
+zip_after : (first second : View) (id : ℕ) → named first id ≡ None
     → named (first ++ columns_at second (others_from 0 (column_names first) second)) id ≡ named second id
-zip_behind first second id e =
-    named_behind first (columns_at second (others_from 0 (column_names first) second)) id e
+zip_after first second id e =
+    named_after first (columns_at second (others_from 0 (column_names first) second)) id e
     ∙ ap (λ l. named l id) (others_are second 0 (column_names first) second (λ k. ap (slice_get second) (let same : 0 + k ≡ k = omega arith in same)))
     ∙ named_kept (column_names first) second id (none_among first id e)
 
@@ -207,7 +207,7 @@ keeps_second V packet first second id v apart e = go (named first id) (named sec
     go : (o p : Option StreamColumn) → named first id ≡ o → named second id ≡ p → value_of V packet p ≡ Some v
         → value_of V packet (named zipped id) ≡ Some v
     go o None is other k = cc k
-    go None (Some d) is other k = ap (value_of V packet) (zip_behind first second id is ∙ other) ∙ k
+    go None (Some d) is other k = ap (value_of V packet) (zip_after first second id is ∙ other) ∙ k
     go (Some c) (Some d) is other k =
         ap (value_of V packet) (named_front first (columns_at second (others_from 0 (column_names first) second)) id c is)
         ∙ ap (λ n. Some n) (values_same V packet first second id c d apart is other) ∙ k

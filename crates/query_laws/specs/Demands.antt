@@ -74,7 +74,7 @@ HasEmit block = (around : List Expr) × (span : Span) × StandsIn [] block aroun
 
 -- the `emit` here comes after another one in the block
 pub data FollowsEmit (span : Span) : List Stmt → Type 0 where
-  behind : (s : Stmt) (rest : List Stmt) (around : List Expr) → HasEmit (s ∷ []) → StandsIn [] rest around (stmt.Emit span)
+  beyond : (s : Stmt) (rest : List Stmt) (around : List Expr) → HasEmit (s ∷ []) → StandsIn [] rest around (stmt.Emit span)
       → FollowsEmit span (s ∷ rest)
   later : (s : Stmt) (rest : List Stmt) → FollowsEmit span rest → FollowsEmit span (s ∷ rest)
   across : (c : Expr) (a b rest : List Stmt) (around : List Expr) → HasEmit a → StandsIn [] b around (stmt.Emit span)

@@ -16,8 +16,8 @@ abbrev pub finished : {A B : Type 0} → (List A → B) → Outcome (List A) →
 finished f o = and_then o (λ others c rest. Done (f others) c rest)
 
 -- what was read so far, before what is still read
-abbrev pub behind : {A : Type 0} → List A → List A → List A
-behind found others = found ++ others
+abbrev pub later : {A : Type 0} → List A → List A → List A
+later found others = found ++ others
 
 module _ {A B : Type 0} (starts : Token → Bool) (p : Parser A) (total : Outcome B) where
   one_turn : (n i : ℕ) (c : Counts) (ts : List Token) → i < n → next_is starts ts ≡ true
@@ -48,20 +48,20 @@ module _ {A B : Type 0} (starts : Token → Bool) (p : Parser A) (total : Outcom
 
 -- more of a list
 module _ {A : Type 0} (starts : Token → Bool) (p : Parser A) (total : Outcome (List A)) where
-  pub begins_list : (c : Counts) (ts : List Token) → repeated starts p c ts ≡ total → finished (behind []) (turns (length ts - 0) starts p c ts) ≡ total
+  pub begins_list : (c : Counts) (ts : List Token) → repeated starts p c ts ≡ total → finished (later []) (turns (length ts - 0) starts p c ts) ≡ total
   begins_list c ts e = let k : length ts - 0 ≡ length ts = omega arith in rw k (go (repeated starts p c ts) ∙ e)
     where
-      go : (o : Outcome (List A)) → finished (behind []) o ≡ o
+      go : (o : Outcome (List A)) → finished (later []) o ≡ o
       go (Done others c rest) = refl
       go (Stopped k r) = refl
 
   pub more_list : (found longer : List A) (n i : ℕ) (c : Counts) (ts : List Token) (a : A) (d : Counts) (rest : List Token) → i < n → next_is starts ts ≡ true → p c ts ≡ Done a d rest
-      → longer ≡ found ++ a ∷ [] → finished (behind found) (turns (n - i) starts p c ts) ≡ total → finished (behind longer) (turns (n - (i + 1)) starts p d rest) ≡ total
+      → longer ≡ found ++ a ∷ [] → finished (later found) (turns (n - i) starts p c ts) ≡ total → finished (later longer) (turns (n - (i + 1)) starts p d rest) ≡ total
   more_list found longer n i c ts a d rest lt h e is so_far =
-      goes_on starts p total (behind found) (behind longer) n i c ts a d rest lt h e (λ others. rw is (append_assoc found (a ∷ []) others)) so_far
+      goes_on starts p total (later found) (later longer) n i c ts a d rest lt h e (λ others. rw is (append_assoc found (a ∷ []) others)) so_far
 
-  pub ends_list : (found : List A) (n i : ℕ) (c : Counts) (ts : List Token) → (n ≤ i) ⊎ (next_is starts ts ≡ false) → finished (behind found) (turns (n - i) starts p c ts) ≡ total → total ≡ Done found c ts
-  ends_list found n i c ts way so_far = ends starts p total (behind found) n i c ts way so_far ∙ ap (λ (xs : List A). Done xs c ts) (go found)
+  pub ends_list : (found : List A) (n i : ℕ) (c : Counts) (ts : List Token) → (n ≤ i) ⊎ (next_is starts ts ≡ false) → finished (later found) (turns (n - i) starts p c ts) ≡ total → total ≡ Done found c ts
+  ends_list found n i c ts way so_far = ends starts p total (later found) n i c ts way so_far ∙ ap (λ (xs : List A). Done xs c ts) (go found)
     where
       go : (xs : List A) → xs ++ [] ≡ xs
       go [] = refl

@@ -66,10 +66,10 @@ fn bangs(alloc: Global, counts: Counts, rest: &[Token]) -> Read<'_, Seq<Span>>
         if !at_mark(Mark::Bang, rest) {
             break;
         }
-        let (span, after, behind) = mark(Role::Node, Mark::Bang, counts, rest)?;
+        let (span, after, later) = mark(Role::Node, Mark::Bang, counts, rest)?;
         found.push(span)?;
         counts = after;
-        rest = behind;
+        rest = later;
     }
     Ok((found, counts, rest))
 }
@@ -164,10 +164,10 @@ fn expressions(alloc: Global, brackets: u32, counts: Counts, rest: &[Token]) -> 
         if !at_mark(Mark::Comma, rest) {
             break;
         }
-        let (next, after, behind) = next_expression(alloc, brackets, counts, rest)?;
+        let (next, after, later) = next_expression(alloc, brackets, counts, rest)?;
         found.push(next)?;
         counts = after;
-        rest = behind;
+        rest = later;
     }
     Ok((found, counts, rest))
 }
@@ -284,10 +284,10 @@ fn level(alloc: Global, of: Level, brackets: u32, counts: Counts, rest: &[Token]
         if !at_operator(of, rest) {
             break;
         }
-        let ((op, right), after, behind) = operation(alloc, of, brackets, counts, rest)?;
+        let ((op, right), after, later) = operation(alloc, of, brackets, counts, rest)?;
         left = binary(alloc, op, left, right)?;
         counts = after;
-        rest = behind;
+        rest = later;
     }
     Ok((left, counts, rest))
 }

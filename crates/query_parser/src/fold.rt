@@ -51,10 +51,10 @@ fn state_variables(alloc: Global, counts: Counts, rest: &[Token]) -> Read<'_, Se
         if !at_mark(Mark::Comma, rest) {
             break;
         }
-        let (next, after, behind) = next_state_variable(counts, rest)?;
+        let (next, after, later) = next_state_variable(counts, rest)?;
         found.push(next)?;
         counts = after;
-        rest = behind;
+        rest = later;
     }
     Ok((found, counts, rest))
 }
@@ -84,10 +84,10 @@ fn names(alloc: Global, counts: Counts, rest: &[Token]) -> Read<'_, Seq<Name>>
         if !at_mark(Mark::Comma, rest) {
             break;
         }
-        let (next, after, behind) = comma_name(counts, rest)?;
+        let (next, after, later) = comma_name(counts, rest)?;
         found.push(next)?;
         counts = after;
-        rest = behind;
+        rest = later;
     }
     Ok((found, counts, rest))
 }

@@ -64,10 +64,10 @@ fn items(alloc: Global, counts: Counts, rest: &[Token]) -> Read<'_, Seq<Item>>
         if !at_item(rest) {
             break;
         }
-        let (next, after, behind) = item(alloc, counts, rest)?;
+        let (next, after, later) = item(alloc, counts, rest)?;
         found.push(next)?;
         counts = after;
-        rest = behind;
+        rest = later;
     }
     Ok((found, counts, rest))
 }

@@ -138,11 +138,11 @@ pub fn at_operator(level: Level, rest: &[Token]) -> bool
 pub fn operator(level: Level, counts: Counts, rest: &[Token]) -> Seen<'_, (Op, Span)>
     ensures { Sees result (word Limited Node (operator_of (ops_of level)) counts rest.now) }
 {
-    let [first, behind @ ..] = rest else {
+    let [first, later @ ..] = rest else {
         return Err(stop_at(Stop::Unexpected, rest));
     };
     match level_op(level, first.kind) {
-        Some(op) => Ok(((op, first.span), charged(Role::Node, counts, rest)?, behind)),
+        Some(op) => Ok(((op, first.span), charged(Role::Node, counts, rest)?, later)),
         None => Err(stop_at(Stop::Unexpected, rest)),
     }
 }
@@ -152,11 +152,11 @@ pub fn operator(level: Level, counts: Counts, rest: &[Token]) -> Seen<'_, (Op, S
 pub fn function(counts: Counts, rest: &[Token]) -> Seen<'_, (Op, Span)>
     ensures { Sees result (word Limited Node (operator_of functions) counts rest.now) }
 {
-    let [first, behind @ ..] = rest else {
+    let [first, later @ ..] = rest else {
         return Err(stop_at(Stop::Unexpected, rest));
     };
     match function_op(first.kind) {
-        Some(op) => Ok(((op, first.span), charged(Role::Node, counts, rest)?, behind)),
+        Some(op) => Ok(((op, first.span), charged(Role::Node, counts, rest)?, later)),
         None => Err(stop_at(Stop::Unexpected, rest)),
     }
 }

@@ -147,13 +147,13 @@ fn else_parts(
         if !at_word(Word::Else, rest) {
             break;
         }
-        let (part, after, behind) = else_part(alloc, brackets, counts, rest)?;
+        let (part, after, later) = else_part(alloc, brackets, counts, rest)?;
         match part {
-            ElsePart::Last(body) => return Ok(((found, Some(body)), after, behind)),
+            ElsePart::Last(body) => return Ok(((found, Some(body)), after, later)),
             ElsePart::Another(branch) => found.push(branch)?,
         }
         counts = after;
-        rest = behind;
+        rest = later;
     }
     Ok(((found, None), counts, rest))
 }
@@ -196,10 +196,10 @@ fn statements(alloc: Global, brackets: u32, counts: Counts, rest: &[Token]) -> R
         if !at_statement(rest) {
             break;
         }
-        let (next, after, behind) = statement(alloc, brackets, counts, rest)?;
+        let (next, after, later) = statement(alloc, brackets, counts, rest)?;
         found.push(next)?;
         counts = after;
-        rest = behind;
+        rest = later;
     }
     Ok((found, counts, rest))
 }

@@ -83,10 +83,10 @@ fn columns(alloc: Global, counts: Counts, rest: &[Token]) -> Read<'_, Seq<Column
         if !at_mark(Mark::Comma, rest) {
             break;
         }
-        let (next, after, behind) = comma_column(alloc, counts, rest)?;
+        let (next, after, later) = comma_column(alloc, counts, rest)?;
         found.push(next)?;
         counts = after;
-        rest = behind;
+        rest = later;
     }
     Ok((found, counts, rest))
 }
@@ -170,10 +170,10 @@ fn keys(alloc: Global, counts: Counts, rest: &[Token]) -> Read<'_, Seq<Key>>
         if !at_mark(Mark::Comma, rest) {
             break;
         }
-        let (next, after, behind) = comma_key(counts, rest)?;
+        let (next, after, later) = comma_key(counts, rest)?;
         found.push(next)?;
         counts = after;
-        rest = behind;
+        rest = later;
     }
     Ok((found, counts, rest))
 }

@@ -86,8 +86,8 @@ pub fn mark(role: Role, wanted: Mark, counts: Counts, rest: &[Token]) -> Seen<'_
     ensures { Sees result (word Limited (role_of role) (is (sign wanted)) counts rest.now) }
 {
     match rest {
-        [first, behind @ ..] if is_mark(first.kind, wanted) => {
-            Ok((first.span, charged(role, counts, rest)?, behind))
+        [first, later @ ..] if is_mark(first.kind, wanted) => {
+            Ok((first.span, charged(role, counts, rest)?, later))
         }
         _ => Err(stop_at(Stop::Unexpected, rest)),
     }
@@ -105,8 +105,8 @@ pub fn keyword(role: Role, wanted: Word, counts: Counts, rest: &[Token]) -> Seen
     ensures { Sees result (word Limited (role_of role) (is (keyword_of wanted)) counts rest.now) }
 {
     match rest {
-        [first, behind @ ..] if is_word(first.kind, wanted) => {
-            Ok((first.span, charged(role, counts, rest)?, behind))
+        [first, later @ ..] if is_word(first.kind, wanted) => {
+            Ok((first.span, charged(role, counts, rest)?, later))
         }
         _ => Err(stop_at(Stop::Unexpected, rest)),
     }
@@ -122,13 +122,13 @@ pub fn name(role: Role, counts: Counts, rest: &[Token]) -> Seen<'_, Name>
                 kind: TokenKind::Name(id),
                 span,
             },
-            behind @ ..,
+            later @ ..,
         ] => {
             let name = Name {
                 id: *id,
                 span: *span,
             };
-            Ok((name, charged(role, counts, rest)?, behind))
+            Ok((name, charged(role, counts, rest)?, later))
         }
         _ => Err(stop_at(Stop::Unexpected, rest)),
     }
@@ -153,8 +153,8 @@ pub fn number(role: Role, counts: Counts, rest: &[Token]) -> Seen<'_, (u64, Span
                 kind: TokenKind::Number(n),
                 span,
             },
-            behind @ ..,
-        ] => { Ok(((*n, *span), charged(role, counts, rest)?, behind)) }
+            later @ ..,
+        ] => { Ok(((*n, *span), charged(role, counts, rest)?, later)) }
         _ => Err(stop_at(Stop::Unexpected, rest)),
     }
 }
@@ -169,8 +169,8 @@ pub fn five_tuple(counts: Counts, rest: &[Token]) -> Seen<'_, Span>
                 kind: TokenKind::FiveTuple,
                 span,
             },
-            behind @ ..,
-        ] => Ok((*span, counts, behind)),
+            later @ ..,
+        ] => Ok((*span, counts, later)),
         _ => Err(stop_at(Stop::Unexpected, rest)),
     }
 }
@@ -185,8 +185,8 @@ pub fn end(counts: Counts, rest: &[Token]) -> Seen<'_, Span>
                 kind: TokenKind::End,
                 span,
             },
-            behind @ ..,
-        ] => Ok((*span, counts, behind)),
+            later @ ..,
+        ] => Ok((*span, counts, later)),
         _ => Err(stop_at(Stop::Unexpected, rest)),
     }
 }

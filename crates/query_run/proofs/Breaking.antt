@@ -55,9 +55,9 @@ module _ {O : Type 0} (taken : O → Option (List ℕ)) (faults : O → ℕ) (te
   out_of_memory out = nothing_taken (taken out) (text_unless fault text)
 
   -- out of memory after some of a sound trace's text was written; of a trace that may have a fault nothing was written
-  pub memory_behind : (old new : O) (done rest : List ℕ) → text ≡ done ++ rest → ((found : TraceFault) → fault ≡ Some found → done ≡ []) → Appends (taken old) (taken new) done
+  pub memory_after : (old new : O) (done rest : List ℕ) → text ≡ done ++ rest → ((found : TraceFault) → fault ≡ Some found → done ≡ []) → Appends (taken old) (taken new) done
       → BreaksOff taken faults text fault old new Memory
-  memory_behind old new done rest is none whole = by_fault fault refl
+  memory_after old new done rest is none whole = by_fault fault refl
     where
       by_fault : (f : Option TraceFault) → fault ≡ f → TakesFront (taken old) (taken new) (text_unless f text)
       by_fault None e = subst (TakesFront (taken old) (taken new)) (sym is) (part_taken (taken old) (taken new) done rest whole)
@@ -67,7 +67,7 @@ module _ {O : Type 0} (taken : O → Option (List ℕ)) (faults : O → ℕ) (te
   pub reader_breaks : (old new : O) (done rest : List ℕ) → text ≡ done ++ rest → ((found : TraceFault) → fault ≡ Some found → (done ≡ []) × (new ≡ old)) → Appends (taken old) (taken new) done
       → (answer : TraceAnswer) → IfRefused answer (λ found. fault ≡ Some found) → BreaksOff taken faults text fault old new (answer_for answer)
   reader_breaks old new done rest is none whole (answers.Refused found) e = (e, (none found e).1)
-  reader_breaks old new done rest is none whole answers.Memory e = memory_behind old new done rest is (λ found f. (none found f).0) whole
+  reader_breaks old new done rest is none whole answers.Memory e = memory_after old new done rest is (λ found f. (none found f).0) whole
 
   -- a write failed after what was written
   pub write_breaks : (old mid new : O) (done piece rest : List ℕ) → text ≡ done ++ (piece ++ rest) → fault ≡ None → Appends (taken old) (taken mid) done → faults old ≤ faults mid

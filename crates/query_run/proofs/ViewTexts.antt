@@ -6,13 +6,13 @@ use Rattle.std.proofs.lemmas.Bool.Decides.{nat_tests}
 use Rattle.query_run.specs.Views.{NoViewsWithoutNumber, is_view, view_text, views_text, views_up_to}
 
 -- the remainders after a multiple
-behind : (every number j : ℕ) → number % every ≡ 0 → j < every → (number + j) % every ≡ j
-behind every number j whole below = sym (mod-add-mod number every j) ∙ (ap (λ n. (n + j) % every) whole ∙ (let e : 0 + j ≡ j = omega arith in ap (λ n. n % every) e ∙ mod-eq_of_lt below))
+past : (every number j : ℕ) → number % every ≡ 0 → j < every → (number + j) % every ≡ j
+past every number j whole below = sym (mod-add-mod number every j) ∙ (ap (λ n. (n + j) % every) whole ∙ (let e : 0 + j ≡ j = omega arith in ap (λ n. n % every) e ∙ mod-eq_of_lt below))
 
 not_due : (every number j : ℕ) → number % every ≡ 0 → suc j < every → is_view every (suc (number + j)) ≡ false
 not_due every number j whole below =
     let e : number + suc j ≡ suc (number + j) = omega arith in
-    let left : suc (number + j) % every ≡ suc j = ap (λ n. n % every) (sym e) ∙ behind every number (suc j) whole below in
+    let left : suc (number + j) % every ≡ suc j = ap (λ n. n % every) (sym e) ∙ past every number (suc j) whole below in
     let some : 0 < suc (number + j) % every = omega arith in
     grind (arith, nat_tests)
 

@@ -37,9 +37,9 @@ use Rattle.query_types.proofs.MadeLaws.{IsPart, IsName}
 abbrev pub tables_of : Whole → Earlier → List Shape
 tables_of w e = shapes w.folds w.streams [] ++ map final_shape e.finals
 
-get_behind : {A : Type 0} (xs ys : List A) (i : ℕ) → slice_get (xs ++ ys) (length xs + i) ≡ slice_get ys i
-get_behind [] ys i = let same : 0 + i ≡ i = omega arith in ap (slice_get ys) same
-get_behind (x ∷ xs) ys i = let same : suc (length xs) + i ≡ suc (length xs + i) = omega arith in ap (slice_get (x ∷ (xs ++ ys))) same ∙ get_behind xs ys i
+get_after : {A : Type 0} (xs ys : List A) (i : ℕ) → slice_get (xs ++ ys) (length xs + i) ≡ slice_get ys i
+get_after [] ys i = let same : 0 + i ≡ i = omega arith in ap (slice_get ys) same
+get_after (x ∷ xs) ys i = let same : suc (length xs) + i ≡ suc (length xs + i) = omega arith in ap (slice_get (x ∷ (xs ++ ys))) same ∙ get_after xs ys i
 
 at_place : (w : Whole) (e : Earlier) (shape : Shape) (p : PrintOf) → IsPart w e → length (takings w.streams) ≡ w.groups → IsBelow (length e.finals) p → table_shape w p ≡ Some shape
     → slice_get (tables_of w e) (table_number w.groups p) ≡ Some shape
@@ -55,7 +55,7 @@ at_place w e shape (place.Final j) part count below is =
     let whole : map final_shape w.finals ≡ B ++ map final_shape part.later_finals = ap (map final_shape) part.finals ∙ map-append final_shape e.finals part.later_finals in
     ap (λ (l : List Shape). slice_get (l ++ B) (w.groups + j)) (append-nil A)
     ∙ ap (λ (n : ℕ). slice_get (A ++ B) (n + j)) (sym size)
-    ∙ get_behind A B j
+    ∙ get_after A B j
     ∙ sym (get_front B (map final_shape part.later_finals) j within)
     ∙ ap (λ (l : List Shape). slice_get l j) (sym whole)
     ∙ is

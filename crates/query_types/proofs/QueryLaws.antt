@@ -42,7 +42,7 @@ use Rattle.query_types.proofs.ItemLaws.{Standing, item_stands, fold_named_well}
 use Rattle.query_types.proofs.ViewLaws.{Whole, IsTable, IsFold, IsStream, known_more, table_shape, table_known, get_next}
 use Rattle.query_types.proofs.MadeLaws.{IsPart, IsMade, made_valid}
 use Rattle.query_types.proofs.FinalLaws.{IsMadeFinal, final_valid}
-use Rattle.query_types.proofs.WholeLaws.{IsPrinted, Sound, streams_push, finals_push, get_map, behind, item_part, items_part, made_table, next_width}
+use Rattle.query_types.proofs.WholeLaws.{IsPrinted, Sound, streams_push, finals_push, get_map, past, item_part, items_part, made_table, next_width}
 
 -- a table that was looked up is printed
 printed : (w : Whole) (finals : ℕ) (t : TableView) → IsTable w finals t → IsPrinted w t.place
@@ -55,7 +55,7 @@ printed w finals t v = go t.place v.shape
 fold_sound : (w : Whole) (e : Earlier) (f : TypedFold) → Sound w e → IsPart w (with_fold e f) → Standing w.names (with_fold e f) → HasNames w.names f → Sound w (with_fold e f)
 fold_sound w e f s part base ids =
     let view : FoldView = record { number = length e.folds; states = f.state_names; args = f.arg_names; emits = is_some f.emit } in
-    let is = behind w.folds e.folds part.later_folds f part.folds in
+    let is = past w.folds e.folds part.later_folds f part.folds in
     let v : IsFold w view = record {
       one = f;
       is = ap (λ (l : List TypedFold). slice_get l (length e.folds)) is ∙ get_next e.folds part.later_folds f;
@@ -77,7 +77,7 @@ stream_sound : (w : Whole) (e : Earlier) (name : Name) (made : MadeStream) → S
 stream_sound w e name made s part base id v =
     let one : TypedStream = record { name = name; columns = column_names made.columns; op = made.op } in
     let view : StreamView = record { number = next_stream e; columns = made.columns; hidden = made.hidden; table = made.table } in
-    let is = behind w.streams e.streams part.later_streams one part.streams in
+    let is = past w.streams e.streams part.later_streams one part.streams in
     let more : length (e.streams ++ one ∷ []) ≡ length e.streams + 1 = length-append e.streams (one ∷ []) in
     let is_stream : IsStream w (length (e.streams ++ one ∷ [])) (length e.finals) view = record {
       number = omega (arith, more);
@@ -98,7 +98,7 @@ final_sound : (w : Whole) (e : Earlier) (name : Name) (made : MadeFinal) → Sou
 final_sound w e name made s part base id v =
     let one : TypedFinal = record { name = name; columns = made.columns; keys = made.keys; op = made.op } in
     let view : TableView = record { place = place.Final (length e.finals); columns = made.columns; keys = made.keys } in
-    let is = behind w.finals e.finals part.later_finals one part.finals in
+    let is = past w.finals e.finals part.later_finals one part.finals in
     let more : length (e.finals ++ one ∷ []) ≡ length e.finals + 1 = length-append e.finals (one ∷ []) in
     let is_table : IsTable w (length (e.finals ++ one ∷ [])) view = record {
       shape = get_map final_shape w.finals (length e.finals) one (ap (λ (l : List TypedFinal). slice_get l (length e.finals)) is ∙ get_next e.finals part.later_finals one);

@@ -70,13 +70,13 @@ takings_next xs rest one t is =
     ap (λ (l : List Taking). slice_get l (length (takings xs))) (split ∙ ap (λ l. takings xs ++ l) head) ∙ get_next (takings xs) (takings rest) t
 
 -- one list goes on as another
-pub behind : {A : Type 0} (whole xs later : List A) (x : A) → whole ≡ (xs ++ x ∷ []) ++ later → whole ≡ xs ++ x ∷ later
-behind whole xs later x e = e ∙ append_assoc xs (x ∷ []) later
+pub past : {A : Type 0} (whole xs later : List A) (x : A) → whole ≡ (xs ++ x ∷ []) ++ later → whole ≡ xs ++ x ∷ later
+past whole xs later x e = e ∙ append_assoc xs (x ∷ []) later
 
 fold_part : (w : Whole) (e : Earlier) (f : TypedFold) → IsPart w (with_fold e f) → IsPart w e
 fold_part w e f p = record {
   later_folds = f ∷ p.later_folds;
-  folds = behind w.folds e.folds p.later_folds f p.folds;
+  folds = past w.folds e.folds p.later_folds f p.folds;
   later_streams = p.later_streams;
   streams = p.streams;
   later_finals = p.later_finals;
@@ -90,7 +90,7 @@ stream_part w e name made p =
       later_folds = p.later_folds;
       folds = p.folds;
       later_streams = one ∷ p.later_streams;
-      streams = behind w.streams e.streams p.later_streams one p.streams;
+      streams = past w.streams e.streams p.later_streams one p.streams;
       later_finals = p.later_finals;
       finals = p.finals;
     }
@@ -104,7 +104,7 @@ final_part w e name made p =
       later_streams = p.later_streams;
       streams = p.streams;
       later_finals = one ∷ p.later_finals;
-      finals = behind w.finals e.finals p.later_finals one p.finals;
+      finals = past w.finals e.finals p.later_finals one p.finals;
     }
 
 -- where the items up to some place are part of the query, those before them are

@@ -22,7 +22,7 @@ use Rattle.stage_plan.specs.declared.op.PlanOp.{PlanOp}
 use Rattle.stage_plan.specs.declared.wires.StreamWires.{StreamWires}
 use Rattle.stage_plan.specs.Registers.{operand_stage}
 use Rattle.stage_plan.specs.Depths.{term_depth, term_depths, StreamDepths, packet_depths, depths_at, joined_depths, emit_depths, group_depths, depths_made, all_depths}
-use Rattle.stage_plan.specs.Making.{stage_behind, compiled, compiled_all, op_on, operand_at, wires_at, conditioned, emit_columns, emitted, grouped, made_by, all_made}
+use Rattle.stage_plan.specs.Making.{stage_after, compiled, compiled_all, op_on, operand_at, wires_at, conditioned, emit_columns, emitted, grouped, made_by, all_made}
 use Rattle.stage_plan.specs.Sound.{IsWithin}
 use Rattle.stage_plan.proofs.Lists.{push_cases, slice_get-last}
 use Rattle.stage_plan.proofs.Runs.{within_more, stage_of_register}
@@ -100,7 +100,7 @@ are_numbers ops (n ∷ initial) = (number_at ops n, are_numbers ops initial)
 pub record IsMade (ops : List PlanOp) (i : ℕ) (one : PlanOp) : Type 0 where
   pub left : IsWithin (14 + i) one.left
   pub right : IsWithin (14 + i) one.right
-  pub stage : one.stage ≡ stage_behind (operand_stage ops one.left) (operand_stage ops one.right)
+  pub stage : one.stage ≡ stage_after (operand_stage ops one.left) (operand_stage ops one.right)
 
 pub record AreMade (ops : List PlanOp) : Type 0 where
   pub each : (i : ℕ) (one : PlanOp) → slice_get ops i ≡ Some one → IsMade ops i one
@@ -116,15 +116,15 @@ made_more ops op left right made l r = record {
           left = h.left;
           right = h.right;
           stage = h.stage
-              ∙ ap (λ s. stage_behind s (operand_stage ops one.right)) (sym (same_stage ops (ops ++ new ∷ []) one.left (one_more ops new) (within_more (14 + i) (14 + length ops) one.left (omega arith) h.left)))
-              ∙ ap (λ s. stage_behind (operand_stage (ops ++ new ∷ []) one.left) s) (sym (same_stage ops (ops ++ new ∷ []) one.right (one_more ops new) (within_more (14 + i) (14 + length ops) one.right (omega arith) h.right)));
+              ∙ ap (λ s. stage_after s (operand_stage ops one.right)) (sym (same_stage ops (ops ++ new ∷ []) one.left (one_more ops new) (within_more (14 + i) (14 + length ops) one.left (omega arith) h.left)))
+              ∙ ap (λ s. stage_after (operand_stage (ops ++ new ∷ []) one.left) s) (sym (same_stage ops (ops ++ new ∷ []) one.right (one_more ops new) (within_more (14 + i) (14 + length ops) one.right (omega arith) h.right)));
         }
     | inr last ↦ subst (IsMade (ops ++ new ∷ []) i) last.1 (subst (λ k. IsMade (ops ++ new ∷ []) k new) (sym last.0) (record {
       left = l;
       right = r;
       stage =
-          ap (λ s. stage_behind s (operand_stage ops right)) (sym (same_stage ops (ops ++ new ∷ []) left (one_more ops new) l))
-          ∙ ap (λ s. stage_behind (operand_stage (ops ++ new ∷ []) left) s) (sym (same_stage ops (ops ++ new ∷ []) right (one_more ops new) r));
+          ap (λ s. stage_after s (operand_stage ops right)) (sym (same_stage ops (ops ++ new ∷ []) left (one_more ops new) l))
+          ∙ ap (λ s. stage_after (operand_stage (ops ++ new ∷ []) left) s) (sym (same_stage ops (ops ++ new ∷ []) right (one_more ops new) r));
     }))
   ];
 }
@@ -156,7 +156,7 @@ added_then a b c ds es p q = record {
 
 added_one : (ops : List PlanOp) (op : operation.Operation) (left right : Operand) (d e : ℕ) → AreMade ops → IsAt ops left d → IsAt ops right e → Added ops (ops ++ op_on ops op left right ∷ []) ((1 + max d e) ∷ [])
 added_one ops op left right d e made l r =
-    let stage : stage_behind (operand_stage ops left) (operand_stage ops right) ≡ min 65 (1 + max d e) = (let a = l.stage in let b = r.stage in omega arith) in
+    let stage : stage_after (operand_stage ops left) (operand_stage ops right) ≡ min 65 (1 + max d e) = (let a = l.stage in let b = r.stage in omega arith) in
     record {
       extends = one_more ops (op_on ops op left right);
       made = made_more ops op left right made l.within r.within;

@@ -35,7 +35,7 @@ module _ (ops : List PlanOp) (stages : List ℕ) (p : IsPlacement ops stages) wh
         let early : nat_lt r 14 ≡ true = grind (arith, nat_tests) in
         let none : operand_stage ops (Register r) ≡ 0 = ap (λ b. if b then 0 else unwrap_or (option_map (λ (x : PlanOp). x.stage) (slice_get ops (r - 14))) 0) early in
         omega arith
-    | inr behind ↦
+    | inr beyond ↦
         let number : ℕ = r - 14 in
         let same : r ≡ 14 + number = omega arith in
         let late : nat_lt r 14 ≡ false = grind (arith, nat_tests) in
@@ -63,10 +63,10 @@ module _ (ops : List PlanOp) (stages : List ℕ) (p : IsPlacement ops stages) wh
       let before : (k : ℕ) (other : PlanOp) → k < n → slice_get ops k ≡ Some other → other.stage ≤ slice_index stages k = λ k other less there. each_waits sound n k other less there in
       let P : Option PlanOp → ℕ → Type 0 = λ o number. Follows o number in
       let left : operand_stage ops one.left < slice_index stages i =
-      waits i n one.left (omega arith) some m.left (λ number e. p.behind i number here (subst (λ o. P o number) (sym found) (inl e))) before
+      waits i n one.left (omega arith) some m.left (λ number e. p.beyond i number here (subst (λ o. P o number) (sym found) (inl e))) before
       in
       let right : operand_stage ops one.right < slice_index stages i =
-      waits i n one.right (omega arith) some m.right (λ number e. p.behind i number here (subst (λ o. P o number) (sym found) (inr e))) before
+      waits i n one.right (omega arith) some m.right (λ number e. p.beyond i number here (subst (λ o. P o number) (sym found) (inr e))) before
       in
       let s = m.stage in
       omega arith
@@ -86,7 +86,7 @@ pub placed : (ops : List PlanOp) → AreSoundOps ops → IsPlacement ops (map (�
 placed ops sound = record {
   all = length-map ops (λ (one : PlanOp). one.stage);
   some = λ i d lt. each_some i d (omega (arith, length-map ops (λ (one : PlanOp). one.stage)));
-  behind = each_behind;
+  beyond = each_after;
 }
   where
     each_some : (i d : ℕ) → i < length ops → 0 < get_or (map (λ (one : PlanOp). one.stage) ops) i d
@@ -113,8 +113,8 @@ placed ops sound = record {
           | inr past ↦ absurd (omega arith)
         ]
 
-    each_behind : (i number : ℕ) → i < length ops → Follows (slice_get ops i) number → slice_index (map (λ (x : PlanOp). x.stage) ops) number < slice_index (map (λ (x : PlanOp). x.stage) ops) i
-    each_behind i number lt follows = elim ((slice_get_cases ops i).1) [
+    each_after : (i number : ℕ) → i < length ops → Follows (slice_get ops i) number → slice_index (map (λ (x : PlanOp). x.stage) ops) number < slice_index (map (λ (x : PlanOp). x.stage) ops) i
+    each_after i number lt follows = elim ((slice_get_cases ops i).1) [
       | inl found ↦
           let P : Option PlanOp → Type 0 = λ o. Follows o number in
           let m = sound.each i found.0 found.2 in

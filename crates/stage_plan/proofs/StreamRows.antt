@@ -138,11 +138,11 @@ before_more n [] None h = tt
 before_more n [] (Some row) h = (omega arith, tt)
 before_more n (t ∷ list) o h = (omega (arith, h.0), before_more n list o h.1)
 
-find_behind : (n : ℕ) (list rest : List Tuple) → AreBefore n list → find (λ other. other.packet == n) (list ++ rest) ≡ find (λ other. other.packet == n) rest
-find_behind n [] rest h = refl
-find_behind n (t ∷ list) rest h =
+find_after : (n : ℕ) (list rest : List Tuple) → AreBefore n list → find (λ other. other.packet == n) (list ++ rest) ≡ find (λ other. other.packet == n) rest
+find_after n [] rest h = refl
+find_after n (t ∷ list) rest h =
     let other : eqb t.packet n ≡ false = (let lt = h.0 in grind (arith, nat_tests)) in
-    ap (λ b. cond b (Some t) (find (λ other. other.packet == n) (list ++ rest))) other ∙ find_behind n list rest h.1
+    ap (λ b. cond b (Some t) (find (λ other. other.packet == n) (list ++ rest))) other ∙ find_after n list rest h.1
 
 find_later : (f : List ℕ → Row) (n m : ℕ) (packets : List (List ℕ)) → n < m → find (λ other. other.packet == n) (tuples f m packets) ≡ None
 find_later f n m [] lt = refl
@@ -178,7 +178,7 @@ zip_are slots f g n before (words ∷ packets) h =
     joined row (Some other) = record { packet = n; row = row ++ values_at other slots } ∷ []
 
     found : find (λ other. other.packet == n) (before ++ tuples g n (words ∷ packets)) ≡ option_map (λ row. record { packet = n; row = row }) (g words)
-    found = find_behind n before (tuples g n (words ∷ packets)) h ∙ find_here g n words packets
+    found = find_after n before (tuples g n (words ∷ packets)) h ∙ find_here g n words packets
 
     go : (o : Row) → zip_stream slots (tuples f (suc n) packets) ((before ++ tuple_of n (g words)) ++ tuples g (suc n) packets) ≡ tuples (λ words. zip_row slots (f words) (g words)) (suc n) packets →
         zip_stream slots (tuple_of n o ++ tuples f (suc n) packets) (before ++ tuples g n (words ∷ packets)) ≡ tuple_of n (zip_row slots o (g words)) ++ tuples (λ words. zip_row slots (f words) (g words)) (suc n) packets

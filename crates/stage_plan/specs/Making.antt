@@ -32,13 +32,13 @@ abbrev pub compiled_then : {A : Type 0} → Compiled → (List PlanOp → Operan
 compiled_then c next = next c.ops c.value
 
 -- the stage after these two. All above 64 are 65
-abbrev pub stage_behind : ℕ → ℕ → ℕ
-stage_behind a b = min 65 (suc (max a b))
+abbrev pub stage_after : ℕ → ℕ → ℕ
+stage_after a b = min 65 (suc (max a b))
 
 -- one more operation
 abbrev pub op_on : List PlanOp → operation.Operation → Operand → Operand → PlanOp
 op_on ops op left right = record {
-  stage = stage_behind (operand_stage ops left) (operand_stage ops right);
+  stage = stage_after (operand_stage ops left) (operand_stage ops right);
   op = op;
   left = left;
   right = right;

@@ -7,4 +7,4 @@ use Rattle.stage_plan.specs.Sound.{Follows}
 pub record IsPlacement (ops : List PlanOp) (stages : List ℕ) : Type 0 where
   pub all : length stages ≡ length ops
   pub some : All (λ stage. 0 < stage) stages
-  pub behind : (i number : ℕ) → i < length ops → Follows (slice_get ops i) number → slice_index stages number < slice_index stages i
+  pub beyond : (i number : ℕ) → i < length ops → Follows (slice_get ops i) number → slice_index stages number < slice_index stages i

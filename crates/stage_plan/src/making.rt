@@ -5,7 +5,7 @@ ghost use Rattle.query_lang.specs.Folds.{term_nodes};
 ghost use Rattle.query_lang.specs.Terms.{term_of};
 ghost use Rattle.stage_plan.specs.declared.op.Operand.TheVariants.{Number};
 ghost use Rattle.stage_plan.specs.Registers.{operand_stage};
-ghost use Rattle.stage_plan.specs.Making.{stage_behind, with_op, operand_at, compiled, joined, conditioned, filtered, mapped};
+ghost use Rattle.stage_plan.specs.Making.{stage_after, with_op, operand_at, compiled, joined, conditioned, filtered, mapped};
 ghost use Rattle.stage_plan.specs.Making.{zipped, emit_columns, grouped};
 ghost use Rattle.stage_plan.specs.Counting.{condition_most, values_most, emit_most};
 
@@ -34,8 +34,8 @@ fn stage_of(ops: &[PlanOp], operand: Operand) -> u32
 }
 
 // The stage after two others, and 65 for all above 64.
-fn behind(left: u32, right: u32) -> u32
-    ensures { result ≡ stage_behind left right }
+fn beyond(left: u32, right: u32) -> u32
+    ensures { result ≡ stage_after left right }
 {
     if left < 64 && right < 64 {
         left.max(right) + 1
@@ -57,7 +57,7 @@ fn make_op(
     ensures more { OnOk result (length ops.new ≡ length ops.old + 1) }
 {
     let at = ops.len();
-    let stage = behind(
+    let stage = beyond(
         stage_of(ops.as_slice(), left),
         stage_of(ops.as_slice(), right),
     );

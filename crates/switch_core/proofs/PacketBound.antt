@@ -90,13 +90,13 @@ each_sum r f g shape k (x ∷ xs) (y ∷ ys) e =
     let whole : r * sum (g (shape y) ∷ map g (map shape ys)) ≡ r * (g (shape y) + sum (map g (map shape ys))) = ap (λ n. r * n) right in
     omega arith
 
-behind : (entries : Entries) (registers a b : ℕ) → a ≤ runs_of entries * b → registers + a ≤ runs_of entries * (registers + b)
-behind Folds registers a b le = omega arith
-behind Bounds registers a b le = omega arith
+after : (entries : Entries) (registers a b : ℕ) → a ≤ runs_of entries * b → registers + a ≤ runs_of entries * (registers + b)
+after Folds registers a b le = omega arith
+after Bounds registers a b le = omega arith
 
 pub packet_within : HasOneDepth → EntriesSuitFolds → (ways : ℕ) (p : PipelineView) → IsSoundPlan p.plan → AreLanesOf p.entries p.plan p.buckets p.lanes → pipeline_cost ways p ≤ runs_of p.entries * plan_bound p.plan ways
 packet_within one suit ways p sound are =
-    behind p.entries (14 + length p.plan.ops) (sum_by (lane_cost ways) p.lanes) (sum (map (group_bound ways) (map group_shape p.plan.groups)))
+    after p.entries (14 + length p.plan.ops) (sum_by (lane_cost ways) p.lanes) (sum (map (group_bound ways) (map group_shape p.plan.groups)))
     (each_sum (runs_of p.entries) (lane_cost ways) (group_bound ways) group_shape 0 p.lanes p.plan.groups
     (each_map (λ n lane group. IsLaneOf p.entries p.buckets lane.cache (ghosts.sizes lane.kind) (ghosts.folding lane.kind) (ghosts.open_bound lane.kind) (ghosts.absorb_bound lane.kind) group (wiring_at p.plan n))
     (λ n lane group. lane_cost ways lane ≤ runs_of p.entries * group_bound ways (group_shape group)) 0 p.lanes p.plan.groups

@@ -25,8 +25,8 @@ first_all events = ([], append-nil events)
 first_along : (xs ys zs : List Event) → AreFirst xs ys → AreFirst ys zs → AreFirst xs zs
 first_along xs ys zs a b = (a.0 ++ b.0, sym (append_assoc xs a.0 b.0) ∙ (ap (λ l. l ++ b.0) a.1 ∙ b.1))
 
-first_behind : (before xs ys : List Event) → AreFirst xs ys → AreFirst (before ++ xs) (before ++ ys)
-first_behind before xs ys a = (a.0, append_assoc before xs a.0 ∙ ap (λ l. before ++ l) a.1)
+first_after : (before xs ys : List Event) → AreFirst xs ys → AreFirst (before ++ xs) (before ++ ys)
+first_after before xs ys a = (a.0, append_assoc before xs a.0 ∙ ap (λ l. before ++ l) a.1)
 
 evictions_first : (g : Geometry) (places bucket n total : ℕ) (m : Machine) → n ≤ total → AreFirst (eviction_events g places bucket n m) (eviction_events g places bucket total m)
 evictions_first g places bucket n zero m le =
@@ -184,7 +184,7 @@ sweep_begun means f ways bucket first was new same below runs more m s =
     let after : PartsStand means f new (run g some.0 middle) = run_sized means f ways (length was.cache.lists) total new some.0 middle same.buckets some.2 in (
       before ++ some.0,
       first_along (before ++ some.0) (sweep_events g first.pipe.places (suc bucket) m) (sweep_events g first.pipe.places total m)
-          (first_behind before some.0 (bucket_events g first.pipe.places bucket middle) start) (buckets_first g first.pipe.places (suc bucket) total m (omega arith)),
+          (first_after before some.0 (bucket_events g first.pipe.places bucket middle) start) (buckets_first g first.pipe.places (suc bucket) total m (omega arith)),
       subst (PartsStand means f new) (sym (run_on g before some.0 m)) after,
     )
 

@@ -116,7 +116,7 @@ pub whole_trace : SweepsReachTheEnd → (g : Geometry) (plan : PlanParts) (words
     → ((lane : ℕ) → waiting done.lanes lane ≡ 0) → PipelineStands done (end_machines plan g words) × (list_all (λ lane. is_drained lane.cache lane.pipe) done.lanes ≡ true)
 whole_trace law g plan words count start took done p b n k l are f none =
     let long = lanes_long done.entries done.plan done.buckets done.lanes are ∙ ap (λ x. length x.groups) (l.plan ∙ (k.plan ∙ p)) in
-    let behind = follows_as (λ (i : ℕ). empty_buckets took.buckets (after_packets g (uses_by start.plan i words) count)) (last plan g words) done
+    let past = follows_as (λ (i : ℕ). empty_buckets took.buckets (after_packets g (uses_by start.plan i words) count)) (last plan g words) done
     (last_as g plan start.plan words took.buckets count p (k.buckets ∙ b) n) f in
-    let stands = end_reached law g words plan done long behind none in
+    let stands = end_reached law g words plan done long past none in
     (stands, end_drained law g words plan done stands none)

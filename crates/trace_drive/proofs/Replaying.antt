@@ -46,7 +46,7 @@ one_more follow law {ways} schedule all count p old new way given keeps follows 
     (λ (i : ℕ). after_packet (record { buckets = old.pipeline.buckets; ways = ways; refresh = old.refreshes.every }) (suc count) (event_of (taken plan i p.words)) (after_packets g (uses_by plan i (words_of all)) count))
     (λ (i : ℕ). after_packets g (uses_by plan i (words_of all)) (suc count)) new.pipeline
     (after_turn follow law g plan plan old.pipeline.buckets old.refreshes.every all count p (coming new.packets) left refl way.buckets way.refresh) follows in
-    let behind : IsUnderWay schedule all (suc count) new = record {
+    let past : IsUnderWay schedule all (suc count) new = record {
       within = omega arith;
       rest = (next_left all count p (coming new.packets) left).1;
       buckets = keeps.buckets ∙ way.buckets;
@@ -57,7 +57,7 @@ one_more follow law {ways} schedule all count p old new way given keeps follows 
       lag = lag ∙ way.lag;
     } in
     let next : suc count ≡ count + 1 = omega arith in
-    subst (λ n. IsUnderWay schedule all n new) next behind
+    subst (λ n. IsUnderWay schedule all n new) next past
 
 -- no packet was left
 pub none_more : {ways : ℕ} (schedule : Schedule) (all : List Packet) (count : ℕ) (old : Replay ways) (packets : Packets) → IsUnderWay schedule all count old → coming old.packets ≡ [] → coming packets ≡ []

@@ -30,10 +30,10 @@ waiting_as (l ∷ lanes) [] (suc lane) e = waiting_as lanes [] lane e
 waiting_as (l ∷ lanes) (o ∷ others) zero e = let same : l ≡ o = cc in ap (λ x. length x.pipe.records) same
 waiting_as (l ∷ lanes) (o ∷ others) (suc lane) e = waiting_as lanes others lane e
 
-pub none_behind : (lanes : List LaneView) (lane : ℕ) → length lanes ≤ lane → waiting lanes lane ≡ 0
-none_behind [] lane h = refl
-none_behind (l ∷ lanes) zero h = absurd (omega arith)
-none_behind (l ∷ lanes) (suc lane) h = none_behind lanes lane (omega arith)
+pub none_after : (lanes : List LaneView) (lane : ℕ) → length lanes ≤ lane → waiting lanes lane ≡ 0
+none_after [] lane h = refl
+none_after (l ∷ lanes) zero h = absurd (omega arith)
+none_after (l ∷ lanes) (suc lane) h = none_after lanes lane (omega arith)
 
 records_long : (means : Standing) (key_words : ℕ) (records : List (List ℕ)) (epochs : List Epoch) → RecordsStand means key_words records epochs → length records ≡ length epochs
 records_long means key_words [] [] s = refl
@@ -106,7 +106,7 @@ empty_next olds news i others here before lane below = by_test (lane == i)
 pub empty_all : (lanes : List LaneView) (end : ℕ) → length lanes ≤ end → ((lane : ℕ) → lane < end → waiting lanes lane ≡ 0) → (lane : ℕ) → waiting lanes lane ≡ 0
 empty_all lanes end long before lane = by_test (nat_lt lane end)
     (λ below. before lane (grind (arith, nat_tests)))
-    (λ behind. none_behind lanes lane (let e : end ≤ lane = grind (arith, nat_tests) in omega arith))
+    (λ past. none_after lanes lane (let e : end ≤ lane = grind (arith, nat_tests) in omega arith))
 
 -- a merge that was made didn't find the pipe empty
 pub not_empty : (r : Result Merged AllocError) (found : Merged) → r ≡ Ok found → found ≡ Done → r ≡ Ok Empty → ⊥

@@ -6,7 +6,7 @@ use Rattle.table_rows.specs.LentRows.{row_of}
 use Rattle.final_queries.specs.Ranks.{is_before, is_within}
 use Rattle.final_queries.specs.TopRows.{kept_from}
 use Rattle.final_queries.proofs.ReadRows.{some_more}
-use Rattle.final_queries.proofs.RankedRows.{kept_first, kept_behind, kept_out}
+use Rattle.final_queries.proofs.RankedRows.{kept_first, kept_after, kept_out}
 use Rattle.final_queries.proofs.TopSteps.{kept_top}
 use Rattle.final_queries.proofs.top.top.Goals.{then-is_read+then-is_kept+in_ok-push_plain, then-is_read+else-is_kept, else-is_read}
 use Rattle.final_queries.proofs.top.top.Goals as goal
@@ -39,9 +39,9 @@ loop-place-preserved g c =
             steps = let t = w.tick_many.ensures in let b = w.push_plain.ensures.steps in omega arith;
           }
       | then-is_read+else-is_kept w ↦
-          let behind = ap (is_within last) (sym w.rank_of.ensures) ∙ (sym w.is_kept.ensures ∙ w.if-is_kept.false) in
+          let later = ap (is_within last) (sym w.rank_of.ensures) ∙ (sym w.is_kept.ensures ∙ w.if-is_kept.false) in
           rw (w.made-is, w.steps-is) record {
-            rows = rw (← kept_behind last column rows place row c.get-row.ensures (sym c.is_read.ensures ∙ w.if-is_read.true) behind) so_far;
+            rows = rw (← kept_after last column rows place row c.get-row.ensures (sym c.is_read.ensures ∙ w.if-is_read.true) later) so_far;
             steps = let t = w.tick_many.ensures in omega arith;
           }
       | else-is_read w ↦ rw (w.made-is, w.steps-is) record {

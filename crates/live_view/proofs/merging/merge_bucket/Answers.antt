@@ -3,7 +3,7 @@ use Rattle.std.proofs.lemmas.List.{drop_all}
 use Rattle.bucket_cache.specs.Caches.{list_at, entry_at}
 use Rattle.merged_epochs.specs.Merged.{StoreHolds}
 use Rattle.switch_core.specs.Lanes.{PairStands}
-use Rattle.live_view.proofs.Standing.{pairs_long, pair_before, none_behind, place_is_there, one_before}
+use Rattle.live_view.proofs.Standing.{pairs_long, pair_before, none_after, place_is_there, one_before}
 use Rattle.live_view.proofs.merging.merge_bucket.Goals as goal
 
 pub loop-i-init : goal.loop-i-init
@@ -59,7 +59,7 @@ loop-i-preserved-in_default g c =
     let i = c.loop-i.i in
     record {
       held = λ opened epochs stand holds.
-          let none = none_behind (PairStands stands cache) (list_at cache c.args.bucket) opened (i - 1) stand (sym c.in_default.ensures) in
+          let none = none_after (PairStands stands cache) (list_at cache c.args.bucket) opened (i - 1) stand (sym c.in_default.ensures) in
           let here : drop i opened ≡ drop (i - 1) opened = drop_all i opened (omega arith) ∙ sym (drop_all (i - 1) opened none) in
           subst (λ es. StoreHolds f c.loop-i.store (epochs ++ reverse es)) here (c.loop-i.invariant.held opened epochs stand holds);
       key_words = c.loop-i.invariant.key_words;

@@ -2,7 +2,7 @@ use Rattle.std.proofs.Common.{◌≡◌, ◌<◌, ◌++◌, length, take, flat_m
 use Rattle.std.proofs.lemmas.List.{take_all}
 use Rattle.epoch_model.specs.Machine.{open_in}
 use Rattle.merged_epochs.specs.Merged.{StoreHolds}
-use Rattle.live_view.proofs.Standing.{bucket_behind}
+use Rattle.live_view.proofs.Standing.{bucket_after}
 use Rattle.live_view.proofs.merging.merge_cache.Goals as goal
 
 pub loop-bucket-preserved : goal.loop-bucket-preserved
@@ -14,7 +14,7 @@ loop-bucket-preserved g c =
       held = λ m epochs stand holds.
           let there : bucket < length m.recent = let s = stand.buckets in omega arith in
           let merged = c.in_ok-merge_bucket.ensures.held (open_in m bucket) (epochs ++ flat_map (λ es. reverse es) (take bucket m.recent)) (stand.each bucket) (c.loop-bucket.invariant.held m epochs stand holds) in
-          subst (StoreHolds f c.merge_bucket.new.store) (bucket_behind epochs m.recent bucket there) merged;
+          subst (StoreHolds f c.merge_bucket.new.store) (bucket_after epochs m.recent bucket there) merged;
       key_words = c.merge_bucket.ensures.key_words ∙ c.loop-bucket.invariant.key_words;
       state_words = c.merge_bucket.ensures.state_words ∙ c.loop-bucket.invariant.state_words;
       steps = let a = c.merge_bucket.ensures.steps in let b = c.loop-bucket.invariant.steps in omega arith;

@@ -1,7 +1,7 @@
 use Rattle.std.proofs.Common.{◌≡◌, ◌<◌, ◌-◌, [], ◌++◌, length, take, drop, get_or, sym, ap₂, ◌∙◌, subst, arith}
 use Rattle.std.proofs.lemmas.List.{take_all}
 use Rattle.merged_epochs.specs.Merged.{StoreHolds}
-use Rattle.live_view.proofs.Standing.{records_long, record_next, one_behind}
+use Rattle.live_view.proofs.Standing.{records_long, record_next, one_after}
 use Rattle.live_view.proofs.merging.merge_pipe.Goals as goal
 
 pub loop-i-preserved : goal.loop-i-preserved
@@ -26,7 +26,7 @@ loop-i-preserved g c =
           let entry : c.split_at.result.1.now ≡ drop first.key_words (get_or records i []) = c.split_at.ensures.back ∙ back in
           let stood : stands c.split_at.result.1.now e.rows = subst (λ ws. stands ws e.rows) (sym entry) found.2.1 in
           let merged = c.in_ok-merge_entry.ensures.ok e.rows (epochs ++ take i waiting) stood (c.loop-i.invariant.held waiting epochs stand holds) in
-          subst (StoreHolds f c.merge_entry.new.store) (one_behind epochs waiting i e c.split_at.result.0.now key found.1) merged;
+          subst (StoreHolds f c.merge_entry.new.store) (one_after epochs waiting i e c.split_at.result.0.now key found.1) merged;
       key_words = c.merge_entry.ensures.key_words ∙ c.loop-i.invariant.key_words;
       state_words = c.merge_entry.ensures.state_words ∙ c.loop-i.invariant.state_words;
       steps = let a = c.merge_entry.ensures.steps in let b = c.loop-i.invariant.steps in omega arith;

@@ -6,7 +6,7 @@ use Rattle.network.specs.Events.{AtFront}
 use Rattle.network.specs.Running.{MergingBreaksOff, RunsWithMerges, cache_evictions, front_at, open_in, waiting_in}
 use Rattle.network.proofs.EventFronts.{cache_same, front_drained, front_is, room_merges, room_open, room_stays, stay_as, stay_on, stay_same}
 use Rattle.network.proofs.MakeSteps.{if_err, if_ok}
-use Rattle.network.proofs.Runs.{kept_long, merging_behind, merging_breaks_first, merging_breaks_last, merging_breaks_on, merging_is, merging_kept, merging_none, merging_on}
+use Rattle.network.proofs.Runs.{kept_long, merging_after, merging_breaks_first, merging_breaks_last, merging_breaks_on, merging_is, merging_kept, merging_none, merging_on}
 use Rattle.network.proofs.draining.drain_lane.Goals as goal
 
 pub empty_cache-requires : goal.empty_cache-requires
@@ -62,7 +62,7 @@ returns-clause-runs g c =
     let second = subst (λ es. RunsWithMerges ways es a b) same c.in_ok-empty_cache.ensures.runs in
     let both = merging_on ways [] evictions old a b first second in
     let new = c.empty_pipe.new.network in
-    let all = merging_behind ways evictions old b new both c.empty_pipe.ensures.runs in
+    let all = merging_after ways evictions old b new both c.empty_pipe.ensures.runs in
     if_ok (RunsWithMerges ways evictions old new) c.empty_pipe.result all
 
 pub returns-clause-breaks_off : goal.returns-clause-breaks_off
@@ -82,7 +82,7 @@ returns-clause-breaks_off g c =
     let second = subst (λ es. RunsWithMerges ways es a b) same c.in_ok-empty_cache.ensures.runs in
     let both = merging_on ways [] evictions old a b first second in
     let new = c.empty_pipe.new.network in
-    let all = merging_behind ways evictions old b new both c.empty_pipe.ensures.runs in
+    let all = merging_after ways evictions old b new both c.empty_pipe.ensures.runs in
     if_err (MergingBreaksOff ways evictions old new) c.empty_pipe.result (merging_breaks_last ways evictions old new all)
 
 pub returns-clause-drained : goal.returns-clause-drained
@@ -102,7 +102,7 @@ returns-clause-drained g c =
     let second = subst (λ es. RunsWithMerges ways es a b) same c.in_ok-empty_cache.ensures.runs in
     let both = merging_on ways [] evictions old a b first second in
     let new = c.empty_pipe.new.network in
-    let all = merging_behind ways evictions old b new both c.empty_pipe.ensures.runs in
+    let all = merging_after ways evictions old b new both c.empty_pipe.ensures.runs in
     let is = merging_is ways evictions old new all c.invariant.ensures in
     let sizes = merging_kept ways evictions old new all in
     on_ok (waiting_in (front_at new lane at) ≡ 0) (AtFront (λ front. is_drained front.cache front.pipe ≡ true) new.groups at lane) c.empty_pipe.result

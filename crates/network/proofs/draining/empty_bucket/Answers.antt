@@ -5,7 +5,7 @@ use Rattle.network.specs.Networks.{NetworkView}
 use Rattle.network.specs.Running.{Evicts, MergingBreaksOff, RunsWithMerges, bucket_evictions, front_at, open_in}
 use Rattle.network.proofs.EventFronts.{evict_less, evict_none, evict_others, evict_stays, evictions_first, evictions_next, front_is, front_there, merge_open, merge_stays, none_open, ready_in, room_in, some_open, stay_as, stay_on, stay_same}
 use Rattle.network.proofs.MakeSteps.{if_err}
-use Rattle.network.proofs.Runs.{kept_long, merging_behind, merging_evict, merging_is, merging_kept, merging_merge, merging_none, merging_on, runs_kept, runs_one}
+use Rattle.network.proofs.Runs.{kept_long, merging_after, merging_evict, merging_is, merging_kept, merging_merge, merging_none, merging_on, runs_kept, runs_one}
 use Rattle.network.proofs.draining.empty_bucket.Goals as goal
 
 pub epochs-init : goal.epochs-init
@@ -74,7 +74,7 @@ epochs-preserved g c =
       runs = (
         suc done,
         (let e : suc done + open_in bucket (front_at new lane at) ≡ open_in bucket (front_at old lane at) = omega arith in e),
-        merging_behind ways (replicate (suc done) (Evicts at lane bucket)) old mid new
+        merging_after ways (replicate (suc done) (Evicts at lane bucket)) old mid new
             (subst (λ es. RunsWithMerges ways es old mid) (evictions_next at lane bucket done)
             (merging_on ways (replicate done (Evicts at lane bucket)) (Evicts at lane bucket ∷ []) old cur mid was.runs.2 (merging_evict ways at lane bucket cur mid evicted)))
             (merging_merge ways at lane mid new merged),

@@ -2,7 +2,7 @@ use Rattle.std.proofs.Common.{◌≡◌, ◌<◌, [], length, Ok, refl, sym, ap,
 use Rattle.network.specs.Networks.{NetworkView}
 use Rattle.network.specs.Running.{RunsWithMerges, front_at, open_in, waiting_in}
 use Rattle.network.proofs.EventFronts.{front_is, front_there, merge_less, merge_open, merge_stays, not_empty, stay_as, stay_on, stay_same}
-use Rattle.network.proofs.Runs.{kept_long, merging_behind, merging_is, merging_kept, merging_merge, merging_none}
+use Rattle.network.proofs.Runs.{kept_long, merging_after, merging_is, merging_kept, merging_merge, merging_none}
 use Rattle.network.proofs.draining.empty_pipe.Goals as goal
 
 pub records-init : goal.records-init
@@ -30,7 +30,7 @@ records-preserved g c =
     let was = c.records.invariant in
     let made = c.in_ok-merge.ensures.makes in
     record {
-      runs = merging_behind ways [] old cur new was.runs (merging_merge ways at lane cur new made);
+      runs = merging_after ways [] old cur new was.runs (merging_merge ways at lane cur new made);
       buckets = λ bucket. merge_open ways at lane cur new made bucket ∙ was.buckets bucket;
       others = stay_on lane at old cur new was.others (merge_stays ways at lane cur new made);
       later = let a = was.later in let b = c.merge.ensures.steps in omega arith;
@@ -57,7 +57,7 @@ records-smaller g c =
 
 pub returns-clause-runs : goal.returns-clause-runs
 returns-clause-runs g c =
-    merging_behind g.row.WAYS [] c.args.network.now c.records.network c.merge.new.self c.records.invariant.runs
+    merging_after g.row.WAYS [] c.args.network.now c.records.network c.merge.new.self c.records.invariant.runs
     (merging_merge g.row.WAYS c.args.at c.args.lane c.records.network c.merge.new.self c.in_ok-merge.ensures.makes)
 
 pub returns-clause-empty : goal.returns-clause-empty

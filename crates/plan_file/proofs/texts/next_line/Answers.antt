@@ -1,13 +1,13 @@
 use Rattle.std.proofs.Common.{◌-◌, drop, length, arith}
 use Rattle.std.proofs.lemmas.List.{take_all, length-drop}
-use Rattle.plan_file.proofs.TextFacts.{behind_lines, next_start}
+use Rattle.plan_file.proofs.TextFacts.{after_lines, next_start}
 use Rattle.plan_file.proofs.texts.next_line.Goals as goal
 
 pub returns-in-None-clause-line : goal.returns-in-None-clause-line
 returns-in-None-clause-line c i start =
     let text = c.args.text.now in
     let whole = take_all (length text - c.args.at) (drop c.args.at text) (omega (arith, length-drop c.args.at text)) in
-    behind_lines text i c.args.at start (rw whole at c.in-None.ensures.parts)
+    after_lines text i c.args.at start (rw whole at c.in-None.ensures.parts)
 
 pub returns-in-Some-clause-line : goal.returns-in-Some-clause-line
 returns-in-Some-clause-line c i start =

@@ -7,7 +7,7 @@ use Rattle.query_grammar.specs.Reading.{after, separated, expr_at}
 use Rattle.query_parser.specs.declared.operators.Level.{Level}
 use Rattle.query_parser.specs.declared.operators.Level.TheVariants as levels
 use Rattle.query_parser.specs.Reads.{ops_of, operation_of, level_of, primary_at}
-use Rattle.query_parser.proofs.Loops.{finished, behind}
+use Rattle.query_parser.proofs.Loops.{finished, later}
 use Rattle.query_parser.proofs.expression.+expr.Given as goal
 
 -- a level calls those that bind closer
@@ -69,5 +69,5 @@ invariant-level-operations l =
 
 abbrev pub invariant-expressions-expressions : goal.invariant-expressions-expressions
 invariant-expressions-expressions l =
-    finished (behind l.found) (turns (length l.initial.rest - l.counter) (among (30 ∷ [])) (after Limited (sign marks.Comma) (expr_at Limited l.brackets)) l.counts l.rest)
+    finished (later l.found) (turns (length l.initial.rest - l.counter) (among (30 ∷ [])) (after Limited (sign marks.Comma) (expr_at Limited l.brackets)) l.counts l.rest)
     ≡ separated Limited (expr_at Limited l.brackets) l.fn.counts l.fn.rest

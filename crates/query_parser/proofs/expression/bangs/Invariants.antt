@@ -3,10 +3,10 @@ use Rattle.query_lang.specs.declared.token.Mark.TheVariants as marks
 use Rattle.query_grammar.specs.Kinds.{among, is, sign}
 use Rattle.query_grammar.specs.Language.{Node}
 use Rattle.query_grammar.specs.Parser.{Limited, turns, repeated, word}
-use Rattle.query_parser.proofs.Loops.{finished, behind}
+use Rattle.query_parser.proofs.Loops.{finished, later}
 use Rattle.query_parser.proofs.expression.bangs.Given as goal
 
 abbrev pub invariant-bangs : goal.invariant-bangs
 invariant-bangs l =
-    finished (behind l.found) (turns (length l.fn.rest - l.counter) (among (51 ∷ [])) (word Limited Node (is (sign marks.Bang))) l.counts l.rest)
+    finished (later l.found) (turns (length l.fn.rest - l.counter) (among (51 ∷ [])) (word Limited Node (is (sign marks.Bang))) l.counts l.rest)
     ≡ repeated (among (51 ∷ [])) (word Limited Node (is (sign marks.Bang))) l.fn.counts l.fn.rest

@@ -3,10 +3,10 @@ use Rattle.query_lang.specs.declared.token.Mark.TheVariants as marks
 use Rattle.query_grammar.specs.Kinds.{among, sign}
 use Rattle.query_grammar.specs.Parser.{Limited, turns}
 use Rattle.query_grammar.specs.Reading.{after, separated, state_variable}
-use Rattle.query_parser.proofs.Loops.{finished, behind}
+use Rattle.query_parser.proofs.Loops.{finished, later}
 use Rattle.query_parser.proofs.fold.state_variables.Given as goal
 
 abbrev pub invariant-variables : goal.invariant-variables
 invariant-variables l =
-    finished (behind l.found) (turns (length l.initial.rest - l.counter) (among (30 ∷ [])) (after Limited (sign marks.Comma) (state_variable Limited)) l.counts l.rest)
+    finished (later l.found) (turns (length l.initial.rest - l.counter) (among (30 ∷ [])) (after Limited (sign marks.Comma) (state_variable Limited)) l.counts l.rest)
     ≡ separated Limited (state_variable Limited) l.fn.counts l.fn.rest

@@ -2,11 +2,11 @@ use Rattle.std.proofs.Common.{◌≡◌, ◌-◌, length}
 use Rattle.query_grammar.specs.Kinds.{among}
 use Rattle.query_grammar.specs.Parser.{Limited, turns, repeated}
 use Rattle.query_grammar.specs.Reading.{item, item_starts, expr_at, stmt_at}
-use Rattle.query_parser.proofs.Loops.{finished, behind}
+use Rattle.query_parser.proofs.Loops.{finished, later}
 use Rattle.query_parser.proofs.item.items.Given as goal
 
 -- what is read so far, and what is left to read, give the whole
 abbrev pub invariant-items : goal.invariant-items
 invariant-items l =
-    finished (behind l.found) (turns (length l.fn.rest - l.counter) (among item_starts) (item Limited (stmt_at Limited 63) (expr_at Limited 63) (expr_at Limited 62)) l.counts l.rest)
+    finished (later l.found) (turns (length l.fn.rest - l.counter) (among item_starts) (item Limited (stmt_at Limited 63) (expr_at Limited 63) (expr_at Limited 62)) l.counts l.rest)
     ≡ repeated (among item_starts) (item Limited (stmt_at Limited 63) (expr_at Limited 63) (expr_at Limited 62)) l.fn.counts l.fn.rest

@@ -3,7 +3,7 @@ use Rattle.query_grammar.specs.Kinds.{among}
 use Rattle.query_grammar.specs.Parser.{Limited, turns, repeated, chain_turns, chained}
 use Rattle.query_grammar.specs.Reading.{stmt_at, stmt_starts}
 use Rattle.query_parser.specs.Reads.{else_part_at}
-use Rattle.query_parser.proofs.Loops.{finished, behind}
+use Rattle.query_parser.proofs.Loops.{finished, later}
 use Rattle.query_parser.proofs.Statements.{chained_on}
 use Rattle.query_parser.proofs.statement.+stmt.Given as goal
 
@@ -34,7 +34,7 @@ decreases-block_within l = 8 * l.brackets + 7
 -- what is read so far, and what is left to read, give the whole
 abbrev pub invariant-statements-statements : goal.invariant-statements-statements
 invariant-statements-statements l =
-    finished (behind l.found) (turns (length l.initial.rest - l.counter) (among stmt_starts) (stmt_at Limited l.brackets) l.counts l.rest)
+    finished (later l.found) (turns (length l.initial.rest - l.counter) (among stmt_starts) (stmt_at Limited l.brackets) l.counts l.rest)
     ≡ repeated (among stmt_starts) (stmt_at Limited l.brackets) l.fn.counts l.fn.rest
 
 abbrev pub invariant-else_parts-parts : goal.invariant-else_parts-parts

@@ -3,11 +3,11 @@ use Rattle.query_lang.specs.declared.token.Mark.TheVariants as marks
 use Rattle.query_grammar.specs.Kinds.{among, sign}
 use Rattle.query_grammar.specs.Parser.{Limited, turns}
 use Rattle.query_grammar.specs.Reading.{column_of, expr_at, after, separated}
-use Rattle.query_parser.proofs.Loops.{finished, behind}
+use Rattle.query_parser.proofs.Loops.{finished, later}
 use Rattle.query_parser.proofs.stream.columns.Given as goal
 
 -- what is read so far, and what is left to read, give the whole
 abbrev pub invariant-columns : goal.invariant-columns
 invariant-columns l =
-    finished (behind l.found) (turns (length l.initial.rest - l.counter) (among (30 ∷ [])) (after Limited (sign marks.Comma) (column_of Limited (expr_at Limited 62))) l.counts l.rest)
+    finished (later l.found) (turns (length l.initial.rest - l.counter) (among (30 ∷ [])) (after Limited (sign marks.Comma) (column_of Limited (expr_at Limited 62))) l.counts l.rest)
     ≡ separated Limited (column_of Limited (expr_at Limited 62)) l.fn.counts l.fn.rest

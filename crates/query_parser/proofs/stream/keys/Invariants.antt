@@ -3,11 +3,11 @@ use Rattle.query_lang.specs.declared.token.Mark.TheVariants as marks
 use Rattle.query_grammar.specs.Kinds.{among, sign}
 use Rattle.query_grammar.specs.Parser.{Limited, turns}
 use Rattle.query_grammar.specs.Reading.{key_of, after, separated}
-use Rattle.query_parser.proofs.Loops.{finished, behind}
+use Rattle.query_parser.proofs.Loops.{finished, later}
 use Rattle.query_parser.proofs.stream.keys.Given as goal
 
 -- what is read so far, and what is left to read, give the whole
 abbrev pub invariant-keys : goal.invariant-keys
 invariant-keys l =
-    finished (behind l.found) (turns (length l.initial.rest - l.counter) (among (30 ∷ [])) (after Limited (sign marks.Comma) (key_of Limited)) l.counts l.rest)
+    finished (later l.found) (turns (length l.initial.rest - l.counter) (among (30 ∷ [])) (after Limited (sign marks.Comma) (key_of Limited)) l.counts l.rest)
     ≡ separated Limited (key_of Limited) l.fn.counts l.fn.rest

@@ -22,10 +22,10 @@ returns-clause-follows g c =
     ((number : ℕ) (after : ℕ → Machine) → HasCounted number c.args.refreshes.now → FollowsBy after old → FollowsBy (λ i. after_packet geometry (suc number) (event_of (taken old.plan i words)) (after i)) new)
     c.catch_up.result
     (λ caught number after counted f.
-    let behind = λ (i : ℕ). run (geometry_of g.row.WAYS old.buckets) (event_of (taken old.plan i words)) (after i) in
-    let refreshed = λ (i : ℕ). if is_due then empty_buckets took.buckets (behind i) else behind i in
+    let past = λ (i : ℕ). run (geometry_of g.row.WAYS old.buckets) (event_of (taken old.plan i words)) (after i) in
+    let refreshed = λ (i : ℕ). if is_due then empty_buckets took.buckets (past i) else past i in
     let all = λ (i : ℕ). after_packet geometry (suc number) (event_of (taken old.plan i words)) (after i) in
     caught all (follows_as refreshed all swept
     (λ i. turn_as g.row.WAYS (suc number) geometry is_due old.buckets took.buckets (taken old.plan i words) (after i) refl refl c.in_ok-take_packet.ensures.keeps.buckets (c.is_due-refresh_now.ensures.is_due number counted))
-    (c.in_ok-refresh.ensures.follows behind (c.in_ok-take_packet.ensures.follows after f))))
+    (c.in_ok-refresh.ensures.follows past (c.in_ok-take_packet.ensures.follows after f))))
     c.catch_up.ensures.follows
