@@ -5,11 +5,12 @@ use Rattle.query_lang.specs.declared.typed.TypedQuery.{TypedQuery}
 use Rattle.query_lang.specs.TypedQueries.{IsValidQuery}
 use Rattle.final_queries.specs.declared.table.Table.{Table}
 use Rattle.final_queries.specs.Finals.{with_finals}
+use Rattle.stage_plan.specs.Packets.{AreWhole}
 use Rattle.stage_plan.specs.Planned.{IsPlanOf}
 use Rattle.query_tables.specs.Tables.{printed}
 use Rattle.net_wide.specs.Combining.{net_fault}
 use Rattle.net_wide.specs.NetTables.{caches_of, net_tables, net_text}
-use Rattle.net_wide.specs.NetLaws.{AreWhole, TellsSwitches}
+use Rattle.net_wide.specs.NetLaws.{TellsSwitches}
 use Rattle.net_wide.specs.Numbering.{place_among}
 use Rattle.net_wide.specs.NetEnds.{IsSeen}
 use Rattle.network.specs.Ends.{CombineOver, EvictsLast, packets_taken}

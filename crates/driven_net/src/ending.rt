@@ -2,9 +2,9 @@
 
 ghost use Rattle.std.specs.Prelude.{◌≡◌, ◌≤◌, ℕ, List, None, IfOk};
 ghost use Rattle.query_lang.specs.TypedQueries.{IsValidQuery};
+ghost use Rattle.stage_plan.specs.Packets.{AreWhole};
 ghost use Rattle.stage_plan.specs.Planned.{IsPlanOf};
 ghost use Rattle.epoch_model.specs.Laws.{HasRoom};
-ghost use Rattle.query_run.specs.Runs.{AreWhole};
 ghost use Rattle.net_wide.specs.Combining.{net_fault};
 ghost use Rattle.net_wide.specs.NetTables.{caches_of, net_text};
 ghost use Rattle.net_wide.specs.NetLaws.{TellsSwitches};

@@ -5,7 +5,7 @@ ghost use Rattle.std.specs.Io.KnownBytes.{Appends};
 ghost use Rattle.query_lang.specs.declared.typed.TypedQuery.{TypedQuery};
 ghost use Rattle.query_lang.specs.TypedQueries.{IsValidQuery};
 ghost use Rattle.stage_plan.specs.Planned.{IsPlanOf};
-ghost use Rattle.query_run.specs.Answers.{BreaksOff};
+ghost use Rattle.trace_drive.specs.Answers.{BreaksOff};
 ghost use Rattle.trace_drive.specs.Drives.{words_of};
 ghost use Rattle.net_wide.specs.Combining.{net_fault};
 ghost use Rattle.net_wide.specs.NetTables.{net_text};
@@ -17,10 +17,10 @@ use crate::ways::text_with_its_ways;
 use accepted_query::AcceptedQuery;
 use command_line::NetSetting;
 use marple_base::{FieldSet, Sink, Steps, write_all};
-use query_run::{RunError, read_packets_are_few, read_packets_are_whole};
 use stage_plan::Plan;
 use std::alloc::Global;
 use std::sync::ledger::Ledger;
+use trace_drive::{RunError, read_packets_are_few, read_packets_are_whole};
 use trace_reader::open_trace;
 
 // The fields that a plan reads, and the switch, whose bit is the first one.

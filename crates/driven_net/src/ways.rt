@@ -2,8 +2,8 @@
 
 ghost use Rattle.std.specs.Prelude.{◌≡◌, ◌*◌, ◌<◌, ◌≤◌, ℕ, List, None, Some, [], length, IfErr, IfOk};
 ghost use Rattle.query_lang.specs.TypedQueries.{IsValidQuery};
+ghost use Rattle.stage_plan.specs.Packets.{AreWhole};
 ghost use Rattle.stage_plan.specs.Planned.{IsPlanOf};
-ghost use Rattle.query_run.specs.Runs.{AreWhole};
 ghost use Rattle.trace_drive.specs.Drives.{words_of};
 ghost use Rattle.trace_reader.specs.Faults.{IfRefused};
 ghost use Rattle.trace_reader.specs.Traces.{most_records};

@@ -3,12 +3,12 @@ use Rattle.std.specs.Io.KnownBytes.{Appends}
 use Rattle.std.proofs.KnownBytes.{Appends-nil}
 use Rattle.marple_base.specs.Sink.{TakesFront}
 use Rattle.command_line.specs.Command.{ways_number}
+use Rattle.trace_drive.specs.Answers.{BreaksOff, answer_for}
 use Rattle.trace_drive.specs.Drives.{words_of}
+use Rattle.trace_drive.specs.declared.answer.RunError.TheVariants.{Failed}
+use Rattle.trace_drive.proofs.Breaking.{err_is, reader_breaks, write_breaks}
 use Rattle.trace_reader.specs.Traces.{opening}
 use Rattle.trace_reader.specs.Upcoming.{upcoming_of}
-use Rattle.query_run.specs.Answers.{BreaksOff, answer_for}
-use Rattle.query_run.specs.declared.answer.RunError.TheVariants.{Failed}
-use Rattle.query_run.proofs.Breaking.{err_is, reader_breaks, write_breaks}
 use Rattle.net_wide.specs.NetTables.{net_text}
 use Rattle.driven_net.specs.NetTraces.{first_fault, net_packets, net_reads, net_trace_fault}
 use Rattle.driven_net.proofs.Opening.{opening_fault, refused_as}
