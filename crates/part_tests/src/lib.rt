@@ -5,6 +5,8 @@
 #[cfg(test)]
 mod base;
 #[cfg(test)]
+mod bounds;
+#[cfg(test)]
 mod codes;
 #[cfg(test)]
 mod counts;
