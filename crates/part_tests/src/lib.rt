@@ -22,3 +22,5 @@ mod folds;
 mod kinds;
 #[cfg(test)]
 mod lanes;
+#[cfg(test)]
+mod one_lane;
