@@ -1,6 +1,6 @@
 //! One lane, driven by its own calls, compared with a table that was worked out by hand.
 
-ghost use Rattle.std.specs.Prelude.{◌≡◌, ◌<◌, IfOk, OnOk};
+ghost use Rattle.std.specs.Prelude.{◌≡◌, ◌<◌, IfOk};
 ghost use Rattle.fold_class.specs.Program.{IsProgram};
 
 use crate::fold_programs::{HASH, program_of};
@@ -73,7 +73,7 @@ fn merge_all<K: EpochKind, const WAYS: usize, L: Ledger>(
     steps: &mut Steps<L>,
 ) -> Result<(), AllocError>
     requires { lane.old.cache.key_words ≡ 1 }
-    ensures { OnOk result (lane.new.cache.key_words ≡ 1) }
+    ensures { lane.new.cache.key_words ≡ 1 }
 {
     for record in 0..4 {
         assert_eq!(rt; lane.merge(steps)?, Merged::Done, "record {record}");
