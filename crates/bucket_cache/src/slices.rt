@@ -36,8 +36,8 @@ pub fn move_to_front<L: Ledger>(order: &mut [u16], at: usize, steps: &mut Steps<
         let next = order[i];
         order[i] = carried;
         carried = next;
-        steps.tick();
     }
+    steps.tick_many(at as u64 + 1);
 }
 
 /// One of the rows of this width, which are stored one after another.
