@@ -8,7 +8,7 @@ use Rattle.query_lang.specs.Checks.{Checked}
 use Rattle.query_lang.specs.declared.fault.QueryFault.{QueryFault}
 use Rattle.switch_core.specs.PlanLanes.{PipelineStands}
 use Rattle.trace_drive.specs.Drives.{end_machines, words_of}
-use Rattle.trace_reader.specs.Traces.{Contents, contents, packets}
+use Rattle.trace_reader.specs.Traces.{contents, packets}
 use Rattle.trace_reader.specs.Traces as traces
 use Rattle.command_line.specs.declared.command.Command.TheVariants.{RunPlan}
 use Rattle.command_line.specs.declared.setting.Setting.{Setting}
