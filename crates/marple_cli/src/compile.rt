@@ -3,8 +3,7 @@ ghost use Rattle.std.specs.Prelude.{◌≡◌, ◌≤◌};
 ghost use Rattle.marple_base.specs.Inputs.{IsClosed};
 ghost use Rattle.marple_cli.specs.Ends.{Ends, status_of};
 
-use crate::checked::query_for_plan;
-use crate::status::Status;
+use command_answers::{Status, query_for_plan};
 use command_line::Command;
 use marple_base::{Inputs, Sink, Which, write_all};
 use plan_writer::plan_file_text;

@@ -4,10 +4,8 @@ ghost use Rattle.marple_base.specs.Inputs.{IsClosed};
 ghost use Rattle.command_line.specs.Command.{IsSetting};
 ghost use Rattle.marple_cli.specs.Ends.{Ends, status_of};
 
-use crate::checked::query_for_bounds;
-use crate::operands::read_trace;
-use crate::status::Status;
 use accepted_query::AcceptedQuery;
+use command_answers::{Status, query_for_bounds, read_trace};
 use command_line::{Command, Setting};
 use marple_base::{Inputs, Sink, Steps, Which};
 use query_run::{QueryBounds, run_over_trace};

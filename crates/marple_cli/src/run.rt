@@ -5,9 +5,8 @@ ghost use Rattle.command_line.specs.Command.{IsSetting};
 ghost use Rattle.marple_cli.specs.Driven.{DrivenAfter};
 ghost use Rattle.marple_cli.specs.Ends.{Ends, status_of};
 
-use crate::operands::{read_query, read_trace};
-use crate::status::Status;
 use accepted_query::AcceptedQuery;
+use command_answers::{Status, read_query, read_trace};
 use command_line::{Command, Setting};
 use marple_base::{Inputs, Sink, Steps, Which};
 use query_run::{Driven, QueryTables, run_over_trace};

@@ -5,8 +5,7 @@ ghost use Rattle.command_line.specs.Command.{IsSetting};
 ghost use Rattle.marple_cli.specs.Driven.{DrivenAfter};
 ghost use Rattle.marple_cli.specs.Ends.{Ends, status_of};
 
-use crate::operands::{read_plan_text, read_trace};
-use crate::status::Status;
+use command_answers::{Status, read_plan_text, read_trace};
 use command_line::{Command, Setting};
 use marple_base::{Inputs, Sink, Steps, Which};
 use plan_loader::LoadedPlan;

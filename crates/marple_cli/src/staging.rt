@@ -3,8 +3,7 @@ ghost use Rattle.std.specs.Prelude.{◌≡◌, ◌≤◌};
 ghost use Rattle.marple_base.specs.Inputs.{IsClosed};
 ghost use Rattle.marple_cli.specs.Ends.{Ends, status_of};
 
-use crate::operands::read_query;
-use crate::status::Status;
+use command_answers::{Status, read_query};
 use command_line::{Command, Ways};
 use marple_base::{Inputs, Sink, Which, write_all};
 use stage_plan::plan_text;

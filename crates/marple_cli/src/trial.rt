@@ -7,9 +7,8 @@ ghost use Rattle.marple_cli.specs.Driven.{DrivenAfter};
 ghost use Rattle.marple_cli.specs.Ends.{Ends, status_of};
 
 use crate::generate::CAPACITY;
-use crate::operands::accept_trial;
-use crate::status::Status;
 use accepted_query::AcceptedQuery;
+use command_answers::{Status, accept_trial};
 use command_line::{Command, Generation, Setting};
 use marple_base::{Sink, Steps};
 use query_run::{Driven, QueryTables, run_over_made};
