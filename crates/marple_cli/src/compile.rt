@@ -18,7 +18,9 @@ pub fn compile<I: Inputs, O: Sink>(alloc: Global, inputs: &mut I, out: &mut O) -
     ensures out_later { O.faults out.old ≤ O.faults out.new }
 {
     let query = query_for_plan(alloc, inputs)?;
-    let text = plan_file_text(alloc, &query.typed, &query.plan)?;
+    let made = plan_file_text(alloc, &query.typed, &query.plan);
+    drop(query);
+    let text = made?;
     write_all(out, text.as_slice())?;
     Ok(())
 }

@@ -31,10 +31,16 @@ pub fn enclose<I: Inputs, O: Sink, L: Ledger>(
     ensures steps { steps.old ≤ steps.new }
 {
     let query = query_for_bounds(alloc, inputs)?;
-    let bytes = read_trace(alloc, inputs)?;
+    let bytes = match read_trace(alloc, inputs) {
+        Ok(bytes) => bytes,
+        Err(status) => {
+            drop(query);
+            return Err(status);
+        }
+    };
     let AcceptedQuery { typed, plan } = query;
     let report = QueryBounds::of(typed);
-    let _left = run_over_trace(
+    let ran = run_over_trace(
         alloc,
         setting,
         0,
@@ -43,6 +49,10 @@ pub fn enclose<I: Inputs, O: Sink, L: Ledger>(
         bytes.as_slice(),
         out,
         steps,
-    )?;
+    );
+    drop(report);
+    drop(bytes);
+    let left = ran?;
+    drop(left);
     Ok(())
 }

@@ -35,10 +35,16 @@ pub fn run<I: Inputs, O: Sink, L: Ledger>(
     ensures steps { steps.old ≤ steps.new }
 {
     let query = read_query(alloc, inputs)?;
-    let bytes = read_trace(alloc, inputs)?;
+    let bytes = match read_trace(alloc, inputs) {
+        Ok(bytes) => bytes,
+        Err(status) => {
+            drop(query);
+            return Err(status);
+        }
+    };
     let AcceptedQuery { typed, plan } = query;
     let report = QueryTables::of(typed);
-    let left = run_over_trace(
+    let ran = run_over_trace(
         alloc,
         setting,
         every,
@@ -47,7 +53,10 @@ pub fn run<I: Inputs, O: Sink, L: Ledger>(
         bytes.as_slice(),
         out,
         steps,
-    )?;
+    );
+    drop(report);
+    drop(bytes);
+    let left = ran?;
     *driven = Some(left);
     Ok(())
 }

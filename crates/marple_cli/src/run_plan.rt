@@ -34,10 +34,16 @@ pub fn run_plan<I: Inputs, O: Sink, L: Ledger>(
     ensures steps { steps.old ≤ steps.new }
 {
     let loaded = read_plan_text(alloc, inputs)?;
-    let bytes = read_trace(alloc, inputs)?;
+    let bytes = match read_trace(alloc, inputs) {
+        Ok(bytes) => bytes,
+        Err(status) => {
+            drop(loaded);
+            return Err(status);
+        }
+    };
     let LoadedPlan { plan, prints } = loaded;
     let report = PlanTables::of(prints);
-    let left = run_over_trace(
+    let ran = run_over_trace(
         alloc,
         setting,
         0,
@@ -46,7 +52,10 @@ pub fn run_plan<I: Inputs, O: Sink, L: Ledger>(
         bytes.as_slice(),
         out,
         steps,
-    )?;
+    );
+    drop(report);
+    drop(bytes);
+    let left = ran?;
     *driven = Some(left);
     Ok(())
 }

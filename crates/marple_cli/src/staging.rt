@@ -23,7 +23,9 @@ pub fn write_stages<I: Inputs, O: Sink>(
     ensures out_later { O.faults out.old ≤ O.faults out.new }
 {
     let query = read_query(alloc, inputs)?;
-    let text = plan_text(alloc, &query.plan, ways.number())?;
+    let made = plan_text(alloc, &query.plan, ways.number());
+    drop(query);
+    let text = made?;
     write_all(out, text.as_slice())?;
     Ok(())
 }

@@ -30,7 +30,13 @@ pub fn run_network<I: Inputs, O: Sink, L: Ledger>(
     ensures steps { steps.old ≤ steps.new }
 {
     let query = query_for_net(alloc, inputs)?;
-    let bytes = read_trace(alloc, inputs)?;
+    let bytes = match read_trace(alloc, inputs) {
+        Ok(bytes) => bytes,
+        Err(status) => {
+            drop(query);
+            return Err(status);
+        }
+    };
     net_over_trace(alloc, setting, query, bytes.as_slice(), out, steps)?;
     Ok(())
 }
