@@ -10,9 +10,9 @@ use Rattle.query_tables.specs.Tables.{query_text}
 use Rattle.switch_core.specs.PlanLanes.{PipelineStands}
 use Rattle.trace_drive.specs.Drives.{end_machines, words_of}
 use Rattle.trace_reader.specs.Traces.{Contents, contents}
-use Rattle.marple_cli.specs.Ends.{status_for}
+use Rattle.command_answers.specs.Phases.{status_for}
 use Rattle.marple_cli.proofs.Ending.{answer_not_ok, driven_kept, query_ends_it, query_not_ok, query_told, read_not_ok, run_is, run_leaves}
-use Rattle.marple_cli.proofs.Limits.{told_contents}
+use Rattle.command_answers.proofs.Limits.{told_contents}
 use Rattle.marple_cli.proofs.Traced.{broken_off, not_read, whole_written}
 use Rattle.marple_cli.proofs.run.run.Goals as goal
 

@@ -11,9 +11,9 @@ use Rattle.plan_file.specs.Texts.{IsRefused}
 use Rattle.plan_file.specs.declared.answer.PlanFileAnswer.TheVariants.{Refused}
 use Rattle.plan_loader.specs.Meaning.{plan_output}
 use Rattle.query_run.specs.Views.{views_text}
-use Rattle.marple_cli.specs.Ends.{status_for}
+use Rattle.command_answers.specs.Phases.{status_for}
 use Rattle.marple_cli.proofs.Ending.{answer_not_ok, driven_kept, operand_ends_it, operand_not_ok, read_not_ok}
-use Rattle.marple_cli.proofs.Limits.{told_contents}
+use Rattle.command_answers.proofs.Limits.{told_contents}
 use Rattle.marple_cli.proofs.Plans.{plan_accepted, plan_is, plan_leaves, refuses_plan}
 use Rattle.marple_cli.proofs.Traced.{broken_off, not_read, whole_written}
 use Rattle.marple_cli.proofs.run_plan.run_plan.Goals as goal

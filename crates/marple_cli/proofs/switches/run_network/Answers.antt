@@ -8,7 +8,7 @@ use Rattle.driven_net.specs.NetTraces.{net_fault_in, net_reads}
 use Rattle.trace_reader.specs.Traces.{Contents}
 use Rattle.trace_drive.specs.Drives.{words_of}
 use Rattle.command_line.specs.declared.command.Command.TheVariants.{Net}
-use Rattle.marple_cli.specs.Output.{fault_with}
+use Rattle.command_answers.specs.OwnChecks.{fault_with}
 use Rattle.marple_cli.proofs.Ending.{query_ends_it, query_fits}
 use Rattle.marple_cli.proofs.Texts.{net_is}
 use Rattle.marple_cli.proofs.Traced.{broken_off, not_read, whole_written}

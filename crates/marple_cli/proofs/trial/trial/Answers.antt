@@ -9,11 +9,11 @@ use Rattle.switch_core.specs.PlanLanes.{PipelineStands}
 use Rattle.trace_drive.specs.Answers.{BreaksOff}
 use Rattle.trace_drive.specs.Drives.{end_machines, words_of}
 use Rattle.marple_cli.specs.Driven.{StandsForEnd}
-use Rattle.marple_cli.specs.Ends.{status_for}
+use Rattle.command_answers.specs.Phases.{status_for}
 use Rattle.marple_cli.specs.Output.{made_packets, tables_text}
-use Rattle.marple_cli.specs.declared.status.Status.TheVariants.{Memory}
+use Rattle.command_answers.specs.declared.status.Status.TheVariants.{Memory}
 use Rattle.marple_cli.proofs.Ending.{all_written, answer_not_ok, driven_kept, memory_ends, memory_not_ok, nothing_refused, query_stands, trial_is_text, trial_refuses_nothing, trial_text, write_ends_it}
-use Rattle.marple_cli.proofs.Limits.{made_ends}
+use Rattle.command_answers.proofs.Limits.{made_ends}
 use Rattle.marple_cli.proofs.trial.trial.Goals as goal
 
 pub run_over_made-requires-clause-may_print : goal.run_over_made-requires-clause-may_print
