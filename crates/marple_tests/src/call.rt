@@ -140,6 +140,23 @@ fn fails_to_open(inputs: &mut MemoryInputs, status: Status) -> bool
     }
 }
 
+fn told_of(
+    alloc: Global,
+    parts: &Parts,
+    ended: Ended,
+    trace_fails: bool,
+) -> Result<Told, AllocError> {
+    let text = Text::from_slice(alloc, parts.out.taken())?;
+    let complaint = Text::from_slice(alloc, parts.err.taken())?;
+    Ok(Told {
+        status: ended.status,
+        text,
+        complaint,
+        steps: ended.steps,
+        trace_fails,
+    })
+}
+
 /// Calls the program with the words of a line, where `driven` is what earlier calls left.
 pub fn called_after(
     alloc: Global,
@@ -152,13 +169,9 @@ pub fn called_after(
     let mut parts = parts_of(alloc, line, outside)?;
     let ended = run::<Brand>(alloc, &mut parts, driven, Blank::new(1));
     let trace_fails = fails_to_open(&mut parts.inputs, ended.status);
-    Ok(Told {
-        status: ended.status,
-        text: Text::from_slice(alloc, parts.out.taken())?,
-        complaint: Text::from_slice(alloc, parts.err.taken())?,
-        steps: ended.steps,
-        trace_fails,
-    })
+    let told = told_of(alloc, &parts, ended, trace_fails);
+    drop(parts);
+    told
 }
 
 /// Calls the program with the words of a line.
@@ -166,5 +179,7 @@ pub fn called(alloc: Global, line: &str, outside: &Outside<'_>) -> Result<Told, 
     requires { 0 < outside.now.most }
 {
     let mut driven = None;
-    called_after(alloc, line, outside, &mut driven)
+    let told = called_after(alloc, line, outside, &mut driven);
+    drop(driven);
+    told
 }

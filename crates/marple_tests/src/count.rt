@@ -4,7 +4,7 @@ ghost use Rattle.std.specs.Prelude.{◌≡◌, ◌<◌};
 
 use crate::call::called;
 use crate::sources::{COUNT, QUERY, RUN, SOURCES};
-use accepted_query::accept;
+use accepted_query::{AcceptedQuery, accept};
 use epoch_entry::Entries;
 use marple_base::{Field, Packet, Steps};
 use marple_cli::Status;
@@ -33,7 +33,9 @@ fn made_pipeline(rt: &impl Abort, alloc: Global) -> Result<Pipeline<1>, AllocErr
     let Ok(accepted) = accept(alloc, QUERY) else {
         panic!(rt; "the query isn't accepted");
     };
-    Pipeline::new(alloc, accepted.plan, Entries::Folds, 2, 64)
+    let AcceptedQuery { typed, plan } = accepted;
+    drop(typed);
+    Pipeline::new(alloc, plan, Entries::Folds, 2, 64)
 }
 
 // Each packet, and a merge after it, as a run makes them.
@@ -42,9 +44,9 @@ fn make_packets<L: Ledger>(
     pipeline: &mut Pipeline<1>,
     steps: &mut Steps<L>,
 ) -> Result<(), AllocError> {
-    for source in SOURCES {
+    for source in &SOURCES {
         assert!(rt; pipeline.ready());
-        pipeline.packet(&packet_of(source), steps);
+        pipeline.packet(&packet_of(*source), steps);
         assert_eq!(rt; pipeline.lanes(), 1);
         let _merged = pipeline.merge(0, steps)?;
     }
@@ -58,9 +60,9 @@ fn make_end<L: Ledger>(
     steps: &mut Steps<L>,
 ) -> Result<(), AllocError> {
     pipeline.sweep(steps)?;
-    for wanted in [Merged::Done, Merged::Done, Merged::Empty] {
+    for wanted in &[Merged::Done, Merged::Done, Merged::Empty] {
         assert_eq!(rt; pipeline.lanes(), 1);
-        assert_eq!(rt; pipeline.merge(0, steps)?, wanted);
+        assert_eq!(rt; pipeline.merge(0, steps)?, *wanted);
     }
     assert!(rt; pipeline.drained());
     Ok(())
@@ -83,7 +85,9 @@ fn make_events_anew<L: Ledger>(
     steps: &mut Steps<L>,
 ) -> Result<(), AllocError> {
     let mut pipeline = made_pipeline(rt, alloc)?;
-    make_events(rt, &mut pipeline, steps)
+    let made = make_events(rt, &mut pipeline, steps);
+    drop(pipeline);
+    made
 }
 
 // The steps of the events of the run.
@@ -104,8 +108,10 @@ fn steps_of_the_events<L: Ledger>(
 // The steps that the run counts.
 fn steps_of_the_run(rt: &impl Abort, alloc: Global) -> Result<u64, AllocError> {
     let told = called(alloc, RUN, &COUNT)?;
-    assert_eq!(rt; told.status, Status::Ok);
-    Ok(told.steps)
+    let (status, steps) = (told.status, told.steps);
+    drop(told);
+    assert_eq!(rt; status, Status::Ok);
+    Ok(steps)
 }
 
 #[test]

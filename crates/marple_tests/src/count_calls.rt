@@ -31,6 +31,7 @@ fn compare_call(
     assert_eq!(rt; told.status, status);
     assert_eq!(rt; told.text.as_slice(), text);
     assert_eq!(rt; told.complaint.as_slice(), complaint);
+    drop(told);
     Ok(())
 }
 
@@ -98,6 +99,7 @@ fn compare_unopened(rt: &impl Abort, alloc: Global, call: u64) -> Result<(), All
     let told = called(alloc, RUN, &outside)?;
     assert_eq!(rt; told.status, Status::InputFault(Which::Query));
     assert!(rt; told.trace_fails, "at {call}");
+    drop(told);
     Ok(())
 }
 

@@ -34,6 +34,7 @@ fn compare_pipeline(rt: &impl Abort, pipeline: &Pipeline<1>) -> Result<(), Alloc
     let tables = pipeline.close()?;
     assert_eq!(rt; tables.len(), 1);
     compare_rows(rt, tables.get(0));
+    drop(tables);
     Ok(())
 }
 
@@ -53,6 +54,7 @@ fn make_run(rt: &impl Abort, alloc: Global, driven: &mut Option<Driven>) -> Resu
     let told = called_after(alloc, RUN, &COUNT, driven)?;
     assert_eq!(rt; told.status, Status::Ok);
     assert_eq!(rt; told.text.as_slice(), TABLE);
+    drop(told);
     assert!(rt; has_pipeline(rt, driven)?);
     Ok(())
 }
@@ -66,6 +68,7 @@ fn make_bad_call(
     let told = called_after(alloc, BAD_RUN, &COUNT, driven)?;
     assert_eq!(rt; told.status, Status::Usage);
     assert!(rt; told.text.is_empty());
+    drop(told);
     Ok(())
 }
 
@@ -86,7 +89,9 @@ fn make_calls(
 // The same, where nothing is there before.
 fn start_calls(rt: &impl Abort, alloc: Global) -> Result<(), AllocError> {
     let mut driven = None;
-    make_calls(rt, alloc, &mut driven)
+    let made = make_calls(rt, alloc, &mut driven);
+    drop(driven);
+    made
 }
 
 #[test]
