@@ -22,6 +22,7 @@ use Rattle.epoch_entry.specs.declared.purpose.Entries.TheVariants.{Bounds}
 use Rattle.epoch_entry.specs.contracts.any.AnyEpochsEpochKind.TheImpl.{ghosts}
 use Rattle.final_queries.specs.declared.table.Table.{Table}
 use Rattle.final_queries.specs.GroupTable.{ClosedGiveTheGroupTable, closed_table}
+use Rattle.stage_plan.specs.Packets.{AreWhole}
 use Rattle.stage_plan.specs.declared.group.GroupPlan.{GroupPlan}
 use Rattle.stage_plan.specs.declared.group.GroupWiring.{GroupWiring}
 use Rattle.stage_plan.specs.declared.op.Operand.TheVariants.{Number}
@@ -36,7 +37,7 @@ use Rattle.trace_drive.specs.Drives.{uses_by, ends_from, end_machines}
 use Rattle.enclosure_folds.specs.KeyBounds.{enclosed_table}
 use Rattle.enclosure_folds.specs.Shown.{MayBeShown, shown, TablesGiveBounds}
 use Rattle.enclosure_folds.proofs.CheckFacts.{stands}
-use Rattle.enclosed_query.specs.EnclosedTables.{AreWhole, enclosed_if, enclosed_from, enclosed_tables, EndsGiveEnclosedTables}
+use Rattle.enclosed_query.specs.EnclosedTables.{enclosed_if, enclosed_from, enclosed_tables, EndsGiveEnclosedTables}
 use Rattle.enclosed_query.proofs.Groups.{heading_is}
 
 got_at : {A : Type 0} (xs : List A) (i : ℕ) → i < length xs → (x : A) × (slice_get xs i ≡ Some x)

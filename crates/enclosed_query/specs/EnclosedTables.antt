@@ -10,6 +10,7 @@ use Rattle.query_types.specs.Uses.{uses}
 use Rattle.epoch_model.specs.Epochs.{Geometry}
 use Rattle.epoch_model.specs.Laws.{HasRoom}
 use Rattle.epoch_entry.specs.declared.purpose.Entries.TheVariants.{Bounds}
+use Rattle.stage_plan.specs.Packets.{AreWhole}
 use Rattle.stage_plan.specs.Planned.{IsPlanOf, fold_at}
 use Rattle.stage_plan.specs.Shape.{GroupShape, query_groups}
 use Rattle.stage_plan.specs.Sound.{PlanParts, IsSoundPlan}
@@ -39,10 +40,6 @@ enclosed_from q g packets i (shape ∷ shapes) = enclosed_if q g packets i shape
 -- What is shown of a query's groupbys over these packets, each of 14 words.
 unfoldable pub enclosed_tables : TypedQuery → Geometry → List (List ℕ) → List Enclosed
 enclosed_tables q g packets = enclosed_from q g packets 0 (query_groups q)
-
--- the packets have the words of 14 fields
-abbrev pub AreWhole : List (List ℕ) → Type 0
-AreWhole packets = All (λ words. length words ≡ 14) packets
 
 -- the pipeline is that of a valid query's plan, and it represents the machines of its groupbys at the end of these packets
 pub record EndsAt (q : TypedQuery) (g : Geometry) (packets : List (List ℕ)) (pipeline : PipelineView) : Type 0 where

@@ -12,17 +12,20 @@ use Rattle.marple_base.specs.declared.inputs.Which.TheVariants.{Query, Trace}
 use Rattle.query_lang.specs.declared.fault.QueryFault.{QueryFault}
 use Rattle.query_lang.specs.declared.typed.TypedQuery.{TypedQuery}
 use Rattle.stage_plan.specs.Fields.{reads_of}
+use Rattle.stage_plan.specs.Packets.{AreWhole}
 use Rattle.stage_plan.specs.Planned.{IsPlanOf}
 use Rattle.stage_plan.specs.Shape.{query_shape, plan_text_of}
 use Rattle.stage_plan.specs.Sound.{PlanParts}
 use Rattle.trace_reader.specs.Traces as traces
 use Rattle.trace_reader.specs.declared.fault.TraceFault.{TraceFault}
+use Rattle.trace_drive.specs.Answers.{text_unless}
 use Rattle.trace_drive.specs.Drives.{end_machines, words_of}
-use Rattle.query_run.specs.Answers.{text_unless}
+use Rattle.trace_drive.specs.declared.answer.RunError.{RunError}
+use Rattle.trace_drive.specs.declared.answer.RunError.TheVariants as breaks
+use Rattle.trace_drive.proofs.Breaking.{nothing_taken}
+use Rattle.trace_drive.proofs.WholePackets.{read_whole}
 use Rattle.query_run.specs.Views.{views_text}
-use Rattle.query_run.specs.declared.answer.RunError.{RunError}
-use Rattle.query_run.specs.declared.answer.RunError.TheVariants as breaks
-use Rattle.query_run.specs.Runs.{AreWhole, query_ends}
+use Rattle.query_run.specs.Runs.{query_ends}
 use Rattle.query_tables.specs.Tables.{query_text}
 use Rattle.switch_core.specs.PlanLanes.{PipelineStands, PipelineView}
 use Rattle.queue_sim.specs.TraceText.{trace_text}
@@ -35,9 +38,7 @@ use Rattle.command_line.specs.declared.setting.Setting.{Setting}
 use Rattle.command_line.specs.declared.setting.Ways.{Ways}
 use Rattle.query_run.specs.Driven.{IsLeftBy, geometry_of, pipeline_in}
 use Rattle.query_run.specs.declared.driven.Driven.{Driven}
-use Rattle.query_run.proofs.Breaking.{nothing_taken}
 use Rattle.query_run.proofs.QueryEnds.{machines_are}
-use Rattle.query_run.proofs.WholePackets.{read_whole}
 use Rattle.marple_cli.specs.Call.{ToldOf}
 use Rattle.marple_cli.specs.Driven.{DrivenAfter, Leaves, StandsForEnd}
 use Rattle.marple_cli.specs.Ends.{Ends, OperandEnds, QueryEnds, QueryTold, ReadEnds, TraceEnds, WriteEnds, status_for, status_of}

@@ -19,13 +19,13 @@ use Rattle.accepted_query.specs.Accepted.{accepted, fault_in, query_fault}
 use Rattle.accepted_query.specs.Answers.{IsAnswerTo}
 use Rattle.accepted_query.specs.declared.answer.QueryError.{QueryError}
 use Rattle.accepted_query.specs.declared.answer.QueryError.TheVariants.{Refused}
-use Rattle.query_run.specs.Answers.{BreaksOff, text_unless}
-use Rattle.query_run.specs.declared.answer.RunError.{RunError}
-use Rattle.query_run.specs.declared.answer.RunError.TheVariants as breaks
+use Rattle.trace_drive.specs.Answers.{BreaksOff, text_unless}
+use Rattle.trace_drive.specs.declared.answer.RunError.{RunError}
+use Rattle.trace_drive.specs.declared.answer.RunError.TheVariants as breaks
+use Rattle.trace_drive.proofs.Breaking.{nothing_taken}
 use Rattle.marple_cli.specs.Ends.{ReadEnds, TraceEnds, WriteEnds, status_for}
 use Rattle.marple_cli.specs.declared.status.Status.{Status}
 use Rattle.marple_cli.specs.declared.status.Status.TheVariants as statuses
-use Rattle.query_run.proofs.Breaking.{nothing_taken}
 
 pub take_whole : (limit : ℕ) (bytes : List ℕ) → length bytes ≤ limit → take (limit + 1) bytes ≡ bytes
 take_whole limit bytes short = grind (arith, common_steps)

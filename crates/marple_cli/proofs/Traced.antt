@@ -8,8 +8,8 @@ use Rattle.marple_base.specs.declared.inputs.Which.{Which}
 use Rattle.marple_base.specs.declared.inputs.Which.TheVariants.{Query, Trace}
 use Rattle.trace_reader.specs.Traces.{Contents, contents}
 use Rattle.trace_reader.specs.declared.fault.TraceFault.{TraceFault}
-use Rattle.query_run.specs.Answers.{BreaksOff}
-use Rattle.query_run.specs.declared.answer.RunError.{RunError}
+use Rattle.trace_drive.specs.Answers.{BreaksOff}
+use Rattle.trace_drive.specs.declared.answer.RunError.{RunError}
 use Rattle.command_line.specs.declared.command.Command.{Command}
 use Rattle.marple_cli.specs.Call.{ToldOf}
 use Rattle.marple_cli.specs.Ends.{Ends, QueryTold, ReadEnds, TraceEnds, status_for, status_of}

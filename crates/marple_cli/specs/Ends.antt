@@ -8,10 +8,10 @@ use Rattle.marple_base.specs.declared.inputs.Which.TheVariants.{Query, Trace}
 use Rattle.query_lang.specs.declared.fault.QueryFault.{QueryFault}
 use Rattle.query_lang.specs.declared.typed.TypedQuery.{TypedQuery}
 use Rattle.accepted_query.specs.Accepted.{accepted}
-use Rattle.query_run.specs.Answers.{text_unless}
-use Rattle.query_run.specs.declared.answer.RunError.{RunError}
-use Rattle.query_run.specs.declared.answer.RunError.TheVariants as breaks
 use Rattle.trace_reader.specs.declared.fault.TraceFault.{TraceFault}
+use Rattle.trace_drive.specs.Answers.{text_unless}
+use Rattle.trace_drive.specs.declared.answer.RunError.{RunError}
+use Rattle.trace_drive.specs.declared.answer.RunError.TheVariants as breaks
 use Rattle.command_line.specs.declared.command.Command.{Command}
 use Rattle.marple_cli.specs.Call.{ToldOf, WritesOutput, WritesFront}
 use Rattle.plan_file.specs.Texts.{IsRefused, Says}

@@ -6,8 +6,8 @@ ghost use Rattle.marple_cli.specs.declared.status.Status.TheVariants.{Memory, Ou
 
 use marple_base::{Failed, Which};
 use query_lang::QueryFault;
-use query_run::RunError;
 use std::alloc::AllocError;
+use trace_drive::RunError;
 use trace_reader::TraceFault;
 
 /// How a command ends. The statuses are numbered from 0 in this order.

@@ -13,11 +13,11 @@ use Rattle.plan_laws.specs.Readings.{IsReadingOf}
 use Rattle.plan_laws.proofs.OneReading.{read_once}
 use Rattle.plan_writer.specs.PlanText.{compiled_text, final_fault}
 use Rattle.plan_laws.proofs.Accepted.{accepted_load}
-use Rattle.query_run.specs.Runs.{ReadPacketsAreWhole}
 use Rattle.query_tables.specs.Tables.{query_text}
 use Rattle.query_run.specs.Views.{NoViewsWithoutNumber}
 use Rattle.stage_plan.specs.Fields.{reads_of}
 use Rattle.trace_drive.specs.Drives.{words_of}
+use Rattle.trace_drive.specs.ReadPackets.{ReadPacketsAreWhole}
 use Rattle.trace_reader.specs.Traces as traces
 use Rattle.plan_laws.specs.MadeOf.{made_of}
 use Rattle.plan_laws.specs.RunLaws.{IsAsTheQuery}

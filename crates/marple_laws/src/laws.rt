@@ -3,7 +3,8 @@
 ghost use Rattle.marple_laws.specs.Compiled.{CompiledPlansRunAsQueries};
 ghost use Rattle.marple_laws.specs.Sources.{SourcesAreOne, SourcesAreThere};
 
-use query_run::{no_views_without_number, read_packets_are_whole};
+use query_run::no_views_without_number;
+use trace_drive::read_packets_are_whole;
 
 /// Each text has a source for each command: what is said of all sources of a text isn't said of none.
 pub fn sources_are_there()

@@ -3,7 +3,8 @@ use Rattle.std.proofs.Common.{◌≡◌, ◌≢◌, ℕ, Bool, true, false, cond
 use Rattle.std.specs.Prelude.{All}
 use Rattle.std.proofs.lemmas.Bool.Decides.{nat_tests}
 use Rattle.std.proofs.lemmas.List.Elements.{All-cons, All-head, All-tail}
-use Rattle.net_wide.specs.NetLaws.{AreWhole, SameOfEachSwitch}
+use Rattle.stage_plan.specs.Packets.{AreWhole}
+use Rattle.net_wide.specs.NetLaws.{SameOfEachSwitch}
 use Rattle.net_wide.specs.NetTables.{switch_in, packets_at}
 
 abbrev is_whole : List ℕ → Type 0

@@ -1,9 +1,10 @@
 -- That the order of packets of different switches makes no difference, for each accepted text whose groupbys combine.
 use Rattle.std.specs.Prelude.{◌≡◌, ◌≢◌, ℕ, List, ◌∷◌, ◌++◌, None, Ok}
 use Rattle.query_lang.specs.declared.typed.TypedQuery.{TypedQuery}
+use Rattle.stage_plan.specs.Packets.{AreWhole}
 use Rattle.accepted_query.specs.Accepted.{accepted}
 use Rattle.net_wide.specs.Combining.{net_fault}
-use Rattle.net_wide.specs.NetLaws.{AreWhole, SameOfEachSwitch, TellsSwitches}
+use Rattle.net_wide.specs.NetLaws.{SameOfEachSwitch, TellsSwitches}
 use Rattle.net_wide.specs.NetTables.{switch_in, net_text}
 
 -- In each accepted text a groupby's key named `switch` is the packet's switch, unless some `map` makes a column of that name; and

@@ -21,6 +21,7 @@ use Rattle.epoch_model.proofs.KeyOrder.{ascending-ascends, has-ascending}
 use Rattle.epoch_entry.specs.Foldings.{folding_of}
 use Rattle.epoch_model.specs.Driving.{uses_taken}
 use Rattle.query_lang.specs.Words.{holds}
+use Rattle.stage_plan.specs.Packets.{AreWhole}
 use Rattle.stage_plan.specs.declared.group.GroupPlan.{GroupPlan}
 use Rattle.stage_plan.specs.declared.group.GroupWiring.{GroupWiring}
 use Rattle.stage_plan.specs.Planned.{IsPlanOf, fold_at, row_of, taken, wiring_at}
@@ -35,7 +36,6 @@ use Rattle.final_queries.proofs.StateLengths.{states_length}
 use Rattle.query_tables.specs.Tables.{query_table, table_if, tables_from, group_tables}
 use Rattle.query_tables.specs.TableLaws.{QueryTablesAreRead}
 use Rattle.net_wide.specs.NetTables.{net_epochs, key_args, net_key_rows, net_rows, net_table, net_table_if, net_pieces, net_tables_from, net_tables, tables_of_pieces}
-use Rattle.net_wide.specs.NetLaws.{AreWhole}
 use Rattle.net_wide.proofs.Places.{first_at}
 use Rattle.net_wide.specs.NetEnds.{NetTablesAreRead}
 

@@ -24,6 +24,7 @@ use Rattle.epoch_model.proofs.KeyLists.{by_test}
 use Rattle.epoch_model.proofs.Rows.{no_row_is_lost_lem}
 use Rattle.epoch_model.proofs.TableRows.{closed-lists, flat_map-single}
 use Rattle.epoch_entry.specs.Foldings.{folding_of, per_epoch}
+use Rattle.stage_plan.specs.Packets.{AreWhole}
 use Rattle.stage_plan.specs.Planned.{IsPlanOf, taken}
 use Rattle.stage_plan.specs.Shape.{GroupShape}
 use Rattle.stage_plan.specs.Sound.{PlanParts}
@@ -41,7 +42,6 @@ use Rattle.additive_laws.proofs.OwnEpochs.{own}
 use Rattle.additive_laws.proofs.Givens.{gives, keys_are}
 use Rattle.additive_laws.proofs.Counts.{added, of_one_switch, of_one, same_number, own_number, not_number}
 use Rattle.net_wide.specs.NetTables.{switch_in, packets_at, switches, caches_of, uses_at, key_args, net_key_rows, net_rows, net_count, net_table}
-use Rattle.net_wide.specs.NetLaws.{AreWhole}
 use Rattle.net_wide.proofs.Combined.{HasSwitchKey, Combines, all_combine}
 use Rattle.net_wide.proofs.OneSwitch.{none_closed}
 use Rattle.net_wide.proofs.SameTexts.{flat_maps_alike, sums_alike, tells_switch, at_place}

@@ -20,6 +20,7 @@ use Rattle.query_lang.specs.Streams.{Tuple, Taking, takings, stream}
 use Rattle.query_lang.specs.TypedQueries.{IsValidQuery}
 use Rattle.query_types.specs.Uses.{uses}
 use Rattle.epoch_entry.specs.Foldings.{folding_of}
+use Rattle.stage_plan.specs.Packets.{AreWhole}
 use Rattle.stage_plan.specs.Planned.{fold_at}
 use Rattle.stage_plan.specs.Shape.{GroupShape, query_groups}
 use Rattle.stage_plan.proofs.StreamRows as packetwise
@@ -31,7 +32,7 @@ use Rattle.additive_laws.specs.Pieces.{all_rows}
 use Rattle.additive_laws.proofs.Orders.{any_interleaving}
 use Rattle.net_wide.specs.Combining.{net_fault}
 use Rattle.net_wide.specs.NetTables.{switch_in, switches, uses_at, caches_of, net_epochs, key_args, net_key_rows, net_rows, net_count, net_table, net_table_if, net_pieces, net_tables_from, net_tables, net_text, tables_of_pieces}
-use Rattle.net_wide.specs.NetLaws.{AreWhole, SameOfEachSwitch, TellsSwitches, SwitchesDoNotWait}
+use Rattle.net_wide.specs.NetLaws.{SameOfEachSwitch, TellsSwitches, SwitchesDoNotWait}
 use Rattle.net_wide.proofs.Taking.{given, args_given, same_of_each, alone, same_keys_used, same_switches}
 use Rattle.net_wide.proofs.Combined.{HasSwitchKey, Combines, all_combine}
 

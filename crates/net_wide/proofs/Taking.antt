@@ -14,8 +14,9 @@ use Rattle.epoch_model.proofs.TableRows.{some}
 use Rattle.additive_laws.specs.Pieces.{Given, all_rows, rows_from}
 use Rattle.additive_laws.proofs.Orders.{same_rows}
 use Rattle.additive_laws.proofs.StoreTables.{same_some}
+use Rattle.stage_plan.specs.Packets.{AreWhole}
 use Rattle.net_wide.specs.NetTables.{switch_in, packets_at, switches, key_args}
-use Rattle.net_wide.specs.NetLaws.{AreWhole, SameOfEachSwitch}
+use Rattle.net_wide.specs.NetLaws.{SameOfEachSwitch}
 
 module _ (take : List ℕ → Option Taken) (key : Key) where
   -- what a packet of the switch gives the key

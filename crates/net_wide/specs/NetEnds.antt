@@ -9,6 +9,7 @@ use Rattle.epoch_model.specs.Machine.{lists_of}
 use Rattle.epoch_model.specs.Driving.{Taken}
 use Rattle.epoch_model.specs.Laws.{HasRoom}
 use Rattle.epoch_entry.specs.Foldings.{folding_of}
+use Rattle.stage_plan.specs.Packets.{AreWhole}
 use Rattle.stage_plan.specs.Planned.{IsPlanOf, fold_at, taken}
 use Rattle.stage_plan.specs.Shape.{GroupShape}
 use Rattle.stage_plan.specs.Sound.{PlanParts, IsSoundPlan}
@@ -21,7 +22,7 @@ use Rattle.additive_laws.specs.Network.{SwitchEvent, SwitchEpoch, all_epochs, ma
 use Rattle.additive_laws.specs.Traces.{Step, HasPackets, IsRun}
 use Rattle.net_wide.specs.Combining.{net_fault}
 use Rattle.net_wide.specs.NetTables.{switch_in, switches, caches_of, net_epochs, net_table, net_tables}
-use Rattle.net_wide.specs.NetLaws.{AreWhole, TellsSwitches}
+use Rattle.net_wide.specs.NetLaws.{TellsSwitches}
 
 -- a packet of this switch is among these
 abbrev pub IsSeen : ℕ → List (List ℕ) → Type 0

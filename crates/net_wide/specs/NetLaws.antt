@@ -14,12 +14,9 @@ use Rattle.query_types.specs.Uses.{uses}
 use Rattle.epoch_model.specs.Laws.{HasRoom, rows_given}
 use Rattle.epoch_model.specs.Tables.{Folding, closed_key_rows}
 use Rattle.additive_laws.specs.Network.{SwitchEvent, SwitchEpoch, events_at, all_epochs, machine_at, AllMerged}
+use Rattle.stage_plan.specs.Packets.{AreWhole}
 use Rattle.net_wide.specs.Combining.{is_switch, makes_switch, net_fault}
 use Rattle.net_wide.specs.NetTables.{switch_in, packets_at, uses_at, net_text}
-
--- the packets have the words of 14 fields
-abbrev pub AreWhole : List (List ℕ) → Type 0
-AreWhole packets = All (λ words. length words ≡ 14) packets
 
 -- both lists have the same packets of each switch, in the same order
 abbrev pub SameOfEachSwitch : List (List ℕ) → List (List ℕ) → Type 0

@@ -3,10 +3,11 @@ use Rattle.std.specs.Prelude.{◌≡◌, ℕ, None, List, [], ◌∷◌, ◌++�
 use Rattle.query_lang.specs.declared.typed.TypedQuery.{TypedQuery}
 use Rattle.query_lang.specs.TypedQueries.{IsValidQuery}
 use Rattle.epoch_model.specs.Keys.{ArgRow, Key}
+use Rattle.stage_plan.specs.Packets.{AreWhole}
 use Rattle.stage_plan.specs.Planned.{IsPlanOf}
 use Rattle.stage_plan.specs.Sound.{PlanParts}
 use Rattle.net_wide.specs.Combining.{net_fault}
-use Rattle.net_wide.specs.NetLaws.{AreWhole, TellsSwitches}
+use Rattle.net_wide.specs.NetLaws.{TellsSwitches}
 use Rattle.net_wide.specs.NetTables.{caches_of, switch_in}
 use Rattle.net_wide.specs.NetEnds.{AreNumbered, closed_pieces}
 use Rattle.network.specs.Networks.{NetworkView}

@@ -11,12 +11,12 @@ use Rattle.epoch_model.proofs.KeyLists.{by_test, key_eq-true, key_eq-refl, IsDis
 use Rattle.query_lang.specs.declared.typed.TypedQuery.{TypedQuery}
 use Rattle.query_lang.specs.Streams.{Taking, takings, stream, values_at}
 use Rattle.query_types.specs.Uses.{use_of, taken_by, uses}
+use Rattle.stage_plan.specs.Packets.{AreWhole}
 use Rattle.stage_plan.proofs.StreamRows.{Row, row_at, all_rows, tuple_of, tuples, stream_rows}
 use Rattle.epoch_model.proofs.Cuts.{epochs-pieces, epochs_cut_the_rows_lem}
 use Rattle.epoch_model.proofs.TableRows.{some, joined-some}
 use Rattle.additive_laws.specs.TraceLaws.{rows_used}
 use Rattle.additive_laws.proofs.Counts.{not_number}
-use Rattle.net_wide.specs.NetLaws.{AreWhole}
 use Rattle.part_laws.specs.Parts.{Partition, part_at, KeepsKeys}
 use Rattle.part_laws.specs.PartLaws.{PartsCutNoMore, ValidRowsAreTheParts}
 use Rattle.part_laws.proofs.Keeping.{parts_have_rows}

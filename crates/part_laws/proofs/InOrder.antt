@@ -10,10 +10,10 @@ use Rattle.epoch_model.proofs.KeyLists.{by_test, key_eq-refl}
 use Rattle.epoch_model.proofs.KeyOrder.{ascending-ascends, has-ascending}
 use Rattle.epoch_model.proofs.TableRows.{flat_map-single}
 use Rattle.query_lang.specs.declared.typed.TypedQuery.{TypedQuery}
+use Rattle.stage_plan.specs.Packets.{AreWhole}
 use Rattle.final_queries.specs.Finals.{is_of_key}
 use Rattle.additive_laws.specs.TraceLaws.{rows_used, has_number}
 use Rattle.additive_laws.proofs.Counts.{own_number}
-use Rattle.net_wide.specs.NetLaws.{AreWhole}
 use Rattle.part_laws.specs.Parts.{Partition, AreTheParts, KeepsKeys, part_uses}
 use Rattle.part_laws.specs.PartLaws.{but_for_epochs}
 use Rattle.part_laws.specs.FinalParts.{AreInTheirParts, ExactTablesInOrder}

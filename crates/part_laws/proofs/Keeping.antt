@@ -13,7 +13,7 @@ use Rattle.query_lang.specs.declared.typed.TypedQuery.{TypedQuery}
 use Rattle.query_types.specs.Uses.{uses}
 use Rattle.additive_laws.specs.TraceLaws.{rows_used}
 use Rattle.additive_laws.proofs.Counts.{same_number, not_number}
-use Rattle.net_wide.specs.NetLaws.{AreWhole}
+use Rattle.stage_plan.specs.Packets.{AreWhole}
 use Rattle.part_laws.specs.Parts.{Partition, part_at, KeepsKeys}
 use Rattle.part_laws.specs.PartLaws.{PartsHaveTheRows, OtherPartsHaveNone, KeysAreOfTheirParts, KeysAreOfNoOtherPart}
 use Rattle.part_laws.proofs.Packetwise.{rows_of_one, rows_packetwise}

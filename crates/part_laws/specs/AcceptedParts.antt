@@ -8,8 +8,8 @@ use Rattle.marple_base.specs.declared.field.Field.{Field}
 use Rattle.query_lang.specs.declared.typed.TypedQuery.{TypedQuery}
 use Rattle.query_lang.specs.declared.typed.TypedStream.{TypedStream}
 use Rattle.query_types.specs.Uses.{uses}
+use Rattle.stage_plan.specs.Packets.{AreWhole}
 use Rattle.accepted_query.specs.Accepted.{accepted}
-use Rattle.net_wide.specs.NetLaws.{AreWhole}
 use Rattle.part_laws.specs.Parts.{KeepsKeys, AreTheParts, part_uses, by_fields, groupbys, part_by, HasFieldKey}
 use Rattle.part_laws.specs.PartLaws.{but_for_epochs}
 use Rattle.part_laws.specs.FinalParts.{rows_of_all, AreInTheirParts}

@@ -9,9 +9,9 @@ use Rattle.query_lang.specs.declared.fold.TypedExpr.{TypedExpr}
 use Rattle.query_lang.specs.declared.fold.TypedFold.{TypedFold}
 use Rattle.query_lang.specs.declared.typed.TypedQuery.{TypedQuery}
 use Rattle.query_types.specs.Uses.{uses}
+use Rattle.stage_plan.specs.Packets.{AreWhole}
 use Rattle.final_queries.specs.Finals.{is_of_key, plain_row, filtered_rows, mapped_rows, grouped_rows, joined_rows, top_rows}
 use Rattle.additive_laws.specs.TraceLaws.{AreApart}
-use Rattle.net_wide.specs.NetLaws.{AreWhole}
 use Rattle.part_laws.specs.Parts.{Partition, KeepsKeys, AreTheParts, part_uses}
 use Rattle.part_laws.specs.PartLaws.{but_for_epochs}
 

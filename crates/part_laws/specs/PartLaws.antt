@@ -13,12 +13,12 @@ use Rattle.query_lang.specs.declared.query.Query.{Query}
 use Rattle.query_lang.specs.declared.typed.TypedQuery.{TypedQuery}
 use Rattle.query_lang.specs.declared.typed.TypedStream.{TypedStream}
 use Rattle.query_lang.specs.Folds.{fold_states, body, folded}
+use Rattle.stage_plan.specs.Packets.{AreWhole}
 use Rattle.query_laws.specs.QueryRules.{IsTyped}
 use Rattle.query_types.specs.Uses.{uses}
 use Rattle.additive_laws.specs.Amounts.{amount, plus, zeros}
 use Rattle.additive_laws.specs.Laws.{IsAdditiveFrom}
 use Rattle.additive_laws.specs.TraceLaws.{rows_used}
-use Rattle.net_wide.specs.NetLaws.{AreWhole}
 use Rattle.part_laws.specs.Parts.{Partition, KeepsKeys, AreTheParts, part_uses, own_uses, whole_rows, part_rows}
 use Rattle.part_laws.specs.Parts.{by_field, by_fields, groupbys, part_by, HasFieldKey}
 

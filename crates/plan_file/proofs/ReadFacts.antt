@@ -5,7 +5,7 @@ use Rattle.std.proofs.lemmas.List.{take_all, length-drop}
 use Rattle.plan_file.specs.declared.made.Made.{Made}
 use Rattle.plan_file.specs.Lexis.{lines, bytes_after_lines}
 use Rattle.plan_file.specs.Lines.{nothing, IsLine}
-use Rattle.plan_file.specs.Texts.{Make, Says, IsBadAt, IsLineStart, IsBehindLines}
+use Rattle.plan_file.specs.Texts.{Make, Says, IsBadAt, IsLineStart, IsAfterLines}
 
 -- this many lines are read, up to a byte, and they made this
 pub record IsReached (text : List ℕ) (i at : ℕ) (made : Made) : Type 0 where
@@ -38,18 +38,18 @@ pub bad_line : (text : List ℕ) (i at : ℕ) (made : Made) (line : List ℕ) �
 bad_line text i at made line small r e bad = inr (small, inl (i, record { before = made; valid_before = r.valid; line = line; is = e; bad = λ v. bad v.0 v.1 }, r.start.start))
 
 -- all lines are read
-pub all_made : (text : List ℕ) (i at : ℕ) (made : Made) → IsReached text i at made → IsBehindLines text i at → Make (lines text) nothing made
+pub all_made : (text : List ℕ) (i at : ℕ) (made : Made) → IsReached text i at made → IsAfterLines text i at → Make (lines text) nothing made
 all_made text i at made r b = subst (λ ls. Make ls nothing made) (take_all i (lines text) (omega (arith, b.count))) r.valid
 
-pub bad_rest : (text : List ℕ) (i at : ℕ) (made : Made) → length text ≤ 2097152 → at < length text → IsReached text i at made → IsBehindLines text i at → IsBadAt text (length text)
+pub bad_rest : (text : List ℕ) (i at : ℕ) (made : Made) → length text ≤ 2097152 → at < length text → IsReached text i at made → IsAfterLines text i at → IsBadAt text (length text)
 bad_rest text i at made small lt r b =
     let size : 0 < length (bytes_after_lines text) = omega (arith, ap length b.rest, length-drop at text) in
     inr (small, inr (record { plan = made; valid = all_made text i at made r b; bad = inl size }, refl))
 
-pub no_print : (text : List ℕ) (i at : ℕ) (made : Made) → length text ≤ 2097152 → made.prints ≡ [] → IsReached text i at made → IsBehindLines text i at → IsBadAt text (length text)
+pub no_print : (text : List ℕ) (i at : ℕ) (made : Made) → length text ≤ 2097152 → made.prints ≡ [] → IsReached text i at made → IsAfterLines text i at → IsBadAt text (length text)
 no_print text i at made small none r b = inr (small, inr (record { plan = made; valid = all_made text i at made r b; bad = inr none }, refl))
 
-pub says : (text : List ℕ) (i at : ℕ) (made : Made) → length text ≤ 2097152 → length text ≤ at → (made.prints ≡ [] → ⊥) → IsReached text i at made → IsBehindLines text i at → Says text made
+pub says : (text : List ℕ) (i at : ℕ) (made : Made) → length text ≤ 2097152 → length text ≤ at → (made.prints ≡ [] → ⊥) → IsReached text i at made → IsAfterLines text i at → Says text made
 says text i at made small le some r b = record {
   size = small;
   valid = all_made text i at made r b;

@@ -6,7 +6,7 @@ use Rattle.std.proofs.lemmas.List.Splits.{length-slice_split}
 use Rattle.std.proofs.lemmas.List.Sums.{sum_by-append}
 use Rattle.std.proofs.lemmas.List.{length-drop, drop-drop}
 use Rattle.plan_file.specs.Lexis.{all_but_last, last_of, is_line_feed, lines, pieces, start_of_line}
-use Rattle.plan_file.specs.Texts.{IsLineStart, IsBehindLines}
+use Rattle.plan_file.specs.Texts.{IsLineStart, IsAfterLines}
 
 -- what one more line is, where a further piece follows it
 pub record IsNext (ps : List (List ℕ)) (i : ℕ) (x y : List ℕ) (rest : List (List ℕ)) : Type 0 where
@@ -43,7 +43,7 @@ last_is (p ∷ q ∷ qs) (suc i) x e =
     let more = last_is (q ∷ qs) i x e in
     record { count = omega (arith, more.count); last = more.last }
 
-pub after_lines : (text : List ℕ) (i at : ℕ) → IsLineStart text i at → slice_split is_line_feed (drop at text) ≡ drop at text ∷ [] → IsBehindLines text i at
+pub after_lines : (text : List ℕ) (i at : ℕ) → IsLineStart text i at → slice_split is_line_feed (drop at text) ≡ drop at text ∷ [] → IsAfterLines text i at
 after_lines text i at start none =
     let last = last_is (pieces text) i (drop at text) (sym start.rest ∙ none) in
     record { count = last.count; rest = last.last }

@@ -48,7 +48,7 @@ pub record IsLineStart (text : List ℕ) (i at : ℕ) : Type 0 where
   pub within : at ≤ length text
 
 -- all lines are read, and these bytes aren't a line
-pub record IsBehindLines (text : List ℕ) (i at : ℕ) : Type 0 where
+pub record IsAfterLines (text : List ℕ) (i at : ℕ) : Type 0 where
   pub count : i ≡ length (lines text)
   pub rest : bytes_after_lines text ≡ drop at text
 

@@ -2,7 +2,7 @@
 
 ghost use Rattle.std.specs.Prelude.{◌≡◌, ◌≤◌, ◌<◌, ◌+◌, ℕ, length, slice_get, IfSome, MatchOption, MatchResult, Some};
 ghost use Rattle.plan_file.specs.Lexis.{lines};
-ghost use Rattle.plan_file.specs.Texts.{IsBehindLines, IsLineStart, Says, IsRefused};
+ghost use Rattle.plan_file.specs.Texts.{IsAfterLines, IsLineStart, Says, IsRefused};
 
 use crate::answer::PlanFileAnswer;
 use crate::lexis::cut_at_line_feed;
@@ -18,7 +18,7 @@ const MOST_BYTES: usize = 2_097_152;
 fn next_line(text: &[u8], at: usize) -> Option<(&[u8], usize)>
     requires within { at ≤ length text.now }
     ensures line { (i : ℕ) → IsLineStart text.now i at
-        → MatchOption result (IsBehindLines text.now i at) (λ r. (slice_get (lines text.now) i ≡ Some r.0.now)
+        → MatchOption result (IsAfterLines text.now i at) (λ r. (slice_get (lines text.now) i ≡ Some r.0.now)
         × IsLineStart text.now (i + 1) r.1) }
     ensures later { IfSome result (λ r. (at < r.1) × (r.1 ≤ length text.now)) }
 {

@@ -35,7 +35,7 @@ use Rattle.plan_writer.proofs.Plans.{ops_are, wiring_is, fold_found}
 use Rattle.plan_laws.specs.WellNamed.{IsNamedWell, HasPlanText}
 use Rattle.plan_laws.proofs.Fields.{operand_known, operand_fits, operand_readable, operands_readable}
 use Rattle.plan_laws.proofs.Groups.{HasGroup}
-use Rattle.plan_laws.proofs.Known.{AreFit, AreBehind, AreFrom, AreRead, AreNamed, AllAreGood, AllGood, IsWritable, column_good, in_set, moved_good, moved_writable, named_from, query_good, read_left, read_right, writable_at}
+use Rattle.plan_laws.proofs.Known.{AreFit, AreAfterFields, AreFrom, AreRead, AreNamed, AllAreGood, AllGood, IsWritable, column_good, in_set, moved_good, moved_writable, named_from, query_good, read_left, read_right, writable_at}
 use Rattle.plan_laws.proofs.OpLines.{IsOpOk}
 
 -- a prefix of a list
@@ -94,8 +94,8 @@ module _ (q : TypedQuery) (p : PlanParts) (valid : IsValidQuery q) (text : HasPl
   named : AreNamed (reads_of q) (all_sources q) q.streams
   named = named_from (reads_of q) (all_sources q) q.streams (λ f i. in_set _ f i)
 
-  spaced : AreBehind (query_registers q)
-  spaced k r e = go (slice_get (range_with_len 0 (length (query_made q).ops)) k) refl
+  beyond : AreAfterFields (query_registers q)
+  beyond k r e = go (slice_get (range_with_len 0 (length (query_made q).ops)) k) refl
     where
       go : (o : Option ℕ) → slice_get (range_with_len 0 (length (query_made q).ops)) k ≡ o → 14 ≤ r
       go None h = let none : None ≡ Some r = sym (slice_get-map (register_in (query_order q)) (range_with_len 0 (length (query_made q).ops)) k ∙ ap (option_map (register_in (query_order q))) h) ∙ e in cc
@@ -124,7 +124,7 @@ module _ (q : TypedQuery) (p : PlanParts) (valid : IsValidQuery q) (text : HasPl
           let o = ordered (query_made q).ops (stages_of (query_made q).ops) i c h in
           let same : new_op c ≡ one = same_Some (new_op c) one (sym (at ∙ ap (option_map new_op) h) ∙ e) in
           let is : moved_op (query_registers q) o.one ≡ one = ap (moved_op (query_registers q)) (sym (op_at (query_made q).ops c o.one o.found)) ∙ same in
-          subst (IsWritable (reads_of q)) is (moved_writable (reads_of q) (query_registers q) o.one spaced (writable_at (reads_of q) (query_made q).ops c o.one good.written o.found))
+          subst (IsWritable (reads_of q)) is (moved_writable (reads_of q) (query_registers q) o.one beyond (writable_at (reads_of q) (query_made q).ops c o.one good.written o.found))
 
   pub op_ok : (i : ℕ) (one : PlanOp) → slice_get (query_ops q) i ≡ Some one → IsOpOk (fields_of (reads_of q)) (take i (query_ops q)) one
   op_ok i one e = record {
@@ -181,7 +181,7 @@ module _ (q : TypedQuery) (p : PlanParts) (valid : IsValidQuery q) (text : HasPl
       AllGood (reads_of q) (map (λ slot. moved (query_registers q) (operand_at columns slot)) slots)
   picked_good sources columns [] from r = tt
   picked_good sources columns (slot ∷ slots) from r =
-      (moved_good (reads_of q) (query_registers q) (operand_at columns slot) spaced (column_good (reads_of q) sources columns slot from r.0), picked_good sources columns slots from r.1)
+      (moved_good (reads_of q) (query_registers q) (operand_at columns slot) beyond (column_good (reads_of q) sources columns slot from r.0), picked_good sources columns slots from r.1)
 
   shapes_are : map group_shape p.groups ≡ query_groups q
   shapes_are = ap (λ s. s.groups) plan.shape
@@ -200,7 +200,7 @@ module _ (q : TypedQuery) (p : PlanParts) (valid : IsValidQuery q) (text : HasPl
     ok = record {
       named = well.named;
       no_stream = well.no_stream;
-      present = operand_readable (reads_of q) (query_ops q) (wiring_of (query_registers q) (query_made q).streams t).present (moved_good (reads_of q) (query_registers q) (wires_at (query_made q).streams t.input).present spaced (good.streams t.input).present) s.present few_ops;
+      present = operand_readable (reads_of q) (query_ops q) (wiring_of (query_registers q) (query_made q).streams t).present (moved_good (reads_of q) (query_registers q) (wires_at (query_made q).streams t.input).present beyond (good.streams t.input).present) s.present few_ops;
       key_names = well.key_names;
       keys_differ = well.keys_differ;
       all_keys = sym s.keys;

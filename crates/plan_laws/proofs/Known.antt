@@ -453,16 +453,16 @@ query_good folds names list fit v =
 
 -- what is moved with the registers of operations
 
-abbrev pub AreBehind : List ℕ → Type 0
-AreBehind registers = (k r : ℕ) → slice_get registers k ≡ Some r → 14 ≤ r
+abbrev pub AreAfterFields : List ℕ → Type 0
+AreAfterFields registers = (k r : ℕ) → slice_get registers k ≡ Some r → 14 ≤ r
 
-pub moved_good : (reads : FieldSet) (registers : List ℕ) (o : Operand) → AreBehind registers → IsGood reads o → IsGood reads (moved registers o)
-moved_good reads registers (Number n) spaced g = g
-moved_good reads registers (Register r) spaced g = by (nat_lt r 14) refl
+pub moved_good : (reads : FieldSet) (registers : List ℕ) (o : Operand) → AreAfterFields registers → IsGood reads o → IsGood reads (moved registers o)
+moved_good reads registers (Number n) beyond g = g
+moved_good reads registers (Register r) beyond g = by (nat_lt r 14) refl
   where
     new : (o : Option ℕ) → slice_get registers (r - 14) ≡ o → IsGood reads (register_or_none o)
     new None e = below_two 0 refl
-    new (Some x) e = λ early. absurd (omega (arith, early, spaced (r - 14) x e))
+    new (Some x) e = λ early. absurd (omega (arith, early, beyond (r - 14) x e))
 
     by : (b : Bool) → nat_lt r 14 ≡ b → IsGood reads (if b then Register r else register_or_none (slice_get registers (r - 14)))
     by true e = g
@@ -501,10 +501,10 @@ moved_single : (registers : List ℕ) (op : operation.Operation) (right : Operan
 moved_single registers Not right e = ap (moved registers) e
 moved_single registers (Two f) right e = tt
 
-pub moved_writable : (reads : FieldSet) (registers : List ℕ) (one : PlanOp) → AreBehind registers → IsWritable reads one → IsWritable reads (moved_op registers one)
-moved_writable reads registers one spaced w = record {
-  left = moved_good reads registers one.left spaced w.left;
-  right = moved_good reads registers one.right spaced w.right;
+pub moved_writable : (reads : FieldSet) (registers : List ℕ) (one : PlanOp) → AreAfterFields registers → IsWritable reads one → IsWritable reads (moved_op registers one)
+moved_writable reads registers one beyond w = record {
+  left = moved_good reads registers one.left beyond w.left;
+  right = moved_good reads registers one.right beyond w.right;
   constant = moved_right registers one.op one.right w.constant;
   single = moved_single registers one.op one.right w.single;
 }

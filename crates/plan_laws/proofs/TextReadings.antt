@@ -27,12 +27,12 @@ reached : (ls : List (List ℕ)) (first : Made) → Reached ls first
 reached [] first = inl (first, refl)
 reached (line ∷ ls) first = by (λ next. reached ls next) (valid_after first line)
   where
-    spaced : (next : Made) → IsLine first line next → Reached ls next → Reached (line ∷ ls) first
-    spaced next valid (inl (after, rest)) = inl (after, (next, valid, rest))
-    spaced next valid (inr (i, b)) = inr (suc i, record { before = b.before; valid_before = (next, valid, b.valid_before); line = b.line; is = b.is; bad = b.bad })
+    beyond : (next : Made) → IsLine first line next → Reached ls next → Reached (line ∷ ls) first
+    beyond next valid (inl (after, rest)) = inl (after, (next, valid, rest))
+    beyond next valid (inr (i, b)) = inr (suc i, record { before = b.before; valid_before = (next, valid, b.valid_before); line = b.line; is = b.is; bad = b.bad })
 
     by : ((next : Made) → Reached ls next) → Decided (IsValidAfter first line) → Reached (line ∷ ls) first
-    by rest (inl (next, valid)) = spaced next valid (rest next)
+    by rest (inl (next, valid)) = beyond next valid (rest next)
     by rest (inr bad) = inr (0, record { before = first; valid_before = refl; line = line; is = refl; bad = bad })
 
 some_items : {A : Type 0} (xs : List A) → (xs ≡ [] → ⊥) → 0 < length xs

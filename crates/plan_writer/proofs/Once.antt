@@ -30,7 +30,7 @@ append_cases (y ∷ xs) ys (suc k) x e = elim (append_cases xs ys k x e) [
 -- a number of a stage, where the first operation has number n
 record Numbered (ops : List PlanOp) (stage n c : ℕ) : Type 0 where
   place : ℕ
-  spaced : c ≡ n + place
+  beyond : c ≡ n + place
   one : PlanOp
   found : slice_get ops place ≡ Some one
   stage_is : one.stage ≡ stage
@@ -40,11 +40,11 @@ numbers_in stage n [] k c e = no_item c e
 numbers_in stage n (one ∷ ops) k c e = go (eqb one.stage stage) refl k (numbers_in stage (n + 1) ops) e
   where
     later : Numbered ops stage (n + 1) c → Numbered (one ∷ ops) stage n c
-    later r = record { place = suc r.place; spaced = omega (arith, r.beyond); one = r.one; found = r.found; stage_is = r.stage_is }
+    later r = record { place = suc r.place; beyond = omega (arith, r.beyond); one = r.one; found = r.found; stage_is = r.stage_is }
 
     go : (b : Bool) → eqb one.stage stage ≡ b → (k : ℕ) → ((k c : ℕ) → slice_get (numbers_at stage (n + 1) ops) k ≡ Some c → Numbered ops stage (n + 1) c) →
         slice_get (cond b (n ∷ numbers_at stage (n + 1) ops) (numbers_at stage (n + 1) ops)) k ≡ Some c → Numbered (one ∷ ops) stage n c
-    go true is zero rest e = let here : n ≡ c = same_Some n c e in record { place = 0; spaced = omega arith; one = one; found = refl; stage_is = grind (arith, nat_tests) }
+    go true is zero rest e = let here : n ≡ c = same_Some n c e in record { place = 0; beyond = omega arith; one = one; found = refl; stage_is = grind (arith, nat_tests) }
     go true is (suc k) rest e = later (rest k c e)
     go false is k rest e = later (rest k c e)
 
@@ -134,7 +134,7 @@ registers_are ops s registers staged placed long =
 -- the registers by places in the order are those that a plan's operations have
 pub registers_placed : (ops : List PlanOp) (s : ℕ) → ArePlaced (order_of ops s) (registers_in (order_of ops s) (length ops)) (length (order_of ops s))
 registers_placed ops s k lt = subst (IsPlaced (order_of ops s) number) (sym register) (record {
-  spaced = omega arith;
+  beyond = omega arith;
   within = omega (arith, lt);
   place = (let back : 14 + k - 14 ≡ k = omega arith in ap (λ place. get_or (order_of ops s) place 0) back);
 })

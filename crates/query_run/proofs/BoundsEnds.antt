@@ -16,12 +16,12 @@ use Rattle.enclosure_folds.specs.KeyBounds.{TriplesGiveWholeTables}
 use Rattle.enclosure_folds.specs.Shown.{MayBeShown, MayBeShownBy, shown, shown_by}
 use Rattle.enclosed_query.specs.EnclosedTables.{EndsGiveEnclosedTables, enclose_text, enclosed_print, enclosed_tables, table_read}
 use Rattle.enclosed_query.specs.Reading.{EnclosedTablesAreRead, IsWhole}
+use Rattle.stage_plan.specs.Packets.{AreWhole}
 use Rattle.stage_plan.specs.Planned.{IsPlanOf}
 use Rattle.stage_plan.specs.Sound.{IsSoundPlan, PlanParts}
 use Rattle.switch_core.specs.PlanLanes.{AreLanesOf, LaneView}
 use Rattle.query_run.specs.BoundsReports.{AreBoundsTables, bounds_print}
 use Rattle.query_run.specs.Reports.{Reports, end_tables}
-use Rattle.query_run.specs.Runs.{AreWhole}
 
 -- the tables of bounds that are shown have the words that their names say
 one_whole : TriplesGiveWholeTables → (kind : TableKind) (t : Table) → MayBeShownBy kind t → IsWhole (shown_by kind t)

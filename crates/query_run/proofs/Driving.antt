@@ -8,16 +8,16 @@ use Rattle.epoch_entry.specs.declared.purpose.Entries.{Entries}
 use Rattle.epoch_model.specs.Epochs.{Geometry}
 use Rattle.final_queries.specs.declared.table.Table.{Table}
 use Rattle.stage_plan.specs.Sound.{PlanParts}
+use Rattle.trace_drive.specs.Answers.{BreaksOff}
 use Rattle.trace_drive.specs.Drives.{geometry_for}
+use Rattle.trace_drive.specs.declared.answer.RunError.{RunError}
 use Rattle.trace_drive.specs.declared.schedule.Schedule.{Schedule}
+use Rattle.trace_drive.proofs.Breaking.{err_is}
 use Rattle.trace_reader.specs.declared.fault.TraceFault.{TraceFault}
-use Rattle.query_run.specs.Answers.{BreaksOff}
 use Rattle.query_run.specs.Driven.{geometry_of}
 use Rattle.query_run.specs.Reports.{Prints}
 use Rattle.query_run.specs.Views.{views_text}
-use Rattle.query_run.specs.declared.answer.RunError.{RunError}
 use Rattle.query_run.specs.declared.driven.Driven.{Driven}
-use Rattle.query_run.proofs.Breaking.{err_is}
 
 -- the caches of a schedule with the setting's ways are those of the setting
 pub geometry_is : (setting : Setting) (schedule : Schedule) (ways : Ways) → setting.ways ≡ ways

@@ -4,7 +4,7 @@ use Rattle.std.proofs.lemmas.List.{map-append}
 use Rattle.std.proofs.lemmas.List.Elements.{All-append, All-nil, All-cons}
 use Rattle.marple_base.specs.declared.field.Packet.{Packet}
 use Rattle.queue_sim.specs.Generator.{Arrival, arrivals, packet_of, packets_from, simulated}
-use Rattle.query_run.specs.Runs.{AreWhole}
+use Rattle.stage_plan.specs.Packets.{AreWhole}
 use Rattle.trace_drive.specs.Drives.{words_of}
 
 abbrev IsWhole : List ℕ → Type 0

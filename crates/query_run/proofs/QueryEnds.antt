@@ -19,6 +19,7 @@ use Rattle.epoch_entry.specs.declared.purpose.Entries.TheVariants.{Folds}
 use Rattle.epoch_entry.specs.Foldings.{folding_of}
 use Rattle.final_queries.specs.FinalLaws.{AreAlike, AlikeFoldingsMakeOneTable}
 use Rattle.final_queries.specs.GroupTable.{ClosedGiveTheGroupTable, closed_table, group_table}
+use Rattle.stage_plan.specs.Packets.{AreWhole}
 use Rattle.stage_plan.specs.declared.group.GroupPlan.{GroupPlan}
 use Rattle.stage_plan.specs.Planned.{IsPlanOf, fold_at, taken, wiring_at}
 use Rattle.stage_plan.specs.Shape.{group_shape}
@@ -32,7 +33,7 @@ use Rattle.trace_drive.specs.Drives.{uses_by, ends_from, end_machines}
 use Rattle.query_tables.specs.TableLaws.{QueryTablesAreRead}
 use Rattle.query_run.specs.QueryReports.{AreGroupTables, query_print}
 use Rattle.query_run.specs.Reports.{Reports}
-use Rattle.query_run.specs.Runs.{AreWhole, ends_of, query_ends, EndsAreTheQuerys}
+use Rattle.query_run.specs.Runs.{ends_of, query_ends, EndsAreTheQuerys}
 
 -- the item at a place is the first of those from there on
 first_at : {A : Type 0} (xs : List A) (i : ℕ) (x : A) (rest : List A) → drop i xs ≡ x ∷ rest → (slice_get xs i ≡ Some x) × (drop (suc i) xs ≡ rest) × (i < length xs)

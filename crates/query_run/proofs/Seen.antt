@@ -11,8 +11,8 @@ use Rattle.epoch_model.specs.Machine.{Machine, after_packets, end_of}
 use Rattle.live_view.specs.Laws.{ViewsEndTheTrace}
 use Rattle.live_view.specs.Views.{all_closed, tables_seen}
 use Rattle.query_run.specs.Reports.{end_tables}
-use Rattle.query_run.specs.Runs.{AreWhole}
 use Rattle.query_run.specs.Views.{IsAsFarAs}
+use Rattle.stage_plan.specs.Packets.{AreWhole}
 use Rattle.stage_plan.specs.declared.group.GroupPlan.{GroupPlan}
 use Rattle.stage_plan.specs.Planned.{taken}
 use Rattle.stage_plan.specs.Sound.{PlanParts}

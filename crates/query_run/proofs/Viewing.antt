@@ -5,18 +5,18 @@ use Rattle.std.proofs.Math.Nat.{mod-eq_of_lt}
 use Rattle.std.proofs.lemmas.List.{length-map}
 use Rattle.std.specs.Io.KnownBytes.{Appends}
 use Rattle.marple_base.specs.declared.field.Packet.{Packet}
+use Rattle.stage_plan.specs.Packets.{AreWhole}
+use Rattle.trace_drive.specs.Answers.{BreaksOff, answer_for}
 use Rattle.trace_drive.specs.Drives.{geometry_for, words_of}
 use Rattle.trace_drive.specs.Replays.{IsUnderWay, pipeline_in}
+use Rattle.trace_drive.specs.declared.answer.RunError.{RunError}
 use Rattle.trace_drive.specs.declared.replay.Replay.{Replay}
 use Rattle.trace_drive.specs.declared.schedule.Schedule.{Schedule}
+use Rattle.trace_drive.proofs.Breaking.{none_some, part_breaks, reader_breaks}
 use Rattle.trace_reader.specs.Faults.{IfRefused}
 use Rattle.trace_reader.specs.declared.fault.TraceAnswer.{TraceAnswer}
 use Rattle.trace_reader.specs.declared.fault.TraceFault.{TraceFault}
-use Rattle.query_run.specs.Answers.{BreaksOff, answer_for}
-use Rattle.query_run.specs.Runs.{AreWhole}
 use Rattle.query_run.specs.Views.{IsAsFarAs, view_text, views_text, views_up_to}
-use Rattle.query_run.specs.declared.answer.RunError.{RunError}
-use Rattle.query_run.proofs.Breaking.{none_some, part_breaks, reader_breaks}
 use Rattle.query_run.proofs.ViewTexts.{all_views, begins, next_view, no_views, parted, whole_text}
 
 -- as many words as packets

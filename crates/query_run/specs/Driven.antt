@@ -1,6 +1,7 @@
 -- What a run with the setting of a command line leaves.
 use Rattle.std.specs.Prelude.{◌≡◌, ℕ, true}
 use Rattle.std.specs.List.{list_all}
+use Rattle.stage_plan.specs.Packets.{AreWhole}
 use Rattle.command_line.specs.Command.{ways_number}
 use Rattle.command_line.specs.declared.setting.Setting.{Setting}
 use Rattle.command_line.specs.declared.setting.Ways.{Ways}
@@ -10,7 +11,6 @@ use Rattle.query_run.specs.declared.driven.Driven.TheVariants.{Ways1, Ways2, Way
 use Rattle.epoch_entry.specs.declared.purpose.Entries.{Entries}
 use Rattle.epoch_entry.specs.declared.purpose.Entries.TheVariants.{Folds}
 use Rattle.epoch_model.specs.Epochs.{Geometry}
-use Rattle.query_run.specs.Runs.{AreWhole}
 use Rattle.queue_sim.specs.Generator.{simulated}
 use Rattle.switch_core.specs.PlanLanes.{HavePlaces, PipelineView, lane_is_drained}
 use Rattle.trace_drive.specs.Drives.{words_of}

@@ -4,7 +4,7 @@ use Rattle.epoch_entry.specs.declared.purpose.Entries.{Entries}
 use Rattle.epoch_model.specs.Epochs.{Geometry}
 use Rattle.epoch_model.specs.Laws.{HasRoom}
 use Rattle.final_queries.specs.declared.table.Table.{Table}
-use Rattle.query_run.specs.Runs.{AreWhole}
+use Rattle.stage_plan.specs.Packets.{AreWhole}
 use Rattle.stage_plan.specs.Sound.{IsSoundPlan, PlanParts}
 use Rattle.switch_core.specs.Pipelines.{tables_of}
 use Rattle.switch_core.specs.PlanLanes.{AreLanesOf, LaneView, folding_at}

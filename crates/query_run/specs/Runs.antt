@@ -1,26 +1,20 @@
 -- What a query makes of a trace.
-use Rattle.std.specs.Prelude.{◌≡◌, ◌≤◌, ℕ, suc, List, [], ◌∷◌, length, map, All}
+use Rattle.std.specs.Prelude.{◌≡◌, ℕ, suc, List, [], ◌∷◌, length, map}
 use Rattle.query_lang.specs.declared.typed.TypedQuery.{TypedQuery}
 use Rattle.query_lang.specs.Streams.{Taking, takings}
 use Rattle.query_lang.specs.TypedQueries.{IsValidQuery}
-use Rattle.query_lang.specs.Words.{AreWords}
 use Rattle.query_types.specs.Uses.{uses}
 use Rattle.epoch_entry.specs.declared.purpose.Entries.TheVariants.{Folds}
 use Rattle.epoch_model.specs.Epochs.{Geometry}
 use Rattle.epoch_model.specs.Machine.{Machine, end_of}
 use Rattle.epoch_model.specs.Laws.{HasRoom}
+use Rattle.stage_plan.specs.Packets.{AreWhole}
 use Rattle.stage_plan.specs.Planned.{IsPlanOf}
 use Rattle.stage_plan.specs.Sound.{PlanParts}
 use Rattle.switch_core.specs.Pipelines.{tables_of}
 use Rattle.switch_core.specs.PlanLanes.{LaneView, AreLanesOf, folding_at}
 use Rattle.query_tables.specs.Tables.{group_tables}
-use Rattle.marple_base.specs.declared.field.FieldSet.{FieldSet}
-use Rattle.trace_reader.specs.Traces.{most_records, packets}
-use Rattle.trace_drive.specs.Drives.{end_machines, words_of}
-
--- the packets have the words of 14 fields
-abbrev pub AreWhole : List (List ℕ) → Type 0
-AreWhole packets = All (λ words. length words ≡ 14) packets
+use Rattle.trace_drive.specs.Drives.{end_machines}
 
 -- the machines of groupbys, which are numbered from this number on
 abbrev pub ends_of : TypedQuery → Geometry → List (List ℕ) → ℕ → List Taking → List Machine
@@ -39,15 +33,3 @@ pub record EndsAreTheQuerys : Type 0 where
       (packets : List (List ℕ)) → IsValidQuery q → IsPlanOf q plan
       → AreLanesOf Folds plan buckets lanes → HasRoom g → AreWhole packets
       → tables_of plan.groups (map folding_at lanes) (end_machines plan g packets) ≡ group_tables q g packets
-
--- Each field of each packet that is read from a trace is a word.
-abbrev pub ReadPacketsAreOfWords : Type 0
-ReadPacketsAreOfWords = (text : List ℕ) (reads : FieldSet) → All AreWords (words_of (packets text reads))
-
--- The packets of a trace have the words of all fields.
-abbrev pub ReadPacketsAreWhole : Type 0
-ReadPacketsAreWhole = (text : List ℕ) (reads : FieldSet) → AreWhole (words_of (packets text reads))
-
--- A trace has no more packets than it may have records.
-abbrev pub ReadPacketsAreFew : Type 0
-ReadPacketsAreFew = (text : List ℕ) (reads : FieldSet) → length (packets text reads) ≤ most_records

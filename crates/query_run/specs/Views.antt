@@ -4,7 +4,7 @@ use Rattle.std.specs.Prelude.{◌++◌, length, take, None, codes, decimal, if�
 use Rattle.epoch_model.specs.Epochs.{Geometry}
 use Rattle.epoch_model.specs.Laws.{HasRoom}
 use Rattle.epoch_model.specs.Machine.{after_packets}
-use Rattle.query_run.specs.Runs.{AreWhole}
+use Rattle.stage_plan.specs.Packets.{AreWhole}
 use Rattle.switch_core.specs.PlanLanes.{PipelineView}
 use Rattle.trace_drive.specs.Drives.{coming, fault_of, uses_by}
 use Rattle.trace_drive.specs.Follows.{FollowsBy}

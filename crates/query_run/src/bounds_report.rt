@@ -16,7 +16,6 @@ ghost use Rattle.trace_reader.specs.Traces.{packets};
 ghost use Rattle.query_run.specs.BoundsReports.{AreBoundsTables, bounds_print};
 ghost use Rattle.query_run.specs.Reports.{Reports};
 
-use crate::laws::read_packets_are_words;
 use crate::report::Report;
 use enclosed_query::{
     enclosed_tables_are_read, ends_give_enclosed_tables, shown_tables_hold, starts_known,
@@ -30,6 +29,7 @@ use query_lang::TypedQuery;
 use std::alloc::{AllocError, Global};
 use std::sync::ledger::Ledger;
 use text_buffer::{TextBuffer, WriteError};
+use trace_drive::read_packets_are_words;
 
 // What is shown of groupbys with these tables.
 fn shown_of(alloc: Global, tables: Seq<Table>) -> Result<Seq<Enclosed>, AllocError>

@@ -1,8 +1,9 @@
-//! What the machines at the end of a trace are, and the tables that they give; and what is known of packets.
+//! What the machines at the end of a trace are, and the tables that they give; and what is known of the packets
+//! that the generator makes.
 
 ghost use Rattle.query_run.specs.Driven.{MadePacketsAreWhole};
 ghost use Rattle.query_run.specs.PlanReports.{EndsAreTheTexts};
-ghost use Rattle.query_run.specs.Runs.{EndsAreTheQuerys, ReadPacketsAreFew, ReadPacketsAreOfWords, ReadPacketsAreWhole};
+ghost use Rattle.query_run.specs.Runs.{EndsAreTheQuerys};
 ghost use Rattle.query_run.specs.Views.{NoViewsWithoutNumber};
 
 use epoch_model::taken_uses_are_in_trace;
@@ -25,21 +26,6 @@ pub fn ends_are_the_texts()
     closed_give_the_group_table();
     alike_foldings_make_one_table();
 }
-
-/// The packets that are read from a trace have the words of all fields.
-pub fn read_packets_are_whole()
-    ensures { ReadPacketsAreWhole }
-{}
-
-/// Each field of each packet that is read from a trace is a word.
-pub fn read_packets_are_words()
-    ensures { ReadPacketsAreOfWords }
-{}
-
-/// A trace has no more packets than it may have records.
-pub fn read_packets_are_few()
-    ensures { ReadPacketsAreFew }
-{}
 
 /// The packets that the generator makes have the words of all fields.
 pub fn made_packets_are_whole()

@@ -4,7 +4,6 @@
 #![tactic(auto)]
 
 mod acceptance;
-mod answer;
 mod bounds_report;
 mod driven;
 mod laws;
@@ -17,12 +16,10 @@ mod showing;
 mod views;
 mod ways;
 
-pub use answer::RunError;
 pub use bounds_report::QueryBounds;
 pub use driven::Driven;
 pub use laws::{
     ends_are_the_querys, ends_are_the_texts, made_packets_are_whole, no_views_without_number,
-    read_packets_are_few, read_packets_are_whole, read_packets_are_words,
 };
 pub use plan_report::PlanTables;
 pub use query_report::QueryTables;

@@ -4,14 +4,13 @@ ghost use Rattle.std.specs.Prelude.{◌≡◌, ◌*◌, ◌<◌, ◌≤◌, ℕ,
 ghost use Rattle.std.specs.Io.KnownBytes.{Appends};
 ghost use Rattle.std.specs.List.{list_all};
 ghost use Rattle.epoch_model.specs.Epochs.{Geometry};
+ghost use Rattle.stage_plan.specs.Packets.{AreWhole};
 ghost use Rattle.switch_core.specs.PlanLanes.{HavePlaces, PipelineStands, lane_is_drained};
+ghost use Rattle.trace_drive.specs.Answers.{BreaksOff};
 ghost use Rattle.trace_drive.specs.Drives.{coming, end_machines, fault_of, geometry_for, words_of};
-ghost use Rattle.query_run.specs.Answers.{BreaksOff};
 ghost use Rattle.query_run.specs.Reports.{MayPrint, Prints};
-ghost use Rattle.query_run.specs.Runs.{AreWhole};
 ghost use Rattle.query_run.specs.Views.{CanBeViewed, views_text};
 
-use crate::answer::RunError;
 use crate::report::Report;
 use crate::showing::write_end;
 use crate::views::write_views;
@@ -20,7 +19,7 @@ use stage_plan::Plan;
 use std::alloc::Global;
 use std::sync::ledger::Ledger;
 use switch_core::Pipeline;
-use trace_drive::{Packets, Schedule};
+use trace_drive::{Packets, RunError, Schedule};
 
 /// Runs a plan over packets, and writes its report: a view after each packet whose number is a multiple of `every`, none where
 /// that is 0, and at the end the report of all packets. The pipeline represents the machines of the plan's groupbys at the

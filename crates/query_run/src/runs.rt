@@ -3,20 +3,18 @@
 ghost use Rattle.std.specs.Prelude.{◌≡◌, ◌≤◌, ℕ, List, None, IfOk, IfErr};
 ghost use Rattle.std.specs.Io.KnownBytes.{Appends};
 ghost use Rattle.epoch_model.specs.Epochs.{Geometry};
+ghost use Rattle.stage_plan.specs.Packets.{AreWhole};
 ghost use Rattle.switch_core.specs.PlanLanes.{PipelineStands};
+ghost use Rattle.trace_drive.specs.Answers.{BreaksOff};
 ghost use Rattle.trace_drive.specs.Drives.{end_machines, words_of};
 ghost use Rattle.trace_reader.specs.Traces.{trace_fault, packets};
 ghost use Rattle.command_line.specs.Command.{IsSetting};
-ghost use Rattle.query_run.specs.Answers.{BreaksOff};
 ghost use Rattle.query_run.specs.Driven.{IsLeftWith, geometry_of, pipeline_in};
 ghost use Rattle.query_run.specs.Reports.{MayPrint, Prints};
-ghost use Rattle.query_run.specs.Runs.{AreWhole};
 ghost use Rattle.query_run.specs.Views.{views_text};
 
 use crate::acceptance::opened_trace;
-use crate::answer::RunError;
 use crate::driven::Driven;
-use crate::laws::{read_packets_are_few, read_packets_are_whole};
 use crate::report::Report;
 use crate::ways::run_with_its_ways;
 use command_line::Setting;
@@ -24,7 +22,7 @@ use marple_base::{Packet, Seq, Sink, Steps};
 use stage_plan::Plan;
 use std::alloc::Global;
 use std::sync::ledger::Ledger;
-use trace_drive::Packets;
+use trace_drive::{Packets, RunError, read_packets_are_few, read_packets_are_whole};
 
 /// Opens the trace of these bytes for what the plan reads, and runs the plan over its packets. It writes a view of the report
 /// after each packet whose number is a multiple of `every`, none where that is 0, and at the end the report of all packets. A

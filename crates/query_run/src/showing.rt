@@ -5,14 +5,13 @@ ghost use Rattle.std.specs.Io.KnownBytes.{Appends};
 ghost use Rattle.std.specs.List.{list_all};
 ghost use Rattle.epoch_model.specs.Epochs.{Geometry};
 ghost use Rattle.epoch_model.specs.Laws.{HasRoom};
+ghost use Rattle.stage_plan.specs.Packets.{AreWhole};
 ghost use Rattle.switch_core.specs.PlanLanes.{PipelineStands, lane_is_drained};
+ghost use Rattle.trace_drive.specs.Answers.{BreaksOff};
 ghost use Rattle.trace_drive.specs.Drives.{end_machines};
-ghost use Rattle.query_run.specs.Answers.{BreaksOff};
 ghost use Rattle.query_run.specs.Reports.{MayPrint, Prints};
-ghost use Rattle.query_run.specs.Runs.{AreWhole};
 ghost use Rattle.query_run.specs.Views.{IsAsFarAs, view_line, view_text};
 
-use crate::answer::RunError;
 use crate::report::Report;
 use final_queries::Table;
 use itoa::Buffer;
@@ -22,6 +21,7 @@ use std::alloc::{AllocError, Global};
 use std::sync::ledger::Ledger;
 use switch_core::Pipeline;
 use text_buffer::TextBuffer;
+use trace_drive::RunError;
 
 /// Writes these bytes, and then what a report prints of tables: all of it, or some first bytes.
 pub fn write_report<R: Report, O: Sink, L: Ledger>(

@@ -3,24 +3,23 @@
 ghost use Rattle.std.specs.Prelude.{◌≡◌, ◌<◌, ◌≤◌, ℕ, List, IfErr, IfOk, length};
 ghost use Rattle.std.specs.Io.KnownBytes.{Appends};
 ghost use Rattle.epoch_model.specs.Epochs.{Geometry};
+ghost use Rattle.stage_plan.specs.Packets.{AreWhole};
 ghost use Rattle.switch_core.specs.Pipelines.{empty_machines, geometry_of};
 ghost use Rattle.switch_core.specs.PlanLanes.{PipelineStands};
+ghost use Rattle.trace_drive.specs.Answers.{BreaksOff};
 ghost use Rattle.trace_drive.specs.Drives.{coming, fault_of, geometry_for, words_of};
 ghost use Rattle.trace_drive.specs.Follows.{Keeps};
 ghost use Rattle.trace_drive.specs.Replays.{IsUnderWay, fault_in, pipeline_in};
-ghost use Rattle.query_run.specs.Answers.{BreaksOff};
 ghost use Rattle.query_run.specs.Reports.{MayPrint, Prints};
-ghost use Rattle.query_run.specs.Runs.{AreWhole};
 ghost use Rattle.query_run.specs.Views.{CanBeViewed, views_text, views_up_to};
 
-use crate::answer::RunError;
 use crate::report::Report;
 use crate::showing::write_view;
 use marple_base::{Sink, Steps};
 use std::alloc::Global;
 use std::sync::ledger::Ledger;
 use switch_core::Pipeline;
-use trace_drive::{Packets, Replay, Schedule};
+use trace_drive::{Packets, Replay, RunError, Schedule};
 
 /// Writes a view after each packet whose number is a multiple of `every`, and none where that is 0. The packets are taken as
 /// far as the last view needs. The memory of a view is freed before the next one.

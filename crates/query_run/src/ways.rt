@@ -3,16 +3,15 @@
 ghost use Rattle.std.specs.Prelude.{◌≡◌, ◌<◌, ◌≤◌, ℕ, List, None, IfOk, IfErr};
 ghost use Rattle.std.specs.Io.KnownBytes.{Appends};
 ghost use Rattle.epoch_model.specs.Epochs.{Geometry};
+ghost use Rattle.stage_plan.specs.Packets.{AreWhole};
 ghost use Rattle.switch_core.specs.PlanLanes.{PipelineStands};
+ghost use Rattle.trace_drive.specs.Answers.{BreaksOff};
 ghost use Rattle.trace_drive.specs.Drives.{coming, end_machines, fault_of, words_of};
 ghost use Rattle.command_line.specs.Command.{IsSetting};
-ghost use Rattle.query_run.specs.Answers.{BreaksOff};
 ghost use Rattle.query_run.specs.Driven.{IsLeftWith, geometry_of, pipeline_in};
 ghost use Rattle.query_run.specs.Reports.{MayPrint, Prints};
-ghost use Rattle.query_run.specs.Runs.{AreWhole};
 ghost use Rattle.query_run.specs.Views.{CanBeViewed, views_text};
 
-use crate::answer::RunError;
 use crate::driven::Driven;
 use crate::report::Report;
 use crate::run::run_report;
@@ -21,7 +20,7 @@ use marple_base::{Sink, Steps};
 use stage_plan::Plan;
 use std::alloc::Global;
 use std::sync::ledger::Ledger;
-use trace_drive::{Packets, Schedule};
+use trace_drive::{Packets, RunError, Schedule};
 
 // The schedule of a pipeline with this setting: its sizes, and when it does what no packet asks for.
 fn schedule_of(setting: Setting) -> Schedule

@@ -20,24 +20,24 @@ use Rattle.stage_plan.specs.Grouping.{FitsGroup}
 use Rattle.stage_plan.specs.Making.{made_by, all_made}
 
 -- a valid stream after this many others
-record IsBehind (names : ℕ) (folds : List TypedFold) (streams : ℕ) (one : TypedStream) : Type 0 where
+record IsAfter (names : ℕ) (folds : List TypedFold) (streams : ℕ) (one : TypedStream) : Type 0 where
   pub before : List TypedStream
   pub long : length before ≡ streams
   pub valid : IsValidStream names folds before one
 
 beyond : (names : ℕ) (folds : List TypedFold) (before list : List TypedStream) (i : ℕ) (d : TypedStream) → AreValidStreams names folds before list → i < length list →
-    IsBehind names folds (length before + i) (get_or list i d)
+    IsAfter names folds (length before + i) (get_or list i d)
 beyond names folds before [] i d all lt = absurd (omega arith)
 beyond names folds before (one ∷ rest) zero d all lt = record { before = before; long = omega arith; valid = all.0 }
 beyond names folds before (one ∷ rest) (suc i) d all lt =
-    let r : IsBehind names folds (length (before ++ one ∷ []) + i) (get_or rest i d) = beyond names folds (before ++ one ∷ []) rest i d all.1 (omega arith) in
+    let r : IsAfter names folds (length (before ++ one ∷ []) + i) (get_or rest i d) = beyond names folds (before ++ one ∷ []) rest i d all.1 (omega arith) in
     let same : length (before ++ one ∷ []) + i ≡ length before + suc i = omega (arith, length_push before one) in
-    subst (λ n. IsBehind names folds n (get_or rest i d)) same r
+    subst (λ n. IsAfter names folds n (get_or rest i d)) same r
 
-after_none : (q : TypedQuery) → IsValidQuery q → (i : ℕ) (d : TypedStream) → i < length q.streams → IsBehind (length q.names) q.folds i (get_or q.streams i d)
+after_none : (q : TypedQuery) → IsValidQuery q → (i : ℕ) (d : TypedStream) → i < length q.streams → IsAfter (length q.names) q.folds i (get_or q.streams i d)
 after_none q valid i d lt =
     let same : 0 + i ≡ i = omega arith in
-    subst (λ n. IsBehind (length q.names) q.folds n (get_or q.streams i d)) same (beyond (length q.names) q.folds [] q.streams i d valid.streams lt)
+    subst (λ n. IsAfter (length q.names) q.folds n (get_or q.streams i d)) same (beyond (length q.names) q.folds [] q.streams i d valid.streams lt)
 
 inputs_there : (folds : List TypedFold) (before : List TypedStream) (width : ℕ) (op : TypedOp) → IsValidOp folds before width op → HasInputs (length before + 1) op
 inputs_there folds before width (Filter input condition) v = let h = v.0 in omega arith
@@ -81,7 +81,7 @@ pub record Stands (q : TypedQuery) (i : ℕ) (op : TypedOp) : Type 0 where
 
 stands_at : (q : TypedQuery) → IsValidQuery q → (i : ℕ) (d : TypedStream) → i < length q.streams → Stands q i (get_or q.streams i d).op
 stands_at q valid i d lt =
-    let b : IsBehind (length q.names) q.folds i (get_or q.streams i d) = after_none q valid i d lt in
+    let b : IsAfter (length q.names) q.folds i (get_or q.streams i d) = after_none q valid i d lt in
     let v = b.valid.operator in
     record {
       inputs = subst (λ n. HasInputs (n + 1) (get_or q.streams i d).op) b.long (inputs_there q.folds b.before _ _ v);
@@ -147,5 +147,5 @@ group_fits q one before s (Group input keys f args) v =
 
 pub all_fit : (q : TypedQuery) → IsValidQuery q → All (λ one. FitsGroup q one one.op) q.streams
 all_fit q valid = λ k d lt.
-    let b : IsBehind (length q.names) q.folds k (get_or q.streams k d) = after_none q valid k d lt in
+    let b : IsAfter (length q.names) q.folds k (get_or q.streams k d) = after_none q valid k d lt in
     group_fits q (get_or q.streams k d) b.before b.valid (get_or q.streams k d).op b.valid.operator

@@ -10,3 +10,4 @@ pub mod Grouping
 pub mod Marking
 pub mod Counting
 pub mod Placements
+pub mod Packets

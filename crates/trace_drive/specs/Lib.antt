@@ -2,3 +2,5 @@ pub mod Drives
 pub mod Clocks
 pub mod Follows
 pub mod Replays
+pub mod Answers
+pub mod ReadPackets

@@ -17,7 +17,7 @@ loop-i-preserved g c n lane below at =
     let least = ltb-false n i e in
     let same : n ≡ i = omega (arith, below, least) in
     let is : lane_view c.lane-lane.result.now ≡ lane = same_some (lane_view c.lane-lane.result.now) lane (sym c.lane-lane.ensures.lane ∙ (ap (slice_get c.args.pipeline.now.lanes) (sym same) ∙ at)) in
-    subst HasStoredKeys is (record { store = subst IsStore c.store.ensures c.known-in-loop-i.ensures; words = c.invariant.ensures.store.key }))
+    subst HasStoredKeys is (record { store = subst IsStore c.store.ensures c.invariant-in-loop-i.ensures; words = c.invariant.ensures.store.key }))
 
 pub returns : goal.returns
 returns g c n lane at =

@@ -1,7 +1,7 @@
 use Rattle.std.proofs.Common.{[]}
+use Rattle.trace_drive.proofs.Pieces.{TakesFront-piece}
 use Rattle.marple_cli.specs.Piece.{piece_text}
 use Rattle.marple_cli.specs.declared.complaint.Piece.TheVariants.{Text}
-use Rattle.query_run.proofs.Pieces.{TakesFront-piece}
 use Rattle.marple_cli.proofs.complaint.write_pieces.Goals as goal
 
 pub returns-in_err-write-clause-front : goal.returns-in_err-write-clause-front

@@ -1,12 +1,12 @@
 use Rattle.std.proofs.Common.{◌≡◌, None, refl, sym, ap, ◌∙◌, subst}
 use Rattle.std.specs.Io.KnownBytes.{Appends}
+use Rattle.stage_plan.specs.Packets.{AreWhole}
 use Rattle.command_line.specs.declared.command.Command.TheVariants.{Trial}
-use Rattle.query_run.specs.Answers.{BreaksOff}
 use Rattle.query_run.specs.Driven.{geometry_of, pipeline_in}
-use Rattle.query_run.specs.Runs.{AreWhole}
 use Rattle.query_run.proofs.MadePackets.{simulated_whole}
 use Rattle.query_tables.specs.Tables.{query_text}
 use Rattle.switch_core.specs.PlanLanes.{PipelineStands}
+use Rattle.trace_drive.specs.Answers.{BreaksOff}
 use Rattle.trace_drive.specs.Drives.{end_machines, words_of}
 use Rattle.marple_cli.specs.Driven.{StandsForEnd}
 use Rattle.marple_cli.specs.Ends.{status_for}

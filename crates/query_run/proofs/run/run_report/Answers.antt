@@ -2,15 +2,15 @@ use Rattle.std.proofs.Common.{◌≡◌, ℕ, List, Some, lit<, sym, ◌∙◌, 
 use Rattle.epoch_model.specs.Epochs.{Geometry}
 use Rattle.stage_plan.specs.Sound.{PlanParts}
 use Rattle.switch_core.specs.PlanLanes.{PipelineStands}
+use Rattle.trace_drive.specs.Answers.{BreaksOff, answer_for}
 use Rattle.trace_drive.specs.Drives.{coming, end_machines, fault_of, geometry_for, words_of}
 use Rattle.trace_drive.specs.Replays.{pipeline_in}
+use Rattle.trace_drive.specs.declared.answer.RunError.TheVariants.{Memory}
+use Rattle.trace_drive.proofs.Breaking.{err_is, out_of_memory}
 use Rattle.trace_drive.proofs.Ending.{places_kept}
 use Rattle.trace_reader.specs.Faults.{IfRefused}
-use Rattle.query_run.specs.Answers.{BreaksOff, answer_for}
 use Rattle.query_run.specs.Reports.{MayPrint, Prints}
 use Rattle.query_run.specs.Views.{views_text}
-use Rattle.query_run.specs.declared.answer.RunError.TheVariants.{Memory}
-use Rattle.query_run.proofs.Breaking.{err_is, out_of_memory}
 use Rattle.query_run.proofs.Viewing.{all_written, end_broke, rest_broke}
 use Rattle.query_run.proofs.run.run_report.Goals as goal
 

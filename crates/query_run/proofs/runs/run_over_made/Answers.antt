@@ -1,11 +1,11 @@
 use Rattle.std.proofs.Common.{ℕ, List, None, subst}
 use Rattle.std.specs.Io.KnownBytes.{Appends}
 use Rattle.epoch_model.specs.Epochs.{Geometry}
+use Rattle.trace_drive.specs.Answers.{BreaksOff}
 use Rattle.trace_drive.specs.Drives.{words_of}
-use Rattle.query_run.specs.Answers.{BreaksOff}
+use Rattle.trace_drive.proofs.Breaking.{err_is}
 use Rattle.query_run.specs.Driven.{geometry_of}
 use Rattle.query_run.specs.Reports.{Prints}
-use Rattle.query_run.proofs.Breaking.{err_is}
 use Rattle.query_run.proofs.ViewTexts.{tables_alone}
 use Rattle.query_run.proofs.runs.run_over_made.Goals as goal
 

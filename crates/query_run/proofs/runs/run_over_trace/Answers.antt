@@ -1,14 +1,14 @@
 use Rattle.std.proofs.Common.{◌≡◌, ℕ, List, Some, [], refl, subst}
 use Rattle.std.proofs.KnownBytes.{Appends-nil}
 use Rattle.epoch_model.specs.Epochs.{Geometry}
+use Rattle.trace_drive.specs.Answers.{BreaksOff, answer_for}
 use Rattle.trace_drive.specs.Drives.{words_of}
+use Rattle.trace_drive.proofs.Breaking.{err_is, reader_breaks}
 use Rattle.trace_reader.specs.Faults.{IfRefused}
 use Rattle.trace_reader.specs.Traces.{packets, trace_fault}
-use Rattle.query_run.specs.Answers.{BreaksOff, answer_for}
 use Rattle.query_run.specs.Driven.{geometry_of}
 use Rattle.query_run.specs.Reports.{Prints}
 use Rattle.query_run.specs.Views.{views_text}
-use Rattle.query_run.proofs.Breaking.{err_is, reader_breaks}
 use Rattle.query_run.proofs.runs.run_over_trace.Goals as goal
 
 pub returns-in_err-trace-clause-breaks_off : goal.returns-in_err-trace-clause-breaks_off

@@ -2,14 +2,14 @@ use Rattle.std.proofs.Common.{◌≡◌, ℕ, List, None, ◌++◌, sym, ap, ◌
 use Rattle.std.specs.Io.KnownBytes.{Appends}
 use Rattle.epoch_model.specs.Epochs.{Geometry}
 use Rattle.epoch_model.specs.Laws.{HasRoom}
+use Rattle.stage_plan.specs.Packets.{AreWhole}
 use Rattle.stage_plan.specs.Sound.{IsSoundPlan}
 use Rattle.switch_core.specs.PlanLanes.{AreLanesOf, PipelineStands}
+use Rattle.trace_drive.specs.Answers.{BreaksOff}
 use Rattle.trace_drive.specs.Drives.{end_machines}
-use Rattle.query_run.specs.Answers.{BreaksOff}
+use Rattle.trace_drive.specs.declared.answer.RunError.TheVariants.{Memory}
+use Rattle.trace_drive.proofs.Breaking.{err_is, nothing_taken, then_err, then_ok}
 use Rattle.query_run.specs.Reports.{Prints}
-use Rattle.query_run.specs.Runs.{AreWhole}
-use Rattle.query_run.specs.declared.answer.RunError.TheVariants.{Memory}
-use Rattle.query_run.proofs.Breaking.{err_is, nothing_taken, then_err, then_ok}
 use Rattle.query_run.proofs.showing.write_end.Goals as goal
 
 pub write_report-requires : goal.write_report-requires

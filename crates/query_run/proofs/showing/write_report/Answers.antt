@@ -1,8 +1,8 @@
 use Rattle.std.proofs.Common.{Err, None, ◌++◌, ap, refl}
-use Rattle.query_run.specs.Answers.{BreaksOff, answer_of}
-use Rattle.query_run.specs.declared.answer.RunError.TheVariants.{Failed}
 use Rattle.text_buffer.proofs.Pieces.{front_taken, rest_taken}
-use Rattle.query_run.proofs.Breaking.{err_is, rose_since, unwritten}
+use Rattle.trace_drive.specs.Answers.{BreaksOff, answer_of}
+use Rattle.trace_drive.specs.declared.answer.RunError.TheVariants.{Failed}
+use Rattle.trace_drive.proofs.Breaking.{err_is, rose_since, unwritten}
 use Rattle.query_run.proofs.showing.write_report.Goals as goal
 
 pub returns-in_err-print-clause-breaks_off : goal.returns-in_err-print-clause-breaks_off

@@ -3,11 +3,11 @@ use Rattle.std.specs.Io.KnownBytes.{Appends}
 use Rattle.epoch_model.specs.Epochs.{Geometry}
 use Rattle.stage_plan.specs.Sound.{IsSoundPlan}
 use Rattle.switch_core.specs.PlanLanes.{AreLanesOf}
-use Rattle.query_run.specs.Answers.{BreaksOff}
+use Rattle.trace_drive.specs.Answers.{BreaksOff}
+use Rattle.trace_drive.specs.declared.answer.RunError.TheVariants.{Memory}
+use Rattle.trace_drive.proofs.Breaking.{err_is, nothing_taken, then_err, then_ok}
 use Rattle.query_run.specs.Reports.{Prints}
 use Rattle.query_run.specs.Views.{IsAsFarAs, view_text}
-use Rattle.query_run.specs.declared.answer.RunError.TheVariants.{Memory}
-use Rattle.query_run.proofs.Breaking.{err_is, nothing_taken, then_err, then_ok}
 use Rattle.query_run.proofs.Seen.{seen_tables, seen_whole}
 use Rattle.query_run.proofs.showing.write_view.Goals as goal
 

@@ -3,15 +3,15 @@ use Rattle.std.proofs.KnownBytes.{Appends-nil}
 use Rattle.std.specs.Io.KnownBytes.{Appends}
 use Rattle.epoch_model.specs.Epochs.{Geometry}
 use Rattle.switch_core.specs.PlanLanes.{PipelineView}
+use Rattle.trace_drive.specs.Answers.{BreaksOff, answer_for}
 use Rattle.trace_drive.specs.Drives.{coming, fault_of, geometry_for, words_of}
 use Rattle.trace_drive.specs.Follows.{Keeps}
 use Rattle.trace_drive.specs.Replays.{pipeline_in}
+use Rattle.trace_drive.proofs.Breaking.{err_is}
 use Rattle.trace_drive.proofs.Following.{keeps_along}
 use Rattle.trace_reader.specs.Faults.{IfRefused}
-use Rattle.query_run.specs.Answers.{BreaksOff, answer_for}
 use Rattle.query_run.specs.Reports.{MayPrint, Prints}
 use Rattle.query_run.specs.Views.{IsAsFarAs, views_text}
-use Rattle.query_run.proofs.Breaking.{err_is}
 use Rattle.query_run.proofs.ViewTexts.{next_multiple}
 use Rattle.query_run.proofs.Viewing.{all_shown, as_far, first_multiple, none_asked, none_yet, one_written, reader_broke, view_broke}
 use Rattle.query_run.proofs.views.write_views.Goals as goal

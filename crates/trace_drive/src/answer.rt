@@ -1,8 +1,8 @@
 //! Why a run over packets breaks off.
 
 ghost use Rattle.std.specs.Prelude.{◌≡◌};
-ghost use Rattle.query_run.specs.Answers.{answer_for, answer_of};
-ghost use Rattle.query_run.specs.declared.answer.RunError.TheVariants.{Failed as WriteFailed, Memory as OutOfMemory};
+ghost use Rattle.trace_drive.specs.Answers.{answer_for, answer_of};
+ghost use Rattle.trace_drive.specs.declared.answer.RunError.TheVariants.{Failed as WriteFailed, Memory as OutOfMemory};
 
 use marple_base::Failed;
 use std::alloc::AllocError;

@@ -6,16 +6,16 @@ use Rattle.std.proofs.KnownBytes.{Appends-nil}
 use Rattle.std.specs.Io.KnownBytes.{Appends}
 use Rattle.marple_base.specs.Faults.{Rose}
 use Rattle.marple_base.specs.Sink.{TakesFront}
-use Rattle.query_run.specs.Answers.{BreaksOff, answer_for, answer_of, text_unless}
-use Rattle.query_run.specs.declared.answer.RunError.{RunError}
-use Rattle.query_run.specs.declared.answer.RunError.TheVariants.{Refused, Memory, Failed}
 use Rattle.text_buffer.specs.declared.answer.WriteError.{WriteError}
 use Rattle.text_buffer.specs.declared.answer.WriteError.TheVariants as writes
 use Rattle.trace_reader.specs.Faults.{IfRefused}
 use Rattle.trace_reader.specs.declared.fault.TraceAnswer.{TraceAnswer}
 use Rattle.trace_reader.specs.declared.fault.TraceAnswer.TheVariants as answers
 use Rattle.trace_reader.specs.declared.fault.TraceFault.{TraceFault}
-use Rattle.query_run.proofs.Pieces.{TakesFront-more}
+use Rattle.trace_drive.specs.Answers.{BreaksOff, answer_for, answer_of, text_unless}
+use Rattle.trace_drive.specs.declared.answer.RunError.{RunError}
+use Rattle.trace_drive.specs.declared.answer.RunError.TheVariants.{Refused, Memory, Failed}
+use Rattle.trace_drive.proofs.Pieces.{TakesFront-more}
 
 -- a fact about the answer in a result
 pub err_is : {A E : Type 0} (P : E → Type 0) (result : Result A E) (answer : E) → IsErrAnd result (λ found. found ≡ answer) → P answer → IfErr result P

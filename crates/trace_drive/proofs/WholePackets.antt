@@ -11,8 +11,8 @@ use Rattle.marple_base.specs.declared.field.Packet.{Packet}
 use Rattle.trace_reader.specs.Reading.{records}
 use Rattle.trace_reader.specs.Traces.{Layout, Contents, each, with_first, column_of, columns_of, word_at, words_of, packet_with, packet_of, with_packet, contents_from, layout_with, layout_of, opening, rest_of, contents_with, contents, packets, most_bytes, most_records}
 use Rattle.trace_reader.specs.declared.fault.TraceFault.{TraceFault}
+use Rattle.stage_plan.specs.Packets.{AreWhole}
 use Rattle.trace_drive.specs.Drives as drives
-use Rattle.query_run.specs.Runs.{AreWhole}
 
 same_ok : {A E : Type 0} (x y : A) → (let r : Result A E = Ok x in r) ≡ Ok y → x ≡ y
 same_ok x y e = cc

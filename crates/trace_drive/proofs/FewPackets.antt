@@ -6,7 +6,7 @@ use Rattle.marple_base.specs.declared.field.Packet.{Packet}
 use Rattle.trace_reader.specs.Reading.{records}
 use Rattle.trace_reader.specs.Traces.{Layout, contents_from, contents_with, contents, most_records, opening, packet_of, rest_of, with_packet}
 use Rattle.trace_reader.specs.declared.fault.TraceFault.{TraceFault}
-use Rattle.query_run.specs.Runs.{ReadPacketsAreFew}
+use Rattle.trace_drive.specs.ReadPackets.{ReadPacketsAreFew}
 
 -- a record beyond the limit gives no packet
 none_beyond : (layout : Layout) (n : ℕ) (fields : List (List ℕ)) (p : Packet) → most_records + 1 ≤ n → packet_of layout n fields ≡ Ok p → ⊥

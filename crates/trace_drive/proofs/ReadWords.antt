@@ -14,11 +14,11 @@ use Rattle.marple_base.specs.declared.field.Field.TheVariants as field
 use Rattle.marple_base.specs.declared.field.Packet.{Packet}
 use Rattle.query_lang.specs.Words.{AreWords, IsWord}
 use Rattle.trace_drive.specs.Drives as drives
+use Rattle.trace_drive.specs.ReadPackets.{ReadPacketsAreOfWords}
 use Rattle.trace_reader.specs.Numbers.{decimal_word, first_some, further_word, infinity_word, is_dot, number_in, octet_word, quad_of, without_blanks, word_of}
 use Rattle.trace_reader.specs.Reading.{records}
 use Rattle.trace_reader.specs.Traces.{Contents, Layout, contents, contents_from, contents_with, each, most_records, opening, packet_of, packet_with, rest_of, text_at, with_first, with_packet, word_at, words_of}
 use Rattle.trace_reader.specs.declared.fault.TraceFault.{TraceFault}
-use Rattle.query_run.specs.Runs.{ReadPacketsAreOfWords}
 
 -- numbers
 
