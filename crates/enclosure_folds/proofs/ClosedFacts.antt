@@ -22,7 +22,7 @@ use Rattle.epoch_model.proofs.KeyOrder.{ascending-ascends, has-ascending}
 use Rattle.epoch_model.proofs.Rows.{no_row_is_lost_lem}
 use Rattle.epoch_model.proofs.TableRows.{some, has-some, closed-lists, exact_rows_fold_all_packets_lem, flat_map-single}
 use Rattle.fold_class.specs.Kinds.{class_of}
-use Rattle.epoch_entry.specs.Bounds.{bounds_after, IsBoundsKindOf}
+use Rattle.epoch_entry.specs.Bounds.{IsBoundsKindOf}
 use Rattle.epoch_entry.specs.Foldings.{folding_of, per_epoch}
 use Rattle.epoch_entry.specs.Kinds.{Sizes}
 use Rattle.epoch_entry.specs.Purposes.{IsBoundingKind}

@@ -27,7 +27,7 @@ use Rattle.final_queries.specs.declared.table.TableKind.TheVariants.{Group}
 use Rattle.final_queries.specs.GroupTable.{Heading}
 use Rattle.enclosure_folds.specs.declared.table.BoundsRow.{BoundsRow}
 use Rattle.enclosure_folds.specs.declared.table.BoundsTable.{BoundsTable}
-use Rattle.enclosure_folds.specs.Bounds.{last_or, low_bound, high_bound, all_rows, Encloses}
+use Rattle.enclosure_folds.specs.Bounds.{last_or, all_rows, Encloses}
 use Rattle.enclosure_folds.specs.BoundsTables.{HasBounds}
 use Rattle.enclosure_folds.specs.KeyBounds.{key_bounds, listed_bounds, table_bounds, goes_on, row_bounds, bounds_in, low_in, high_in, states_in, rows_of, EpochRowsGiveBounds, KeyBoundsEnclose, TriplesGiveWholeTables}
 use Rattle.enclosure_folds.proofs.BoundLemmas.{last_map, some_pieces, enclosed}

@@ -24,7 +24,7 @@ use Rattle.enclosure_folds.specs.declared.table.Enclosed.{Enclosed}
 use Rattle.enclosure_folds.specs.declared.table.Enclosed.TheVariants as enclosed
 use Rattle.enclosure_folds.specs.Bounds.{Encloses}
 use Rattle.enclosure_folds.specs.Check.{is_bounded}
-use Rattle.enclosure_folds.specs.Holding.{HoldsFor, HoldsAfter, TakesWords}
+use Rattle.enclosure_folds.specs.Holding.{HoldsAfter, TakesWords}
 use Rattle.enclosure_folds.specs.KeyBounds.{listed_bounds}
 use Rattle.enclosure_folds.specs.Shown.{IsHeadingOf, MayBeShown, shown}
 

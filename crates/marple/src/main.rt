@@ -39,7 +39,7 @@ fn run<L: Ledger>(rt: HostRuntime, alloc: Global, words: &[String], blank: Blank
     let mut out = StdSink::output(rt);
     let mut err = StdSink::error(rt);
     let mut driven = None;
-    marple(
+    let status = marple(
         alloc,
         words,
         &mut inputs,
@@ -47,8 +47,9 @@ fn run<L: Ledger>(rt: HostRuntime, alloc: Global, words: &[String], blank: Blank
         &mut err,
         &mut driven,
         &mut steps,
-    )
-    .number()
+    );
+    drop(driven);
+    status.number()
 }
 
 fn main(rt: HostRuntime) -> ExitCode {

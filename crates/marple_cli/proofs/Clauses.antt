@@ -10,8 +10,8 @@ use Rattle.command_line.specs.declared.command.Command.{Command}
 use Rattle.marple_cli.specs.Call.{Holds, IsBeforeOutput, IsBeforeTrace, Takes, WhereQueryTold, WhereTold}
 use Rattle.marple_cli.specs.Ends.{Answers, Ends, QueryTold}
 use Rattle.marple_cli.specs.Output.{IsRead, Source, refusal, takes, trace_refusal}
-use Rattle.marple_cli.specs.declared.status.Status.{Status}
-use Rattle.marple_cli.specs.declared.status.Status.TheVariants as statuses
+use Rattle.command_answers.specs.declared.status.Status.{Status}
+use Rattle.command_answers.specs.declared.status.Status.TheVariants as statuses
 
 not_true : (b : Bool) → (b ≡ true → ⊥) → b ≡ false
 not_true true other = absurd (other refl)

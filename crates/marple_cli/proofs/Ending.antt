@@ -41,11 +41,13 @@ use Rattle.query_run.specs.declared.driven.Driven.{Driven}
 use Rattle.query_run.proofs.QueryEnds.{machines_are}
 use Rattle.marple_cli.specs.Call.{ToldOf}
 use Rattle.marple_cli.specs.Driven.{DrivenAfter, Leaves, StandsForEnd}
-use Rattle.marple_cli.specs.Ends.{Ends, OperandEnds, QueryEnds, QueryTold, ReadEnds, TraceEnds, WriteEnds, status_for, status_of}
-use Rattle.marple_cli.specs.Output.{IsAccepted, IsRead, Source, defined_text, fault_after, fault_for, fault_with, output, read_packets, refusal, run_text, stages_text, tables_text, made_packets, takes, trace_refusal}
+use Rattle.command_answers.specs.Phases.{OperandEnds, QueryEnds, ReadEnds, TraceEnds, WriteEnds, status_for}
+use Rattle.marple_cli.specs.Ends.{Ends, QueryTold, status_of}
+use Rattle.command_answers.specs.OwnChecks.{fault_after, fault_with}
+use Rattle.marple_cli.specs.Output.{IsAccepted, IsRead, Source, defined_text, fault_for, output, read_packets, refusal, run_text, stages_text, tables_text, made_packets, takes, trace_refusal}
 use Rattle.accepted_query.specs.TrialQuery.{trial_query}
-use Rattle.marple_cli.specs.declared.status.Status.{Status}
-use Rattle.marple_cli.specs.declared.status.Status.TheVariants as statuses
+use Rattle.command_answers.specs.declared.status.Status.{Status}
+use Rattle.command_answers.specs.declared.status.Status.TheVariants as statuses
 
 -- a fact about the bytes of an input, where they are known
 pub told : {A : Type 0} (P : A → Type 0) (left : Option A) (x : A) → IfSome left P → left ≡ Some x → P x

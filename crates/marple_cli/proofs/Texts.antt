@@ -19,7 +19,8 @@ use Rattle.query_run.proofs.ViewTexts.{tables_alone}
 use Rattle.trace_drive.specs.Drives.{words_of}
 use Rattle.plan_writer.specs.PlanText.{compiled_text, final_fault}
 use Rattle.marple_cli.specs.Call.{ToldOf}
-use Rattle.marple_cli.specs.Output.{Source, enclosures_text, fault_after, fault_for, network_text, of_accepted, output, trace_refusal}
+use Rattle.command_answers.specs.OwnChecks.{fault_after}
+use Rattle.marple_cli.specs.Output.{Source, enclosures_text, fault_for, network_text, of_accepted, output, trace_refusal}
 use Rattle.marple_cli.proofs.Ending.{IsText, told}
 
 module _ (before : Which → Input) (found : TypedQuery) (known : IfSome (before Query).left (λ query. accepted query ≡ Ok found)) where

@@ -12,12 +12,13 @@ use Rattle.trace_drive.specs.Answers.{BreaksOff}
 use Rattle.trace_drive.specs.declared.answer.RunError.{RunError}
 use Rattle.command_line.specs.declared.command.Command.{Command}
 use Rattle.marple_cli.specs.Call.{ToldOf}
-use Rattle.marple_cli.specs.Ends.{Ends, QueryTold, ReadEnds, TraceEnds, status_for, status_of}
+use Rattle.command_answers.specs.Phases.{ReadEnds, TraceEnds, status_for}
+use Rattle.marple_cli.specs.Ends.{Ends, QueryTold, status_of}
 use Rattle.marple_cli.specs.Output.{output, refusal, takes, trace_refusal}
-use Rattle.marple_cli.specs.declared.status.Status.{Status}
-use Rattle.marple_cli.specs.declared.status.Status.TheVariants as statuses
+use Rattle.command_answers.specs.declared.status.Status.{Status}
+use Rattle.command_answers.specs.declared.status.Status.TheVariants as statuses
 use Rattle.marple_cli.proofs.Ending.{trace_ends_it, trace_written}
-use Rattle.marple_cli.proofs.Limits.{read_ends, told_contents, trace_ends}
+use Rattle.command_answers.proofs.Limits.{read_ends, told_contents, trace_ends}
 
 -- A command over a trace refuses it for this fault of its bytes, and writes this text for them. The trace was unread until then.
 module _ {O : Type 0} (taken : O → Option (List ℕ)) (faults : O → ℕ) (command : Command) (before middle after : Which → Input) (accepts : QueryTold command before (λ query. refusal command query ≡ None))

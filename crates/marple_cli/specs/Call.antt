@@ -9,8 +9,8 @@ use Rattle.marple_base.specs.declared.inputs.Which.TheVariants.{Query, Trace}
 use Rattle.command_line.specs.Command.{asked}
 use Rattle.command_line.specs.declared.command.Command.{Command}
 use Rattle.marple_cli.specs.Output.{IsAccepted, IsRead, Source, output, takes}
-use Rattle.marple_cli.specs.declared.status.Status.{Status}
-use Rattle.marple_cli.specs.declared.status.Status.TheVariants as statuses
+use Rattle.command_answers.specs.declared.status.Status.{Status}
+use Rattle.command_answers.specs.declared.status.Status.TheVariants as statuses
 
 -- the command that the words of a command line ask for
 abbrev pub asked_by : {A : Type 0} → List (String A) → Option Command

@@ -19,8 +19,8 @@ use Rattle.command_line.specs.declared.command.Command.TheVariants.{Run, RunPlan
 use Rattle.command_line.specs.declared.setting.Setting.{Setting}
 use Rattle.query_run.specs.Driven.{IsLeftBy, geometry_of, pipeline_in}
 use Rattle.query_run.specs.declared.driven.Driven.{Driven}
-use Rattle.marple_cli.specs.declared.status.Status.{Status}
-use Rattle.marple_cli.specs.declared.status.Status.TheVariants as statuses
+use Rattle.command_answers.specs.declared.status.Status.{Status}
+use Rattle.command_answers.specs.declared.status.Status.TheVariants as statuses
 use Rattle.marple_cli.specs.Call.{ToldOf}
 use Rattle.marple_cli.specs.Output.{read_packets, made_packets}
 use Rattle.accepted_query.specs.TrialQuery.{trial_query}

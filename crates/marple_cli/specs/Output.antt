@@ -1,5 +1,5 @@
 -- Which queries and traces are accepted, and what a command writes: each definition has one case for each command.
-use Rattle.std.specs.Prelude.{◌≡◌, ℕ, Bool, true, false, List, [], Option, None, Some, is_some, Ok, Err, ⊤}
+use Rattle.std.specs.Prelude.{◌≡◌, ℕ, Bool, true, false, List, [], Option, None, is_some, Ok, Err, ⊤}
 use Rattle.std.specs.Prelude.{if◌then◌else◌}
 use Rattle.marple_base.specs.declared.field.Packet.{Packet}
 use Rattle.marple_base.specs.declared.inputs.Which.{Which}
@@ -36,6 +36,7 @@ use Rattle.plan_file.specs.declared.answer.PlanFileAnswer.TheVariants.{Refused}
 use Rattle.plan_file.specs.declared.made.Made.{Made}
 use Rattle.plan_loader.specs.Meaning.{plan_output, reads_in}
 use Rattle.accepted_query.specs.TrialQuery.{trial_query}
+use Rattle.command_answers.specs.OwnChecks.{fault_after, fault_with}
 
 -- The text of the first operand, and where it is run as a plan, what its lines make or the fault for which it is refused.
 pub record Source : Type 0 where
@@ -69,15 +70,6 @@ takes (RunPlan setting) which = true
 abbrev pub of_accepted : {A X : Type 0} → A → (X → A) → Checked X → A
 of_accepted refused say (Ok q) = say q
 of_accepted refused say (Err fault) = refused
-
--- the fault of a query or a plan, or where it has none, the fault that a command's own check finds in it
-abbrev pub fault_after : {X : Type 0} → (X → Option QueryFault) → Checked X → Option QueryFault
-fault_after own (Ok q) = own q
-fault_after own (Err fault) = Some fault
-
--- the first fault of a query's text for a command that has a check of its own: its faults come after all others
-abbrev pub fault_with : (TypedQuery → Option QueryFault) → List ℕ → Option QueryFault
-fault_with own query = fault_after own (accepted query)
 
 -- Why the command refuses its query, where it does: the query's first fault. Where there is none, `net` refuses a groupby
 -- that doesn't combine, `enclose` one that has no bounds, and `compile` a final. The text of a plan is refused where it

@@ -3,8 +3,7 @@ ghost use Rattle.std.specs.Prelude.{◌≡◌, ◌≤◌};
 ghost use Rattle.marple_base.specs.Inputs.{IsClosed};
 ghost use Rattle.marple_cli.specs.Ends.{Ends, status_of};
 
-use crate::checked::query_for_plan;
-use crate::status::Status;
+use command_answers::{Status, query_for_plan};
 use command_line::Command;
 use marple_base::{Inputs, Sink, Which, write_all};
 use plan_writer::plan_file_text;
@@ -19,7 +18,9 @@ pub fn compile<I: Inputs, O: Sink>(alloc: Global, inputs: &mut I, out: &mut O) -
     ensures out_later { O.faults out.old ≤ O.faults out.new }
 {
     let query = query_for_plan(alloc, inputs)?;
-    let text = plan_file_text(alloc, &query.typed, &query.plan)?;
+    let made = plan_file_text(alloc, &query.typed, &query.plan);
+    drop(query);
+    let text = made?;
     write_all(out, text.as_slice())?;
     Ok(())
 }

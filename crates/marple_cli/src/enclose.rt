@@ -4,10 +4,8 @@ ghost use Rattle.marple_base.specs.Inputs.{IsClosed};
 ghost use Rattle.command_line.specs.Command.{IsSetting};
 ghost use Rattle.marple_cli.specs.Ends.{Ends, status_of};
 
-use crate::checked::query_for_bounds;
-use crate::operands::read_trace;
-use crate::status::Status;
 use accepted_query::AcceptedQuery;
+use command_answers::{Status, query_for_bounds, read_trace};
 use command_line::{Command, Setting};
 use marple_base::{Inputs, Sink, Steps, Which};
 use query_run::{QueryBounds, run_over_trace};
@@ -33,10 +31,16 @@ pub fn enclose<I: Inputs, O: Sink, L: Ledger>(
     ensures steps { steps.old ≤ steps.new }
 {
     let query = query_for_bounds(alloc, inputs)?;
-    let bytes = read_trace(alloc, inputs)?;
+    let bytes = match read_trace(alloc, inputs) {
+        Ok(bytes) => bytes,
+        Err(status) => {
+            drop(query);
+            return Err(status);
+        }
+    };
     let AcceptedQuery { typed, plan } = query;
     let report = QueryBounds::of(typed);
-    let _left = run_over_trace(
+    let ran = run_over_trace(
         alloc,
         setting,
         0,
@@ -45,6 +49,10 @@ pub fn enclose<I: Inputs, O: Sink, L: Ledger>(
         bytes.as_slice(),
         out,
         steps,
-    )?;
+    );
+    drop(report);
+    drop(bytes);
+    let left = ran?;
+    drop(left);
     Ok(())
 }

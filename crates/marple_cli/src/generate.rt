@@ -5,7 +5,7 @@ ghost use Rattle.marple_base.specs.declared.inputs.Which.{Which as AnyWhich};
 ghost use Rattle.command_line.specs.Command.{IsGeneration};
 ghost use Rattle.marple_cli.specs.Ends.{Ends, status_of};
 
-use crate::status::Status;
+use command_answers::Status;
 use command_line::{Command, Generation};
 use marple_base::Sink;
 use queue_sim::{WriteError, write_trace};

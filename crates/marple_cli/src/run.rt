@@ -5,9 +5,8 @@ ghost use Rattle.command_line.specs.Command.{IsSetting};
 ghost use Rattle.marple_cli.specs.Driven.{DrivenAfter};
 ghost use Rattle.marple_cli.specs.Ends.{Ends, status_of};
 
-use crate::operands::{read_query, read_trace};
-use crate::status::Status;
 use accepted_query::AcceptedQuery;
+use command_answers::{Status, read_query, read_trace};
 use command_line::{Command, Setting};
 use marple_base::{Inputs, Sink, Steps, Which};
 use query_run::{Driven, QueryTables, run_over_trace};
@@ -36,10 +35,16 @@ pub fn run<I: Inputs, O: Sink, L: Ledger>(
     ensures steps { steps.old ≤ steps.new }
 {
     let query = read_query(alloc, inputs)?;
-    let bytes = read_trace(alloc, inputs)?;
+    let bytes = match read_trace(alloc, inputs) {
+        Ok(bytes) => bytes,
+        Err(status) => {
+            drop(query);
+            return Err(status);
+        }
+    };
     let AcceptedQuery { typed, plan } = query;
     let report = QueryTables::of(typed);
-    let left = run_over_trace(
+    let ran = run_over_trace(
         alloc,
         setting,
         every,
@@ -48,7 +53,10 @@ pub fn run<I: Inputs, O: Sink, L: Ledger>(
         bytes.as_slice(),
         out,
         steps,
-    )?;
+    );
+    drop(report);
+    drop(bytes);
+    let left = ran?;
     *driven = Some(left);
     Ok(())
 }

@@ -5,8 +5,7 @@ ghost use Rattle.command_line.specs.Command.{IsSetting};
 ghost use Rattle.marple_cli.specs.Driven.{DrivenAfter};
 ghost use Rattle.marple_cli.specs.Ends.{Ends, status_of};
 
-use crate::operands::{read_plan_text, read_trace};
-use crate::status::Status;
+use command_answers::{Status, read_plan_text, read_trace};
 use command_line::{Command, Setting};
 use marple_base::{Inputs, Sink, Steps, Which};
 use plan_loader::LoadedPlan;
@@ -35,10 +34,16 @@ pub fn run_plan<I: Inputs, O: Sink, L: Ledger>(
     ensures steps { steps.old ≤ steps.new }
 {
     let loaded = read_plan_text(alloc, inputs)?;
-    let bytes = read_trace(alloc, inputs)?;
+    let bytes = match read_trace(alloc, inputs) {
+        Ok(bytes) => bytes,
+        Err(status) => {
+            drop(loaded);
+            return Err(status);
+        }
+    };
     let LoadedPlan { plan, prints } = loaded;
     let report = PlanTables::of(prints);
-    let left = run_over_trace(
+    let ran = run_over_trace(
         alloc,
         setting,
         0,
@@ -47,7 +52,10 @@ pub fn run_plan<I: Inputs, O: Sink, L: Ledger>(
         bytes.as_slice(),
         out,
         steps,
-    )?;
+    );
+    drop(report);
+    drop(bytes);
+    let left = ran?;
     *driven = Some(left);
     Ok(())
 }

@@ -3,8 +3,7 @@ ghost use Rattle.std.specs.Prelude.{◌≡◌, ◌≤◌};
 ghost use Rattle.marple_base.specs.Inputs.{IsClosed};
 ghost use Rattle.marple_cli.specs.Ends.{Ends, status_of};
 
-use crate::operands::read_query;
-use crate::status::Status;
+use command_answers::{Status, read_query};
 use command_line::{Command, Ways};
 use marple_base::{Inputs, Sink, Which, write_all};
 use stage_plan::plan_text;
@@ -24,7 +23,9 @@ pub fn write_stages<I: Inputs, O: Sink>(
     ensures out_later { O.faults out.old ≤ O.faults out.new }
 {
     let query = read_query(alloc, inputs)?;
-    let text = plan_text(alloc, &query.plan, ways.number())?;
+    let made = plan_text(alloc, &query.plan, ways.number());
+    drop(query);
+    let text = made?;
     write_all(out, text.as_slice())?;
     Ok(())
 }

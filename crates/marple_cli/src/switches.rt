@@ -4,9 +4,7 @@ ghost use Rattle.marple_base.specs.Inputs.{IsClosed};
 ghost use Rattle.command_line.specs.Command.{IsNetSetting};
 ghost use Rattle.marple_cli.specs.Ends.{Ends, status_of};
 
-use crate::checked::query_for_net;
-use crate::operands::read_trace;
-use crate::status::Status;
+use command_answers::{Status, query_for_net, read_trace};
 use command_line::{Command, NetSetting};
 use driven_net::net_over_trace;
 use marple_base::{Inputs, Sink, Steps, Which};
@@ -32,7 +30,13 @@ pub fn run_network<I: Inputs, O: Sink, L: Ledger>(
     ensures steps { steps.old ≤ steps.new }
 {
     let query = query_for_net(alloc, inputs)?;
-    let bytes = read_trace(alloc, inputs)?;
+    let bytes = match read_trace(alloc, inputs) {
+        Ok(bytes) => bytes,
+        Err(status) => {
+            drop(query);
+            return Err(status);
+        }
+    };
     net_over_trace(alloc, setting, query, bytes.as_slice(), out, steps)?;
     Ok(())
 }

@@ -6,14 +6,13 @@ ghost use Rattle.marple_base.specs.Inputs.{IsClosed};
 ghost use Rattle.marple_base.specs.Sink.{TakesFront};
 ghost use Rattle.marple_cli.specs.Call.{IsBeforeOutput, IsBeforeTrace, IsQuiet, Takes, WhereQueryTold, WhereTold, WritesFront};
 ghost use Rattle.marple_cli.specs.Call.{WritesOutput, asked_by};
-ghost use Rattle.marple_cli.specs.Complaint.{complaint};
+ghost use Rattle.command_answers.specs.Complaint.{complaint};
 ghost use Rattle.marple_cli.specs.Driven.{DrivenAfter};
 ghost use Rattle.marple_cli.specs.Ends.{Answers};
 ghost use Rattle.marple_cli.specs.Output.{IsAccepted, refusal, trace_refusal, defined_text};
 
-use crate::complaint::complain;
 use crate::perform::perform;
-use crate::status::Status;
+use command_answers::{Status, complain};
 use command_line::command_of;
 use marple_base::{Inputs, Sink, Steps, Which};
 use query_run::Driven;

@@ -7,14 +7,13 @@ ghost use Rattle.marple_cli.specs.Driven.{DrivenAfter};
 ghost use Rattle.marple_cli.specs.Ends.{Ends, status_of};
 
 use crate::generate::CAPACITY;
-use crate::operands::accept_trial;
-use crate::status::Status;
 use accepted_query::AcceptedQuery;
+use command_answers::{Status, accept_trial};
 use command_line::{Command, Generation, Setting};
 use marple_base::{Sink, Steps};
 use query_run::{Driven, QueryTables, run_over_made};
 use queue_sim::simulate;
-use std::alloc::Global;
+use std::alloc::{AllocError, Global};
 use std::sync::ledger::Ledger;
 
 /// Writes the tables of the trial's query over packets that the generator makes. No input is opened.
@@ -36,10 +35,18 @@ pub fn trial<O: Sink, L: Ledger>(
     ensures steps { steps.old ≤ steps.new }
 {
     let query = accept_trial(alloc)?;
-    let made = simulate(alloc, generation.packets, generation.start, CAPACITY)?;
+    let made = match simulate(alloc, generation.packets, generation.start, CAPACITY) {
+        Ok(made) => made,
+        Err(AllocError) => {
+            drop(query);
+            return Err(Status::Memory);
+        }
+    };
     let AcceptedQuery { typed, plan } = query;
     let report = QueryTables::of(typed);
-    let left = run_over_made(alloc, setting, &report, plan, made, out, steps)?;
+    let ran = run_over_made(alloc, setting, &report, plan, made, out, steps);
+    drop(report);
+    let left = ran?;
     *driven = Some(left);
     Ok(())
 }

@@ -21,7 +21,8 @@ use Rattle.trace_drive.specs.ReadPackets.{ReadPacketsAreWhole}
 use Rattle.trace_reader.specs.Traces as traces
 use Rattle.plan_laws.specs.MadeOf.{made_of}
 use Rattle.plan_laws.specs.RunLaws.{IsAsTheQuery}
-use Rattle.marple_cli.specs.Output.{IsRead, Source, fault_after, fault_for, of_accepted, plan_tables_text, read_packets, run_text}
+use Rattle.command_answers.specs.OwnChecks.{fault_after}
+use Rattle.marple_cli.specs.Output.{IsRead, Source, fault_for, of_accepted, plan_tables_text, read_packets, run_text}
 use Rattle.marple_laws.specs.Compiled.{CompiledPlansRunAsQueries}
 
 module _ (alone : NoViewsWithoutNumber) (whole : ReadPacketsAreWhole) (setting : Setting) (trace : List ℕ) where

@@ -132,16 +132,28 @@ fn made_lane(
 fn rows_after_turns<K: EpochKind, const WAYS: usize, L: Ledger>(
     rt: &impl Abort,
     alloc: Global,
+    lane: &mut Lane<K, WAYS>,
+    steps: &mut Steps<L>,
+) -> Result<Vec<u64>, AllocError>
+    requires { lane.old.cache.key_words ≡ 1 }
+{
+    take_turns(rt, lane, steps);
+    merge_all(rt, lane, steps)?;
+    let table = close(rt, alloc, lane)?;
+    rows_of(rt, alloc, &table)
+}
+
+// The same of a lane that is dropped after that. The lane is owned here alone, where no error is handed on.
+fn rows_of_lane<K: EpochKind, const WAYS: usize, L: Ledger>(
+    rt: &impl Abort,
+    alloc: Global,
     lane: Lane<K, WAYS>,
     steps: &mut Steps<L>,
 ) -> Result<Vec<u64>, AllocError>
     requires { lane.cache.key_words ≡ 1 }
 {
     let mut lane = lane;
-    take_turns(rt, &mut lane, steps);
-    merge_all(rt, &mut lane, steps)?;
-    let table = close(rt, alloc, &lane)?;
-    rows_of(rt, alloc, &table)
+    rows_after_turns(rt, alloc, &mut lane, steps)
 }
 
 // The same of a new lane for a fold that hashes the lengths.
@@ -156,7 +168,7 @@ fn rows_of_new_lane<L: Ledger>(
 {
     let mut steps = Steps::<L>::new(blank);
     let lane = made_lane(rt, alloc, program_of(alloc, HASH)?)?;
-    Ok(rows_after_turns(rt, alloc, lane, &mut steps)?)
+    Ok(rows_of_lane(rt, alloc, lane, &mut steps)?)
 }
 
 #[test]

@@ -22,7 +22,7 @@ use Rattle.query_lang.specs.Checks.{Checked, is_among, place_of}
 use Rattle.query_lang.specs.TypedExprs.{condition_of, word_of}
 use Rattle.query_lang.specs.TypedFolds.{target_at, target_of, or_else, first_of, state_step, state_in, inside, no_state, Adding, in_order, stmt_step, stmt_checked}
 use Rattle.query_laws.specs.Asked.{StmtAsks, of_target, of_value, of_condition, of_emit}
-use Rattle.query_laws.specs.Demands.{IsOneOf, HasPart, StandsInside, StandsIn, HasEmit, FollowsEmit, Demand, Target, ReadsNone, Tells, in_first, in_second}
+use Rattle.query_laws.specs.Demands.{IsOneOf, HasPart, StandsIn, HasEmit, FollowsEmit, Target, ReadsNone, in_first, in_second}
 use Rattle.query_laws.specs.Demands as parts
 use Rattle.query_laws.specs.ExprRules.{Kind, Condition, operand_kind}
 use Rattle.query_laws.proofs.ExprFaults.{place_none, not_new, condition_told, word_told}

@@ -9,7 +9,7 @@ use Rattle.query_lang.specs.declared.query.Name.{Name}
 use Rattle.query_lang.specs.declared.query.Expr.{Expr, fold-roll-Expr, ind-Expr, roll-Expr, map-Expr}
 use Rattle.query_lang.specs.declared.query.Expr.TheOpen as expr
 use Rattle.query_lang.specs.declared.query.Expr.TheVariants as whole
-use Rattle.query_lang.specs.declared.query.Expr.TheVariants.{rolls-Number, rolls-Named, rolls-Not, rolls-Binary, rolls-Call}
+use Rattle.query_lang.specs.declared.query.Expr.TheVariants.{rolls-Named, rolls-Not, rolls-Binary, rolls-Call}
 use Rattle.query_lang.specs.declared.typing.Found.{Found}
 use Rattle.query_lang.specs.declared.typing.Known.{Known}
 use Rattle.query_lang.specs.Checks.{Checked, collected, is_among, place_from, place_of}

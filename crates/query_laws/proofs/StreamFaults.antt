@@ -18,7 +18,7 @@ use Rattle.query_lang.specs.Checks.{is_among}
 use Rattle.query_lang.specs.TypedExprs.{slot_of, condition_of}
 use Rattle.query_lang.specs.TypedFinals.{table_named, quiet_fold, five_fields, same_names, key_columns, other_columns, made_final}
 use Rattle.query_lang.specs.TypedStreams.{column_names, key_names, no_new_columns, new_columns, clash, stream_named, fold_named, keys_checked, arguments_of, made_stream}
-use Rattle.query_laws.specs.Asked.{StreamAsks, FinalAsks, KeysAsk, ArgumentsAsk, of_filtered, of_condition, of_mapped, of_columns, of_first, of_second, of_both, of_limit, of_grouped, of_keys, of_fold, of_arguments}
+use Rattle.query_laws.specs.Asked.{StreamAsks, FinalAsks, of_filtered, of_condition, of_mapped, of_columns, of_first, of_second, of_both, of_limit, of_grouped, of_keys, of_fold, of_arguments}
 use Rattle.query_laws.specs.Asked as asks
 use Rattle.query_laws.specs.Context.{IsFold}
 use Rattle.query_laws.specs.Demands.{AStream, ATable, AFold, AQuietFold, Stands, AColumn, Kept, Fewer, Same, Apart, SameKeys}

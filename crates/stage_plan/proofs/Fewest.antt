@@ -1,18 +1,18 @@
 -- No placement of sound operations has fewer stages than they have.
-use Rattle.std.proofs.Common.{◌≡◌, ℕ, zero, suc, ◌+◌, ◌-◌, ◌<◌, ◌≤◌, max, true, false, Bool, List, [], ◌∷◌, length, get_or, Some, None, Option, refl, sym, ap, subst, ◌∙◌, inl, inr, arith}
-use Rattle.std.specs.Prelude.{All, map, nat_lt, slice_get, slice_index, option_map, unwrap_or, if◌then◌else◌}
+use Rattle.std.proofs.Common.{◌≡◌, ℕ, zero, suc, ◌+◌, ◌-◌, ◌<◌, ◌≤◌, max, true, false, Bool, List, [], ◌∷◌, length, get_or, Some, Option, refl, sym, ap, subst, ◌∙◌, inl, inr, arith}
+use Rattle.std.specs.Prelude.{map, nat_lt, slice_get, slice_index, option_map, unwrap_or, if◌then◌else◌}
 use Rattle.std.proofs.lemmas.Bool.{cases_lt}
 use Rattle.std.proofs.lemmas.Bool.Decides.{nat_tests}
 use Rattle.std.proofs.lemmas.List.{get_or-map, length-map}
-use Rattle.std.proofs.lemmas.Option.{slice_get_within, same_Some, slice_get_cases, slice_get-get_or, get_or_from_slice_get}
+use Rattle.std.proofs.lemmas.Option.{slice_get_within, same_Some, slice_get_cases}
 use Rattle.stage_plan.specs.declared.op.Operand.{Operand}
 use Rattle.stage_plan.specs.declared.op.Operand.TheVariants.{Register, Number}
 use Rattle.stage_plan.specs.declared.op.PlanOp.{PlanOp}
 use Rattle.stage_plan.specs.Placements.{IsPlacement}
 use Rattle.stage_plan.specs.Registers.{operand_stage, stages_of}
 use Rattle.stage_plan.specs.Shape.{greatest}
-use Rattle.stage_plan.specs.Sound.{PlanParts, IsWithin, IsSoundOp, AreSoundOps, IsSoundPlan, Follows}
-use Rattle.stage_plan.proofs.Runs.{stage_of_register, stage_below}
+use Rattle.stage_plan.specs.Sound.{PlanParts, IsWithin, IsSoundOp, AreSoundOps, Follows}
+use Rattle.stage_plan.proofs.Runs.{stage_of_register}
 use Rattle.stage_plan.proofs.PlanParts.{stages_within}
 
 pub highest : (ops : List PlanOp) → greatest (map (λ (one : PlanOp). one.stage) ops) ≡ stages_of ops

@@ -1,9 +1,8 @@
 use Rattle.std.proofs.Common.{◌≡◌, ◌++◌, OnErr, OnOk, sym, ◌∙◌, subst}
-use Rattle.std.specs.List.{All, flat_map}
+use Rattle.std.specs.List.{All}
 use Rattle.marple_base.specs.Sink.{TakesFront}
-use Rattle.query_lang.specs.TypedFinals.{table_number}
 use Rattle.enclosed_query.specs.EnclosedTables.{enclosed_print}
-use Rattle.enclosed_query.specs.Parts.{IsWholeIfThere, text_at}
+use Rattle.enclosed_query.specs.Parts.{IsWholeIfThere}
 use Rattle.text_buffer.specs.Pieces.{TakesAllBut}
 use Rattle.text_buffer.proofs.Pieces.{none_taken, on_err}
 use Rattle.enclosed_query.proofs.TextParts.{texts_are, whole_parts}

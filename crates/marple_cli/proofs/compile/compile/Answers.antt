@@ -1,7 +1,7 @@
 use Rattle.std.proofs.Common.{◌∙◌, refl}
 use Rattle.command_line.specs.declared.command.Command.TheVariants.{Compile}
 use Rattle.plan_writer.specs.PlanText.{final_fault}
-use Rattle.marple_cli.specs.Output.{fault_with}
+use Rattle.command_answers.specs.OwnChecks.{fault_with}
 use Rattle.marple_cli.proofs.Ending.{all_written, cut_off, memory_ends, query_ends_it, query_fits}
 use Rattle.marple_cli.proofs.Texts.{compiled_is}
 use Rattle.marple_cli.proofs.compile.compile.Goals as goal

@@ -1,4 +1,4 @@
-use Rattle.std.proofs.Common.{refl}
+use Rattle.std.proofs.Common.{Err, refl}
 use Rattle.marple_base.specs.Inputs.{Input}
 use Rattle.marple_base.specs.declared.inputs.Which.{Which}
 use Rattle.query_run.specs.Driven.{geometry_of}
@@ -8,22 +8,22 @@ use Rattle.enclosed_query.specs.EnclosedTables.{enclose_text}
 use Rattle.trace_reader.specs.Traces.{Contents}
 use Rattle.trace_drive.specs.Drives.{words_of}
 use Rattle.command_line.specs.declared.command.Command.TheVariants.{Enclose}
-use Rattle.marple_cli.specs.Output.{fault_with}
+use Rattle.command_answers.specs.OwnChecks.{fault_with}
 use Rattle.marple_cli.proofs.Ending.{query_ends_it, query_fits}
 use Rattle.marple_cli.proofs.Texts.{enclose_is}
 use Rattle.marple_cli.proofs.Traced.{broken_off, not_read, whole_written}
 use Rattle.marple_cli.proofs.enclose.enclose.Goals as goal
 
-pub run_over_trace-requires-clause-may_print : goal.run_over_trace-requires-clause-may_print
-run_over_trace-requires-clause-may_print g c = (c.of-report.ensures.reports c.in_ok-query.query.plan c.in_ok-query.ensures.plan).may_print
+pub run_over_trace-ran-requires-clause-may_print : goal.run_over_trace-ran-requires-clause-may_print
+run_over_trace-ran-requires-clause-may_print g c = (c.of-report.ensures.reports c.in_ok-query.query.plan c.in_ok-query.ensures.plan).may_print
 
 pub returns-in_err-query-clause-ends : goal.returns-in_err-query-clause-ends
 returns-in_err-query-clause-ends g c =
     query_ends_it g.O.Sink.taken g.O.Sink.faults (Enclose c.args.setting) (g.I.Inputs.input c.args.inputs.now) (g.I.Inputs.input c.query_for_bounds.new.inputs) (fault_with enclose_fault) (λ query. refl) c.args.out.now refl
     c.in_err-query.ensures.trace_kept c.from_residual.result c.in_err-query.field-0.0 c.from_residual.ensures.1 c.in_err-query.ensures.err
 
-pub returns-in_err-bytes-clause-ends : goal.returns-in_err-bytes-clause-ends
-returns-in_err-bytes-clause-ends g c =
+pub returns-in-Err-clause-ends : goal.returns-in-Err-clause-ends
+returns-in-Err-clause-ends g c =
     let before : Which → Input = g.I.Inputs.input c.args.inputs.now in
     let middle : Which → Input = g.I.Inputs.input c.query_for_bounds.new.inputs in
     let after : Which → Input = g.I.Inputs.input c.read_trace.new.inputs in
@@ -34,10 +34,10 @@ returns-in_err-bytes-clause-ends g c =
     let reads = c.in_ok-query.query.plan.reads in
     let text = λ (found : Contents). views_text (enclose_text q (geometry_of c.args.setting)) 0 (words_of found.packets) in
     not_read g.O.Sink.taken g.O.Sink.faults command before middle after accepts reads (λ found. found.fault) text refl refl (enclose_is before q known c.args.setting reads c.in_ok-query.ensures.plan.reads) c.in_ok-query.ensures.trace_kept
-    c.args.out.now c.from_residual-in_err-bytes.result c.in_err-bytes.field-0.0 c.from_residual-in_err-bytes.ensures.1 c.in_err-bytes.ensures.err
+    c.args.out.now (Err c.in-Err.status) c.in-Err.status refl c.in-Err.ensures.err
 
-pub returns-in_err-_left-clause-ends : goal.returns-in_err-_left-clause-ends
-returns-in_err-_left-clause-ends g c =
+pub returns-in_err-left-clause-ends : goal.returns-in_err-left-clause-ends
+returns-in_err-left-clause-ends g c =
     let before : Which → Input = g.I.Inputs.input c.args.inputs.now in
     let middle : Which → Input = g.I.Inputs.input c.query_for_bounds.new.inputs in
     let after : Which → Input = g.I.Inputs.input c.read_trace.new.inputs in
@@ -48,8 +48,8 @@ returns-in_err-_left-clause-ends g c =
     let reads = c.in_ok-query.query.plan.reads in
     let text = λ (found : Contents). views_text (enclose_text q (geometry_of c.args.setting)) 0 (words_of found.packets) in
     broken_off g.O.Sink.taken g.O.Sink.faults command before middle after accepts reads (λ found. found.fault) text refl refl (enclose_is before q known c.args.setting reads c.in_ok-query.ensures.plan.reads) c.in_ok-query.ensures.trace_kept
-    c.in_ok-bytes.bytes c.as_slice.result.now c.in_ok-bytes.ensures.ok c.as_slice.ensures c.args.out.now c.run_over_trace.new.out
-    c.from_residual-in_err-_left.result c.in_err-_left.field-0.0 c.from_residual-in_err-_left.ensures.1 (c.in_err-_left.ensures.breaks_off (enclose_text q) (c.of-report.ensures.reports c.in_ok-query.query.plan c.in_ok-query.ensures.plan).prints)
+    c.in-Ok.bytes c.as_slice.result.now c.in-Ok.ensures.ok c.as_slice.ensures c.args.out.now c.run_over_trace-ran.new.out
+    c.from_residual-in_err-left.result c.in_err-left.field-0.0 c.from_residual-in_err-left.ensures.1 (c.in_err-left.ensures.breaks_off (enclose_text q) (c.of-report.ensures.reports c.in_ok-query.query.plan c.in_ok-query.ensures.plan).prints)
 
 pub returns-clause-ends : goal.returns-clause-ends
 returns-clause-ends g c =
@@ -63,5 +63,5 @@ returns-clause-ends g c =
     let reads = c.in_ok-query.query.plan.reads in
     let text = λ (found : Contents). views_text (enclose_text q (geometry_of c.args.setting)) 0 (words_of found.packets) in
     whole_written g.O.Sink.taken g.O.Sink.faults command before middle after accepts reads (λ found. found.fault) text refl refl (enclose_is before q known c.args.setting reads c.in_ok-query.ensures.plan.reads) c.in_ok-query.ensures.trace_kept
-    c.in_ok-bytes.bytes c.as_slice.result.now c.in_ok-bytes.ensures.ok c.as_slice.ensures c.args.out.now c.run_over_trace.new.out
-    c.in_ok-_left.ensures.accepted (c.in_ok-_left.ensures.written (enclose_text q) (c.of-report.ensures.reports c.in_ok-query.query.plan c.in_ok-query.ensures.plan).prints)
+    c.in-Ok.bytes c.as_slice.result.now c.in-Ok.ensures.ok c.as_slice.ensures c.args.out.now c.run_over_trace-ran.new.out
+    c.in_ok-left.ensures.accepted (c.in_ok-left.ensures.written (enclose_text q) (c.of-report.ensures.reports c.in_ok-query.query.plan c.in_ok-query.ensures.plan).prints)

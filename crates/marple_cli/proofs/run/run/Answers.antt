@@ -1,4 +1,4 @@
-use Rattle.std.proofs.Common.{IfSome, refl, subst}
+use Rattle.std.proofs.Common.{IfSome, Err, refl, subst}
 use Rattle.marple_base.specs.Inputs.{Input}
 use Rattle.marple_base.specs.declared.inputs.Which.{Which}
 use Rattle.marple_base.specs.declared.inputs.Which.TheVariants.{Query, Trace}
@@ -10,14 +10,14 @@ use Rattle.query_tables.specs.Tables.{query_text}
 use Rattle.switch_core.specs.PlanLanes.{PipelineStands}
 use Rattle.trace_drive.specs.Drives.{end_machines, words_of}
 use Rattle.trace_reader.specs.Traces.{Contents, contents}
-use Rattle.marple_cli.specs.Ends.{status_for}
+use Rattle.command_answers.specs.Phases.{status_for}
 use Rattle.marple_cli.proofs.Ending.{answer_not_ok, driven_kept, query_ends_it, query_not_ok, query_told, read_not_ok, run_is, run_leaves}
-use Rattle.marple_cli.proofs.Limits.{told_contents}
+use Rattle.command_answers.proofs.Limits.{told_contents}
 use Rattle.marple_cli.proofs.Traced.{broken_off, not_read, whole_written}
 use Rattle.marple_cli.proofs.run.run.Goals as goal
 
-pub run_over_trace-requires-clause-may_print : goal.run_over_trace-requires-clause-may_print
-run_over_trace-requires-clause-may_print g c = (c.of-report.ensures.reports c.in_ok-query.query.plan c.in_ok-query.ensures.plan).may_print
+pub run_over_trace-ran-requires-clause-may_print : goal.run_over_trace-ran-requires-clause-may_print
+run_over_trace-ran-requires-clause-may_print g c = (c.of-report.ensures.reports c.in_ok-query.query.plan c.in_ok-query.ensures.plan).may_print
 
 pub returns-in_err-query-clause-ends : goal.returns-in_err-query-clause-ends
 returns-in_err-query-clause-ends g c =
@@ -29,8 +29,8 @@ returns-in_err-query-clause-driven g c =
     driven_kept (Run c.args.setting c.args.every) (g.I.Inputs.input c.args.inputs.now) c.args.driven.now c.args.driven.now refl c.from_residual.result c.in_err-query.field-0.0 c.from_residual.ensures.1
     (query_not_ok query_fault (g.I.Inputs.input c.args.inputs.now Query) (g.I.Inputs.input c.read_query.new.inputs Query) c.in_err-query.field-0.0 c.in_err-query.ensures.err)
 
-pub returns-in_err-bytes-clause-ends : goal.returns-in_err-bytes-clause-ends
-returns-in_err-bytes-clause-ends g c =
+pub returns-in-Err-clause-ends : goal.returns-in-Err-clause-ends
+returns-in-Err-clause-ends g c =
     let before : Which → Input = g.I.Inputs.input c.args.inputs.now in
     let middle : Which → Input = g.I.Inputs.input c.read_query.new.inputs in
     let after : Which → Input = g.I.Inputs.input c.read_trace.new.inputs in
@@ -41,13 +41,12 @@ returns-in_err-bytes-clause-ends g c =
     let text = λ (found : Contents). views_text (query_text q (geometry_of c.args.setting)) c.args.every (words_of found.packets) in
     not_read g.O.Sink.taken g.O.Sink.faults run before middle after (query_told run before q (λ bytes. refl) known) reads (λ found. found.fault) text refl refl
     (run_is c.args.setting c.args.every before q known reads c.in_ok-query.ensures.plan.reads) c.in_ok-query.ensures.trace_kept
-    c.args.out.now c.from_residual-in_err-bytes.result c.in_err-bytes.field-0.0 c.from_residual-in_err-bytes.ensures.1 c.in_err-bytes.ensures.err
+    c.args.out.now (Err c.in-Err.status) c.in-Err.status refl c.in-Err.ensures.err
 
-pub returns-in_err-bytes-clause-driven : goal.returns-in_err-bytes-clause-driven
-returns-in_err-bytes-clause-driven g c =
-    driven_kept (Run c.args.setting c.args.every) (g.I.Inputs.input c.args.inputs.now) c.args.driven.now c.args.driven.now refl c.from_residual-in_err-bytes.result c.in_err-bytes.field-0.0
-    c.from_residual-in_err-bytes.ensures.1
-    (read_not_ok (g.I.Inputs.input c.read_query.new.inputs Trace) (g.I.Inputs.input c.read_trace.new.inputs Trace) c.in_err-bytes.field-0.0 c.in_err-bytes.ensures.err)
+pub returns-in-Err-clause-driven : goal.returns-in-Err-clause-driven
+returns-in-Err-clause-driven g c =
+    driven_kept (Run c.args.setting c.args.every) (g.I.Inputs.input c.args.inputs.now) c.args.driven.now c.args.driven.now refl (Err c.in-Err.status) c.in-Err.status refl
+    (read_not_ok (g.I.Inputs.input c.read_query.new.inputs Trace) (g.I.Inputs.input c.read_trace.new.inputs Trace) c.in-Err.status c.in-Err.ensures.err)
 
 pub returns-in_err-left-clause-ends : goal.returns-in_err-left-clause-ends
 returns-in_err-left-clause-ends g c =
@@ -61,7 +60,7 @@ returns-in_err-left-clause-ends g c =
     let text = λ (found : Contents). views_text (query_text q (geometry_of c.args.setting)) c.args.every (words_of found.packets) in
     broken_off g.O.Sink.taken g.O.Sink.faults run before middle after (query_told run before q (λ bytes. refl) known) plan.reads (λ found. found.fault) text refl refl
     (run_is c.args.setting c.args.every before q known plan.reads c.in_ok-query.ensures.plan.reads) c.in_ok-query.ensures.trace_kept
-    c.in_ok-bytes.bytes c.as_slice.result.now c.in_ok-bytes.ensures.ok c.as_slice.ensures c.args.out.now c.run_over_trace.new.out
+    c.in-Ok.bytes c.as_slice.result.now c.in-Ok.ensures.ok c.as_slice.ensures c.args.out.now c.run_over_trace-ran.new.out
     c.from_residual-in_err-left.result c.in_err-left.field-0.0 c.from_residual-in_err-left.ensures.1
     (c.in_err-left.ensures.breaks_off (query_text q) (c.of-report.ensures.reports plan c.in_ok-query.ensures.plan).prints)
 
@@ -82,7 +81,7 @@ returns-clause-ends g c =
     let text = λ (found : Contents). views_text (query_text q (geometry_of c.args.setting)) c.args.every (words_of found.packets) in
     whole_written g.O.Sink.taken g.O.Sink.faults run before middle after (query_told run before q (λ bytes. refl) known) plan.reads (λ found. found.fault) text refl refl
     (run_is c.args.setting c.args.every before q known plan.reads c.in_ok-query.ensures.plan.reads) c.in_ok-query.ensures.trace_kept
-    c.in_ok-bytes.bytes c.as_slice.result.now c.in_ok-bytes.ensures.ok c.as_slice.ensures c.args.out.now c.run_over_trace.new.out
+    c.in-Ok.bytes c.as_slice.result.now c.in-Ok.ensures.ok c.as_slice.ensures c.args.out.now c.run_over_trace-ran.new.out
     c.in_ok-left.ensures.accepted (c.in_ok-left.ensures.written (query_text q) (c.of-report.ensures.reports plan c.in_ok-query.ensures.plan).prints)
 
 pub returns-clause-driven : goal.returns-clause-driven
@@ -94,4 +93,4 @@ returns-clause-driven g c =
     run_leaves setting c.args.every (g.I.Inputs.input c.args.inputs.now) q c.in_ok-query.ensures.ok plan c.in_ok-query.ensures.plan c.args.driven.now c.in_ok-left.left c.in_ok-left.ensures.left c.in_ok-left.ensures.plan
     (subst stands c.in_ok-query.ensures.trace_kept
     (told_contents (λ found. PipelineStands (pipeline_in c.in_ok-left.left) (end_machines plan (geometry_of setting) (words_of found.packets))) plan.reads
-    (g.I.Inputs.input c.read_query.new.inputs Trace).left c.in_ok-bytes.bytes c.as_slice.result.now c.in_ok-bytes.ensures.ok c.as_slice.ensures c.in_ok-left.ensures.stands))
+    (g.I.Inputs.input c.read_query.new.inputs Trace).left c.in-Ok.bytes c.as_slice.result.now c.in-Ok.ensures.ok c.as_slice.ensures c.in_ok-left.ensures.stands))

@@ -1,4 +1,4 @@
-use Rattle.std.proofs.Common.{IfSome, refl, subst}
+use Rattle.std.proofs.Common.{IfSome, Err, refl, subst}
 use Rattle.marple_base.specs.Inputs.{Input}
 use Rattle.marple_base.specs.declared.inputs.Which.{Which}
 use Rattle.marple_base.specs.declared.inputs.Which.TheVariants.{Query, Trace}
@@ -11,15 +11,15 @@ use Rattle.plan_file.specs.Texts.{IsRefused}
 use Rattle.plan_file.specs.declared.answer.PlanFileAnswer.TheVariants.{Refused}
 use Rattle.plan_loader.specs.Meaning.{plan_output}
 use Rattle.query_run.specs.Views.{views_text}
-use Rattle.marple_cli.specs.Ends.{status_for}
+use Rattle.command_answers.specs.Phases.{status_for}
 use Rattle.marple_cli.proofs.Ending.{answer_not_ok, driven_kept, operand_ends_it, operand_not_ok, read_not_ok}
-use Rattle.marple_cli.proofs.Limits.{told_contents}
+use Rattle.command_answers.proofs.Limits.{told_contents}
 use Rattle.marple_cli.proofs.Plans.{plan_accepted, plan_is, plan_leaves, refuses_plan}
 use Rattle.marple_cli.proofs.Traced.{broken_off, not_read, whole_written}
 use Rattle.marple_cli.proofs.run_plan.run_plan.Goals as goal
 
-pub run_over_trace-requires-clause-may_print : goal.run_over_trace-requires-clause-may_print
-run_over_trace-requires-clause-may_print g c =
+pub run_over_trace-ran-requires-clause-may_print : goal.run_over_trace-ran-requires-clause-may_print
+run_over_trace-ran-requires-clause-may_print g c =
     let is = c.in_ok-loaded.ensures.ok in
     (c.of-report.ensures.reports is.made c.in_ok-loaded.loaded.plan is.from.sound is.from.plan is.from.prints).may_print
 
@@ -34,8 +34,8 @@ returns-in_err-loaded-clause-driven g c =
     driven_kept (RunPlan c.args.setting) (g.I.Inputs.input c.args.inputs.now) c.args.driven.now c.args.driven.now refl c.from_residual.result c.in_err-loaded.field-0.0 c.from_residual.ensures.1
     (operand_not_ok (λ text found. IsRefused text (Refused found)) (g.I.Inputs.input c.args.inputs.now Query) (g.I.Inputs.input c.read_plan_text.new.inputs Query) c.in_err-loaded.field-0.0 c.in_err-loaded.ensures.err)
 
-pub returns-in_err-bytes-clause-ends : goal.returns-in_err-bytes-clause-ends
-returns-in_err-bytes-clause-ends g c =
+pub returns-in-Err-clause-ends : goal.returns-in-Err-clause-ends
+returns-in-Err-clause-ends g c =
     let before : Which → Input = g.I.Inputs.input c.args.inputs.now in
     let middle : Which → Input = g.I.Inputs.input c.read_plan_text.new.inputs in
     let after : Which → Input = g.I.Inputs.input c.read_trace.new.inputs in
@@ -45,13 +45,12 @@ returns-in_err-bytes-clause-ends g c =
     let text = λ (found : Contents). views_text (plan_output is.made (geometry_of setting)) 0 (words_of found.packets) in
     not_read g.O.Sink.taken g.O.Sink.faults (RunPlan setting) before middle after (plan_accepted setting before loaded is) loaded.plan.reads (λ found. found.fault) text refl refl
     (plan_is setting before loaded is) c.in_ok-loaded.ensures.trace_kept
-    c.args.out.now c.from_residual-in_err-bytes.result c.in_err-bytes.field-0.0 c.from_residual-in_err-bytes.ensures.1 c.in_err-bytes.ensures.err
+    c.args.out.now (Err c.in-Err.status) c.in-Err.status refl c.in-Err.ensures.err
 
-pub returns-in_err-bytes-clause-driven : goal.returns-in_err-bytes-clause-driven
-returns-in_err-bytes-clause-driven g c =
-    driven_kept (RunPlan c.args.setting) (g.I.Inputs.input c.args.inputs.now) c.args.driven.now c.args.driven.now refl c.from_residual-in_err-bytes.result c.in_err-bytes.field-0.0
-    c.from_residual-in_err-bytes.ensures.1
-    (read_not_ok (g.I.Inputs.input c.read_plan_text.new.inputs Trace) (g.I.Inputs.input c.read_trace.new.inputs Trace) c.in_err-bytes.field-0.0 c.in_err-bytes.ensures.err)
+pub returns-in-Err-clause-driven : goal.returns-in-Err-clause-driven
+returns-in-Err-clause-driven g c =
+    driven_kept (RunPlan c.args.setting) (g.I.Inputs.input c.args.inputs.now) c.args.driven.now c.args.driven.now refl (Err c.in-Err.status) c.in-Err.status refl
+    (read_not_ok (g.I.Inputs.input c.read_plan_text.new.inputs Trace) (g.I.Inputs.input c.read_trace.new.inputs Trace) c.in-Err.status c.in-Err.ensures.err)
 
 pub returns-in_err-left-clause-ends : goal.returns-in_err-left-clause-ends
 returns-in_err-left-clause-ends g c =
@@ -64,7 +63,7 @@ returns-in_err-left-clause-ends g c =
     let text = λ (found : Contents). views_text (plan_output is.made (geometry_of setting)) 0 (words_of found.packets) in
     broken_off g.O.Sink.taken g.O.Sink.faults (RunPlan setting) before middle after (plan_accepted setting before loaded is) loaded.plan.reads (λ found. found.fault) text refl refl
     (plan_is setting before loaded is) c.in_ok-loaded.ensures.trace_kept
-    c.in_ok-bytes.bytes c.as_slice.result.now c.in_ok-bytes.ensures.ok c.as_slice.ensures c.args.out.now c.run_over_trace.new.out
+    c.in-Ok.bytes c.as_slice.result.now c.in-Ok.ensures.ok c.as_slice.ensures c.args.out.now c.run_over_trace-ran.new.out
     c.from_residual-in_err-left.result c.in_err-left.field-0.0 c.from_residual-in_err-left.ensures.1
     (c.in_err-left.ensures.breaks_off (plan_output is.made) (c.of-report.ensures.reports is.made loaded.plan is.from.sound is.from.plan is.from.prints).prints)
 
@@ -84,7 +83,7 @@ returns-clause-ends g c =
     let text = λ (found : Contents). views_text (plan_output is.made (geometry_of setting)) 0 (words_of found.packets) in
     whole_written g.O.Sink.taken g.O.Sink.faults (RunPlan setting) before middle after (plan_accepted setting before loaded is) loaded.plan.reads (λ found. found.fault) text refl refl
     (plan_is setting before loaded is) c.in_ok-loaded.ensures.trace_kept
-    c.in_ok-bytes.bytes c.as_slice.result.now c.in_ok-bytes.ensures.ok c.as_slice.ensures c.args.out.now c.run_over_trace.new.out
+    c.in-Ok.bytes c.as_slice.result.now c.in-Ok.ensures.ok c.as_slice.ensures c.args.out.now c.run_over_trace-ran.new.out
     c.in_ok-left.ensures.accepted (c.in_ok-left.ensures.written (plan_output is.made) (c.of-report.ensures.reports is.made loaded.plan is.from.sound is.from.plan is.from.prints).prints)
 
 pub returns-clause-driven : goal.returns-clause-driven
@@ -96,4 +95,4 @@ returns-clause-driven g c =
     plan_leaves setting (g.I.Inputs.input c.args.inputs.now) loaded c.in_ok-loaded.ensures.ok c.args.driven.now c.in_ok-left.left c.in_ok-left.ensures.left c.in_ok-left.ensures.plan
     (subst stands c.in_ok-loaded.ensures.trace_kept
     (told_contents (λ found. PipelineStands (pipeline_in c.in_ok-left.left) (end_machines loaded.plan (geometry_of setting) (words_of found.packets))) loaded.plan.reads
-    (g.I.Inputs.input c.read_plan_text.new.inputs Trace).left c.in_ok-bytes.bytes c.as_slice.result.now c.in_ok-bytes.ensures.ok c.as_slice.ensures c.in_ok-left.ensures.stands))
+    (g.I.Inputs.input c.read_plan_text.new.inputs Trace).left c.in-Ok.bytes c.as_slice.result.now c.in-Ok.ensures.ok c.as_slice.ensures c.in_ok-left.ensures.stands))

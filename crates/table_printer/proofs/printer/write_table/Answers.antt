@@ -1,4 +1,4 @@
-use Rattle.std.proofs.Common.{◌≡◌, ℕ, List, ◌+◌, ◌≤◌, ◌++◌, ◌∙◌, sym, ap, subst, arith, append_assoc, append-nil, drop, flat_map}
+use Rattle.std.proofs.Common.{◌≡◌, ℕ, List, ◌+◌, ◌≤◌, ◌++◌, ◌∙◌, ap, subst, arith, append_assoc, append-nil, drop, flat_map}
 use Rattle.std.proofs.lemmas.List.{drop_all}
 use Rattle.epoch_model.specs.declared.tables.Row.{Row}
 use Rattle.marple_base.specs.Sink.{TakesFront}

@@ -22,10 +22,10 @@ use Rattle.accepted_query.specs.declared.answer.QueryError.TheVariants.{Refused}
 use Rattle.trace_drive.specs.Answers.{BreaksOff, text_unless}
 use Rattle.trace_drive.specs.declared.answer.RunError.{RunError}
 use Rattle.trace_drive.specs.declared.answer.RunError.TheVariants as breaks
+use Rattle.command_answers.specs.Phases.{ReadEnds, TraceEnds, WriteEnds, status_for}
+use Rattle.command_answers.specs.declared.status.Status.{Status}
+use Rattle.command_answers.specs.declared.status.Status.TheVariants as statuses
 use Rattle.trace_drive.proofs.Breaking.{nothing_taken}
-use Rattle.marple_cli.specs.Ends.{ReadEnds, TraceEnds, WriteEnds, status_for}
-use Rattle.marple_cli.specs.declared.status.Status.{Status}
-use Rattle.marple_cli.specs.declared.status.Status.TheVariants as statuses
 
 pub take_whole : (limit : ℕ) (bytes : List ℕ) → length bytes ≤ limit → take (limit + 1) bytes ≡ bytes
 take_whole limit bytes short = grind (arith, common_steps)

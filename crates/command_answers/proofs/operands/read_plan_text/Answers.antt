@@ -1,5 +1,5 @@
-use Rattle.marple_cli.proofs.Plans.{plan_is_read, told_refusal}
-use Rattle.marple_cli.proofs.operands.read_plan_text.Goals as goal
+use Rattle.command_answers.proofs.PlanTexts.{plan_is_read, told_refusal}
+use Rattle.command_answers.proofs.operands.read_plan_text.Goals as goal
 
 pub returns-in-Ok-read_plan-clause-ok : goal.returns-in-Ok-read_plan-clause-ok
 returns-in-Ok-read_plan-clause-ok g c =

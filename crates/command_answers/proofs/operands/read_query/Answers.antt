@@ -1,6 +1,6 @@
 use Rattle.std.proofs.Common.{◌≡◌, Ok}
-use Rattle.marple_cli.proofs.Limits.{told_answer, told_refused}
-use Rattle.marple_cli.proofs.operands.read_query.Goals as goal
+use Rattle.command_answers.proofs.Limits.{told_answer, told_refused}
+use Rattle.command_answers.proofs.operands.read_query.Goals as goal
 
 pub returns-in-Ok-accept-clause-ok : goal.returns-in-Ok-accept-clause-ok
 returns-in-Ok-accept-clause-ok g c =

@@ -1,8 +1,8 @@
 //! How a command ends.
 ghost use Rattle.std.specs.Prelude.{◌≡◌};
-ghost use Rattle.marple_cli.specs.Complaint.{number_of};
-ghost use Rattle.marple_cli.specs.Ends.{status_for};
-ghost use Rattle.marple_cli.specs.declared.status.Status.TheVariants.{Memory, OutputFault};
+ghost use Rattle.command_answers.specs.Complaint.{number_of};
+ghost use Rattle.command_answers.specs.Phases.{status_for};
+ghost use Rattle.command_answers.specs.declared.status.Status.TheVariants.{Memory, OutputFault};
 
 use marple_base::{Failed, Which};
 use query_lang::QueryFault;

@@ -6,11 +6,11 @@ use Rattle.query_lang.specs.Checks.{Checked}
 use Rattle.query_lang.specs.declared.fault.QueryFault.{QueryFault}
 use Rattle.query_lang.specs.declared.typed.TypedQuery.{TypedQuery}
 use Rattle.accepted_query.specs.Accepted.{accepted, fault_in, query_fault}
-use Rattle.marple_cli.specs.Ends.{QueryEnds}
-use Rattle.marple_cli.specs.Output.{fault_after, fault_with}
-use Rattle.marple_cli.specs.declared.status.Status.{Status}
-use Rattle.marple_cli.specs.declared.status.Status.TheVariants as statuses
-use Rattle.marple_cli.proofs.Limits.{IfSome-map}
+use Rattle.command_answers.specs.Phases.{QueryEnds}
+use Rattle.command_answers.specs.OwnChecks.{fault_after, fault_with}
+use Rattle.command_answers.specs.declared.status.Status.{Status}
+use Rattle.command_answers.specs.declared.status.Status.TheVariants as statuses
+use Rattle.command_answers.proofs.Limits.{IfSome-map}
 
 module _ (own : TypedQuery → Option QueryFault) where
   -- a fault of the text comes first

@@ -8,8 +8,8 @@ ghost use Rattle.net_wide.specs.Combining.{net_fault};
 ghost use Rattle.net_wide.specs.NetLaws.{TellsSwitches};
 ghost use Rattle.enclosure_folds.specs.Check.{enclose_fault};
 ghost use Rattle.plan_writer.specs.PlanText.{final_fault};
-ghost use Rattle.marple_cli.specs.Ends.{QueryEnds};
-ghost use Rattle.marple_cli.specs.Output.{fault_with};
+ghost use Rattle.command_answers.specs.Phases.{QueryEnds};
+ghost use Rattle.command_answers.specs.OwnChecks.{fault_with};
 
 use crate::operands::read_query;
 use crate::status::Status;

@@ -1,11 +1,11 @@
 use Rattle.std.proofs.Common.{sym, ◌∙◌}
 use Rattle.marple_base.specs.declared.inputs.Which.TheVariants.{Query}
-use Rattle.marple_cli.specs.Ends.{QueryEnds}
-use Rattle.marple_cli.specs.Output.{fault_with}
+use Rattle.command_answers.specs.Phases.{QueryEnds}
+use Rattle.command_answers.specs.OwnChecks.{fault_with}
 use Rattle.plan_writer.specs.PlanText.{final_fault}
-use Rattle.marple_cli.proofs.Checking.{own_refused, text_ends}
-use Rattle.marple_cli.proofs.Limits.{err_told}
-use Rattle.marple_cli.proofs.checked.query_for_plan.Goals as goal
+use Rattle.command_answers.proofs.Checking.{own_refused, text_ends}
+use Rattle.command_answers.proofs.Limits.{err_told}
+use Rattle.command_answers.proofs.checked.query_for_plan.Goals as goal
 
 pub returns-in_err-query-clause-err : goal.returns-in_err-query-clause-err
 returns-in_err-query-clause-err g c =

@@ -5,7 +5,7 @@ ghost use Rattle.query_lang.specs.TypedQueries.{IsValidQuery};
 ghost use Rattle.stage_plan.specs.Planned.{IsPlanOf};
 ghost use Rattle.accepted_query.specs.Accepted.{accepted, query_fault};
 ghost use Rattle.accepted_query.specs.TrialQuery.{trial_query};
-ghost use Rattle.marple_cli.specs.Ends.{IsOfText, IsReadFrom, PlanEnds, QueryEnds, ReadEnds};
+ghost use Rattle.command_answers.specs.Phases.{IsOfText, IsReadFrom, PlanEnds, QueryEnds, ReadEnds};
 
 use crate::status::Status;
 use accepted_query::{AcceptedQuery, QueryError, accept, trial_is_accepted, trial_query};

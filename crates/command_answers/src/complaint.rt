@@ -4,8 +4,8 @@ ghost use Rattle.std.specs.List.{flat_map};
 ghost use Rattle.std.specs.Io.KnownBytes.{Appends};
 ghost use Rattle.marple_base.specs.Faults.{HasCause};
 ghost use Rattle.marple_base.specs.Sink.{TakesFront};
-ghost use Rattle.marple_cli.specs.Complaint.{complaint, kind_text};
-ghost use Rattle.marple_cli.specs.Piece.{piece_text};
+ghost use Rattle.command_answers.specs.Complaint.{complaint, kind_text};
+ghost use Rattle.command_answers.specs.Piece.{piece_text};
 
 use crate::status::Status;
 use itoa::Buffer;

@@ -6,7 +6,7 @@ use Rattle.accepted_query.specs.Answers.{IsAnswerTo}
 use Rattle.accepted_query.specs.TrialQuery.{trial_query}
 use Rattle.accepted_query.specs.declared.answer.QueryError.{QueryError}
 use Rattle.accepted_query.specs.declared.answer.QueryError.TheVariants.{Refused}
-use Rattle.marple_cli.proofs.operands.accept_trial.Goals as goal
+use Rattle.command_answers.proofs.operands.accept_trial.Goals as goal
 
 -- the trial's query isn't refused
 never : (text : List ℕ) (answer : QueryError) (fault : QueryFault) → text ≡ trial_query → (q : TypedQuery) × (accepted trial_query ≡ Ok q) → answer ≡ Refused fault → IsAnswerTo text answer → ⊥

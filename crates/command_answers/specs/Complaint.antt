@@ -7,8 +7,8 @@ use Rattle.query_lang.specs.declared.fault.FaultKind.TheVariants as kinds
 use Rattle.query_lang.specs.declared.fault.Limit.TheVariants as limits
 use Rattle.trace_reader.specs.declared.fault.TraceFault.{TraceFault}
 use Rattle.trace_reader.specs.declared.fault.TraceFault.TheVariants as faults
-use Rattle.marple_cli.specs.declared.status.Status.{Status}
-use Rattle.marple_cli.specs.declared.status.Status.TheVariants as statuses
+use Rattle.command_answers.specs.declared.status.Status.{Status}
+use Rattle.command_answers.specs.declared.status.Status.TheVariants as statuses
 
 -- the name of a kind of fault
 abbrev pub kind_text : FaultKind → List ℕ

@@ -1,0 +1,4 @@
+pub mod Complaint
+pub mod OwnChecks
+pub mod Phases
+pub mod Piece

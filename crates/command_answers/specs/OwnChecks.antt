@@ -1,0 +1,15 @@
+-- The first fault of a query for a command that has a check of its own.
+use Rattle.std.specs.Prelude.{List, ℕ, Option, Some, Ok, Err}
+use Rattle.query_lang.specs.declared.fault.QueryFault.{QueryFault}
+use Rattle.query_lang.specs.declared.typed.TypedQuery.{TypedQuery}
+use Rattle.query_lang.specs.Checks.{Checked}
+use Rattle.accepted_query.specs.Accepted.{accepted}
+
+-- the fault of a query or a plan, or where it has none, the fault that a command's own check finds in it
+abbrev pub fault_after : {X : Type 0} → (X → Option QueryFault) → Checked X → Option QueryFault
+fault_after own (Ok q) = own q
+fault_after own (Err fault) = Some fault
+
+-- the first fault of a query's text for a command that has a check of its own: its faults come after all others
+abbrev pub fault_with : (TypedQuery → Option QueryFault) → List ℕ → Option QueryFault
+fault_with own query = fault_after own (accepted query)

@@ -1,0 +1,12 @@
+//! How the program answers: the operands of commands, read and accepted or refused, and statuses with their complaints.
+#![tactic(auto)]
+
+mod checked;
+mod complaint;
+mod operands;
+mod status;
+
+pub use checked::{query_for_bounds, query_for_net, query_for_plan};
+pub use complaint::complain;
+pub use operands::{accept_trial, read_plan_text, read_query, read_trace};
+pub use status::Status;
