@@ -5,32 +5,44 @@ ghost use Rattle.marple_base.specs.Inputs.{IsClosed};
 ghost use Rattle.marple_base.specs.MemoryInputs.{memory_input};
 ghost use Rattle.marple_base.specs.declared.inputs.Which.TheVariants.{Query, Trace};
 
-use marple_base::{FailAt, MemoryInputs, MemorySink, Seq, Steps, Text};
-use marple_cli::{Status, marple};
+use marple_base::{FailAt, Inputs, MemoryInputs, MemorySink, Seq, Steps, Text, Which};
+use marple_cli::{Driven, Status, marple};
 use std::alloc::{AllocError, Global};
 use std::marker::Brand;
 use std::sync::ledger::{Blank, Ledger};
 
 /// The bytes that a sink has place for.
-const PLACES: usize = 1_000_000;
+pub const PLACES: usize = 1_000_000;
 
-/// What a call is made over: the bytes of its inputs, the most bytes of a write, and which calls fail.
+/// What a call is made over: the bytes of its inputs, the most bytes of a write, the bytes that the output has place for, and
+/// which calls fail.
 #[derive(Clone, Copy)]
 pub struct Outside<'a> {
     pub query: &'a [u8],
     pub trace: &'a [u8],
     pub most: usize,
+    pub places: usize,
     pub failing: &'a [FailAt],
     pub failing_writes: &'a [u64],
     pub failing_complaints: &'a [u64],
 }
 
-/// How a call ended, and what its sinks took.
+/// How a call ended, what its sinks took, and the steps that it counted.
 #[derive(Drop)]
 pub struct Told {
     pub status: Status,
     pub text: Text,
     pub complaint: Text,
+    pub steps: u64,
+    /// Whether the query couldn't be read, and then opening the trace after the call fails too.
+    pub trace_fails: bool,
+}
+
+/// How a call ended, and the steps that it counted.
+#[derive(Clone, Copy)]
+struct Ended {
+    status: Status,
+    steps: u64,
 }
 
 /// The words of a command line, which blanks separate.
@@ -77,7 +89,7 @@ fn parts_of(alloc: Global, line: &str, outside: &Outside<'_>) -> Result<Parts, A
     let words = words_of(alloc, line)?;
     let inputs = inputs_of(alloc, outside)?;
     let writes = copied(alloc, outside.failing_writes)?;
-    let out = MemorySink::new(alloc, outside.most, PLACES, writes)?;
+    let out = MemorySink::new(alloc, outside.most, outside.places, writes)?;
     let complaints = copied(alloc, outside.failing_complaints)?;
     let err = MemorySink::new(alloc, outside.most, PLACES, complaints)?;
     Ok(Parts {
@@ -88,35 +100,86 @@ fn parts_of(alloc: Global, line: &str, outside: &Outside<'_>) -> Result<Parts, A
     })
 }
 
-fn run<L: Ledger>(alloc: Global, parts: &mut Parts, blank: Blank) -> Status
+fn run<L: Ledger>(
+    alloc: Global,
+    parts: &mut Parts,
+    driven: &mut Option<Driven>,
+    blank: Blank,
+) -> Ended
     requires query { IsClosed (memory_input parts.old.inputs Query) }
     requires trace { IsClosed (memory_input parts.old.inputs Trace) }
     requires name { blank.name ≡ L.name }
     requires share { blank.parts ≡ L.parts }
     requires whole { 0 < blank.parts }
+    ensures not_reached { result.status ≡ Status.InputFault Query → IsClosed (memory_input parts.new.inputs Trace) }
 {
-    let mut driven = None;
     let mut steps = Steps::<L>::new(blank);
-    marple(
+    let status = marple(
         alloc,
         parts.words.as_slice(),
         &mut parts.inputs,
         &mut parts.out,
         &mut parts.err,
-        &mut driven,
+        driven,
         &mut steps,
-    )
+    );
+    Ended {
+        status,
+        steps: steps.shown(),
+    }
+}
+
+// Opens the trace after a call that couldn't read the query: whether that fails.
+fn fails_to_open(inputs: &mut MemoryInputs, status: Status) -> bool
+    requires { status ≡ Status.InputFault Query → IsClosed (memory_input inputs.old Trace) }
+{
+    if status == Status::InputFault(Which::Query) {
+        inputs.open(Which::Trace).is_err()
+    } else {
+        false
+    }
+}
+
+fn told_of(
+    alloc: Global,
+    parts: &Parts,
+    ended: Ended,
+    trace_fails: bool,
+) -> Result<Told, AllocError> {
+    let text = Text::from_slice(alloc, parts.out.taken())?;
+    let complaint = Text::from_slice(alloc, parts.err.taken())?;
+    Ok(Told {
+        status: ended.status,
+        text,
+        complaint,
+        steps: ended.steps,
+        trace_fails,
+    })
+}
+
+/// Calls the program with the words of a line, where `driven` is what earlier calls left.
+pub fn called_after(
+    alloc: Global,
+    line: &str,
+    outside: &Outside<'_>,
+    driven: &mut Option<Driven>,
+) -> Result<Told, AllocError>
+    requires { 0 < outside.now.most }
+{
+    let mut parts = parts_of(alloc, line, outside)?;
+    let ended = run::<Brand>(alloc, &mut parts, driven, Blank::new(1));
+    let trace_fails = fails_to_open(&mut parts.inputs, ended.status);
+    let told = told_of(alloc, &parts, ended, trace_fails);
+    drop(parts);
+    told
 }
 
 /// Calls the program with the words of a line.
 pub fn called(alloc: Global, line: &str, outside: &Outside<'_>) -> Result<Told, AllocError>
     requires { 0 < outside.now.most }
 {
-    let mut parts = parts_of(alloc, line, outside)?;
-    let status = run::<Brand>(alloc, &mut parts, Blank::new(1));
-    Ok(Told {
-        status,
-        text: Text::from_slice(alloc, parts.out.taken())?,
-        complaint: Text::from_slice(alloc, parts.err.taken())?,
-    })
+    let mut driven = None;
+    let told = called_after(alloc, line, outside, &mut driven);
+    drop(driven);
+    told
 }

@@ -2,7 +2,7 @@
 
 ghost use Rattle.std.specs.Prelude.{◌<◌};
 
-use crate::call::{Outside, called};
+use crate::call::{Outside, PLACES, called};
 use crate::realistic::{QUERY, TABLES, TRACE, VIEWS};
 use marple_base::{FailAt, Text, Which};
 use marple_cli::Status;
@@ -17,6 +17,7 @@ const SOUND: Outside<'static> = Outside {
     query: QUERY,
     trace: TRACE,
     most: 4096,
+    places: PLACES,
     failing: &[],
     failing_writes: &[],
     failing_complaints: &[],

@@ -6,4 +6,12 @@ mod call;
 #[cfg(test)]
 mod calls;
 #[cfg(test)]
+mod count;
+#[cfg(test)]
+mod count_calls;
+#[cfg(test)]
+mod left;
+#[cfg(test)]
 mod realistic;
+#[cfg(test)]
+mod sources;

@@ -1,4 +1,4 @@
-use Rattle.marple_tests.proofs.call.called.Given as goal
+use Rattle.marple_tests.proofs.call.called_after.Given as goal
 
 abbrev pub ghosts-run : goal.ghosts-run
 ghosts-run g = record { name = g.blank.name; parts = g.blank.parts }

@@ -1,0 +1,124 @@
+//! The steps that a run counts.
+
+ghost use Rattle.std.specs.Prelude.{◌≡◌, ◌<◌};
+
+use crate::call::called;
+use crate::sources::{COUNT, QUERY, RUN, SOURCES};
+use accepted_query::{AcceptedQuery, accept};
+use epoch_entry::Entries;
+use marple_base::{Field, Packet, Steps};
+use marple_cli::Status;
+use std::alloc::{AllocError, Global};
+use std::marker::Brand;
+use std::process::Abort;
+use std::sync::ledger::{Blank, Ledger};
+use std::test::Fail;
+use switch_core::{Merged, Pipeline};
+
+/// The steps of the run. Four packets are of a new key: 14 registers + 1 word of the key + 1 hashed + 1 way + 1 word of the
+/// key written + 3 of the entry + 8 for the row. Two of them take 1 more for a word that is compared and 4 for the key and
+/// the entry that they evict. One is of a key that is there: 14 + 1 + 1 + 1 compared + 1 way + 8. A sweep evicts two more
+/// pairs, each in 4 + 1. Each of the four records is merged in 4 + 4.
+const STEPS: u64 = 4 * 29 + 2 * 5 + 26 + 2 * 5 + 4 * 8;
+
+// A packet of this source.
+fn packet_of(source: u64) -> Packet {
+    let mut packet = Packet { words: [0; 14] };
+    packet.words[Field::SrcIp.number()] = source;
+    packet
+}
+
+// A pipeline for the count with the sizes of the run: two buckets of one way, and room for 64 records in the pipe.
+fn made_pipeline(rt: &impl Abort, alloc: Global) -> Result<Pipeline<1>, AllocError> {
+    let Ok(accepted) = accept(alloc, QUERY) else {
+        panic!(rt; "the query isn't accepted");
+    };
+    let AcceptedQuery { typed, plan } = accepted;
+    drop(typed);
+    Pipeline::new(alloc, plan, Entries::Folds, 2, 64)
+}
+
+// Each packet, and a merge after it, as a run makes them.
+fn make_packets<L: Ledger>(
+    rt: &impl Abort,
+    pipeline: &mut Pipeline<1>,
+    steps: &mut Steps<L>,
+) -> Result<(), AllocError> {
+    for source in &SOURCES {
+        assert!(rt; pipeline.ready());
+        pipeline.packet(&packet_of(*source), steps);
+        assert_eq!(rt; pipeline.lanes(), 1);
+        let _merged = pipeline.merge(0, steps)?;
+    }
+    Ok(())
+}
+
+// A sweep, and the merges of the two records that wait after it.
+fn make_end<L: Ledger>(
+    rt: &impl Abort,
+    pipeline: &mut Pipeline<1>,
+    steps: &mut Steps<L>,
+) -> Result<(), AllocError> {
+    pipeline.sweep(steps)?;
+    for wanted in &[Merged::Done, Merged::Done, Merged::Empty] {
+        assert_eq!(rt; pipeline.lanes(), 1);
+        assert_eq!(rt; pipeline.merge(0, steps)?, *wanted);
+    }
+    assert!(rt; pipeline.drained());
+    Ok(())
+}
+
+// Makes the events of the run.
+fn make_events<L: Ledger>(
+    rt: &impl Abort,
+    pipeline: &mut Pipeline<1>,
+    steps: &mut Steps<L>,
+) -> Result<(), AllocError> {
+    make_packets(rt, pipeline, steps)?;
+    make_end(rt, pipeline, steps)
+}
+
+// The same of a new pipeline.
+fn make_events_anew<L: Ledger>(
+    rt: &impl Abort,
+    alloc: Global,
+    steps: &mut Steps<L>,
+) -> Result<(), AllocError> {
+    let mut pipeline = made_pipeline(rt, alloc)?;
+    let made = make_events(rt, &mut pipeline, steps);
+    drop(pipeline);
+    made
+}
+
+// The steps of the events of the run.
+fn steps_of_the_events<L: Ledger>(
+    rt: &impl Abort,
+    alloc: Global,
+    blank: Blank,
+) -> Result<u64, AllocError>
+    requires name { blank.name ≡ L.name }
+    requires parts { blank.parts ≡ L.parts }
+    requires whole { 0 < blank.parts }
+{
+    let mut steps = Steps::<L>::new(blank);
+    make_events_anew(rt, alloc, &mut steps)?;
+    Ok(steps.shown())
+}
+
+// The steps that the run counts.
+fn steps_of_the_run(rt: &impl Abort, alloc: Global) -> Result<u64, AllocError> {
+    let told = called(alloc, RUN, &COUNT)?;
+    let (status, steps) = (told.status, told.steps);
+    drop(told);
+    assert_eq!(rt; status, Status::Ok);
+    Ok(steps)
+}
+
+#[test]
+fn a_run_counts_the_steps_of_its_events(rt: HostRuntime) -> Result<(), Fail> {
+    let alloc = rt.alloc();
+    let steps = steps_of_the_events::<Brand>(&rt, alloc, Blank::new(1))?;
+    assert_eq!(rt; steps, STEPS);
+    assert_eq!(rt; steps_of_the_run(&rt, alloc)?, steps);
+    Ok(())
+}
