@@ -4,6 +4,11 @@ use Rattle.query_lang.specs.declared.fault.QueryFault.{QueryFault}
 use Rattle.query_lang.specs.declared.typed.TypedQuery.{TypedQuery}
 use Rattle.query_lang.specs.Checks.{Checked}
 use Rattle.accepted_query.specs.Accepted.{accepted}
+use Rattle.enclosure_folds.specs.Check.{enclose_fault}
+
+-- the fault of a query that is asked for bounds
+abbrev pub bounds_fault : TypedQuery → Option QueryFault
+bounds_fault = enclose_fault
 
 -- the fault of a query or a plan, or where it has none, the fault that a command's own check finds in it
 abbrev pub fault_after : {X : Type 0} → (X → Option QueryFault) → Checked X → Option QueryFault

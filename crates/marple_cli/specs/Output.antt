@@ -28,7 +28,6 @@ use Rattle.query_run.specs.Driven.{geometry_of}
 use Rattle.net_wide.specs.Combining.{net_fault}
 use Rattle.net_wide.specs.NetTables.{net_text}
 use Rattle.driven_net.specs.NetTraces.{net_packets, net_trace_fault}
-use Rattle.enclosure_folds.specs.Check.{enclose_fault}
 use Rattle.enclosed_query.specs.EnclosedTables.{enclose_text}
 use Rattle.plan_writer.specs.PlanText.{compiled_text, final_fault}
 use Rattle.plan_file.specs.Texts.{IsRefused, Says}
@@ -36,7 +35,7 @@ use Rattle.plan_file.specs.declared.answer.PlanFileAnswer.TheVariants.{Refused}
 use Rattle.plan_file.specs.declared.made.Made.{Made}
 use Rattle.plan_loader.specs.Meaning.{plan_output, reads_in}
 use Rattle.accepted_query.specs.TrialQuery.{trial_query}
-use Rattle.command_answers.specs.OwnChecks.{fault_after, fault_with}
+use Rattle.command_answers.specs.OwnChecks.{bounds_fault, fault_after, fault_with}
 
 -- The text of the first operand, and where it is run as a plan, what its lines make or the fault for which it is refused.
 pub record Source : Type 0 where
@@ -80,7 +79,7 @@ refusal (Plan ways) query = query_fault query.text
 refusal (Gen generation) query = None
 refusal (Trial generation setting) query = None
 refusal (Net setting) query = fault_with net_fault query.text
-refusal (Enclose setting) query = fault_with enclose_fault query.text
+refusal (Enclose setting) query = fault_with bounds_fault query.text
 refusal Compile query = fault_with final_fault query.text
 refusal (RunPlan setting) query = fault_after (λ made. None) query.plan
 

@@ -3,12 +3,11 @@ use Rattle.marple_base.specs.Inputs.{Input}
 use Rattle.marple_base.specs.declared.inputs.Which.{Which}
 use Rattle.query_run.specs.Driven.{geometry_of}
 use Rattle.query_run.specs.Views.{views_text}
-use Rattle.enclosure_folds.specs.Check.{enclose_fault}
 use Rattle.enclosed_query.specs.EnclosedTables.{enclose_text}
 use Rattle.trace_reader.specs.Traces.{Contents}
 use Rattle.trace_drive.specs.Drives.{words_of}
 use Rattle.command_line.specs.declared.command.Command.TheVariants.{Enclose}
-use Rattle.command_answers.specs.OwnChecks.{fault_with}
+use Rattle.command_answers.specs.OwnChecks.{bounds_fault, fault_with}
 use Rattle.marple_cli.proofs.Ending.{query_ends_it, query_fits}
 use Rattle.marple_cli.proofs.Texts.{enclose_is}
 use Rattle.marple_cli.proofs.Traced.{broken_off, not_read, whole_written}
@@ -19,7 +18,7 @@ run_over_trace-ran-requires-clause-may_print g c = (c.of-report.ensures.reports 
 
 pub returns-in_err-query-clause-ends : goal.returns-in_err-query-clause-ends
 returns-in_err-query-clause-ends g c =
-    query_ends_it g.O.Sink.taken g.O.Sink.faults (Enclose c.args.setting) (g.I.Inputs.input c.args.inputs.now) (g.I.Inputs.input c.query_for_bounds.new.inputs) (fault_with enclose_fault) (λ query. refl) c.args.out.now refl
+    query_ends_it g.O.Sink.taken g.O.Sink.faults (Enclose c.args.setting) (g.I.Inputs.input c.args.inputs.now) (g.I.Inputs.input c.query_for_bounds.new.inputs) (fault_with bounds_fault) (λ query. refl) c.args.out.now refl
     c.in_err-query.ensures.trace_kept c.from_residual.result c.in_err-query.field-0.0 c.from_residual.ensures.1 c.in_err-query.ensures.err
 
 pub returns-in-Err-clause-ends : goal.returns-in-Err-clause-ends
@@ -30,7 +29,7 @@ returns-in-Err-clause-ends g c =
     let q = c.in_ok-query.query.typed in
     let command = Enclose c.args.setting in
     let known = c.in_ok-query.ensures.ok in
-    let accepts = query_fits command enclose_fault before q (λ query. refl) known c.in_ok-query.ensures.bounded in
+    let accepts = query_fits command bounds_fault before q (λ query. refl) known c.in_ok-query.ensures.bounded in
     let reads = c.in_ok-query.query.plan.reads in
     let text = λ (found : Contents). views_text (enclose_text q (geometry_of c.args.setting)) 0 (words_of found.packets) in
     not_read g.O.Sink.taken g.O.Sink.faults command before middle after accepts reads (λ found. found.fault) text refl refl (enclose_is before q known c.args.setting reads c.in_ok-query.ensures.plan.reads) c.in_ok-query.ensures.trace_kept
@@ -44,7 +43,7 @@ returns-in_err-left-clause-ends g c =
     let q = c.in_ok-query.query.typed in
     let command = Enclose c.args.setting in
     let known = c.in_ok-query.ensures.ok in
-    let accepts = query_fits command enclose_fault before q (λ query. refl) known c.in_ok-query.ensures.bounded in
+    let accepts = query_fits command bounds_fault before q (λ query. refl) known c.in_ok-query.ensures.bounded in
     let reads = c.in_ok-query.query.plan.reads in
     let text = λ (found : Contents). views_text (enclose_text q (geometry_of c.args.setting)) 0 (words_of found.packets) in
     broken_off g.O.Sink.taken g.O.Sink.faults command before middle after accepts reads (λ found. found.fault) text refl refl (enclose_is before q known c.args.setting reads c.in_ok-query.ensures.plan.reads) c.in_ok-query.ensures.trace_kept
@@ -59,7 +58,7 @@ returns-clause-ends g c =
     let q = c.in_ok-query.query.typed in
     let command = Enclose c.args.setting in
     let known = c.in_ok-query.ensures.ok in
-    let accepts = query_fits command enclose_fault before q (λ query. refl) known c.in_ok-query.ensures.bounded in
+    let accepts = query_fits command bounds_fault before q (λ query. refl) known c.in_ok-query.ensures.bounded in
     let reads = c.in_ok-query.query.plan.reads in
     let text = λ (found : Contents). views_text (enclose_text q (geometry_of c.args.setting)) 0 (words_of found.packets) in
     whole_written g.O.Sink.taken g.O.Sink.faults command before middle after accepts reads (λ found. found.fault) text refl refl (enclose_is before q known c.args.setting reads c.in_ok-query.ensures.plan.reads) c.in_ok-query.ensures.trace_kept
