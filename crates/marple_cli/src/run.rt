@@ -57,6 +57,6 @@ pub fn run<I: Inputs, O: Sink, L: Ledger>(
     drop(report);
     drop(bytes);
     let left = ran?;
-    *driven = Some(left);
+    drop(driven.replace(left));
     Ok(())
 }

@@ -56,6 +56,6 @@ pub fn run_plan<I: Inputs, O: Sink, L: Ledger>(
     drop(report);
     drop(bytes);
     let left = ran?;
-    *driven = Some(left);
+    drop(driven.replace(left));
     Ok(())
 }

@@ -47,6 +47,6 @@ pub fn trial<O: Sink, L: Ledger>(
     let ran = run_over_made(alloc, setting, &report, plan, made, out, steps);
     drop(report);
     let left = ran?;
-    *driven = Some(left);
+    drop(driven.replace(left));
     Ok(())
 }

@@ -1,4 +1,4 @@
-use Rattle.std.proofs.Common.{IfSome, Err, refl, subst}
+use Rattle.std.proofs.Common.{IfSome, Err, refl, sym, subst}
 use Rattle.marple_base.specs.Inputs.{Input}
 use Rattle.marple_base.specs.declared.inputs.Which.{Which}
 use Rattle.marple_base.specs.declared.inputs.Which.TheVariants.{Query, Trace}
@@ -11,6 +11,7 @@ use Rattle.switch_core.specs.PlanLanes.{PipelineStands}
 use Rattle.trace_drive.specs.Drives.{end_machines, words_of}
 use Rattle.trace_reader.specs.Traces.{Contents, contents}
 use Rattle.command_answers.specs.Phases.{status_for}
+use Rattle.marple_cli.specs.Driven.{Leaves}
 use Rattle.marple_cli.proofs.Ending.{answer_not_ok, driven_kept, query_ends_it, query_not_ok, query_told, read_not_ok, run_is, run_leaves}
 use Rattle.command_answers.proofs.Limits.{told_contents}
 use Rattle.marple_cli.proofs.Traced.{broken_off, not_read, whole_written}
@@ -90,7 +91,8 @@ returns-clause-driven g c =
     let plan = c.in_ok-query.query.plan in
     let setting = c.args.setting in
     let stands = λ (input : Input). IfSome input.left (λ bytes. PipelineStands (pipeline_in c.in_ok-left.left) (end_machines plan (geometry_of setting) (words_of (contents bytes plan.reads).packets))) in
-    run_leaves setting c.args.every (g.I.Inputs.input c.args.inputs.now) q c.in_ok-query.ensures.ok plan c.in_ok-query.ensures.plan c.args.driven.now c.in_ok-left.left c.in_ok-left.ensures.left c.in_ok-left.ensures.plan
+    subst (Leaves (Run setting c.args.every) (g.I.Inputs.input c.args.inputs.now) c.args.driven.now) (sym c.replace.ensures.after)
+    (run_leaves setting c.args.every (g.I.Inputs.input c.args.inputs.now) q c.in_ok-query.ensures.ok plan c.in_ok-query.ensures.plan c.args.driven.now c.in_ok-left.left c.in_ok-left.ensures.left c.in_ok-left.ensures.plan
     (subst stands c.in_ok-query.ensures.trace_kept
     (told_contents (λ found. PipelineStands (pipeline_in c.in_ok-left.left) (end_machines plan (geometry_of setting) (words_of found.packets))) plan.reads
-    (g.I.Inputs.input c.read_query.new.inputs Trace).left c.in-Ok.bytes c.as_slice.result.now c.in-Ok.ensures.ok c.as_slice.ensures c.in_ok-left.ensures.stands))
+    (g.I.Inputs.input c.read_query.new.inputs Trace).left c.in-Ok.bytes c.as_slice.result.now c.in-Ok.ensures.ok c.as_slice.ensures c.in_ok-left.ensures.stands)))

@@ -1,4 +1,4 @@
-use Rattle.std.proofs.Common.{IfSome, Err, refl, subst}
+use Rattle.std.proofs.Common.{IfSome, Err, refl, sym, subst}
 use Rattle.marple_base.specs.Inputs.{Input}
 use Rattle.marple_base.specs.declared.inputs.Which.{Which}
 use Rattle.marple_base.specs.declared.inputs.Which.TheVariants.{Query, Trace}
@@ -12,6 +12,7 @@ use Rattle.plan_file.specs.declared.answer.PlanFileAnswer.TheVariants.{Refused}
 use Rattle.plan_loader.specs.Meaning.{plan_output}
 use Rattle.query_run.specs.Views.{views_text}
 use Rattle.command_answers.specs.Phases.{status_for}
+use Rattle.marple_cli.specs.Driven.{Leaves}
 use Rattle.marple_cli.proofs.Ending.{answer_not_ok, driven_kept, operand_ends_it, operand_not_ok, read_not_ok}
 use Rattle.command_answers.proofs.Limits.{told_contents}
 use Rattle.marple_cli.proofs.Plans.{plan_accepted, plan_is, plan_leaves, refuses_plan}
@@ -92,7 +93,8 @@ returns-clause-driven g c =
     let setting = c.args.setting in
     let stands = λ (input : Input). IfSome input.left (λ bytes. PipelineStands (pipeline_in c.in_ok-left.left)
     (end_machines loaded.plan (geometry_of setting) (words_of (contents bytes loaded.plan.reads).packets))) in
-    plan_leaves setting (g.I.Inputs.input c.args.inputs.now) loaded c.in_ok-loaded.ensures.ok c.args.driven.now c.in_ok-left.left c.in_ok-left.ensures.left c.in_ok-left.ensures.plan
+    subst (Leaves (RunPlan setting) (g.I.Inputs.input c.args.inputs.now) c.args.driven.now) (sym c.replace.ensures.after)
+    (plan_leaves setting (g.I.Inputs.input c.args.inputs.now) loaded c.in_ok-loaded.ensures.ok c.args.driven.now c.in_ok-left.left c.in_ok-left.ensures.left c.in_ok-left.ensures.plan
     (subst stands c.in_ok-loaded.ensures.trace_kept
     (told_contents (λ found. PipelineStands (pipeline_in c.in_ok-left.left) (end_machines loaded.plan (geometry_of setting) (words_of found.packets))) loaded.plan.reads
-    (g.I.Inputs.input c.read_plan_text.new.inputs Trace).left c.in-Ok.bytes c.as_slice.result.now c.in-Ok.ensures.ok c.as_slice.ensures c.in_ok-left.ensures.stands))
+    (g.I.Inputs.input c.read_plan_text.new.inputs Trace).left c.in-Ok.bytes c.as_slice.result.now c.in-Ok.ensures.ok c.as_slice.ensures c.in_ok-left.ensures.stands)))

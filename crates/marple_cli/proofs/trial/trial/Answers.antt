@@ -8,7 +8,7 @@ use Rattle.query_tables.specs.Tables.{query_text}
 use Rattle.switch_core.specs.PlanLanes.{PipelineStands}
 use Rattle.trace_drive.specs.Answers.{BreaksOff}
 use Rattle.trace_drive.specs.Drives.{end_machines, words_of}
-use Rattle.marple_cli.specs.Driven.{StandsForEnd}
+use Rattle.marple_cli.specs.Driven.{Leaves, StandsForEnd}
 use Rattle.command_answers.specs.Phases.{status_for}
 use Rattle.marple_cli.specs.Output.{made_packets, tables_text}
 use Rattle.command_answers.specs.declared.status.Status.TheVariants.{Memory}
@@ -79,7 +79,8 @@ returns-clause-driven g c inputs =
     let p = pipeline_in c.in_ok-left.left in
     let q = c.in_ok-query.query.typed in
     let plan = c.in_ok-query.query.plan in
-    let made = made_packets c.args.generation in (
+    let made = made_packets c.args.generation in
+    subst (Leaves (Trial c.args.generation c.args.setting) inputs c.args.driven.now) (sym c.replace.ensures.after) (
       c.in_ok-left.ensures.left,
       subst (λ one. StandsForEnd c.args.setting one (λ q. made) p) (sym c.in_ok-query.ensures.ok)
           (query_stands c.args.setting q plan c.in_ok-query.ensures.plan p c.in_ok-left.ensures.plan (words_of made) (simulated_whole c.args.generation.packets c.args.generation.start 16)
