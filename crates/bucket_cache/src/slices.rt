@@ -7,22 +7,19 @@ ghost use Rattle.bucket_cache.specs.Slices.{at_front};
 use marple_base::Steps;
 use std::sync::ledger::Ledger;
 
-/// Whether two keys of one length are equal. It takes a step for each word that it looks at.
+/// Whether two keys of one length are equal, and how many of their words were looked at.
 #[inline(always)]
-pub fn same_words<L: Ledger>(a: &[u64], b: &[u64], steps: &mut Steps<L>) -> bool
+pub fn compare(a: &[u64], b: &[u64]) -> (bool, usize)
     requires { length a.now ≡ length b.now }
-    ensures answer { result ≡ key_eq a.now b.now }
-    ensures steps { steps.old ≤ steps.new }
-    ensures cost { steps.new ≤ steps.old + length a.now }
+    ensures answer { result.0 ≡ key_eq a.now b.now }
+    ensures looked { result.1 ≤ length a.now }
 {
     for i in 0..a.len() {
         if a[i] != b[i] {
-            steps.tick_many(i as u64 + 1);
-            return false;
+            return (false, i + 1);
         }
     }
-    steps.tick_many(a.len() as u64);
-    true
+    (true, a.len())
 }
 
 /// Moves an element to the front, and those before it one place back.
@@ -36,8 +33,8 @@ pub fn move_to_front<L: Ledger>(order: &mut [u16], at: usize, steps: &mut Steps<
         let next = order[i];
         order[i] = carried;
         carried = next;
-        steps.tick();
     }
+    steps.tick_many(at as u64 + 1);
 }
 
 /// One of the rows of this width, which are stored one after another.

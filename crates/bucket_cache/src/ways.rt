@@ -32,12 +32,17 @@ fn find_key<L: Ledger>(
     ensures steps { steps.old ≤ steps.new }
     ensures cost { steps.new ≤ steps.old + used * length key.now }
 {
+    let mut looked = 0;
     for i in 0..used {
         let held = slices::row(words, key.len(), order[i] as usize);
-        if slices::same_words(held, key, steps) {
+        let compared = slices::compare(held, key);
+        looked += compared.1;
+        if compared.0 {
+            steps.tick_many(looked as u64);
             return Some(i);
         }
     }
+    steps.tick_many(looked as u64);
     None
 }
 

@@ -13,10 +13,10 @@ ghost use Rattle.net_wide.specs.NetLaws.{TellsSwitches};
 ghost use Rattle.command_line.specs.Command.{IsNetSetting, ways_number};
 ghost use Rattle.driven_net.specs.NetTraces.{net_packets, net_reads, net_trace_fault};
 
-use crate::ways::text_with_its_ways;
+use crate::ways::run_with_its_ways;
 use accepted_query::AcceptedQuery;
 use command_line::NetSetting;
-use marple_base::{FieldSet, Sink, Steps, write_all};
+use marple_base::{FieldSet, Sink, Steps};
 use stage_plan::Plan;
 use std::alloc::Global;
 use std::sync::ledger::Ledger;
@@ -60,7 +60,5 @@ pub fn net_over_trace<O: Sink, L: Ledger>(
     read_packets_are_whole();
     read_packets_are_few();
     let trace = open_trace(alloc, bytes, net_reads(&query.plan))?;
-    let text = text_with_its_ways(alloc, setting, query, trace, steps)?;
-    write_all(out, text.as_slice())?;
-    Ok(())
+    run_with_its_ways(alloc, setting, query, trace, out, steps)
 }

@@ -1,9 +1,11 @@
-//! What a query prints over several switches, with the ways that a setting gives.
+//! A query over several switches, with the ways that a setting gives.
 
-ghost use Rattle.std.specs.Prelude.{◌≡◌, ◌*◌, ◌<◌, ◌≤◌, ℕ, List, None, Some, [], length, IfErr, IfOk};
+ghost use Rattle.std.specs.Prelude.{◌≡◌, ◌*◌, ◌<◌, ◌≤◌, ℕ, List, None, Some, [], length, IfErr, IfOk, OnOk};
+ghost use Rattle.std.specs.Io.KnownBytes.{Appends};
 ghost use Rattle.query_lang.specs.TypedQueries.{IsValidQuery};
 ghost use Rattle.stage_plan.specs.Packets.{AreWhole};
 ghost use Rattle.stage_plan.specs.Planned.{IsPlanOf};
+ghost use Rattle.trace_drive.specs.Answers.{BreaksOff};
 ghost use Rattle.trace_drive.specs.Drives.{words_of};
 ghost use Rattle.trace_reader.specs.Faults.{IfRefused};
 ghost use Rattle.trace_reader.specs.Traces.{most_records};
@@ -15,16 +17,16 @@ ghost use Rattle.network.specs.Groups.{AllHavePlaces};
 ghost use Rattle.driven_net.specs.Follows.{NetFollows};
 ghost use Rattle.driven_net.specs.NetTraces.{first_fault};
 
-use crate::ending::end_text;
+use crate::ending::{end_tables, write_text};
 use crate::taking::take_all;
 use accepted_query::AcceptedQuery;
 use command_line::{NetSetting, Ways};
-use marple_base::Steps;
+use marple_base::{Sink, Steps};
 use network::Network;
 use stage_plan::Plan;
 use std::alloc::{AllocError, Global};
 use std::sync::ledger::Ledger;
-use text_buffer::TextBuffer;
+use trace_drive::RunError;
 use trace_reader::{Trace, TraceAnswer};
 
 // The plan's network after all packets of the trace, with caches and pipes of the setting's sizes.
@@ -56,14 +58,15 @@ fn network_after<const WAYS: usize, L: Ledger>(
     take_all(alloc, fresh, setting.lag, trace, steps)
 }
 
-// What the query prints over the trace's packets, with caches of `WAYS` ways.
-fn text_with<const WAYS: usize, L: Ledger>(
+// Runs the query over the trace's packets, with caches of `WAYS` ways, and writes what it prints at the end.
+fn run_with<const WAYS: usize, O: Sink, L: Ledger>(
     alloc: Global,
     setting: NetSetting,
     query: AcceptedQuery,
     trace: Trace<'_>,
+    out: &mut O,
     steps: &mut Steps<L>,
-) -> Result<TextBuffer, TraceAnswer>
+) -> Result<(), RunError>
     requires ways { 0 < WAYS }
     requires buckets { 0 < setting.buckets }
     requires places { setting.buckets * WAYS ≤ 65536 }
@@ -74,28 +77,30 @@ fn text_with<const WAYS: usize, L: Ledger>(
     requires tells { TellsSwitches query.typed }
     requires whole { AreWhole (words_of trace.packets) }
     requires few { length trace.packets ≤ most_records }
-    ensures accepted { IfOk result (λ text. first_fault [] 1 (words_of trace.entry.packets) trace.entry.fault ≡ None) }
-    ensures text { IfOk result (λ text. text ≡ net_text query.typed setting.buckets WAYS (words_of trace.entry.packets)) }
-    ensures refused { IfErr result (λ answer. IfRefused answer (λ fault.
-        first_fault [] 1 (words_of trace.entry.packets) trace.entry.fault ≡ Some fault)) }
+    ensures accepted { OnOk result (first_fault [] 1 (words_of trace.entry.packets) trace.entry.fault ≡ None) }
+    ensures written { OnOk result (Appends (O.taken out.old) (O.taken out.new)
+        (net_text query.typed setting.buckets WAYS (words_of trace.entry.packets))) }
+    ensures breaks_off { IfErr result (BreaksOff O.taken O.faults
+        (net_text query.typed setting.buckets WAYS (words_of trace.entry.packets))
+        (first_fault [] 1 (words_of trace.entry.packets) trace.entry.fault) out.old out.new) }
+    ensures out_later { O.faults out.old ≤ O.faults out.new }
     ensures steps { steps.old ≤ steps.new }
 {
     let AcceptedQuery { typed, plan } = query;
-    let mut network = network_after::<WAYS, L>(alloc, setting, plan, trace, steps)?;
-    match end_text(alloc, &typed, &mut network, steps) {
-        Ok(text) => Ok(text),
-        Err(AllocError) => Err(TraceAnswer::Memory),
-    }
+    let network = network_after::<WAYS, L>(alloc, setting, plan, trace, steps)?;
+    let tables = end_tables(&typed, network, steps)?;
+    write_text(alloc, &typed, tables, out, steps)
 }
 
-/// What the query prints over the trace's packets, with caches of the setting's ways.
-pub(crate) fn text_with_its_ways<L: Ledger>(
+/// Runs the query over the trace's packets, with caches of the setting's ways, and writes what it prints at the end.
+pub(crate) fn run_with_its_ways<O: Sink, L: Ledger>(
     alloc: Global,
     setting: NetSetting,
     query: AcceptedQuery,
     trace: Trace<'_>,
+    out: &mut O,
     steps: &mut Steps<L>,
-) -> Result<TextBuffer, TraceAnswer>
+) -> Result<(), RunError>
     requires setting { IsNetSetting setting }
     requires valid { IsValidQuery query.typed }
     requires plan { IsPlanOf query.typed query.plan }
@@ -103,19 +108,21 @@ pub(crate) fn text_with_its_ways<L: Ledger>(
     requires tells { TellsSwitches query.typed }
     requires whole { AreWhole (words_of trace.packets) }
     requires few { length trace.packets ≤ most_records }
-    ensures accepted { IfOk result (λ text. first_fault [] 1 (words_of trace.entry.packets) trace.entry.fault ≡ None) }
-    ensures text { IfOk result (λ text.
-        text ≡ net_text query.typed setting.buckets (ways_number setting.ways) (words_of trace.entry.packets)) }
-    ensures refused { IfErr result (λ answer. IfRefused answer (λ fault.
-        first_fault [] 1 (words_of trace.entry.packets) trace.entry.fault ≡ Some fault)) }
+    ensures accepted { OnOk result (first_fault [] 1 (words_of trace.entry.packets) trace.entry.fault ≡ None) }
+    ensures written { OnOk result (Appends (O.taken out.old) (O.taken out.new)
+        (net_text query.typed setting.buckets (ways_number setting.ways) (words_of trace.entry.packets))) }
+    ensures breaks_off { IfErr result (BreaksOff O.taken O.faults
+        (net_text query.typed setting.buckets (ways_number setting.ways) (words_of trace.entry.packets))
+        (first_fault [] 1 (words_of trace.entry.packets) trace.entry.fault) out.old out.new) }
+    ensures out_later { O.faults out.old ≤ O.faults out.new }
     ensures steps { steps.old ≤ steps.new }
 {
     match setting.ways {
-        Ways::One => text_with::<1, L>(alloc, setting, query, trace, steps),
-        Ways::Two => text_with::<2, L>(alloc, setting, query, trace, steps),
-        Ways::Four => text_with::<4, L>(alloc, setting, query, trace, steps),
-        Ways::Eight => text_with::<8, L>(alloc, setting, query, trace, steps),
-        Ways::Sixteen => text_with::<16, L>(alloc, setting, query, trace, steps),
-        Ways::ThirtyTwo => text_with::<32, L>(alloc, setting, query, trace, steps),
+        Ways::One => run_with::<1, O, L>(alloc, setting, query, trace, out, steps),
+        Ways::Two => run_with::<2, O, L>(alloc, setting, query, trace, out, steps),
+        Ways::Four => run_with::<4, O, L>(alloc, setting, query, trace, out, steps),
+        Ways::Eight => run_with::<8, O, L>(alloc, setting, query, trace, out, steps),
+        Ways::Sixteen => run_with::<16, O, L>(alloc, setting, query, trace, out, steps),
+        Ways::ThirtyTwo => run_with::<32, O, L>(alloc, setting, query, trace, out, steps),
     }
 }

@@ -5,6 +5,8 @@
 #[cfg(test)]
 mod base;
 #[cfg(test)]
+mod bounds;
+#[cfg(test)]
 mod codes;
 #[cfg(test)]
 mod counts;
@@ -20,3 +22,5 @@ mod folds;
 mod kinds;
 #[cfg(test)]
 mod lanes;
+#[cfg(test)]
+mod one_lane;

@@ -7,4 +7,4 @@ mod laws;
 mod print;
 
 pub use laws::query_tables_are_read;
-pub use print::{add_finals, print_tables, table_number, write_tables};
+pub use print::{add_finals, table_number, write_tables};

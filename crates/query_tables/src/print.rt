@@ -16,7 +16,7 @@ use marple_base::{Seq, Sink, Steps};
 use query_lang::{PrintOf, TypedQuery};
 use std::alloc::{AllocError, Global};
 use std::sync::ledger::Ledger;
-use table_printer::{push_table, write_table};
+use table_printer::write_table;
 use text_buffer::{TextBuffer, WriteError};
 
 /// The tables of the groupbys, followed by those of the finals, each made of the tables before it.
@@ -51,57 +51,6 @@ pub fn table_number(groups: usize, one: PrintOf) -> usize
         PrintOf::Group(number) => usize::from(number),
         PrintOf::Final(number) => groups + usize::from(number),
     }
-}
-
-// Puts the text of the table with this number after the others.
-fn push_table_at(
-    text: &mut TextBuffer,
-    tables: &Seq<Table>,
-    number: usize,
-) -> Result<(), AllocError>
-    requires number { number < length tables.now }
-    requires tables { All IsTable tables.now }
-    ensures { OnOk result (text.new ≡ text.old ++ text_at tables.now number) }
-{
-    push_table(text, tables.get(number))
-}
-
-// The texts of the printed tables, in the order of the prints.
-fn printed_texts(
-    alloc: Global,
-    prints: &[PrintOf],
-    groups: usize,
-    tables: &Seq<Table>,
-) -> Result<TextBuffer, AllocError>
-    requires groups { groups ≤ 8 }
-    requires prints { All (λ one. table_number groups one < length tables.now) prints.now }
-    requires tables { All IsTable tables.now }
-    ensures { IfOk result (λ text. text ≡ flat_map (λ one. text_at tables.now (table_number groups one)) prints.now) }
-{
-    let mut text = TextBuffer::new(alloc);
-    for one in prints {
-        push_table_at(&mut text, tables, table_number(groups, *one))?;
-    }
-    Ok(text)
-}
-
-/// What a query prints, whole: the tables that it names, of its groupbys and finals, in the order of its prints. These are the
-/// tables of its groupbys.
-pub fn print_tables<L: Ledger>(
-    alloc: Global,
-    q: &TypedQuery,
-    groups: Seq<Table>,
-    steps: &mut Steps<L>,
-) -> Result<TextBuffer, AllocError>
-    requires valid { IsValidQuery q.now }
-    requires shapes { map table_shape groups ≡ map (group_shape q.now.folds) (takings q.now.streams) }
-    requires tables { All IsTable groups }
-    ensures text { IfOk result (λ text. text ≡ printed q.now (with_finals q.now.names q.now.folds groups q.now.finals)) }
-    ensures steps { steps.old ≤ steps.new }
-{
-    let count = groups.len();
-    let tables = add_finals(alloc, q, groups, steps)?;
-    printed_texts(alloc, q.prints.as_slice(), count, &tables)
 }
 
 // Writes the text of the table with this number.
@@ -145,8 +94,9 @@ fn write_printed<O: Sink>(
     Ok(())
 }
 
-/// Writes what a query prints, as `print_tables` makes it, after the bytes that wait in the buffer. Its last bytes wait there.
-/// After an `Err` the sink has some first bytes of what was to be written.
+/// Writes what a query prints, after the bytes that wait in the buffer: the tables that it names, of its groupbys and finals,
+/// in the order of its prints. `groups` are the tables of its groupbys. The last bytes wait in the buffer. After an `Err` the
+/// sink has some first bytes of what was to be written.
 pub fn write_tables<O: Sink, L: Ledger>(
     alloc: Global,
     q: &TypedQuery,

@@ -4,4 +4,4 @@
 mod parts;
 mod printer;
 
-pub use printer::{push_table, table_text, write_table};
+pub use printer::write_table;

@@ -1,5 +1,5 @@
 //! Titles, headings and rows.
-ghost use Rattle.std.specs.Prelude.{◌≡◌, ◌≤◌, ◌++◌, ◌∷◌, [], length, map, flat_map, codes, decimal, IfOk, IsErrOf, OnErr, OnOk};
+ghost use Rattle.std.specs.Prelude.{◌≡◌, ◌≤◌, ◌++◌, ◌∷◌, [], length, map, codes, decimal, IsErrOf, OnErr, OnOk};
 ghost use Rattle.marple_base.specs.Faults.{Rose};
 ghost use Rattle.marple_base.specs.Sink.{TakesFront};
 ghost use Rattle.table_rows.specs.LentRows.{row_of};
@@ -12,7 +12,7 @@ use crate::parts::{push_names, push_number, push_part, push_word, push_words};
 use final_queries::{Mark, RowRef, Table, TableKind};
 use marple_base::{Sink, Text};
 use query_lang::Class;
-use std::alloc::{AllocError, Global};
+use std::alloc::AllocError;
 use text_buffer::{TextBuffer, WriteError};
 
 fn class_word(class: Class) -> &'static [u8]
@@ -138,30 +138,8 @@ fn push_head(text: &mut TextBuffer, table: &Table) -> Result<(), AllocError>
     push_heading(text, table)
 }
 
-/// Puts the text of a table into a buffer: a line that says what it is, a heading, and a line for each row.
-pub fn push_table(text: &mut TextBuffer, table: &Table) -> Result<(), AllocError>
-    requires keys { table.now.keys ≤ length table.now.columns }
-    ensures { OnOk result (text.new ≡ text.old ++ table_text table.now) }
-{
-    push_head(text, table)?;
-    'rows: for at in 0..table.rows.len() {
-        push_row(text, table.kind, &table.rows.get(at))?;
-    }
-    Ok(())
-}
-
-/// The text of a table, as `push_table` makes it.
-pub fn table_text(alloc: Global, table: &Table) -> Result<Text, AllocError>
-    requires keys { table.now.keys ≤ length table.now.columns }
-    ensures { IfOk result (λ text. text ≡ table_text table.now) }
-{
-    let mut text = TextBuffer::new(alloc);
-    push_table(&mut text, table)?;
-    Text::from_slice(alloc, text.as_slice())
-}
-
-/// Writes the text of a table, as `push_table` makes it, after the bytes that wait in the buffer. Its last bytes wait there.
-/// After an `Err` the sink has some first bytes of what was to be written.
+/// Writes the text of a table after the bytes that wait in the buffer: a line that says what it is, a heading, and a line for
+/// each row. Its last bytes wait there. After an `Err` the sink has some first bytes of what was to be written.
 pub fn write_table<O: Sink>(
     text: &mut TextBuffer,
     table: &Table,

@@ -1,4 +1,4 @@
-use Rattle.std.proofs.Common.{◌≡◌, ◌+◌, ◌*◌, ◌<◌, ◌≤◌, ◌∙◌, [], length, take, drop, sym, ap, subst, arith}
+use Rattle.std.proofs.Common.{◌+◌, ◌*◌, ◌<◌, ◌≤◌, ◌∙◌, [], length, take, drop, sym, ap, subst, arith}
 use Rattle.bucket_cache.proofs.FlatRows.{get-rows_of, length-rows_of, row_fits}
 use Rattle.bucket_cache.proofs.entries.Entries.entry.Goals as goal
 

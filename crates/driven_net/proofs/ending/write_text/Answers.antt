@@ -1,0 +1,46 @@
+use Rattle.std.proofs.Common.{Err, None, ◌++◌, ap, refl, subst}
+use Rattle.marple_base.specs.Sink.{TakesFront}
+use Rattle.final_queries.specs.Finals.{with_finals}
+use Rattle.query_tables.specs.Tables.{printed}
+use Rattle.text_buffer.specs.Pieces.{TakesAllBut}
+use Rattle.text_buffer.proofs.Pieces.{front_taken, rest_taken}
+use Rattle.trace_drive.specs.Answers.{BreaksOff, answer_of}
+use Rattle.trace_drive.specs.declared.answer.RunError.TheVariants.{Failed}
+use Rattle.trace_drive.proofs.Breaking.{err_is, rose_since, unwritten}
+use Rattle.driven_net.proofs.ending.write_text.Goals as goal
+
+pub returns-in_err-write_tables-clause-breaks_off : goal.returns-in_err-write_tables-clause-breaks_off
+returns-in_err-write_tables-clause-breaks_off g c =
+    let q = c.args.typed.now in
+    let whole = printed q (with_finals q.names q.folds c.args.tables q.finals) in
+    let old = c.args.out.now in
+    let new = c.write_tables.new.out in
+    let answer = c.in_err-write_tables.field-0.0 in
+    err_is (BreaksOff g.O.Sink.taken g.O.Sink.faults whole None old new) c.from_residual.result (answer_of answer) c.from_residual.ensures.1
+    (unwritten g.O.Sink.taken g.O.Sink.faults whole None old new refl answer (λ is. c.in_err-write_tables.ensures.failed (ap Err is))
+    (subst (λ first. TakesFront (g.O.Sink.taken old) (g.O.Sink.taken new) (first ++ whole)) c.new-text.ensures c.in_err-write_tables.ensures.err))
+
+pub returns-in_err-write_rest-clause-breaks_off : goal.returns-in_err-write_rest-clause-breaks_off
+returns-in_err-write_rest-clause-breaks_off g c =
+    let q = c.args.typed.now in
+    let whole = printed q (with_finals q.names q.folds c.args.tables q.finals) in
+    let old = c.args.out.now in
+    let mid = c.write_tables.new.out in
+    let new = c.write_rest.new.out in
+    let waits = c.write_tables.new.text in
+    err_is (BreaksOff g.O.Sink.taken g.O.Sink.faults whole None old new) c.from_residual-in_err-write_rest.result Failed c.from_residual-in_err-write_rest.ensures.1 (
+      refl,
+      rose_since (g.O.Sink.faults old) (g.O.Sink.faults mid) (g.O.Sink.faults new) c.write_tables.ensures.out_later c.in_err-write_rest.ensures.cause.failed,
+      front_taken (g.O.Sink.taken old) (g.O.Sink.taken mid) (g.O.Sink.taken new) waits whole
+          (subst (λ first. TakesAllBut (g.O.Sink.taken old) (g.O.Sink.taken mid) waits (first ++ whole)) c.new-text.ensures c.in_ok-write_tables.ensures.ok) c.in_err-write_rest.ensures.front,
+    )
+
+pub returns-clause-written : goal.returns-clause-written
+returns-clause-written g c =
+    let q = c.args.typed.now in
+    let whole = printed q (with_finals q.names q.folds c.args.tables q.finals) in
+    let old = g.O.Sink.taken c.args.out.now in
+    let mid = g.O.Sink.taken c.write_tables.new.out in
+    let waits = c.write_tables.new.text in
+    rest_taken old mid (g.O.Sink.taken c.write_rest.new.out) waits whole
+    (subst (λ first. TakesAllBut old mid waits (first ++ whole)) c.new-text.ensures c.in_ok-write_tables.ensures.ok) c.in_ok-write_rest.ensures.ok
