@@ -15,14 +15,14 @@ use Rattle.final_queries.specs.FinalLaws.{GroupTablesAreRead}
 use Rattle.final_queries.specs.Joining.{reads}
 use Rattle.final_queries.proofs.KeyLists.{all_ascending}
 
-abbrev key_of : Row → Key
+abbrev pub key_of : Row → Key
 key_of row = row.key
 
-abbrev keys_read : List Row → List Key
+abbrev pub keys_read : List Row → List Key
 keys_read rows = map key_of (reads rows)
 
 -- no row is read, or one of this key
-abbrev HasOneAtMost : Key → List Row → Type 0
+abbrev pub HasOneAtMost : Key → List Row → Type 0
 HasOneAtMost key rows = (keys_read rows ≡ []) ⊎ (keys_read rows ≡ key ∷ [])
 
 none_read : (f : Folding) (key : Key) (count number : ℕ) (lists : List (List ArgRow)) → is_read (mark_of count) ≡ false → keys_read (epoch_rows f key count number lists) ≡ []
@@ -34,7 +34,7 @@ several n =
     let e : (suc (suc n) == 1) ≡ false = grind (arith, nat_tests) in
     rw e refl
 
-epochs_read : (f : Folding) (key : Key) (lists : List (List ArgRow)) → HasOneAtMost key (epoch_rows f key (length lists) 1 lists)
+pub epochs_read : (f : Folding) (key : Key) (lists : List (List ArgRow)) → HasOneAtMost key (epoch_rows f key (length lists) 1 lists)
 epochs_read f key [] = inl refl
 epochs_read f key (rows ∷ []) = inr refl
 epochs_read f key (rows ∷ more ∷ lists) = inl (none_read f key (suc (suc (length lists))) 1 (rows ∷ more ∷ lists) (several (length lists)))
@@ -76,7 +76,7 @@ all_flat P h [] all = All-nil P
 all_flat P h (key ∷ keys) all = All-append P (h key) (flat_map h keys) (All-head (λ k. All P (h k)) key keys all) (all_flat P h keys (All-tail (λ k. All P (h k)) key keys all))
 
 module _ (words states : ℕ) (f : Folding) (long : (rows : List ArgRow) → length (folded f rows) ≡ states) where
-  epochs_have : (key : Key) (count number : ℕ) (lists : List (List ArgRow)) → length key ≡ words → All (HasColumns words states) (epoch_rows f key count number lists)
+  pub epochs_have : (key : Key) (count number : ℕ) (lists : List (List ArgRow)) → length key ≡ words → All (HasColumns words states) (epoch_rows f key count number lists)
   epochs_have key count number [] e = All-nil (HasColumns words states)
   epochs_have key count number (rows ∷ lists) e =
       All-cons (HasColumns words states) (record { key = key; mark = mark_of count; epoch = number; epochs = _; values = folded f rows }) (epoch_rows f key count (suc number) lists)

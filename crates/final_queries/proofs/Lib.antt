@@ -3,7 +3,7 @@ mod KeyLists
 mod JoinSteps
 mod TopSteps
 mod GroupSteps
-mod GroupRead
+pub mod GroupRead
 mod AlikeTables
 pub mod StateLengths
 mod MadeRows

@@ -1,11 +1,10 @@
 -- Finals can read the tables of several switches: of each key they read at most one row.
-use Rattle.std.proofs.Common.{◌≡◌, ℕ, suc, ◌-◌, ◌==◌, Bool, true, false, ◌||◌, List, [], ◌∷◌, ◌++◌, ◌⊎◌, inl, inr, length, drop, map, flat_map, Option, Some, None, refl, sym, ap, ◌∙◌, subst, arith, length-append}
+use Rattle.std.proofs.Common.{◌≡◌, ℕ, suc, ◌-◌, Bool, true, false, ◌||◌, List, [], ◌∷◌, ◌++◌, inr, length, drop, map, flat_map, Option, Some, None, refl, sym, ap, ◌∙◌, subst, arith, length-append}
 use Rattle.std.specs.Prelude.{slice_get}
 use Rattle.std.specs.List.{All}
 use Rattle.std.proofs.lemmas.Bool.{true≢false}
-use Rattle.std.proofs.lemmas.Bool.Decides.{nat_tests}
-use Rattle.std.proofs.lemmas.List.{map-append, length-map}
-use Rattle.std.proofs.lemmas.List.Elements.{All-nil, All-cons, All-append, All-head, All-tail, filter-append}
+use Rattle.std.proofs.lemmas.List.{length-map}
+use Rattle.std.proofs.lemmas.List.Elements.{All-nil, All-cons, All-append, All-head, All-tail}
 use Rattle.query_lang.specs.declared.fold.TypedFold.{TypedFold}
 use Rattle.query_lang.specs.declared.typed.TypedQuery.{TypedQuery}
 use Rattle.query_lang.specs.Streams.{takings}
@@ -13,9 +12,9 @@ use Rattle.query_lang.specs.TypedQueries.{IsValidQuery}
 use Rattle.query_lang.specs.TypedQueries as of_query
 use Rattle.query_types.specs.Uses.{uses}
 use Rattle.epoch_model.specs.declared.tables.Row.{Row}
-use Rattle.epoch_model.specs.Keys.{Key, ArgRow, has, key_eq, AreAbove, IsAscending}
+use Rattle.epoch_model.specs.Keys.{Key, ArgRow, has, key_eq}
 use Rattle.epoch_model.specs.Epochs.{Use, Geometry}
-use Rattle.epoch_model.specs.Tables.{Folding, folded, mark_of, exact_row, epoch_rows, keys_used}
+use Rattle.epoch_model.specs.Tables.{Folding, folded, exact_row, keys_used}
 use Rattle.epoch_model.proofs.KeyLists.{by_test, key_eq-refl, key_eq-true}
 use Rattle.epoch_model.proofs.KeyOrder.{ascending-ascends, has-ascending}
 use Rattle.epoch_entry.specs.Foldings.{folding_of}
@@ -30,8 +29,8 @@ use Rattle.stage_plan.specs.Shape.{GroupShape, group_shape, query_groups}
 use Rattle.stage_plan.specs.Sound.{PlanParts, IsSoundPlan}
 use Rattle.switch_core.proofs.LanesMade.{group_sound}
 use Rattle.switch_core.proofs.SideBySide.{got_below}
-use Rattle.final_queries.specs.Finals.{IsTable, HasColumns, is_read, table_shape}
-use Rattle.final_queries.specs.Joining.{reads}
+use Rattle.final_queries.specs.Finals.{IsTable, HasColumns, table_shape}
+use Rattle.final_queries.proofs.GroupRead.{HasOneAtMost, epochs_read, all_in_order, epochs_have}
 use Rattle.final_queries.proofs.StateLengths.{states_length}
 use Rattle.query_tables.specs.Tables.{query_table, table_if, tables_from, group_tables}
 use Rattle.query_tables.specs.TableLaws.{QueryTablesAreRead}
@@ -39,55 +38,8 @@ use Rattle.net_wide.specs.NetTables.{net_epochs, key_args, net_key_rows, net_row
 use Rattle.net_wide.proofs.Places.{first_at}
 use Rattle.net_wide.specs.NetEnds.{NetTablesAreRead}
 
-abbrev key_of : Row → Key
-key_of row = row.key
-
-abbrev keys_read : List Row → List Key
-keys_read rows = map key_of (reads rows)
-
--- no row is read, or one of this key
-abbrev HasOneAtMost : Key → List Row → Type 0
-HasOneAtMost key rows = (keys_read rows ≡ []) ⊎ (keys_read rows ≡ key ∷ [])
-
-none_read : (f : Folding) (key : Key) (count number : ℕ) (lists : List (List ArgRow)) → is_read (mark_of count) ≡ false → keys_read (epoch_rows f key count number lists) ≡ []
-none_read f key count number [] e = refl
-none_read f key count number (rows ∷ lists) e = rw e (none_read f key count (suc number) lists e)
-
-several : (n : ℕ) → is_read (mark_of (suc (suc n))) ≡ false
-several n = let e : (suc (suc n) == 1) ≡ false = grind (arith, nat_tests) in rw e refl
-
-epochs_read : (f : Folding) (key : Key) (lists : List (List ArgRow)) → HasOneAtMost key (epoch_rows f key (length lists) 1 lists)
-epochs_read f key [] = inl refl
-epochs_read f key (rows ∷ []) = inr refl
-epochs_read f key (rows ∷ more ∷ lists) = inl (none_read f key (suc (suc (length lists))) 1 (rows ∷ more ∷ lists) (several (length lists)))
-
 key_read : (f : Folding) (pieces : List (List ArgRow)) (args : List ArgRow) (key : Key) → HasOneAtMost key (net_key_rows f pieces args key)
 key_read f pieces args key = by_test f.row_per_epoch (λ t. rw t (epochs_read f key pieces)) (λ t. rw t (inr refl))
-
--- the rows of ascending keys that are read are in order
-module _ (h : Key → List Row) (one : (key : Key) → HasOneAtMost key (h key)) where
-  joined : (key : Key) (rest : List Row) → keys_read (h key ++ rest) ≡ keys_read (h key) ++ keys_read rest
-  joined key rest = ap (map key_of) (filter-append (λ row. is_read row.mark) (h key) rest) ∙ map-append key_of (reads (h key)) (reads rest)
-
-  all_above : (low : Key) (keys : List Key) → AreAbove low keys → AreAbove low (keys_read (flat_map h keys))
-  all_above low [] above = tt
-  all_above low (key ∷ keys) above =
-      let rest = flat_map h keys in
-      let more = all_above low keys above.1 in
-      subst (AreAbove low) (sym (joined key rest)) (elim (one key) [
-        | inl e ↦ subst (λ xs. AreAbove low (xs ++ keys_read rest)) (sym e) more
-        | inr e ↦ subst (λ xs. AreAbove low (xs ++ keys_read rest)) (sym e) (above.0, more)
-      ])
-
-  all_in_order : (keys : List Key) → IsAscending keys → IsAscending (keys_read (flat_map h keys))
-  all_in_order [] order = tt
-  all_in_order (key ∷ keys) order =
-      let rest = flat_map h keys in
-      let more = all_in_order keys order.1 in
-      subst IsAscending (sym (joined key rest)) (elim (one key) [
-        | inl e ↦ subst (λ xs. IsAscending (xs ++ keys_read rest)) (sym e) more
-        | inr e ↦ subst (λ xs. IsAscending (xs ++ keys_read rest)) (sym e) (all_above key keys order.0, more)
-      ])
 
 -- this number of key words and values
 
@@ -95,15 +47,9 @@ abbrev AreLong : ℕ → List Key → Type 0
 AreLong words keys = (key : Key) → has key keys ≡ true → length key ≡ words
 
 module _ (words states : ℕ) (f : Folding) (long : (rows : List ArgRow) → length (folded f rows) ≡ states) where
-  epochs_have : (key : Key) (count number : ℕ) (lists : List (List ArgRow)) → length key ≡ words → All (HasColumns words states) (epoch_rows f key count number lists)
-  epochs_have key count number [] e = All-nil (HasColumns words states)
-  epochs_have key count number (rows ∷ lists) e =
-      All-cons (HasColumns words states) (record { key = key; mark = mark_of count; epoch = number; epochs = _; values = folded f rows }) (epoch_rows f key count (suc number) lists)
-      (record { key = e; values = long rows }) (epochs_have key count (suc number) lists e)
-
   key_has : (pieces : List (List ArgRow)) (args : List ArgRow) (key : Key) → length key ≡ words → All (HasColumns words states) (net_key_rows f pieces args key)
   key_has pieces args key e = by_test f.row_per_epoch
-      (λ t. rw t (epochs_have key (length pieces) 1 pieces e))
+      (λ t. rw t (epochs_have words states f long key (length pieces) 1 pieces e))
       (λ t. rw t (All-cons (HasColumns words states) (exact_row f key (length pieces) args) [] (record { key = e; values = long args }) (All-nil (HasColumns words states))))
 
   rows_have : (h : Key → List Row) → ((key : Key) → length key ≡ words → All (HasColumns words states) (h key)) → (keys : List Key) → AreLong words keys → All (HasColumns words states) (flat_map h keys)
