@@ -1,14 +1,15 @@
 -- What an epoch of a key, and what is written into its last row, mean for each key.
-use Rattle.std.proofs.Common.{◌≡◌, ℕ, suc, zero, ◌<◌, ◌≤◌, ◌||◌, Bool, true, false, cond, List, [], ◌∷◌, ◌++◌, append-nil, drop, length, slice_get, Some, refl, sym, ap, ◌∙◌, eq-eqb, inl, inr, arith}
+use Rattle.std.proofs.Common.{◌≡◌, ℕ, suc, zero, ◌<◌, ◌≤◌, ◌||◌, Bool, true, false, cond, List, [], ◌∷◌, ◌++◌, drop, length, slice_get, Some, refl, sym, ap, ◌∙◌, eq-eqb, inl, inr, arith}
 use Rattle.std.specs.Prelude.{◌==◌}
 use Rattle.std.proofs.lemmas.Bool.{cases_lt, ne_eqb}
-use Rattle.std.proofs.lemmas.List.{drop_all, take_all}
+use Rattle.std.proofs.lemmas.List.{drop_all}
 use Rattle.std.proofs.lemmas.Option.{same_Some}
 use Rattle.epoch_model.specs.Keys.{Key, has, key_eq}
 use Rattle.epoch_model.proofs.KeyLists.{by_test, key_eq-not, key_eq-refl, key_eq-sym_false, key_eq-true}
+use Rattle.bucket_cache.proofs.LentEntries.{over-all}
 use Rattle.backing_store.specs.Store.{AreRowsOf, IsLastIn, Store, StoredKey, StoredRow, makes_row, number_of, row_keys, states_at, with_epoch}
 use Rattle.backing_store.specs.StoreLaws.{EpochsAreCounted, KeysAreKept, LastRowsAreWritten, RowsAreAdded, keys_of, with_last}
-use Rattle.backing_store.specs.StoreLending.{replaced, with_words_at}
+use Rattle.backing_store.specs.StoreLending.{with_words_at}
 use Rattle.backing_store.proofs.SortedFacts.{no_states, states_push}
 use Rattle.backing_store.proofs.StateFacts.{written-whole}
 use Rattle.backing_store.proofs.StoreKept.{missing_counted, store_counted}
@@ -114,11 +115,6 @@ rows_added store key other initial row_per_epoch kept key_size row_size =
           ∙ sym (ap (λ n. states_at store.rows n) missing ∙ no_states (length store.keys) store.state_words (length store.keys) store.rows kept.rows (omega arith))
     ]))
 
--- what is written has the length of the row
-replaced_whole : (old words : List ℕ) → length words ≡ length old → replaced old words ≡ words
-replaced_whole old words same =
-    rw (drop_all (length words) old (omega (arith, same)), append-nil words) (take_all (length old) words (omega (arith, same)))
-
 no_later : (rows : List StoredRow) (m : ℕ) → ((later : ℕ) → slice_get (row_keys rows) later ≡ Some m → ⊥) → states_at rows m ≡ []
 no_later [] m none = refl
 no_later (row ∷ rows) m none =
@@ -145,7 +141,7 @@ written_last keys words [] m place state are is size = absurd (cc is.here)
 written_last keys words (row ∷ rows) m zero state are is size =
     let here = eq-eqb row.key m (same_Some _ _ is.here) in
     let none = no_later rows m (λ later at. is.last (suc later) (omega arith) at) in
-    rw (here, only_one row rows state (size ∙ sym are.1), none, replaced_whole row.words state (size ∙ sym are.1)) refl
+    rw (here, only_one row rows state (size ∙ sym are.1), none, over-all row.words state (size ∙ sym are.1)) refl
 written_last keys words (row ∷ rows) m (suc place) state are is size =
     let rest : IsLastIn (row_keys rows) m place = record { here = is.here; last = λ later after at. is.last (suc later) (omega (arith, after)) at } in
     let more = written_last keys words rows m place state are.2 rest size in

@@ -1,11 +1,11 @@
 -- What holds of every store is kept by a counted epoch and by what is written into a row.
-use Rattle.std.proofs.Common.{◌≡◌, ◌↔◌, Some, option_map, slice_get, ℕ, suc, zero, ◌<◌, ◌≤◌, ◌^◌, Bool, false, List, [], ◌∷◌, ◌++◌, length, drop, length-append, length-drop, refl, sym, ap, ◌∙◌, arith}
-use Rattle.std.proofs.lemmas.List.{length-take-le}
+use Rattle.std.proofs.Common.{◌≡◌, ◌↔◌, Some, option_map, slice_get, ℕ, suc, zero, ◌<◌, ◌≤◌, ◌^◌, Bool, false, List, [], ◌∷◌, ◌++◌, length, drop, refl, sym, ap, ◌∙◌, arith}
 use Rattle.std.proofs.lemmas.Option.{same_Some}
 use Rattle.epoch_model.specs.Keys.{Key, key_eq}
 use Rattle.epoch_model.proofs.KeyLists.{by_test, key_eq-sym_false}
+use Rattle.bucket_cache.proofs.LentEntries.{length-over}
 use Rattle.backing_store.specs.Store.{AreKeysOf, AreOnce, AreRowsOf, IsStore, Store, StoredKey, StoredRow, counted, epochs_of, makes_row, number_of, one_more, with_epoch}
-use Rattle.backing_store.specs.StoreLending.{replaced, with_words_at}
+use Rattle.backing_store.specs.StoreLending.{with_words_at}
 
 -- one epoch more is one at least, and a word
 one_more-word : (n : ℕ) → (0 < one_more n) × (one_more n < 2 ^ 64)
@@ -65,15 +65,9 @@ store_counted store key initial row_per_epoch kept key_size row_size =
           (λ kept. rw kept rows);
     }
 
-length-replaced : (old words : List ℕ) → length (replaced old words) ≡ length old
-length-replaced old words =
-    let more = length-append words (drop (length words) old) in
-    let rest = length-drop (length words) old in
-    length-take-le (length old) (words ++ drop (length words) old) (omega arith)
-
 rows_written : (keys words : ℕ) (rows : List StoredRow) (at : ℕ) (w : List ℕ) → AreRowsOf keys words rows → AreRowsOf keys words (with_words_at rows at w)
 rows_written keys words [] at w kept = tt
-rows_written keys words (row ∷ rows) zero w kept = (kept.0, length-replaced row.words w ∙ kept.1, rows_written keys words rows zero (drop (length row.words) w) kept.2)
+rows_written keys words (row ∷ rows) zero w kept = (kept.0, length-over row.words w ∙ kept.1, rows_written keys words rows zero (drop (length row.words) w) kept.2)
 rows_written keys words (row ∷ rows) (suc at) w kept = (kept.0, kept.1, rows_written keys words rows at w kept.2)
 
 -- what is written into a row keeps the store

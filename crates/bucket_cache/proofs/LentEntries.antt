@@ -81,7 +81,7 @@ entries-kept (entry ∷ entries) =
     ap₂ (λ (words : List ℕ) (rest : List ℕ). words ∷ with_entry entries zero rest) (over-none entry) (drop_all (length entry) [] (omega arith))
     ∙ ap (λ others. entry ∷ others) (entries-kept entries)
 
-over-all : (old w : List ℕ) → length w ≡ length old → written_over old w ≡ w
+pub over-all : (old w : List ℕ) → length w ≡ length old → written_over old w ≡ w
 over-all old w same =
     ap (λ rest. take (length old) (w ++ rest)) (drop_all (length w) old (omega (arith, same)))
     ∙ (ap (take (length old)) (append-nil w) ∙ take_all (length old) w (omega (arith, same)))
@@ -94,7 +94,8 @@ entry_replaced (entry ∷ entries) zero w low same =
     ∙ ap (λ others. w ∷ others) (entries-kept entries)
 entry_replaced (entry ∷ entries) (suc at) w low same = ap (λ others. entry ∷ others) (entry_replaced entries at w (omega (arith, low)) same)
 
-length-over : (old w : List ℕ) → length (written_over old w) ≡ length old
+-- as many words as before
+pub length-over : (old w : List ℕ) → length (written_over old w) ≡ length old
 length-over old w =
     length-take-le (length old) (w ++ drop (length w) old) (omega (arith, length-append w (drop (length w) old), length-drop (length w) old))
 

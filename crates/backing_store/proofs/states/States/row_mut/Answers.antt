@@ -1,8 +1,9 @@
 use Rattle.std.proofs.Common.{◌≡◌, ◌+◌, ◌-◌, ◌*◌, ◌<◌, ◌≤◌, ◌∙◌, Some, length, take, drop, refl, sym, ap, arith}
+use Rattle.bucket_cache.proofs.LentEntries.{written_from}
 use Rattle.backing_store.specs.States.{states_in}
 use Rattle.backing_store.proofs.KeyFacts.{row_within}
 use Rattle.backing_store.proofs.StateFacts.{length-states_in, state_got}
-use Rattle.backing_store.proofs.LentFacts.{rows_written, refilled_from}
+use Rattle.backing_store.proofs.LentFacts.{rows_written}
 use Rattle.backing_store.proofs.states.States.row_mut.Goals as goal
 
 pub overflow_mul-start : goal.overflow_mul-start
@@ -36,7 +37,7 @@ returns c =
       (
         refl,
         λ w. rw (← c.self.view_is) (ap (λ rows. record { width = a.width; rows = rows })
-            (ap (states_in a.width a.of.items) (refilled_from start a.words.len a.words.items w a.words.ok.0 (omega (arith, within)))
+            (ap (states_in a.width a.of.items) (written_from start a.words.len a.words.items w a.words.ok.0 (omega (arith, within)))
             ∙ rows_written c.args.at a.width a.of.items a.words.items w low c.self.invariant)),
       ),
       record {
