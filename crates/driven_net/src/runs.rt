@@ -16,20 +16,18 @@ ghost use Rattle.driven_net.specs.NetTraces.{net_packets, net_reads, net_trace_f
 use crate::ways::run_with_its_ways;
 use accepted_query::AcceptedQuery;
 use command_line::NetSetting;
-use marple_base::{FieldSet, Sink, Steps};
+use marple_base::{Field, FieldSet, Sink, Steps};
 use stage_plan::Plan;
 use std::alloc::Global;
 use std::sync::ledger::Ledger;
 use trace_drive::{RunError, read_packets_are_few, read_packets_are_whole};
 use trace_reader::open_trace;
 
-// The fields that a plan reads, and the switch, whose bit is the first one.
+// The fields that a plan reads, and the switch.
 fn net_reads(plan: &Plan) -> FieldSet
     ensures { (q : TypedQuery) → IsPlanOf q plan.now → result ≡ net_reads q }
 {
-    FieldSet {
-        bits: plan.reads().bits | 1,
-    }
+    plan.reads().with(Field::Switch)
 }
 
 /// Runs a query over the packets of a trace's bytes, where each value of `switch` has separate caches and pipes and all

@@ -6,9 +6,10 @@ use Rattle.std.proofs.lemmas.Bool.{cases_eq}
 use Rattle.std.proofs.lemmas.Bool.Decides.{nat_tests}
 use Rattle.std.proofs.lemmas.Nat.Bits.{bit_at_or, bit_at-lt, bit_at-zero, bit_at-pow_same, bit_at-pow_other, same_from_bits}
 use Rattle.marple_base.specs.declared.field.Field.{Field}
-use Rattle.marple_base.specs.Field.{number_of, all_fields, has_field, HasField}
+use Rattle.marple_base.specs.declared.field.FieldSet.{FieldSet}
+use Rattle.marple_base.specs.Field.{number_of, all_fields, has_field, HasField, no_fields, with_field, field_set}
 use Rattle.query_lang.specs.declared.typed.TypedQuery.{TypedQuery}
-use Rattle.stage_plan.specs.Fields.{field_set, read_fields, reads_of}
+use Rattle.stage_plan.specs.Fields.{read_fields, reads_of}
 use Rattle.plan_loader.specs.Meaning.{reads_in}
 use Rattle.plan_writer.specs.PlanText.{fields_of}
 use Rattle.plan_laws.specs.MadeOf.{made_of}
@@ -20,11 +21,11 @@ abbrev among : ℕ → List Field → ℕ
 among i [] = 0
 among i (f ∷ fields) = max (bit_at (2 ^ number_of f) i) (among i fields)
 
-bits_are : (fields : List Field) (bits i : ℕ) → bit_at (fold (λ bits f. bit_or bits (2 ^ number_of f)) bits fields) i ≡ max (bit_at bits i) (among i fields)
-bits_are [] bits i = omega arith
-bits_are (f ∷ fields) bits i =
-    let h = bits_are fields (bit_or bits (2 ^ number_of f)) i in
-    let o = bit_at_or bits (2 ^ number_of f) i in
+bits_are : (fields : List Field) (set : FieldSet) (i : ℕ) → bit_at (fold with_field set fields).bits i ≡ max (bit_at set.bits i) (among i fields)
+bits_are [] set i = omega arith
+bits_are (f ∷ fields) set i =
+    let h : bit_at (fold with_field (with_field set f) fields).bits i ≡ max (bit_at (bit_or set.bits (2 ^ number_of f)) i) (among i fields) = bits_are fields (with_field set f) i in
+    let o = bit_at_or set.bits (2 ^ number_of f) i in
     omega (arith, h, o)
 
 at_most_one : (fields : List Field) (i : ℕ) → among i fields < 2
@@ -56,8 +57,9 @@ some_named (f ∷ fields) i e = elim (cases_eq i (number_of f)) [
 
 has_from : (fields : List Field) (f : Field) → HasField (field_set fields) f → among (number_of f) fields ≡ 1
 has_from fields f h =
-    let bit : bit_at (fold (λ bits f. bit_or bits (2 ^ number_of f)) 0 fields) (number_of f) ≡ 1 = grind (arith, nat_tests) in
-    omega (arith, bit, bits_are fields 0 (number_of f), bit_at-zero (number_of f))
+    let bit : bit_at (field_set fields).bits (number_of f) ≡ 1 = grind (arith, nat_tests) in
+    let all : bit_at (field_set fields).bits (number_of f) ≡ max (bit_at 0 (number_of f)) (among (number_of f) fields) = bits_are fields no_fields (number_of f) in
+    omega (arith, bit, all, bit_at-zero (number_of f))
 
 same_among : (fields : List Field) (i : ℕ) → among i (fields_of (field_set fields)) ≡ among i fields
 same_among fields i = elim (cases_eq (among i fields) 1) [
@@ -73,9 +75,14 @@ same_among fields i = elim (cases_eq (among i fields) 1) [
   ]
 ]
 
+same_bits : (one other : FieldSet) → one.bits ≡ other.bits → one ≡ other
+same_bits one other e = let set : ℕ → FieldSet = λ b. record { bits = b } in ap set e
+
 same_set : (fields : List Field) → field_set (fields_of (field_set fields)) ≡ field_set fields
-same_set fields = ap (λ b. record { bits = b }) (same_from_bits _ _ (λ i.
-    omega (arith, bits_are (fields_of (field_set fields)) 0 i, bits_are fields 0 i, same_among fields i)))
+same_set fields = same_bits (field_set (fields_of (field_set fields))) (field_set fields) (same_from_bits _ _ (λ i.
+    let again : bit_at (field_set (fields_of (field_set fields))).bits i ≡ max (bit_at 0 i) (among i (fields_of (field_set fields))) = bits_are (fields_of (field_set fields)) no_fields i in
+    let once : bit_at (field_set fields).bits i ≡ max (bit_at 0 i) (among i fields) = bits_are fields no_fields i in
+    omega (arith, again, once, same_among fields i)))
 
 pub one_reading : (q : TypedQuery) → reads_in (made_of q) ≡ reads_of q
 one_reading q = same_set (read_fields q)

@@ -10,7 +10,7 @@ use Rattle.std.proofs.lemmas.List.Elements.{All-head, All-tail}
 use Rattle.std.specs.Int.{bit_at}
 use Rattle.marple_base.specs.declared.field.Field.{Field}
 use Rattle.marple_base.specs.declared.field.FieldSet.{FieldSet}
-use Rattle.marple_base.specs.Field.{number_of, HasField}
+use Rattle.marple_base.specs.Field.{number_of, HasField, no_fields, with_field, field_set}
 use Rattle.query_lang.specs.declared.fold.Op.{Op}
 use Rattle.query_lang.specs.declared.fold.Op.TheVariants as two
 use Rattle.query_lang.specs.declared.fold.TypedExpr.{TypedExpr}
@@ -26,7 +26,7 @@ use Rattle.stage_plan.specs.declared.op.Operand.TheVariants.{Register, Number}
 use Rattle.stage_plan.specs.declared.op.Operation as operation
 use Rattle.stage_plan.specs.declared.op.Operation.TheVariants.{Not, Two}
 use Rattle.stage_plan.specs.declared.op.PlanOp.{PlanOp}
-use Rattle.stage_plan.specs.Fields.{Source, source_at, sources_at, packet_sources, sources_made, term_slots, named_fields, named_slots, named_input, field_set}
+use Rattle.stage_plan.specs.Fields.{Source, source_at, sources_at, packet_sources, sources_made, term_slots, named_fields, named_slots, named_input}
 use Rattle.stage_plan.specs.Making.{Made, AllMade, Compiled, compiled, compiled_all, op_on, with_op, operand_at, wires_at, packet_wires, joined, conditioned, emit_columns, emitted, grouped, made_by, all_made}
 use Rattle.plan_laws.specs.WellNamed.{AllWords}
 use Rattle.stage_plan.specs.Ordering.{moved, moved_op, register_or_none}
@@ -70,20 +70,22 @@ in_right f [] ys h = h
 in_right f (x ∷ xs) ys h = inr (in_right f xs ys h)
 
 -- the fields of a list are in their set
-kept_bit : (fields : List Field) (bits : ℕ) (i : ℕ) → bit_at bits i ≡ 1 → bit_at (fold (λ bits f. bit_or bits (2 ^ number_of f)) bits fields) i ≡ 1
-kept_bit [] bits i e = e
-kept_bit (f ∷ fields) bits i e =
-    kept_bit fields (bit_or bits (2 ^ number_of f)) i (omega (arith, bit_at_or bits (2 ^ number_of f) i, e, bit_at-lt (2 ^ number_of f) i))
+kept_bit : (fields : List Field) (set : FieldSet) (i : ℕ) → bit_at set.bits i ≡ 1 → bit_at (fold with_field set fields).bits i ≡ 1
+kept_bit [] set i e = e
+kept_bit (f ∷ fields) set i e =
+    let kept : bit_at (bit_or set.bits (2 ^ number_of f)) i ≡ 1 = omega (arith, bit_at_or set.bits (2 ^ number_of f) i, e, bit_at-lt (2 ^ number_of f) i) in
+    kept_bit fields (with_field set f) i kept
 
-has_bit : (fields : List Field) (bits : ℕ) (f : Field) → IsIn f fields → bit_at (fold (λ bits f. bit_or bits (2 ^ number_of f)) bits fields) (number_of f) ≡ 1
-has_bit (g ∷ fields) bits f (inl e) =
+has_bit : (fields : List Field) (set : FieldSet) (f : Field) → IsIn f fields → bit_at (fold with_field set fields).bits (number_of f) ≡ 1
+has_bit (g ∷ fields) set f (inl e) =
     let same : bit_at (2 ^ number_of g) (number_of f) ≡ 1 = ap (λ h. bit_at (2 ^ number_of g) (number_of h)) e ∙ bit_at-pow_same (number_of g) in
-    kept_bit fields (bit_or bits (2 ^ number_of g)) (number_of f) (omega (arith, bit_at_or bits (2 ^ number_of g) (number_of f), same, bit_at-lt bits (number_of f)))
-has_bit (g ∷ fields) bits f (inr h) = has_bit fields (bit_or bits (2 ^ number_of g)) f h
-has_bit [] bits f h = absurd h
+    let there : bit_at (bit_or set.bits (2 ^ number_of g)) (number_of f) ≡ 1 = omega (arith, bit_at_or set.bits (2 ^ number_of g) (number_of f), same, bit_at-lt set.bits (number_of f)) in
+    kept_bit fields (with_field set g) (number_of f) there
+has_bit (g ∷ fields) set f (inr h) = has_bit fields (with_field set g) f h
+has_bit [] set f h = absurd h
 
 pub in_set : (fields : List Field) (f : Field) → IsIn f fields → HasField (field_set fields) f
-in_set fields f h = let e = has_bit fields 0 f h in grind (arith, nat_tests)
+in_set fields f h = let e : bit_at (field_set fields).bits (number_of f) ≡ 1 = has_bit fields no_fields f h in grind (arith, nat_tests)
 
 -- an operand that is allowed: a field that is read, another register, or a number that fits a word
 abbrev pub IsGood : FieldSet → Operand → Type 0

@@ -2,6 +2,7 @@
 -- their folds and tables, and what it prints.
 use Rattle.std.specs.Prelude.{ℕ, List, [], length, map, replicate, flat_map, Option, None, unwrap_or}
 use Rattle.marple_base.specs.declared.field.FieldSet.{FieldSet}
+use Rattle.marple_base.specs.Field.{field_set}
 use Rattle.query_lang.specs.Blocks.{Block}
 use Rattle.query_lang.specs.declared.fold.TypedFold.{TypedFold}
 use Rattle.epoch_model.specs.Driving.{Taken, uses_taken}
@@ -12,7 +13,6 @@ use Rattle.final_queries.specs.declared.table.Table.{Table}
 use Rattle.final_queries.specs.GroupTable.{Heading, group_table}
 use Rattle.query_tables.specs.Tables.{text_at}
 use Rattle.stage_plan.specs.declared.group.GroupWiring.{GroupWiring}
-use Rattle.stage_plan.specs.Fields.{field_set}
 use Rattle.stage_plan.specs.Registers.{after, stages_of, taken_at}
 use Rattle.stage_plan.specs.Shape.{GroupShape, PlanShape, bound_of, sizes_of}
 use Rattle.plan_file.specs.declared.made.Folded.{Folded}

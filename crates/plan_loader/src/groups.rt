@@ -1,10 +1,9 @@
 //! The groupbys of a plan by the groups of its text.
 
-ghost use Rattle.std.specs.Prelude.{◌≡◌, ◌^◌, bit_or, map, unwrap_or, [], All, IfOk};
-ghost use Rattle.marple_base.specs.Field.{number_of};
+ghost use Rattle.std.specs.Prelude.{◌≡◌, map, unwrap_or, [], All, IfOk};
+ghost use Rattle.marple_base.specs.Field.{field_set};
 ghost use Rattle.query_lang.specs.declared.fold.TypedFold.{TypedFold as AnyFold};
 ghost use Rattle.fold_class.specs.Program.{IsProgramOf};
-ghost use Rattle.stage_plan.specs.Fields.{field_set};
 ghost use Rattle.plan_loader.specs.Meaning.{wiring_in};
 ghost use Rattle.plan_loader.specs.Parts.{AreGroupsFrom, IsFoldIn, IsGroupFrom, IsWhole};
 
@@ -15,22 +14,15 @@ use plan_file::{Folded, Group, fold_of};
 use stage_plan::{GroupPlan, GroupWiring};
 use std::alloc::{AllocError, Global};
 
-// A set with one more field.
-fn with_field(bits: u16, field: Field) -> u16
-    ensures { result ≡ bit_or bits (2 ^ number_of field) }
-{
-    bits | 1 << field.number()
-}
-
 // The set of these fields.
 fn set_of(fields: &[Field]) -> FieldSet
     ensures { result ≡ field_set fields.now }
 {
-    let mut bits = 0;
+    let mut set = FieldSet::EMPTY;
     for field in fields {
-        bits = with_field(bits, *field);
+        set = set.with(*field);
     }
-    FieldSet { bits }
+    set
 }
 
 /// The set of the fields that are read, where they are named.
@@ -39,7 +31,7 @@ pub(crate) fn set_read(reads: &Option<Seq<Field>>) -> FieldSet
 {
     match reads {
         Some(fields) => set_of(fields.as_slice()),
-        None => FieldSet { bits: 0 },
+        None => FieldSet::EMPTY,
     }
 }
 

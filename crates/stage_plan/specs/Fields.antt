@@ -1,10 +1,10 @@
 -- The fields of packets that a typed query reads while packets pass.
-use Rattle.std.specs.Prelude.{ℕ, ◌^◌, bit_or, List, [], ◌∷◌, ◌++◌, map, fold, flat_map, filter_map, slice_get, Option}
+use Rattle.std.specs.Prelude.{ℕ, List, [], ◌∷◌, ◌++◌, map, fold, flat_map, filter_map, slice_get, Option}
 use Rattle.std.specs.Prelude.{Some, None}
 use Rattle.std.specs.Prelude.{unwrap_or}
 use Rattle.marple_base.specs.declared.field.Field.{Field}
 use Rattle.marple_base.specs.declared.field.FieldSet.{FieldSet}
-use Rattle.marple_base.specs.Field.{number_of, all_fields}
+use Rattle.marple_base.specs.Field.{all_fields, field_set}
 use Rattle.query_lang.specs.declared.typed.TypedOp.{TypedOp}
 use Rattle.query_lang.specs.declared.typed.TypedOp.TheVariants.{Filter, Map, Zip, Group}
 use Rattle.query_lang.specs.declared.typed.TypedQuery.{TypedQuery}
@@ -63,10 +63,6 @@ named_fields streams op = filter_map (source_at (sources_at streams (named_input
 -- the fields that the streams name
 abbrev pub read_fields : TypedQuery → List Field
 read_fields q = flat_map (λ one. named_fields (all_sources q) one.op) q.streams
-
--- the set of these fields: the bits of all of them
-abbrev pub field_set : List Field → FieldSet
-field_set fields = record { bits = fold (λ bits f. bit_or bits (2 ^ number_of f)) 0 fields }
 
 -- The fields that a query reads.
 abbrev pub reads_of : TypedQuery → FieldSet

@@ -1,28 +1,29 @@
--- The bits of the fields that are named, in turn.
-use Rattle.std.specs.Prelude.{ℕ, ◌^◌, bit_or, List, fold, Some, None}
-use Rattle.marple_base.specs.Field.{number_of}
+-- The fields that are named, in turn.
+use Rattle.std.specs.Prelude.{ℕ, List, fold, Some, None}
+use Rattle.marple_base.specs.declared.field.FieldSet.{FieldSet}
+use Rattle.marple_base.specs.Field.{with_field}
 use Rattle.query_lang.specs.declared.typed.TypedOp.{TypedOp}
 use Rattle.query_lang.specs.declared.typed.TypedOp.TheVariants.{Filter, Map, Zip, Group}
 use Rattle.query_lang.specs.Terms.{Term, Literal, Read, Negation, Operation, term_of}
 use Rattle.stage_plan.specs.Fields.{Source, source_at, sources_at}
 
 -- a column is named
-abbrev pub marked : ℕ → Source → ℕ
-marked bits None = bits
-marked bits (Some f) = bit_or bits (2 ^ number_of f)
+abbrev pub marked : FieldSet → Source → FieldSet
+marked fields None = fields
+marked fields (Some f) = with_field fields f
 
-abbrev pub marked_slots : List Source → ℕ → List ℕ → ℕ
-marked_slots columns bits slots = fold (λ b slot. marked b (source_at columns slot)) bits slots
+abbrev pub marked_slots : List Source → FieldSet → List ℕ → FieldSet
+marked_slots columns fields slots = fold (λ all slot. marked all (source_at columns slot)) fields slots
 
-abbrev pub marked_term : List Source → ℕ → Term → ℕ
-marked_term columns bits (Literal n) = bits
-marked_term columns bits (Read s) = marked bits (source_at columns s)
-marked_term columns bits (Negation e) = marked_term columns bits e
-marked_term columns bits (Operation op a b) = marked_term columns (marked_term columns bits a) b
+abbrev pub marked_term : List Source → FieldSet → Term → FieldSet
+marked_term columns fields (Literal n) = fields
+marked_term columns fields (Read s) = marked fields (source_at columns s)
+marked_term columns fields (Negation e) = marked_term columns fields e
+marked_term columns fields (Operation op a b) = marked_term columns (marked_term columns fields a) b
 
-abbrev pub marked_op : List (List Source) → ℕ → TypedOp → ℕ
-marked_op streams bits (Filter input condition) = marked_term (sources_at streams input) bits (term_of condition)
-marked_op streams bits (Map input values) = fold (λ b e. marked_term (sources_at streams input) b (term_of e)) bits values
-marked_op streams bits (Zip left right slots) = bits
-marked_op streams bits (Group input keys f args) =
-    marked_slots (sources_at streams input) (marked_slots (sources_at streams input) bits keys) args
+abbrev pub marked_op : List (List Source) → FieldSet → TypedOp → FieldSet
+marked_op streams fields (Filter input condition) = marked_term (sources_at streams input) fields (term_of condition)
+marked_op streams fields (Map input values) = fold (λ all e. marked_term (sources_at streams input) all (term_of e)) fields values
+marked_op streams fields (Zip left right slots) = fields
+marked_op streams fields (Group input keys f args) =
+    marked_slots (sources_at streams input) (marked_slots (sources_at streams input) fields keys) args

@@ -1,7 +1,7 @@
 //! The fields that a query reads.
 
 ghost use Rattle.std.specs.Prelude.{◌≡◌, ◌∷◌, ◌++◌, [], None, map, fold, IfOk, OnOk};
-ghost use Rattle.marple_base.specs.Field.{all_fields};
+ghost use Rattle.marple_base.specs.Field.{all_fields, no_fields};
 ghost use Rattle.query_lang.specs.Terms.{term_of};
 ghost use Rattle.stage_plan.specs.Fields.{source_at, sources_at, packet_sources, sources_made, all_sources, reads_of};
 ghost use Rattle.stage_plan.specs.Marking.{marked, marked_slots, marked_term, marked_op};
@@ -113,82 +113,82 @@ fn make_all_columns(alloc: Global, q: &TypedQuery) -> Result<Seq<Seq<Option<Fiel
     Ok(streams)
 }
 
-// A column is named.
-fn mark(bits: u16, source: Option<Field>) -> u16
-    ensures { result ≡ marked bits source }
+// The fields with that of a column, where it comes from one.
+fn mark(fields: FieldSet, source: Option<Field>) -> FieldSet
+    ensures { result ≡ marked fields source }
 {
     match source {
-        Some(f) => bits | 1 << f.number(),
-        None => bits,
+        Some(field) => fields.with(field),
+        None => fields,
     }
 }
 
-// The columns in these slots are named.
-fn mark_slots(bits: u16, columns: &[Option<Field>], slots: &[u16]) -> u16
-    ensures { result ≡ marked_slots columns.now bits slots.now }
+// The fields with those of the columns in these slots.
+fn mark_slots(fields: FieldSet, columns: &[Option<Field>], slots: &[u16]) -> FieldSet
+    ensures { result ≡ marked_slots columns.now fields slots.now }
 {
-    let mut all = bits;
+    let mut all = fields;
     for slot in slots {
         all = mark(all, source_of(columns, *slot));
     }
     all
 }
 
-// The columns of an expression are named.
-fn mark_expr(bits: u16, columns: &[Option<Field>], e: &TypedExpr) -> u16
-    ensures { result ≡ marked_term columns.now bits (term_of e.now) }
+// The fields with those that an expression names.
+fn mark_expr(fields: FieldSet, columns: &[Option<Field>], e: &TypedExpr) -> FieldSet
+    ensures { result ≡ marked_term columns.now fields (term_of e.now) }
 {
     match e {
-        TypedExpr::Number(_) => bits,
-        TypedExpr::Slot(s) => mark(bits, source_of(columns, *s)),
-        TypedExpr::Not(inner) => mark_expr(bits, columns, inner.get()),
+        TypedExpr::Number(_) => fields,
+        TypedExpr::Slot(s) => mark(fields, source_of(columns, *s)),
+        TypedExpr::Not(inner) => mark_expr(fields, columns, inner.get()),
         TypedExpr::Binary(_, a, b) => {
-            let left = mark_expr(bits, columns, a.get());
+            let left = mark_expr(fields, columns, a.get());
             mark_expr(left, columns, b.get())
         }
     }
 }
 
-// The columns of expressions are named.
-fn mark_exprs(bits: u16, columns: &[Option<Field>], values: &[TypedExpr]) -> u16
-    ensures { result ≡ fold (λ b e. marked_term columns.now b (term_of e)) bits values.now }
+// The fields with those that expressions name.
+fn mark_exprs(fields: FieldSet, columns: &[Option<Field>], values: &[TypedExpr]) -> FieldSet
+    ensures { result ≡ fold (λ all e. marked_term columns.now all (term_of e)) fields values.now }
 {
-    let mut all = bits;
+    let mut all = fields;
     for e in values {
         all = mark_expr(all, columns, e);
     }
     all
 }
 
-// What an operator names.
-fn mark_op(bits: u16, streams: &[Seq<Option<Field>>], op: &TypedOp) -> u16
-    ensures { result ≡ marked_op streams.now bits op.now }
+// The fields with those that an operator names.
+fn mark_op(fields: FieldSet, streams: &[Seq<Option<Field>>], op: &TypedOp) -> FieldSet
+    ensures { result ≡ marked_op streams.now fields op.now }
 {
     match op {
         TypedOp::Filter(input, condition) => {
-            mark_expr(bits, columns_of(streams, *input), condition)
+            mark_expr(fields, columns_of(streams, *input), condition)
         }
         TypedOp::Map(input, values) => {
-            mark_exprs(bits, columns_of(streams, *input), values.as_slice())
+            mark_exprs(fields, columns_of(streams, *input), values.as_slice())
         }
-        TypedOp::Zip(_, _, _) => bits,
+        TypedOp::Zip(_, _, _) => fields,
         TypedOp::Group(input, keys, _, args) => {
             let columns = columns_of(streams, *input);
-            let marked = mark_slots(bits, columns, keys.as_slice());
+            let marked = mark_slots(fields, columns, keys.as_slice());
             mark_slots(marked, columns, args.as_slice())
         }
     }
 }
 
-// What all streams name.
-fn mark_all(columns: &[Seq<Option<Field>>], streams: &[TypedStream]) -> u16
-    ensures { result ≡ fold (λ b one. marked_op columns.now b one.op) 0 streams.now }
+// The fields that all streams name.
+fn mark_all(columns: &[Seq<Option<Field>>], streams: &[TypedStream]) -> FieldSet
+    ensures { result ≡ fold (λ all one. marked_op columns.now all one.op) no_fields streams.now }
 {
-    let mut bits = 0;
+    let mut all = FieldSet::EMPTY;
     for one in streams {
-        bits = mark_op(bits, columns, &one.op);
+        all = mark_op(all, columns, &one.op);
     }
-    bits
+    all
 }
 
 /// The fields that a query names while packets pass.
@@ -196,6 +196,5 @@ pub(crate) fn read_fields(alloc: Global, q: &TypedQuery) -> Result<FieldSet, All
     ensures { IfOk result (λ fields. fields ≡ reads_of q.now) }
 {
     let columns = make_all_columns(alloc, q)?;
-    let bits = mark_all(columns.as_slice(), q.streams.as_slice());
-    Ok(FieldSet { bits })
+    Ok(mark_all(columns.as_slice(), q.streams.as_slice()))
 }
