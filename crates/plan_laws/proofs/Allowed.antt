@@ -35,7 +35,10 @@ use Rattle.plan_writer.proofs.Plans.{ops_are, wiring_is, fold_found}
 use Rattle.plan_laws.specs.WellNamed.{IsNamedWell, HasPlanText}
 use Rattle.plan_laws.proofs.Fields.{operand_known, operand_fits, operand_readable, operands_readable}
 use Rattle.plan_laws.proofs.Groups.{HasGroup}
-use Rattle.plan_laws.proofs.Known.{AreFit, AreAfterFields, AreFrom, AreRead, AreNamed, AllAreGood, AllGood, IsWritable, column_good, in_set, moved_good, moved_writable, named_from, query_good, read_left, read_right, writable_at}
+use Rattle.plan_laws.proofs.Listed.{in_set}
+use Rattle.plan_laws.proofs.Known.{AreFrom, AreRead, AllGood, IsWritable, column_good, read_left, read_right, writable_at}
+use Rattle.plan_laws.proofs.KnownStreams.{AreFit, AreNamed, AllAreGood, named_from, query_good}
+use Rattle.plan_laws.proofs.Moved.{AreAfterFields, moved_good, moved_writable}
 use Rattle.plan_laws.proofs.OpLines.{IsOpOk}
 
 -- a prefix of a list

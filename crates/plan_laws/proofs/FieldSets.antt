@@ -14,7 +14,7 @@ use Rattle.plan_loader.specs.Meaning.{reads_in}
 use Rattle.plan_writer.specs.PlanText.{fields_of}
 use Rattle.plan_laws.specs.MadeOf.{made_of}
 use Rattle.plan_laws.proofs.Fields.{all_in, in_filter, out_of_filter}
-use Rattle.plan_laws.proofs.Known.{IsIn, in_set}
+use Rattle.plan_laws.proofs.Listed.{IsIn, in_set}
 
 -- 1 where some field of these has this number, and 0 otherwise
 abbrev among : ℕ → List Field → ℕ

@@ -19,7 +19,8 @@ use Rattle.plan_file.specs.Operations.{AreFrom, IsKnown}
 use Rattle.plan_writer.specs.PlanText.{fields_of, reads_line}
 use Rattle.plan_writer.specs.Words.{line}
 use Rattle.plan_laws.proofs.GroupLines.{IsReadable, AreReadable}
-use Rattle.plan_laws.proofs.Known.{IsIn, IsGood, AllGood}
+use Rattle.plan_laws.proofs.Listed.{IsIn}
+use Rattle.plan_laws.proofs.Known.{IsGood, AllGood}
 use Rattle.plan_laws.proofs.OpLines.{Fits, with_ops}
 use Rattle.plan_laws.proofs.Tokens.{is_token, AreTokens}
 use Rattle.plan_laws.proofs.Written.{IsWritten, line_written}

@@ -9,7 +9,10 @@ pub mod Tokens
 pub mod Numbers
 pub mod Names
 pub mod Bodies
+pub mod Listed
 pub mod Known
+pub mod KnownStreams
+pub mod Moved
 pub mod Written
 pub mod OpLines
 pub mod GroupLines

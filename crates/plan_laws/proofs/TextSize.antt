@@ -38,7 +38,8 @@ use Rattle.plan_writer.specs.Ordered.{query_ops, query_order, query_registers, q
 use Rattle.plan_writer.specs.PlanText.{compiled_text, fields_of, group_lines_of, group_text, op_line, print_line, reads_line}
 use Rattle.plan_writer.specs.Words.{spaced, line}
 use Rattle.plan_laws.specs.WellNamed.{AllWords, AreNew, IsNamedWell}
-use Rattle.plan_laws.proofs.Known.{AllAreGood, AreFit, AreFrom, IsFrom, IsGood, IsWritable, query_good, writable_at}
+use Rattle.plan_laws.proofs.Known.{AreFrom, IsFrom, IsGood, IsWritable, writable_at}
+use Rattle.plan_laws.proofs.KnownStreams.{AllAreGood, AreFit, query_good}
 use Rattle.plan_laws.proofs.OpLines.{Fits}
 use Rattle.plan_laws.proofs.Items.{IsIn}
 use Rattle.plan_laws.proofs.Prints.{AreGroups}
