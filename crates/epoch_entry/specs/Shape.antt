@@ -1,5 +1,5 @@
 -- What the parts of a program have in common, whatever its fold is.
-use Rattle.std.specs.Prelude.{◌≡◌, ◌≢◌, ℕ, ◌+◌, ◌<◌, ◌≤◌, List, length, slice_index, All}
+use Rattle.std.specs.Prelude.{◌≡◌, ◌≢◌, ℕ, ◌+◌, ◌<◌, ◌≤◌, true, List, length, slice_index, All}
 use Rattle.fold_class.specs.declared.program.FoldProgram.{FoldProgram}
 
 -- each place comes after those before it
@@ -22,3 +22,10 @@ pub record IsShaped (p : FoldProgram) : Type 0 where
   pub history_ascends : IsAscending p.layout.history
   pub apart : (i j : ℕ) → i < length p.layout.history → j < length p.layout.linear
       → slice_index p.layout.history i ≢ slice_index p.layout.linear j
+
+-- there is one variable, each row moves it, and none is logged
+pub record MovesOne (p : FoldProgram) : Type 0 where
+  pub moves : p.moves ≡ true
+  pub depth : p.depth ≡ 0
+  pub one : length p.layout.linear ≡ 1
+  pub alone : length p.layout.history ≡ 0
