@@ -44,7 +44,8 @@ pub(crate) fn write_three(initial: &[u64], triple: &mut [u64])
     high.fill(u64::MAX);
 }
 
-// One run of the code on each of three states.
+// One run of the code on each of three states. Not inlined, since other kinds of entries need few of its registers.
+#[inline(never)]
 pub(crate) fn run_three<L: Ledger>(
     code: &FoldCode,
     triple: &mut [u64],
