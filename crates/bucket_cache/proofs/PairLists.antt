@@ -1,15 +1,20 @@
 -- Lists of pairs with distinct keys.
-use Rattle.std.proofs.Common.{◌≡◌, ℕ, zero, suc, ◌+◌, ◌<◌, true, false, ◌||◌, List, [], ◌∷◌, ◌++◌, Some, length, take, drop, get_or, find, option_map, refl, sym, ap, ap₂, ◌∙◌, subst, arith}
+use Rattle.std.proofs.Common.{◌≡◌, ℕ, zero, suc, ◌+◌, ◌<◌, true, false, ◌||◌, List, [], ◌∷◌, ◌++◌, Some, length, take, drop, get_or, find, option_map, refl, sym, ap, ap₂, ◌∙◌, subst, arith, All}
+use Rattle.std.specs.Prelude.{slice_get}
 use Rattle.std.proofs.lemmas.Bool.{true≢false}
 use Rattle.std.specs.Cmp.Lexicographic.{bytes_decides}
 use Rattle.epoch_model.specs.Keys.{Key, key_eq}
 use Rattle.bucket_cache.specs.Slices.{at_front}
-use Rattle.bucket_cache.specs.Buckets.{Pair, is_pair_of, has_key, place_of, without_key, AreOnce}
+use Rattle.bucket_cache.specs.Buckets.{Pair, is_pair_of, has_key, place_of, places_of, without_key, AreOnce}
 use Rattle.bucket_cache.proofs.Fronts.{by_test, front-cons}
 
 pub key_eq-true : (a b : Key) → key_eq a b ≡ true → a ≡ b
 unfolding key_eq
 key_eq-true a b = (bytes_decides a b).0
+
+pub key_eq-same : (key : Key) → key_eq key key ≡ true
+unfolding key_eq
+key_eq-same key = (bytes_decides key key).1 refl
 
 pub absent_head : (key : Key) (pair : Pair) (pairs : List Pair) → has_key key (pair ∷ pairs) ≡ false → (key_eq pair.key key ≡ false) × (has_key key pairs ≡ false)
 absent_head key pair pairs h = by_test (key_eq pair.key key)
@@ -80,3 +85,26 @@ pub once-take : (n : ℕ) (pairs : List Pair) → AreOnce pairs → AreOnce (tak
 once-take zero pairs o = tt
 once-take (suc n) [] o = tt
 once-take (suc n) (pair ∷ pairs) o = (has-front pair.key n pairs o.0, once-take n pairs o.1)
+
+-- the pair that comes first, by its place
+pub first-pair : (pairs : List Pair) (place : ℕ) → Some place ≡ slice_get (places_of pairs) 0 → (pair : Pair) × (slice_get pairs 0 ≡ Some pair) × (pair.place ≡ place)
+first-pair [] place e = cc
+first-pair (pair ∷ pairs) place e = (pair, refl, cc)
+
+pub first-within : (pairs : List Pair) (place n : ℕ) → All (λ pair. pair.place < n) pairs → Some place ≡ slice_get (places_of pairs) 0 → place < n
+first-within [] place n a e = cc
+first-within (pair ∷ pairs) place n a e =
+    let same : place ≡ pair.place = cc in
+    let below : pair.place < n = a 0 pair (omega arith) in
+    omega arith
+
+-- a key that comes first stays there
+pub first-stays : (key : Key) (place : ℕ) (pairs : List Pair) → AreOnce pairs → slice_get pairs 0 ≡ Some (record { key = key; place = place })
+    → (has_key key pairs ≡ true) × (place_of key pairs ≡ Some place) × (pairs ≡ record { key = key; place = place } ∷ without_key key pairs)
+first-stays key place [] o e = cc
+first-stays key place (pair ∷ pairs) o e =
+    let same : pair ≡ record { key = key; place = place } = cc in
+    let is : pair.key ≡ key = ap (λ (p : Pair). p.key) same in
+    let first : key_eq pair.key key ≡ true = ap (λ k. key_eq k key) is ∙ key_eq-same key in
+    let absent : has_key key pairs ≡ false = subst (λ k. has_key k pairs ≡ false) is o.0 in
+    (rw first refl, rw first (ap (λ (p : Pair). Some p.place) same), rw first (ap₂ (λ p ps. p ∷ ps) same (sym (without_absent key pairs absent))))

@@ -1,6 +1,6 @@
 //! The buckets of a cache.
 
-ghost use Rattle.std.specs.Prelude.{◌≡◌, ℕ, List, ◌+◌, ◌-◌, ◌*◌, ◌<◌, ◌≤◌, length, take, false, IfOk, Some};
+ghost use Rattle.std.specs.Prelude.{◌≡◌, ℕ, List, ◌+◌, ◌-◌, ◌*◌, ◌<◌, ◌≤◌, length, take, false, IfOk, IfSome, Some};
 ghost use Rattle.std.specs.Prelude.{slice_get, slice_set, sum_by};
 ghost use Rattle.std.specs.Borrow.{sem};
 ghost use Rattle.bucket_cache.specs.Buckets.{Pair, has_key, places_of};
@@ -92,8 +92,59 @@ impl<const WAYS: usize> BucketCache<WAYS> {
         self.used.len() as u32
     }
 
-    /// Brings the key to the front of its bucket where it is there or where a place is free.
+    /// Brings the key to the front of its bucket where it is there or where a place is free. A key that is at the front
+    /// already, as it mostly is, needs one comparison.
+    #[inline(always)]
     pub fn touch<L: Ledger>(&mut self, bucket: u32, key: &[u64], steps: &mut Steps<L>) -> Touch
+        requires range { bucket < length self.old.lists }
+        requires words { length key.now ≡ self.old.key_words }
+        ensures touched { Touches WAYS key.now (list_at self.old bucket) result (list_at self.new bucket) }
+        ensures rest { self.new ≡ with_list self.old bucket (list_at self.new bucket) }
+        ensures sound { IsSoundCache WAYS self.new }
+        ensures steps { steps.old ≤ steps.new }
+        ensures cost { steps.new ≤ steps.old + touch_cost WAYS self.old.key_words result }
+    {
+        self.invariant();
+        match self.front(bucket, key) {
+            Some(place) => {
+                steps.tick_many(key.len() as u64 + 1);
+                Touch::Hit(place)
+            }
+            None => self.touch_by_search(bucket, key, steps),
+        }
+    }
+
+    // What holds of every cache.
+    fn invariant(&self)
+        ensures { IsSoundCache WAYS self.now }
+    {
+        let _words = &self.words;
+    }
+
+    // The place of the key, where it is the most recently used one of its bucket.
+    #[inline(always)]
+    fn front(&self, bucket: u32, key: &[u64]) -> Option<usize>
+        requires range { bucket < length self.now.lists }
+        requires words { length key.now ≡ self.now.key_words }
+        ensures { IfSome result (λ place. slice_get (list_at self.now bucket) 0
+            ≡ Some (record { key = key.now; place = place })) }
+    {
+        self.invariant();
+        let place = self.place(bucket, 0)?;
+        if slices::compare(self.key(place), key).0 {
+            Some(place)
+        } else {
+            None
+        }
+    }
+
+    // The same, by a search through the ways of the bucket.
+    fn touch_by_search<L: Ledger>(
+        &mut self,
+        bucket: u32,
+        key: &[u64],
+        steps: &mut Steps<L>,
+    ) -> Touch
         requires range { bucket < length self.old.lists }
         requires words { length key.now ≡ self.old.key_words }
         ensures touched { Touches WAYS key.now (list_at self.old bucket) result (list_at self.new bucket) }

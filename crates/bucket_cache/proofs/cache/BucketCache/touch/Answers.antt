@@ -1,23 +1,23 @@
-use Rattle.std.proofs.Common.{◌≡◌, ◌++◌, ◌<◌, length, take, drop, sym, ap, ◌∙◌, subst}
-use Rattle.bucket_cache.specs.FlatBuckets.{AreBuckets}
-use Rattle.bucket_cache.proofs.FlatCaches.{in-flat, now-holds, sound-written}
+use Rattle.std.proofs.Common.{◌≤◌, ◌<◌, ◌+◌, ◌*◌, ℕ, zero, suc, length, arith}
+use Rattle.bucket_cache.specs.Caches.{list_at}
+use Rattle.bucket_cache.proofs.BucketLists.{some-get}
+use Rattle.bucket_cache.proofs.PairLists.{first-stays}
 use Rattle.bucket_cache.proofs.cache.BucketCache.touch.Goals as goal
 
-pub touch_bucket-requires-clause-range : goal.touch_bucket-requires-clause-range
-touch_bucket-requires-clause-range g c =
-    let b = c.self.inside in
-    subst (λ xs. c.args.bucket < length xs) (sym c.deref_mut.ensures.value)
-    (in-flat g.row.WAYS b.key_words b.entry_words c.args.bucket b.used.items b.order.items b.words.items b.entries c.args.self.now c.self.view_is c.requires.range)
+pub returns-in-Some-clause-touched : goal.returns-in-Some-clause-touched
+returns-in-Some-clause-touched g c =
+    first-stays c.args.key.now c.in-Some.place (list_at c.args.self.now c.args.bucket) (c.invariant.ensures.once c.args.bucket) c.in-Some.ensures
 
-pub returns-clause-sound : goal.returns-clause-sound
-returns-clause-sound g c =
-    let b = c.self.inside in
-    let new = c.touch_bucket.new in
-    let width : length c.args.key.now ≡ b.key_words = c.requires.words ∙ ap (λ x. x.key_words) (sym c.self.view_is) in
-    sound-written g.row.WAYS b.key_words b.entry_words b.used.items b.order.items b.words.items new.used new.order new.words
-    (take b.used.len (new.used ++ drop (length new.used) b.used.items)) (take b.order.len (new.order ++ drop (length new.order) b.order.items)) (take b.words.len (new.words ++ drop (length new.words) b.words.items))
-    b.entries c.self.invariant (subst (λ n. AreBuckets g.row.WAYS n new.used new.order new.words) width c.touch_bucket.ensures.buckets)
-    (c.touch_bucket.auto.used ∙ ap length c.deref_mut.ensures.value)
-    (now-holds b.used.len c.deref_mut.result.now b.used.items new.used c.deref_mut.ensures.len c.touch_bucket.auto.used)
-    (now-holds b.order.len c.deref_mut-2.result.now b.order.items new.order c.deref_mut-2.ensures.len c.touch_bucket.auto.order)
-    (now-holds b.words.len c.deref_mut-3.result.now b.words.items new.words c.deref_mut-3.ensures.len c.touch_bucket.auto.words)
+one_way : (ways key_words : ℕ) → 0 < ways → key_words + 1 ≤ ways * key_words + ways
+one_way zero key_words h = absurd (omega arith)
+one_way (suc ways) key_words h = omega arith
+
+pub returns-in-Some-clause-cost : goal.returns-in-Some-clause-cost
+returns-in-Some-clause-cost g c =
+    let pairs = list_at c.args.self.now c.args.bucket in
+    let some : 0 < length pairs = some-get pairs 0 _ c.in-Some.ensures in
+    let few : length pairs ≤ g.row.WAYS = c.invariant.ensures.few c.args.bucket in
+    let one = one_way g.row.WAYS c.args.self.now.key_words (omega arith) in
+    let counted = c.tick_many.ensures in
+    let words = c.requires.words in
+    omega arith
