@@ -1,5 +1,5 @@
 -- No placement of sound operations has fewer stages than they have.
-use Rattle.std.proofs.Common.{◌≡◌, ℕ, zero, suc, ◌+◌, ◌-◌, ◌<◌, ◌≤◌, max, true, false, Bool, List, [], ◌∷◌, length, get_or, Some, Option, refl, sym, ap, subst, ◌∙◌, inl, inr, arith}
+use Rattle.std.proofs.Common.{◌≡◌, ℕ, zero, suc, ◌+◌, ◌-◌, ◌<◌, ◌≤◌, max, true, false, List, [], ◌∷◌, length, get_or, Some, Option, refl, sym, ap, subst, ◌∙◌, inl, inr, arith}
 use Rattle.std.specs.Prelude.{map, nat_lt, slice_get, slice_index, option_map, unwrap_or, if◌then◌else◌}
 use Rattle.std.proofs.lemmas.Bool.{cases_lt}
 use Rattle.std.proofs.lemmas.Bool.Decides.{nat_tests}
@@ -11,7 +11,7 @@ use Rattle.stage_plan.specs.declared.op.PlanOp.{PlanOp}
 use Rattle.stage_plan.specs.Placements.{IsPlacement}
 use Rattle.stage_plan.specs.Registers.{operand_stage, stages_of}
 use Rattle.stage_plan.specs.Shape.{greatest}
-use Rattle.stage_plan.specs.Sound.{PlanParts, IsWithin, IsSoundOp, AreSoundOps, Follows}
+use Rattle.stage_plan.specs.Sound.{IsWithin, IsSoundOp, AreSoundOps, Follows}
 use Rattle.stage_plan.proofs.Runs.{stage_of_register}
 use Rattle.stage_plan.proofs.PlanParts.{stages_within}
 
