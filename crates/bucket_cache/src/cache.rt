@@ -164,7 +164,8 @@ impl<const WAYS: usize> BucketCache<WAYS> {
         )
     }
 
-    /// Gives the least recently used place of a full bucket to the key.
+    /// Gives the least recently used place of a full bucket to the key. Not inlined, since few uses replace a key.
+    #[inline(never)]
     pub fn replace<L: Ledger>(&mut self, bucket: u32, key: &[u64], steps: &mut Steps<L>) -> usize
         requires range { bucket < length self.old.lists }
         requires words { length key.now ≡ self.old.key_words }

@@ -16,7 +16,8 @@ use evict_pipe::EvictPipe;
 use marple_base::Steps;
 use std::sync::ledger::Ledger;
 
-/// The pair at the place goes into the pipe as its newest record.
+/// The pair at the place goes into the pipe as its newest record. Not inlined, since few packets evict.
+#[inline(never)]
 pub fn push_pair<const WAYS: usize, L: Ledger>(
     cache: &BucketCache<WAYS>,
     pipe: &mut EvictPipe,

@@ -33,7 +33,8 @@ pub fn absorb_at<K: EpochKind, const WAYS: usize, L: Ledger>(
     kind.absorb(entry, args, scratch, steps);
 }
 
-/// The entry at the place represents this row alone.
+/// The entry at the place represents this row alone. Not inlined, since most packets find the epoch of their key open.
+#[inline(never)]
 pub fn begin_at<K: EpochKind, const WAYS: usize, L: Ledger>(
     kind: &K,
     cache: &mut BucketCache<WAYS>,
