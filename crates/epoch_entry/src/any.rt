@@ -172,6 +172,7 @@ impl EpochKind for AnyEpochs {
         }
     }
 
+    #[inline(always)]
     fn absorb<L: Ledger>(
         &self,
         entry: &mut [u64],
