@@ -9,23 +9,23 @@ ghost use Rattle.trace_reader.specs.Traces as Traces;
 ghost use Rattle.trace_reader.specs.Traces.{column_of, columns_named, columns_of, packet_of, text_at, word_at, words_of};
 
 use crate::columns::Columns;
-use crate::fault::{MAX_RECORDS, TraceAnswer, TraceFault};
+use crate::fault::{MAX_RECORDS, TraceFault};
 use crate::number::{trimmed, word};
 use csv::{ByteRecord, Reader};
 use marple_base::{Field, FieldSet, Packet};
+use std::alloc::AllocError;
 
 /// The next record into `row`, and whether there was one. A reader over a slice fails only when it is out of memory.
-pub fn next_record(reader: &mut Reader<&[u8]>, row: &mut ByteRecord) -> Result<bool, TraceAnswer>
+pub fn next_record(reader: &mut Reader<&[u8]>, row: &mut ByteRecord) -> Result<bool, AllocError>
     requires { IsBetweenRecords reader.old }
     ensures between { IfOk result (λ found. found ≡ true → IsBetweenRecords reader.new) }
     ensures some { IfOk result (λ found. found ≡ true → records_left reader.old ≡ fields_of row.new ∷ records_left reader.new) }
     ensures none { IfOk result (λ found. found ≡ false → records_left reader.old ≡ []) }
-    ensures err { IfErr result (λ answer. answer ≡ TraceAnswer.Memory) }
 {
     if let Ok(found) = reader.read_byte_record(row) {
         return Ok(found);
     }
-    Err(TraceAnswer::Memory)
+    Err(AllocError)
 }
 
 // The text at a column, empty where there is none.

@@ -73,7 +73,7 @@ pub fn open_trace<'a>(
     let mut reader = reader_of(alloc, bytes);
     let mut row = ByteRecord::new(alloc);
     match next_record(&mut reader, &mut row) {
-        Err(answer) => Err(answer),
+        Err(AllocError) => Err(TraceAnswer::Memory),
         Ok(false) => Err(TraceAnswer::Refused(TraceFault::NoHeader)),
         Ok(true) => match columns(&row, reads) {
             Err(fault) => Err(TraceAnswer::Refused(fault)),
@@ -130,9 +130,9 @@ impl<'a> Trace<'a> {
             Progress::Reading => {}
         }
         match next_record(&mut self.reader, &mut self.row) {
-            Err(answer) => {
-                self.progress = Progress::Stopped(answer);
-                Err(answer)
+            Err(AllocError) => {
+                self.progress = Progress::Stopped(TraceAnswer::Memory);
+                Err(TraceAnswer::Memory)
             }
             Ok(false) => {
                 self.progress = Progress::Ended;
