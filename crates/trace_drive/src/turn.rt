@@ -108,14 +108,14 @@ pub fn turn<const WAYS: usize, L: Ledger>(
     ensures keeps { OnOk result (Keeps pipeline.old pipeline.new) }
     ensures merged { OnOk result ((number : ℕ) → HasCounted number lags.old → is_refresh lags.old.every (suc number) ≡ true
         → list_all lane_is_ready pipeline.new.lanes ≡ true) }
-    ensures refreshes { (number : ℕ) → HasCounted number refreshes.old → HasCounted (suc number) refreshes.new }
-    ensures lags { (number : ℕ) → HasCounted number lags.old → HasCounted (suc number) lags.new }
-    ensures every { (refreshes.new.every ≡ refreshes.old.every) × (lags.new.every ≡ lags.old.every) }
+    ensures refreshes { OnOk result ((number : ℕ) → HasCounted number refreshes.old → HasCounted (suc number) refreshes.new) }
+    ensures lags { OnOk result ((number : ℕ) → HasCounted number lags.old → HasCounted (suc number) lags.new) }
+    ensures every { OnOk result ((refreshes.new.every ≡ refreshes.old.every) × (lags.new.every ≡ lags.old.every)) }
     ensures steps { steps.old ≤ steps.new }
 {
-    let refresh_now = refreshes.is_due();
-    let lag_over = lags.is_due();
     take_packet(pipeline, packet, steps)?;
+    let refresh_now = refreshes.is_due();
     refresh(pipeline, refresh_now, steps)?;
+    let lag_over = lags.is_due();
     catch_up(pipeline, lag_over, steps)
 }
