@@ -82,6 +82,7 @@ fn rest_of_digits(text: &[u8], read: usize, front: u64) -> Option<u64>
 }
 
 // The same, digit by digit.
+#[cold]
 #[inline(never)]
 fn digit_by_digit(text: &[u8]) -> Option<u64>
     requires some { 0 < length text.now }
@@ -193,6 +194,7 @@ fn trimmed_word(field: Field, text: &[u8]) -> Option<u64>
 }
 
 // The word of a field's text without the blanks at its ends, if that is in the field's form.
+#[cold]
 #[inline(never)]
 fn word_with_blanks(field: Field, text: &[u8]) -> Option<u64>
     ensures { result ≡ word_of field (without_blanks text.now) }
