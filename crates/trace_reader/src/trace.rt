@@ -139,11 +139,9 @@ impl<'a> Trace<'a> {
                 Ok(false)
             }
             Ok(true) => {
-                match packet_into(&self.row, self.given + 1, self.width, &self.columns, packet) {
-                    Ok(()) => {
-                        self.given += 1;
-                        Ok(true)
-                    }
+                self.given += 1;
+                match packet_into(&self.row, self.given, self.width, &self.columns, packet) {
+                    Ok(()) => Ok(true),
                     Err(fault) => {
                         self.progress = Progress::Stopped(TraceAnswer::Refused(fault));
                         Err(TraceAnswer::Refused(fault))
