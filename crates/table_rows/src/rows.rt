@@ -9,7 +9,7 @@ ghost use Rattle.table_rows.specs.RowOrder.{Ascends, is_of};
 
 use crate::lent::RowRef;
 use crate::order::sorted_spans;
-use crate::span::{Span, columns_in, key_in, row_in, values_in};
+use crate::span::{LENGTHS, Span, row_in};
 use epoch_model::Mark;
 use std::alloc::{AllocError, Global};
 use std::marker::Model;
@@ -50,7 +50,8 @@ impl Rows {
         ensures { self.new ≡ self.old }
     {
         self.spans.reserve(rows)?;
-        self.words.reserve(words)
+        let lengths = rows.saturating_mul(LENGTHS);
+        self.words.reserve(words.saturating_add(lengths))
     }
 
     /// Adds a row at the end. On an error the rows are unchanged.
@@ -72,12 +73,12 @@ impl Rows {
         ensures err { OnErr result (self.new ≡ self.old) }
     {
         let start = self.words.len();
+        let lengths = [key.len() as u64, values.len() as u64];
+        self.words.extend_from_slice(&lengths)?;
         self.words.extend_from_slice(key)?;
         self.words.extend_from_slice(values)?;
         self.spans.push(Span {
             start,
-            key_words: key.len(),
-            value_words: values.len(),
             epoch,
             epochs,
             mark,
@@ -114,8 +115,7 @@ impl Rows {
         requires { at < length self.now }
         ensures { option_map (λ row. row.key) (slice_get self.now at) ≡ Some result.now }
     {
-        let span = &self.spans[at];
-        key_in(self.words.as_slice(), span)
+        self.get(at).key
     }
 
     /// The values of the row at a place.
@@ -123,8 +123,7 @@ impl Rows {
         requires { at < length self.now }
         ensures { option_map (λ row. row.values) (slice_get self.now at) ≡ Some result.now }
     {
-        let span = &self.spans[at];
-        values_in(self.words.as_slice(), span)
+        self.get(at).values
     }
 
     /// The columns of the row at a place: its key, followed by its values.
@@ -132,8 +131,7 @@ impl Rows {
         requires { at < length self.now }
         ensures { option_map (λ row. row.key ++ row.values) (slice_get self.now at) ≡ Some result.now }
     {
-        let span = &self.spans[at];
-        columns_in(self.words.as_slice(), span)
+        self.get(at).columns
     }
 
     /// The mark of the row at a place.

@@ -1,13 +1,18 @@
-use Rattle.std.proofs.Common.{◌+◌, ◌∙◌, List, ℕ, ap, ap₂, take, drop, arith}
+use Rattle.std.proofs.Common.{◌≡◌, ◌∙◌, ◌+◌, ◌-◌, ap, ap₂, take, drop, arith}
 use Rattle.std.proofs.lemmas.List.{take-take, drop-take, drop-drop}
-use Rattle.epoch_model.specs.declared.tables.Row.{Row}
+use Rattle.table_rows.specs.Spans.{key_words, value_words}
+use Rattle.table_rows.proofs.SpanFacts.{row_with}
 use Rattle.table_rows.proofs.span.row_in.Goals as goal
 
 pub returns : goal.returns
 returns c =
     let span = c.args.span.now in
     let words = c.args.words.now in
-    let row : List ℕ → List ℕ → Row = λ key values. record { key = key; mark = span.mark; epoch = span.epoch; epochs = span.epochs; values = values } in
-    ap₂ row
-    (c.split_at.ensures.front ∙ (ap (take span.key_words) c.columns_in-columns.ensures ∙ take-take span.key_words (span.key_words + span.value_words) (drop span.start words) (omega arith)))
-    (c.split_at.ensures.back ∙ (ap (drop span.key_words) c.columns_in-columns.ensures ∙ (drop-take span.key_words span.value_words (drop span.start words) ∙ ap (take span.value_words) (drop-drop span.key_words span.start words))))
+    let start = span.start + 2 in
+    let keys = key_words words span in
+    let values = value_words words span in
+    let long : start + keys + values - start ≡ keys + values = omega arith in
+    let columns = ap (λ n. take n (drop start words)) long in
+    ap₂ (row_with span)
+    (c.split_at.ensures.front ∙ (ap (take keys) columns ∙ take-take keys (keys + values) (drop start words) (omega arith)))
+    (c.split_at.ensures.back ∙ (ap (drop keys) columns ∙ (drop-take keys values (drop start words) ∙ ap (take values) (drop-drop keys start words))))
