@@ -2,19 +2,11 @@
 use Rattle.std.proofs.Common.{◌≡◌, ℕ, zero, suc, ◌+◌, ◌<◌, true, false, ◌||◌, List, [], ◌∷◌, ◌++◌, Some, length, take, drop, get_or, find, option_map, refl, sym, ap, ap₂, ◌∙◌, subst, arith, All}
 use Rattle.std.specs.Prelude.{slice_get}
 use Rattle.std.proofs.lemmas.Bool.{true≢false}
-use Rattle.std.specs.Cmp.Lexicographic.{bytes_decides}
 use Rattle.epoch_model.specs.Keys.{Key, key_eq}
+use Rattle.epoch_model.proofs.KeyLists.{key_eq-refl, key_eq-true}
 use Rattle.bucket_cache.specs.Slices.{at_front}
 use Rattle.bucket_cache.specs.Buckets.{Pair, is_pair_of, has_key, place_of, places_of, without_key, AreOnce}
 use Rattle.bucket_cache.proofs.Fronts.{by_test, front-cons}
-
-pub key_eq-true : (a b : Key) → key_eq a b ≡ true → a ≡ b
-unfolding key_eq
-key_eq-true a b = (bytes_decides a b).0
-
-pub key_eq-same : (key : Key) → key_eq key key ≡ true
-unfolding key_eq
-key_eq-same key = (bytes_decides key key).1 refl
 
 pub absent_head : (key : Key) (pair : Pair) (pairs : List Pair) → has_key key (pair ∷ pairs) ≡ false → (key_eq pair.key key ≡ false) × (has_key key pairs ≡ false)
 absent_head key pair pairs h = by_test (key_eq pair.key key)
@@ -105,6 +97,6 @@ first-stays key place [] o e = cc
 first-stays key place (pair ∷ pairs) o e =
     let same : pair ≡ record { key = key; place = place } = cc in
     let is : pair.key ≡ key = ap (λ (p : Pair). p.key) same in
-    let first : key_eq pair.key key ≡ true = ap (λ k. key_eq k key) is ∙ key_eq-same key in
+    let first : key_eq pair.key key ≡ true = ap (λ k. key_eq k key) is ∙ key_eq-refl key in
     let absent : has_key key pairs ≡ false = subst (λ k. has_key k pairs ≡ false) is o.0 in
     (rw first refl, rw first (ap (λ (p : Pair). Some p.place) same), rw first (ap₂ (λ p ps. p ∷ ps) same (sym (without_absent key pairs absent))))

@@ -1,7 +1,8 @@
 use Rattle.std.proofs.Common.{◌≡◌, Some, length, sym, ◌∙◌, ap, ap₂, lit<}
 use Rattle.bucket_cache.specs.Buckets.{Pair}
 use Rattle.bucket_cache.specs.Caches.{list_at}
-use Rattle.bucket_cache.proofs.PairLists.{first-pair, first-within, key_eq-true}
+use Rattle.epoch_model.proofs.KeyLists.{key_eq-true}
+use Rattle.bucket_cache.proofs.PairLists.{first-pair, first-within}
 use Rattle.bucket_cache.proofs.cache.BucketCache.front.Goals as goal
 
 pub key-requires : goal.key-requires
