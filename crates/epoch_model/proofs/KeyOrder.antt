@@ -2,7 +2,7 @@
 use Rattle.std.proofs.Common.{◌≡◌, Bool, true, false, ◌||◌, List, [], ◌∷◌, refl, sym, ap, ◌∙◌, subst}
 use Rattle.std.specs.declared.cmp.Ordering.{Ordering}
 use Rattle.std.specs.declared.cmp.Ordering.TheVariants.{Less, Equal, Greater}
-use Rattle.std.specs.Ordering.{ordering_reverse}
+use Rattle.std.specs.Ordering.{is_lt, ordering_reverse}
 use Rattle.std.proofs.lemmas.Bool.{true≢false}
 use Rattle.std.proofs.lemmas.Cmp.{nat_list_cmp_total, tied_itself}
 use Rattle.std.proofs.lemmas.Map.Lookups.{exact_bytes}
@@ -31,6 +31,13 @@ key_cmp-less a b c = nat_list_cmp_total.trans a b c
 key_cmp-greater : (a b : Key) → key_cmp a b ≡ Greater → key_cmp b a ≡ Less
 unfolding key_cmp
 key_cmp-greater a b e = nat_list_cmp_total.antisymm b a ∙ ap ordering_reverse e
+
+-- keys of which neither is smaller are equal
+pub equal_keys : (a b : Key) → is_lt (key_cmp a b) ≡ false → is_lt (key_cmp b a) ≡ false → a ≡ b
+equal_keys a b first second = by_order (key_cmp a b)
+    (λ e. absurd (true≢false (rw e at first)))
+    (λ e. key_cmp-equal a b e)
+    (λ e. absurd (true≢false (rw (key_cmp-greater a b e) at second)))
 
 above_less : (a b : Key) (keys : List Key) → key_cmp a b ≡ Less → AreAbove b keys → AreAbove a keys
 above_less a b [] h above = tt
