@@ -156,6 +156,7 @@ impl<K: EpochKind, const WAYS: usize> Front<K, WAYS> {
 
     /// Merges the oldest record of the pipe into a store, after what the store holds. Empty exactly where the pipe is
     /// empty, and then nothing changes; where memory runs out, front and store are unchanged.
+    #[inline(always)]
     pub fn merge_into<L: Ledger>(
         &mut self,
         store: &mut BackingStore,
@@ -176,9 +177,33 @@ impl<K: EpochKind, const WAYS: usize> Front<K, WAYS> {
         ensures cost { let cache = self.old.cache in
             steps.new ≤ steps.old + merge_cost cache.key_words cache.entry_words (K.merge_bound self.old.kind) }
     {
-        if self.piped() == 0 {
+        if self.pipe.len() == 0 {
             return Ok(Merged::Empty);
         }
+        self.merge_oldest(store, steps)?;
+        Ok(Merged::Done)
+    }
+
+    // Merges the oldest record, where there is one. Not inlined, since most merges find an empty pipe.
+    #[inline(never)]
+    fn merge_oldest<L: Ledger>(
+        &mut self,
+        store: &mut BackingStore,
+        steps: &mut Steps<L>,
+    ) -> Result<(), AllocError>
+        requires fits { FitsStore (K.sizes self.old.kind) self.old.cache store.old }
+        requires some { 0 < length self.old.pipe.records }
+        ensures makes { OnOk result (FrontMakes (K.stands self.old.kind) WAYS Merge self.old self.new) }
+        ensures held { OnOk result (MergesNext (K.stands self.old.kind) (K.folding self.old.kind) self.old store.old store.new) }
+        ensures fits { FitsStore (K.sizes self.new.kind) self.new.cache store.new }
+        ensures err { OnErr result ((self.new ≡ self.old) × (store.new ≡ store.old)) }
+        ensures records { OnOk result (self.new.pipe.records ≡ drop 1 self.old.pipe.records) }
+        ensures kind { self.new.kind ≡ self.old.kind }
+        ensures cache { self.new.cache ≡ self.old.cache }
+        ensures steps { steps.old ≤ steps.new }
+        ensures cost { let cache = self.old.cache in
+            steps.new ≤ steps.old + merge_cost cache.key_words cache.entry_words (K.merge_bound self.old.kind) }
+    {
         let _copied = self.pipe.front_into(&mut self.room, steps);
         merge_record(
             &self.kind,
@@ -189,7 +214,7 @@ impl<K: EpochKind, const WAYS: usize> Front<K, WAYS> {
             steps,
         )?;
         self.pipe.drop_front();
-        Ok(Merged::Done)
+        Ok(())
     }
 
     /// The number of open epochs in the cache.

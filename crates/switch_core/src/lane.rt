@@ -125,6 +125,7 @@ impl<K: EpochKind, const WAYS: usize> Lane<K, WAYS> {
 
     /// Merges the oldest record of the pipe into the store. Empty exactly where the pipe is empty, and then nothing
     /// changes; where memory runs out, the lane is unchanged.
+    #[inline(always)]
     pub fn merge<L: Ledger>(&mut self, steps: &mut Steps<L>) -> Result<Merged, AllocError>
         ensures stands { OnOk result (Makes (K.stands self.old.kind) (K.folding self.old.kind) WAYS Merge
             (parts self.old.cache self.old.pipe self.old.store) (parts self.new.cache self.new.pipe self.new.store)) }

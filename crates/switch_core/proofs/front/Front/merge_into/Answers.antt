@@ -1,80 +1,19 @@
-use Rattle.std.proofs.Common.{◌≡◌, ◌+◌, true, ◌<◌, ◌≤◌, [], ◌++◌, take, drop, length, refl, sym, ap, ◌∙◌, subst, arith, get_or, ◌-◌, append-nil, length-drop}
-use Rattle.std.proofs.lemmas.Bool.Decides.{nat_tests}
-use Rattle.std.proofs.Math.Seq.{take-append_seam}
-use Rattle.epoch_model.specs.Machine.{Merge}
+use Rattle.std.proofs.Common.{◌≡◌, ◌+◌, ◌<◌, ◌++◌, drop, length, refl, sym, ap, ◌∙◌, subst, arith, ◌-◌, append-nil, length-drop}
 use Rattle.merged_epochs.specs.Merged.{StoreHolds}
-use Rattle.switch_core.specs.Costs.{merge_cost}
-use Rattle.switch_core.specs.FrontParts.{front_of}
-use Rattle.switch_core.specs.FrontEvents.{FrontMakes, MergesNext}
-use Rattle.switch_core.specs.Lanes.{FrontStands, RecordStands}
-use Rattle.switch_core.proofs.MergeSteps.{none_piped, merge_none, none_next, front_merged, next_held, copied_within}
+use Rattle.switch_core.specs.Lanes.{FrontStands}
+use Rattle.switch_core.proofs.MergeSteps.{none_piped, merge_none, none_next}
 use Rattle.switch_core.proofs.front.Front.merge_into.Goals as goal
 
-pub returns-then-piped-eq0-clause-makes : goal.returns-then-piped-eq0-clause-makes
-returns-then-piped-eq0-clause-makes g c =
+pub returns-then-len-eq0-clause-makes : goal.returns-then-len-eq0-clause-makes
+returns-then-len-eq0-clause-makes g c =
     let old = c.args.self.now in
     let stands = g.K.EpochKind.stands old.kind in
-    let none : length old.pipe.records ≡ 0 = grind (arith, c.piped.ensures.number, c.if-piped-eq0.true) in
+    let none : length old.pipe.records ≡ 0 = grind (arith, c.len.ensures.number, c.if-len-eq0.true, ap (λ x. length x.pipe.records) c.self.view_is) in
     record { stands = λ m s. subst (FrontStands stands old.cache old.pipe) (sym (merge_none m (none_piped stands old.cache old.pipe m s none))) s; kind = refl; buckets = refl; key_words = refl; places = refl }
 
-pub returns-then-piped-eq0-clause-held : goal.returns-then-piped-eq0-clause-held
-returns-then-piped-eq0-clause-held g c m epochs s held =
+pub returns-then-len-eq0-clause-held : goal.returns-then-len-eq0-clause-held
+returns-then-len-eq0-clause-held g c m epochs s held =
     let old = c.args.self.now in
     let stands = g.K.EpochKind.stands old.kind in
-    let none : length old.pipe.records ≡ 0 = grind (arith, c.piped.ensures.number, c.if-piped-eq0.true) in
+    let none : length old.pipe.records ≡ 0 = grind (arith, c.len.ensures.number, c.if-len-eq0.true, ap (λ x. length x.pipe.records) c.self.view_is) in
     subst (StoreHolds (g.K.EpochKind.folding old.kind) c.args.store.now) (sym (ap (λ es. epochs ++ es) (none_next m (none_piped stands old.cache old.pipe m s none)) ∙ append-nil epochs)) held
-
-pub returns-clause-makes : goal.returns-clause-makes
-returns-clause-makes g c =
-    let old = c.self.inside in
-    let new = front_of old.kind old.cache c.drop_front.new.self in
-    let some : 0 < length old.pipe.records = subst (λ x. 0 < length x.pipe.records) (sym c.self.view_is) (grind (arith, c.piped.ensures.number, c.if-piped-eq0.false)) in
-    subst (λ x. FrontMakes (g.K.EpochKind.stands x.kind) g.row.WAYS Merge x new) c.self.view_is
-    record {
-      stands = λ m s. front_merged (g.K.EpochKind.stands old.kind) old.cache old.pipe c.drop_front.new.self m some (ap (λ p. p.records) c.drop_front.ensures) s;
-      kind = refl;
-      buckets = refl;
-      key_words = refl;
-      places = ap (λ p. p.places) c.drop_front.ensures;
-    }
-
-pub returns-clause-held : goal.returns-clause-held
-returns-clause-held g c =
-    let old = c.self.inside in
-    let stands = g.K.EpochKind.stands old.kind in
-    let f = g.K.EpochKind.folding old.kind in
-    let some : 0 < length old.pipe.records = subst (λ x. 0 < length x.pipe.records) (sym c.self.view_is) (grind (arith, c.piped.ensures.number, c.if-piped-eq0.false)) in
-    let key : c.args.store.now.key_words ≡ old.cache.key_words = subst (λ x. c.args.store.now.key_words ≡ x.cache.key_words) (sym c.self.view_is) c.requires.key in
-    let long : length c.front_into-copied.new.into ≡ old.room.len = c.front_into-copied.auto.into ∙ c.deref_mut.ensures.len in
-    let copied : c.front_into-copied.result ≡ true = grind (arith, nat_tests, c.front_into-copied.ensures.some, some) in
-    let words : c.deref.result.now ≡ get_or old.pipe.records 0 [] = c.deref.ensures.value ∙ (subst (λ n. take n (c.front_into-copied.new.into ++ drop (length c.front_into-copied.new.into) old.room.items) ≡ c.front_into-copied.new.into) long (take-append_seam c.front_into-copied.new.into (drop (length c.front_into-copied.new.into) old.room.items)) ∙ (c.front_into-copied.ensures.copied ∙ rw copied refl)) in
-    subst (λ x. MergesNext (g.K.EpochKind.stands x.kind) (g.K.EpochKind.folding x.kind) x c.args.store.now c.merge_record.new.store) c.self.view_is
-    (λ m epochs s held. next_held stands f old.cache old.pipe c.args.store.now c.merge_record.new.store m epochs some
-    (λ epoch stood kept. c.in_ok-merge_record.ensures.ok epoch epochs
-    (subst (λ n. RecordStands stands n c.deref.result.now epoch) (sym key) (subst (λ ws. RecordStands stands old.cache.key_words ws epoch) (sym words) stood)) kept) s held)
-
-pub returns-clause-ready : goal.returns-clause-ready
-returns-clause-ready g c =
-    let old = c.args.self.now in
-    let pipe : c.self.inside.pipe ≡ old.pipe = ap (λ x. x.pipe) c.self.view_is in
-    let some : 0 < length old.pipe.records = grind (arith, c.piped.ensures.number, c.if-piped-eq0.false) in
-    let shorter : length c.drop_front.new.self.records ≡ length old.pipe.records - 1 = ap (λ p. length p.records) c.drop_front.ensures ∙ (length-drop 1 c.self.inside.pipe.records ∙ ap (λ p. length p.records - 1) pipe) in
-    let places : c.drop_front.new.self.places ≡ old.pipe.places = ap (λ p. p.places) c.drop_front.ensures ∙ ap (λ p. p.places) pipe in
-    let few = c.piped.ensures.bound in let same = c.piped.ensures.number in
-    omega arith
-
-pub returns-clause-cost : goal.returns-clause-cost
-returns-clause-cost g c =
-    let words = c.self.invariant.front.record_words in
-    let copied = copied_within c.front_into-copied.result c.self.inside.pipe.record_words in
-    let counted = c.front_into-copied.ensures.cost in
-    let merged = c.merge_record.ensures.cost in
-    subst (λ x. c.merge_record.new.steps ≤ c.args.steps.now + merge_cost x.cache.key_words x.cache.entry_words (g.K.EpochKind.merge_bound x.kind)) c.self.view_is (omega arith)
-
-pub returns-in_err-merge_record-clause-cost : goal.returns-in_err-merge_record-clause-cost
-returns-in_err-merge_record-clause-cost g c =
-    let words = c.self.invariant.front.record_words in
-    let copied = copied_within c.front_into-copied.result c.self.inside.pipe.record_words in
-    let counted = c.front_into-copied.ensures.cost in
-    let merged = c.merge_record.ensures.cost in
-    subst (λ x. c.merge_record.new.steps ≤ c.args.steps.now + merge_cost x.cache.key_words x.cache.entry_words (g.K.EpochKind.merge_bound x.kind)) c.self.view_is (omega arith)
