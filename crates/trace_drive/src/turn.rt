@@ -20,6 +20,7 @@ use std::sync::ledger::Ledger;
 use switch_core::Pipeline;
 
 // The packet event of each lane, with room for an evicted record made before.
+#[inline(always)]
 fn take_packet<const WAYS: usize, L: Ledger>(
     pipeline: &mut Pipeline<WAYS>,
     packet: &Packet,
@@ -87,6 +88,28 @@ fn catch_up<const WAYS: usize, L: Ledger>(
     }
 }
 
+// A packet, and then the sweep and the merges of which one at least is due. Apart, since few packets have any.
+#[cold]
+#[inline(never)]
+fn take_eventful<const WAYS: usize, L: Ledger>(
+    pipeline: &mut Pipeline<WAYS>,
+    packet: &Packet,
+    refresh_now: bool,
+    lag_over: bool,
+    steps: &mut Steps<L>,
+) -> Result<(), AllocError>
+    ensures follows { OnOk result ((after : ℕ → Machine) → FollowsBy after pipeline.old → FollowsBy (λ i.
+        let past = run (geometry_of WAYS pipeline.old.buckets) (event_of (taken pipeline.old.plan i packet.now.words)) (after i)
+        in if refresh_now then empty_buckets pipeline.old.buckets past else past) pipeline.new) }
+    ensures keeps { OnOk result (Keeps pipeline.old pipeline.new) }
+    ensures merged { OnOk result (lag_over ≡ true → list_all lane_is_ready pipeline.new.lanes ≡ true) }
+    ensures steps { steps.old ≤ steps.new }
+{
+    take_packet(pipeline, packet, steps)?;
+    refresh(pipeline, refresh_now, steps)?;
+    catch_up(pipeline, lag_over, steps)
+}
+
 /// A packet, and then the sweep and the merges that are due by the clocks.
 #[inline(always)]
 pub fn turn<const WAYS: usize, L: Ledger>(
@@ -108,14 +131,15 @@ pub fn turn<const WAYS: usize, L: Ledger>(
     ensures keeps { OnOk result (Keeps pipeline.old pipeline.new) }
     ensures merged { OnOk result ((number : ℕ) → HasCounted number lags.old → is_refresh lags.old.every (suc number) ≡ true
         → list_all lane_is_ready pipeline.new.lanes ≡ true) }
-    ensures refreshes { OnOk result ((number : ℕ) → HasCounted number refreshes.old → HasCounted (suc number) refreshes.new) }
-    ensures lags { OnOk result ((number : ℕ) → HasCounted number lags.old → HasCounted (suc number) lags.new) }
-    ensures every { OnOk result ((refreshes.new.every ≡ refreshes.old.every) × (lags.new.every ≡ lags.old.every)) }
+    ensures refreshes { (number : ℕ) → HasCounted number refreshes.old → HasCounted (suc number) refreshes.new }
+    ensures lags { (number : ℕ) → HasCounted number lags.old → HasCounted (suc number) lags.new }
+    ensures every { (refreshes.new.every ≡ refreshes.old.every) × (lags.new.every ≡ lags.old.every) }
     ensures steps { steps.old ≤ steps.new }
 {
-    take_packet(pipeline, packet, steps)?;
     let refresh_now = refreshes.is_due();
-    refresh(pipeline, refresh_now, steps)?;
     let lag_over = lags.is_due();
-    catch_up(pipeline, lag_over, steps)
+    if refresh_now || lag_over {
+        return take_eventful(pipeline, packet, refresh_now, lag_over, steps);
+    }
+    take_packet(pipeline, packet, steps)
 }
