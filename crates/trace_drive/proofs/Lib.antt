@@ -4,8 +4,11 @@ pub mod Waiting
 pub mod Taking
 pub mod Ending
 pub mod Replaying
+pub mod EachPacket
 mod ReadWords
 pub mod WholePackets
 mod FewPackets
+pub mod KeptFacts
+mod KeptReads
 pub mod Pieces
 pub mod Breaking

@@ -1,5 +1,5 @@
 -- The packets of a trace are of words.
-use Rattle.std.proofs.Common.{◌≡◌, ℕ, ◌+◌, ◌-◌, ◌*◌, ◌^◌, ◌<◌, Bool, true, false, ◌&&◌, nat_le, nat_lt, not, ◌==◌, if◌then◌else◌, List, [], ◌∷◌, length, Option, Some, None, Result, Ok, Err, IfOk, refl, arith}
+use Rattle.std.proofs.Common.{◌≡◌, ℕ, ◌+◌, ◌-◌, ◌*◌, ◌^◌, ◌<◌, Bool, true, false, ◌&&◌, nat_le, nat_lt, if◌then◌else◌, List, [], ◌∷◌, length, Option, Some, None, Result, Ok, Err, IfOk, refl, subst, arith}
 use Rattle.std.specs.Prelude.{IfSome, codes, option_and_then, option_map}
 use Rattle.std.specs.Char.{is_ascii_digit}
 use Rattle.std.specs.List.{All, list_all, slice_split, zip}
@@ -7,18 +7,17 @@ use Rattle.std.specs.Option.{ok_or}
 use Rattle.std.specs.Str.{bytes_eq}
 use Rattle.std.specs.Str.Parse.{digits_value}
 use Rattle.std.proofs.lemmas.Bool.Decides.{nat_tests}
-use Rattle.std.proofs.lemmas.List.Elements.{All-nil, All-cons}
+use Rattle.std.proofs.lemmas.List.Elements.{All-nil, All-cons, All-map}
 use Rattle.marple_base.specs.Field.{all_fields}
 use Rattle.marple_base.specs.declared.field.Field.{Field}
 use Rattle.marple_base.specs.declared.field.Field.TheVariants as field
 use Rattle.marple_base.specs.declared.field.Packet.{Packet}
 use Rattle.query_lang.specs.Words.{AreWords, IsWord}
-use Rattle.trace_drive.specs.Drives as drives
+use Rattle.trace_drive.proofs.EachPacket.{HoldsOfRead, each_packet}
+use Rattle.marple_base.specs.declared.field.FieldSet.{FieldSet}
 use Rattle.trace_drive.specs.ReadPackets.{ReadPacketsAreOfWords}
 use Rattle.trace_reader.specs.Numbers.{decimal_word, first_some, further_word, infinity_word, is_dot, number_in, octet_word, quad_of, without_blanks, word_of}
-use Rattle.trace_reader.specs.Reading.{records}
-use Rattle.trace_reader.specs.Traces.{Contents, Layout, contents, contents_from, contents_with, each, most_records, opening, packet_of, packet_with, rest_of, text_at, with_first, with_packet, word_at, words_of}
-use Rattle.trace_reader.specs.declared.fault.TraceFault.{TraceFault}
+use Rattle.trace_reader.specs.Traces.{each, packets, text_at, with_first, word_at}
 
 -- numbers
 
@@ -105,36 +104,10 @@ unfolding each
 each_ok P f [] h = All-nil P
 each_ok P f (x ∷ xs) h = first_ok P (f x) (each f xs) (h x) (each_ok P f xs h)
 
-abbrev IsOfWords : Packet → Type 0
-IsOfWords packet = AreWords packet.words
-
-with_words : (n : ℕ) (words : Result (List ℕ) Field) → IfOk words AreWords → IfOk (packet_with n words) IsOfWords
-with_words n (Ok words) h = h
-with_words n (Err of) h = tt
-
-unless : (b : Bool) (fault : TraceFault) (found : Result Packet TraceFault) → IfOk found IsOfWords → IfOk (if b then Err fault else found) IsOfWords
-unless true fault found h = tt
-unless false fault found h = h
-
-packet_ok : (layout : Layout) (n : ℕ) (fields : List (List ℕ)) → IfOk (packet_of layout n fields) IsOfWords
-unfolding packet_of
-packet_ok layout n fields =
-    unless (nat_lt most_records n) _ _ (unless (not (length fields == layout.width)) _ _
-    (with_words n (words_of layout.columns fields) (each_ok IsWord (λ p. word_at fields p.0 p.1) (zip all_fields layout.columns) (λ p. at_column fields p.0 p.1))))
-
-with_one : (one : Result Packet TraceFault) (more : Contents) → IfOk one IsOfWords → All AreWords (drives.words_of more.packets) → All AreWords (drives.words_of (with_packet one more).packets)
-with_one (Err found) more h rest = All-nil AreWords
-with_one (Ok packet) more h rest = All-cons AreWords packet.words (drives.words_of more.packets) h rest
-
-all_ok : (layout : Layout) (n : ℕ) (left : List (List (List ℕ))) → All AreWords (drives.words_of (contents_from layout n left).packets)
-unfolding contents_from
-all_ok layout n [] = All-nil AreWords
-all_ok layout n (fields ∷ left) = with_one (packet_of layout n fields) (contents_from layout (n + 1) left) (packet_ok layout n fields) (all_ok layout (n + 1) left)
-
-with_layout : (found : Result Layout TraceFault) (left : List (List (List ℕ))) → All AreWords (drives.words_of (contents_with found left).packets)
-with_layout (Err fault) left = All-nil AreWords
-with_layout (Ok layout) left = all_ok layout 1 left
+is_of_words : (reads : FieldSet) → HoldsOfRead reads (λ packet. AreWords packet.words)
+is_of_words reads header fields columns packet c w =
+    subst (λ words. IfOk words AreWords) w (each_ok IsWord (λ p. word_at fields p.0 p.1) (zip all_fields columns) (λ p. at_column fields p.0 p.1))
 
 pub read_words : ReadPacketsAreOfWords
-unfolding contents
-read_words text reads = with_layout (opening text reads) (rest_of (records text))
+read_words text reads =
+    All-map AreWords (λ (packet : Packet). packet.words) (packets text reads) (each_packet (λ packet. AreWords packet.words) text reads (is_of_words reads))

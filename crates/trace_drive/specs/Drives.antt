@@ -8,7 +8,7 @@ use Rattle.stage_plan.specs.declared.group.GroupPlan.{GroupPlan}
 use Rattle.stage_plan.specs.Planned.{taken}
 use Rattle.stage_plan.specs.Sound.{PlanParts}
 use Rattle.trace_drive.specs.declared.packets.Packets.{Packets}
-use Rattle.trace_drive.specs.declared.packets.Packets.TheVariants.{Trace, Made}
+use Rattle.trace_drive.specs.declared.packets.Packets.TheVariants.{Trace, Made, Kept}
 use Rattle.trace_drive.specs.declared.schedule.Schedule.{Schedule}
 use Rattle.trace_reader.specs.declared.fault.TraceFault.{TraceFault}
 
@@ -16,11 +16,13 @@ use Rattle.trace_reader.specs.declared.fault.TraceFault.{TraceFault}
 abbrev pub coming : Packets → List Packet
 coming (Trace trace) = trace.packets
 coming (Made packets at) = drop at packets
+coming (Kept kept at) = drop at kept.packets
 
--- the fault after them; packets that were generated have none
+-- the fault after them; packets that were generated or kept have none
 abbrev pub fault_of : Packets → Option TraceFault
 fault_of (Trace trace) = trace.fault
 fault_of (Made packets at) = None
+fault_of (Kept kept at) = None
 
 -- the words of each packet
 abbrev pub words_of : List Packet → List (List ℕ)

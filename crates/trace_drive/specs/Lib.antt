@@ -4,3 +4,5 @@ pub mod Follows
 pub mod Replays
 pub mod Answers
 pub mod ReadPackets
+pub mod Kept
+pub mod KeptView

@@ -1,10 +1,11 @@
 -- What is known of the packets that are read from a trace.
-use Rattle.std.specs.Prelude.{◌≤◌, ℕ, List, length, All}
+use Rattle.std.specs.Prelude.{◌≡◌, ◌≤◌, ℕ, List, length, All}
 use Rattle.query_lang.specs.Words.{AreWords}
 use Rattle.marple_base.specs.declared.field.FieldSet.{FieldSet}
 use Rattle.stage_plan.specs.Packets.{AreWhole}
 use Rattle.trace_reader.specs.Traces.{most_records, packets}
 use Rattle.trace_drive.specs.Drives.{words_of}
+use Rattle.trace_drive.specs.Kept.{kept_of}
 
 -- Each field of each packet that is read from a trace is a word.
 abbrev pub ReadPacketsAreOfWords : Type 0
@@ -17,3 +18,7 @@ ReadPacketsAreWhole = (text : List ℕ) (reads : FieldSet) → AreWhole (words_o
 -- A trace has no more packets than it may have records.
 abbrev pub ReadPacketsAreFew : Type 0
 ReadPacketsAreFew = (text : List ℕ) (reads : FieldSet) → length (packets text reads) ≤ most_records
+
+-- The packets of a trace have 0 in the fields that aren't read: where the others are kept, nothing of them is lost.
+abbrev pub ReadPacketsAreKept : Type 0
+ReadPacketsAreKept = (text : List ℕ) (reads : FieldSet) → All (λ packet. kept_of reads packet ≡ packet) (packets text reads)

@@ -1,6 +1,6 @@
 //! What is known of the packets that are read from a trace.
 
-ghost use Rattle.trace_drive.specs.ReadPackets.{ReadPacketsAreFew, ReadPacketsAreOfWords, ReadPacketsAreWhole};
+ghost use Rattle.trace_drive.specs.ReadPackets.{ReadPacketsAreFew, ReadPacketsAreKept, ReadPacketsAreOfWords, ReadPacketsAreWhole};
 
 /// The packets that are read from a trace have the words of all fields.
 pub fn read_packets_are_whole()
@@ -15,4 +15,9 @@ pub fn read_packets_are_words()
 /// A trace has no more packets than it may have records.
 pub fn read_packets_are_few()
     ensures { ReadPacketsAreFew }
+{}
+
+/// Where the fields are kept that are read, nothing of a packet is lost that is read from a trace.
+pub fn read_packets_are_kept()
+    ensures { ReadPacketsAreKept }
 {}

@@ -5,6 +5,7 @@
 
 mod answer;
 mod clock;
+mod kept;
 mod laws;
 mod merging;
 mod packets;
@@ -14,7 +15,10 @@ mod turn;
 
 pub use answer::RunError;
 pub use clock::Clock;
-pub use laws::{read_packets_are_few, read_packets_are_whole, read_packets_are_words};
+pub use kept::KeptPackets;
+pub use laws::{
+    read_packets_are_few, read_packets_are_kept, read_packets_are_whole, read_packets_are_words,
+};
 pub use packets::Packets;
 pub use replay::{Replay, drive};
 pub use schedule::Schedule;

@@ -4,14 +4,16 @@ ghost use Rattle.std.specs.Prelude.{◌≡◌, [], ◌∷◌, IfErr, None, Some,
 ghost use Rattle.trace_drive.specs.Drives.{coming, fault_of};
 ghost use Rattle.trace_reader.specs.Faults.{IfRefused};
 
+use crate::kept::KeptPackets;
 use marple_base::{Packet, Seq};
 use trace_reader::{Trace, TraceAnswer};
 
-/// The packets of a trace, or packets that were made, with the place of the next one.
+/// The packets of a trace, or packets that were made or kept, with the place of the next one.
 #[derive(Drop)]
 pub enum Packets<'a> {
     Trace(Trace<'a>),
     Made(Seq<Packet>, usize),
+    Kept(KeptPackets, usize),
 }
 
 impl<'a> Packets<'a> {
@@ -27,11 +29,12 @@ impl<'a> Packets<'a> {
         match self {
             Packets::Trace(trace) => trace.next_into(packet),
             Packets::Made(made, at) => Ok(made_into(made, at, packet)),
+            Packets::Kept(kept, at) => Ok(kept_into(kept, at, packet)),
         }
     }
 }
 
-// The packet at the next place.
+// The packet at the next place, of those that were made.
 fn made_into(made: &Seq<Packet>, at: &mut usize, packet: &mut Packet) -> bool
     ensures packet { result ≡ true → drop at.old made.now ≡ packet.new ∷ drop at.new made.now }
     ensures end { result ≡ false → (drop at.old made.now ≡ []) × (drop at.new made.now ≡ []) }
@@ -40,6 +43,19 @@ fn made_into(made: &Seq<Packet>, at: &mut usize, packet: &mut Packet) -> bool
         return false;
     }
     *packet = *made.get(*at);
+    *at += 1;
+    true
+}
+
+// The packet at the next place, of those that were kept.
+fn kept_into(kept: &KeptPackets, at: &mut usize, packet: &mut Packet) -> bool
+    ensures packet { result ≡ true → drop at.old kept.now.packets ≡ packet.new ∷ drop at.new kept.now.packets }
+    ensures end { result ≡ false → (drop at.old kept.now.packets ≡ []) × (drop at.new kept.now.packets ≡ []) }
+{
+    if *at >= kept.len() {
+        return false;
+    }
+    kept.packet_into(*at, packet);
     *at += 1;
     true
 }

@@ -1,0 +1,13 @@
+use Rattle.std.proofs.Common.{◌*◌, length, sym, ap, ap₂, ◌∙◌}
+use Rattle.trace_drive.specs.Kept.{kept_words}
+use Rattle.trace_drive.proofs.KeptFacts.{packets_long}
+use Rattle.trace_drive.proofs.kept.KeptPackets.word_count.Goals as goal
+
+pub returns : goal.returns
+returns c =
+    let kept = c.self.inside in
+    c.len.ensures
+    ∙ (kept.words.ok.0
+    ∙ (c.self.invariant.words
+    ∙ (ap₂ (λ n fields. n * length fields) (sym (packets_long kept.fields.items kept.count kept.words.items)) c.self.invariant.fields
+    ∙ ap kept_words c.self.view_is)))

@@ -1,0 +1,133 @@
+//! Packets of which only some fields are kept.
+
+ghost use Rattle.std.specs.Prelude.{◌≡◌, [], ◌∷◌, ◌++◌, ◌+◌, ◌*◌, ◌<◌, ◌≤◌, IfOk, OnErr, OnOk, Some, drop, length, map, slice_get};
+ghost use Rattle.trace_drive.specs.Kept.{fields_in, kept_of, kept_words, packet_in, word_in};
+ghost use Rattle.trace_reader.specs.Traces.{most_records};
+
+use marple_base::{Field, FieldSet, Packet};
+use std::alloc::{AllocError, Global};
+use std::marker::Model;
+
+/// Packets with the words of some fields alone, one after the other. Contracts see these fields, and the packets, which
+/// have 0 in all others.
+#[derive(Drop)]
+pub struct KeptPackets {
+    of: FieldSet,
+    /// The fields that are kept, in their order.
+    fields: Vec<Field>,
+    /// As many words for each packet as there are such fields.
+    words: Vec<u64>,
+    count: usize,
+}
+
+impl Model for KeptPackets {
+    ghost use Rattle.trace_drive.specs.Kept.{Kept};
+
+    ghost Value = { Kept };
+
+    ghost use Rattle.trace_drive.specs.KeptView.{kept_in, IsSound};
+
+    ghost view = { kept_in };
+
+    ghost invariant = { IsSound };
+}
+
+// The fields of a set.
+fn fields_of(alloc: Global, set: FieldSet) -> Result<Vec<Field>, AllocError>
+    ensures { IfOk result (λ fields. fields.items ≡ fields_in set) }
+{
+    let mut fields = Vec::new(alloc);
+    for field in Field::ALL {
+        if set.has(field) {
+            fields.push(field)?;
+        }
+    }
+    Ok(fields)
+}
+
+// Adds the words of these fields. When out of memory, the words are unchanged.
+#[inline]
+fn push_row(words: &mut Vec<u64>, fields: &[Field], packet: &Packet) -> Result<(), AllocError>
+    ensures ok { OnOk result (words.new.items ≡ words.old.items ++ map (word_in packet.now) fields.now) }
+    ensures err { OnErr result (words.new.items ≡ words.old.items) }
+{
+    let before = words.len();
+    for field in fields {
+        if let Err(full) = words.push(packet.get(*field)) {
+            words.truncate(before);
+            return Err(full.into());
+        }
+    }
+    Ok(())
+}
+
+// The words from a packet's place on, where each has so many.
+#[inline]
+fn words_from(words: &[u64], width: usize, at: usize) -> &[u64]
+    requires { at * width + width ≤ length words.now }
+    ensures words { result.now ≡ drop (at * width) words.now }
+    ensures enough { width ≤ length result.now }
+{
+    &words[at * width..]
+}
+
+// The packet in which these fields have the row's words.
+#[inline]
+fn row_into(row: &[u64], fields: &[Field], packet: &mut Packet)
+    requires { length fields.now ≤ length row.now }
+    ensures { packet.new ≡ packet_in fields.now row.now }
+{
+    packet.words = [0; 14];
+    for (place, field) in fields.iter().enumerate() {
+        packet.words[field.number()] = row[place];
+    }
+}
+
+impl KeptPackets {
+    /// No packets yet, of which the fields of this set will be kept.
+    pub fn new(alloc: Global, of: FieldSet) -> Result<KeptPackets, AllocError>
+        ensures { IfOk result (λ kept. kept ≡ record { fields = of; packets = [] }) }
+    {
+        let fields = fields_of(alloc, of)?;
+        Ok(KeptPackets {
+            of,
+            fields,
+            words: Vec::new(alloc),
+            count: 0,
+        })
+    }
+
+    /// The number of packets.
+    pub fn len(&self) -> usize
+        ensures { result ≡ length self.now.packets }
+    {
+        self.count
+    }
+
+    /// The number of words that the packets take.
+    pub fn word_count(&self) -> usize
+        ensures { result ≡ kept_words self.now }
+    {
+        self.words.len()
+    }
+
+    /// Adds a packet at the end, with 0 in the fields that aren't kept. When out of memory, the packets are unchanged.
+    pub fn push(&mut self, packet: &Packet) -> Result<(), AllocError>
+        requires { length self.old.packets < most_records }
+        ensures ok { OnOk result (self.new ≡ record self.old { packets = self.old.packets ++ kept_of self.old.fields packet.now ∷ [] }) }
+        ensures err { OnErr result (self.new ≡ self.old) }
+    {
+        push_row(&mut self.words, &self.fields, packet)?;
+        self.count += 1;
+        Ok(())
+    }
+
+    /// The packet at a place, into `packet`.
+    pub fn packet_into(&self, at: usize, packet: &mut Packet)
+        requires { at < length self.now.packets }
+        ensures { slice_get self.now.packets at ≡ Some packet.new }
+    {
+        let words = words_from(&self.words, self.fields.len(), at);
+        row_into(words, &self.fields, packet);
+    }
+}
