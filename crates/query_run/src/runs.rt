@@ -57,17 +57,8 @@ pub fn run_over_trace<R: Report, O: Sink, L: Ledger>(
 {
     read_packets_are_whole();
     read_packets_are_few();
-    let trace = opened_trace(alloc, bytes, plan.reads(), every)?;
-    run_with_its_ways(
-        alloc,
-        setting,
-        every,
-        report,
-        plan,
-        Packets::Trace(trace),
-        out,
-        steps,
-    )
+    let packets = opened_trace(alloc, bytes, plan.reads(), every)?;
+    run_with_its_ways(alloc, setting, every, report, plan, packets, out, steps)
 }
 
 /// Runs a plan over generated packets, and writes the report of all of them.

@@ -11,10 +11,10 @@ use Rattle.query_run.specs.Reports.{Prints}
 use Rattle.query_run.specs.Views.{views_text}
 use Rattle.query_run.proofs.runs.run_over_trace.Goals as goal
 
-pub returns-in_err-trace-clause-breaks_off : goal.returns-in_err-trace-clause-breaks_off
-returns-in_err-trace-clause-breaks_off g c =
+pub returns-in_err-packets-clause-breaks_off : goal.returns-in_err-packets-clause-breaks_off
+returns-in_err-packets-clause-breaks_off g c =
     let out = c.args.out.now in
-    let answer = c.in_err-trace.field-0.0 in
+    let answer = c.in_err-packets.field-0.0 in
     let reads = c.args.plan.reads in
     let all = words_of (packets c.args.bytes.now reads) in
     let fault = trace_fault c.args.bytes.now reads in
@@ -24,4 +24,4 @@ returns-in_err-trace-clause-breaks_off g c =
     (λ text prints.
     let written = views_text (text (geometry_of c.args.setting)) c.args.every all in
     reader_breaks g.O.Sink.taken g.O.Sink.faults written fault out out [] written refl (λ found is. (refl, refl)) (Appends-nil (g.O.Sink.taken out)) answer
-    (subst (λ reads. IfRefused answer (λ found. trace_fault c.args.bytes.now reads ≡ Some found)) c.reads.ensures c.in_err-trace.ensures.refused))
+    (subst (λ reads. IfRefused answer (λ found. trace_fault c.args.bytes.now reads ≡ Some found)) c.reads.ensures c.in_err-packets.ensures.refused))
