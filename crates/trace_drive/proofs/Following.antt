@@ -95,6 +95,25 @@ turn_as ways number g is_due buckets next taking m w b k s =
     ∙ (ap (λ n. if is_due then empty_buckets n (run g (event_of taking) m) else run g (event_of taking) m) (k ∙ sym b)
     ∙ ap (λ (t : Bool). if t then empty_buckets g.buckets (run g (event_of taking) m) else run g (event_of taking) m) s)
 
+-- a turn leads to the machines after the packet's number, whether the clock is due or not
+pub turn_leads : {X E : Type 0} (ways refresh : ℕ) (old new : PipelineView) (words : List ℕ) (is_due : Bool) (Counted : ℕ → Type 0) (r : Result X E)
+    → ((number : ℕ) → Counted number → is_due ≡ is_refresh refresh (suc number))
+    → OnOk r ((after : ℕ → Machine) → FollowsBy after old → FollowsBy (λ i. if is_due then empty_buckets old.buckets (run (geometry_of ways old.buckets) (event_of (taken old.plan i words)) (after i))
+    else run (geometry_of ways old.buckets) (event_of (taken old.plan i words)) (after i)) new)
+    → OnOk r ((number : ℕ) (after : ℕ → Machine) → Counted number → FollowsBy after old
+    → FollowsBy (λ i. after_packet (record { buckets = old.buckets; ways = ways; refresh = refresh }) (suc number) (event_of (taken old.plan i words)) (after i)) new)
+turn_leads ways refresh old new words is_due Counted r told =
+    let geometry : Geometry = record { buckets = old.buckets; ways = ways; refresh = refresh } in
+    let past = λ (after : ℕ → Machine) (i : ℕ). run (geometry_of ways old.buckets) (event_of (taken old.plan i words)) (after i) in
+    let swept = λ (after : ℕ → Machine) (i : ℕ). if is_due then empty_buckets old.buckets (past after i) else past after i in
+    on_ok ((after : ℕ → Machine) → FollowsBy after old → FollowsBy (swept after) new)
+    ((number : ℕ) (after : ℕ → Machine) → Counted number → FollowsBy after old → FollowsBy (λ i. after_packet geometry (suc number) (event_of (taken old.plan i words)) (after i)) new)
+    r
+    (λ led number after counted f.
+    follows_as (swept after) (λ i. after_packet geometry (suc number) (event_of (taken old.plan i words)) (after i)) new
+    (λ i. turn_as ways (suc number) geometry is_due old.buckets old.buckets (taken old.plan i words) (after i) refl refl refl (told number counted))
+    (led after f))
+
 start_alike : EventsKeepAlike → (g : Geometry) (i : ℕ) (groups : List GroupPlan) → AlikeFrom (λ j. empty_machine g) i (empty_machines g groups)
 start_alike alike g i [] = tt
 start_alike alike g i (group ∷ groups) = (alike.start (empty_machine g), start_alike alike g (suc i) groups)

@@ -52,24 +52,6 @@ pub fn sweep<const WAYS: usize, L: Ledger>(
     pipeline.sweep(steps)
 }
 
-// A sweep, where this is a refresh.
-fn refresh<const WAYS: usize, L: Ledger>(
-    pipeline: &mut Pipeline<WAYS>,
-    is_due: bool,
-    steps: &mut Steps<L>,
-) -> Result<(), AllocError>
-    ensures follows { OnOk result ((after : ℕ → Machine) → FollowsBy after pipeline.old
-        → FollowsBy (λ i. if is_due then empty_buckets pipeline.old.buckets (after i) else after i) pipeline.new) }
-    ensures keeps { OnOk result (Keeps pipeline.old pipeline.new) }
-    ensures steps { steps.old ≤ steps.new }
-{
-    if is_due {
-        sweep(pipeline, steps)
-    } else {
-        Ok(())
-    }
-}
-
 // A merge of each lane, where the lag is over.
 fn catch_up<const WAYS: usize, L: Ledger>(
     pipeline: &mut Pipeline<WAYS>,
@@ -88,25 +70,42 @@ fn catch_up<const WAYS: usize, L: Ledger>(
     }
 }
 
-// A packet, and then the sweep and the merges of which one at least is due. Apart, since few packets have any.
-#[cold]
-#[inline(never)]
-fn take_eventful<const WAYS: usize, L: Ledger>(
+// A packet, and then a merge of each lane.
+#[inline(always)]
+fn take_and_merge<const WAYS: usize, L: Ledger>(
     pipeline: &mut Pipeline<WAYS>,
     packet: &Packet,
-    refresh_now: bool,
+    steps: &mut Steps<L>,
+) -> Result<(), AllocError>
+    ensures follows { OnOk result ((after : ℕ → Machine) → FollowsBy after pipeline.old
+        → FollowsBy (λ i. run (geometry_of WAYS pipeline.old.buckets)
+        (event_of (taken pipeline.old.plan i packet.now.words)) (after i)) pipeline.new) }
+    ensures keeps { OnOk result (Keeps pipeline.old pipeline.new) }
+    ensures ready { OnOk result (list_all lane_is_ready pipeline.new.lanes ≡ true) }
+    ensures steps { steps.old ≤ steps.new }
+{
+    take_packet(pipeline, packet, steps)?;
+    merge_each(pipeline, steps)
+}
+
+// A packet, a sweep, and then a merge of each lane where the lag is over. Apart, since few packets are followed by a sweep.
+#[cold]
+#[inline(never)]
+fn take_and_sweep<const WAYS: usize, L: Ledger>(
+    pipeline: &mut Pipeline<WAYS>,
+    packet: &Packet,
     lag_over: bool,
     steps: &mut Steps<L>,
 ) -> Result<(), AllocError>
-    ensures follows { OnOk result ((after : ℕ → Machine) → FollowsBy after pipeline.old → FollowsBy (λ i.
-        let past = run (geometry_of WAYS pipeline.old.buckets) (event_of (taken pipeline.old.plan i packet.now.words)) (after i)
-        in if refresh_now then empty_buckets pipeline.old.buckets past else past) pipeline.new) }
+    ensures follows { OnOk result ((after : ℕ → Machine) → FollowsBy after pipeline.old
+        → FollowsBy (λ i. empty_buckets pipeline.old.buckets (run (geometry_of WAYS pipeline.old.buckets)
+        (event_of (taken pipeline.old.plan i packet.now.words)) (after i))) pipeline.new) }
     ensures keeps { OnOk result (Keeps pipeline.old pipeline.new) }
     ensures merged { OnOk result (lag_over ≡ true → list_all lane_is_ready pipeline.new.lanes ≡ true) }
     ensures steps { steps.old ≤ steps.new }
 {
     take_packet(pipeline, packet, steps)?;
-    refresh(pipeline, refresh_now, steps)?;
+    sweep(pipeline, steps)?;
     catch_up(pipeline, lag_over, steps)
 }
 
@@ -138,8 +137,11 @@ pub fn turn<const WAYS: usize, L: Ledger>(
 {
     let refresh_now = refreshes.is_due();
     let lag_over = lags.is_due();
-    if refresh_now || lag_over {
-        return take_eventful(pipeline, packet, refresh_now, lag_over, steps);
+    if refresh_now {
+        return take_and_sweep(pipeline, packet, lag_over, steps);
+    }
+    if lag_over {
+        return take_and_merge(pipeline, packet, steps);
     }
     take_packet(pipeline, packet, steps)
 }
