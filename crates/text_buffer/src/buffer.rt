@@ -45,6 +45,13 @@ impl TextBuffer {
         self.bytes.as_slice()
     }
 
+    /// Takes memory for so many bytes more.
+    pub fn reserve(&mut self, bytes: usize) -> Result<(), AllocError>
+        ensures { self.new ≡ self.old }
+    {
+        self.bytes.reserve(bytes)
+    }
+
     /// Adds a byte to those that wait. When out of memory, they are unchanged.
     pub fn push(&mut self, byte: u8) -> Result<(), AllocError>
         ensures ok { OnOk result (self.new ≡ self.old ++ byte ∷ []) }
