@@ -1,7 +1,7 @@
 //! The rows of a table.
 
-ghost use Rattle.std.specs.Prelude.{◌≡◌, ◌<◌, ◌↔◌, ◌++◌, ◌∷◌, [], length, option_map, slice_get, slice_set, filter, Some};
-ghost use Rattle.std.specs.Prelude.{IsTrue, OnOk, OnErr};
+ghost use Rattle.std.specs.Prelude.{◌≡◌, ◌+◌, ◌<◌, ◌≤◌, ◌↔◌, ◌++◌, ◌∷◌, [], length, option_map, slice_get, slice_set, filter, Some};
+ghost use Rattle.std.specs.Prelude.{IsTrue, OnOk, OnErr, vec_capacity, vec_len};
 ghost use Rattle.epoch_model.specs.Keys.{Key};
 ghost use Rattle.epoch_model.specs.declared.tables.Row.{Row};
 ghost use Rattle.table_rows.specs.LentRows.{row_of};
@@ -32,6 +32,20 @@ impl Model for Rows {
     ghost view = { list_of };
 
     ghost invariant = { IsSound };
+}
+
+// Adds these words, for which there is room, at the end. They are pushed one by one, since those of a row are so few that to
+// call the C library for a copy would take longer.
+#[inline(always)]
+fn push_few(words: &mut Vec<u64>, few: &[u64])
+    requires { vec_len words.old + length few.now ≤ vec_capacity words.old }
+    ensures items { words.new.items ≡ words.old.items ++ few.now }
+    ensures len { vec_len words.new ≡ vec_len words.old + length few.now }
+    ensures capacity { vec_capacity words.new ≡ vec_capacity words.old }
+{
+    for word in few {
+        words.push_reserved(*word);
+    }
 }
 
 impl Rows {
@@ -74,9 +88,10 @@ impl Rows {
     {
         let start = self.words.len();
         let lengths = [key.len() as u64, values.len() as u64];
-        self.words.extend_from_slice(&lengths)?;
-        self.words.extend_from_slice(key)?;
-        self.words.extend_from_slice(values)?;
+        self.words.reserve(LENGTHS + key.len() + values.len())?;
+        push_few(&mut self.words, &lengths);
+        push_few(&mut self.words, key);
+        push_few(&mut self.words, values);
         self.spans.push(Span {
             start,
             epoch,
