@@ -106,10 +106,10 @@ fn push_epoch(text: &mut TextBuffer, begins: bool, row: &RowRef) -> Result<(), A
         ≡ text.old ++ parts_from begins (mark_text row.now.mark ∷ epoch_text row.now.mark row.now.epoch
         ∷ decimal row.now.epochs ∷ [])) }
 {
-    push_part(text, begins, mark_word(row.mark))?;
     if row.mark == Mark::Exact {
-        push_part(text, false, b"*")?;
+        push_part(text, begins, b"exact,*")?;
     } else {
+        push_part(text, begins, mark_word(row.mark))?;
         push_word(text, false, row.epoch)?;
     }
     push_word(text, false, row.epochs)
