@@ -61,21 +61,21 @@ fn keep_rest(
     Ok(Some(kept))
 }
 
-// Reads a trace to its end: it has no fault. Its packets are kept where they take no more memory than its text.
+// Reads a trace to its end: it has no fault. Its packets are kept where they take at most twice the memory of its text.
 fn read_ahead(
     alloc: Global,
     bytes: &[u8],
     reads: FieldSet,
 ) -> Result<Option<KeptPackets>, TraceAnswer>
     ensures kept { IfOk result (λ found. IfSome found (λ kept. kept.packets ≡ packets bytes.now reads)) }
-    ensures within { IfOk result (λ found. IfSome found (λ kept. 8 * kept_words kept ≤ length bytes.now)) }
+    ensures within { IfOk result (λ found. IfSome found (λ kept. 8 * kept_words kept ≤ 2 * length bytes.now)) }
     ensures accepted { OnOk result (trace_fault bytes.now reads ≡ None) }
     ensures refused { IfErr result (λ answer. IfRefused answer (λ fault. trace_fault bytes.now reads ≡ Some fault)) }
 {
     read_packets_are_few();
     read_packets_are_kept();
     let mut trace = open_trace(alloc, bytes, reads)?;
-    if let Some(kept) = keep_rest(alloc, reads, &mut trace, bytes.len() / 8)? {
+    if let Some(kept) = keep_rest(alloc, reads, &mut trace, bytes.len() / 4)? {
         return Ok(Some(kept));
     }
     accept_rest(&mut trace)?;
@@ -83,8 +83,8 @@ fn read_ahead(
 }
 
 /// The packets of a trace. Where a view is written after every N packets, the trace is read to its end first, so that what is
-/// written comes from a trace that is accepted; it is read again only where its packets take more memory than its text. With
-/// 0 nothing is read ahead.
+/// written comes from a trace that is accepted; it is read again only where its packets take more than twice the memory of its
+/// text. With 0 nothing is read ahead.
 pub(crate) fn opened_trace<'a>(
     alloc: Global,
     bytes: &'a [u8],
