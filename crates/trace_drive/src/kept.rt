@@ -1,6 +1,7 @@
 //! Packets of which only some fields are kept.
 
 ghost use Rattle.std.specs.Prelude.{◌≡◌, [], ◌∷◌, ◌++◌, ◌+◌, ◌*◌, ◌<◌, ◌≤◌, IfOk, OnErr, OnOk, Some, drop, length, map, slice_get};
+ghost use Rattle.std.specs.Prelude.{vec_capacity, vec_len};
 ghost use Rattle.trace_drive.specs.Kept.{fields_in, kept_of, kept_words, packet_in, word_in};
 ghost use Rattle.trace_reader.specs.Traces.{most_records};
 
@@ -45,19 +46,25 @@ fn fields_of(alloc: Global, set: FieldSet) -> Result<Vec<Field>, AllocError>
     Ok(fields)
 }
 
+// Adds the words of these fields. There is room for them.
+#[inline(always)]
+fn push_words(words: &mut Vec<u64>, fields: &[Field], packet: &Packet)
+    requires { vec_len words.old + length fields.now ≤ vec_capacity words.old }
+    ensures { words.new.items ≡ words.old.items ++ map (word_in packet.now) fields.now }
+{
+    for field in fields {
+        words.push_reserved(packet.get(*field));
+    }
+}
+
 // Adds the words of these fields. When out of memory, the words are unchanged.
-#[inline]
+#[inline(always)]
 fn push_row(words: &mut Vec<u64>, fields: &[Field], packet: &Packet) -> Result<(), AllocError>
     ensures ok { OnOk result (words.new.items ≡ words.old.items ++ map (word_in packet.now) fields.now) }
     ensures err { OnErr result (words.new.items ≡ words.old.items) }
 {
-    let before = words.len();
-    for field in fields {
-        if let Err(full) = words.push(packet.get(*field)) {
-            words.truncate(before);
-            return Err(full.into());
-        }
-    }
+    words.reserve(fields.len())?;
+    push_words(words, fields, packet);
     Ok(())
 }
 
@@ -112,6 +119,7 @@ impl KeptPackets {
     }
 
     /// Adds a packet at the end, with 0 in the fields that aren't kept. When out of memory, the packets are unchanged.
+    #[inline]
     pub fn push(&mut self, packet: &Packet) -> Result<(), AllocError>
         requires { length self.old.packets < most_records }
         ensures ok { OnOk result (self.new ≡ record self.old { packets = self.old.packets ++ kept_of self.old.fields packet.now ∷ [] }) }
