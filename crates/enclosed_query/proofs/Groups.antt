@@ -1,5 +1,5 @@
 -- The groupbys of a sound plan, and the headings of their tables.
-use Rattle.std.proofs.Common.{◌≡◌, ℕ, length, ap, ◌∙◌}
+use Rattle.std.proofs.Common.{ℕ, length, ap, ◌∙◌}
 use Rattle.query_lang.specs.declared.fold.TypedFold.{TypedFold}
 use Rattle.fold_class.specs.Program.{IsProgramOf}
 use Rattle.stage_plan.specs.declared.group.GroupPlan.{GroupPlan}

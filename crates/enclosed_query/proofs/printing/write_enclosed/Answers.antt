@@ -1,4 +1,4 @@
-use Rattle.std.proofs.Common.{◌≡◌, ◌++◌, OnErr, OnOk, sym, ◌∙◌, subst}
+use Rattle.std.proofs.Common.{◌++◌, OnErr, OnOk, sym, subst}
 use Rattle.std.specs.List.{All}
 use Rattle.marple_base.specs.Sink.{TakesFront}
 use Rattle.enclosed_query.specs.EnclosedTables.{enclosed_print}

@@ -1,4 +1,4 @@
-use Rattle.std.proofs.Common.{◌≡◌, ℕ, List, None, ◌++◌, sym, ap, ap₂, ◌∙◌, subst, take}
+use Rattle.std.proofs.Common.{ℕ, List, None, ◌++◌, sym, ap, ap₂, ◌∙◌, subst, take}
 use Rattle.std.specs.Io.KnownBytes.{Appends}
 use Rattle.epoch_model.specs.Epochs.{Geometry}
 use Rattle.stage_plan.specs.Sound.{IsSoundPlan}

@@ -1,4 +1,4 @@
-use Rattle.std.proofs.Common.{ℕ, true, false, sym, ◌∙◌}
+use Rattle.std.proofs.Common.{true, false, sym, ◌∙◌}
 use Rattle.trace_drive.specs.Clocks.{HasCounted}
 use Rattle.trace_drive.proofs.Following.{turn_leads}
 use Rattle.trace_drive.proofs.turn.turn.Goals as goal

@@ -1,4 +1,4 @@
-use Rattle.std.proofs.Common.{◌≡◌, ◌+◌, ◌<◌, ◌++◌, drop, length, refl, sym, ap, ◌∙◌, subst, arith, ◌-◌, append-nil, length-drop}
+use Rattle.std.proofs.Common.{◌≡◌, ◌++◌, length, refl, sym, ap, ◌∙◌, subst, arith, append-nil}
 use Rattle.merged_epochs.specs.Merged.{StoreHolds}
 use Rattle.switch_core.specs.Lanes.{FrontStands}
 use Rattle.switch_core.proofs.MergeSteps.{none_piped, merge_none, none_next}
