@@ -5,6 +5,7 @@ from __future__ import annotations
 import hashlib
 import re
 from dataclasses import dataclass
+from graphlib import CycleError, TopologicalSorter
 from pathlib import Path
 from typing import Dict, Iterator, List, Tuple
 
@@ -67,30 +68,39 @@ def read_crates(top: Path) -> Dict[str, Crate]:
     }
 
 
+def in_order(crates: Dict[str, Crate]) -> List[Crate]:
+    """Returns all crates, each after those that it names."""
+    try:
+        return [crates[it] for it in TopologicalSorter({it.name: it.crates for it in crates.values()}).static_order()]
+    except CycleError as error:
+        raise Unreadable(f"crates.txt: {error.args[1][0]} depends on itself") from error
+
+
+def with_those_below(name: str, order: List[Crate]) -> List[Crate]:
+    """Returns the crate of this name and all that it stands on, as they are in order, each after those that it names."""
+    found = {name}
+    for crate in reversed(order):
+        if crate.name in found:
+            found.update(crate.crates)
+    return [it for it in order if it.name in found]
+
+
 def needed(crates: Dict[str, Crate], name: str) -> List[Crate]:
     """Returns the crate of this name and all that it stands on, each after those that it names."""
-    found: Dict[str, Crate] = {}
-
-    def visit(it: str, above: Tuple[str, ...]) -> None:
-        if it in above:
-            raise Unreadable(f"crates.txt: {it} depends on itself")
-        if it not in found:
-            for below in crates[it].crates:
-                visit(below, (*above, it))
-            found[it] = crates[it]
-
     if name not in crates:
         raise Unreadable(f"crates.txt: there is no line for {name}")
-    visit(name, ())
-    return list(found.values())
+    return with_those_below(name, in_order(crates))
+
+
+def sum_of(file: Path) -> str:
+    return hashlib.sha256(file.read_bytes()).hexdigest() if file.is_file() else "none"
 
 
 def digest(crate: Crate, below: Dict[str, str], toolchain: str) -> str:
     """Returns a sum of all that the crate's proof is made from: the toolchain, its line, its files, the crates below."""
     total = hashlib.sha256(repr((toolchain, crate.name, crate.crates, crate.libraries)).encode())
     for file in crate.sources():
-        content = hashlib.sha256(file.read_bytes()).hexdigest()
-        total.update(f"{file.relative_to(crate.folder)} {content}\n".encode("utf-8", "surrogateescape"))
+        total.update(f"{file.relative_to(crate.folder)} {sum_of(file)}\n".encode("utf-8", "surrogateescape"))
     total.update(" ".join(below[it] for it in crate.crates).encode())
     return total.hexdigest()
 

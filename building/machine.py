@@ -2,6 +2,7 @@
 
 from __future__ import annotations
 
+import argparse
 import os
 import re
 from pathlib import Path
@@ -57,3 +58,10 @@ def free_megabytes() -> int:
 def machine(jobs: Optional[int]) -> Machine:
     """Returns what there is, or the number of proofs that was asked for, whatever memory says."""
     return Machine(jobs or processors(), free_megabytes())
+
+
+def number_of_jobs(text: str) -> int:
+    """Reads the number of an option --jobs."""
+    if not text.isdecimal() or int(text) < 1:
+        raise argparse.ArgumentTypeError(f"{text} isn't a number of at least 1")
+    return int(text)

@@ -3,7 +3,6 @@
 from __future__ import annotations
 
 import ctypes
-import hashlib
 import os
 import shutil
 import signal
@@ -17,7 +16,8 @@ from building.crates import Crate, digest, digests
 from building.estimate import Cost, chains, clock_seconds, jobs_of, pace, seconds_to_go, still_to_go, time_to_go
 from building.machine import Machine
 from building.progress import Progress
-from building.toolchain import KEPT, Toolchain, below
+from building.proved import is_proved, write_record
+from building.toolchain import INCREMENTAL, KEPT, Toolchain, below
 
 LIBC = ctypes.CDLL(None)
 PARENT_DEATH_SIGNAL = 1
@@ -53,9 +53,7 @@ class Proving:
         self.order, self.costs, self.toolchain, self.machine, self.progress = order, costs, toolchain, machine, progress
         self.sums = digests(order, toolchain.version)
         self.chains = chains(order, costs)
-        # what the program was made from needn't be there any more
-        has_program = self.is_kept(order[-1])
-        self.done: Set[str] = {it.name for it in order if has_program or self.is_kept(it)}
+        self.done: Set[str] = {it.name for it in order if self.is_kept(it)}
         self.running: List[Proof] = []
         self.alone: Set[str] = set()
         self.began = time.monotonic()
@@ -65,20 +63,18 @@ class Proving:
 
     def is_kept(self, crate: Crate) -> bool:
         """Is what an earlier call made of the crate there, from the sources of now?"""
-        made = crate.folder / KEPT / f"{crate.name}.rlib"
-        record = self.sums[crate.name]
         if crate.is_program:
-            made = crate.program
-            record += f" {sum_of(made)}"
+            return (crate.folder / INCREMENTAL).is_dir() and is_proved(self.order, self.toolchain.version)
         kept = crate.folder / KEPT / "sources"
-        return made.exists() and kept.is_file() and kept.read_text(encoding="utf-8") == record
+        made = crate.folder / KEPT / f"{crate.name}.rlib"
+        return made.exists() and kept.is_file() and kept.read_text(encoding="utf-8") == self.sums[crate.name]
 
     def keep(self, crate: Crate) -> None:
         """Records what was proved."""
-        record = self.sums[crate.name]
         if crate.is_program:
-            record += f" {sum_of(crate.program)}"
-        (crate.folder / KEPT / "sources").write_text(record, encoding="utf-8")
+            write_record(crate, self.sums[crate.name], self.toolchain.version)
+        else:
+            (crate.folder / KEPT / "sources").write_text(self.sums[crate.name], encoding="utf-8")
 
     # The proofs
 
@@ -226,7 +222,3 @@ class Proving:
     def log_end(self, crate: Crate, lines: int = 15) -> str:
         text = (crate.folder / "out/build.log").read_text(encoding="utf-8", errors="replace")
         return "\n".join(text.splitlines()[-lines:])
-
-
-def sum_of(file: Path) -> str:
-    return hashlib.sha256(file.read_bytes()).hexdigest() if file.is_file() else "none"

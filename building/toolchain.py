@@ -9,9 +9,9 @@ from __future__ import annotations
 import shutil
 import subprocess
 from pathlib import Path
-from typing import Dict, List
+from typing import List
 
-from building.crates import Crate
+from building.crates import Crate, with_those_below
 
 MISSING = (
     "rt isn't on this machine's PATH: it is the command of the Rattle toolchain (rattle-kit-13f or rattle-kit-13b), "
@@ -84,14 +84,4 @@ class Toolchain:
 
 def below(crate: Crate, order: List[Crate]) -> List[Crate]:
     """Returns the crates below this one, each after those that it names."""
-    named = {it.name: it for it in order}
-    found: Dict[str, Crate] = {}
-
-    def visit(it: Crate) -> None:
-        for name in it.crates:
-            if name not in found:
-                visit(named[name])
-                found[name] = named[name]
-
-    visit(crate)
-    return list(found.values())
+    return with_those_below(crate.name, order)[:-1]

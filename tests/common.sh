@@ -4,6 +4,7 @@
 #   here       the folder of the script
 #   room       an empty folder, removed when the script ends
 #   count      counts one check as passed or failed
+#   skip       counts one check as skipped
 #   finish     prints the counts, the script's last line
 #   need_program   finds the program under test
 #
@@ -13,9 +14,12 @@ here=$(cd "$(dirname "$0")" && pwd) || exit 1
 top=${here%/tests*}
 room=$(mktemp -d) || exit 1
 trap 'rm -rf "$room"' EXIT
-trap 'exit 130' HUP INT TERM
+trap 'exit 129' HUP
+trap 'exit 130' INT
+trap 'exit 143' TERM
 passed=0
 failed=0
+skipped=0
 
 # Sets `marple` to the program under test: $MARPLE, or ./marple of the repository. The latter builds the program where
 # its build is missing or older than its sources, and says on standard error how far it is.
@@ -45,8 +49,19 @@ count() {
     return 1
 }
 
-# Ends the script: prints `N passed, M failed`, and has status 0 where at least one check passed and none failed.
+# Counts a check that can't be made without the tool $1, which isn't there. The words after it name the check.
+skip() {
+    skipped=$((skipped + 1))
+    tool=$1
+    shift
+    echo "skipped for want of $tool: $*"
+}
+
+# Ends the script: prints `N passed, M failed`, with `, K skipped` where a tool wasn't there, and has status 0 where nothing
+# failed and not each count is 0.
 finish() {
-    echo "$passed passed, $failed failed"
-    [ "$failed" -eq 0 ] && [ "$passed" -gt 0 ]
+    counts="$passed passed, $failed failed"
+    [ "$skipped" -eq 0 ] || counts="$counts, $skipped skipped"
+    echo "$counts"
+    [ "$failed" -eq 0 ] && [ $((passed + skipped)) -gt 0 ]
 }
