@@ -11,7 +11,6 @@ from pathlib import Path
 from marple.faults import ProgramMissing, refusal_of
 
 CHECKOUT = Path(__file__).resolve().parents[2]
-SOURCES = ("src", "specs", "proofs")
 
 
 def find_program(program: str | os.PathLike | None = None) -> str:
@@ -26,9 +25,8 @@ def find_program(program: str | os.PathLike | None = None) -> str:
         if found is None:
             raise ProgramMissing(f"{os.fspath(named)} is no program that can be run")
         return os.path.abspath(found)
-    built = CHECKOUT / "crates" / "marple" / "out" / "marple"
-    if is_current(built):
-        return str(built)
+    if is_proved():
+        return str(CHECKOUT / "crates" / "marple" / "out" / "marple")
     installed = installed_program()
     if installed is not None:
         return installed
@@ -38,36 +36,10 @@ def find_program(program: str | os.PathLike | None = None) -> str:
     )
 
 
-def is_current(built: Path) -> bool:
-    """Whether the checkout has this program, and it is no older than what it is made from: crates.txt, and the sources
-    of the crates that it stands on.
-    """
-    try:
-        made = built.stat().st_mtime_ns
-        crates = _crates_below("marple", (CHECKOUT / "crates.txt").read_text())
-    except OSError:
-        return False
-    places = [CHECKOUT / "crates.txt"]
-    for name in crates:
-        for part in SOURCES:
-            folder = CHECKOUT / "crates" / name / part
-            places += [folder, *folder.rglob("*")] if folder.is_dir() else []
-    return os.access(built, os.X_OK) and all(place.stat().st_mtime_ns <= made for place in places)
-
-
-def _crates_below(name: str, listed: str) -> set[str]:
-    """The crate and all that it stands on, by the lines `name: name ..` of crates.txt."""
-    uses = {}
-    for line in listed.splitlines():
-        crate, _, others = line.partition("#")[0].partition(":")
-        uses[crate.strip()] = others.split()
-    below, waiting = set(), [name]
-    while waiting:
-        one = waiting.pop()
-        if one in uses and one not in below:
-            below.add(one)
-            waiting += uses[one]
-    return below
+def is_proved() -> bool:
+    """Whether this package stands in a checkout with a program that is proved of its sources, as the checkout says."""
+    asked = CHECKOUT / "building" / "is-proved"
+    return asked.is_file() and subprocess.run([asked], stdin=subprocess.DEVNULL, check=False).returncode == 0
 
 
 def installed_program() -> str | None:

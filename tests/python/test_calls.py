@@ -14,7 +14,6 @@ from marple import program
 
 COUNT = "def count([c],[]) { c = c + 1; }\nr = groupby(pktstream, [srcip], count);\nprint r;\n"
 CALLS = {"run": marple.run, "net": marple.net, "enclose": marple.enclose, "run-plan": marple.run_plan}
-CRATES = {"base": "proofs", "laws": "src", "reader": "specs", "marple": "src"}  # each with a folder of sources
 KNOWN = ("--buckets", "--ways", "--pipe", "--lag", "--refresh", "--every")
 
 
@@ -173,15 +172,10 @@ class TheProgram(unittest.TestCase):
     def setUp(self):
         self.folder = Folder(self)
         top = Path(self.folder.path("top"))
-        self.sources = {name: top / "crates" / name / part / "lib.rt" for name, part in CRATES.items()}
-        for source in self.sources.values():
-            source.parent.mkdir(parents=True)
-            source.write_text("")
-        self.crates = top / "crates.txt"
-        self.crates.write_text("base: # the lowest\nlaws: base\nreader: base\nmarple: reader\n")
         self.built = top / "crates" / "marple" / "out" / "marple"
         self.installed = top / "bin" / "marple"
-        for program_file in (self.built, self.installed):
+        self.asked = top / "building" / "is-proved"
+        for program_file in (self.built, self.installed, self.asked):
             program_file.parent.mkdir(parents=True)
         for patch in (
             mock.patch.dict(os.environ, {"MARPLE": "", "PATH": str(top / "bin")}),
@@ -189,34 +183,21 @@ class TheProgram(unittest.TestCase):
         ):
             patch.start()
             self.addCleanup(patch.stop)
-        for path in (self.crates, *(place for source in self.sources.values() for place in (source, source.parent))):
-            os.utime(path, (500, 500))
 
     def make(self, path: Path, content: bytes = b"\x7fELF") -> None:
         path.write_bytes(content)
         path.chmod(path.stat().st_mode | stat.S_IXUSR)
-        os.utime(path, (1000, 1000))
 
-    def test_is_the_checkout_s(self):
+    def test_is_the_checkout_s_if_the_checkout_says_that_it_is_proved(self):
         self.make(self.built)
-        self.assertEqual(program.find_program(), str(self.built))
-
-    def test_is_not_older_than_what_it_is_made_from(self):
-        self.make(self.built)
-        base = self.sources["base"]
-        for path in (self.crates, base, base.parent, self.sources["reader"], self.sources["marple"]):
-            os.utime(path, (2000, 2000))
-            with self.subTest(path=path.relative_to(self.crates.parent)), self.assertRaises(marple.ProgramMissing):
-                program.find_program()
-            os.utime(path, (500, 500))
-        os.utime(base, (2000, 2000))
         self.make(self.installed)
-        self.assertEqual(program.find_program(), str(self.installed))
-
-    def test_may_be_older_than_crates_that_it_does_not_stand_on(self):
-        self.make(self.built)
-        os.utime(self.sources["laws"], (2000, 2000))
+        self.make(self.asked, b"#!/bin/sh\nexit 0\n")
         self.assertEqual(program.find_program(), str(self.built))
+        self.make(self.asked, b"#!/bin/sh\nexit 1\n")
+        self.assertEqual(program.find_program(), str(self.installed))
+        self.installed.unlink()
+        with self.assertRaises(marple.ProgramMissing):
+            program.find_program()
 
     def test_is_no_script_on_path(self):
         self.make(self.installed, b"#!/bin/sh\n")
