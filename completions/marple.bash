@@ -57,9 +57,10 @@ _marple_explain() {
         return
     fi
     case ${COMP_WORDS[COMP_CWORD - 1]} in
-    --for) _marple_words "$typed" net enclose compile run-plan ;;
+    --for) _marple_words "$typed" run net enclose compile run-plan ;;
+    --trace) _marple_files "$typed" ;;
     --ways) _marple_words "$typed" 1 2 4 8 16 32 ;;
-    *) _marple_words "$typed" --for --ways ;;
+    *) _marple_words "$typed" --for --trace --ways ;;
     esac
 }
 
