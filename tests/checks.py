@@ -10,6 +10,7 @@ from __future__ import annotations
 import os
 import pty
 import shutil
+import signal
 import sys
 import tempfile
 import time
@@ -21,7 +22,7 @@ sys.dont_write_bytecode = True
 TOP = Path(__file__).resolve().parent.parent
 sys.path.insert(0, str(TOP))
 
-from building.signals import Interrupted, stop_on_signals
+from building.signals import STOPPING, Interrupted, stop_on_signals
 
 
 class Test(unittest.TestCase):
@@ -57,6 +58,12 @@ def put(file: Path, text: str, executable: bool = False) -> Path:
     return file
 
 
+def hear_signals() -> None:
+    """Has a new process hear the signals that this one may ignore, as one in the background or under nohup does."""
+    for number in STOPPING:
+        signal.signal(number, signal.SIG_DFL)
+
+
 def await_that(holds: Callable[[], bool], seconds: float = 20) -> bool:
     """Waits until this holds, so many seconds at most, and says whether it does."""
     until = time.monotonic() + seconds
@@ -72,6 +79,7 @@ def begin_at_terminal(words: Iterable[object], folder: Path, environment: dict[s
     child, screen = pty.fork()
     if child == 0:
         try:
+            hear_signals()
             os.chdir(folder)
             command = [str(it) for it in words]
             os.execvpe(command[0], command, environment)

@@ -1,0 +1,52 @@
+"""Reads what the prover says against a wrong change of the code, and what rt says of the gate's edits."""
+
+from __future__ import annotations
+
+import re
+
+from edit_files import BadEdit
+
+# The prover's words for a text that it can't read, in whatever file: a name that the changed code no longer has, or no text of the
+# language. No contract was tried there. rt cuts long lines, so that the beginnings have to do.
+VANISHED = re.compile(
+    r"`goal\.[^`]*`: module `|: record `[^`]*(?:$|`\s+has no)|can be named from here|is not in scope|has no field"
+    r"|is no name|operand is missing|expected the end|cannot continue"
+)
+# An error has lines after the first one, which begin with blanks.
+ERROR = re.compile(r"(?m)^(?:\./)?(\S+?:\d+:\d+: error: .*(?:\n[ \t]+.*)*)")
+# A goal that the prover was to find an answer for itself.
+GOAL = re.compile(r"(?m)^note: (?:\./)?(\S+?:\d+:\d+: it is not proved that .*)")
+OF_RT = re.compile(r"(?m)^rt: must-fail (\S+\.edit): (.*)$")
+
+
+def joined(text: str) -> str:
+    return " ".join(text.split())
+
+
+def vanished(said: list[str]) -> str:
+    """The first of these errors that is about a text which the prover can't read, if one is."""
+    return next((it for it in said if VANISHED.search(it)), "")
+
+
+def refusal(status: int, text: str) -> list[str]:
+    """All errors and unproved goals by which the prover refuses a crate, whole; none if it is proved.
+
+    Raises BadEdit if it couldn't read something, or didn't come to a verdict.
+    """
+    if status == 0:
+        return []
+    errors = [joined(it) for it in ERROR.findall(text)]
+    said = errors + [joined(it) for it in GOAL.findall(text)]
+    last = text.rstrip("\n").rpartition("\n")[2]
+    if vanished(errors):
+        raise BadEdit(f"it is refused for a name that is gone: {vanished(errors)}")
+    if status == 1 and last.startswith("logic=not-proved"):
+        return said or [last]
+    if status == 3:
+        return [f"by a limit of the prover: {it}" for it in said or [last]]
+    raise BadEdit(f"the prover, which ended with status {status}, came to no verdict: {(errors or [last])[0]}")
+
+
+def of_rt(log: str) -> dict[str, str]:
+    """What rt says of each of the gate's edits, by the edit, as CRATE/NAME.edit."""
+    return {edit: joined(said) for edit, said in OF_RT.findall(log)}
