@@ -9,6 +9,7 @@ from __future__ import annotations
 
 import os
 import pty
+import select
 import shutil
 import signal
 import sys
@@ -86,6 +87,15 @@ def begin_at_terminal(words: Iterable[object], folder: Path, environment: dict[s
         finally:
             os._exit(127)
     return child, screen
+
+
+def await_at_terminal(screen: int, text: str, seconds: float = 20) -> str:
+    """Waits until a terminal shows this, so many seconds at most, and gives all that it showed."""
+    shown, until = "", time.monotonic() + seconds
+    while text not in shown and time.monotonic() < until:
+        if select.select([screen], [], [], 0.1)[0]:
+            shown += os.read(screen, 1000).decode()
+    return shown
 
 
 def end_at_terminal(child: int, screen: int) -> tuple[int, str]:
