@@ -9,7 +9,6 @@ import signal
 import subprocess
 import time
 from dataclasses import dataclass
-from pathlib import Path
 from typing import Dict, List, Set
 
 from building.crates import Crate, digest, digests
