@@ -1,8 +1,9 @@
 """A toolchain that stands in for the real one: its compiler proves nothing, but takes a while and notes what it was called with.
 
-In the folder `room`: `log` has a line where a proof begins and one where it ends, `words` the words of each call. Proofs stand still
-while there is a file `holds`; the crate that the file `refused` names is refused; where there is `short-of-memory` the next proof is
-killed, and where there is `edits` each proof changes a source. The crates are in the folder `tree`.
+In the folder `room`: `log` has a line where a proof begins and one where it ends, `words` the words of each call. Proofs stand
+still while there is a file `holds`; the crate that the file `refused` names is refused; where there is `short-of-memory` the next
+proof is killed, and where there is `edits` each proof changes a source. A check says what the file `says` has, if there is one,
+and then refuses the crate. The crates are in the folder `tree`.
 """
 
 from __future__ import annotations
@@ -29,6 +30,7 @@ if [ "$2" = --help ]; then
     cat "$room/help"
     exit
 fi
+command=$1
 name=$3
 echo "$*" >>"$room/words"
 while [ "$#" -gt 0 ]; do
@@ -39,6 +41,13 @@ while [ "$#" -gt 0 ]; do
     esac
     shift
 done
+if [ "$command" = check ]; then
+    echo "check $name" >>"$room/log"
+    while [ -e "$room/holds" ]; do sleep 0.1; done
+    [ -e "$room/says" ] || { echo logic=proved; exit 0; }
+    cat "$room/says"
+    exit 1
+fi
 echo "begin $name $jobs" >>"$room/log"
 if [ -e "$room/short-of-memory" ]; then
     rm "$room/short-of-memory"
@@ -54,6 +63,7 @@ case $made in
 *.rlib) mkdir -p "$made" && : >"$made/proved" ;;
 *) : >"$made" ;;
 esac
+mkdir -p out/incremental
 echo "end $name" >>"$room/log"
 echo logic=proved
 """
