@@ -117,7 +117,7 @@ def trace(before: Path, after: Path, senders: str, longest: int, payload: int, o
     all_before = seen(before)
     came = cut(sent_from(all_before, network), longest, payload)
     left = cut(sent_from(seen(after), network), longest, payload)
-    second = all_before[0].time // 10**9 * 10**9
+    second = min(packet.time for packet in all_before) // 10**9 * 10**9
     times = departures(came, left, one_queue)
     lines = ["switch,qid,uid,srcip,dstip,srcport,dstport,proto,pkt_len,payload_len,tcpseq,tin,tout,qsize"]
     for place, packet in enumerate(came):
