@@ -9,7 +9,7 @@ import gzip
 import struct
 from collections.abc import Iterator
 from dataclasses import dataclass, replace
-from ipaddress import IPv4Address, IPv4Network
+from ipaddress import IPv4Address, IPv4Network, IPv6Address
 from pathlib import Path
 
 MAGIC = {b"\xd4\xc3\xb2\xa1": 1000, b"\x4d\x3c\xb2\xa1": 1}  # nanoseconds of a capture's unit of time
@@ -56,6 +56,12 @@ def seen(path: Path) -> list[Seen]:
         if frame[at : at + 2] == b"\x08\x00":
             found.append(parsed(number, time, frame[at + 2 :]))
     return found
+
+
+def ipv6_to(path: Path, target: str) -> int:
+    """How many packets of IPv6 to an address are in a capture."""
+    address = IPv6Address(target).packed
+    return sum(1 for _, frame in frames(path) if frame[12:14] == b"\x86\xdd" and frame[38:54] == address)
 
 
 def sent_from(packets: list[Seen], senders: IPv4Network) -> list[Seen]:

@@ -126,7 +126,7 @@ def notes(attempt: Attempt, spools: list[Spool], words: argparse.Namespace) -> I
         yield f"{packets(findings.early)} left before they came, and count as 0 ns"
     if alike:
         yield f"{packets(alike)} {were(alike)} told from others alike by the time in the queue"
-    yield from survey(cut.before, attempt.taken(), asks_for_long=not words.split and not words.no_split)
+    yield from survey(cut.before, attempt.taken(), asks_for_long=not (words.split or words.no_split or findings.refusal))
 
 
 def main() -> None:
