@@ -8,13 +8,14 @@ it never dissects: what a record needs of them stands in the first bytes of the 
 
 import os
 import shutil
+import signal
 import stat
 import subprocess
 import sys
 import tempfile
 import time
 from collections.abc import Iterable, Iterator
-from contextlib import ExitStack
+from contextlib import ExitStack, contextmanager
 from functools import lru_cache
 from itertools import chain, islice
 from pathlib import Path
@@ -34,6 +35,7 @@ IPV4 = (b"0x0800", b"0x0021")  # what tshark says of a link's payload that it do
 IPV6 = (b"0x86dd", b"0x0057")
 IP_IN_IPV6 = b"04"
 CUT_SHORT = "appears to have been cut short in the middle of a packet."
+ENDING = {signal.SIGHUP, signal.SIGINT, signal.SIGTERM}
 TURN = 512  # lines that are read of one capture before the next one has its turn
 
 
@@ -50,6 +52,16 @@ def command(capture: str, simple: bool) -> list[str]:
         without += ["ip", "ipv6"]
     return ["tshark", "-r", capture, "-n", "-T", "tabs", "-o", "gui.column.format:" + ",".join(columns),
             "-o", "ip.defragment:FALSE", *chain.from_iterable(("--disable-protocol", name) for name in without)]
+
+
+@contextmanager
+def signals_held() -> Iterator[None]:
+    """Holds back the signals that end the command while processes start, so that none starts unseen."""
+    before = signal.pthread_sigmask(signal.SIG_BLOCK, ENDING)
+    try:
+        yield
+    finally:
+        signal.pthread_sigmask(signal.SIG_SETMASK, before)
 
 
 def need_tshark() -> None:
@@ -249,8 +261,9 @@ def read_all(name: str, captures: list[str], files: list[str], paths: list[Path]
     with ExitStack() as stack:
         stack.callback(progress.clear)
         preferences = paths[0].with_suffix(".preferences")  # a folder that isn't there: tshark has its own defaults
-        readings = [stack.enter_context(Reading(capture, file, preferences, simple))
-                    for capture, file in zip(captures, files, strict=True)]
+        with signals_held():
+            readings = [stack.enter_context(Reading(capture, file, preferences, simple))
+                        for capture, file in zip(captures, files, strict=True)]
         outputs = [stack.enter_context(path.open("wb")) for path in paths]
         turns = [(spool, reading.lines(), output) for spool, reading, output in zip(spools, readings, outputs, strict=True)]
         while turns:
