@@ -52,7 +52,7 @@ def tagged() -> Case:
     """Another VLAN tag on each side."""
     world = World(3)
     world.traffic(150, BUSY, vlans=(10, 20))
-    return world.case("tagged", messages=[world.counts()])
+    return world.case("tagged", messages=[world.counts(), *near_end(world)])
 
 
 def other_protocols() -> Case:
@@ -85,7 +85,7 @@ def fragments() -> Case:
         for offset, payload in ((0, 1472), (1480, 1480), (2960, 300)):
             time += 10_000
             world.send(time, replace(whole, offset=offset, payload=payload, more=offset < 2960))
-    return world.case("fragments", messages=[world.counts()])
+    return world.case("fragments", messages=[world.counts(), *near_end(world)])
 
 
 def twice() -> Case:
