@@ -94,7 +94,9 @@ def check_single(tally, right: str) -> None:
     done = example("trace-from-capture", ["before.pcap"])
     wanted = [",".join([*line.split(",")[:12], line.split(",")[11], "0"]) for line in right.splitlines()[1:]]
     tally.same(done.stdout.splitlines()[1:], wanted, "the trace of one capture")
-    tally.check(done.stderr.startswith("trace-from-capture: 818 packets were read\n"), "its count")
+    date = "time 0 is 2026-11-27 14:28:42 UTC, second 1795789722 of 1970"
+    said = "".join(f"trace-from-capture: {line}\n" for line in ("818 packets were read", date))
+    tally.same(done.stderr, said, "its count and time 0")
     done = example("trace-from-capture", ["mixed.pcap"])
     mixed = (SCRIPTS / "mixed.csv").read_text()
     tally.same(done.stdout, mixed, "the trace of mixed packets")

@@ -144,13 +144,18 @@ def cut_short() -> Case:
     return world.case("cut-short", messages=[note, world.counts()], missing=30, checked=False)
 
 
-def marked() -> Case:
+def marked() -> Iterator[Case]:
     """Datagrams whose identification is always 0: their checksums tell them apart, whatever the time in the queue."""
     world, time = World(49), START
     for number in range(200):
         time += int(world.random.expovariate(1 / BUSY))
         world.send(time, Packet("10.0.1.4", RECEIVER, (7004, 7005), UDP, 0, 1000, checksum=1 + number * 37 % 65535))
-    return world.case("marked", messages=[world.counts(), *near_end(world)], checked=False)
+    yield world.case("marked", messages=[world.counts(), *near_end(world)], checked=False)
+    world.before = [frame for frame in world.before if frame.time >= world.rows[60].came]
+    missing = sum(1 for row in world.rows[:60] if row.left is not None)
+    world.rows = world.rows[60:]
+    note = f"{missing} packets after the queue came before before.pcap.gz begins or after it ends: left out"
+    yield world.case("marked-late", messages=[world.counts(), *near_end(world), note], checked=False)
 
 
 def doubtful_cases() -> Iterator[Case]:
@@ -166,4 +171,4 @@ def doubtful_cases() -> Iterator[Case]:
     yield one_clock()
     yield from long_ones()
     yield cut_short()
-    yield marked()
+    yield from marked()

@@ -1,7 +1,8 @@
 """Finds for each packet after the queue the one before it, holding only packets that wait for their match.
 
 Packets alike are told apart by their marks, and those with one mark by the time in the queue: the likeliest is the one that
-was inside nearly as long as the packet of the same addresses that left last. IP identifications return after 65,536 packets.
+was inside nearly as long as the packet of the same addresses that left last. A packet of which another mark is known is none of
+them, unless the checksums before the queue aren't those after it, as at a sender whose network card fills them in. IP identifications return after 65,536 packets.
 So a packet without a sequence number is no candidate any more when half as many packets of its addresses have left since, and
 neither is one that left long before its like came, if the others of its addresses leave after they come.
 """
@@ -12,7 +13,7 @@ from bisect import bisect_left
 from collections.abc import Callable, Iterator
 from dataclasses import dataclass, field
 
-from marple_captures.records import LAYOUT, SPLIT, TCP, Departures, Spool
+from marple_captures.records import LAYOUT, SPLIT, TCP, UDP, Departures, Spool
 
 NEVER = 2**63  # nanoseconds: later than any packet
 RECENT = 65536  # the arrivals whose times are in memory; earlier ones are read from the spool
@@ -22,6 +23,8 @@ NEAR = 32  # packets alike on each side of the likeliest time that are looked at
 MARK = 2**32 - 1
 TOLERANCE = 1_000_000  # nanoseconds by which least latencies differ in any case
 PROTOCOL = 18  # where an identity has the protocol
+IDENTIFICATION = slice(16, 18)  # and where the IP identification
+NONE = b"\0\0"  # the identification of packets that their sender doesn't number
 
 Entry = int  # the place or the time of a packet, and its mark in the lower 32 bits
 Table = dict[bytes, Entry | list[Entry]]  # of each identity what waits, in the order of time
@@ -128,8 +131,9 @@ def candidates(found: list[Entry], mark: int, wanted: int, time_of: Callable[[En
 class Matcher:
     """Takes arrivals and departures in the order of time."""
 
-    def __init__(self, before: Spool, departures: Departures) -> None:
+    def __init__(self, before: Spool, departures: Departures, checksums_stay: bool) -> None:
         self.matches = Matches()
+        self.checksums_stay = checksums_stay
         self.departures = departures
         self.spool = os.open(before.path, os.O_RDONLY)
         self.recent = array("q", bytes(8 * RECENT))
@@ -159,13 +163,15 @@ class Matcher:
 
     def left_before(self, found: Entry | list[Entry], pair: Pair, identity: bytes, mark: int, time: int) -> Entry | None:
         """Which of the packets that left before they came is one that comes now."""
-        entry = found
         if isinstance(found, list):
             wanted = time + (pair.latency if pair.matched else self.early)
             entry, _ = candidates(found, mark, wanted, lambda entry: entry >> 32)
+        else:
+            entry = found
         left = entry >> 32
-        is_old = identity[PROTOCOL] != TCP and left < pair.horizon
-        return entry if not is_old and pair.allows(left - time) else None
+        if self.is_other(identity, mark, entry) or (identity[PROTOCOL] != TCP and left < pair.horizon):
+            return None
+        return entry if pair.allows(left - time) else None
 
     def leave(self, identity: bytes, mark: int, time: int) -> None:
         """A packet is seen after the queue."""
@@ -177,7 +183,7 @@ class Matcher:
         if isinstance(entry, list):
             wanted = time - (pair.latency if pair.matched else self.late)
             entry, by_time = candidates(entry, mark, wanted, self.came)
-        if entry is not None:
+        if entry is not None and not self.is_other(identity, mark, entry):
             came = self.came(entry)
             if came >= pair.horizon or identity[PROTOCOL] == TCP:
                 take(waiting, identity, entry)
@@ -185,6 +191,13 @@ class Matcher:
                 self.match(pair, identity, entry >> 32, came, time)
                 return
         put(self.matches.strange, identity, time << 32 | mark)
+
+    def is_other(self, identity: bytes, mark: int, entry: Entry) -> bool:
+        """Whether the marks of two packets alike say that they are two, where the sender's numbers don't."""
+        if entry & MARK == mark or not mark or not entry & MARK:
+            return False
+        protocol = identity[PROTOCOL]
+        return self.checksums_stay if protocol == UDP else protocol == TCP and identity[IDENTIFICATION] == NONE
 
     def match(self, pair: Pair, identity: bytes, slot: int, came: int, left: int) -> None:
         """Notes that a packet left, and what that says of its direction."""
@@ -226,10 +239,25 @@ class Matcher:
         return SPLIT.unpack(os.pread(self.spool, LAYOUT.size, slot * LAYOUT.size))[-1]
 
 
+def checksums(spool: Spool) -> bytearray:
+    """For each UDP checksum 1 if a packet of the capture has it."""
+    found = bytearray(65536)
+    for identity, mark, _ in spool.marks():
+        if identity[PROTOCOL] == UDP:
+            found[mark] = 1
+    return found
+
+
+def checksums_stay(before: Spool, after: Spool) -> bool:
+    """Whether most UDP checksums after the queue are those of packets before it."""
+    known, found = checksums(before), checksums(after)
+    return 2 * sum(map(int.__and__, known, found)) >= sum(found)
+
+
 def match(before: Spool, after: Spool, departures: Departures, shift: int) -> Matches:
     """Matches two spools, read side by side by time; `shift` is added to the times after the queue."""
     end = (b"", 0, NEVER)
-    with Matcher(before, departures) as matcher:
+    with Matcher(before, departures, checksums_stay(before, after)) as matcher:
         arrive, leave = matcher.arrive, matcher.leave
         arrivals = before.marks()
         arriving, mark, came = next(arrivals, end)

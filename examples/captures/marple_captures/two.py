@@ -29,8 +29,9 @@ The trace has a record for each IPv4 packet of BEFORE that goes through the queu
   pkt_len     the bytes from the IP header on; payload_len those after the TCP or UDP header
 A packet of AFTER is taken for one of BEFORE where addresses, protocol, ports, IP identification, place of a fragment,
 sequence number and length are the same; of several alike, for the one with the same UDP checksum or TCP acknowledgement
-number, and then for the one that was inside nearly as long as the packet of the same addresses that left last. What was read and what was done to it is said on standard error. Where the captures can't be believed there is
-no trace, and the status is 1. Needs tshark.
+number, and then for the one that was inside nearly as long as the packet of the same addresses that left last. What was
+read and what was done to it is said on standard error. Where the captures can't be believed there is no trace, and the
+status is 1. Needs tshark.
 """
 
 
