@@ -60,11 +60,13 @@ def right_trace(packets: Flow, first: int) -> str:
     """The trace of the packets from this time on, which are numbered from 1."""
     lines = ["switch,qid,uid,srcip,dstip,srcport,dstport,proto,pkt_len,payload_len,tcpseq,tin,tout,qsize"]
     inside: deque[int] = deque()
-    for uid, (_, came, left) in enumerate([packet for packet in packets if packet[1] >= first], 1):
+    seen = [packet for packet in packets if packet[1] >= first]
+    second = seen[0][1] // 10**9 * 10**9
+    for uid, (_, came, left) in enumerate(seen, 1):
         while inside and inside[0] <= came:
             inside.popleft()
-        out = "inf" if left is None else left - START
-        lines.append(f"1,0,{uid},10.0.1.4,10.0.2.2,7004,443,17,{LENGTH},{LENGTH - 28},0,{came - START},{out},{len(inside)}")
+        out = "inf" if left is None else left - second
+        lines.append(f"1,0,{uid},10.0.1.4,10.0.2.2,7004,443,17,{LENGTH},{LENGTH - 28},0,{came - second},{out},{len(inside)}")
         if left is not None:
             inside.append(left)
     return "\n".join(lines) + "\n"
