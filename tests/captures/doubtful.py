@@ -3,8 +3,8 @@
 from collections.abc import Iterator
 from dataclasses import replace
 
-from cases import BUSY, busy, left_out, near_end, ordinary
-from refusals import latencies, refused, with_option
+from cases import BUSY, MSECS, busy, left_out, near_end, ordinary
+from refusals import CONSTANT, both_directions, clock, latencies, refused, with_option
 from synthesize import RECEIVER, START, TCP, UDP, Case, Packet, Row, World
 
 SPLIT = ("longer than 1500 bytes in both captures, each counted as one: if offload joined what the link has apart, give "
@@ -118,6 +118,17 @@ def one_clock() -> Case:
                    "leave --both-directions out, or name the senders of one way by --direction", ("--both-directions",))
 
 
+def slow_clock_both_ways() -> Iterator[Case]:
+    """A slow clock after a queue that packets of both directions pass: no latency may be below 0 by the constant for these."""
+    case = clock(next(both_directions()), "clock-slow-both-ways", -250 * MSECS)
+    left = len(latencies(case))
+    floors = [min(row.left - row.came for row in case.rows if row.left is not None and (row.packet.source == RECEIVER) == way)
+              for way in (True, False)]
+    said = f"{left} of {left} packets left before they came, {CONSTANT}"
+    yield refused(case, case.name, f"{said} {-(sum(floors) - 500 * MSECS) // 2}")
+    yield refused(case, f"{case.name}-given", f"{said} {250 * MSECS - min(floors)}", ("--both-directions",))
+
+
 def long_ones() -> Iterator[Case]:
     """Packets that both captures have joined count as one, or are cut by the length that is said."""
     world, time = World(47), START
@@ -169,6 +180,7 @@ def doubtful_cases() -> Iterator[Case]:
     yield from elsewhere()
     yield swapped_answers()
     yield one_clock()
+    yield from slow_clock_both_ways()
     yield from long_ones()
     yield cut_short()
     yield from marked()
