@@ -43,16 +43,26 @@ def flow(seed: int) -> Flow:
     return found
 
 
-def line(time: int, number: int, checksum: int) -> str:
+def no_checksum(_: int) -> int:
+    """That of senders that make none."""
+    return 0
+
+
+def checksum(number: int) -> int:
+    """One that few packets share."""
+    return 1 + number * 7919 % 65521
+
+
+def line(time: int, identification: int, checksum: int) -> str:
     """What tshark writes of one datagram."""
-    return (f"0x0800\t{time // 10**9}.{time % 10**9:09}\t4500{LENGTH:04x}{number % 65536:04x}0000401100000a0001040a000202"
+    return (f"0x0800\t{time // 10**9}.{time % 10**9:09}\t4500{LENGTH:04x}{identification % 65536:04x}0000401100000a0001040a000202"
             f"1b5c01bb{LENGTH - 20:04x}{checksum:04x}{'':064}\n")
 
 
-def write(path: Path, times: list[tuple[int, int]], checksum: Callable[[int], int]) -> None:
+def write(path: Path, times: list[tuple[int, int]], sum_of: Callable[[int], int], numbered: bool) -> None:
     """Writes the lines of a capture, given numbers and times."""
     with gzip.open(path.with_suffix(".gz"), "wt", compresslevel=1) as file:
-        file.writelines(line(time, number, checksum(number)) for number, time in times)
+        file.writelines(line(time, number * numbered, sum_of(number)) for number, time in times)
     path.with_suffix(".pcap").touch()
 
 
@@ -86,18 +96,19 @@ def check_wraps(tally, room: Path) -> None:
     seed = int(os.environ.get("MARPLE_SEED", random.randrange(10**6)))
     packets = flow(seed)
     middle, end = packets[PACKETS // 2][1], packets[-80_000][1]
-    for name, begin, stop, checksum in (
-        ("begun 1 ms late", START + 10**6, None, lambda number: 0),
-        ("begun 10 ms late", START + 10**7, None, lambda number: 0),
-        ("begun a second late", middle, None, lambda number: 0),
-        ("begun 10 ms late, with checksums", START + 10**7, None, lambda number: 1 + number * 7919 % 65521),
-        ("ended early", START, end, lambda number: 0),
+    for name, begin, stop, sum_of, numbered in (
+        ("begun 1 ms late", START + 10**6, None, no_checksum, True),
+        ("begun 10 ms late", START + 10**7, None, no_checksum, True),
+        ("begun a second late", middle, None, no_checksum, True),
+        ("begun 10 ms late, with checksums", START + 10**7, None, checksum, True),
+        ("begun a second late, with checksums and no identifications", middle, None, checksum, False),
+        ("ended early", START, end, no_checksum, True),
     ):
         folder = room / name.replace(" ", "-").replace(",", "")
         folder.mkdir()
         seen = [packet for packet in packets if begin <= packet[1] and (stop is None or packet[1] <= stop)]
-        write(folder / "before", [(number, came) for number, came, _ in seen], checksum)
-        write(folder / "after", [(number, left) for number, _, left in packets if left is not None], checksum)
+        write(folder / "before", [(number, came) for number, came, _ in seen], sum_of, numbered)
+        write(folder / "after", [(number, left) for number, _, left in packets if left is not None], sum_of, numbered)
         done, spent = trace_of(folder)
         wanted = right_trace([packet for packet in packets if stop is None or packet[1] <= stop], begin)
         tally.check(done.returncode == 0 and done.stdout == wanted, f"the trace of a first capture {name} (seed {seed}),")

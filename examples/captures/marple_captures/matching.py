@@ -12,6 +12,7 @@ from array import array
 from bisect import bisect_left
 from collections.abc import Callable, Iterator
 from dataclasses import dataclass, field
+from itertools import chain, islice
 
 from marple_captures.records import LAYOUT, SPLIT, TCP, UDP, Departures, Spool
 
@@ -19,7 +20,7 @@ NEVER = 2**63  # nanoseconds: later than any packet
 RECENT = 65536  # the arrivals whose times are in memory; earlier ones are read from the spool
 TURN = 4096  # packets of a pair of addresses between two times that are noted
 TURNS = 8  # such times that are known: the first of them is half a round of identifications ago
-NEAR = 32  # packets alike on each side of the likeliest time that are looked at
+LATEST = 64  # marks of packets alike that are looked at where none is the same
 MARK = 2**32 - 1
 TOLERANCE = 1_000_000  # nanoseconds by which least latencies differ in any case
 PROTOCOL = 18  # where an identity has the protocol
@@ -27,7 +28,8 @@ IDENTIFICATION = slice(16, 18)  # and where the IP identification
 NONE = b"\0\0"  # the identification of packets that their sender doesn't number
 
 Entry = int  # the place or the time of a packet, and its mark in the lower 32 bits
-Table = dict[bytes, Entry | list[Entry]]  # of each identity what waits, in the order of time
+Alike = dict[int, list[int]]  # for each mark of packets alike their places or times, in order
+Table = dict[bytes, Entry | Alike]  # of each identity what waits
 
 
 class Pair:
@@ -85,8 +87,8 @@ class Matches:
 def entries(table: Table) -> Iterator[tuple[bytes, int]]:
     """Each pair of addresses with the place or the time of each packet that stands under it."""
     for identity, found in table.items():
-        for entry in [found] if isinstance(found, int) else found:
-            yield identity[:8], entry >> 32
+        for number in [found >> 32] if isinstance(found, int) else chain.from_iterable(found.values()):
+            yield identity[:8], number
 
 
 def put(table: Table, identity: bytes, entry: Entry) -> None:
@@ -94,21 +96,26 @@ def put(table: Table, identity: bytes, entry: Entry) -> None:
     found = table.get(identity)
     if found is None:
         table[identity] = entry
-    elif isinstance(found, list):
-        found.append(entry)
     else:
-        table[identity] = [found, entry]
+        if isinstance(found, int):
+            found = table[identity] = {found & MARK: [found >> 32]}
+        found.setdefault(entry & MARK, []).append(entry >> 32)
 
 
 def take(table: Table, identity: bytes, entry: Entry) -> None:
     """Removes an entry that is there."""
     found = table[identity]
-    if isinstance(found, list):
-        del found[bisect_left(found, entry)]
-        if len(found) == 1:
-            table[identity] = found[0]
-    else:
+    if isinstance(found, int):
         del table[identity]
+        return
+    numbers = found[entry & MARK]
+    del numbers[bisect_left(numbers, entry >> 32)]
+    if not numbers:
+        del found[entry & MARK]
+    if len(found) == 1:
+        ((mark, numbers),) = found.items()
+        if len(numbers) == 1:
+            table[identity] = numbers[0] << 32 | mark
 
 
 def pair_of(pairs: dict[bytes, Pair], identity: bytes) -> Pair:
@@ -119,13 +126,19 @@ def pair_of(pairs: dict[bytes, Pair], identity: bytes) -> Pair:
     return pair
 
 
-def candidates(found: list[Entry], mark: int, wanted: int, time_of: Callable[[Entry], int]) -> tuple[Entry, bool]:
+def nearest(numbers: list[int], wanted: int, time_of: Callable[[int], int]) -> int:
+    """The place or the time of a packet that is nearest to a time."""
+    at = bisect_left(numbers, wanted, key=time_of)
+    return min(numbers[max(0, at - 1) : at + 1], key=lambda number: abs(time_of(number) - wanted))
+
+
+def likeliest(found: Alike, mark: int, wanted: int, time_of: Callable[[int], int]) -> tuple[Entry, bool]:
     """The one of several packets alike that has the mark and is nearest to a time, and whether the time alone tells it."""
-    place = bisect_left(found, wanted, key=time_of)
-    near = [entry for entry in found[max(0, place - NEAR) : place + NEAR] if entry & MARK == mark]
-    if len(near) == 1:
-        return near[0], False
-    return min(near or found[max(0, place - 1) : place + 1], key=lambda entry: abs(time_of(entry) - wanted)), True
+    numbers = found.get(mark)
+    if numbers is not None:
+        return nearest(numbers, wanted, time_of) << 32 | mark, len(numbers) > 1
+    near = [nearest(found[other], wanted, time_of) << 32 | other for other in islice(reversed(found), LATEST)]
+    return min(near, key=lambda entry: abs(time_of(entry >> 32) - wanted)), True
 
 
 class Matcher:
@@ -161,13 +174,13 @@ class Matcher:
                 return
         put(self.matches.waiting, identity, slot << 32 | mark)
 
-    def left_before(self, found: Entry | list[Entry], pair: Pair, identity: bytes, mark: int, time: int) -> Entry | None:
+    def left_before(self, found: Entry | Alike, pair: Pair, identity: bytes, mark: int, time: int) -> Entry | None:
         """Which of the packets that left before they came is one that comes now."""
-        if isinstance(found, list):
-            wanted = time + (pair.latency if pair.matched else self.early)
-            entry, _ = candidates(found, mark, wanted, lambda entry: entry >> 32)
-        else:
+        if isinstance(found, int):
             entry = found
+        else:
+            wanted = time + (pair.latency if pair.matched else self.early)
+            entry, _ = likeliest(found, mark, wanted, int)
         left = entry >> 32
         if self.is_other(identity, mark, entry) or (identity[PROTOCOL] != TCP and left < pair.horizon):
             return None
@@ -180,11 +193,11 @@ class Matcher:
         waiting = self.matches.waiting
         entry = waiting.get(identity)
         by_time = False
-        if isinstance(entry, list):
+        if isinstance(entry, dict):
             wanted = time - (pair.latency if pair.matched else self.late)
-            entry, by_time = candidates(entry, mark, wanted, self.came)
+            entry, by_time = likeliest(entry, mark, wanted, self.came)
         if entry is not None and not self.is_other(identity, mark, entry):
-            came = self.came(entry)
+            came = self.came(entry >> 32)
             if came >= pair.horizon or identity[PROTOCOL] == TCP:
                 take(waiting, identity, entry)
                 self.matches.alike += by_time
@@ -231,9 +244,8 @@ class Matcher:
             pair_of(pairs, addresses).before += 1
         return self.matches
 
-    def came(self, entry: Entry) -> int:
-        """When the packet of an entry came."""
-        slot = entry >> 32
+    def came(self, slot: int) -> int:
+        """When the packet of this place came."""
         if slot >= self.arrivals - RECENT:
             return self.recent[slot % RECENT]
         return SPLIT.unpack(os.pread(self.spool, LAYOUT.size, slot * LAYOUT.size))[-1]
