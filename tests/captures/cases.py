@@ -25,6 +25,16 @@ def joined(place: str, packets: int, pieces: int) -> str:
     return f"{packets} packets {place} the queue had been joined by segmentation offload: cut into {pieces}"
 
 
+def near_end(world: World) -> list[str]:
+    """The message for lost packets that came after the last one that left, no longer before the end than one was in the queue."""
+    longest = max(row.left - row.came for row in world.rows if row.left is not None)
+    last = max(place for place, row in enumerate(world.rows) if row.left is not None)
+    count = sum(1 for row in world.rows[last + 1 :] if row.came + longest > max(frame.time for frame in world.after))
+    words = ("1 packet", "it") if count == 1 else (f"{count} packets", "they")
+    said = f"{words[0]} came so near the end of after.pcap.gz that nothing says whether {words[1]} left: counted as lost"
+    return [said] * (count > 0)
+
+
 def ordinary() -> Case:
     """Both directions in both captures, as tcpdump takes them."""
     world, answers = busy(1, answers=True)
@@ -42,7 +52,7 @@ def tagged() -> Case:
     """Another VLAN tag on each side."""
     world = World(3)
     world.traffic(150, BUSY, vlans=(10, 20))
-    return world.case("tagged", messages=[world.counts()])
+    return world.case("tagged", messages=[world.counts(), *near_end(world)])
 
 
 def other_protocols() -> Case:
@@ -52,7 +62,8 @@ def other_protocols() -> Case:
         kind = b"\x86\xdd" + b"\x60" + bytes(5) + b"\x3b\x40" + bytes(32) if number % 5 else b"\x08\x06" + bytes(28)
         for tap in (world.before, world.after):
             tap.append(Frame(START + number * 7 * MSECS, bytes(12) + kind + bytes(20), 12 + len(kind) + 20))
-    return world.case("other-protocols", messages=[world.counts(), "25 packets without IPv4 were passed over"])
+    passed_over = "25 packets without IPv4 were passed over: the trace has neither their losses nor their places"
+    return world.case("other-protocols", messages=[world.counts(), passed_over])
 
 
 def no_link() -> Case:
@@ -74,7 +85,7 @@ def fragments() -> Case:
         for offset, payload in ((0, 1472), (1480, 1480), (2960, 300)):
             time += 10_000
             world.send(time, replace(whole, offset=offset, payload=payload, more=offset < 2960))
-    return world.case("fragments", messages=[world.counts()])
+    return world.case("fragments", messages=[world.counts(), *near_end(world)])
 
 
 def twice() -> Case:
@@ -110,15 +121,6 @@ def wrapped() -> Case:
         time += int(world.random.expovariate(1 / (1.5 * BUSY)))
         world.send(time, Packet("10.0.1.4", RECEIVER, (7004, 7005), UDP, number % 32, 1000))
     return world.case("wrapped", messages=[world.counts(), alike(world)])
-
-
-def nothing_left() -> Case:
-    """No packet after the queue."""
-    world, _ = busy(8, 40)
-    world.after = []
-    for row in world.rows:
-        row.left = None
-    return world.case("nothing-left", messages=[world.counts(), "after.pcap.gz has no packets"])
 
 
 def offload() -> Case:
@@ -229,7 +231,8 @@ def early_end() -> Case:
     inside = [row for row in world.rows[seen + 1 :] if row.came <= last]
     world.rows = world.rows[: seen + 1 + len(inside)]
     note = f"{gone} packets came after after.pcap.gz ends: left out, since nothing says what left then"
-    return world.case("early-end", checked=False, messages=[world.counts(), note])
+    (doubt,) = near_end(world)
+    return world.case("early-end", checked=False, messages=[world.counts(), note, doubt])
 
 
 def late_before() -> Case:
@@ -245,6 +248,6 @@ def late_before() -> Case:
 
 def trace_cases() -> Iterator[Case]:
     """Cases that have a trace without an option."""
-    for make in (ordinary, one_sided, tagged, other_protocols, no_link, fragments, twice, wrapped, nothing_left, offload,
+    for make in (ordinary, one_sided, tagged, other_protocols, no_link, fragments, twice, wrapped, offload,
                  datagrams, both_ends, joined_after, late_after, early_end, late_before):
         yield make()

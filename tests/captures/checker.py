@@ -9,7 +9,7 @@ import gzip
 import struct
 from collections.abc import Iterator
 from dataclasses import dataclass, replace
-from ipaddress import IPv4Address, IPv4Network
+from ipaddress import IPv4Address, IPv4Network, IPv6Address
 from pathlib import Path
 
 MAGIC = {b"\xd4\xc3\xb2\xa1": 1000, b"\x4d\x3c\xb2\xa1": 1}  # nanoseconds of a capture's unit of time
@@ -56,6 +56,12 @@ def seen(path: Path) -> list[Seen]:
         if frame[at : at + 2] == b"\x08\x00":
             found.append(parsed(number, time, frame[at + 2 :]))
     return found
+
+
+def ipv6_to(path: Path, target: str) -> int:
+    """How many packets of IPv6 to an address are in a capture."""
+    address = IPv6Address(target).packed
+    return sum(1 for _, frame in frames(path) if frame[12:14] == b"\x86\xdd" and frame[38:54] == address)
 
 
 def sent_from(packets: list[Seen], senders: IPv4Network) -> list[Seen]:
@@ -117,7 +123,7 @@ def trace(before: Path, after: Path, senders: str, longest: int, payload: int, o
     all_before = seen(before)
     came = cut(sent_from(all_before, network), longest, payload)
     left = cut(sent_from(seen(after), network), longest, payload)
-    second = all_before[0].time // 10**9 * 10**9
+    second = min(packet.time for packet in all_before) // 10**9 * 10**9
     times = departures(came, left, one_queue)
     lines = ["switch,qid,uid,srcip,dstip,srcport,dstport,proto,pkt_len,payload_len,tcpseq,tin,tout,qsize"]
     for place, packet in enumerate(came):

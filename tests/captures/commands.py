@@ -69,7 +69,9 @@ def check_examples(tally, room: Path) -> None:
     right = (SCRIPTS / "queue.csv").read_text()
     done = example("trace-from-captures", both)
     tally.same(done.stdout, right, "the trace of two captures")
-    tally.same(done.stderr, "trace-from-captures: 818 packets came, 591 left, 227 never did\n", "its counts")
+    date = "time 0 is 2026-11-27 14:28:42 UTC, second 1795789722 of 1970"
+    said = ["818 packets came, 591 left, 227 never did", date]
+    tally.same(done.stderr, "".join(f"trace-from-captures: {line}\n" for line in said), "its counts and time 0")
     lost = dropped(SCRIPTS / "qdisc.txt")
     tally.check(0 < lost == right.count(",inf,"), "the loss against the count of the queue")
     done = example("trace-from-captures", ["--switch", "7", "--queue", "2", *both])
@@ -92,12 +94,19 @@ def check_single(tally, right: str) -> None:
     done = example("trace-from-capture", ["before.pcap"])
     wanted = [",".join([*line.split(",")[:12], line.split(",")[11], "0"]) for line in right.splitlines()[1:]]
     tally.same(done.stdout.splitlines()[1:], wanted, "the trace of one capture")
-    tally.same(done.stderr, "trace-from-capture: 818 packets were read\n", "its count")
+    date = "time 0 is 2026-11-27 14:28:42 UTC, second 1795789722 of 1970"
+    said = "".join(f"trace-from-capture: {line}\n" for line in ("818 packets were read", date))
+    tally.same(done.stderr, said, "its count and time 0")
     done = example("trace-from-capture", ["mixed.pcap"])
     mixed = (SCRIPTS / "mixed.csv").read_text()
     tally.same(done.stdout, mixed, "the trace of mixed packets")
     tally.check("trace-from-capture: 10 packets without IPv4 were passed over\n" in done.stderr, "their count")
     done = example("trace-from-captures", ["--both-directions", "mixed.pcap", "mixed.pcap"])
+    said = done.stderr.splitlines()[-1]
+    twice = "mixed.pcap is given twice: give the capture before the queue and the one after it"
+    tally.same((done.returncode, done.stdout), (1, ""), "one file given twice")
+    tally.same(said, f"trace-from-captures: no trace: {twice} (--force makes one all the same)", "what is said of one file")
+    done = example("trace-from-captures", ["--force", "--both-directions", "mixed.pcap", "mixed.pcap"])
     tally.same(done.stdout, mixed, "mixed packets that leave as they come")
 
 
@@ -175,7 +184,7 @@ def peak(room: Path, waiting: int) -> int:
     gzip.open(folder / "after.gz", "wt").close()
     (folder / "before.pcap").touch()
     (folder / "after.pcap").touch()
-    words = [str(SCRIPTS / "trace-from-captures"), "before.pcap", "after.pcap"]
+    words = [str(SCRIPTS / "trace-from-captures"), "--force", "before.pcap", "after.pcap"]
     environment = ENVIRONMENT | {"MARPLE_KEPT": str(folder)}
     with subprocess.Popen(words, cwd=folder, env=environment, stdout=subprocess.DEVNULL, stderr=subprocess.DEVNULL) as process:
         _, status, usage = os.wait4(process.pid, 0)

@@ -3,7 +3,7 @@
 from collections.abc import Iterator
 from dataclasses import replace
 
-from cases import MSECS, busy, left_out, offload, ordinary
+from cases import MSECS, busy, left_out, near_end, offload
 from synthesize import START, Case, Packet, Row, World
 
 SWAPPED = "the files are swapped, give before.pcap.gz first"
@@ -75,7 +75,7 @@ def two_clocks() -> Iterator[Case]:
 def two_clocks_with_answers() -> Iterator[Case]:
     """The same where answers go the other way, 50 microseconds from tap to tap."""
     world, answers = busy(25, answers=True)
-    right = world.case("one-clock", messages=[world.counts(), left_out(answers, answers)])
+    right = world.case("one-clock", messages=[world.counts(), left_out(answers, answers), *near_end(world)])
     least, left = min(latencies(right)), len(latencies(right)) + answers
     for name, by in (("clock-slow-with-answers", -250 * MSECS), ("clock-fast-with-answers", 250 * MSECS)):
         case = clock(right, name, by)

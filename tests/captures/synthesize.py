@@ -9,6 +9,7 @@ import random
 import struct
 from collections.abc import Callable
 from dataclasses import dataclass, field, replace
+from datetime import datetime, timedelta
 from ipaddress import IPv4Address
 from pathlib import Path
 
@@ -32,6 +33,7 @@ class Packet:
     sequence: int = 0
     offset: int = 0  # of a fragment, in bytes
     more: bool = False
+    checksum: int = 0  # of UDP
 
     @property
     def header(self) -> int:
@@ -53,7 +55,7 @@ class Packet:
         if not self.offset and self.protocol == TCP:
             transport = struct.pack(">HHIIBBHHH", *self.ports, self.sequence, 1, 0x80, 0x10, 1000, 0, 0) + bytes(12)
         elif not self.offset:
-            transport = struct.pack(">HHHH", *self.ports, 8 + self.payload, 0)
+            transport = struct.pack(">HHHH", *self.ports, 8 + self.payload, self.checksum)
         return (bytes(12) + tag + b"\x08\x00" + ip + transport + bytes(SNAPSHOT))[:SNAPSHOT]
 
     def pieces(self, size: int) -> list["Packet"]:
@@ -104,16 +106,35 @@ class Case:
     checked: bool = True  # whether the checker knows enough
     dissected: bool = False  # whether tshark has to dissect IP
     link: int = 1  # the kind of the link: Ethernet
+    turned: int = 0  # the place of a frame before the queue that stands behind the next one
+    missing: int = 0  # bytes that the capture before the queue lacks at its end
 
     def write(self, folder: Path) -> None:
         """Writes both captures."""
-        for name, frames in (("before", self.before), ("after", self.after)):
-            write_capture(folder / f"{name}.pcap.gz", frames, self.link)
+        write_capture(folder / "before.pcap.gz", self.came(), self.link, self.missing)
+        write_capture(folder / "after.pcap.gz", by_time(self.after), self.link)
+
+    def came(self) -> list[Frame]:
+        """The frames before the queue in the order of the capture."""
+        frames = by_time(self.before)
+        if self.turned:
+            frames[self.turned - 1 : self.turned + 1] = reversed(frames[self.turned - 1 : self.turned + 1])
+        return frames
+
+    @property
+    def second(self) -> int:
+        """The second of 1970 at which time begins."""
+        return min((row.came for row in self.rows), default=0) // 10**9
+
+    def said(self) -> list[str]:
+        """What the script must say: where there is a trace also of its time 0."""
+        date = datetime(1970, 1, 1) + timedelta(seconds=self.second)
+        return self.messages + [f"time 0 is {date} UTC, second {self.second} of 1970"] * (self.status == 0)
 
     def trace(self) -> str:
         """The trace that is right for these captures."""
-        numbers = {id(frame): number for number, frame in enumerate(by_time(self.before), 1)}
-        second = min(row.came for row in self.rows) // 10**9 * 10**9
+        numbers = {id(frame): number for number, frame in enumerate(self.came(), 1)}
+        second = self.second * 10**9
         lines = ["switch,qid,uid,srcip,dstip,srcport,dstport,proto,pkt_len,payload_len,tcpseq,tin,tout,qsize"]
         for place, row in enumerate(self.rows):
             packet = row.packet
@@ -130,13 +151,14 @@ def by_time(frames: list[Frame]) -> list[Frame]:
     return sorted(frames, key=lambda frame: frame.time)
 
 
-def write_capture(path: Path, frames: list[Frame], link: int) -> None:
-    """Writes a compressed capture with times in nanoseconds."""
+def write_capture(path: Path, frames: list[Frame], link: int, missing: int = 0) -> None:
+    """Writes a compressed capture with times in nanoseconds, without some bytes at its end."""
+    data = struct.pack("<IHHiIII", 0xA1B23C4D, 2, 4, 0, 0, SNAPSHOT, link)
+    for frame in frames:
+        seconds, part = divmod(frame.time, 10**9)
+        data += struct.pack("<IIII", seconds, part, len(frame.data), frame.length) + frame.data
     with gzip.GzipFile(path, "wb", mtime=0) as file:
-        file.write(struct.pack("<IHHiIII", 0xA1B23C4D, 2, 4, 0, 0, SNAPSHOT, link))
-        for frame in by_time(frames):
-            seconds, part = divmod(frame.time, 10**9)
-            file.write(struct.pack("<IIII", seconds, part, len(frame.data), frame.length) + frame.data)
+        file.write(data[: len(data) - missing])
 
 
 class World:
@@ -186,12 +208,12 @@ class World:
                 self.see(self.after, at, part, vlans[1])
         return rows
 
-    def answer(self, rows: list[Row]) -> int:
+    def answer(self, rows: list[Row], payload: int = 0) -> int:
         """Sends an acknowledgement for each packet that arrived, the other way round; how many."""
         arrived = [row for row in rows if row.left is not None]
         for row in arrived:
             self.identification += 1
-            back = Packet(RECEIVER, row.packet.source, row.packet.ports[::-1], TCP, self.identification % 65536, 0, 77)
+            back = Packet(RECEIVER, row.packet.source, row.packet.ports[::-1], TCP, self.identification % 65536, payload, 77)
             self.see(self.after, row.left + 40_000, back)
             self.see(self.before, row.left + 90_000, back)
         return len(arrived)

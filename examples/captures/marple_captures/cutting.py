@@ -44,6 +44,7 @@ def pieces(packet: Packet, size: int) -> list[Packet]:
         found.append(packet._replace(
             identification=(packet.identification + number) % 65536,
             sequence=(packet.sequence + start) % 2**32 if packet.protocol == TCP else 0,
+            mark=packet.mark if packet.protocol == TCP else 0,
             length=packet.header + min(size, packet.payload - start)))
     return found
 

@@ -4,15 +4,15 @@ from collections.abc import Iterable
 from dataclasses import dataclass, field
 from ipaddress import IPv4Address, IPv4Network
 from math import log
+from pathlib import Path
 
-from marple_captures.matching import NEVER, Matches, Pair
+from marple_captures.matching import NEVER, TOLERANCE, Matches, Pair
 from marple_captures.records import Fields, Spool
 
 MOST_STRANGE = 0.02  # of the packets after the queue may match none before it
 MOST_EARLY = 0.01  # of the matched packets may leave before they came
 CHANCE = 1e-6  # a row of losses less likely than this is no accident
 SMALL = 100_000  # nanoseconds: clocks of two machines rarely agree as well as this
-TOLERANCE = 1_000_000  # nanoseconds by which least latencies differ in any case
 TEN = 10  # the other direction may have this many times the bytes of the queue's
 
 
@@ -25,6 +25,11 @@ class Options:
     networks: list[IPv4Network] = field(default_factory=list)
     both_directions: bool = False
     shift: int = 0
+
+    @property
+    def one_file(self) -> bool:
+        """Whether both captures are one file."""
+        return Path(self.before).exists() and Path(self.after).exists() and Path(self.before).samefile(self.after)
 
 
 @dataclass
@@ -103,14 +108,30 @@ def total(pairs: Iterable[Pair], name: str) -> int:
     return sum(getattr(pair, name) for pair in pairs)
 
 
-def note_direction(findings: Findings, pairs: dict[bytes, Pair]) -> None:
-    """Says what is left out because of its direction."""
+def in_few_words(addresses: Iterable[bytes]) -> str:
+    """Pairs of addresses for a message."""
+    first, *rest = sorted(addresses)
+    return in_words(first) + (f" and {len(rest)} more" if rest else "")
+
+
+def note_direction(findings: Findings, pairs: dict[bytes, Pair], options: Options) -> None:
+    """Says what is left out because of its direction, and if that is most."""
     if not findings.left_out:
         return
-    out = sorted(findings.left_out)
-    before, after = (total((pairs[addresses] for addresses in out), name) for name in ("before", "after"))
-    more = f" and {len(out) - 1} more" if len(out) > 1 else ""
-    findings.notes.append(f"left out as another direction: {packets(before)} before, {after} after ({in_words(out[0])}{more})")
+    out = [pairs[addresses] for addresses in findings.left_out]
+    before, after = (total(out, name) for name in ("before", "after"))
+    findings.notes.append(f"left out as another direction: {packets(before)} before, {after} after "
+                          f"({in_few_words(findings.left_out)})")
+    kept = [pair for addresses, pair in pairs.items() if addresses not in findings.left_out]
+    if not options.networks and total(out, "size") > total(kept, "size"):
+        numbers, sizes = (share(total(out, name), total(kept, name)) for name in ("matched", "size"))
+        findings.notes.append(f"{sizes} % of the bytes and {numbers} % of the packets go the other way: for those give "
+                              f"{options.after} first")
+
+
+def share(part: int, rest: int) -> int:
+    """Which part of the whole something is, in percent."""
+    return round(100 * part / (part + rest))
 
 
 def is_no_accident(row: int, lost: int, came: int) -> bool:
@@ -126,11 +147,14 @@ def trim(findings: Findings, matches: Matches, before: Spool, after: Spool, opti
         return
     begin, end = after.first + options.shift, after.last + options.shift
     first, last = min(pair.first for pair in seen), max(pair.last for pair in seen)
-    early = late = 0
+    latest = end - max(pair.greatest for pair in seen)
+    early = late = doubtful = 0
     for addresses, slot in matches.unmatched_before():
-        if addresses in kept:
-            early += slot < first and before.time_of(slot) < begin
-            late += slot > last and before.time_of(slot) > end
+        if addresses in kept and not first <= slot <= last:
+            came = before.time_of(slot)
+            early += slot < first and came < begin
+            late += slot > last and came > end
+            doubtful += slot > last and latest < came <= end
     lost = findings.came - findings.left - early - late
     rest = findings.came - early - late
     if is_no_accident(early, lost, rest):
@@ -141,6 +165,11 @@ def trim(findings: Findings, matches: Matches, before: Spool, after: Spool, opti
         findings.last, findings.end = last, end
         findings.came -= late
         findings.notes.append(f"{packets(late)} came after {options.after} ends: left out, since nothing says what left then")
+    else:
+        doubtful += late
+    if doubtful:
+        findings.notes.append(f"{packets(doubtful)} came so near the end of {options.after} that nothing says whether "
+                              f"{'it' if doubtful == 1 else 'they'} left: counted as lost")
     trim_after(findings, matches, kept, before, options)
 
 
@@ -173,14 +202,14 @@ def both_ways(pairs: dict[bytes, Pair]) -> list[bytes]:
     return [addresses for addresses in pairs if turned(addresses) in pairs and turned(addresses) != addresses]
 
 
-def two_clocks(pairs: dict[bytes, Pair]) -> int | None:
+def two_clocks(pairs: dict[bytes, Pair], options: Options) -> int | None:
     """The constant by which all flows are off, if there is one."""
     floors = {addresses: pair.least for addresses, pair in pairs.items()}
     spread = max(pair.greatest - pair.least for pair in pairs.values())
     if max(floors.values()) - min(floors.values()) > max(TOLERANCE, spread):
         return None
     ways = both_ways(pairs)
-    if not ways:
+    if not ways or options.both_directions:
         return -min(floors.values())
     there = min(floors[addresses] for addresses in ways if addresses < turned(addresses))
     back = min(floors[addresses] for addresses in ways if addresses > turned(addresses))
@@ -190,17 +219,35 @@ def two_clocks(pairs: dict[bytes, Pair]) -> int | None:
 def why_early(findings: Findings, pairs: dict[bytes, Pair], options: Options) -> str:
     """What packets that left before they came mean, with the remedy."""
     said = f"{findings.early} of {packets(findings.left)} left before they came"
+    early = {addresses for addresses, pair in pairs.items() if pair.is_early}
+    if early and not any(pairs.get(turned(addresses), pairs[addresses]).is_early for addresses in early):
+        return (f"{said}, {in_few_words(early)}, and those of the way back after they came: the two ways pass the captures in "
+                f"turn, so leave --both-directions out, or name the senders of one way by --direction")
     if not both_ways(pairs) and other_way_round(list(pairs.values()), findings):
         return f"{said}: the files are swapped, give {options.after} first"
-    shift = two_clocks(pairs)
+    shift = two_clocks(pairs, options)
     if shift is None:
         return f"{said}, by no constant: the captures have clocks that go apart, so take both on one machine"
     return f"{said}, all flows by one constant: the captures have two clocks, give --shift {shift + options.shift}"
 
 
-def why_refused(findings: Findings, matches: Matches, options: Options) -> str:
+def why_one_capture(kept: Iterable[Pair], after: Spool, options: Options) -> str:
+    """Why there is one capture where two should be, or nothing."""
+    if options.one_file:
+        return f"{options.before} is given twice: give the capture before the queue and the one after it"
+    if not after.packets:
+        return f"{options.after} has no packets{' with IPv4' if after.foreign else ''}, so nothing says what left"
+    pairs = list(kept)
+    if pairs and not any(pair.least or pair.greatest for pair in pairs):
+        return f"each packet left in the nanosecond in which it came: {options.after} is a copy of {options.before}"
+    return ""
+
+
+def why_refused(findings: Findings, matches: Matches, after: Spool, options: Options) -> str:
     """Why there is no trace, or nothing."""
     kept = {addresses: pair for addresses, pair in matches.pairs.items() if addresses not in findings.left_out and pair.matched}
+    if reason := why_one_capture(kept.values(), after, options):
+        return reason
     if findings.early > MOST_EARLY * findings.left:
         return why_early(findings, kept, options)
     chosen = options.networks or options.both_directions
@@ -216,12 +263,14 @@ def why_refused(findings: Findings, matches: Matches, options: Options) -> str:
     if findings.strange_share > MOST_STRANGE:
         return (f"{findings.strange} of {packets(findings.expected)} after the queue match none before it: "
                 "take both captures at one queue, at the same time")
+    if findings.came and not findings.left:
+        return f"none of {packets(findings.came)} before the queue is in {options.after}: take both captures at one queue"
     return ""
 
 
 def why_both(kept: dict[bytes, Pair], options: Options) -> str:
     """What it means that packets of both directions leave after they came."""
-    shift = two_clocks(kept)
+    shift = two_clocks(kept, options)
     if shift is not None and -shift >= SMALL:
         return (f"packets of both directions leave after they come, by {seconds(-shift)} and more: the captures have two clocks, "
                 f"give --shift {shift + options.shift}; or --both-directions if both pass the queue")
@@ -235,9 +284,7 @@ def judge(matches: Matches, before: Spool, after: Spool, options: Options) -> Fi
     findings.came, findings.left, findings.early = (total(kept, name) for name in ("before", "matched", "early"))
     findings.expected = total(kept, "after")
     findings.strange = findings.expected - findings.left
-    note_direction(findings, matches.pairs)
-    if after.first is None:
-        findings.notes.append(f"{options.after} has no packets")
+    note_direction(findings, matches.pairs, options)
     trim(findings, matches, before, after, options)
-    findings.refusal = why_refused(findings, matches, options)
+    findings.refusal = why_refused(findings, matches, after, options)
     return findings

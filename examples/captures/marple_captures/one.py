@@ -2,12 +2,14 @@
 
 import argparse
 import sys
+from collections.abc import Iterator
 from pathlib import Path
 from tempfile import TemporaryDirectory
 
 from marple_captures.findings import packets, were
+from marple_captures.records import Spool
 from marple_captures.start import add_numbers, start
-from marple_captures.trace import TraceWriter, check_origin, first_second
+from marple_captures.trace import TraceWriter, as_date, check_origin, first_second
 from marple_captures.tshark import need_tshark, read_side_by_side
 
 DESCRIPTION = """\
@@ -26,16 +28,26 @@ def parser() -> argparse.ArgumentParser:
     return words
 
 
+def notes(capture: str, spool: Spool, origin: int) -> Iterator[str]:
+    """What there is to be said of the capture, a line each."""
+    if spool.ends_inside:
+        yield f"{capture} ends in the middle of a packet: the whole ones before it were taken"
+    yield f"{packets(spool.packets)} {were(spool.packets)} read"
+    if spool.foreign:
+        yield f"{packets(spool.foreign)} without IPv4 {were(spool.foreign)} passed over"
+    if spool.packets:
+        yield as_date(origin)
+
+
 def make_trace(name: str, words: argparse.Namespace) -> None:
     """Reads the capture and writes the trace."""
     need_tshark()
     with TemporaryDirectory(prefix="marple-") as folder:
         (spool,) = read_side_by_side(name, [words.capture], [Path(folder) / "packets"])
-        origin = first_second(spool.fields()) if words.origin is None else words.origin
+        origin = first_second(spool) if words.origin is None else words.origin
         check_origin(spool.fields(), origin)
-        print(f"{name}: {packets(spool.packets)} {were(spool.packets)} read", file=sys.stderr)
-        if spool.foreign:
-            print(f"{name}: {packets(spool.foreign)} without IPv4 {were(spool.foreign)} passed over", file=sys.stderr)
+        for note in notes(words.capture, spool, origin):
+            print(f"{name}: {note}", file=sys.stderr)
         TraceWriter(sys.stdout, words.switch, words.queue, origin).write((fields, fields[-1]) for fields in spool.fields())
 
 

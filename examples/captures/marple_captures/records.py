@@ -4,7 +4,7 @@ import os
 import struct
 from array import array
 from collections.abc import Callable, Iterator
-from dataclasses import dataclass
+from dataclasses import dataclass, replace
 from functools import cached_property
 from pathlib import Path
 from typing import BinaryIO, NamedTuple
@@ -13,15 +13,15 @@ TCP = 6
 UDP = 17
 
 # What is the same in both captures: addresses, ports, sequence number, IP identification, protocol, place of a fragment, length.
-# Then come the bytes of the IP and transport headers, the packet's number in its capture, and nanoseconds since 1970.
-LAYOUT = struct.Struct(">4s4sIIHBHIHIq")
-SHORT_LAYOUT = struct.Struct(">4s4sQHBHIHIq")  # the same, with ports and sequence number in one word
-IDENTITY = 25
-SPLIT = struct.Struct(">25s6xq")
-LENGTH = struct.Struct(">21xI14x")
+# Then come a mark that tells packets alike apart (TCP's acknowledgement number, UDP's checksum), the bytes of the IP and
+# transport headers, the packet's number in its capture, and nanoseconds since 1970.
+LAYOUT = struct.Struct(">4s4sIIHBHIIHIq")
+SHORT_LAYOUT = struct.Struct(">4s4sQHBHIIHIq")  # the same, with ports and sequence number in one word
+SPLIT = struct.Struct(">25sI6xq")
+LENGTH = struct.Struct(">21xI18x")
 BLOCK = 4096
 
-Fields = tuple[bytes, bytes, int, int, int, int, int, int, int, int, int]  # a packet's, where no names are needed
+Fields = tuple[bytes, bytes, int, int, int, int, int, int, int, int, int, int]  # a packet's, where no names are needed
 
 
 class Packet(NamedTuple):
@@ -35,6 +35,7 @@ class Packet(NamedTuple):
     protocol: int
     offset: int
     length: int
+    mark: int
     header: int
     number: int
     time: int
@@ -52,8 +53,10 @@ class Spool:
     path: Path
     packets: int = 0
     foreign: int = 0
-    first: int | None = None
+    first: int | None = None  # the least time of all packets, and the greatest
     last: int | None = None
+    begin: int | None = None  # the least time of the packets that have a record
+    ends_inside: bool = False  # whether the capture ends in the middle of a packet
 
     def blocks(self) -> Iterator[bytes]:
         """The records as bytes, a few thousand at a time."""
@@ -70,8 +73,8 @@ class Spool:
         for block in self.blocks():
             yield from LAYOUT.iter_unpack(block)
 
-    def marks(self) -> Iterator[tuple[bytes, int]]:
-        """The identity and the time of each packet, in the order of the capture."""
+    def marks(self) -> Iterator[tuple[bytes, int, int]]:
+        """The identity, the mark and the time of each packet, in the order of the capture."""
         for block in self.blocks():
             yield from SPLIT.iter_unpack(block)
 
@@ -92,11 +95,11 @@ class Spool:
         """When the packet in this place came, counted from 0."""
         with self.path.open("rb") as file:
             file.seek(slot * LAYOUT.size)
-            return SPLIT.unpack(file.read(LAYOUT.size))[1]
+            return SPLIT.unpack(file.read(LAYOUT.size))[-1]
 
     def rewritten(self, path: Path, change: Callable[[Packet], list[Packet]]) -> "Spool":
         """A spool at another path in which each packet is replaced by those that `change` makes of it."""
-        other = Spool(path, 0, self.foreign, self.first, self.last)
+        other = replace(self, path=path, packets=0)
         with path.open("wb") as file:
             for packet in self.read():
                 for piece in change(packet):

@@ -24,9 +24,16 @@ def add_numbers(words: argparse.ArgumentParser) -> None:
     words.add_argument("--origin", type=natural, metavar="S", help="the second of 1970 at which time begins")
 
 
+def end(number: int, _: object) -> None:
+    """Ends the command at a signal, so that what it started and its files go too."""
+    sys.exit(128 + number)
+
+
 def start(words: argparse.ArgumentParser, work: Callable[[str, argparse.Namespace], None]) -> None:
     """Runs a command with its words, and ends with its status."""
     name = Path(sys.argv[0]).name
+    signal.signal(signal.SIGTERM, end)
+    signal.signal(signal.SIGHUP, end)
     try:
         work(name, words.parse_args())
         sys.stdout.flush()

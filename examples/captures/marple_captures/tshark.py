@@ -6,13 +6,16 @@ isn't so simple (other links, IP options, tunnels, very short snapshots), tshark
 it never dissects: what a record needs of them stands in the first bytes of the payload.
 """
 
+import os
 import shutil
+import signal
+import stat
 import subprocess
 import sys
 import tempfile
 import time
 from collections.abc import Iterable, Iterator
-from contextlib import ExitStack
+from contextlib import ExitStack, contextmanager
 from functools import lru_cache
 from itertools import chain, islice
 from pathlib import Path
@@ -31,6 +34,8 @@ SHORTEST = 66  # hexadecimal digits of an IP header of 20 bytes and of TCP's fir
 IPV4 = (b"0x0800", b"0x0021")  # what tshark says of a link's payload that it doesn't dissect: as Ethernet and as PPP number it
 IPV6 = (b"0x86dd", b"0x0057")
 IP_IN_IPV6 = b"04"
+CUT_SHORT = "appears to have been cut short in the middle of a packet."
+ENDING = {signal.SIGHUP, signal.SIGINT, signal.SIGTERM}
 TURN = 512  # lines that are read of one capture before the next one has its turn
 
 
@@ -49,6 +54,16 @@ def command(capture: str, simple: bool) -> list[str]:
             "-o", "ip.defragment:FALSE", *chain.from_iterable(("--disable-protocol", name) for name in without)]
 
 
+@contextmanager
+def signals_held() -> Iterator[None]:
+    """Holds back the signals that end the command while processes start, so that none starts unseen."""
+    before = signal.pthread_sigmask(signal.SIG_BLOCK, ENDING)
+    try:
+        yield
+    finally:
+        signal.pthread_sigmask(signal.SIG_SETMASK, before)
+
+
 def need_tshark() -> None:
     """Says where tshark comes from if it isn't there."""
     if shutil.which("tshark") is None:
@@ -58,15 +73,12 @@ def need_tshark() -> None:
 class Reading:
     """A tshark that reads one capture."""
 
-    def __init__(self, capture: str, simple: bool) -> None:
+    def __init__(self, capture: str, file: str, preferences: Path, simple: bool) -> None:
         self.capture = capture
-        try:
-            with open(capture, "rb"):
-                pass
-        except OSError as error:
-            raise CaptureError(f"cannot read {capture}: {error.strerror}") from error
+        self.ends_inside = False
         self.complaints = tempfile.TemporaryFile()
-        self.process = subprocess.Popen(command(capture, simple), stdout=subprocess.PIPE, stderr=self.complaints)
+        environment = os.environ | {"WIRESHARK_CONFIG_DIR": str(preferences)}
+        self.process = subprocess.Popen(command(file, simple), stdout=subprocess.PIPE, stderr=self.complaints, env=environment)
 
     def __enter__(self) -> "Reading":
         return self
@@ -79,11 +91,14 @@ class Reading:
         self.complaints.close()
 
     def lines(self) -> Iterator[bytes]:
-        """The lines of tshark; an error if it couldn't read the capture to its end."""
+        """The lines of tshark; an error if it couldn't read the capture to its end, or to the packet in which it was cut."""
         assert self.process.stdout is not None
         yield from self.process.stdout
         if self.process.wait() != 0:
-            raise CaptureError(f"tshark cannot read {self.capture}: {self.complaint()}")
+            complaint = self.complaint()
+            self.ends_inside = complaint.endswith(CUT_SHORT)
+            if not self.ends_inside:
+                raise CaptureError(f"tshark cannot read {self.capture}: {complaint}")
 
     def complaint(self) -> str:
         """The first line that tshark wrote on standard error, but for its warning of a superuser."""
@@ -116,11 +131,11 @@ def number_of(data: bytes, start: int, digits: int) -> int:
     return int(text, 16) if len(text) == digits else 0
 
 
-def transport(protocol: int, data: bytes) -> tuple[int, int]:
-    """Ports and sequence number in one word, and the bytes of the transport header."""
+def transport(protocol: int, data: bytes) -> tuple[int, int, int]:
+    """Ports and sequence number in one word, the mark, and the bytes of the transport header."""
     if protocol == TCP:
-        return number_of(data, 0, 8) << 32 | number_of(data, 8, 8), 4 * number_of(data, 24, 1)
-    return (number_of(data, 0, 8) << 32, 8) if protocol == UDP else (0, 0)
+        return number_of(data, 0, 8) << 32 | number_of(data, 8, 8), number_of(data, 16, 8), 4 * number_of(data, 24, 1)
+    return (number_of(data, 0, 8) << 32, number_of(data, 12, 4), 8) if protocol == UDP else (0, 0, 0)
 
 
 def record_of(line: bytes, number: int) -> tuple[int, bytes]:
@@ -131,9 +146,9 @@ def record_of(line: bytes, number: int) -> tuple[int, bytes]:
         return moment, b""
     protocol, header, offset = head(protocol_text, header_text, offset_text)
     # A fragment after the first has no ports.
-    word, size = (0, 0) if offset else transport(protocol, data)
+    word, mark, size = (0, 0, 0) if offset else transport(protocol, data)
     return moment, SHORT_LAYOUT.pack(address(source), address(target), word, int(identification, 16), protocol, offset,
-                                     int(length), header + size, number, moment)
+                                     int(length), mark, header + size, number, moment)
 
 
 def simple_record_of(line: bytes, number: int) -> tuple[int, bytes]:
@@ -151,17 +166,19 @@ def simple_record_of(line: bytes, number: int) -> tuple[int, bytes]:
     offset = place & 0x1FFF
     if first != 0x45 or length < 20 or digits < 40:
         raise NotSimple
-    sequence, header = 0, 20
+    sequence, mark, header = 0, 0, 20
     if offset or protocol not in (TCP, UDP):  # a fragment after the first has no ports
         ports = 0
     elif digits < (SHORTEST if protocol == TCP else 48):
         raise NotSimple
     elif protocol == TCP:
-        sequence = int(data[48:56], 16)
+        sequence, mark = int(data[48:56], 16), int(data[56:64], 16)
         header += TCP_SIZES[data[64]]
     else:
+        mark = number_of(data, 52, 4)
         header += 8
-    return moment, LAYOUT.pack(source, target, ports, sequence, identification, protocol, offset, length, header, number, moment)
+    return moment, LAYOUT.pack(source, target, ports, sequence, identification, protocol, offset, length, mark, header, number,
+                               moment)
 
 
 class Progress:
@@ -186,6 +203,11 @@ class Progress:
             print("\r\033[K", end="", file=sys.stderr, flush=True)
 
 
+def least(known: int | None, time: int) -> int:
+    """The lesser of two times, of which the first may not be known yet."""
+    return time if known is None else min(known, time)
+
+
 def fill(spool: Spool, lines: Iterable[bytes], file: BinaryIO, simple: bool) -> bool:
     """Writes the records of some lines; whether there were any."""
     record = simple_record_of if simple else record_of
@@ -198,10 +220,12 @@ def fill(spool: Spool, lines: Iterable[bytes], file: BinaryIO, simple: bool) -> 
         raise CaptureError(f"tshark wrote a line that isn't understood: {line.decode(errors='replace').strip()}") from error
     if not found:
         return False
-    if spool.first is None:
-        spool.first = found[0][0]
-    spool.last = found[-1][0]
+    moments = [moment for moment, _ in found]
+    spool.first = least(spool.first, min(moments))
+    spool.last = max(spool.last or 0, max(moments))
     records = [record for _, record in found if record]
+    if records:
+        spool.begin = least(spool.begin, min(moment for moment, record in found if record))
     file.write(b"".join(records))
     spool.packets += len(records)
     spool.foreign += len(found) - len(records)
@@ -210,22 +234,41 @@ def fill(spool: Spool, lines: Iterable[bytes], file: BinaryIO, simple: bool) -> 
 
 def read_side_by_side(name: str, captures: list[str], paths: list[Path]) -> list[Spool]:
     """Reads captures at the same time, each by a separate tshark, into spools at these paths."""
+    files = [on_disk(capture, path.with_suffix(".capture")) for capture, path in zip(captures, paths, strict=True)]
     try:
-        return read_all(name, captures, paths, simple=True)
+        return read_all(name, captures, files, paths, simple=True)
     except NotSimple:
-        return read_all(name, captures, paths, simple=False)
+        return read_all(name, captures, files, paths, simple=False)
 
 
-def read_all(name: str, captures: list[str], paths: list[Path], simple: bool) -> list[Spool]:
-    """Reads all captures, dissecting IP or not."""
+def on_disk(capture: str, path: Path) -> str:
+    """The capture, or a copy of it at the path where it can be read only once, as that of `<(...)` in a shell."""
+    try:
+        with open(capture, "rb") as file:
+            if stat.S_ISREG(os.fstat(file.fileno()).st_mode):
+                return capture
+            with path.open("wb") as copy:
+                shutil.copyfileobj(file, copy)
+    except OSError as error:
+        raise CaptureError(f"cannot read {capture}: {error.strerror}") from error
+    return str(path)
+
+
+def read_all(name: str, captures: list[str], files: list[str], paths: list[Path], simple: bool) -> list[Spool]:
+    """Reads all captures from their files, dissecting IP or not."""
     spools = [Spool(path) for path in paths]
     progress = Progress(name, spools)
     with ExitStack() as stack:
         stack.callback(progress.clear)
-        readings = [stack.enter_context(Reading(capture, simple)) for capture in captures]
-        files = [stack.enter_context(path.open("wb")) for path in paths]
-        turns = [(spool, reading.lines(), file) for spool, reading, file in zip(spools, readings, files, strict=True)]
+        preferences = paths[0].with_suffix(".preferences")  # a folder that isn't there: tshark has its own defaults
+        with signals_held():
+            readings = [stack.enter_context(Reading(capture, file, preferences, simple))
+                        for capture, file in zip(captures, files, strict=True)]
+        outputs = [stack.enter_context(path.open("wb")) for path in paths]
+        turns = [(spool, reading.lines(), output) for spool, reading, output in zip(spools, readings, outputs, strict=True)]
         while turns:
             turns = [turn for turn in turns if fill(turn[0], islice(turn[1], TURN), turn[2], simple)]
             progress.show()
+        for spool, reading in zip(spools, readings, strict=True):
+            spool.ends_inside = reading.ends_inside
     return spools

@@ -13,7 +13,8 @@ from marple_captures.findings import Findings, Options, judge, packets, were
 from marple_captures.matching import Matches, match
 from marple_captures.records import Departures, Fields, Spool
 from marple_captures.start import add_numbers, natural, start
-from marple_captures.trace import TraceWriter, check_origin, first_second
+from marple_captures.survey import survey
+from marple_captures.trace import TraceWriter, as_date, check_origin, first_second
 from marple_captures.tshark import need_tshark, read_side_by_side
 
 LONGEST_HEADERS = 120  # bytes of an IP header and of a TCP header
@@ -21,15 +22,16 @@ DESCRIPTION = """\
 Makes a trace from two captures, one before a queue and one after it.
 
 The trace has a record for each IPv4 packet of BEFORE that goes through the queue, in its order:
-  tin, tout   nanoseconds since the whole second in which the first IPv4 packet of BEFORE came, or since the second S of
-              1970, which makes traces of several queues fit together; tout is inf where AFTER doesn't have the packet
+  tin, tout   nanoseconds since the whole second in which the earliest IPv4 packet of BEFORE came, or since the second S
+              of 1970, which makes traces of several queues fit together; tout is inf where AFTER doesn't have the packet
   qsize       how many earlier packets had come and not yet left at tin
   uid         the packet's number in BEFORE, as Wireshark shows it
   pkt_len     the bytes from the IP header on; payload_len those after the TCP or UDP header
 A packet of AFTER is taken for one of BEFORE where addresses, protocol, ports, IP identification, place of a fragment,
-sequence number and length are the same; of several alike, for the one that was inside nearly as long as the packet that
-left last. What was read and what was done to it is said on standard error. Where the captures can't be believed there is
-no trace, and the status is 1. Needs tshark.
+sequence number and length are the same; of several alike, for the one with the same UDP checksum or TCP acknowledgement
+number, and then for the one that was inside nearly as long as the packet of the same addresses that left last. What was
+read and what was done to it is said on standard error. Where the captures can't be believed there is no trace, and the
+status is 1. Needs tshark.
 """
 
 
@@ -106,9 +108,12 @@ def best_attempt(spools: list[Spool], room: Path, words: argparse.Namespace, opt
     return best
 
 
-def notes(attempt: Attempt, foreign: int) -> Iterator[str]:
+def notes(attempt: Attempt, spools: list[Spool], words: argparse.Namespace) -> Iterator[str]:
     """What there is to be said of the captures, a line each."""
-    findings, cut, alike = attempt.findings, attempt.cut, attempt.matches.alike
+    findings, cut, alike, foreign = attempt.findings, attempt.cut, attempt.matches.alike, spools[0].foreign
+    for spool, capture in zip(spools, (words.before, words.after), strict=True):
+        if spool.ends_inside:
+            yield f"{capture} ends in the middle of a packet: the whole ones before it were taken"
     yield f"{findings.came} packets came, {findings.left} left, {findings.came - findings.left} never did"
     for count, place in ((cut.cut_before, "before"), (cut.cut_after, "after")):
         if count.packets:
@@ -117,11 +122,12 @@ def notes(attempt: Attempt, foreign: int) -> Iterator[str]:
     if findings.strange:
         yield f"{packets(findings.strange)} after the queue match none before it"
     if foreign:
-        yield f"{packets(foreign)} without IPv4 {were(foreign)} passed over"
+        yield f"{packets(foreign)} without IPv4 {were(foreign)} passed over: the trace has neither their losses nor their places"
     if findings.early:
         yield f"{packets(findings.early)} left before they came, and count as 0 ns"
     if alike:
         yield f"{packets(alike)} {were(alike)} told from others alike by the time in the queue"
+    yield from survey(cut.before, attempt.taken(), asks_for_long=not (words.split or words.no_split or findings.refusal))
 
 
 def main() -> None:
@@ -136,9 +142,9 @@ def make_trace(name: str, words: argparse.Namespace) -> None:
     with TemporaryDirectory(prefix="marple-") as folder:
         room = Path(folder)
         spools = read_side_by_side(name, [words.before, words.after], [room / "before", room / "after"])
-        origin = first_second(spools[0].fields()) if words.origin is None else words.origin
+        origin = first_second(spools[0]) if words.origin is None else words.origin
         attempt = best_attempt(spools, room, words, options)
-        for note in notes(attempt, spools[0].foreign):
+        for note in notes(attempt, spools, words):
             print(f"{name}: {note}", file=sys.stderr)
         refusal = attempt.findings.refusal
         if refusal and not words.force:
@@ -147,4 +153,6 @@ def make_trace(name: str, words: argparse.Namespace) -> None:
             print(f"{name}: by force: {refusal}", file=sys.stderr)
         if words.origin is not None:
             check_origin((fields for fields, _ in attempt.taken()), origin)
+        if spools[0].packets:
+            print(f"{name}: {as_date(origin)}", file=sys.stderr)
         TraceWriter(sys.stdout, words.switch, words.queue, origin).write(attempt.taken())
