@@ -134,7 +134,9 @@ class Compressed(unittest.TestCase):
     def test_by_others_is_refused(self):
         content = generated(*TRACE)
         zstd = b"\x28\xb5\x2f\xfd\x04\x00\x09\x00\x00a\n"
-        for name, packed in (("xz", lzma.compress(content)), ("bzip2", bz2.compress(content)), ("bzip2", bz2.compress(b"")), ("zstd", zstd)):
+        for name, packed in (
+            ("xz", lzma.compress(content)), ("bzip2", bz2.compress(content)), ("bzip2", bz2.compress(b"")), ("zstd", zstd),
+        ):  # fmt: skip
             path = self.folder.write("trace.packed", packed)
             with self.subTest(name), self.assertRaises(parts.CompressionRefused) as refused:
                 parts.run(QUERY, [self.plain, path])
