@@ -87,8 +87,8 @@ class JoinedTables(OnACluster):
         trace = self.folder.write("whole.csv", generated(*TRACE))
         cluster = local_cluster(1)
         gate = Path(self.folder.path("began"))
-        text = f'#!/bin/sh\n[ "$1" != run ] || [ -e {gate}.header ] && touch {gate} && sleep 5\n'
-        text += f'[ "$1" != run ] || touch {gate}.header\nexec {marple.find_program()} "$@"\n'
+        text = f'#!/bin/sh\nif [ "$1" = run ]; then\n    [ ! -e {gate}.header ] || {{ touch {gate}; sleep 30; }}\n'
+        text += f'    touch {gate}.header\nfi\nexec {marple.find_program()} "$@"\n'
         program = self.folder.write("program", text.encode())
         os.chmod(program, 0o755)
         environment = os.environ | {"DASK_DISTRIBUTED__COMM__TIMEOUTS__CONNECT": "1s", "MARPLE": program}

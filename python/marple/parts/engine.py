@@ -1,5 +1,6 @@
 """Where tasks run: in this process, in others of this machine, or on a Dask cluster."""
 
+import logging
 from collections.abc import Callable, Iterable, Iterator
 from contextlib import contextmanager
 from typing import Protocol
@@ -39,27 +40,35 @@ class OnCluster:
         self.places = max(1, sum(client.nthreads().values()))
 
     def each(self, task: Callable, calls: Iterable[tuple], counted: Counted) -> list:
-        from distributed import CancelledError, KilledWorker, as_completed
+        try:
+            return self._each(task, list(calls), counted)
+        except Exception as fault:
+            if self.client.status != "running":
+                raise ClusterLost("the scheduler has ended, or was left") from fault
+            raise
+
+    def _each(self, task: Callable, calls: list[tuple], counted: Counted) -> list:
+        from distributed import KilledWorker, as_completed
 
         # Not pure: what a task gives also depends on files, which an earlier run of the same call may have left
         # otherwise.
         futures = [self.client.submit(task, *call, pure=False) for call in calls]
         try:
-            for done, future in enumerate(as_completed(futures), 1):
+            for done, future in enumerate(as_completed(futures), 1) if futures else ():
                 future.result()
                 counted(done, len(futures))
             return [future.result() for future in futures]
         except KilledWorker as fault:
             raise WorkerDied(f"a task ended each worker that it was given to: {fault}") from fault
-        except CancelledError as fault:
-            raise ClusterLost("the scheduler has ended, or was left") from fault
         finally:
-            self.client.cancel(futures)
+            if self.client.status == "running":
+                self.client.cancel(futures)
 
 
 @contextmanager
 def cluster_at(address: str) -> Iterator:
-    """A client of the scheduler that runs at this address."""
+    """A client of the scheduler that runs at this address, of which nothing is logged."""
+    logging.disable()
     try:
         import distributed
     except ImportError as missing:
