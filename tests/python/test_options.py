@@ -54,6 +54,11 @@ class Bounds(unittest.TestCase):
             with self.subTest(by), self.assertRaises(parts.FieldRefused):
                 parts.run(QUERY, [self.trace], by=by)
 
+    def test_of_traces(self):
+        self.assertEqual(parts.run(QUERY, self.trace).text, marple.run(QUERY, self.trace).text)
+        with self.assertRaises(parts.OptionRefused):
+            parts.run(QUERY, [])
+
     def test_of_a_client_and_workers(self):
         with self.assertRaises(parts.OptionRefused):
             parts.run(QUERY, [self.trace], client=object(), workers=2)

@@ -2,10 +2,12 @@
 
 import io
 import os
+import pty
 import subprocess
 import sys
 import unittest
 from collections.abc import Callable
+from contextlib import suppress
 from pathlib import Path
 
 from support import TOP, Folder, generated
@@ -234,6 +236,23 @@ class TheCommand(unittest.TestCase):
 
 
 class Lines(unittest.TestCase):
+    def test_of_tables_begin_after_those_of_progress(self):
+        """At a terminal, where both are shown."""
+        folder = Folder(self)
+        trace = folder.write("trace.csv", generated(*TRACE))
+        ours, theirs = pty.openpty()
+        command = [sys.executable, "-m", "marple.parts", str(QUERY), trace]
+        call = subprocess.Popen(command, stdin=subprocess.DEVNULL, stdout=theirs, stderr=theirs)
+        os.close(theirs)
+        shown = b""
+        with suppress(OSError):  # at the end
+            while block := os.read(ours, 65536):
+                shown += block
+        os.close(ours)
+        self.assertEqual(call.wait(), 0)
+        self.assertIn(b"joining", shown)
+        self.assertRegex(shown, rb"parts *\r\ntable r ")
+
     def test_of_progress_are_one_at_a_terminal(self):
         class Terminal(io.StringIO):
             def isatty(self):

@@ -56,15 +56,15 @@ class PartsAnswer(Answer):
 
 
 def run(
-    query: Query, traces: Sequence[str | os.PathLike], *, by: str | Sequence[str] | None = None, parts: int | None = None,
+    query: Query, traces: str | os.PathLike | Sequence[str | os.PathLike], *, by: str | Sequence[str] | None = None, parts: int | None = None,
     workers: int | None = None, client=None, work: str | os.PathLike | None = None, buckets: int | None = None,
     ways: int | None = None, pipe: int | None = None, lag: int | None = None, program: str | os.PathLike | None = None,
     piece: int = PIECE, report: Callable[[str], None] = lambda line: None,
 ) -> PartsAnswer:  # fmt: skip
     """The tables of the query over the packets of all traces, in their order, by runs over parts of them.
 
-    query: a path, or a text, which has a `;`. traces: paths of files with one header; those that are compressed by gzip
-    are unpacked first. by: fields to split by, or one field; by default all that the query allows. parts: how many at
+    query: a path, or a text, which has a `;`. traces: a path, or those of files with one header; what is compressed by gzip
+    is unpacked first. by: fields to split by, or one field; by default all that the query allows. parts: how many at
     least. workers: how many processes of this machine do the tasks; client: a distributed.Client, whose workers see the
     traces and the folder at the same paths; without either the tasks run in turn here. work: a folder for what is made
     on the way, where a second call with the same arguments goes on; by default one that is deleted at the end.
@@ -93,7 +93,9 @@ def tables_file(query: bytes, traces, *, by, parts, engine: Engine, work, sums: 
     program = find_program(program)
     choice = choose(query, by, program)
     report(f"by {','.join(choice.by)}: {choice.reason}" if choice.by else f"by pieces as they come: {choice.reason}")
-    paths = [os.path.abspath(os.fspath(path)) for path in traces]
+    paths = [os.path.abspath(path) for path in ([traces] if isinstance(traces, str | os.PathLike) else traces)]
+    if not paths:
+        raise OptionRefused("there is no trace")
     job = Job(query, paths, choice, parts, given, program, engine, os.path.abspath(work), sums, piece, report)
     joined, runs = job.run()
     return joined, choice, runs

@@ -13,9 +13,9 @@ from multiprocessing.connection import Connection, wait
 from multiprocessing.process import BaseProcess
 
 from marple.parts.refusals import WorkerDied
+from marple.parts.stopping import SIGNALS
 
 Counted = Callable[[int, int], None]  # how many tasks are done, and how many there are
-SIGNALS = (signal.SIGINT, signal.SIGTERM, signal.SIGHUP)
 
 
 @dataclass(frozen=True)

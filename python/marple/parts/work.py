@@ -94,11 +94,13 @@ def _lock(place: int, folder: str) -> None:
 
 
 def _clean(folder: str) -> None:
-    if os.path.exists(os.path.join(folder, "work.json")):
-        for name in os.listdir(folder):
-            if HALF.fullmatch(name):
-                with suppress(FileNotFoundError):
-                    os.unlink(os.path.join(folder, name))
+    """Deletes what is left half made in a folder of a work, or in one of nothing else."""
+    names = os.listdir(folder)
+    halves = [name for name in names if HALF.fullmatch(name)]
+    if "work.json" in names or len(halves) == len(names):
+        for name in halves:
+            with suppress(FileNotFoundError):
+                os.unlink(os.path.join(folder, name))
 
 
 class Work:
