@@ -3,8 +3,8 @@
 import csv
 import os
 import re
+import threading
 from collections.abc import Iterable, Iterator, Sequence
-from contextlib import contextmanager
 from dataclasses import dataclass
 from itertools import chain, repeat
 from operator import itemgetter
@@ -45,6 +45,30 @@ class Header:
     names: tuple[str, ...]
     end: int
     size: int
+
+
+class AnySize:
+    """Where it is entered fields may have any size. The limit is one of the whole process: as the last thread leaves, what
+    the caller has set comes back.
+    """
+
+    def __init__(self):
+        self.lock, self.inside, self.before = threading.Lock(), 0, 0
+
+    def __enter__(self) -> None:
+        with self.lock:
+            if self.inside == 0:
+                self.before = csv.field_size_limit(2**31 - 1)
+            self.inside += 1
+
+    def __exit__(self, *raised: object) -> None:
+        with self.lock:
+            self.inside -= 1
+            if self.inside == 0:
+                csv.field_size_limit(self.before)
+
+
+ANY_SIZE = AnySize()
 
 
 def number_of(text: bytes, field: str) -> int | None:
@@ -128,7 +152,7 @@ def quoted_blocks(span: Span, columns: Sequence[int]) -> Iterator[tuple[list[byt
                 records[-1] = _ended(records[-1])
                 yield records, fields
     if held:
-        with _any_size():
+        with ANY_SIZE:
             fields = _fields(csv.reader(_texts(held)), columns)
         yield [closed(b"".join(held))], fields
 
@@ -137,18 +161,8 @@ def _whole_records(lines: list[bytes], columns: Sequence[int]) -> tuple[list[byt
     """The records that these lines have as a whole, with their fields in these columns, and the lines of one that goes
     on.
     """
-    with _any_size():
+    with ANY_SIZE:
         return _picked_records(lines, columns)
-
-
-@contextmanager
-def _any_size() -> Iterator[None]:
-    """Fields of any size. The limit is one of the whole process, so that what the caller has set comes back."""
-    before = csv.field_size_limit(2**31 - 1)
-    try:
-        yield
-    finally:
-        csv.field_size_limit(before)
 
 
 def _picked_records(lines: list[bytes], columns: Sequence[int]) -> tuple[list[bytes], list[Fields], list[bytes]]:
@@ -214,7 +228,7 @@ def _records(lines: Iterable[bytes], path: str = "") -> Iterator[tuple[bytes, li
 
     rows = csv.reader(given())
     while True:
-        with _any_size():
+        with ANY_SIZE:
             fields = next(rows, None)
         if fields is None:
             return

@@ -57,6 +57,10 @@ def cut(span: Span, most_records: int, most_bytes: int, pieces: int = 1) -> list
     """Cuts a span into this many spans of one size, as near as can be, or more: none has more than this many records and
     bytes. With the number of records of each.
     """
+    if pieces == 1 and span.end - span.start <= most_bytes:
+        count = sum(size > 0 for sizes in record_sizes(span) for size in sizes)
+        if count <= most_records:
+            return [(span, count)] if count else []
     goals = [span.start + (span.end - span.start) * number // pieces for number in range(pieces, 0, -1)]
     spans, start, at, count = [], span.start, span.start, 0
     for sizes in record_sizes(span):

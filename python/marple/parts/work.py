@@ -36,7 +36,7 @@ def keep(path: str, make: Callable[[], dict], sums: bool, is_done: Callable[[dic
     and that is recorded if it is done. sums: whether the content is recorded too, and not only the size.
     """
     found = _read_json(f"{path}.json")
-    if isinstance(found, dict) and found.get("file") == _recorded(path, sums):
+    if isinstance(found, dict) and found.get("file") is not None and found["file"] == _recorded(path, sums):
         return found["made"]
     made = make()
     if is_done(made):
