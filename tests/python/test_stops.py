@@ -19,6 +19,18 @@ TRACE = (300, 3)
 SLOW = 60  # no test waits longer
 
 
+def sockets_of(process: int) -> set[str]:
+    """The numbers of the sockets that a process has."""
+    links = [os.readlink(link) for link in Path(f"/proc/{process}/fd").iterdir()]
+    return {link.split("[")[1].rstrip("]") for link in links if link.startswith("socket:")}
+
+
+def ports() -> set[str]:
+    """The numbers of the sockets that have a port."""
+    lines = [line for name in ("tcp", "tcp6", "udp", "udp6") for line in Path(f"/proc/net/{name}").read_text().splitlines()[1:]]
+    return {line.split()[9] for line in lines}
+
+
 def is_running(process: int) -> bool:
     try:
         return Path(f"/proc/{process}/stat").read_text().rpartition(")")[2].split()[0] != "Z"
@@ -48,8 +60,9 @@ class Stopped(unittest.TestCase):
         environment = os.environ | {"MARPLE": self.program, "TMPDIR": str(self.own)}
         command = [sys.executable, "-m", "marple.parts", str(QUERY), self.trace, "--parts", "4", *words]
         call = subprocess.Popen(
-            command, stdout=subprocess.PIPE, stderr=subprocess.PIPE, text=True, env=environment, start_new_session=True
-        )
+            command, stdout=subprocess.PIPE, stderr=subprocess.PIPE, text=True, env=environment, start_new_session=True,
+            preexec_fn=lambda: signal.signal(signal.SIGINT, signal.SIG_DFL),  # which tests in the background have not
+        )  # fmt: skip
         self.addCleanup(call.kill)
         until = time.monotonic() + SLOW
         while len(self.running()) < (2 if "--workers" in words else 1):
@@ -90,6 +103,14 @@ class Stopped(unittest.TestCase):
                     call = self.begin(*words)
                     os.kill(call.pid, number)
                     self.check_ended(call, 128 + number, f"stopped by {number.name}")
+
+    def test_has_opened_no_port(self):
+        call = self.begin("--workers", "2")
+        sockets = set().union(*(sockets_of(one) for one in (call.pid, *(asking for _, asking in self.running()))))
+        self.assertGreaterEqual(len(sockets), 2)  # to the workers
+        self.assertFalse(sockets & ports())
+        os.kill(call.pid, signal.SIGTERM)
+        self.check_ended(call, 143, "stopped by SIGTERM")
 
     def test_by_ctrl_c_in_a_folder(self):
         """At a terminal the signal goes to the whole group."""
