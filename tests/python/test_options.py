@@ -8,12 +8,13 @@ import re
 import subprocess
 import sys
 import unittest
+from unittest import mock
 
 from support import TOP, Folder, but_for_epochs, generated
 
 import marple
 from marple import parts
-from marple.parts import records
+from marple.parts import compression, records
 
 QUERY = TOP / "examples" / "cookbook" / "flows.query"
 COUNT = "def count([c],[]) { c = c + 1; }\n"
@@ -159,6 +160,17 @@ class Compressed(unittest.TestCase):
             self.assertEqual(refused.exception.status, 3)
         column = self.folder.write("BZh.csv", b"BZh9,srcip\n1,5\n")
         self.assertEqual(parts.run(COUNT + "r = groupby(pktstream, [srcip], count); print r;", [column])["r"].epochs, 1)
+
+    def test_that_cannot_be_opened_is_refused(self):
+        """A trace that can't be read isn't a folder that can't be written."""
+        def fail(*words) -> None:
+            raise PermissionError(13, "Permission denied")
+
+        with mock.patch("builtins.open", fail), self.assertRaises(marple.InputError) as refused:
+            compression.is_compressed(self.plain)
+        self.assertEqual(str(refused.exception), f"cannot read the trace {self.plain}: Permission denied")
+        with mock.patch("gzip.open", fail), self.assertRaises(marple.InputError):
+            compression.unpack(self.plain, self.folder.path("unpacked"), False)
 
     def test_in_a_pipe_is_refused(self):
         """A trace is read from several places at once. One that can't be was taken for an empty one."""

@@ -3,6 +3,7 @@
 import gzip
 import re
 import zlib
+from collections.abc import Iterator
 
 from marple.faults import InputError
 from marple.parts.refusals import CompressionRefused
@@ -19,8 +20,11 @@ BLOCK = 1 << 20
 
 def is_compressed(path: str) -> bool:
     """Whether a trace is compressed by gzip. Raises CompressionRefused where it is by another program."""
-    with open(path, "rb") as file:
-        beginning = file.read(10)
+    try:
+        with open(path, "rb") as file:
+            beginning = file.read(10)
+    except OSError as fault:
+        raise InputError(f"cannot read the trace {path}: {fault.strerror}") from fault
     for name, magic in OTHERS.items():
         if magic.match(beginning):
             raise CompressionRefused(f"{path} is compressed by {name}: unpack it, or compress it by gzip")
@@ -28,16 +32,21 @@ def is_compressed(path: str) -> bool:
 
 
 def unpack(path: str, plain: str, sums: bool) -> None:
-    """Unpacks a trace into a file. A second call finds what the first one did. Raises InputError where it can't."""
+    """Unpacks a trace into a file. A second call finds what the first one did. Raises InputError where it can't be read."""
     keep(plain, lambda: _unpack(path, plain), sums)
 
 
 def _unpack(path: str, plain: str) -> dict:
     with written(plain) as file:
-        try:
-            with gzip.open(path) as packed:
-                while block := packed.read(BLOCK):
-                    file.write(block)
-        except (EOFError, gzip.BadGzipFile, zlib.error) as fault:
-            raise InputError(f"cannot read the trace {path}: {fault}") from fault
+        file.writelines(_unpacked(path))
     return {}
+
+
+def _unpacked(path: str) -> Iterator[bytes]:
+    """What a trace has, a block after the other."""
+    try:
+        with gzip.open(path) as packed:
+            while block := packed.read(BLOCK):
+                yield block
+    except (OSError, EOFError, zlib.error) as fault:
+        raise InputError(f"cannot read the trace {path}: {fault}") from fault

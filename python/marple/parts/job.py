@@ -244,6 +244,8 @@ def _header(path: str, trace: str) -> Header:
         return read_header(path)
     except TraceRefused as refused:
         raise TraceRefused(refused.fault, path=trace) from refused
+    except OSError as fault:
+        raise InputError(f"cannot read the trace {trace}: {fault.strerror}") from fault
 
 
 def _identity(path: str) -> list:
