@@ -19,7 +19,7 @@ from pathlib import Path
 from statistics import median
 
 from marple import find_program, parts
-from marple.parts.engine import local_client
+from marple.parts.processes import Workers
 from marple.parts.records import Span, read_header
 from marple.parts.splitting import Splitting, write_piece
 
@@ -83,16 +83,15 @@ class Stages:
 
 def timed_parts(query: str, room: Path, workers: int) -> PartsRun:
     """A run with this many workers, whose rows are compared with those of the plain program."""
-    client = local_client(workers)
+    engine = Workers(workers)
     work, stages = room / "work", Stages()
     joined, _, runs = parts.tables_file(
-        Path(query).read_bytes(), sorted(room.glob("traces/*.csv")), by=None, parts=None, client=client, work=work,
-        given={}, program=None, piece=parts.PIECE, report=stages.report,
+        Path(query).read_bytes(), sorted(room.glob("traces/*.csv")), by=None, parts=None, engine=engine, work=work,
+        sums=True, given={}, program=None, piece=parts.PIECE, report=stages.report,
     )  # fmt: skip
     stages.report("end")
-    measured = PartsRun(stages.seconds(), max(client.run(peak).values()), max(ran.peak for ran in runs) // 1024)
-    client.close()
-    client.cluster.close()
+    engine.close()
+    measured = PartsRun(stages.seconds(), engine.peak // 1024, max(ran.peak for ran in runs) // 1024)
     rows = room / "rows"
     with open(rows, "wb") as file:
         subprocess.run(["tail", "-n", "+3", joined], stdout=file, check=True)
@@ -197,13 +196,12 @@ def machine() -> str:
 
 
 def versions() -> str:
-    import distributed
     import numpy
 
     asked = ["git", "rev-parse", "--short", "HEAD"]
     commit = subprocess.run(asked, capture_output=True, text=True, check=False).stdout.strip()
     python = sys.version.split()[0]
-    return f"commit {commit}, Python {python}, distributed {distributed.__version__}, numpy {numpy.__version__}"
+    return f"commit {commit}, Python {python}, numpy {numpy.__version__}"
 
 
 def preface(traces: Traces, load: float, runs: int) -> list[str]:
@@ -336,8 +334,8 @@ def main() -> None:
         "",
         *parts_table(traces, measured),
         "",
-        f"The process that asks, which has the scheduler too, has a peak of {asking} MB. The peak of a run is at least",
-        "what its worker had in memory when it started the run, since Linux counts it so.",
+        f"The process that asks has a peak of {asking} MB. The peak of a run is at least what its worker had in memory",
+        "when it started the run, since Linux counts it so.",
         "",
         *whole,
         "",

@@ -1,12 +1,12 @@
 #!/bin/sh
-# Measures a query over traces in parts, on clusters of this machine, and prints the figures.
+# Measures a query over traces in parts, by processes of this machine, and prints the figures.
 #
 # Usage: bench/parts/run.sh [--write] [PACKETS [KEYS]]
 # 20,000,000 packets of 1,000,000 keys in files of 1,000,000 by default, which take 4 GB in $ROOM. A folder that ROOM names is
 # kept with its traces, which the next run with the same numbers uses again; without it a folder in /tmp is removed at the end.
-# The program is $MARPLE, or ./marple; PYTHON is a Python with Dask's distributed and numpy (Debian: python3-dask,
-# python3-distributed), /usr/bin/python3 by default. WORKERS are the numbers of workers, "1 2 4" by default; RUNS is how often
-# each is measured, 3 by default. --write puts the figures into bench/README.md.
+# The program is $MARPLE, or ./marple; PYTHON is a Python with numpy (Debian: python3-numpy), /usr/bin/python3 by default.
+# WORKERS are the numbers of workers, "1 2 4" by default; RUNS is how often each is measured, 3 by default. --write puts the
+# figures into bench/README.md.
 set -eu
 here=$(cd "$(dirname "$0")" && pwd)
 top=$(cd "$here/../.." && pwd)

@@ -1,6 +1,8 @@
 """Runs in parts on a cluster of four processes: the same tables, also where a worker dies, and of large traces."""
 
+import logging
 import os
+import re
 import subprocess
 import sys
 import threading
@@ -8,12 +10,12 @@ import time
 import unittest
 from pathlib import Path
 
+import distributed
 from support import TOP, Folder, but_for_epochs, choices, generated
 
 import marple
 from marple import parts
-from marple.parts.__main__ import close
-from marple.parts.engine import local_client
+from marple.parts.engine import OnCluster
 
 REFUSED = ("FieldNeeded", "FinalGroupby", "FinalOfTop")
 FLOWS = TOP / "examples" / "cookbook" / "flows.query"
@@ -22,11 +24,23 @@ TRACE = (2000, 17)
 PACKETS = int(os.environ["MARPLE_TEST_PACKETS"])
 
 
+def local_cluster(workers: int) -> distributed.LocalCluster:
+    """A cluster of this many processes of this machine."""
+    # What fails is reported by the tasks themselves; memory_limit 0 is none, since the runs of the program aren't in its
+    # count.
+    return distributed.LocalCluster(
+        n_workers=workers, threads_per_worker=1, processes=True, dashboard_address=None, memory_limit=0,
+        silence_logs=logging.CRITICAL,
+    )  # fmt: skip
+
+
 class OnACluster(unittest.TestCase):
     @classmethod
     def setUpClass(cls):
-        cls.client = local_client(4)
-        cls.addClassCleanup(close, cls.client)
+        cluster = local_cluster(4)
+        cls.addClassCleanup(cluster.close)
+        cls.client = distributed.Client(cluster)
+        cls.addClassCleanup(cls.client.close)
 
     def setUp(self):
         self.folder = Folder(self)
@@ -54,10 +68,39 @@ class JoinedTables(OnACluster):
         traces = self.folder.traces(generated(*TRACE), 3)
         expected = marple.run(FLOWS, generated(*TRACE)).text
         scheduler = self.client.scheduler.address
-        for words in (["--scheduler", scheduler], ["--workers", "2"]):
-            command = [sys.executable, "-m", "marple.parts", str(FLOWS), *traces, *words]
-            done = subprocess.run(command, capture_output=True, text=True, check=False)
-            self.assertEqual((done.returncode, done.stdout), (0, expected), done.stderr)
+        command = [sys.executable, "-m", "marple.parts", str(FLOWS), *traces, "--scheduler", scheduler]
+        done = subprocess.run(command, capture_output=True, text=True, check=False)
+        self.assertEqual((done.returncode, done.stdout), (0, expected), done.stderr)
+
+    def test_of_a_scheduler_that_isn_t_there(self):
+        trace = self.folder.write("whole.csv", generated(*TRACE))
+        environment = os.environ | {"DASK_DISTRIBUTED__COMM__TIMEOUTS__CONNECT": "1s"}
+        for address in ("tcp://127.0.0.1:9", "no-such-host.invalid:8786", "nonsense://here", ""):
+            command = [sys.executable, "-m", "marple.parts", str(FLOWS), trace, "--scheduler", address]
+            with self.subTest(address):
+                done = subprocess.run(command, capture_output=True, text=True, env=environment, timeout=120, check=False)
+                line = f"marple: ClusterLost: no scheduler answers at {address}\n"
+                self.assertEqual((done.returncode, done.stdout, done.stderr), (1, "", line))
+
+    def test_of_a_scheduler_that_ends(self):
+        """While a run waits for it."""
+        trace = self.folder.write("whole.csv", generated(*TRACE))
+        cluster = local_cluster(1)
+        gate = Path(self.folder.path("began"))
+        text = f'#!/bin/sh\nif [ "$1" = run ]; then\n    [ ! -e {gate}.header ] || {{ touch {gate}; sleep 30; }}\n'
+        text += f'    touch {gate}.header\nfi\nexec {marple.find_program()} "$@"\n'
+        program = self.folder.write("program", text.encode())
+        os.chmod(program, 0o755)
+        environment = os.environ | {"DASK_DISTRIBUTED__COMM__TIMEOUTS__CONNECT": "1s", "MARPLE": program}
+        command = [sys.executable, "-m", "marple.parts", str(FLOWS), trace, "--scheduler", cluster.scheduler_address]
+        call = subprocess.Popen(command, stdout=subprocess.PIPE, stderr=subprocess.PIPE, text=True, env=environment)
+        while not gate.exists() and call.poll() is None:
+            time.sleep(0.1)
+        cluster.close()
+        out, err = call.communicate(timeout=120)
+        self.assertEqual((call.returncode, out), (1, ""), err)
+        self.assertRegex(err, r"(?m)^marple: ClusterLost: .*\n\Z")
+        self.assertIsNone(re.search("Traceback", err), err)
 
 
 class AWorkerThatDies(OnACluster):
@@ -104,8 +147,8 @@ class LargeTraces(OnACluster):
         with open(self.folder.path("expected"), "wb") as file:
             subprocess.run([plain, "count", *traces], stdout=file, check=True)
         joined, choice, _ = parts.tables_file(
-            (BENCH / "keys.query").read_bytes(), traces, by=None, parts=4, client=self.client,
-            work=self.folder.path("work"), given={}, program=None, piece=parts.PIECE, report=lambda line: None,
+            (BENCH / "keys.query").read_bytes(), traces, by=None, parts=4, engine=OnCluster(self.client),
+            work=self.folder.path("work"), sums=True, given={}, program=None, piece=parts.PIECE, report=lambda line: None,
         )  # fmt: skip
         self.assertEqual(choice.by, ("srcip",))
         with open(joined, "rb") as own, open(self.folder.path("expected"), "rb") as expected:

@@ -104,27 +104,43 @@ class SplitByColumns(unittest.TestCase):
         return found
 
     def trace(self) -> tuple[bytes, bytes]:
-        """A header, and records of which some have few fields, or fields that are no numbers."""
+        """A header, and records of which some have numbers of other forms."""
         header, _, rest = generated(3000, 9).partition(b"\n")
-        strange = b"1,2\n,,,\n" + b",".join([b"007"] * 14) + b"\n" + b",".join([b"99999999999999999999"] * 14) + b"\n"
+        forms = (b"007", b"18446744073709551615", b" 5", b"6\t", b"00000000000000000008")
+        strange = b"".join(b",".join([form] * 14) + b"\n" for form in forms)
         return header + b"\n", rest + strange + rest.replace(b",80,", b", 80\t,")
 
     def test_without_quotes(self):
         header, rest = self.trace()
         found = self.split(header + rest, self.NAMES, quoted=False)
         self.assertEqual(found[0], found[1])
-        self.assertEqual(sum(found[0][1][0].records), 6004)
+        self.assertEqual(sum(found[0][1][0].records), 6005)
 
     def test_with_quotes(self):
         header, rest = self.trace()
         quoted = re.sub(rb"[^,\n]+", rb'"\g<0>"', rest)
-        broken = b'"1\n2",3\n\n"a""b",\r\n' + b",".join([b'"4\n5"'] * 14) + b"\n"
         for block, names in ((4 << 20, self.NAMES), (5000, self.NAMES), (5000, ("srcip",))):
             with self.subTest(block=block, names=names):
                 records.BLOCK = block
-                found = self.split(header + quoted + broken + rest + b'"6', names, quoted=True)
+                found = self.split(header + quoted + rest + b'"6', names, quoted=True)
                 self.assertEqual(found[0], found[1])
-                self.assertEqual(sum(map(sum, (one.records for one in found[0][1]))), 2 * 6004 + 4)
+                self.assertEqual(sum(map(sum, (one.records for one in found[0][1]))), 2 * 6005 + 1)
+
+    def test_up_to_a_record_without_a_number(self):
+        header, rest = self.trace()
+        quoted = re.sub(rb"[^,\n]+", rb'"\g<0>"', rest)
+        ends = [b"1,2\n", b",,,\n", b",".join([b"99999999999999999999"] * 14) + b"\n", b'"1\n2",3\n', b'\n"a""b",\r\n']
+        for block in (4 << 20, 5000):
+            for end in [*ends, b",".join([b'"4\n5"'] * 14) + b"\n"]:
+                records.BLOCK = block
+                with self.subTest(block=block, end=end):
+                    found = self.split(header + quoted + end + rest, self.NAMES, quoted=True)
+                    self.assertEqual(found[0], found[1])
+                    self.assertEqual(sum(map(sum, (one.records for one in found[0][1]))), 6006)
+                    if b'"' not in end:
+                        found = self.split(header + rest + end + rest, self.NAMES, quoted=False)
+                        self.assertEqual(found[0], found[1])
+                        self.assertEqual(sum(map(sum, (one.records for one in found[0][1]))), 6006)
 
     def test_has_the_same_parts_with_quotes(self):
         header, rest = self.trace()

@@ -1,14 +1,17 @@
 """The tables of parts, joined, are those of one run over the whole trace."""
 
+import os
+import shutil
 import unittest
 from collections import Counter
+from pathlib import Path
 from unittest import mock
 
 from support import TOP, Folder, but_for_epochs, choices, generated
 
 import marple
 from marple import Mark, parts
-from marple.parts import job
+from marple.parts import job, records
 
 REFUSED = ("FieldNeeded", "FinalGroupby", "FinalOfTop")
 TRACE = (600, 11)
@@ -121,6 +124,46 @@ class JoinedTables(unittest.TestCase):
         self.assertIn(f"srcip {address.decode()} has {most} packets", str(refused.exception))
         with mock.patch.multiple(job, BYTES=400), self.assertRaises(parts.KeyTooLarge):
             parts.run(TOP / "examples" / "count.query", [self.whole], piece=20_000)
+
+
+class KeysWithoutNumbers(unittest.TestCase):
+    """More records than one run takes have no number in a field that they are split by: that is the trace's fault."""
+
+    QUERY = "def count([c],[]) { c = c + 1; }\nr = groupby(pktstream, [srcip, dstip], count); print r;"
+    HEADER = b"srcip,dstip,uid\n"
+
+    def setUp(self):
+        self.folder = Folder(self)
+        patch = mock.patch.multiple(job, PACKETS=40, AGAIN=5)
+        patch.start()
+        self.addCleanup(patch.stop)
+
+    def refused(self, *contents: bytes, **options) -> tuple[str, str | None]:
+        """The fault in these files, and its file; with the bytes of the work looked at."""
+        traces = [self.folder.write(f"{number}.csv", self.HEADER + text) for number, text in enumerate(contents)]
+        work = self.folder.path("work")
+        with self.assertRaises(marple.TraceRefused) as refused:
+            parts.run(self.QUERY, traces, work=work, piece=2_000, **options)
+        size = sum(path.stat().st_size for path in Path(work).glob("split-*") if path.suffix != ".json")
+        self.assertLessEqual(size, 3 * sum(map(len, contents)))
+        shutil.rmtree(work)
+        return refused.exception.shown, os.path.basename(refused.exception.path)
+
+    def test_are_the_first_fault(self):
+        good = b"".join(b"%d,%d,1\n" % (key % 50, key) for key in range(200))
+        wide = b"".join(b"%d,fe80::%d,1\n" % (key % 50, key) for key in range(200))
+        self.assertEqual(self.refused(wide), ("BadNumber(1,dstip)", "0.csv"))
+        self.assertEqual(self.refused(good + wide), ("BadNumber(201,dstip)", "0.csv"))
+        self.assertEqual(self.refused(good, good + wide + good), ("BadNumber(201,dstip)", "1.csv"))
+        self.assertEqual(self.refused(good, wide, by="dstip"), ("BadNumber(1,dstip)", "1.csv"))
+        self.assertEqual(self.refused(good + b"1,2\n" + wide), ("FieldCount(201)", "0.csv"))
+        self.assertEqual(self.refused(good, b"x,y,1\n" + wide, b"z"), ("BadNumber(1,srcip)", "1.csv"))
+        self.assertEqual(self.refused(b"::1,::2,1\n" * 200), ("BadNumber(1,srcip)", "0.csv"))
+
+    def test_that_the_program_takes_give_no_table(self):
+        """What the program and the splitter read otherwise is never left out of a table."""
+        with mock.patch.object(records, "MOST", 1000), self.assertRaises(marple.ProgramFailed):
+            self.refused(b"5,6,1\n5, 1001,1\n5,7,1\n")
 
 
 class PacketsInOrder(unittest.TestCase):

@@ -40,6 +40,19 @@ def random_bytes(draw: random.Random, size: int, quotes: bool = True) -> bytes:
     return b"".join(draw.choice(letters) for _ in range(size))
 
 
+def random_records(draw: random.Random, count: int, quotes: bool = True) -> bytes:
+    """Records with numbers in their first and third field, but for a few, and anything in the second."""
+    text = b""
+    for _ in range(count):
+        key, time = (draw.choice((b"1", b" 2\t", b"07", b"10.0.0.1", b"x" if draw.random() < 0.1 else b"3")) for _ in "ab")
+        note = random_bytes(draw, draw.randint(0, 5), quotes=False).translate(None, b"\r\n,")
+        if quotes and draw.random() < 0.5:
+            key, note = b'"%s"' % key, b'"%s"' % random_bytes(draw, 4).replace(b'"', b'""')
+        fields = [key, note, time.replace(b"10.0.0.1", b"inf"), *[b"4"] * draw.randint(0, 1)]
+        text += b",".join(fields) + draw.choice((b"\n", b"\r\n", b"\r", b"\n\n", b"\r\r\n"))
+    return text + draw.choice((b"", b"5", b"5,,6", b'5,,6,"' if quotes else b"5,,6,"))
+
+
 def fields_of(piece: splitting.Piece, part: int) -> list[list[bytes]]:
     """The records of a part, read as a trace is."""
     text = b""
@@ -52,6 +65,7 @@ def fields_of(piece: splitting.Piece, part: int) -> list[list[bytes]]:
 class SplitRecords(unittest.TestCase):
     def setUp(self):
         self.folder = Folder(self)
+        self.split = 0  # how many records were
         blocks = (records.BLOCK, splitting.ROUND)
         self.addCleanup(lambda: (setattr(records, "BLOCK", blocks[0]), setattr(splitting, "ROUND", blocks[1])))
 
@@ -60,11 +74,16 @@ class SplitRecords(unittest.TestCase):
         path = self.folder.write("data", data)
         split = Splitting(("srcip", "tout"), (0, 2), 3, draw.randint(0, 2))
         piece = splitting.write_piece(split, [Span(path, 0, len(data), quoted)], self.folder.path("piece"))
-        expected = [[] for _ in range(3)]
+        expected, is_broken = [[] for _ in range(3)], False
         for fields in states(data):
             places = ((0, "srcip"), (2, "tout"))
             key = [records.number_of(fields[at], name) if at < len(fields) else None for at, name in places]
-            expected[split.part_of(key)].append(fields)
+            is_broken = None in key
+            expected[0 if is_broken else split.part_of(key)].append(fields)
+            if is_broken:
+                break
+        self.assertIs(piece.broken, is_broken, data)
+        self.split += sum(map(len, expected))
         for part in range(3):
             self.assertEqual(fields_of(piece, part), expected[part], data)
             self.assertEqual(piece.records(part), len(expected[part]), data)
@@ -74,20 +93,27 @@ class SplitRecords(unittest.TestCase):
         """The n-th record of a part is found where it stands."""
         numbers = [0, 0, 0]
         for place, fields in enumerate(states(data), 1):
-            part = split.part_of(split.key_of(fields))
+            key = split.key_of(fields)
+            part = 0 if None in key else split.part_of(key)
             numbers[part] += 1
             if draw.random() < 0.2:
                 self.assertEqual(tasks.find_record(split, [span], part, numbers[part]), place, data)
+            if None in key:
+                break
 
     def test_with_quotes(self):
         draw = random.Random(1)
         for _ in range(300):
             self.check(random_bytes(draw, draw.randint(0, 60)), True, draw)
+            self.check(random_records(draw, draw.randint(0, 9)), True, draw)
+        self.assertGreater(self.split, 1000)
 
     def test_without_quotes(self):
         draw = random.Random(2)
         for _ in range(300):
             self.check(random_bytes(draw, draw.randint(0, 60), quotes=False), False, draw)
+            self.check(random_records(draw, draw.randint(0, 9), quotes=False), False, draw)
+        self.assertGreater(self.split, 1000)
 
     def test_of_lines_alone(self):
         draw = random.Random(3)
@@ -103,8 +129,8 @@ class SplitRecords(unittest.TestCase):
             data = random_bytes(draw, draw.randint(1, 60), quotes=quoted)
             records.BLOCK = draw.randint(1, 40)
             path = self.folder.write("data", data)
-            most = draw.randint(1, 4)
-            cuts = tasks.cut(Span(path, 0, len(data), quoted), most, 1000)
+            most, pieces = draw.randint(1, 4), draw.randint(1, 3)
+            cuts = tasks.cut(Span(path, 0, len(data), quoted), most, 1000, pieces)
             read = [states(data[span.start : span.end]) for span, _ in cuts]
             self.assertEqual([fields for own in read for fields in own], states(data), data)
             self.assertEqual([len(own) for own in read], [count for _, count in cuts], data)
@@ -135,6 +161,22 @@ class Stretches(unittest.TestCase):
             self.assertEqual(read, states(data)[1:], data)
 
 
+class PiecesOfOneSize(unittest.TestCase):
+    def test_are_as_many_as_asked_for(self):
+        """A record that ends a little later than a piece does makes no piece of its own."""
+        folder = Folder(self)
+        path = folder.write("data", b"1,2,3\n" * 97)
+        for pieces in (1, 2, 3, 5, 40):
+            cuts = tasks.cut(Span(path, 0, 582, False), 1000, 1000, pieces)
+            self.assertEqual((len(cuts), sum(count for _, count in cuts)), (pieces, 97))
+
+    def test_never_begin_by_empty_lines(self):
+        path = Folder(self).write("data", b"\n" * 2000 + b"1,2,3\n" + b"\n" * 2000)
+        [(span, count)] = tasks.cut(Span(path, 0, 4006, False), 10, 1000)
+        self.assertEqual((span.start, count), (2000, 1))
+        self.assertLessEqual(span.end - span.start, 1000)
+
+
 class Headers(unittest.TestCase):
     def test_are_the_first_record(self):
         folder = Folder(self)
@@ -145,11 +187,15 @@ class Headers(unittest.TestCase):
             b'\n\r\n "x", tin\t\n': ((' "x"'.strip(), "tin"), 14),
             b"srcip": (("srcip",), 5),
             b'"src""ip': (('src"ip',), 8),
+            b"\xef\xbb\xbf\xef\xbb\xbfsrcip\n": (("\xef\xbb\xbfsrcip",), 12),
+            b"\n\xef\xbb\xbfsrcip\n": (("\xef\xbb\xbfsrcip",), 10),
         }
         for data, (names, end) in expected.items():
             header = records.read_header(folder.write("data", data))
             self.assertEqual((header.names, header.end), (names, end), data)
             self.assertEqual(len(states(header.text + b"1,2\n")), 2, data)
+            if names[0].startswith("\xef\xbb\xbf"):  # a run takes one mark off
+                self.assertTrue(header.text.startswith(2 * records.BYTE_ORDER_MARK))
         for data in (b"", b"\n\r\n\n", b"\xef\xbb\xbf"):
             with self.assertRaises(TraceRefused) as refused:
                 records.read_header(folder.write("data", data))

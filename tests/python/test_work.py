@@ -2,9 +2,12 @@
 
 import io
 import os
+import pty
 import subprocess
 import sys
 import unittest
+from collections.abc import Callable
+from contextlib import suppress
 from pathlib import Path
 
 from support import TOP, Folder, generated
@@ -82,6 +85,55 @@ class ASecondCall(unittest.TestCase):
         self.assertEqual(kinds, {"header", "part", "query", "split", "tables", "work"})
         self.assertFalse([name for name in os.listdir(self.work) if len(name.rsplit(".", 1)[-1]) == 32])
 
+    def test_believes_no_file_that_was_cut(self):
+        """Nor one that has the same size and other bytes, or whose record was cut."""
+        program = Logged(self.folder)
+        self.run_parts(program)
+        program.runs()
+        names = sorted(name for name in os.listdir(self.work) if name.startswith(("part-", "split-")))
+        self.assertGreater(len(names), 8)
+        for name in names:
+            path = Path(self.work, name)
+            whole = path.read_bytes()
+            half = whole[: whole.rfind(b"\n", 0, len(whole) // 2) + 1]
+            for content in (half, whole[:-2] + b"7\n"):
+                if name.startswith("split-"):
+                    for part in Path(self.work).glob("part-*"):
+                        part.unlink()  # so that what was split is read again
+                path.write_bytes(content)
+                with self.subTest(name=name, size=len(content)):
+                    self.assertEqual(self.run_parts(program), self.expected)
+                    self.assertTrue(path.read_bytes() == whole or name.endswith(".json"))
+
+    def test_ends_where_a_file_of_it_is_cut_meanwhile(self):
+        """What the runs read may be gone or shorter than it was when it was split."""
+        def cut_one(line: str) -> None:
+            if line.startswith("split ") and line.split()[1] == line.split()[3]:
+                path = Path(self.work, "split-whole-1")
+                path.write_bytes(path.read_bytes()[:1000])
+
+        with self.assertRaises(parts.TraceChanged):
+            self.run_parts(Logged(self.folder), report=cut_one)
+
+    def test_is_one_at_a_time(self):
+        def another(line: str) -> None:
+            if line.startswith("ran"):
+                with self.assertRaisesRegex(parts.WorkTaken, "another call works"):
+                    self.run_parts(program)
+                tried.append(line)
+
+        program, tried = Logged(self.folder), []
+        self.assertEqual(self.run_parts(program, report=another), self.expected)
+        self.assertEqual(len(tried), 4)
+
+    def test_puts_away_what_was_left_half_made(self):
+        program = Logged(self.folder)
+        self.run_parts(program)
+        for name in ("part-2", "part-0.json", "split-whole-1", "query", "tables", "work.json", "trace-0"):
+            Path(self.work, f"{name}.0123456789abcdef0123456789abcdef").write_text("half")
+        self.run_parts(program)
+        self.assertFalse([name for name in os.listdir(self.work) if len(name.rsplit(".", 1)[-1]) == 32])
+
     def test_with_another_work_is_refused(self):
         program = Logged(self.folder)
         self.run_parts(program)
@@ -97,6 +149,39 @@ class ASecondCall(unittest.TestCase):
         with self.assertRaises(parts.WorkTaken):
             self.run_parts(program, work=foreign)
         self.assertEqual(os.listdir(foreign), ["note"])
+
+
+class ATraceThatChanges(unittest.TestCase):
+    """While it is read: then there is no answer, whatever the runs gave."""
+
+    def setUp(self):
+        self.folder = Folder(self)
+        self.content = generated(*TRACE)
+        self.trace = Path(self.folder.write("trace.csv", self.content))
+
+    def check(self, stage: str, change: Callable[[], None]) -> None:
+        self.trace.write_bytes(self.content)
+        changes = iter([change])
+
+        def report(line: str) -> None:
+            if line.startswith(stage):
+                next(changes, lambda: None)()
+
+        with self.assertRaises(parts.TraceChanged) as refused:
+            parts.run(QUERY, [self.trace], parts=3, piece=8_000, report=report)
+        self.assertIsNone(next(changes, None))
+        self.assertEqual(refused.exception.status, 3)
+        self.assertIn(str(self.trace), str(refused.exception))
+
+    def test_is_refused(self):
+        half = self.content[: self.content.index(b"\n", len(self.content) // 2) + 1]
+        for stage in ("looked", "split", "joining"):
+            for content in (half, self.content + b"x\n", self.content[:-2] + b"7\n"):
+                with self.subTest(stage=stage, size=len(content)):
+                    self.check(stage, lambda content=content: self.trace.write_bytes(content))
+
+    def test_is_refused_though_it_has_a_fault_now(self):
+        self.check("looked", lambda: self.trace.write_bytes(self.content.replace(b"\n", b"\nx,", 1)))
 
 
 class TheCommand(unittest.TestCase):
@@ -151,6 +236,23 @@ class TheCommand(unittest.TestCase):
 
 
 class Lines(unittest.TestCase):
+    def test_of_tables_begin_after_those_of_progress(self):
+        """At a terminal, where both are shown."""
+        folder = Folder(self)
+        trace = folder.write("trace.csv", generated(*TRACE))
+        ours, theirs = pty.openpty()
+        command = [sys.executable, "-m", "marple.parts", str(QUERY), trace]
+        call = subprocess.Popen(command, stdin=subprocess.DEVNULL, stdout=theirs, stderr=theirs)
+        os.close(theirs)
+        shown = b""
+        with suppress(OSError):  # at the end
+            while block := os.read(ours, 65536):
+                shown += block
+        os.close(ours)
+        self.assertEqual(call.wait(), 0)
+        self.assertIn(b"joining", shown)
+        self.assertRegex(shown, rb"parts *\r\ntable r ")
+
     def test_of_progress_are_one_at_a_terminal(self):
         class Terminal(io.StringIO):
             def isatty(self):

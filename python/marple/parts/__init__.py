@@ -1,7 +1,7 @@
 """Traces of any size: split by key into parts, each run by itself, and the tables put together.
 
     from marple import parts
-    answer = parts.run("flows.query", ["monday.csv", "tuesday.csv"], client=distributed.Client("tcp://scheduler:8786"))
+    answer = parts.run("flows.query", ["monday.csv", "tuesday.csv.gz"], workers=4)
     answer["r"].frame()
 
 docs/SCALING.md says why the tables are those of one run over all traces, and which aren't.
@@ -14,9 +14,12 @@ from contextlib import contextmanager
 
 from marple.commands import Query, keys_of_finals, query_text
 from marple.parts.choice import Choice, choose
-from marple.parts.engine import engine_of
+from marple.parts.engine import Engine, engine_of
 from marple.parts.job import Job
+from marple.parts.options import check_option
 from marple.parts.refusals import (
+    ClusterLost,
+    CompressionRefused,
     FieldNeeded,
     FieldRefused,
     FinalGroupby,
@@ -27,15 +30,18 @@ from marple.parts.refusals import (
     PartsRefused,
     QueryUnread,
     RecordTooLong,
+    TraceChanged,
+    WorkerDied,
     WorkTaken,
 )
 from marple.program import find_program
 from marple.tables import Answer, read_tables
 
 __all__ = [
-    "Choice", "FieldNeeded", "FieldRefused", "FinalGroupby", "FinalOfTop", "HeadersDiffer", "KeyTooLarge",
-    "OptionRefused", "PartsAnswer", "PartsRefused", "QueryUnread", "RecordTooLong", "WorkTaken", "choose", "run", "tables_file",
-]
+    "Choice", "ClusterLost", "CompressionRefused", "FieldNeeded", "FieldRefused", "FinalGroupby", "FinalOfTop",
+    "HeadersDiffer", "KeyTooLarge", "OptionRefused", "PartsAnswer", "PartsRefused", "QueryUnread", "RecordTooLong",
+    "TraceChanged", "WorkTaken", "WorkerDied", "choose", "run", "tables_file",
+]  # fmt: skip
 
 PIECE = 64 << 20
 
@@ -50,26 +56,27 @@ class PartsAnswer(Answer):
 
 
 def run(
-    query: Query, traces: Sequence[str | os.PathLike], *, by: Sequence[str] | None = None, parts: int | None = None,
-    client=None, work: str | os.PathLike | None = None, buckets: int | None = None, ways: int | None = None,
-    pipe: int | None = None, lag: int | None = None, program: str | os.PathLike | None = None, piece: int = PIECE,
-    report: Callable[[str], None] = lambda line: None,
+    query: Query, traces: str | os.PathLike | Sequence[str | os.PathLike], *, by: str | Sequence[str] | None = None, parts: int | None = None,
+    workers: int | None = None, client=None, work: str | os.PathLike | None = None, buckets: int | None = None,
+    ways: int | None = None, pipe: int | None = None, lag: int | None = None, program: str | os.PathLike | None = None,
+    piece: int = PIECE, report: Callable[[str], None] = lambda line: None,
 ) -> PartsAnswer:  # fmt: skip
     """The tables of the query over the packets of all traces, in their order, by runs over parts of them.
 
-    query: a path, or a text, which has a `;`. traces: paths of files with one header. by: fields to split by; by
-    default all that the query allows. parts: how many at least. client: a distributed.Client, whose workers see the
-    traces and the folder at the same paths; without one the tasks run in turn here. work: a folder for what
-    is made on the way, where a second call with the same arguments goes on; by default one that is deleted at the end.
+    query: a path, or a text, which has a `;`. traces: a path, or those of files with one header; what is compressed by gzip
+    is unpacked first. by: fields to split by, or one field; by default all that the query allows. parts: how many at
+    least. workers: how many processes of this machine do the tasks; client: a distributed.Client, whose workers see the
+    traces and the folder at the same paths; without either the tasks run in turn here. work: a folder for what is made
+    on the way, where a second call with the same arguments goes on; by default one that is deleted at the end.
     The options are those of the program for each part. piece: how many bytes a task splits at most. report: takes lines of
     progress. Raises what `marple.run` raises, where a TraceRefused has the file in `path`, and PartsRefused.
     """
     given = {"buckets": buckets, "ways": ways, "pipe": pipe, "lag": lag}
     text = query_text(query)
-    with folder_of(work) as folder:
+    with folder_of(work) as folder, engine_of(workers, client) as engine:
         joined, choice, runs = tables_file(
-            text, traces, by=by, parts=parts, client=client, work=folder, given=given, program=program, piece=piece,
-            report=report,
+            text, traces, by=by, parts=parts, engine=engine, work=folder, sums=work is not None, given=given,
+            program=program, piece=piece, report=report,
         )  # fmt: skip
         with open(joined, "rb") as file:
             answer = PartsAnswer(list(read_tables(file.read(), keys_of_finals(text)).values()))
@@ -77,13 +84,19 @@ def run(
     return answer
 
 
-def tables_file(query: bytes, traces, *, by, parts, client, work, given, program, piece, report):
-    """The file of the tables in the folder `work`, the choice of fields, and what the runs gave. Otherwise as `run`."""
+def tables_file(query: bytes, traces, *, by, parts, engine: Engine, work, sums: bool, given, program, piece, report):
+    """The file of the tables in the folder `work`, the choice of fields, and what the runs gave. sums: whether a later call
+    may go on in the folder. Otherwise as `run`.
+    """
+    check_option("parts", parts)
+    check_option("piece", piece)
     program = find_program(program)
-    choice = choose(query, tuple(by) if by is not None else None, program)
+    choice = choose(query, by, program)
     report(f"by {','.join(choice.by)}: {choice.reason}" if choice.by else f"by pieces as they come: {choice.reason}")
-    paths = [os.path.abspath(os.fspath(path)) for path in traces]
-    job = Job(query, paths, choice, parts, given, program, engine_of(client), os.path.abspath(work), piece, report)
+    paths = [os.path.abspath(path) for path in ([traces] if isinstance(traces, str | os.PathLike) else traces)]
+    if not paths:
+        raise OptionRefused("there is no trace")
+    job = Job(query, paths, choice, parts, given, program, engine, os.path.abspath(work), sums, piece, report)
     joined, runs = job.run()
     return joined, choice, runs
 

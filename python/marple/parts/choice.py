@@ -1,6 +1,7 @@
 """Which fields a trace may be split by, so that the parts' tables are those of the whole; or why there are none."""
 
 import os
+from collections.abc import Sequence
 from dataclasses import dataclass
 
 from marple.commands import compile, plan
@@ -33,11 +34,13 @@ class Choice:
     reason: str
 
 
-def choose(query: bytes, by: tuple[str, ...] | None, program: str | os.PathLike | None = None) -> Choice:
-    """Chooses how the query may run in parts, by all fields that allow it or by those that are asked for.
+def choose(query: bytes, by: str | Sequence[str] | None, program: str | os.PathLike | None = None) -> Choice:
+    """Chooses how the query may run in parts, by all fields that allow it or by those that are asked for: a str is one.
 
     Raises QueryRefused, and PartsRefused where the query can't run in parts.
     """
+    if by is not None:
+        by = (by,) if isinstance(by, str) else tuple(by)
     plan(query, program=program)
     try:
         items = read_query(query)

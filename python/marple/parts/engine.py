@@ -1,10 +1,13 @@
-"""Where tasks run: in this process, or on a Dask cluster."""
+"""Where tasks run: in this process, in others of this machine, or on a Dask cluster."""
 
 import logging
-from collections.abc import Callable, Iterable
+from collections.abc import Callable, Iterable, Iterator
+from contextlib import contextmanager
 from typing import Protocol
 
-Counted = Callable[[int, int], None]  # how many tasks are done, and how many there are
+from marple.parts.options import check_option
+from marple.parts.processes import Counted, Workers
+from marple.parts.refusals import ClusterLost, OptionRefused, WorkerDied
 
 
 class Engine(Protocol):
@@ -37,49 +40,60 @@ class OnCluster:
         self.places = max(1, sum(client.nthreads().values()))
 
     def each(self, task: Callable, calls: Iterable[tuple], counted: Counted) -> list:
-        from distributed import as_completed
+        try:
+            return self._each(task, list(calls), counted)
+        except Exception as fault:
+            if self.client.status != "running":
+                raise ClusterLost("the scheduler has ended, or was left") from fault
+            raise
+
+    def _each(self, task: Callable, calls: list[tuple], counted: Counted) -> list:
+        from distributed import KilledWorker, as_completed
 
         # Not pure: what a task gives also depends on files, which an earlier run of the same call may have left
         # otherwise.
         futures = [self.client.submit(task, *call, pure=False) for call in calls]
         try:
-            for done, future in enumerate(as_completed(futures), 1):
+            for done, future in enumerate(as_completed(futures), 1) if futures else ():
                 future.result()
                 counted(done, len(futures))
             return [future.result() for future in futures]
+        except KilledWorker as fault:
+            raise WorkerDied(f"a task ended each worker that it was given to: {fault}") from fault
         finally:
-            self.client.cancel(futures)
+            if self.client.status == "running":
+                self.client.cancel(futures)
 
 
-def local_client(workers: int):
-    """A client of a cluster on this machine, of this many processes."""
-    distributed = _distributed()
-    # What fails is reported by the tasks themselves; memory_limit 0 is none, since the runs of the program aren't in
-    # its count.
-    cluster = distributed.LocalCluster(
-        n_workers=workers, threads_per_worker=1, processes=True, dashboard_address=":0", memory_limit=0,
-        silence_logs=logging.CRITICAL,
-    )  # fmt: skip
-    return distributed.Client(cluster)
-
-
-def client_of(address: str):
-    """A client of the scheduler that runs at this address."""
-    return _distributed().Client(address)
-
-
-def _distributed():
+@contextmanager
+def cluster_at(address: str) -> Iterator:
+    """A client of the scheduler that runs at this address, of which nothing is logged."""
+    logging.disable()
     try:
         import distributed
     except ImportError as missing:
         raise ImportError(
             "clusters need Dask: install python3-dask and python3-distributed (Debian), or pip install distributed"
         ) from missing
-    return distributed
+    try:
+        client = distributed.Client(address)
+    except (OSError, ValueError) as fault:
+        raise ClusterLost(f"no scheduler answers at {address}") from fault
+    with client:
+        yield client
 
 
-def engine_of(client: object | None) -> Engine:
-    """The engine of a Dask client, or this process where there is none."""
-    return Here() if client is None else OnCluster(client)
-
-
+@contextmanager
+def engine_of(workers: int | None, client: object | None) -> Iterator[Engine]:
+    """The engine of this many processes, or of a Dask client; this process where there is neither."""
+    check_option("workers", workers)
+    if workers is not None and client is not None:
+        raise OptionRefused("tasks run either by workers of this machine or by a client's")
+    if workers is None:
+        yield Here() if client is None else OnCluster(client)
+        return
+    engine = Workers(workers)
+    try:
+        yield engine
+    finally:
+        engine.close()

@@ -7,8 +7,8 @@ from itertools import chain
 from typing import IO
 
 from marple.parts.choice import Join
-from marple.parts.splitting import written
 from marple.parts.tasks import Ran
+from marple.parts.work import written
 
 BLOCK = 1 << 20
 MODULUS = 2**64

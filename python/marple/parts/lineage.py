@@ -3,7 +3,7 @@
 from __future__ import annotations
 
 from collections.abc import Callable, Sequence
-from dataclasses import dataclass, replace
+from dataclasses import dataclass
 
 from marple.parts.records import Span
 from marple.parts.splitting import Piece, Splitting
@@ -12,26 +12,26 @@ from marple.parts.tasks import find_record
 
 @dataclass
 class Source:
-    """What one task splits: spans of a trace, of which `before` records of its file come earlier; or the records of a
+    """What one task splits: spans of the trace with a number, of which `before` records come earlier; or the records of a
     part in one piece of an earlier split.
     """
 
     spans: Sequence[Span]
-    path: str = ""
+    trace: int = 0
     before: int = 0
     earlier: tuple[Split, int, int] | None = None  # the split, the number of the piece, and that of the part
 
-    def place(self, number: int) -> tuple[str, int]:
-        """The file, and the record there, of the record with this number, from 1."""
+    def place(self, number: int) -> tuple[int, int]:
+        """The trace, and the record there, of the record with this number, from 1."""
         if self.earlier is None:
-            return self.path, self.before + number
+            return self.trace, self.before + number
         whole, piece, part = self.earlier
         return whole.place_in(piece, part, number)
 
 
 @dataclass
 class Part:
-    """The records of one run. number: the part's in its split; place: the file and record of the one with a number,
+    """The records of one run. number: the part's in its split; place: the trace and record of the one with a number,
     from 1.
     """
 
@@ -39,20 +39,16 @@ class Part:
     number: int
     spans: list[Span]
     packets: int
-    place: Callable[[int], tuple[str, int]]
+    place: Callable[[int], tuple[int, int]]
 
     @property
     def bytes(self) -> int:
         return sum(span.end - span.start for span in self.spans)
 
-    def beginning(self) -> Part:
-        """The part's first records alone, no more than are held at a time as they are split."""
-        return replace(self, spans=self.spans[:1])
-
     @staticmethod
-    def of_span(number: int, span: Span, packets: int, before: int) -> Part:
-        """A piece of a trace as it comes; `before` records of its file come earlier."""
-        return Part(str(number), number, [span], packets, lambda record: (span.path, before + record))
+    def of_span(number: int, span: Span, packets: int, trace: int, before: int) -> Part:
+        """A piece of the trace with a number, as it comes; `before` of its records come earlier."""
+        return Part(str(number), number, [span], packets, lambda record: (trace, before + record))
 
 
 @dataclass
@@ -64,12 +60,20 @@ class Split:
     sources: list[Source]
     pieces: list[Piece]
 
+    def end_at_fault(self) -> bool:
+        """Drops the pieces after one that is broken, since the first fault of the traces isn't there. Whether one is."""
+        for at, piece in enumerate(self.pieces):
+            if piece.broken:
+                del self.sources[at + 1 :], self.pieces[at + 1 :]
+                return True
+        return False
+
     def number_sources(self) -> None:
-        """Counts for each source the records of its file that come earlier."""
-        before: dict[str, int] = {}
+        """Counts for each source the records of its trace that come earlier."""
+        before: dict[int, int] = {}
         for source, piece in zip(self.sources, self.pieces, strict=True):
-            source.before = before.get(source.path, 0)
-            before[source.path] = source.before + piece.total
+            source.before = before.get(source.trace, 0)
+            before[source.trace] = source.before + piece.total
 
     def parts(self) -> list[Part]:
         """All parts."""
@@ -85,14 +89,14 @@ class Split:
         """The records of a part, as sources to be split again."""
         return [Source(piece.spans(part), earlier=(self, at, part)) for at, piece in enumerate(self.pieces)]
 
-    def _place(self, part: int, record: int) -> tuple[str, int]:
+    def _place(self, part: int, record: int) -> tuple[int, int]:
         for at, piece in enumerate(self.pieces):
             if record <= (own := piece.records(part)):
                 return self.place_in(at, part, record)
             record -= own
         raise ValueError("the part has fewer records")
 
-    def place_in(self, piece: int, part: int, record: int) -> tuple[str, int]:
-        """The file and record of the one with this number among those of the part in the piece."""
+    def place_in(self, piece: int, part: int, record: int) -> tuple[int, int]:
+        """The trace and record of the one with this number among those of the part in the piece."""
         source = self.sources[piece]
         return source.place(find_record(self.splitting, source.spans, part, record))

@@ -3,12 +3,14 @@
 import csv
 import os
 import re
+import threading
 from collections.abc import Iterable, Iterator, Sequence
 from dataclasses import dataclass
 from itertools import chain, repeat
 from operator import itemgetter
 
 from marple.faults import TraceRefused
+from marple.parts.reading import blocks_of
 from marple.parts.refusals import RecordTooLong
 
 BYTES = 268_435_456  # the most bytes of one run
@@ -45,6 +47,30 @@ class Header:
     size: int
 
 
+class AnySize:
+    """Where it is entered fields may have any size. The limit is one of the whole process: as the last thread leaves, what
+    the caller has set comes back.
+    """
+
+    def __init__(self):
+        self.lock, self.inside, self.before = threading.Lock(), 0, 0
+
+    def __enter__(self) -> None:
+        with self.lock:
+            if self.inside == 0:
+                self.before = csv.field_size_limit(2**31 - 1)
+            self.inside += 1
+
+    def __exit__(self, *raised: object) -> None:
+        with self.lock:
+            self.inside -= 1
+            if self.inside == 0:
+                csv.field_size_limit(self.before)
+
+
+ANY_SIZE = AnySize()
+
+
 def number_of(text: bytes, field: str) -> int | None:
     """The number that a field's text is, or None."""
     text = text.strip(b" \t")
@@ -66,18 +92,14 @@ def read_header(path: str) -> Header:
     for text, fields in _records(_lines(Span(path, at, size, True)), path):
         at += len(text)
         if fields:
-            return Header(closed(text), tuple(name.strip(NAMING) for name in fields), at, size)
+            mark = BYTE_ORDER_MARK if text.startswith(BYTE_ORDER_MARK) else b""  # another one, which a run takes off
+            return Header(mark + closed(text), tuple(name.strip(NAMING) for name in fields), at, size)
     raise TraceRefused("NoHeader", path=path)
 
 
 def _blocks(span: Span) -> Iterator[bytes]:
     """The bytes of a span, a block after the other."""
-    with open(span.path, "rb") as file:
-        file.seek(span.start)
-        left = span.end - span.start
-        while left > 0 and (block := file.read(min(BLOCK, left))):
-            left -= len(block)
-            yield block
+    return blocks_of(span.path, span.start, span.end, BLOCK)
 
 
 def plain_blocks(span: Span) -> Iterator[bytes]:
@@ -130,14 +152,20 @@ def quoted_blocks(span: Span, columns: Sequence[int]) -> Iterator[tuple[list[byt
                 records[-1] = _ended(records[-1])
                 yield records, fields
     if held:
-        yield [closed(b"".join(held))], _fields(csv.reader(_texts(held)), columns)
+        with ANY_SIZE:
+            fields = _fields(csv.reader(_texts(held)), columns)
+        yield [closed(b"".join(held))], fields
 
 
 def _whole_records(lines: list[bytes], columns: Sequence[int]) -> tuple[list[bytes], list[Fields], list[bytes]]:
     """The records that these lines have as a whole, with their fields in these columns, and the lines of one that goes
     on.
     """
-    csv.field_size_limit(2**31 - 1)
+    with ANY_SIZE:
+        return _picked_records(lines, columns)
+
+
+def _picked_records(lines: list[bytes], columns: Sequence[int]) -> tuple[list[bytes], list[Fields], list[bytes]]:
     last = "," * (max(columns) + 1) + "\n"  # after the lines: a record, or what the one that goes on has next
     try:
         picked = list(map(itemgetter(*columns), csv.reader(chain(_texts(lines), [last]))))
@@ -188,7 +216,6 @@ def _lines(span: Span) -> Iterator[bytes]:
 
 def _records(lines: Iterable[bytes], path: str = "") -> Iterator[tuple[bytes, list[str]]]:
     """The text and the fields of each record; an empty line has no fields."""
-    csv.field_size_limit(2**31 - 1)
     taken: list[bytes] = []
 
     def given() -> Iterator[str]:
@@ -199,7 +226,12 @@ def _records(lines: Iterable[bytes], path: str = "") -> Iterator[tuple[bytes, li
             taken.append(line)
             yield line.decode("latin-1")
 
-    for fields in csv.reader(given()):
+    rows = csv.reader(given())
+    while True:
+        with ANY_SIZE:
+            fields = next(rows, None)
+        if fields is None:
+            return
         yield b"".join(taken), fields
         taken.clear()
 

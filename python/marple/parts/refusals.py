@@ -29,7 +29,7 @@ class FieldRefused(PartsRefused):
 
 
 class OptionRefused(PartsRefused):
-    """An option that has no meaning over parts."""
+    """An option that has no meaning over parts, or is out of its bounds."""
 
     status = 2
 
@@ -57,6 +57,30 @@ class RecordTooLong(PartsRefused):
 
 
 class WorkTaken(PartsRefused):
-    """The folder for the work has another one."""
+    """The folder for the work has another one, or another call works there."""
 
     status = 2
+
+
+class TraceChanged(PartsRefused):
+    """A trace isn't what it was when the run began."""
+
+    status = 3
+
+
+class CompressionRefused(PartsRefused):
+    """A trace is compressed by a program other than gzip."""
+
+    status = 3
+
+
+class WorkerDied(PartsRefused):
+    """A process that did a task has ended before it was done."""
+
+    status = 1
+
+
+class ClusterLost(PartsRefused):
+    """The scheduler of a cluster can't be reached."""
+
+    status = 1

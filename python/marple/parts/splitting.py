@@ -1,17 +1,14 @@
 """Which part a record goes to, and the writing of a piece of a trace record by record into parts."""
 
-import json
-import os
-import uuid
 from collections.abc import Callable, Iterable, Iterator, Sequence
-from contextlib import contextmanager
 from dataclasses import dataclass, field
 from functools import cached_property
 from itertools import accumulate
 from operator import itemgetter
-from typing import IO, Any, NamedTuple
+from typing import Any, NamedTuple
 
 from marple.parts.records import Fields, Span, number_of, plain_blocks, plain_records, quoted_blocks
+from marple.parts.work import written
 
 try:
     import numpy
@@ -30,7 +27,7 @@ class Splitting:
     """A function from records to parts: by the numbers of these fields, which stand in these columns.
 
     level: how often the records were split before, since each level has another function. A record in which a
-    field is missing or is no number goes to part 0, where the program finds the fault.
+    field is missing or is no number has no part; in place of one, the number of parts stands for it.
     """
 
     fields: tuple[str, ...]
@@ -40,11 +37,11 @@ class Splitting:
     known: dict[tuple[bytes, ...], int] = field(default_factory=dict, repr=False)  # the parts of texts that were met
 
     def part_of(self, words: Sequence[int | None]) -> int:
-        """The part of these numbers."""
+        """The part of these numbers; the number of parts where one is missing."""
         mixed = self.level * STEP & WORD
         for word in words:
             if word is None:
-                return 0
+                return self.parts
             mixed ^= word
             mixed = (mixed ^ mixed >> 30) * FACTORS[0] & WORD
             mixed = (mixed ^ mixed >> 27) * FACTORS[1] & WORD
@@ -177,8 +174,20 @@ def _numbers(text, begin, end):
     return words, odd
 
 
-def with_parts(splitting: Splitting, span: Span) -> Iterator[tuple[list[bytes], Sequence[int]]]:
-    """The records of a span with their parts, a block after the other."""
+def with_parts(splitting: Splitting, spans: Sequence[Span]) -> Iterator[tuple[list[bytes], Sequence[int]]]:
+    """The records of spans with their parts, a block after the other. A record that has no part is the last one: the trace
+    has its first fault there or earlier.
+    """
+    for span in spans:
+        for records, parts in _all_with_parts(splitting, span):
+            last = _place_of(splitting.parts, parts)
+            if last is not None:
+                yield records[: last + 1], parts[: last + 1]
+                return
+            yield records, parts
+
+
+def _all_with_parts(splitting: Splitting, span: Span) -> Iterator[tuple[list[bytes], Sequence[int]]]:
     if not span.quoted:
         for block in plain_blocks(span):
             records = plain_records(block)
@@ -186,6 +195,14 @@ def with_parts(splitting: Splitting, span: Span) -> Iterator[tuple[list[bytes], 
         return
     for records, fields in quoted_blocks(span, splitting.columns):
         yield records, splitting.parts_of_fields(fields)
+
+
+def _place_of(part: int, parts: Sequence[int]) -> int | None:
+    """Where the first record of a part stands, or None."""
+    if isinstance(parts, list):
+        return parts.index(part) if part in parts else None
+    found = numpy.flatnonzero(parts == part)
+    return int(found[0]) if len(found) else None
 
 
 @dataclass(frozen=True)
@@ -206,11 +223,14 @@ class Round:
 
 @dataclass(frozen=True)
 class Piece:
-    """A piece of a trace, split: its file, which has rounds, and whether there may be quotes in it."""
+    """A piece of a trace, split: its file, which has rounds, and whether there may be quotes in it. broken: whether the
+    last of its records, in part 0, is one that has no part, so that what comes after it was left out.
+    """
 
     path: str
     quoted: bool
     rounds: tuple[Round, ...]
+    broken: bool = False
 
     def spans(self, part: int) -> list[Span]:
         """Where the records of a part stand, in order."""
@@ -230,20 +250,22 @@ class Piece:
 def write_piece(splitting: Splitting, spans: Sequence[Span], path: str) -> Piece:
     """Writes the records of these spans into one file, in rounds, each part after part in the order of the records."""
     rounds: list[Round] = []
-    held = [[[], 0] for _ in range(splitting.parts)]
+    *held, apart = [[[], 0] for _ in range(splitting.parts + 1)]
     size = start = 0
     with written(path) as file:
-        for span in spans:
-            for records, parts in with_parts(splitting, span):
-                for chunk, count, part in _chunks(splitting.parts, records, parts):
-                    held[part][0].append(chunk)
-                    held[part][1] += count
-                    size += len(chunk)
-                if size >= ROUND:
-                    rounds.append(_write_round(file, start, held))
-                    start, size = start + size, 0
+        for records, parts in with_parts(splitting, spans):
+            for chunk, count, part in _chunks(splitting.parts + 1, records, parts):
+                own = apart if part == splitting.parts else held[part]
+                own[0].append(chunk)
+                own[1] += count
+                size += len(chunk)
+            if size >= ROUND:
+                rounds.append(_write_round(file, start, held))
+                start, size = start + sum(rounds[-1].bytes), 0
+        held[0][0] += apart[0]
+        held[0][1] += apart[1]
         rounds.append(_write_round(file, start, held))
-    return Piece(path, any(span.quoted for span in spans), tuple(rounds))
+    return Piece(path, any(span.quoted for span in spans), tuple(rounds), apart[1] > 0)
 
 
 def _chunks(count: int, records: list[bytes], parts: Sequence[int]) -> Iterator[tuple[bytes, int, int]]:
@@ -276,29 +298,3 @@ def _write_round(file, start: int, held: list) -> Round:
     for one in held:
         one[0], one[1] = [], 0
     return Round(start, tuple(sizes), counts)
-
-
-@contextmanager
-def written(path: str, mode: str = "wb") -> Iterator[IO]:
-    """A file that is written under another name, and has its own name when it is complete."""
-    own = f"{path}.{uuid.uuid4().hex}"
-    try:
-        with open(own, mode) as file:
-            yield file
-        os.replace(own, path)
-    except BaseException:
-        os.unlink(own)
-        raise
-
-
-def keep(path: str, make: Callable[[], dict], is_done: Callable[[dict], bool] = lambda made: True) -> dict:
-    """What the JSON file has; where there is none yet, what is made now, and kept there if it is done."""
-    try:
-        with open(path) as file:
-            return json.load(file)
-    except FileNotFoundError:
-        made = make()
-    if is_done(made):
-        with written(path, "w") as file:
-            json.dump(made, file)
-    return made

@@ -3,14 +3,18 @@
 import os
 import re
 import subprocess
+import tempfile
 from collections.abc import Iterator, Sequence
 from dataclasses import asdict, dataclass
 
 from marple.parts.records import BLOCK, Span, record_sizes
+from marple.parts.reading import blocks_of
 from marple.parts.refusals import RecordTooLong
-from marple.parts.splitting import Piece, Round, Splitting, keep, with_parts, write_piece, written
+from marple.parts.splitting import Piece, Round, Splitting, with_parts, write_piece
+from marple.parts.work import keep, written
 
 END = re.compile(rb"[\r\n]")
+FED = 1 << 20  # how many bytes are written into the program's pipe at a time
 
 
 @dataclass(frozen=True)
@@ -25,41 +29,51 @@ class Looked:
 
 
 def look(path: str, start: int, end: int) -> Looked:
-    """Looks through the bytes of a file from start to end. A record begins after a line end; where quotes come earlier
-    in the file, perhaps not.
+    """Looks through the bytes of a file from start, which is above 0, to end. A record begins after a line end, which may
+    be the byte before start; where quotes come earlier in the file, perhaps not.
     """
     begins = quote = None
     ends = 0
-    with open(path, "rb") as file:
-        file.seek(start - 1)
-        at, left = start - 1, end - start
-        while left > 0 and (block := file.read(min(BLOCK, left))):
-            ends += block.count(b"\n") or block.count(b"\r")
-            if begins is None and (found := END.search(block)):
-                begins = at + found.end()
-            if quote is None and (found := block.find(b'"')) >= 0:
-                quote = at + found
-            at, left = at + len(block), left - len(block)
+    if END.match(next(blocks_of(path, start - 1, start, 1))):
+        begins = start
+    for block in blocks_of(path, start, end, BLOCK):
+        ends += block.count(b"\n") or block.count(b"\r")
+        if begins is None and (found := END.search(block)):
+            begins = start + found.end()
+        if quote is None and (found := block.find(b'"')) >= 0:
+            quote = start + found
+        start += len(block)
     return Looked(begins, ends, quote)
 
 
-def split(splitting: Splitting, spans: Sequence[Span], path: str) -> Piece:
+def split(splitting: Splitting, spans: Sequence[Span], path: str, sums: bool) -> Piece:
     """Splits the records of the spans. A second call finds what the first one did."""
-    made = keep(f"{path}.json", lambda: asdict(write_piece(splitting, spans, f"{path}.records")))
+    made = keep(path, lambda: asdict(write_piece(splitting, spans, path)), sums)
     rounds = tuple(Round(one["start"], tuple(one["bytes"]), tuple(one["records"])) for one in made["rounds"])
-    return Piece(made["path"], made["quoted"], rounds)
+    return Piece(path, made["quoted"], rounds, made["broken"])
 
 
-def cut(span: Span, most_records: int, most_bytes: int) -> list[tuple[Span, int]]:
-    """Cuts a span into spans of at most this many records and bytes, with the number of records of each."""
+def cut(span: Span, most_records: int, most_bytes: int, pieces: int = 1) -> list[tuple[Span, int]]:
+    """Cuts a span into this many spans of one size, as near as can be, or more: none has more than this many records and
+    bytes. With the number of records of each.
+    """
+    if pieces == 1 and span.end - span.start <= most_bytes:
+        count = sum(size > 0 for sizes in record_sizes(span) for size in sizes)
+        if count <= most_records:
+            return [(span, count)] if count else []
+    goals = [span.start + (span.end - span.start) * number // pieces for number in range(pieces, 0, -1)]
     spans, start, at, count = [], span.start, span.start, 0
     for sizes in record_sizes(span):
         for size in sizes:
             if size > most_bytes:
                 raise RecordTooLong(f"a record of {span.path} has {size} bytes: one run takes {most_bytes}")
-            if count == most_records or count and at + abs(size) - start > most_bytes:
+            if count == most_records or count and (at >= goals[-1] or at + abs(size) - start > most_bytes):
                 spans.append((Span(span.path, start, at, span.quoted), count))
                 start, count = at, 0
+            while len(goals) > 1 and at >= goals[-1]:
+                goals.pop()
+            if size < 0 and count == 0:
+                start = at - size  # no span begins by empty lines
             at, count = at + abs(size), count + (size > 0)
     if count:
         spans.append((Span(span.path, start, span.end, span.quoted), count))
@@ -76,13 +90,12 @@ def sole_key(splitting: Splitting, spans: Sequence[Span]) -> tuple[int | None, .
 def find_record(splitting: Splitting, spans: Sequence[Span], part: int, number: int) -> int:
     """Which record of the spans, from 1, is the one with this number, from 1, among those of the part."""
     before = 0
-    for span in spans:
-        for records, parts in with_parts(splitting, span):
-            for at, own in enumerate(parts):
-                number -= own == part
-                if number == 0:
-                    return before + at + 1
-            before += len(records)
+    for records, parts in with_parts(splitting, spans):
+        for at, own in enumerate(parts):
+            number -= own % splitting.parts == part  # what has no part stands in part 0
+            if number == 0:
+                return before + at + 1
+        before += len(records)
     raise ValueError("the part has fewer records")
 
 
@@ -104,25 +117,29 @@ class Ran:
     peak: int
 
 
-def run_part(words: Sequence[str], header: bytes, spans: Sequence[Span], packets: int, path: str) -> Ran:
+def run_part(words: Sequence[str], header: bytes, spans: Sequence[Span], packets: int, path: str, sums: bool) -> Ran:
     """Runs the program over the header and the records of the spans. A second call finds what the first one did, if
     that gave tables.
     """
     made = keep(
-        f"{path}.json", lambda: asdict(_run_part(words, header, spans, packets, path)), lambda made: made["status"] == 0
+        path, lambda: asdict(_run_part(words, header, spans, packets, path)), sums, lambda made: made["status"] == 0
     )
-    return Ran(**(made | {"tables": tuple(made["tables"])}))
+    return Ran(**(made | {"path": path, "tables": tuple(made["tables"])}))
 
 
 def _run_part(words: Sequence[str], header: bytes, spans: Sequence[Span], packets: int, path: str) -> Ran:
-    with written(path) as output, written(f"{path}.complaint", "w+b") as complaint:
+    with written(path) as output, tempfile.TemporaryFile() as complaint:
         process = subprocess.Popen(words, stdin=subprocess.PIPE, stdout=output, stderr=complaint)
-        size = _feed(process.stdin, header, spans)
-        _, status, used = os.wait4(process.pid, 0)
+        try:
+            size = _feed(process.stdin, header, spans)
+            _, status, used = os.wait4(process.pid, 0)
+        except BaseException:
+            process.kill()
+            process.wait()
+            raise
         process.returncode = os.waitstatus_to_exitcode(status)
         complaint.seek(0)
         text = complaint.read().decode(errors="replace")
-    os.unlink(f"{path}.complaint")
     seconds = round(used.ru_utime + used.ru_stime, 3)
     return Ran(path, process.returncode, text, tuple(_table_starts(path)), packets, size, seconds, used.ru_maxrss)
 
@@ -134,12 +151,8 @@ def _feed(pipe, header: bytes, spans: Sequence[Span]) -> int:
         with pipe:
             pipe.write(header)
             for span in spans:
-                with open(span.path, "rb") as file:
-                    file.seek(span.start)
-                    left = span.end - span.start
-                    while left > 0 and (block := file.read(min(1 << 20, left))):
-                        pipe.write(block)
-                        left -= len(block)
+                for block in blocks_of(span.path, span.start, span.end, FED):
+                    pipe.write(block)
     except BrokenPipeError:
         pass
     return size
