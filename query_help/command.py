@@ -29,6 +29,7 @@ UNFIT = {
     "NotMonotone": "this doesn't rise with the state",
 }
 QUERY_REFUSED, TRACE_REFUSED = 4, 5
+LONGEST = 65_536  # bytes of a query; of a longer one no more is looked at
 COMPLAINT = re.compile("marple: (out of memory|bad command line|cannot (read|write)|query: |trace: )")
 
 
@@ -63,7 +64,7 @@ class Answer:
 
 def read(name: str) -> Query:
     data = Path(name).read_bytes()
-    text = decoded(data)
+    text = decoded(data[:LONGEST])
     items, _ = read_query(text)
     return Query(name, data, text, items, scope_before(items))
 
@@ -255,7 +256,7 @@ class Session:
 
 def main(folder: Path) -> int:
     """Runs the command; folder is that of the script, beside which the program is."""
-    sys.setrecursionlimit(20_000)
+    sys.setrecursionlimit(5_000)  # the rules of folds follow the 512 nodes that an expression may have
     parser = argparse.ArgumentParser(
         prog=Path(sys.argv[0]).name,
         description="Says where and why marple refuses a query or a trace, or which of the query's groupbys are exact.",
