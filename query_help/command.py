@@ -13,6 +13,7 @@ from typing import Optional
 from query_help import folds, hints, page, traces
 from query_help.columns import Scope, scope_before
 from query_help.grammar import Binding, Fold, Item, read_query
+from query_help.habits import meant
 from query_help.places import place_of
 from query_help.situations import part_at, situation
 from query_help.tokens import decoded, tokens_of
@@ -174,7 +175,7 @@ def argument_words(query: Query, binding: Binding, scope: Scope) -> str:
 
 def grammar_words(query: Query, fault: str, start: int, remedies: dict[str, str]) -> str:
     """What is said of a fault of the tokens or of the grammar."""
-    hint = hints.address_hint(query.text, start) if fault == "BadByte" else None
+    hint = (hints.address_hint(query.text, start) if fault == "BadByte" else None) or meant(fault, query.text, start)
     if hint:
         return f"{hint}\n"
     said = ""
@@ -197,6 +198,8 @@ def fault_words(query: Query, fault: str, start: int, remedies: dict[str, str]) 
             said += argument_words(query, part.item, scope)
         else:
             name = next((token.text for token in tokens_of(query.text) if token.start == start), "")
+            habit = meant(fault, query.text, start)
+            said += f"{habit}\n" if habit else ""
             said += "".join(f"{hint}\n" for hint in hints.name_hints(name, query.items, part, query.text))
     return said + command_words(query, fault, start) + remedy_line(remedies, fault, where)
 

@@ -38,8 +38,8 @@ need_program() {
     fi
 }
 
-# Sets `marple` to the program itself and not to its launcher: $MARPLE, or the proved one of the repository, which must be
-# that of its sources.
+# Sets `marple` to the program itself and not to its launcher: $MARPLE, or the proved one of the repository, which must
+# be that of its sources.
 need_proved_program() {
     if [ -z "${MARPLE:-}" ]; then
         # shellcheck source=building/proved.sh
