@@ -10,7 +10,7 @@ from dataclasses import dataclass
 from pathlib import Path
 from typing import Optional
 
-from query_help import folds, hints, page, traces
+from query_help import folds, hints, losses, page, traces
 from query_help.columns import Scope, scope_before
 from query_help.grammar import Binding, Fold, Item, read_query
 from query_help.habits import meant
@@ -138,6 +138,15 @@ def other_words(query: Query, remedies: dict[str, str]) -> str:
     return said
 
 
+def loss_words(query: Query, remedies: dict[str, str]) -> str:
+    """The places where the infinity of a dropped packet's `tout` is reckoned with, and the remedy."""
+    said = ""
+    for token in losses.places_of_losses(query.items):
+        time = "`tout`" if token.text == "tout" else f"`{token.text}` comes from `tout`, which"
+        said += query.place(token.start, f"{time} is infinity for a dropped packet")
+    return said + remedy_line(remedies, "tout", "of dropped packets") if said else ""
+
+
 def cause_words(cause: folds.Cause) -> str:
     carried = f"`{cause.reads}`, which is carried on from packet to packet"
     if cause.op in ("if", "greatest", "least"):
@@ -236,7 +245,8 @@ class Session:
     def show_plan(self, plan: Answer) -> None:
         """What marple thinks of a query that it accepts."""
         query = read(self.asked.query)
-        sys.stdout.write(plan_words(query, plan.output) + other_words(query, self.remedies))
+        words = plan_words(query, plan.output) + other_words(query, self.remedies) + loss_words(query, self.remedies)
+        sys.stdout.write(words)
 
     def run(self) -> int:
         command = self.asked.command or ("run" if self.asked.trace else "plan")
