@@ -103,7 +103,7 @@ HABITS = (
           "`{operator}` makes a table after the last packet: write `final {name} = {operator}(..);`."),
     Habit("UnknownName", "", r"inf(?:inite)?\b", "A query writes `infinity`; `inf` stands in traces."),
     Habit("BadByte", r"//[^\n]*", "", COMMENT),
-    Habit("BadByte", r"\d", r"\.\d",
+    Habit("BadByte", r"(?<![\w.])\d+", r"\.\d+(?![\w.])",
           "Numbers are whole: take a smaller unit, or multiply, as `2 * x > y` for `x > 0.5 * y`."),
     Habit("BadByte", r"(?<!\w)(?P<number>\d+)", UNIT, unit_words),
     Habit("UnexpectedToken", r"(?<!\w)(?P<number>\d+)\s+", UNIT, unit_words),

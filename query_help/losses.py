@@ -1,4 +1,4 @@
-"""Where a query reckons with `tout` though packets that were dropped, whose `tout` is infinity, aren't left out before."""
+"""Where a query reckons with `tout` though dropped packets, whose `tout` is infinity, aren't left out before."""
 
 from dataclasses import dataclass, field, replace
 from typing import Iterator
@@ -80,7 +80,7 @@ def reads_time(expression: Expression, known: Known) -> bool:
 
 
 def places_in(node: Expression, known: Known, inside: bool = False) -> Iterator[Token]:
-    """Where `tout` is read inside of a sum, a difference, a product or an ordered comparison, or went into one before."""
+    """Where `tout` is read in a sum, a difference, a product or a comparison by order, or went into one before."""
     if not known.dropped:
         return
     if node.op == "name":
@@ -108,8 +108,18 @@ def places_in_body(body: list[Statement], known: Known) -> Iterator[Token]:
             yield from places_in_body(statement.otherwise, known.where(statement.condition, False))
 
 
+def kept_after(body: list[Statement], known: Known) -> frozenset[str]:
+    """The variables that hold `tout`, or what is made of it, of a packet that may have been dropped."""
+    kept: frozenset[str] = frozenset()
+    while True:
+        more = kept_in(body, replace(known, times=known.times | kept))
+        if more <= kept:
+            return kept
+        kept |= more
+
+
 def kept_in(body: list[Statement], known: Known) -> set[str]:
-    """The variables that are given `tout`, or what is made of it, of a packet that may have been dropped."""
+    """The variables that are given one of these names' values in the body."""
     kept: set[str] = set()
     for statement in body:
         if isinstance(statement, Assign) and reads_time(statement.value, known):
@@ -172,10 +182,9 @@ class Reckoning:
             return known.named(keys)
         inside = known.named(names_of(fold.arguments))
         self.places |= set(places_in_body(fold.body, inside))
-        kept = kept_in(fold.body, inside)
-        for name in names_of(fold.states):
-            if name in kept:
-                self.places |= set(places_in_body(fold.body, Known(times=frozenset({name}))))
+        kept = kept_after(fold.body, inside)
+        for name in kept:
+            self.places |= set(places_in_body(fold.body, Known(times=frozenset({name}))))
         of_keys = known.named(keys)
         return replace(of_keys, times=of_keys.times | kept, dropped=known.dropped)
 
