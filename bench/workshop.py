@@ -25,11 +25,14 @@ RUST = ["rustc", "-O", "-C", "target-cpu=x86-64-v2"]
 
 
 def marple_program() -> str:
-    """The program under test: $MARPLE, or that of the repository, which its launcher builds where it has to."""
+    """The program under test: $MARPLE, or the proved one of the repository, which must be that of its sources."""
     if named := os.environ.get("MARPLE"):
         return str(Path(named).resolve()) if "/" in named else named
-    subprocess.run([TOP / "marple", "gen", "1", "1"], stdout=subprocess.DEVNULL, check=True)
-    return str(TOP / "crates/marple/out/marple")
+    words = 'top=$1; . "$1/building/proved.sh"; is_proved && echo "$program"'
+    asked = subprocess.run(["sh", "-c", words, "sh", TOP], stdout=subprocess.PIPE, text=True, check=False)
+    if asked.returncode != 0:
+        raise BenchError("the program isn't proved, or its sources are newer: ./build proves it")
+    return asked.stdout.strip()
 
 
 class Workshop:

@@ -10,9 +10,10 @@ from dataclasses import dataclass
 from pathlib import Path
 from typing import Optional
 
-from query_help import folds, hints, page, traces
+from query_help import folds, hints, losses, page, traces
 from query_help.columns import Scope, scope_before
 from query_help.grammar import Binding, Fold, Item, read_query
+from query_help.habits import meant
 from query_help.places import place_of
 from query_help.situations import part_at, situation
 from query_help.tokens import decoded, tokens_of
@@ -29,6 +30,7 @@ UNFIT = {
     "NotMonotone": "this doesn't rise with the state",
 }
 QUERY_REFUSED, TRACE_REFUSED = 4, 5
+LONGEST = 65_536  # bytes of a query; of a longer one no more is looked at
 COMPLAINT = re.compile("marple: (out of memory|bad command line|cannot (read|write)|query: |trace: )")
 
 
@@ -63,7 +65,7 @@ class Answer:
 
 def read(name: str) -> Query:
     data = Path(name).read_bytes()
-    text = decoded(data)
+    text = decoded(data[:LONGEST])
     items, _ = read_query(text)
     return Query(name, data, text, items, scope_before(items))
 
@@ -136,6 +138,15 @@ def other_words(query: Query, remedies: dict[str, str]) -> str:
     return said
 
 
+def loss_words(query: Query, remedies: dict[str, str]) -> str:
+    """The places where the infinity of a dropped packet's `tout` is reckoned with, and the remedy."""
+    said = ""
+    for token in losses.places_of_losses(query.items):
+        time = "`tout`" if token.text == "tout" else f"`{token.text}` comes from `tout`, which"
+        said += query.place(token.start, f"{time} is infinity for a dropped packet")
+    return said + remedy_line(remedies, "tout", "of dropped packets") if said else ""
+
+
 def cause_words(cause: folds.Cause) -> str:
     carried = f"`{cause.reads}`, which is carried on from packet to packet"
     if cause.op in ("if", "greatest", "least"):
@@ -173,7 +184,7 @@ def argument_words(query: Query, binding: Binding, scope: Scope) -> str:
 
 def grammar_words(query: Query, fault: str, start: int, remedies: dict[str, str]) -> str:
     """What is said of a fault of the tokens or of the grammar."""
-    hint = hints.address_hint(query.text, start) if fault == "BadByte" else None
+    hint = (hints.address_hint(query.text, start) if fault == "BadByte" else None) or meant(fault, query.text, start)
     if hint:
         return f"{hint}\n"
     said = ""
@@ -196,6 +207,8 @@ def fault_words(query: Query, fault: str, start: int, remedies: dict[str, str]) 
             said += argument_words(query, part.item, scope)
         else:
             name = next((token.text for token in tokens_of(query.text) if token.start == start), "")
+            habit = meant(fault, query.text, start)
+            said += f"{habit}\n" if habit else ""
             said += "".join(f"{hint}\n" for hint in hints.name_hints(name, query.items, part, query.text))
     return said + command_words(query, fault, start) + remedy_line(remedies, fault, where)
 
@@ -232,7 +245,8 @@ class Session:
     def show_plan(self, plan: Answer) -> None:
         """What marple thinks of a query that it accepts."""
         query = read(self.asked.query)
-        sys.stdout.write(plan_words(query, plan.output) + other_words(query, self.remedies))
+        words = plan_words(query, plan.output) + other_words(query, self.remedies) + loss_words(query, self.remedies)
+        sys.stdout.write(words)
 
     def run(self) -> int:
         command = self.asked.command or ("run" if self.asked.trace else "plan")
@@ -255,7 +269,7 @@ class Session:
 
 def main(folder: Path) -> int:
     """Runs the command; folder is that of the script, beside which the program is."""
-    sys.setrecursionlimit(20_000)
+    sys.setrecursionlimit(5_000)  # the rules of folds follow the 512 nodes that an expression may have
     parser = argparse.ArgumentParser(
         prog=Path(sys.argv[0]).name,
         description="Says where and why marple refuses a query or a trace, or which of the query's groupbys are exact.",

@@ -1,7 +1,7 @@
 """The grammar of the query language: from tokens to items, with the place of each."""
 
 from dataclasses import dataclass, field
-from typing import Optional, Union
+from typing import Iterator, Optional, Union
 
 from query_help.tokens import FUNCTIONS, Token, tokens_of
 
@@ -24,16 +24,24 @@ class Expression:
 
     def start(self) -> int:
         """The first byte, parentheses aside."""
-        prefix = self.op == "!" or self.op in FUNCTIONS or not self.operands
-        return self.token.start if prefix else self.operands[0].start()
+        node = self
+        while node.operands and node.op != "!" and node.op not in FUNCTIONS:
+            node = node.operands[0]
+        return node.token.start
+
+    def nodes(self) -> Iterator["Expression"]:
+        """The node, and those below it from the left to the right."""
+        waiting = [self]
+        while waiting:
+            node = waiting.pop()
+            yield node
+            waiting += reversed(node.operands)
 
     def names(self) -> list[Token]:
-        if self.op == "name":
-            return [self.token]
-        return [name for operand in self.operands for name in operand.names()]
+        return [node.token for node in self.nodes() if node.op == "name"]
 
     def contains(self, place: int) -> bool:
-        return self.token.start == place or any(operand.contains(place) for operand in self.operands)
+        return any(node.token.start == place for node in self.nodes())
 
 
 @dataclass
@@ -268,13 +276,22 @@ class Parser:
         return Assign(target, value)
 
     def condition(self) -> If:
+        first = last = self.branch()
+        while self.accepts("else"):
+            if not self.accepts("if"):
+                last.otherwise = self.block()
+                break
+            branch = self.branch()
+            last.otherwise = [branch]
+            last = branch
+        return first
+
+    def branch(self) -> If:
+        """A condition and its block, without what follows."""
         self.need("(")
         condition = self.expression()
         self.need(")")
-        then = self.block()
-        if not self.accepts("else"):
-            return If(condition, then, [])
-        return If(condition, then, [self.condition()] if self.accepts("if") else self.block())
+        return If(condition, self.block(), [])
 
     def expression(self, level: int = 0) -> Expression:
         left = self.unary()

@@ -4,7 +4,7 @@ from dataclasses import dataclass
 from typing import Iterator, Optional, Union
 
 from query_help.columns import Scope
-from query_help.grammar import Assign, Binding, Emit, Expression, Fold, If, Item, Print, Statement
+from query_help.grammar import Assign, Binding, Emit, Expression, Fold, If, Item, Print
 
 
 @dataclass
@@ -16,14 +16,10 @@ class Part:
     node: Optional[Expression] = None
 
 
-def nodes(expression: Expression) -> Iterator[Expression]:
-    yield expression
-    for operand in expression.operands:
-        yield from nodes(operand)
-
-
-def parts_of_body(fold: Fold, body: list[Statement]) -> Iterator[tuple[int, Part]]:
-    for statement in body:
+def parts_of_body(fold: Fold) -> Iterator[tuple[int, Part]]:
+    waiting = fold.body[::-1]
+    while waiting:
+        statement = waiting.pop()
         if isinstance(statement, Assign):
             yield statement.target.start, Part("target", fold)
             yield from parts_of_expression(fold, statement.value)
@@ -31,15 +27,14 @@ def parts_of_body(fold: Fold, body: list[Statement]) -> Iterator[tuple[int, Part
             yield statement.token.start, Part("emit", fold)
         elif isinstance(statement, If):
             yield from parts_of_expression(fold, statement.condition)
-            yield from parts_of_body(fold, statement.then)
-            yield from parts_of_body(fold, statement.otherwise)
+            waiting += statement.otherwise[::-1] + statement.then[::-1]
 
 
 def parts_of_expression(item: Item, expression: Expression) -> Iterator[tuple[int, Part]]:
-    for node in nodes(expression):
+    for node in expression.nodes():
         if node.op in ("<<", ">>", "decay") and len(node.operands) > 1:
             yield node.operands[1].start(), Part("shift", item, node.operands[1])
-    for node in nodes(expression):
+    for node in expression.nodes():
         yield node.token.start, Part("expression", item, node)
 
 
@@ -68,7 +63,7 @@ def parts_of(item: Item) -> Iterator[tuple[int, Part]]:
         yield item.name.start, Part("name", item)
         for name in item.states + item.arguments:
             yield name.start, Part("variable", item)
-        yield from parts_of_body(item, item.body)
+        yield from parts_of_body(item)
 
 
 def part_at(items: list[Item], place: int) -> Optional[Part]:

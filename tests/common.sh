@@ -7,6 +7,7 @@
 #   skip       counts one check as skipped
 #   finish     prints the counts, the script's last line
 #   need_program   finds the program under test
+#   need_proved_program   finds the program under test, and not its launcher
 #
 # shellcheck shell=sh
 set -u
@@ -21,8 +22,8 @@ passed=0
 failed=0
 skipped=0
 
-# Sets `marple` to the program under test: $MARPLE, or ./marple of the repository. The latter builds the program where
-# its build is missing or older than its sources, and says on standard error how far it is.
+# Sets `marple` to the program under test: $MARPLE, or ./marple of the repository. Ends the script where it can't make a
+# trace of one packet, as where it is no program, or has no answer without a proof.
 need_program() {
     marple=${MARPLE:-$top/marple}
     case $marple in
@@ -34,7 +35,26 @@ need_program() {
         exit 1
     fi
     "$marple" gen 1 1 >/dev/null
-    [ $? -ne 1 ] || exit 1
+    status=$?
+    if [ "$status" -ne 0 ]; then
+        echo "$0: $marple gen 1 1 ended with status $status" >&2
+        exit 1
+    fi
+}
+
+# Sets `marple` to the program itself and not to its launcher: $MARPLE, or the proved one of the repository, which must
+# be that of its sources.
+need_proved_program() {
+    if [ -z "${MARPLE:-}" ]; then
+        # shellcheck source=building/proved.sh
+        . "$top/building/proved.sh"
+        if ! is_proved; then
+            echo "$0: the program isn't proved, or its sources are newer: ./build proves it" >&2
+            exit 1
+        fi
+        MARPLE=$program
+    fi
+    need_program
 }
 
 # Counts a check by the status $1 of what was checked. The words after it name the check where it failed.

@@ -30,7 +30,7 @@ class SeveralCaptures(unittest.TestCase):
         os.mkdir(folder.path("bin"))
         os.symlink(sys.executable, folder.path("bin/python3"))
         path = folder.path("bin") + os.pathsep + os.environ["PATH"]
-        environment = os.environ | {"PATH": path, "MPLBACKEND": "agg"}
+        environment = os.environ | {"PATH": path}
         ran, compared, done = 0, 0, None
         for before, block in blocks():
             if before == "gives the tables":
@@ -39,16 +39,17 @@ class SeveralCaptures(unittest.TestCase):
             elif before.endswith("says on standard error"):
                 self.assertEqual(done.stderr, block)
                 compared += 1
-            elif "PYTHONPATH=python " in block or block.startswith("examples/captures/"):
+            elif "PYTHONPATH=python " in block or block.startswith(("examples/captures/", "examples/cookbook/draw ")):
                 done = subprocess.run(
                     block, shell=True, cwd=folder.place.name, env=environment, capture_output=True, text=True, check=False
                 )
                 self.assertEqual(done.returncode, 0, done.stderr)
                 ran += 1
-        self.assertEqual((ran, compared), (3, 2))
-        with open(folder.path("depth.png"), "rb") as picture:
-            self.assertEqual(picture.read(8), b"\x89PNG\r\n\x1a\n")
-        self.assertGreater(os.path.getsize(folder.path("depth.png")), 10_000)
+        self.assertEqual((ran, compared), (4, 2))
+        for name in ("both-depth.png", "both-latency.png"):
+            with open(folder.path(name), "rb") as picture:
+                self.assertEqual(picture.read(8), b"\x89PNG\r\n\x1a\n")
+            self.assertGreater(os.path.getsize(folder.path(name)), 10_000)
         self.assertIsNotNone(shutil.which("tshark"))
 
 
