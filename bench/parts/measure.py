@@ -293,20 +293,6 @@ def splitting_runs(query: str, room: Path, packets: int, runs: int) -> tuple[lis
     return [*lines, "", verdict(goal, max(ratios) <= SLOWER)], cases
 
 
-def on_paper(record: float, rate: float, workers: int) -> list[str]:
-    """What these figures come to for a day of a link of 100 Gbit/s with packets of 1,000 bytes."""
-    second = 100e9 / 8 / 1000
-    day = second * 86400
-    text = (
-        f"On paper, for a day of a link of 100 Gbit/s with packets of 1,000 bytes: {second / 1e6:.1f} million packets "
-        f"a second, {day / 1e12:.2f} trillion a day, {day * record / 1e12:.0f} TB of records of {record:.0f} bytes. "
-        f"At {rate / workers:,.0f} packets a second for each of {workers} workers that is "
-        f"{second / rate * workers:,.0f} days of one worker, so as many workers would keep pace if they didn't slow "
-        "one another down, which wasn't measured."
-    )
-    return textwrap.wrap(text, 119, break_on_hyphens=False)
-
-
 def measured_parts(query: str, room: Path, runs: int, numbers: list[int]) -> dict[int, list[PartsRun]]:
     """The runs with each of these numbers of workers, in turn."""
     measured: dict[int, list[PartsRun]] = {number: [] for number in numbers}
@@ -324,7 +310,6 @@ def main() -> None:
     numbers = [int(word) for word in sys.argv[4:]]
     traces, load = Traces.of(room), os.getloadavg()[0]
     measured = measured_parts(query, room, runs, numbers)
-    rate = traces.packets / median(one.seconds for one in measured[numbers[-1]])
     asking = peak()
     progress("runs of the program, and splitting")
     whole, whole_cases = program_runs(query, room, traces.packets, runs)
@@ -340,8 +325,6 @@ def main() -> None:
         *whole,
         "",
         *splits,
-        "",
-        *on_paper(traces.bytes / traces.packets, rate, numbers[-1]),
     ]
     print("\n".join(lines))
     cases = [parts_case(traces, measured), *whole_cases, *split_cases]
