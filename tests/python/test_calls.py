@@ -12,7 +12,7 @@ from support import CASES, TOP, Folder, cases, content, words
 import marple
 from marple import program
 
-COUNT = "def count([c],[]) { c = c + 1; }\nr = groupby(pktstream, [srcip], count);\nprint r;\n"
+COUNT = b"def count([c],[]) { c = c + 1; }\nr = groupby(pktstream, [srcip], count);\nprint r;\n"
 CALLS = {"run": marple.run, "net": marple.net, "enclose": marple.enclose, "run-plan": marple.run_plan}
 CRATES = {"base": "proofs", "laws": "src", "reader": "specs", "marple": "src"}  # each with a folder of sources
 KNOWN = ("--buckets", "--ways", "--pipe", "--lag", "--refresh", "--every")
@@ -69,12 +69,13 @@ class Queries(unittest.TestCase):
     def test_are_texts_or_paths(self):
         expected = "table r linear 0 1\nsrcip,mark,epoch,epochs,c\n7,exact,*,1,1\n"
         path = str(TOP / "examples" / "count.query")
-        for query in (COUNT, COUNT.encode(), path, Path(path)):
+        for query in (COUNT, bytearray(COUNT), path, Path(path)):
             self.assertEqual(marple.run(query, b"srcip\n7\n").text, expected)
+        self.assertEqual(marple.run(query_text=COUNT.decode(), trace=b"srcip\n7\n").text, expected)
 
     def test_are_shown_where_they_are_refused(self):
         with self.assertRaises(marple.QueryRefused) as refused:
-            marple.run("def f([],[]) { }\n\tr = groupby(pktstream, [srcip, where], f);\nprint r;\n", b"")
+            marple.run(b"def f([],[]) { }\n\tr = groupby(pktstream, [srcip, where], f);\nprint r;\n", b"")
         fault = refused.exception
         self.assertEqual((fault.kind, fault.offset, fault.line, fault.column), ("UnknownName", 49, 2, 33))
         self.assertEqual(fault.shown, "\tr = groupby(pktstream, [srcip, where], f);\n\t" + " " * 31 + "^")
@@ -160,7 +161,7 @@ class OtherCommands(unittest.TestCase):
         plan = marple.compile(query)
         self.assertEqual(plan, (TOP / "examples" / "cookbook" / "depth.plan").read_text())
         expected = content(CASES / "run" / "cookbook-depth", "stdout").decode()
-        self.assertEqual(marple.run_plan(plan, trace).text, expected)
+        self.assertEqual(marple.run_plan(plan_text=plan, trace=trace).text, expected)
         self.assertEqual(marple.run_plan(query.with_suffix(".plan"), trace).text, expected)
 
     def test_gen(self):
