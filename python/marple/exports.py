@@ -1,6 +1,7 @@
 """Tables for other libraries, as files, and as they are shown."""
 
 import html as escaping
+import importlib
 import os
 from collections.abc import Callable, Sequence
 from typing import IO, Any, Optional, Union
@@ -16,7 +17,7 @@ MARK_NAMES = [str(mark) for mark in Mark]
 def _module(name: str, what: str, where: str) -> Any:
     """A module that need not be there. Raises ImportError with what to install."""
     try:
-        return __import__(name)
+        return importlib.import_module(name)
     except ImportError as missing:
         raise ImportError(f"{what} need {name}: {where}") from missing
 
@@ -40,8 +41,7 @@ def _is_epoch(table: Table, at: int) -> bool:
 def to_pandas(table: Table, addresses: bool = False) -> Any:
     """See Table.to_pandas."""
     pandas = _module("pandas", "DataFrames", "install python3-pandas (Debian), or pip install pandas")
-    import numpy
-
+    numpy = _module("numpy", "DataFrames", "install python3-numpy (Debian), or pip install numpy")
     words = [numpy.frombuffer(column, dtype=numpy.uint64) for column in table.arrays]
     columns: list[Any] = []
     for at, name in enumerate(table.columns):
@@ -90,9 +90,7 @@ def to_arrow(table: Table, addresses: bool = False) -> Any:
 def to_parquet(table: Table, path: Path, addresses: bool = False) -> None:
     """See Table.to_parquet."""
     made = to_arrow(table, addresses)
-    import pyarrow.parquet
-
-    pyarrow.parquet.write_table(made, os.fspath(path))
+    importlib.import_module("pyarrow.parquet").write_table(made, os.fspath(path))
 
 
 def to_csv(table: Table, file: Union[None, Path, IO[str]] = None, addresses: bool = False) -> Optional[str]:

@@ -1,7 +1,6 @@
 """DataFrames as traces: those of pandas, and those of other libraries that have the interchange protocol."""
 
 import sys
-from collections.abc import Sequence
 from typing import Any
 
 from marple.columns import EXACT, Column, cell_of, float_cell, missing_cell
@@ -46,10 +45,10 @@ def _value(series: Any, row: int) -> object:
     return value.item() if type(value).__module__ == "numpy" else value
 
 
-def _cells(name: str, series: Any, exact: int) -> Sequence[Any]:
+def _cells(name: str, series: Any, exact: int) -> list[Any]:
     kind = _kind(series)
     if kind in "iu":
-        return series.tolist()
+        return list(series.tolist())
     if kind == "f":
         missing = missing_cell(name)
         return [float_cell(value, exact) if value == value else missing for value in series.tolist()]
@@ -65,7 +64,7 @@ def _cells(name: str, series: Any, exact: int) -> Sequence[Any]:
     return [value if type(value) is str else cell_of(name, value) for value in values.tolist()]
 
 
-def _filled(values: list, series: Any, missing: str) -> list:
+def _filled(values: list[Any], series: Any, missing: str) -> list[Any]:
     """The values, with this cell where the series has none."""
     if not series.hasnans:
         return values

@@ -5,7 +5,8 @@ import os
 from typing import Any
 
 from marple.faults import QueryRefused
-from marple.pages import BUNDLED, CHECKOUT, explainer
+from marple.pages import BUNDLED, explainer
+from marple.places import CHECKOUT
 from marple.sources import written
 
 log = logging.getLogger("marple")
@@ -29,6 +30,6 @@ def _words(module: Any, path: str, refused: QueryRefused) -> str:
     """The lines of ./explain that follow the place with its caret, which the refusal shows itself."""
     folder = BUNDLED if (BUNDLED / "docs").is_dir() else CHECKOUT
     query = module.read(path)
-    said = module.fault_words(query, refused.kind, refused.offset, module.page.read_remedies(folder))
+    said = str(module.fault_words(query, refused.kind, refused.offset, module.page.read_remedies(folder)))
     shown = query.place(refused.offset, refused.kind)
     return said.removeprefix(shown).replace(f"{os.fspath(path)}:", "line ").strip()

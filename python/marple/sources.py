@@ -69,7 +69,7 @@ def _looks_like_text(query: object) -> bool:
 
 
 def _shown(path: Any) -> str:
-    text = os.fspath(path)
+    text = str(os.fspath(path))
     return text if len(text) <= 200 and text.isprintable() else repr(text[:60] + ("..." if len(text) > 60 else ""))
 
 

@@ -13,6 +13,7 @@ from marple.faults import MarpleError
 from marple.parts import PIECE, folder_of, tables_file
 from marple.parts.engine import client_of, local_client
 from marple.parts.refusals import OptionRefused
+from marple.version import __version__
 
 OPTIONS = ("buckets", "ways", "pipe", "lag")
 NUMBERED = ("refresh", "every")  # they count the packets of the whole
@@ -50,6 +51,7 @@ def is_underway(line: str) -> bool:
 
 def words() -> argparse.ArgumentParser:
     parser = argparse.ArgumentParser(prog="python -m marple.parts", description=__doc__)
+    parser.add_argument("--version", action="version", version=f"marple {__version__}")
     parser.add_argument("query", metavar="QUERY", help="the query's file")
     parser.add_argument("traces", metavar="TRACE", nargs="+", help="files of one header, in the order of their packets")
     parser.add_argument("--by", metavar="FIELD[,FIELD]", help="the fields to split by (all that the query allows)")
