@@ -42,29 +42,48 @@ def to_pandas(table: Table, addresses: bool = False) -> Any:
     """See Table.to_pandas."""
     pandas = _module("pandas", "DataFrames", "install python3-pandas (Debian), or pip install pandas")
     numpy = _module("numpy", "DataFrames", "install python3-numpy (Debian), or pip install numpy")
-    words = [numpy.frombuffer(column, dtype=numpy.uint64) for column in table.arrays]
-    columns: list[Any] = []
-    for at, name in enumerate(table.columns):
-        if at == table.form.mark:
-            columns.append(pandas.Categorical.from_codes(words[at].astype("int8"), MARK_NAMES))
-        elif _is_epoch(table, at):
-            columns.append(pandas.arrays.IntegerArray(words[at].copy(), words[at - 1] == Mark.EXACT))
-        elif addresses and name in ADDRESSES:
-            columns.append(pandas.Series(_addresses(table.arrays[at]), dtype=object))
-        else:
-            columns.append(words[at])
-    return _with_names(pandas, table, columns)
-
-
-def _with_names(pandas: Any, table: Table, columns: list[Any]) -> Any:
-    """The DataFrame of these columns, of which two may have one name, with the keys as index."""
-    frame = pandas.DataFrame(dict(enumerate(columns)), copy=False)
+    columns = [_pandas_column(pandas, numpy, table, at, addresses) for at in range(len(table.columns))]
     keys = len(table.keys or ())
-    if keys:
-        frame = frame.set_index(list(range(keys)))
-        frame.index.names = table.keys
-    frame.columns = list(table.columns[keys:])
+    index = _index(pandas, numpy, columns[:keys], table.keys) if keys else pandas.RangeIndex(len(table))
+    frame = pandas.DataFrame(dict(enumerate(columns[keys:])), index=index, copy=False)
+    frame.columns = list(table.columns[keys:])  # of which two may have one name
     return frame
+
+
+def _pandas_column(pandas: Any, numpy: Any, table: Table, at: int, addresses: bool) -> Any:
+    """A column as the array that pandas has for it."""
+    words = numpy.frombuffer(table.arrays[at], dtype=numpy.uint64)
+    if at == table.form.mark:
+        return pandas.Categorical.from_codes(words.astype("int8"), MARK_NAMES)
+    if _is_epoch(table, at):
+        marks = numpy.frombuffer(table.arrays[at - 1], dtype=numpy.uint64)
+        return pandas.arrays.IntegerArray(words.copy(), marks == Mark.EXACT)
+    if addresses and table.columns[at] in ADDRESSES:
+        return numpy.array(_addresses(table.arrays[at]), dtype=object)
+    return words
+
+
+def _index(pandas: Any, numpy: Any, columns: list[Any], names: Any) -> Any:
+    """The index of these keys. For several keys it is put together here: pandas would look for the values by hashing."""
+    if len(columns) == 1:
+        return pandas.Index(columns[0], name=names[0])
+    pairs = [_levels(numpy, column) for column in columns]
+    levels, codes = [level for level, _ in pairs], [code for _, code in pairs]
+    return pandas.MultiIndex(levels, codes, names=names, verify_integrity=False)
+
+
+def _levels(numpy: Any, column: Any) -> tuple[Any, Any]:
+    """The values of a column in ascending order, and for each row the number of its value."""
+    if len(column) and column.dtype != object:
+        if (column[1:] >= column[:-1]).all():
+            begins = numpy.concatenate(([True], column[1:] != column[:-1]))
+            return column[begins], numpy.cumsum(begins) - 1
+        if column.max() < 1 << 20:
+            small = column.astype(numpy.int64)
+            there = numpy.bincount(small) > 0
+            return numpy.flatnonzero(there).astype(numpy.uint64), (numpy.cumsum(there) - 1)[small]
+    values, codes = numpy.unique(column, return_inverse=True)
+    return values, codes
 
 
 def to_arrow(table: Table, addresses: bool = False) -> Any:
