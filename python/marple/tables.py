@@ -78,15 +78,29 @@ class Table:
         """The table as the program writes it."""
         return self.head + self.body.bytes().decode("ascii")
 
+    @cached_property
+    def _fault(self) -> Optional[TableFault]:
+        """What keeps the rows from being of the form, if anything does."""
+        try:
+            for piece in self.body.pieces():
+                self.form.check(piece)
+        except TableFault as fault:
+            return fault
+        return None
+
     def check(self) -> "Table":
-        """The table itself. Raises TableFault where its rows aren't of the form."""
-        for piece in self.body.pieces():
-            self.form.check(piece)
+        """The table itself, whose rows are looked through once. Raises TableFault where they aren't of the form."""
+        if self._fault is not None:
+            raise self._fault
         return self
 
     @cached_property
     def arrays(self) -> tuple["array[int]", ...]:
-        """The words of each column, in order: of the mark its number, and of an epoch 0 where the table has `*`."""
+        """The words of each column, in order: of the mark its number, and of an epoch 0 where the table has `*`.
+
+        Raises TableFault where the rows aren't of the form.
+        """
+        self.check()
         whole = tuple(array("Q") for _ in self.columns)
         for piece in self.body.pieces():
             for words, more in zip(whole, self.form.words(piece)):

@@ -4,6 +4,7 @@ import os
 import pickle
 import stat
 import unittest
+import warnings
 from pathlib import Path
 from unittest import mock
 
@@ -23,7 +24,9 @@ def called(folder: Path):
     command, *rest = words(folder)
     operands = [os.path.join(folder, word) for word in rest[:2]]
     options = {name[2:]: int(value) for name, value in zip(rest[2::2], rest[3::2], strict=True)}
-    return CALLS[command](Path(operands[0]), operands[1], **options)
+    with warnings.catch_warnings():
+        warnings.simplefilter("ignore", marple.KeysLeftOut)
+        return CALLS[command](Path(operands[0]), operands[1], **options)
 
 
 def is_plain(folder: Path) -> bool:

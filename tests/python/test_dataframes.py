@@ -98,6 +98,49 @@ class Times(unittest.TestCase):
 
 
 @unittest.skipUnless(HAS_PANDAS, "pandas isn't there")
+class Random(unittest.TestCase):
+    """A trace drawn at random gives the same answer, or the same refusal, as a file and as a DataFrame of its texts."""
+
+    QUERY = (
+        b"def f([n, last],[tout, qsize]) { n = n + qsize; last = max(last, tout); }\n"
+        b"r = groupby(pktstream, [srcip, dstip], f);\nprint r;\n"
+    )
+    NAMES = ("srcip", "dstip", "tout", "qsize", "note")
+
+    def cell(self, draw: random.Random, name: str) -> str:
+        if draw.random() < 0.01:
+            return draw.choice(("-1", "1.5", "x", "18446744073709551616", "inf", "10.0.0"))
+        if name == "note":
+            return draw.choice(("a,b", 'say "so"', "two\nlines", "NA", "1.5"))
+        words = [str(draw.randrange(3)), str(draw.randrange(2**64)), " 7\t", "007"]
+        special = {"tout": ["inf"], "srcip": ["10.0.0.1"], "dstip": ["255.255.255.255"]}
+        return draw.choice(words + special.get(name, []))
+
+    def test_gives_what_its_file_gives(self):
+        print(f"seed {SEED}")
+        draw, kinds = random.Random(SEED), set()
+        for _ in range(40):
+            names = draw.sample(self.NAMES, len(self.NAMES))
+            rows = [[self.cell(draw, name) for name in names] for _ in range(draw.randrange(30))]
+            file = io.StringIO(newline="")
+            csv.writer(file, lineterminator="\n").writerows([names, *rows])
+            frame = pandas.DataFrame(rows, columns=names, dtype=object)
+            for name in names:
+                if draw.random() < 0.3:
+                    frame[name] = frame[name].astype("category")
+            answers = [self.answer(trace) for trace in (file.getvalue().encode(), frame)]
+            self.assertEqual(*answers)
+            kinds.add(answers[0][0])
+        self.assertEqual(kinds, {"tables", "refused"})
+
+    def answer(self, trace) -> tuple[str, str]:
+        try:
+            return "tables", marple.run(self.QUERY, trace).text
+        except marple.TraceRefused as refused:
+            return "refused", refused.shown
+
+
+@unittest.skipUnless(HAS_PANDAS, "pandas isn't there")
 class NoNumbers(unittest.TestCase):
     def refused(self, values, name: str = "srcip") -> str:
         query = COUNT.replace(b"srcip", name.encode())

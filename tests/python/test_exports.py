@@ -220,6 +220,18 @@ class Files(unittest.TestCase):
         self.assertEqual(done.stdout, f"{rows} {rows}\n")
         self.assertEqual(Path(folder.path("csv")).stat().st_size, len("srcip,mark,epoch,epochs,c\n") + rows * (len(line) - 1))
 
+    def test_that_are_no_tables_are_refused_as_they_are_read(self):
+        folder = Folder(self)
+        whole = marple.tables_of_file(folder.write("tables", SMALL.replace(b"7,invalid,1,2,5", b"07,invalid,1,2,5")))
+        self.assertEqual(whole["f"].rows, [(1, 8)])
+        for ask in (lambda: whole["r"].rows, lambda: list(whole["r"].pieces()), lambda: whole["r"].to_csv()):
+            with self.assertRaisesRegex(marple.TableFault, "a leading zero"):
+                ask()
+        for text in (SMALL[:-1], SMALL.replace(b"final 1", b"final 2"), b"words\n"):
+            with self.assertRaises(marple.TableFault):
+                marple.tables_of_file(folder.write("other", text))
+        self.assertEqual(len(marple.tables_of_file(folder.write("none", b""))), 0)
+
     @unittest.skipIf(importlib.util.find_spec("pyarrow"), "pyarrow is there")
     def test_of_libraries_that_are_not_there_say_what_to_install(self):
         with self.assertRaisesRegex(ImportError, "tables of Arrow need pyarrow: pip install pyarrow"):

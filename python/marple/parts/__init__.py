@@ -30,7 +30,7 @@ from marple.parts.refusals import (
     WorkTaken,
 )
 from marple.program import find_program
-from marple.tables import Answer, read_tables
+from marple.tables import Answer, tables_of_file
 
 __all__ = [
     "Choice", "FieldNeeded", "FieldRefused", "FinalGroupby", "FinalOfTop", "HeadersDiffer", "KeyTooLarge",
@@ -71,8 +71,8 @@ def run(
             text, traces, by=by, parts=parts, client=client, work=folder, given=given, program=program, piece=piece,
             report=report,
         )  # fmt: skip
-        with open(joined, "rb") as file:
-            answer = PartsAnswer(list(read_tables(file.read(), keys_of_finals(text)).values()))
+        # The file is read as its tables are: it stays until the last of them goes, also where the folder is deleted.
+        answer = PartsAnswer(list(tables_of_file(joined, keys_of_finals(text)).values()))
     answer.by, answer.parts = choice.by, len(runs)
     return answer
 
