@@ -11,7 +11,7 @@ from marple.plans import Plan, read_plan
 from marple.program import Program, call
 from marple.queries import UnreadQuery, read_query
 from marple.remedies import with_remedy
-from marple.sources import Deadline, Query, Trace, TraceFile, text_of_query, trace_file, written
+from marple.sources import Deadline, Query, Trace, TraceFile, text_of_query, trace_file, unreadable, written
 from marple.tables import Answer, read_tables
 
 __all__ = [
@@ -125,7 +125,7 @@ def _refusals(command: str, given: Given, text: bytes, packets: Optional[TraceFi
     except TraceRefused as refused:
         raise (packets.explain(refused) if packets else refused) from None
     except InputError as refused:
-        raise InputError(f"{refused}: {packets.path}" if packets else str(refused)) from None
+        raise (unreadable(packets) if packets else refused) from None
     except MarpleError as refused:
         raise told(refused, command, given) from None
 

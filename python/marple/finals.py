@@ -84,19 +84,18 @@ class _Lacking:
 
 
 def asking(text: bytes, plan: Callable[[], bytes]) -> Asking:
-    """How to ask this query. `plan` gives what the program's `plan` writes of it."""
+    """How to ask this query. `plan` gives what the program's `plan` writes of it, or raises why it is refused."""
+    if b"final" not in text:
+        return Asking(text, {}, {})
     try:
+        classes = {one.name: one.kind for one in read_plan(plan().decode("ascii")).groupbys}
         query = _Query(read_query(text))
-    except UnreadQuery:
+    except (MarpleError, UnreadQuery):  # what asks the query says why it is refused
         return Asking(text, {}, {})
     sources = {name: query.sources(name) for name in query.printed if query.tables[name].final}
     unprinted = sorted(frozenset().union(*sources.values()) - set(query.printed))
     if not unprinted:
         return Asking(text, query.keys, sources)
-    try:
-        classes = {one.name: one.kind for one in read_plan(plan().decode("ascii")).groupbys}
-    except MarpleError:  # what asks the query says so
-        return Asking(text, query.keys, {})
     more = tuple(name for name in unprinted if classes.get(name) == "other")
     prints = b"".join(b"\nprint %s;" % name.encode() for name in more)
     linear = frozenset(name for name in unprinted if classes.get(name) == "linear")

@@ -18,6 +18,7 @@ Query = Union[str, bytes, "os.PathLike[str]"]
 Trace = Any  # a path, bytes, an open file, or a DataFrame: a union can't name libraries that may not be there
 
 BLOCK = 1 << 20
+MOST = 268_435_457  # no trace and no query is read further than this: it would be too long
 NO_WRITER = 10.0  # for how many seconds a FIFO may have no writer
 
 
@@ -78,7 +79,17 @@ def _reason(fault: Exception) -> str:
 
 
 def _blocks(path: str, deadline: Deadline) -> Iterator[bytes]:
-    """What a file has, of any kind. Waits for the writer of a FIFO, but not for ever where there is none."""
+    """What a file has, of any kind, up to MOST bytes. Waits for the writer of a FIFO, but not for ever where there is none.
+    """
+    left = MOST
+    for block in _all_blocks(path, deadline):
+        yield block[:left]
+        left -= len(block)
+        if left <= 0:
+            return
+
+
+def _all_blocks(path: str, deadline: Deadline) -> Iterator[bytes]:
     descriptor = os.open(path, os.O_RDONLY | os.O_NONBLOCK | os.O_CLOEXEC)
     try:
         if stat.S_ISREG(os.fstat(descriptor).st_mode):
@@ -114,9 +125,10 @@ def _stream(descriptor: int, deadline: Deadline) -> Iterator[bytes]:
 
 @dataclass(frozen=True)
 class TraceFile:
-    """The file of a trace: its path; and what says more of a refusal."""
+    """The file of a trace: its path; what the caller calls it; and what says more of a refusal."""
 
     path: str
+    name: str
     explain: Callable[[TraceRefused], TraceRefused]
 
 
@@ -128,18 +140,18 @@ def trace_file(trace: Trace, deadline: Optional[Deadline] = None) -> Iterator[Tr
     """
     if isinstance(trace, (str, os.PathLike)):
         with _own_file(os.fspath(trace), deadline or Deadline()) as path:
-            yield TraceFile(path, lambda refused: _in_file(refused, os.fspath(trace)))
+            yield TraceFile(path, os.fspath(trace), lambda refused: _in_file(refused, os.fspath(trace)))
     elif is_frame(trace):
         columns = columns_of(trace)
         with written(text_of(columns)) as path:
-            yield TraceFile(path, lambda refused: explained(refused, columns))
+            yield TraceFile(path, "of a DataFrame", lambda refused: explained(refused, columns))
     elif isinstance(trace, (bytes, bytearray, memoryview)):
         with written(trace) as path:
-            yield TraceFile(path, lambda refused: refused)
+            yield TraceFile(path, "of bytes", lambda refused: refused)
     elif hasattr(trace, "read"):
         with tempfile.NamedTemporaryFile(prefix="marple-") as file:
             _copy(trace, file)
-            yield TraceFile(file.name, lambda refused: refused)
+            yield TraceFile(file.name, "of an open file", lambda refused: refused)
     else:
         raise TypeError(
             "a trace is a path (str or os.PathLike), bytes, an open file, a DataFrame of pandas, or one that has the "
@@ -153,30 +165,45 @@ def _in_file(refused: TraceRefused, path: str) -> TraceRefused:
 
 @contextmanager
 def _own_file(path: str, deadline: Deadline) -> Iterator[str]:
-    """The path of a regular file; a FIFO or a device is copied, so that the program can't wait for it."""
-    try:
-        if stat.S_ISREG(os.stat(path).st_mode):
-            with open(path, "rb"):
-                pass
-            kept = None
-        else:
-            kept = tempfile.NamedTemporaryFile(prefix="marple-")
+    """The path itself; but a FIFO is copied, so that the program doesn't wait for it. What can't be read is left to the
+    program, which refuses a query before a trace.
+    """
+    if not _is_fifo(path):
+        yield os.path.abspath(path) if path else path
+        return
+    with tempfile.NamedTemporaryFile(prefix="marple-") as kept:
+        try:
             for block in _blocks(path, deadline):
                 kept.write(block)
             kept.flush()
-    except (OSError, ValueError) as fault:
-        raise InputError(f"cannot read the trace {_shown(path)}: {_reason(fault)}") from fault
-    if kept is None:
-        yield os.path.abspath(path)
-        return
-    with kept:
+        except (OSError, ValueError) as fault:
+            raise InputError(f"cannot read the trace {_shown(path)}: {_reason(fault)}") from fault
         yield kept.name
+
+
+def _is_fifo(path: str) -> bool:
+    try:
+        return stat.S_ISFIFO(os.stat(path).st_mode)
+    except (OSError, ValueError):
+        return False
+
+
+def unreadable(trace: TraceFile) -> InputError:
+    """Why the program can't read the file of a trace, as the system says it."""
+    reason = "the program can't"
+    try:
+        with open(trace.path, "rb") as file:
+            file.read(1)
+    except (OSError, ValueError) as fault:
+        reason = _reason(fault)
+    return InputError(f"cannot read the trace {_shown(trace.name)}: {reason}")
 
 
 def _copy(source: Any, file: IO[bytes]) -> None:
     """Copies what an open file has from its place on: bytes, or text as UTF-8."""
-    while block := source.read(BLOCK):
-        file.write(block.encode() if isinstance(block, str) else block)
+    left = MOST
+    while left > 0 and (block := source.read(BLOCK)):
+        left -= file.write(block.encode() if isinstance(block, str) else block)
     file.flush()
 
 

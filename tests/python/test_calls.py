@@ -2,6 +2,7 @@
 
 import os
 import pickle
+import re
 import stat
 import unittest
 import warnings
@@ -65,7 +66,8 @@ def complaint_of(refused: marple.MarpleError) -> str:
     if isinstance(refused, marple.TraceRefused):
         parts = ",".join(str(part) for part in (refused.record, refused.field) if part is not None)
         return f"marple: trace: {refused.fault}{f'({parts})' if parts else ''}\n"
-    return f"marple: {refused}\n"
+    said = re.match("bad command line|cannot read the (query|plan|trace)|", str(refused))[0]  # what follows is the package's
+    return f"marple: {said or refused}\n"
 
 
 class Queries(unittest.TestCase):
