@@ -119,7 +119,7 @@ def _fault_of(column: Column, value: object) -> str:
     if type(value).__name__ in ("bool", "bool_"):
         return f"{value} is a boolean"
     if isinstance(value, datetime):
-        return f"{value} is before 1970" if value.tzinfo else f"{value} has no time zone: Series.dt.tz_localize gives it one"
+        return f"{value} " + ("is before 1970" if value.tzinfo else "has no time zone: Series.dt.tz_localize gives it one")
     if isinstance(value, Real) and not isinstance(value, Integral):
         return _fault_of_float(column, float(value))
     if isinstance(value, Integral):

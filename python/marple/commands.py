@@ -15,7 +15,8 @@ from marple.sources import Deadline, Query, Trace, TraceFile, text_of_query, tra
 from marple.tables import Answer, read_tables
 
 __all__ = [
-    "Query", "Trace", "compile", "enclose", "gen", "keys_of_finals", "net", "plan", "query_text", "run", "run_plan", "words_of",
+    "Query", "Trace", "compile", "enclose", "gen", "keys_of_finals", "net", "plan", "query_text", "run", "run_plan",
+    "words_of",
 ]
 Given = Mapping[str, Optional[int]]
 

@@ -45,7 +45,7 @@ def to_pandas(table: Table, addresses: bool = False) -> Any:
     columns = [_pandas_column(pandas, numpy, table, at, addresses) for at in range(len(table.columns))]
     keys = len(table.keys or ())
     index = _index(pandas, numpy, columns[:keys], table.keys) if keys else pandas.RangeIndex(len(table))
-    frame = pandas.DataFrame(dict(enumerate(columns[keys:])), index=index, copy=False)
+    frame = pandas.DataFrame(dict(enumerate(columns[keys:])), index=index, copy=True)
     frame.columns = list(table.columns[keys:])  # of which two may have one name
     return frame
 
@@ -177,4 +177,5 @@ def html(table: Table) -> str:
     head = "".join(f"<th>{escaping.escape(name)}</th>" for name in table.columns)
     body = "".join("<tr>" + "".join(f"<td>{escaping.escape(cell)}</td>" for cell in row) + "</tr>" for row in rows)
     more = f"<p>{count - len(rows)} more rows</p>" if count > len(rows) else ""
-    return f"<table><caption>{escaping.escape(_title(table))}</caption><thead><tr>{head}</tr></thead><tbody>{body}</tbody></table>{more}"
+    caption = escaping.escape(_title(table))
+    return f"<table><caption>{caption}</caption><thead><tr>{head}</tr></thead><tbody>{body}</tbody></table>{more}"

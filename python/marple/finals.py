@@ -57,8 +57,8 @@ class Asking:
 def _words(table: Table, sources: frozenset[str]) -> str:
     keys = "1 key" if table.left_out == 1 else f"{table.left_out} keys"
     return (
-        f"the final {table.name} lacks {keys} of {' and '.join(sorted(sources))}, whose rows don't cover all their packets: with "
-        "more buckets or ways fewer keys leave the cache"
+        f"the final {table.name} lacks {keys} of {' and '.join(sorted(sources))}, whose rows don't cover all their packets: "
+        "with more buckets or ways fewer keys leave the cache"
     )
 
 

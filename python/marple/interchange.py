@@ -8,7 +8,8 @@ from typing import Any
 from marple.columns import Column, cell_of, missing_cell
 
 INT, UINT, FLOAT, BOOL, STRING, DATETIME, CATEGORICAL = 0, 1, 2, 20, 21, 22, 23
-NAMES = {INT: "int", UINT: "uint", FLOAT: "float", BOOL: "bool", STRING: "string", DATETIME: "datetime", CATEGORICAL: "category"}
+NAMES = {INT: "int", UINT: "uint", FLOAT: "float", BOOL: "bool", STRING: "string", DATETIME: "datetime"}
+NAMES[CATEGORICAL] = "category"
 NEVER, NAN, SENTINEL, BITS, BYTES = range(5)  # how a column says which values are missing
 CODES = {(INT, 8): "b", (INT, 16): "h", (INT, 32): "i", (INT, 64): "q", (UINT, 8): "B", (UINT, 16): "H", (UINT, 32): "I"}
 CODES |= {(UINT, 64): "Q", (FLOAT, 32): "f", (FLOAT, 64): "d"}

@@ -43,7 +43,9 @@ class Deadline:
         return TimedOut(f"the call took longer than its timeout of {self.seconds:g} s")
 
 
-def text_of_query(query: Optional[Query], text: Optional[str], what: str = "query", deadline: Optional[Deadline] = None) -> bytes:
+def text_of_query(
+    query: Optional[Query], text: Optional[str], what: str = "query", deadline: Optional[Deadline] = None
+) -> bytes:
     """The text of a query: of its file, if `query` is a path; the bytes themselves; or `text`.
 
     Raises TypeError where neither or both are given, and InputError where the file can't be read.
@@ -57,7 +59,8 @@ def text_of_query(query: Optional[Query], text: Optional[str], what: str = "quer
     if isinstance(query, (bytes, bytearray, memoryview)):
         return bytes(query)
     if not isinstance(query, (str, os.PathLike)):
-        raise TypeError(f"a {what} is a path (str or os.PathLike) or bytes, or a str in {what}_text=; not {type(query).__name__}")
+        kind = type(query).__name__
+        raise TypeError(f"a {what} is a path (str or os.PathLike) or bytes, or a str in {what}_text=; not {kind}")
     try:
         return b"".join(_blocks(os.fspath(query), deadline or Deadline()))
     except (OSError, ValueError) as fault:

@@ -108,7 +108,9 @@ class Table:
         return whole
 
     def words(self, name: str) -> "array[int]":
-        """The words of one column as an array, which numpy, pandas and Arrow read without a copy. Raises KeyError."""
+        """The words of one column as an array, which numpy, pandas and Arrow read without a copy. It is the table's own,
+        and not to be changed. Raises KeyError.
+        """
         return self.arrays[self._place(name)]
 
     def column(self, name: str) -> list[int]:

@@ -264,7 +264,8 @@ class OfTheProtocol(unittest.TestCase):
             self.skipTest("polars isn't there")
         import polars
 
-        frame = polars.DataFrame({"srcip": [1, 2, 1], "tin": [None, 2**64 - 1, 0]}, schema={"srcip": polars.Int64, "tin": polars.UInt64})
+        schema = {"srcip": polars.Int64, "tin": polars.UInt64}
+        frame = polars.DataFrame({"srcip": [1, 2, 1], "tin": [None, 2**64 - 1, 0]}, schema=schema)
         self.assertEqual(records(trace_of(frame)), [["srcip", "tin"], ["1", ""], ["2", str(2**64 - 1)], ["1", "0"]])
 
     def test_of_arrow(self):
@@ -272,7 +273,8 @@ class OfTheProtocol(unittest.TestCase):
             self.skipTest("pyarrow isn't there")
         import pyarrow
 
-        frame = pyarrow.table({"srcip": pyarrow.array([1, None], pyarrow.uint64()), "tout": pyarrow.array([None, 5], pyarrow.uint64())})
+        columns = {"srcip": [1, None], "tout": [None, 5]}
+        frame = pyarrow.table({name: pyarrow.array(own, pyarrow.uint64()) for name, own in columns.items()})
         self.assertEqual(records(trace_of(frame)), [["srcip", "tout"], ["1", "inf"], ["", "5"]])
 
 
@@ -282,7 +284,8 @@ class WithoutALibrary(unittest.TestCase):
         from marple.interchange import interchange_columns
 
         content = FakeBuffer([5, 6, 7], "Q")
-        column = FakeColumn((1, 64, "L", "="), 3, (3, 0), {"data": (content, (1, 64, "L", "=")), "validity": (FakeBuffer([0b101], "B"), None)})
+        buffers = {"data": (content, (1, 64, "L", "=")), "validity": (FakeBuffer([0b101], "B"), None)}
+        column = FakeColumn((1, 64, "L", "="), 3, (3, 0), buffers)
         names, *rows = records(text_of(interchange_columns(FakeFrame({"tout": column}))))
         self.assertEqual((names, rows), (["tout"], [["5"], ["inf"], ["7"]]))
 
@@ -291,7 +294,8 @@ class WithoutALibrary(unittest.TestCase):
 
         buffers = {
             "data": (FakeBuffer(list("10.0.0.1é".encode()), "B"), (21, 8, "u", "=")),
-            "offsets": (FakeBuffer([0, 8, 8, 10], "q"), (0, 64, "l", "=")), "validity": (FakeBuffer([0b111], "B"), None),
+            "offsets": (FakeBuffer([0, 8, 8, 10], "q"), (0, 64, "l", "=")),
+            "validity": (FakeBuffer([0b111], "B"), None),
         }  # fmt: skip
         column = FakeColumn((21, 8, "U", "="), 3, (3, 0), buffers)
         self.assertEqual(records(text_of(interchange_columns(FakeFrame({"a": column})))), [["a"], ["10.0.0.1"], [""], ["é"]])

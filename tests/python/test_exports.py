@@ -45,7 +45,8 @@ def random_table(draw: random.Random) -> tuple[str, list[list[str]]]:
         if kind == "linear":
             shown = ["exact", "*", str(draw.randrange(1, 9))]
         elif kind == "other":
-            shown = draw.choice((["valid", "1", "1"], ["invalid", str(draw.randrange(1, 99)), str(draw.randrange(2, 99))], ["exact", "*", "2"]))
+            several = ["invalid", str(draw.randrange(1, 99)), str(draw.randrange(2, 99))]
+            shown = draw.choice((["valid", "1", "1"], several, ["exact", "*", "2"]))
         else:
             shown = [draw.choice(("exact", "within")), str(draw.randrange(1, 9))][: len(middle)]
         rows.append([*cells[: len(keys)], *shown, *cells[len(keys) :]])
@@ -72,7 +73,8 @@ class Random(unittest.TestCase):
             words = [0 if cell == "*" else int(cell) for cell in cells]
             self.assertEqual(table.column(name), words)
             self.assertEqual(table.words(name), array.array("Q", words))
-        self.assertEqual([tuple(map(str, row)) for row in table.rows], [tuple(cell if cell != "*" else "0" for cell in line) for line in lines[1:]])
+        rows = [tuple(cell if cell != "*" else "0" for cell in line) for line in lines[1:]]
+        self.assertEqual([tuple(map(str, row)) for row in table.rows], rows)
 
     def test_are_read_as_they_are(self):
         for _ in range(300):
@@ -121,10 +123,18 @@ class Random(unittest.TestCase):
             frame = table.to_pandas()
             read = pandas.read_csv(io.StringIO(text), skiprows=1, dtype=str, keep_default_na=False)
             flat = frame.reset_index() if table.keys else frame
-            self.assertEqual([str(flat[name].dtype) for name in flat], [{"mark": "category", "epoch": "UInt64"}.get(name, "uint64") for name in lines[0]])
+            types = {"mark": "category", "epoch": "UInt64"}
+            self.assertEqual([str(flat[name].dtype) for name in flat], [types.get(name, "uint64") for name in lines[0]])
             shown = flat.astype(object).where(flat.notna(), "*").astype(str)
             pandas.testing.assert_frame_equal(shown, read.astype(str), check_index_type=False)
             self.assertEqual(table.to_csv(), flat.to_csv(index=False))
+
+    @unittest.skipUnless(HAS_PANDAS, "pandas isn't there")
+    def test_do_not_change_with_their_frames(self):
+        table = marple.read_tables(SMALL)["r"]
+        table.to_pandas().iloc[:, -1] = 0
+        table.to_pandas().loc[:, "epochs"] += 1
+        self.assertEqual((table.column("n"), table.column("epochs")), ([5, 6, 7, 8], [2, 2, 1, 1]))
 
     @unittest.skipUnless(importlib.util.find_spec("pyarrow"), "pyarrow isn't there")
     def test_are_tables_of_arrow(self):
@@ -263,9 +273,9 @@ class LeftOut(unittest.TestCase):
 
         with warnings.catch_warnings():
             warnings.simplefilter("error")
-            query = b"def count([c],[]) { c = c + 1; }\nr = groupby(pktstream, [srcip], count);\nfinal f = top(r, c, 1);\nprint f;\n"
-            for call, text, options in ((marple.run, query, {"buckets": 1, "ways": 1}), (marple.run, query.replace(b"c + 1", b"c / 2 + 1"), {})):
-                answer = call(text, b"srcip\n1\n2\n1\n", **options)
+            query = b"def count([c],[]) { c = c + 1; }\nr = groupby(pktstream, [srcip], count);\nfinal f = top(r, c, 1);\nprint f;"
+            for text, options in ((query, {"buckets": 1, "ways": 1}), (query.replace(b"c + 1", b"c / 2 + 1"), {})):
+                answer = marple.run(text, b"srcip\n1\n2\n1\n", **options)
                 self.assertEqual((answer["f"].left_out, list(answer)), (0, ["f"]))
 
     def test_are_known_of_each_view(self):

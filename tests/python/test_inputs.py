@@ -87,7 +87,8 @@ class Traces(Case):
         with open(path, "rb") as binary, open(path) as text:
             binary.readline()
             text.readline()
-            for trace in (own, Path(own), TRACE, bytearray(TRACE), memoryview(TRACE), io.BytesIO(TRACE), io.StringIO(TRACE.decode()), binary, text):
+            kept = (TRACE, bytearray(TRACE), memoryview(TRACE), io.BytesIO(TRACE), io.StringIO(TRACE.decode()))
+            for trace in (own, Path(own), *kept, binary, text):
                 with self.subTest(type=type(trace).__name__):
                     self.assertEqual(marple.run(COUNT, trace)["r"].rows, ROWS)
 
@@ -227,8 +228,8 @@ class Programs(Case):
         with mock.patch.dict(os.environ, environment), mock.patch.object(program, "CHECKOUT", top):
             with self.assertRaises(marple.ProgramMissing) as missing:
                 marple.find_program()
-        for place in (f"{top}/crates/marple/out/marple", f"{top}/one/marple", f"{top}/two/marple", f"{top}/home/.local/bin/marple"):
-            self.assertIn(place, str(missing.exception))
+        for place in ("crates/marple/out/marple", "one/marple", "two/marple", "home/.local/bin/marple"):
+            self.assertIn(f"{top}/{place}", str(missing.exception))
 
     def test_are_looked_for_once(self):
         top = Path(self.folder.path("top"))
@@ -254,12 +255,13 @@ class Programs(Case):
         self.assertRegex("\n".join(logged.output), r"INFO:marple:.* said: not proved yet")
 
     def test_run_from_the_command_line(self):
-        environment = os.environ | {"PYTHONPATH": str(TOP / "python"), "MARPLE": self.script(b"#!/bin/sh\necho \"$@\"\nexit 5\n")}
+        stub = self.script(b"#!/bin/sh\necho \"$@\"\nexit 5\n")
+        environment = os.environ | {"PYTHONPATH": str(TOP / "python"), "MARPLE": stub}
         ask = [sys.executable, "-m", "marple"]
         done = subprocess.run([*ask, "run", "a b", "c"], env=environment, capture_output=True, text=True, check=False)
         self.assertEqual((done.returncode, done.stdout, done.stderr), (5, "run a b c\n", ""))
         done = subprocess.run([*ask, "--version"], env=environment, capture_output=True, text=True, check=False)
-        self.assertEqual(done.stdout, f"marple {(TOP / 'VERSION').read_text().strip()}, {environment['MARPLE']}\n")
+        self.assertEqual(done.stdout, f"marple {(TOP / 'VERSION').read_text().strip()}, {stub}\n")
 
 
 if __name__ == "__main__":

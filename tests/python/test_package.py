@@ -81,7 +81,8 @@ class Installed(unittest.TestCase):
     def test_has_its_commands(self):
         if self.unpacked:
             self.skipTest("pip isn't there, which makes the commands")
-        done = subprocess.run([str(self.place / "bin" / "marple-parts"), "--version"], capture_output=True, text=True, check=False)
+        command = [str(self.place / "bin" / "marple-parts"), "--version"]
+        done = subprocess.run(command, capture_output=True, text=True, check=False)
         self.assertEqual(done.stdout, f"marple {VERSION}\n")
 
     def test_leaves_nothing_in_the_checkout(self):
@@ -139,8 +140,8 @@ class TheProgramOfTheCheckout(unittest.TestCase):
         venv.create(self.folder.path("venv"), with_pip=False)
 
     def found(self, *installed: str) -> str:
-        pip = [sys.executable, "-m", "pip", "--python", str(self.python), "install", "--no-index", "--quiet", "--force-reinstall"]
-        subprocess.run([*pip, *installed], check=True)
+        pip = [sys.executable, "-m", "pip", "--python", str(self.python), "install", "--no-index", "--quiet"]
+        subprocess.run([*pip, "--force-reinstall", *installed], check=True)
         environment = {"PATH": "/usr/bin:/bin", "HOME": self.folder.path("home")}
         ask = "import marple\ntry: print(marple.find_program())\nexcept marple.ProgramMissing as missing: print(missing)"
         done = subprocess.run([self.python, "-I", "-c", ask], env=environment, capture_output=True, text=True, check=True)

@@ -57,7 +57,7 @@ def run(
 ) -> PartsAnswer:  # fmt: skip
     """The tables of the query over the packets of all traces, in their order, by runs over parts of them.
 
-    query: a path, or a text, which has a `;`. traces: paths of files with one header. by: fields to split by; by
+    query: a path, or its text as bytes. traces: paths of files with one header. by: fields to split by; by
     default all that the query allows. parts: how many at least. client: a distributed.Client, whose workers see the
     traces and the folder at the same paths; without one the tasks run in turn here. work: a folder for what
     is made on the way, where a second call with the same arguments goes on; by default one that is deleted at the end.
