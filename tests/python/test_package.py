@@ -168,17 +168,21 @@ class OtherPythons(unittest.TestCase):
         "print(table.rows, table.to_csv())"
     )
 
-    def ask(self, minor: int):
-        """What this Python answers."""
+    def python(self, minor: int) -> str:
+        """The path of this Python."""
         found = shutil.which(f"python3.{minor}")
         places = [found] if found else []
         places += map(str, Path.home().glob(f".pyenv/versions/3.{minor}.*/bin/python3"))
         for place in places:
             if subprocess.run([place, "-c", ""], capture_output=True, check=False).returncode == 0:
-                environment = os.environ | {"PYTHONPATH": str(TOP / "python"), "PYTHONDONTWRITEBYTECODE": "1"}
-                command = [place, "-W", "error", "-c", self.ASK]
-                return subprocess.run(command, env=environment, capture_output=True, text=True, check=False)
+                return place
         self.skipTest(f"Python 3.{minor} isn't there")
+
+    def ask(self, minor: int):
+        """What this Python answers."""
+        environment = os.environ | {"PYTHONPATH": str(TOP / "python"), "PYTHONDONTWRITEBYTECODE": "1"}
+        command = [self.python(minor), "-W", "error", "-c", self.ASK]
+        return subprocess.run(command, env=environment, capture_output=True, text=True, check=False)
 
     def check(self, minor: int):
         done = self.ask(minor)
@@ -188,6 +192,15 @@ class OtherPythons(unittest.TestCase):
     def test_3_9_is_told_what_is_needed(self):
         lines = self.ask(9).stderr.splitlines()
         self.assertRegex(lines[-1], r"^ImportError: marple needs Python 3\.10 or later; this is Python 3\.9, /.*python3")
+
+    def test_3_9_does_not_install_it(self):
+        python = self.python(9)
+        if subprocess.run([python, "-m", "pip", "--version"], capture_output=True, check=False).returncode != 0:
+            self.skipTest("Python 3.9 has no pip")
+        command = [python, "-m", "pip", "install", "--no-index", "--target", Folder(self).path("none"), TOP / "python"]
+        environment = os.environ | {"PYTHONDONTWRITEBYTECODE": "1"}
+        done = subprocess.run(command, env=environment, capture_output=True, text=True, check=False)
+        self.assertRegex(done.stdout + done.stderr, "requires a different Python: 3\\.9.* not in '>=3\\.10'")
 
     def test_3_10(self):
         self.check(10)
