@@ -16,7 +16,7 @@ from support import TOP, Folder
 
 PAGE = TOP / "docs" / "PYTHON.md"
 LEAST = (1, 5)  # files and commands that the page has at least
-NEEDS = {"pandas": ("to_pandas", "import pandas", "p99.py"), "matplotlib": (".png",)}
+NEEDS = {"pandas": ("pandas", "p99.py"), "matplotlib": (".png",)}  # what a command that has one of these words needs
 
 
 def blocks(page: str) -> list[tuple[str, str]]:
