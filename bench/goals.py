@@ -120,6 +120,18 @@ def parts_goals() -> list[Goal]:
     ]  # fmt: skip
 
 
+def package_goals() -> list[Goal]:
+    """Goals of the package for Python, beside pandas' own CSV."""
+    found = []
+    for what, case, peer in (
+        ("a trace of a DataFrame", "a trace of whole numbers", "to_csv"),
+        ("a trace of a DataFrame with texts and NA", "a trace with texts and NA", "to_csv"),
+        ("a DataFrame of a table", "a table into a DataFrame", "read_csv"),
+    ):
+        found.append(Goal("package", f"time of {what} in `{peer}`'s", 1.5, times("package", case, "marple", peer)))
+    return found
+
+
 def goals() -> list[Goal]:
     """All goals."""
     views = times("views", "65,536 keys", "ten views", "none")
@@ -130,6 +142,7 @@ def goals() -> list[Goal]:
         *(Goal("finals", f"time of `{name}` in Rust's", 2.0, value) for name, value in finals.items()),
         *query_goals(),
         *parts_goals(),
+        *package_goals(),
         Goal("trace", "time of `gen 1000000 1` in Rust's", 1.2, times("trace", "gen", "marple", "Rust")),
         Goal("trace", "MB of `gen 1000000 1`", 20, megabytes("trace", "gen", "marple")),
     ]

@@ -6,7 +6,7 @@ from typing import Callable, Optional, Union
 
 from query_help.hints import address_hint
 
-NEAR = 400  # bytes of the text before and after the place that are looked at
+NEAR = 2000  # bytes of the text before and after the place that are looked at
 NANOSECONDS = {"ns": 1, "us": 10**3, "ms": 10**6, "s": 10**9, "sec": 10**9, "min": 60 * 10**9, "h": 3600 * 10**9}
 PROTOCOLS = {"icmp": 1, "tcp": 6, "udp": 17, "sctp": 132}
 # What stands for a fold elsewhere, and what a fold is here.
@@ -84,6 +84,8 @@ UNIT = r"(?P<unit>ns|us|ms|sec|s|min|h)\b(?!\s*[=(])"
 COMMENT = "A comment begins with `#`, and goes to the end of the line; `/` divides, and rounds down."
 NO_TEXTS = "There are no texts: protocols, ports and addresses are numbers."
 HABITS = (
+    Habit("UnexpectedToken", r"\bdef\s+(?P<name>\w+)\b[\s\S]*\bgroupby\s*\([^;]*,\s*(?P=name)\s*", r"\(",
+          "A groupby names its fold, whose arguments are the columns of their names: write `{name}` without brackets."),
     Habit("UnexpectedToken", AGGREGATE + r"\s*", r"\(", aggregate_words),
     Habit("UnexpectedToken", r"=\s*|\bgroupby\s*\([^;]*,\s*", AGGREGATE + r"\s*\(", aggregate_words),
     Habit("UnknownName", r"\bgroupby\s*\([^;]*,\s*", AGGREGATE + r"\s*\)", aggregate_words),

@@ -1,84 +1,158 @@
 """The program's commands as calls."""
 
-import os
-import tempfile
 from collections.abc import Iterator, Mapping
 from contextlib import contextmanager
-from pathlib import Path
+from typing import Optional
 
-from marple.faults import InputError
+from marple.faults import InputError, MarpleError, OutOfMemory, QueryRefused, TraceRefused
+from marple.finals import Asking, asking
+from marple.options import told, whole, words_of
 from marple.plans import Plan, read_plan
-from marple.program import call
+from marple.program import Program, call
 from marple.queries import UnreadQuery, read_query
+from marple.remedies import with_remedy
+from marple.sources import Deadline, Query, Trace, TraceFile, text_of_query, trace_file, unreadable, written
 from marple.tables import Answer, read_tables
 
-Query = str | bytes | os.PathLike
-Trace = str | bytes | os.PathLike  # or a pandas.DataFrame
+__all__ = [
+    "Query", "Trace", "compile", "enclose", "gen", "keys_of_finals", "net", "plan", "query_text", "run", "run_plan",
+    "words_of",
+]
+Given = Mapping[str, Optional[int]]
 
 
 def run(
-    query: Query, trace, *, buckets: int | None = None, ways: int | None = None, pipe: int | None = None,
-    lag: int | None = None, refresh: int | None = None, every: int | None = None, program: str | os.PathLike | None = None,
+    query: Optional[Query] = None, trace: Trace = None, *, query_text: Optional[str] = None, buckets: Optional[int] = None,
+    ways: Optional[int] = None, pipe: Optional[int] = None, lag: Optional[int] = None, refresh: Optional[int] = None,
+    every: Optional[int] = None, program: Optional[Program] = None, timeout: Optional[float] = None,
 ) -> Answer:  # fmt: skip
     """The tables of the query over the packets of the trace; with `every` also its views.
 
-    query: a path; or a text, which has a `;`. trace: a path, the bytes of a trace, or a DataFrame with its columns.
-    The options are those of the program, whose defaults they have.
-    Raises QueryRefused, TraceRefused, OutOfMemory, UsageError, InputError, ProgramMissing, ProgramFailed.
+    query: the path of a query (str or os.PathLike), or its text as bytes; query_text: its text as a str, in place of
+    query. trace: a path; the bytes of a trace; an open file, read from its place on; or a DataFrame, of pandas or with
+    the interchange protocol, whose columns are named as the fields, in pandas also the levels of its index: numbers
+    are whole, addresses numbers or texts as 10.0.0.1, times in the unit that the trace has (those with a time zone in
+    nanoseconds since 1970), and a packet without `tout` was dropped.
+
+    buckets and ways: of the cache, in sets and in keys for each; pipe: how many evicted keys wait for the store; lag:
+    how many packets pass while one is stored; refresh: after how many packets the caches are emptied; every: after how
+    many packets there is a view. Those that aren't given are the program's defaults (docs/FORMATS.md).
+    program: another program than the one that find_program finds. timeout: of the whole call, in seconds.
+
+    Raises QueryRefused, TraceRefused, OutOfMemory, UsageError (an option out of its bounds), InputError (a file that
+    can't be read), ProgramMissing, ProgramFailed, TimedOut; TypeError where an argument is of another type. Warns of
+    KeysLeftOut where a final lacks keys.
     """
     given = {"buckets": buckets, "ways": ways, "pipe": pipe, "lag": lag, "refresh": refresh, "every": every}
-    return _tables("run", query, trace, given, program)
+    return _tables("run", text_of_query(query, query_text, deadline=(end := Deadline(timeout))), trace, given, program, end)
 
 
 def net(
-    query: Query, trace, *, buckets: int | None = None, ways: int | None = None, pipe: int | None = None,
-    lag: int | None = None, program: str | os.PathLike | None = None,
+    query: Optional[Query] = None, trace: Trace = None, *, query_text: Optional[str] = None, buckets: Optional[int] = None,
+    ways: Optional[int] = None, pipe: Optional[int] = None, lag: Optional[int] = None, program: Optional[Program] = None,
+    timeout: Optional[float] = None,
 ) -> Answer:  # fmt: skip
     """The tables of the query, where each switch has separate caches. Otherwise as `run`."""
-    return _tables("net", query, trace, {"buckets": buckets, "ways": ways, "pipe": pipe, "lag": lag}, program)
+    given = {"buckets": buckets, "ways": ways, "pipe": pipe, "lag": lag}
+    return _tables("net", text_of_query(query, query_text, deadline=(end := Deadline(timeout))), trace, given, program, end)
 
 
 def enclose(
-    query: Query, trace, *, buckets: int | None = None, ways: int | None = None, pipe: int | None = None,
-    lag: int | None = None, refresh: int | None = None, program: str | os.PathLike | None = None,
+    query: Optional[Query] = None, trace: Trace = None, *, query_text: Optional[str] = None, buckets: Optional[int] = None,
+    ways: Optional[int] = None, pipe: Optional[int] = None, lag: Optional[int] = None, refresh: Optional[int] = None,
+    program: Optional[Program] = None, timeout: Optional[float] = None,
 ) -> Answer:  # fmt: skip
     """The tables of the query, where a fold that isn't linear shows bounds. Otherwise as `run`."""
     given = {"buckets": buckets, "ways": ways, "pipe": pipe, "lag": lag, "refresh": refresh}
-    return _tables("enclose", query, trace, given, program)
+    text = text_of_query(query, query_text, deadline=(end := Deadline(timeout)))
+    return _tables("enclose", text, trace, given, program, end)
 
 
 def run_plan(
-    plan: Query, trace, *, buckets: int | None = None, ways: int | None = None, pipe: int | None = None,
-    lag: int | None = None, refresh: int | None = None, program: str | os.PathLike | None = None,
+    plan: Optional[Query] = None, trace: Trace = None, *, plan_text: Optional[str] = None, buckets: Optional[int] = None,
+    ways: Optional[int] = None, pipe: Optional[int] = None, lag: Optional[int] = None, refresh: Optional[int] = None,
+    program: Optional[Program] = None, timeout: Optional[float] = None,
 ) -> Answer:  # fmt: skip
-    """The tables of a plan's text, which is a path, or a text of several lines. Otherwise as `run`."""
+    """The tables of a plan: the path of its file, its text as bytes, or plan_text. Otherwise as `run`."""
     given = {"buckets": buckets, "ways": ways, "pipe": pipe, "lag": lag, "refresh": refresh}
-    with text_file(plan, "\n") as (path, text), trace_file(trace) as packets:
-        return read_tables(call(["run-plan", path, packets, *words_of(given)], program=program, query=text).output)
+    text = text_of_query(plan, plan_text, "plan", (end := Deadline(timeout)))
+    with _files(text, trace, end) as (path, packets), _refusals("run-plan", given, text, packets):
+        words = ["run-plan", path, packets.path, *words_of(given)]
+        return read_tables(call(words, program=program, query=text, deadline=end).output)
 
 
-def plan(query: Query, *, ways: int | None = None, program: str | os.PathLike | None = None) -> Plan:
-    """The stages of the query and its groupbys. Raises as `run`."""
-    with text_file(query) as (path, text):
-        done = call(["plan", path, *words_of({"ways": ways})], program=program, query=text)
+def plan(
+    query: Optional[Query] = None, *, query_text: Optional[str] = None, ways: Optional[int] = None,
+    program: Optional[Program] = None, timeout: Optional[float] = None,
+) -> Plan:  # fmt: skip
+    """The stages of the query and its groupbys; query, query_text, program, timeout and what it raises as at `run`."""
+    text, given = text_of_query(query, query_text, deadline=(end := Deadline(timeout))), {"ways": ways}
+    with written(text) as path, _refusals("plan", given, text):
+        done = call(["plan", path, *words_of(given)], program=program, query=text, deadline=end)
     return read_plan(done.output.decode("ascii"))
 
 
-def compile(query: Query, *, program: str | os.PathLike | None = None) -> str:
-    """The plan of the query as a text. Raises as `run`."""
-    with text_file(query) as (path, text):
-        return call(["compile", path], program=program, query=text).output.decode("ascii")
+def compile(
+    query: Optional[Query] = None, *, query_text: Optional[str] = None, program: Optional[Program] = None,
+    timeout: Optional[float] = None,
+) -> str:  # fmt: skip
+    """The plan of the query as a text; the arguments and what it raises as at `run`."""
+    text = text_of_query(query, query_text, deadline=(end := Deadline(timeout)))
+    with written(text) as path, _refusals("compile", {}, text):
+        return call(["compile", path], program=program, query=text, deadline=end).output.decode("ascii")
 
 
-def gen(packets: int, start: int, *, program: str | os.PathLike | None = None) -> bytes:
-    """A trace of the generator. Raises as `run`."""
-    return call(["gen", str(packets), str(start)], program=program).output
+def gen(packets: int, start: int, *, program: Optional[Program] = None, timeout: Optional[float] = None) -> bytes:
+    """A trace of this many pseudo-random packets, drawn from this start; raises UsageError, and what `run` raises."""
+    with _refusals("gen", {"packets": packets, "start": start}, b""):
+        words = ["gen", whole("packets", packets), whole("start", start)]
+        return call(words, program=program, deadline=Deadline(timeout)).output
 
 
-def _tables(command: str, query: Query, trace, given: Mapping[str, int | None], program) -> Answer:
-    with text_file(query) as (path, text), trace_file(trace) as packets:
-        done = call([command, path, packets, *words_of(given)], program=program, query=text)
-    return read_tables(done.output, keys_of_finals(text))
+@contextmanager
+def _files(text: bytes, trace: Trace, deadline: Deadline) -> Iterator[tuple[str, TraceFile]]:
+    """The files of a query's text and of a trace."""
+    with written(text) as path, trace_file(trace, deadline) as packets:
+        yield path, packets
+
+
+@contextmanager
+def _refusals(command: str, given: Given, text: bytes, packets: Optional[TraceFile] = None) -> Iterator[None]:
+    """Refusals in this block say what they are about."""
+    try:
+        yield
+    except QueryRefused as refused:
+        raise with_remedy(refused, text) from None
+    except TraceRefused as refused:
+        raise (packets.explain(refused) if packets else refused) from None
+    except InputError as refused:
+        raise (unreadable(packets) if packets else refused) from None
+    except MarpleError as refused:
+        raise told(refused, command, given) from None
+
+
+def _tables(
+    command: str, text: bytes, trace: Trace, given: Given, program: Optional[Program], deadline: Deadline
+) -> Answer:
+    words = words_of(given)
+    with _files(text, trace, deadline) as (path, packets), _refusals(command, given, text, packets):
+        ask = asking(text, lambda: call(["plan", path], program=program, query=text, deadline=deadline).output)
+        output = None
+        if ask.more:
+            output = _with_more(ask, [command, packets.path, *words], program, deadline)
+        if output is None:
+            ask = ask.without_more()
+            output = call([command, path, packets.path, *words], program=program, query=text, deadline=deadline).output
+    return ask.answer(read_tables(output, ask.keys))
+
+
+def _with_more(ask: Asking, words: list[str], program: Optional[Program], deadline: Deadline) -> Optional[bytes]:
+    """The output of the query with more prints; None where they are too much: of a text, or for the memory."""
+    with written(ask.text) as path:
+        try:
+            return call([words[0], path, *words[1:]], program=program, query=ask.text, deadline=deadline).output
+        except (QueryRefused, OutOfMemory):
+            return None
 
 
 def keys_of_finals(text: bytes) -> dict[str, tuple[str, ...]]:
@@ -90,56 +164,6 @@ def keys_of_finals(text: bytes) -> dict[str, tuple[str, ...]]:
     return {name: query.keys_of(name) for name, item in query.tables.items() if item.final}
 
 
-def words_of(given: Mapping[str, int | None]) -> list[str]:
-    """The words of the options that are given."""
-    return [word for name, value in given.items() if value is not None for word in (f"--{name}", str(value))]
-
-
-@contextmanager
-def text_file(query: Query, mark: str = ";") -> Iterator[tuple[str, bytes]]:
-    """The file of a query, and its text. A str that has the mark is a text, any other one a path."""
-    if isinstance(query, str) and mark not in query:
-        query = Path(query)
-    if isinstance(query, os.PathLike):
-        yield os.fspath(query), _content(query)
-        return
-    with _written(query.encode() if isinstance(query, str) else query) as path:
-        yield path, query.encode() if isinstance(query, str) else query
-
-
 def query_text(query: Query) -> bytes:
-    """The text of a query. Raises InputError where its file can't be read."""
-    with text_file(query) as (path, text):
-        if not text and isinstance(query, str | os.PathLike) and not os.access(path, os.R_OK):
-            raise InputError(f"cannot read the query {path}")
-        return text
-
-
-@contextmanager
-def trace_file(trace) -> Iterator[str]:
-    """The file of a trace: that of a path, or one of bytes or of a DataFrame, which is there as long as it is used."""
-    if isinstance(trace, str | os.PathLike):
-        yield os.fspath(trace)
-        return
-    if not isinstance(trace, bytes):
-        from marple.frames import trace_of
-
-        trace = trace_of(trace)
-    with _written(trace) as path:
-        yield path
-
-
-@contextmanager
-def _written(content: bytes) -> Iterator[str]:
-    with tempfile.NamedTemporaryFile(prefix="marple-") as file:
-        file.write(content)
-        file.flush()
-        yield file.name
-
-
-def _content(path: os.PathLike) -> bytes:
-    """What a file has, or nothing where it can't be read: the program says so then."""
-    try:
-        return Path(path).read_bytes()
-    except OSError:
-        return b""
+    """The text of a query: that of its file, if it is a path, or these bytes. Raises InputError."""
+    return text_of_query(query, None)

@@ -21,6 +21,10 @@ class OutOfMemory(MarpleError):
     """The program ran out of memory."""
 
 
+class TimedOut(MarpleError):
+    """The call took longer than its timeout; the program was ended."""
+
+
 class UsageError(MarpleError):
     """The program doesn't take these words, as an option out of its bounds."""
 
@@ -43,13 +47,14 @@ class QueryRefused(MarpleError):
     """The query, or the plan's text, is refused.
 
     kind: the fault, as `UnknownName` or `OverLimit(nodes)`; offset: the byte where it stands, from 0; line, column: the
-    same place, both counted from 1, the column in bytes; shown: the line with a caret below the place.
+    same place, both counted from 1, the column in bytes; shown: the line with a caret below the place; remedy: what to
+    do, as ./explain says it, or nothing.
     """
 
     status = 4
 
-    def __init__(self, kind: str, offset: int, query: bytes):
-        self.kind, self.offset = kind, offset
+    def __init__(self, kind: str, offset: int, query: bytes, remedy: str = ""):
+        self.kind, self.offset, self.remedy = kind, offset, remedy
         before = query[:offset]
         start = before.rfind(b"\n") + 1
         end = query.find(b"\n", offset)
@@ -57,27 +62,31 @@ class QueryRefused(MarpleError):
         self.line, self.column = before.count(b"\n") + 1, offset - start + 1
         indent = re.sub(r"[^\t]", " ", before[start:].decode(errors="replace"))
         self.shown = f"{text.decode(errors='replace')}\n{indent}^"
-        super().__init__(kind, offset, query)
+        super().__init__(kind, offset, query, remedy)
 
     def __str__(self) -> str:
-        return f"query: {self.kind} at {self.offset}, line {self.line}, column {self.column}:\n{self.shown}"
+        place = f"query: {self.kind} at {self.offset}, line {self.line}, column {self.column}:\n{self.shown}"
+        return f"{place}\n{self.remedy}" if self.remedy else place
 
 
 class TraceRefused(MarpleError):
     """The trace is refused.
 
     fault: its name, as `BadNumber`; record: the number of the data record from 1, or None; field: the field's name, or
-    None; path: the file, where a run over several files says which.
+    None; path: the file, if it is known; why: of a DataFrame, the column, its type, the row and what its value lacks.
     """
 
     status = 5
 
-    def __init__(self, fault: str, record: int | None = None, field: str | None = None, path: str | None = None):
-        self.fault, self.record, self.field, self.path = fault, record, field, path
-        super().__init__(fault, record, field, path)
+    def __init__(
+        self, fault: str, record: int | None = None, field: str | None = None, path: str | None = None, why: str = ""
+    ):
+        self.fault, self.record, self.field, self.path, self.why = fault, record, field, path, why
+        super().__init__(fault, record, field, path, why)
 
     def __str__(self) -> str:
-        return f"trace: {self.shown}" + (f" in {self.path}" if self.path else "")
+        place = f" in {self.path}" if self.path else ""
+        return f"trace: {self.shown}{place}" + (f": {self.why}" if self.why else "")
 
     @property
     def shown(self) -> str:

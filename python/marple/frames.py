@@ -1,53 +1,71 @@
-"""Tables and traces as pandas.DataFrames."""
+"""DataFrames as traces: those of pandas, and those of other libraries that have the interchange protocol."""
 
-import math
+import sys
+from typing import Any
 
-from marple.tables import Mark, Table
+from marple.columns import EXACT, Column, cell_of, float_cell, missing_cell
+from marple.interchange import interchange_columns
 
-
-def pandas():
-    """The module pandas. Raises ImportError with what to install."""
-    try:
-        import pandas as module
-    except ImportError as missing:
-        raise ImportError("DataFrames need pandas: install python3-pandas (Debian), or pip install pandas") from missing
-    return module
+EXACT_BY_SIZE = {2: 2**11, 4: 2**24, 8: EXACT}  # of floats, by their bytes
 
 
-def frame_of(table: Table):
-    """The table as a DataFrame: words as uint64, keys as index, marks as a category.
-
-    A final whose keys aren't known has rows numbered from 0.
-    """
-    module = pandas()
-    columns = {}
-    for at, name in enumerate(table.columns):
-        words = [row[at] for row in table.rows]
-        if name == "mark" and table.kind != "final":
-            marks = [str(Mark(word)) for word in words]
-            columns[name] = module.Categorical(marks, categories=[str(mark) for mark in Mark])
-        else:
-            columns[name] = module.Series(words, dtype="uint64")
-    frame = module.DataFrame(columns, columns=list(table.columns))
-    return frame.set_index(list(table.keys)) if table.keys else frame
+def is_frame(thing: object) -> bool:
+    """Whether it is a DataFrame that can be read."""
+    return _is_pandas(thing) or hasattr(thing, "__dataframe__")
 
 
-def trace_of(frame) -> bytes:
-    """A DataFrame as a trace: its columns with their names, and a line for each row.
-
-    Whole numbers that are floats are written as whole numbers, and an infinite one as `inf`: a packet that was dropped
-    has no `tout`, so that pandas keeps the column as floats. Those are whole up to 2^53: of later times read the
-    column as text (`dtype=str`).
-    """
-    columns = {name: [_cell(value) for value in frame[name].tolist()] for name in frame.columns}
-    lines = [",".join(map(str, columns)), *map(",".join, zip(*columns.values(), strict=True))]
-    return "".join(f"{line}\n" for line in lines).encode()
+def _is_pandas(thing: object) -> bool:
+    pandas = sys.modules.get("pandas")
+    return pandas is not None and isinstance(thing, pandas.DataFrame)
 
 
-def _cell(value) -> str:
-    if isinstance(value, float) and not math.isnan(value):
-        return "inf" if value == math.inf else str(int(value)) if value.is_integer() and value >= 0 else repr(value)
-    text = "" if isinstance(value, float) else str(value)
-    if not text:
-        return '""'  # nothing at all would be an empty line where there are no other columns, and so no record
-    return '"' + text.replace('"', '""') + '"' if any(mark in text for mark in '",\r\n') else text
+def columns_of(frame: Any) -> list[Column]:
+    """The columns of a DataFrame. In pandas the levels of the index that have a name are columns too."""
+    if not _is_pandas(frame):
+        return interchange_columns(frame)
+    index = frame.index
+    levels = [index.get_level_values(at).to_series() for at, name in enumerate(index.names) if name is not None]
+    names = [name for name in index.names if name is not None]
+    columns = [frame.iloc[:, at] for at in range(frame.shape[1])]
+    return [_column(str(name), series) for name, series in zip([*names, *frame.columns], [*levels, *columns])]
+
+
+def _column(name: str, series: Any) -> Column:
+    exact = EXACT_BY_SIZE.get(getattr(series.dtype, "itemsize", 8), EXACT) if _kind(series) == "f" else EXACT
+    return Column(name, str(series.dtype), _cells(name, series, exact), lambda row: _value(series, row), exact)
+
+
+def _kind(series: Any) -> str:
+    """The letter of a numpy type: i and u are whole numbers, f is floats. None of these for other types."""
+    return getattr(series.dtype, "kind", "O") if type(series.dtype).__module__.startswith("numpy") else "O"
+
+
+def _value(series: Any, row: int) -> object:
+    value = series.iloc[row]
+    return value.item() if type(value).__module__ == "numpy" else value
+
+
+def _cells(name: str, series: Any, exact: int) -> list[Any]:
+    kind = _kind(series)
+    if kind in "iu":
+        return list(series.tolist())
+    if kind == "f":
+        missing = missing_cell(name)
+        return [float_cell(value, exact) if value == value else missing for value in series.tolist()]
+    if getattr(series.dtype, "tz", None) is not None:
+        times = series.dt.tz_convert("UTC").dt.tz_localize(None).to_numpy("datetime64[ns]").view("int64").tolist()
+        return _filled(times, series, missing_cell(name))
+    if type(series.dtype).__name__ == "CategoricalDtype":
+        cells = [cell_of(name, value) for value in series.cat.categories]
+        missing = missing_cell(name)
+        return [cells[code] if code >= 0 else missing for code in series.cat.codes.tolist()]
+    numpy = type(series.dtype).__module__.startswith("numpy")
+    values = series if numpy else series.to_numpy(dtype=object, na_value=None)
+    return [value if type(value) is str else cell_of(name, value) for value in values.tolist()]
+
+
+def _filled(values: list[Any], series: Any, missing: str) -> list[Any]:
+    """The values, with this cell where the series has none."""
+    if not series.hasnans:
+        return values
+    return [missing if lacks else value for value, lacks in zip(values, series.isna().tolist())]

@@ -1,6 +1,7 @@
 """What `plan` writes of a query, and what `compile` writes of its groupbys."""
 
 from dataclasses import dataclass
+from typing import Optional
 
 FIELDS = (
     "switch", "qid", "uid", "srcip", "dstip", "srcport", "dstport", "proto",
@@ -65,7 +66,10 @@ class Group:
 def read_groups(text: str) -> dict[str, Group]:
     """The groupbys of a text that `compile` writes, by their names."""
     groups: dict[str, Group] = {}
-    name, keys, states, body = "", {}, {}, ()
+    name = ""
+    keys: dict[str, Optional[str]] = {}
+    states: dict[str, int] = {}
+    body: tuple[str, ...] = ()
     for line in text.splitlines():
         words = line.split(" ")
         if words[0] == "group":

@@ -5,6 +5,7 @@ The program says whether a text is a query; this reader is for texts that it acc
 
 import re
 from dataclasses import dataclass
+from typing import Any
 
 FIVE_TUPLE = ("srcip", "dstip", "srcport", "dstport", "proto")
 TOKEN = re.compile(
@@ -135,7 +136,7 @@ def _end_of_item(tokens: list[_Token], at: int) -> int:
 
 def _item(tokens: list[_Token]) -> Item:
     words = [token.text for token in tokens]
-    place = {"start": tokens[0].start, "end": tokens[-1].end}
+    place: dict[str, Any] = {"start": tokens[0].start, "end": tokens[-1].end}
     if words[0] == "def":
         return Item(words[1], "def", False, **place)
     if words[0] == "print" and len(words) == 3:
@@ -150,7 +151,8 @@ def _item(tokens: list[_Token]) -> Item:
 
 def _arguments(words: list[str]) -> list[list[str]]:
     """The words between the commas that stand in no brackets."""
-    arguments, depth = [[]], 0
+    arguments: list[list[str]] = [[]]
+    depth = 0
     for word in words:
         depth += (word in OPENING) - (word in CLOSING)
         if word == "," and depth == 0:
@@ -160,7 +162,7 @@ def _arguments(words: list[str]) -> list[list[str]]:
     return arguments
 
 
-def _binding(name: str, operator: str, final: bool, arguments: list[list[str]], place: dict[str, int]) -> Item:
+def _binding(name: str, operator: str, final: bool, arguments: list[list[str]], place: dict[str, Any]) -> Item:
     size = 3 if operator in ("groupby", "top") else 2
     if len(arguments) != size or len(arguments[0]) != 1:
         raise UnreadQuery(f"{name} isn't of a known form")

@@ -14,6 +14,13 @@ TOP = HERE.parent.parent
 SCRIPTS = TOP / "examples" / "captures"
 MARPLE = os.environ.get("MARPLE", str(TOP / "marple"))
 WAITING = 100_000
+# Writes the most memory that a command takes, or 0 where it fails. A process counts what the one that started it had, so that
+# is this small one.
+MEASURE = """
+import resource, subprocess, sys
+done = subprocess.run(sys.argv[1:], stdout=subprocess.DEVNULL, stderr=subprocess.DEVNULL)
+print(resource.getrusage(resource.RUSAGE_CHILDREN).ru_maxrss if done.returncode == 0 else 0)
+"""
 ENVIRONMENT = dict(os.environ)
 
 
@@ -185,11 +192,8 @@ def peak(room: Path, waiting: int) -> int:
     (folder / "before.pcap").touch()
     (folder / "after.pcap").touch()
     words = [str(SCRIPTS / "trace-from-captures"), "--force", "before.pcap", "after.pcap"]
-    environment = ENVIRONMENT | {"MARPLE_KEPT": str(folder)}
-    with subprocess.Popen(words, cwd=folder, env=environment, stdout=subprocess.DEVNULL, stderr=subprocess.DEVNULL) as process:
-        _, status, usage = os.wait4(process.pid, 0)
-        process.returncode = os.waitstatus_to_exitcode(status)
-    return usage.ru_maxrss * 1024 if process.returncode == 0 else 0
+    done = run([sys.executable, "-c", MEASURE, *words], folder, folder)
+    return int(done.stdout) * 1024
 
 
 def check_memory(tally, room: Path) -> None:

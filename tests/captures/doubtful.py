@@ -4,7 +4,7 @@ from collections.abc import Iterator
 from dataclasses import replace
 
 from cases import BUSY, MSECS, busy, left_out, near_end, ordinary
-from refusals import CONSTANT, both_directions, clock, latencies, refused, with_option
+from refusals import CONSTANT, clock, latencies, refused, with_option
 from synthesize import RECEIVER, START, TCP, UDP, Case, Packet, Row, World
 
 SPLIT = ("longer than 1500 bytes in both captures, each counted as one: if offload joined what the link has apart, give "
@@ -120,7 +120,14 @@ def one_clock() -> Case:
 
 def slow_clock_both_ways() -> Iterator[Case]:
     """A slow clock after a queue that packets of both directions pass: no latency may be below 0 by the constant for these."""
-    case = clock(next(both_directions()), "clock-slow-both-ways", -250 * MSECS)
+    world, time = World(50), START
+    for number in range(200):
+        time += int(world.random.expovariate(1 / BUSY))
+        packet = world.next_packet("10.0.1.1", 100 if number % 2 else 1400)
+        if number % 2:
+            packet = replace(packet, source=packet.target, target=packet.source, ports=packet.ports[::-1])
+        world.send(time, packet)
+    case = clock(world.case("both-ways"), "clock-slow-both-ways", -250 * MSECS)
     left = len(latencies(case))
     floors = [min(row.left - row.came for row in case.rows if row.left is not None and (row.packet.source == RECEIVER) == way)
               for way in (True, False)]

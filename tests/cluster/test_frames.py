@@ -40,7 +40,7 @@ class AFrame(unittest.TestCase):
     def test_has_words_keys_and_marks(self):
         folder = CASES / "run" / "greatest-word"
         frame = marple.run(folder / "query", folder / "trace")["r"].frame()
-        self.assertEqual({str(frame[name].dtype) for name in frame.columns if name != "mark"}, {"uint64"})
+        self.assertEqual({str(frame[name].dtype) for name in frame.columns if name not in ("mark", "epoch")}, {"uint64"})
         self.assertEqual(str(frame["mark"].dtype), "category")
         self.assertEqual(list(frame["mark"].cat.categories), ["exact", "valid", "invalid", "within"])
         self.assertEqual(list(frame.index.names), ["srcip"])
@@ -70,7 +70,7 @@ class ATrace(unittest.TestCase):
 
     def test_of_dropped_packets(self):
         frame = pandas.DataFrame({"srcip": ["10.0.0.1", 7], "tout": [numpy.inf, 4.0], "note": ['a,"b"\n', "c"]})
-        query = "def f([d],[tout]) { if (tout == infinity) { d = d + 1; } } r = groupby(pktstream, [srcip], f); print r;"
+        query = b"def f([d],[tout]) { if (tout == infinity) { d = d + 1; } } r = groupby(pktstream, [srcip], f); print r;"
         self.assertEqual(marple.run(query, frame)["r"].frame()["d"].to_dict(), {7: 0, 167772161: 1})
 
     def test_of_no_numbers_is_refused(self):

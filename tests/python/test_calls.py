@@ -2,8 +2,10 @@
 
 import os
 import pickle
+import re
 import stat
 import unittest
+import warnings
 from pathlib import Path
 from unittest import mock
 
@@ -12,7 +14,7 @@ from support import CASES, TOP, Folder, cases, content, words
 import marple
 from marple import program
 
-COUNT = "def count([c],[]) { c = c + 1; }\nr = groupby(pktstream, [srcip], count);\nprint r;\n"
+COUNT = b"def count([c],[]) { c = c + 1; }\nr = groupby(pktstream, [srcip], count);\nprint r;\n"
 CALLS = {"run": marple.run, "net": marple.net, "enclose": marple.enclose, "run-plan": marple.run_plan}
 KNOWN = ("--buckets", "--ways", "--pipe", "--lag", "--refresh", "--every")
 
@@ -22,7 +24,9 @@ def called(folder: Path):
     command, *rest = words(folder)
     operands = [os.path.join(folder, word) for word in rest[:2]]
     options = {name[2:]: int(value) for name, value in zip(rest[2::2], rest[3::2], strict=True)}
-    return CALLS[command](Path(operands[0]), operands[1], **options)
+    with warnings.catch_warnings():
+        warnings.simplefilter("ignore", marple.KeysLeftOut)
+        return CALLS[command](Path(operands[0]), operands[1], **options)
 
 
 def is_plain(folder: Path) -> bool:
@@ -61,19 +65,21 @@ def complaint_of(refused: marple.MarpleError) -> str:
     if isinstance(refused, marple.TraceRefused):
         parts = ",".join(str(part) for part in (refused.record, refused.field) if part is not None)
         return f"marple: trace: {refused.fault}{f'({parts})' if parts else ''}\n"
-    return f"marple: {refused}\n"
+    said = re.match("bad command line|cannot read the (query|plan|trace)|", str(refused))[0]  # what follows is the package's
+    return f"marple: {said or refused}\n"
 
 
 class Queries(unittest.TestCase):
     def test_are_texts_or_paths(self):
         expected = "table r linear 0 1\nsrcip,mark,epoch,epochs,c\n7,exact,*,1,1\n"
         path = str(TOP / "examples" / "count.query")
-        for query in (COUNT, COUNT.encode(), path, Path(path)):
+        for query in (COUNT, bytearray(COUNT), path, Path(path)):
             self.assertEqual(marple.run(query, b"srcip\n7\n").text, expected)
+        self.assertEqual(marple.run(query_text=COUNT.decode(), trace=b"srcip\n7\n").text, expected)
 
     def test_are_shown_where_they_are_refused(self):
         with self.assertRaises(marple.QueryRefused) as refused:
-            marple.run("def f([],[]) { }\n\tr = groupby(pktstream, [srcip, where], f);\nprint r;\n", b"")
+            marple.run(b"def f([],[]) { }\n\tr = groupby(pktstream, [srcip, where], f);\nprint r;\n", b"")
         fault = refused.exception
         self.assertEqual((fault.kind, fault.offset, fault.line, fault.column), ("UnknownName", 49, 2, 33))
         self.assertEqual(fault.shown, "\tr = groupby(pktstream, [srcip, where], f);\n\t" + " " * 31 + "^")
@@ -159,7 +165,7 @@ class OtherCommands(unittest.TestCase):
         plan = marple.compile(query)
         self.assertEqual(plan, (TOP / "examples" / "cookbook" / "depth.plan").read_text())
         expected = content(CASES / "run" / "cookbook-depth", "stdout").decode()
-        self.assertEqual(marple.run_plan(plan, trace).text, expected)
+        self.assertEqual(marple.run_plan(plan_text=plan, trace=trace).text, expected)
         self.assertEqual(marple.run_plan(query.with_suffix(".plan"), trace).text, expected)
 
     def test_gen(self):
@@ -194,6 +200,7 @@ class TheProgram(unittest.TestCase):
         self.make(self.asked, b"#!/bin/sh\nexit 0\n")
         self.assertEqual(program.find_program(), str(self.built))
         self.make(self.asked, b"#!/bin/sh\nexit 1\n")
+        program._search.cache_clear()
         self.assertEqual(program.find_program(), str(self.installed))
         self.installed.unlink()
         with self.assertRaises(marple.ProgramMissing):

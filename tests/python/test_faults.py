@@ -10,8 +10,8 @@ import marple
 from marple import parts
 from marple.parts import job
 
-BY_KEY = "def f([m],[tin]) { m = max(m, tin); } r = groupby(pktstream, [srcip], f); print r;"
-BY_SUMS = "def f([m],[tin]) { m = m + tin; } a = map(pktstream, [all = srcip / 7]); r = groupby(a, [all], f); print r;"
+BY_KEY = b"def f([m],[tin]) { m = max(m, tin); } r = groupby(pktstream, [srcip], f); print r;"
+BY_SUMS = b"def f([m],[tin]) { m = m + tin; } a = map(pktstream, [all = srcip / 7]); r = groupby(a, [all], f); print r;"
 HEADERS = (b"srcip,tin\n", b'"srcip","tin"\r\n', b"x, tin ,srcip\n")
 RECORDS = {
     2: (b"1,2\n", b"7,8\r\n", b"10.0.0.1,4\n", b'"3",5\n', b" 9 ,010\n", b"\n", b"12,3\r", b'"1\n2",3\n'),
@@ -59,7 +59,7 @@ class SeveralFiles(unittest.TestCase):
     def setUp(self):
         self.folder = Folder(self)
 
-    def refused(self, traces: list[bytes], query: str = BY_KEY, **options) -> marple.TraceRefused:
+    def refused(self, traces: list[bytes], query: bytes = BY_KEY, **options) -> marple.TraceRefused:
         self.paths = [self.folder.write(f"{number}.csv", trace) for number, trace in enumerate(traces)]
         with self.assertRaises(marple.TraceRefused) as refused:
             parts.run(query, self.paths, **options)

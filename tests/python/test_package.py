@@ -2,7 +2,10 @@
 otherwise by its wheel, which is unpacked.
 """
 
+import hashlib
 import importlib.util
+import os
+import shutil
 import subprocess
 import sys
 import sysconfig
@@ -18,10 +21,10 @@ import marple
 VERSION = (TOP / "VERSION").read_text().strip()
 
 
-def built_wheel(folder: Folder) -> str:
+def built_wheel(folder: Folder, top: Path = TOP) -> str:
     """The path of the wheel that the package's own backend builds."""
     build = (
-        f"import sys; sys.path.insert(0, {str(TOP / 'python')!r})\n"
+        f"import sys; sys.path.insert(0, {str(top / 'python')!r})\n"
         f"import wheel_backend; print(wheel_backend.build_wheel({folder.place.name!r}))"
     )
     done = subprocess.run([sys.executable, "-B", "-c", build], capture_output=True, text=True, check=True)
@@ -35,12 +38,13 @@ class Installed(unittest.TestCase):
         cls.place = Path(cls.folder.path("venv"))
         venv.create(cls.place, with_pip=False)
         cls.python = str(cls.place / "bin" / "python")
-        cls.status, cls.text = 0, ""
+        cls.status, cls.text, cls.unpacked = 0, "", False
         if importlib.util.find_spec("pip"):
             pip = [sys.executable, "-m", "pip", "--python", cls.python, "install", "--no-index", "--quiet"]
             done = subprocess.run([*pip, str(TOP / "python")], capture_output=True, text=True, check=False)
             cls.status, cls.text = done.returncode, done.stdout + done.stderr
         else:
+            cls.unpacked = True
             place = sysconfig.get_path("purelib", "venv", {"base": str(cls.place)})
             with zipfile.ZipFile(built_wheel(cls.folder)) as wheel:
                 wheel.extractall(place)
@@ -66,6 +70,21 @@ class Installed(unittest.TestCase):
         asked = "import marple.parts.__main__, marple.frames; print(marple.parts.PartsRefused.status)"
         self.assertEqual(self.ask(asked), "4\n")
 
+    def test_answers_and_says_the_remedy_of_a_refused_query(self):
+        text = "def count([c],[]) { c = c + 1; }\\nr = groupby(pktstream, [srcip], count);\\nprint r;\\n"
+        self.assertEqual(self.ask(f"import marple; print(marple.run(b'{text}', b'srcip\\n7\\n')['r'].column('c'))"), "[1]\n")
+        asked = f"import marple\ntry: marple.plan(b'{text}'.replace(b'srcip', b'scrip'))\nexcept marple.QueryRefused as r: print(r.remedy)"
+        self.assertIn("srcip", self.ask(asked))
+        asked = f"import marple\ntry: marple.run(b'{text}', b'srcip\\n', ways=3)\nexcept marple.UsageError as r: print(r)"
+        self.assertIn("ways is 1, 2, 4, 8, 16 or 32", self.ask(asked))
+
+    def test_has_its_commands(self):
+        if self.unpacked:
+            self.skipTest("pip isn't there, which makes the commands")
+        command = [str(self.place / "bin" / "marple-parts"), "--version"]
+        done = subprocess.run(command, capture_output=True, text=True, check=False)
+        self.assertEqual(done.stdout, f"marple {VERSION}\n")
+
     def test_leaves_nothing_in_the_checkout(self):
         kept = [path.name for path in (TOP / "python").iterdir()]
         sources = ["marple", "pyproject.toml", "wheel_backend.py"]
@@ -78,9 +97,134 @@ class TheWheel(unittest.TestCase):
         with zipfile.ZipFile(built_wheel(folder)) as wheel:
             names = wheel.namelist()
             record = wheel.read(f"marple-{VERSION}.dist-info/RECORD").decode().splitlines()
+        self.assertIn("marple/py.typed", names)
         sources = {str(path.relative_to(TOP / "python")) for path in (TOP / "python" / "marple").rglob("*.py")}
         self.assertLessEqual(sources, set(names))
         self.assertEqual(sorted(line.split(",")[0] for line in record), sorted(names))
+
+    def test_depends_on_its_sources_alone(self):
+        """Another folder, other times and permissions of the files give the same bytes."""
+        folder, sums = Folder(self), []
+        for number in range(2):
+            top = copied_checkout(Path(folder.path(f"checkout-{number}")))
+            for path in (path for path in top.rglob("*") if path.is_file()):
+                path.chmod(0o600 if number else 0o755)
+                os.utime(path, (number * 10**9, number * 10**9))
+            out = Folder(self)
+            sums.append(hashlib.sha256(Path(built_wheel(out, top)).read_bytes()).hexdigest())
+        self.assertEqual(sums[0], sums[1])
+
+
+def copied_checkout(top: Path) -> Path:
+    """A copy of what the wheel is made from, with a program that was built."""
+    for name in ("python", "query_help", "docs"):
+        shutil.copytree(TOP / name, top / name, ignore=shutil.ignore_patterns("__pycache__"))
+    shutil.copy(TOP / "VERSION", top / "VERSION")
+    (top / "crates.txt").write_text("marple:\n")
+    os.utime(top / "crates.txt", (1, 1))
+    built = top / "crates" / "marple" / "out" / "marple"
+    built.parent.mkdir(parents=True)
+    built.write_bytes(b"#!/bin/sh\n")
+    built.chmod(0o755)
+    return top
+
+
+@unittest.skipUnless(importlib.util.find_spec("pip"), "pip isn't there, which notes where a package came from")
+class TheProgramOfTheCheckout(unittest.TestCase):
+    """After an install the program is that of the checkout that the package, or its wheel, came from."""
+
+    def setUp(self):
+        self.folder = Folder(self)
+        self.top = copied_checkout(Path(self.folder.path("checkout")).resolve())
+        self.python = Path(self.folder.path("venv")) / "bin" / "python"
+        venv.create(self.folder.path("venv"), with_pip=False)
+
+    def found(self, *installed: str) -> str:
+        pip = [sys.executable, "-m", "pip", "--python", str(self.python), "install", "--no-index", "--quiet"]
+        subprocess.run([*pip, "--force-reinstall", *installed], check=True)
+        environment = {"PATH": "/usr/bin:/bin", "HOME": self.folder.path("home")}
+        ask = "import marple\ntry: print(marple.find_program())\nexcept marple.ProgramMissing as missing: print(missing)"
+        done = subprocess.run([self.python, "-I", "-c", ask], env=environment, capture_output=True, text=True, check=True)
+        return done.stdout.strip()
+
+    def test_is_found(self):
+        built = str(self.top / "crates" / "marple" / "out" / "marple")
+        self.assertEqual(self.found(str(self.top / "python")), built)
+        (self.top / "dist").mkdir()
+        wheel = shutil.copy(built_wheel(self.folder, self.top), self.top / "dist")
+        self.assertEqual(self.found(wheel), built)
+        self.assertEqual(self.found("--editable", str(self.top / "python")), built)
+
+    def test_is_missed_where_the_wheel_came_from_elsewhere(self):
+        self.assertIn("/bin/marple", self.found(built_wheel(self.folder, self.top)))
+
+
+class OtherPythons(unittest.TestCase):
+    """The package runs on Python 3.10 to 3.13, and says what it needs on an older one."""
+
+    ASK = (
+        "import marple, marple.parts.__main__, marple.frames, marple.exports\n"
+        "table = marple.read_tables('table r linear 0 1\\nsrcip,mark,epoch,epochs,c\\n7,exact,*,1,2\\n')['r']\n"
+        "print(table.rows, table.to_csv())"
+    )
+
+    def python(self, minor: int) -> str:
+        """The path of this Python."""
+        found = shutil.which(f"python3.{minor}")
+        places = [found] if found else []
+        places += map(str, Path.home().glob(f".pyenv/versions/3.{minor}.*/bin/python3"))
+        for place in places:
+            if subprocess.run([place, "-c", ""], capture_output=True, check=False).returncode == 0:
+                return place
+        self.skipTest(f"Python 3.{minor} isn't there")
+
+    def ask(self, minor: int):
+        """What this Python answers."""
+        environment = os.environ | {"PYTHONPATH": str(TOP / "python"), "PYTHONDONTWRITEBYTECODE": "1"}
+        command = [self.python(minor), "-W", "error", "-c", self.ASK]
+        return subprocess.run(command, env=environment, capture_output=True, text=True, check=False)
+
+    def check(self, minor: int):
+        done = self.ask(minor)
+        self.assertEqual(done.stderr, "")
+        self.assertEqual(done.stdout, "[(7, <Mark.EXACT: 0>, 0, 1, 2)] srcip,mark,epoch,epochs,c\n7,exact,,1,2\n\n")
+
+    def test_3_9_is_told_what_is_needed(self):
+        lines = self.ask(9).stderr.splitlines()
+        self.assertRegex(lines[-1], r"^ImportError: marple needs Python 3\.10 or later; this is Python 3\.9, /.*python3")
+
+    def test_3_9_does_not_install_it(self):
+        python = self.python(9)
+        if subprocess.run([python, "-m", "pip", "--version"], capture_output=True, check=False).returncode != 0:
+            self.skipTest("Python 3.9 has no pip")
+        command = [python, "-m", "pip", "install", "--no-index", "--target", Folder(self).path("none"), TOP / "python"]
+        environment = os.environ | {"PYTHONDONTWRITEBYTECODE": "1"}
+        done = subprocess.run(command, env=environment, capture_output=True, text=True, check=False)
+        self.assertRegex(done.stdout + done.stderr, "requires a different Python: 3\\.9.* not in '>=3\\.10'")
+
+    def test_3_10(self):
+        self.check(10)
+
+    def test_3_11(self):
+        self.check(11)
+
+    def test_3_12(self):
+        self.check(12)
+
+    def test_3_13(self):
+        self.check(13)
+
+
+class Hints(unittest.TestCase):
+    def test_are_complete(self):
+        """Every argument has a hint, and mypy finds no fault: in all but the modules of parts."""
+        if shutil.which("mypy") is None:
+            self.skipTest("mypy isn't there")
+        folder = Folder(self)
+        modules = sorted(map(str, (TOP / "python" / "marple").glob("*.py")))
+        command = ["mypy", "--strict", "--python-version", "3.10", "--cache-dir", folder.path("cache"), *modules]
+        done = subprocess.run(command, cwd=TOP / "python", capture_output=True, text=True, check=False)
+        self.assertEqual(done.stdout, f"Success: no issues found in {len(modules)} source files\n")
 
 
 if __name__ == "__main__":

@@ -99,8 +99,8 @@ class JoinedTables(unittest.TestCase):
 
     def test_of_starts_other_than_0(self):
         query = (
-            "def sums([n = 5, m = 18446744073709551615, d = 1],[pkt_len]) { n = n + 1; m = m - pkt_len; }\n"
-            "m = map(pktstream, [parity = uid & 1]); r = groupby(m, [parity], sums); print r;"
+            b"def sums([n = 5, m = 18446744073709551615, d = 1],[pkt_len]) { n = n + 1; m = m - pkt_len; }\n"
+            b"m = map(pktstream, [parity = uid & 1]); r = groupby(m, [parity], sums); print r;"
         )
         answer = parts.run(query, [self.whole], piece=9_000)
         self.assertEqual(answer.by, ())
@@ -171,9 +171,9 @@ class PacketsInOrder(unittest.TestCase):
         """The fold keeps the last eight packets of a key, so their order shows."""
         folder = Folder(self)
         fold = (
-            "def last([a, b, c, d],[uid]) { d = c; c = b; b = a; a = uid; }\n"
-            "def digest([h],[uid]) { h = h * 31 + uid; }\n"
-            "r = groupby(pktstream, [srcip], last); s = groupby(pktstream, [srcip, dstip], digest); print r; print s;"
+            b"def last([a, b, c, d],[uid]) { d = c; c = b; b = a; a = uid; }\n"
+            b"def digest([h],[uid]) { h = h * 31 + uid; }\n"
+            b"r = groupby(pktstream, [srcip], last); s = groupby(pktstream, [srcip, dstip], digest); print r; print s;"
         )
         trace = generated(*TRACE)
         traces = folder.traces(trace, 4)

@@ -196,7 +196,7 @@ class Matcher:
         if isinstance(entry, dict):
             wanted = time - (pair.latency if pair.matched else self.late)
             entry, by_time = likeliest(entry, mark, wanted, self.came)
-        if entry is not None and not self.is_other(identity, mark, entry):
+        if entry is not None and (entry & MARK == mark or not self.is_other(identity, mark, entry)):
             came = self.came(entry >> 32)
             if came >= pair.horizon or identity[PROTOCOL] == TCP:
                 take(waiting, identity, entry)
@@ -207,7 +207,8 @@ class Matcher:
 
     def is_other(self, identity: bytes, mark: int, entry: Entry) -> bool:
         """Whether the marks of two packets alike say that they are two, where the sender's numbers don't."""
-        if entry & MARK == mark or not mark or not entry & MARK:
+        other = entry & MARK
+        if other == mark or not mark or not other:
             return False
         protocol = identity[PROTOCOL]
         return self.checksums_stay if protocol == UDP else protocol == TCP and identity[IDENTIFICATION] == NONE

@@ -35,7 +35,7 @@ from marple.parts.refusals import (
     WorkTaken,
 )
 from marple.program import find_program
-from marple.tables import Answer, read_tables
+from marple.tables import Answer, tables_of_file
 
 __all__ = [
     "Choice", "ClusterLost", "CompressionRefused", "FieldNeeded", "FieldRefused", "FinalGroupby", "FinalOfTop",
@@ -63,7 +63,7 @@ def run(
 ) -> PartsAnswer:  # fmt: skip
     """The tables of the query over the packets of all traces, in their order, by runs over parts of them.
 
-    query: a path, or a text, which has a `;`. traces: a path, or those of files with one header; what is compressed by gzip
+    query: a path, or its text as bytes. traces: a path, or those of files with one header; what is compressed by gzip
     is unpacked first. by: fields to split by, or one field; by default all that the query allows. parts: how many at
     least. workers: how many processes of this machine do the tasks; client: a distributed.Client, whose workers see the
     traces and the folder at the same paths; without either the tasks run in turn here. work: a folder for what is made
@@ -78,8 +78,8 @@ def run(
             text, traces, by=by, parts=parts, engine=engine, work=folder, sums=work is not None, given=given,
             program=program, piece=piece, report=report,
         )  # fmt: skip
-        with open(joined, "rb") as file:
-            answer = PartsAnswer(list(read_tables(file.read(), keys_of_finals(text)).values()))
+        # The file is read as its tables are: it stays until the last of them goes, also where the folder is deleted.
+        answer = PartsAnswer(list(tables_of_file(joined, keys_of_finals(text)).values()))
     answer.by, answer.parts = choice.by, len(runs)
     return answer
 

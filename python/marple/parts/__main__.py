@@ -17,6 +17,7 @@ from marple.parts.engine import cluster_at, engine_of
 from marple.parts.options import check_option
 from marple.parts.refusals import OptionRefused
 from marple.parts.stopping import Stopped, raise_at_signals
+from marple.version import __version__
 
 OPTIONS = ("buckets", "ways", "pipe", "lag")
 NUMBERED = ("refresh", "every")  # they count the packets of the whole
@@ -63,6 +64,7 @@ def is_underway(line: str) -> bool:
 
 def words() -> argparse.ArgumentParser:
     parser = argparse.ArgumentParser(prog="python -m marple.parts", description=__doc__)
+    parser.add_argument("--version", action="version", version=f"marple {__version__}")
     parser.add_argument("query", metavar="QUERY", help="the query's file")
     parser.add_argument("traces", metavar="TRACE", nargs="+", help="files of one header, in the order of their packets")
     parser.add_argument("--by", metavar="FIELD[,FIELD]", help="the fields to split by (all that the query allows)")

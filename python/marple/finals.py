@@ -1,0 +1,128 @@
+"""From which finals keys were left out: a final has the keys alone whose rows cover all packets."""
+
+import warnings
+from collections.abc import Callable, Mapping
+from dataclasses import dataclass, replace
+from functools import cached_property
+from typing import Optional
+
+from marple.faults import MarpleError
+from marple.plans import read_plan
+from marple.queries import Item, Items, UnreadQuery, read_query
+from marple.tables import Answer, Table, Tables, View
+
+
+class KeysLeftOut(UserWarning):
+    """A final lacks keys of the groupbys that it is made from."""
+
+
+@dataclass(frozen=True)
+class Asking:
+    """How a query is asked, so that its finals can say what they lack.
+
+    text: the query, or the query that prints the tables `more` too; keys: the names of the keys of each final;
+    sources: the groupbys that each printed final is made from; linear: those of them that leave nothing out.
+    """
+
+    text: bytes
+    keys: Mapping[str, tuple[str, ...]]
+    sources: Mapping[str, frozenset[str]]
+    linear: frozenset[str] = frozenset()
+    more: tuple[str, ...] = ()
+
+    def without_more(self) -> "Asking":
+        return replace(self, more=())
+
+    def answer(self, whole: Answer) -> Answer:
+        """The answer without the tables that weren't asked for, with the number of keys that each final lacks.
+
+        Warns of KeysLeftOut.
+        """
+        views = [View(view.packets, self._told(view)) for view in whole.views]
+        answer = Answer(self._told(whole), views)
+        for table in answer.values():
+            if table.left_out:
+                warnings.warn(_words(table, self.sources[table.name]), KeysLeftOut, stacklevel=4)
+        return answer
+
+    def _told(self, tables: Tables) -> list[Table]:
+        lacking = _Lacking(tables, self.linear)
+        return [
+            table.lacking(lacking.of(self.sources[table.name])) if table.name in self.sources else table
+            for table in tables.values()
+            if table.name not in self.more
+        ]
+
+
+def _words(table: Table, sources: frozenset[str]) -> str:
+    keys = "1 key" if table.left_out == 1 else f"{table.left_out} keys"
+    return (
+        f"the final {table.name} lacks {keys} of {' and '.join(sorted(sources))}, whose rows don't cover all their packets: "
+        "with more buckets or ways fewer keys leave the cache"
+    )
+
+
+class _Lacking:
+    """The keys of groupbys that finals leave out, each table looked through once."""
+
+    def __init__(self, tables: Tables, linear: frozenset[str]):
+        self.tables, self.linear = tables, linear
+        self.known: dict[str, frozenset[bytes]] = {}
+
+    def of(self, sources: frozenset[str]) -> Optional[int]:
+        """How many keys of these groupbys; None where one of them isn't there."""
+        if any(name not in self.tables and name not in self.linear for name in sources):
+            return None
+        return len(frozenset().union(*(self._keys(name) for name in sources)))
+
+    def _keys(self, name: str) -> frozenset[bytes]:
+        if name in self.linear or name not in self.tables:
+            return frozenset()
+        if name not in self.known:
+            self.known[name] = self.tables[name].keys_not_covered()
+        return self.known[name]
+
+
+def asking(text: bytes, plan: Callable[[], bytes]) -> Asking:
+    """How to ask this query. `plan` gives what the program's `plan` writes of it, or raises why it is refused."""
+    if b"final" not in text:
+        return Asking(text, {}, {})
+    try:
+        classes = {one.name: one.kind for one in read_plan(plan().decode("ascii")).groupbys}
+        query = _Query(read_query(text))
+    except (MarpleError, UnreadQuery):  # what asks the query says why it is refused
+        return Asking(text, {}, {})
+    sources = {name: query.sources(name) for name in query.printed if query.tables[name].final}
+    unprinted = sorted(frozenset().union(*sources.values()) - set(query.printed))
+    if not unprinted:
+        return Asking(text, query.keys, sources)
+    more = tuple(name for name in unprinted if classes.get(name) == "other")
+    prints = b"".join(b"\nprint %s;" % name.encode() for name in more)
+    linear = frozenset(name for name in unprinted if classes.get(name) == "linear")
+    return Asking(text + prints + (b"\n" if more else b""), query.keys, sources, linear, more)
+
+
+@dataclass(frozen=True)
+class _Query:
+    """What is needed of a query's items."""
+
+    items: Items
+
+    @cached_property
+    def tables(self) -> Mapping[str, Item]:
+        return self.items.tables
+
+    @property
+    def printed(self) -> tuple[str, ...]:
+        return self.items.prints
+
+    @property
+    def keys(self) -> dict[str, tuple[str, ...]]:
+        return {name: self.items.keys_of(name) for name, item in self.tables.items() if item.final}
+
+    def sources(self, name: str) -> frozenset[str]:
+        """The groupbys of the stream that a table is made from."""
+        item = self.tables[name]
+        if not item.final:
+            return frozenset({name})
+        return frozenset().union(*(self.sources(one) for one in item.inputs))
