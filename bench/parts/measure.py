@@ -1,4 +1,4 @@
-"""Times a query over traces in parts with several numbers of workers, beside runs of the program. Prints a page of it.
+"""Times a query over traces in parts with several numbers of workers, and runs of the program. Prints a page of it.
 
 Usage: measure.py QUERY ROOM RUNS WORKERS..
 ROOM has the traces, and the file `expected` with the rows that a plain program gives. Each figure is measured RUNS
@@ -220,7 +220,7 @@ def verdict(goal: str, is_met: bool) -> str:
 
 def parts_table(traces: Traces, runs: dict[int, list[PartsRun]]) -> list[str]:
     """A row for each number of workers, and whether four of them are fast enough."""
-    titles = ["Workers", "Seconds", "Packets a second", f"{', '.join(STAGES)} (s)", "Beside one worker"]
+    titles = ["Workers", "Seconds", "Packets a second", f"{', '.join(STAGES)} (s)", "Times one worker"]
     lines = [f"| {' | '.join(titles)} | Peak: worker, run (MB) |", "|---|---|---|---|---|---|"]
     medians = {workers: median(one.seconds for one in own) for workers, own in runs.items()}
     fewest = medians[min(medians)]
