@@ -60,7 +60,7 @@ def check_old_python(tally) -> None:
     """The oldest Python that is enough has the same traces, and an older one is refused with the reason."""
     python = oldest_python()
     if python is None:
-        print("not run, since Python %d.%d isn't there: the capture scripts by it" % OLDEST, file=sys.stderr)
+        tally.skip("python%d.%d" % OLDEST, "the capture scripts by it")
     kept = Path(commands.ENVIRONMENT["KEPT"]) / "examples"
     for name, words in (("trace-from-captures", ["before.pcap", "after.pcap"]), ("trace-from-capture", ["mixed.pcap"])):
         script = str(commands.SCRIPTS / name)

@@ -49,7 +49,7 @@ def records(trace: bytes) -> list[list[str]]:
     return list(csv.reader(io.StringIO(trace.decode(), newline="")))
 
 
-@unittest.skipUnless(HAS_PANDAS, "pandas isn't there")
+@unittest.skipUnless(HAS_PANDAS, "pandas")
 class Times(unittest.TestCase):
     """Times in nanoseconds since 1970, of which floats lose the last digits."""
 
@@ -97,7 +97,7 @@ class Times(unittest.TestCase):
             self.assertEqual(marple.run(query, frame).text, marple.run(query, path).text)
 
 
-@unittest.skipUnless(HAS_PANDAS, "pandas isn't there")
+@unittest.skipUnless(HAS_PANDAS, "pandas")
 class Random(unittest.TestCase):
     """A trace drawn at random gives the same answer, or the same refusal, as a file and as a DataFrame of its texts."""
 
@@ -140,7 +140,7 @@ class Random(unittest.TestCase):
             return "refused", refused.shown
 
 
-@unittest.skipUnless(HAS_PANDAS, "pandas isn't there")
+@unittest.skipUnless(HAS_PANDAS, "pandas")
 class NoNumbers(unittest.TestCase):
     def refused(self, values, name: str = "srcip") -> str:
         query = COUNT.replace(b"srcip", name.encode())
@@ -191,7 +191,7 @@ class NoNumbers(unittest.TestCase):
                 self.assertEqual(marple.run(query, frame)["r"].column("d"), [1, 0])
 
 
-@unittest.skipUnless(HAS_PANDAS, "pandas isn't there")
+@unittest.skipUnless(HAS_PANDAS, "pandas")
 class Columns(unittest.TestCase):
     def test_are_written_as_csv_reads_them(self):
         print(f"seed {SEED}")
@@ -234,7 +234,7 @@ class Columns(unittest.TestCase):
             marple.run(COUNT, pandas.DataFrame())
 
 
-@unittest.skipUnless(HAS_PANDAS, "pandas isn't there")
+@unittest.skipUnless(HAS_PANDAS, "pandas")
 class OfTheProtocol(unittest.TestCase):
     """Other libraries are read by the interchange protocol, as pandas is by itself."""
 
@@ -261,7 +261,7 @@ class OfTheProtocol(unittest.TestCase):
 
     def test_of_polars(self):
         if importlib.util.find_spec("polars") is None:
-            self.skipTest("polars isn't there")
+            self.skipTest("polars")
         import polars
 
         schema = {"srcip": polars.Int64, "tin": polars.UInt64}
@@ -270,7 +270,7 @@ class OfTheProtocol(unittest.TestCase):
 
     def test_of_arrow(self):
         if importlib.util.find_spec("pyarrow") is None:
-            self.skipTest("pyarrow isn't there")
+            self.skipTest("pyarrow")
         import pyarrow
 
         columns = {"srcip": [1, None], "tout": [None, 5]}

@@ -12,6 +12,7 @@ import subprocess
 import sys
 import unittest
 from pathlib import Path
+from unittest import mock
 
 from support import TOP, Folder
 
@@ -113,7 +114,7 @@ class Random(unittest.TestCase):
                 for row in table.rows:
                     self.assertTrue(all(0 <= word <= GREATEST for word in row))
 
-    @unittest.skipUnless(HAS_PANDAS, "pandas isn't there")
+    @unittest.skipUnless(HAS_PANDAS, "pandas")
     def test_are_the_frames_that_pandas_reads(self):
         import pandas
 
@@ -129,14 +130,14 @@ class Random(unittest.TestCase):
             pandas.testing.assert_frame_equal(shown, read.astype(str), check_index_type=False)
             self.assertEqual(table.to_csv(), flat.to_csv(index=False))
 
-    @unittest.skipUnless(HAS_PANDAS, "pandas isn't there")
+    @unittest.skipUnless(HAS_PANDAS, "pandas")
     def test_do_not_change_with_their_frames(self):
         table = marple.read_tables(SMALL)["r"]
         table.to_pandas().iloc[:, -1] = 0
         table.to_pandas().loc[:, "epochs"] += 1
         self.assertEqual((table.column("n"), table.column("epochs")), ([5, 6, 7, 8], [2, 2, 1, 1]))
 
-    @unittest.skipUnless(importlib.util.find_spec("pyarrow"), "pyarrow isn't there")
+    @unittest.skipUnless(importlib.util.find_spec("pyarrow"), "pyarrow")
     def test_are_tables_of_arrow(self):
         import pyarrow.parquet
 
@@ -160,7 +161,7 @@ class Addresses(unittest.TestCase):
             for shown, word in ((line["srcip"], source), (line["dstip"], destination)):
                 self.assertEqual(shown, str(ipaddress.IPv4Address(word)) if word < 2**32 else str(word))
 
-    @unittest.skipUnless(HAS_PANDAS, "pandas isn't there")
+    @unittest.skipUnless(HAS_PANDAS, "pandas")
     def test_are_texts_in_frames(self):
         table = marple.read_tables(SMALL)["r"]
         flat = table.to_pandas(addresses=True).reset_index()
@@ -242,9 +243,9 @@ class Files(unittest.TestCase):
                 marple.tables_of_file(folder.write("other", text))
         self.assertEqual(len(marple.tables_of_file(folder.write("none", b""))), 0)
 
-    @unittest.skipIf(importlib.util.find_spec("pyarrow"), "pyarrow is there")
     def test_of_libraries_that_are_not_there_say_what_to_install(self):
-        with self.assertRaisesRegex(ImportError, "tables of Arrow need pyarrow: pip install pyarrow"):
+        hidden = mock.patch.dict(sys.modules, {"pyarrow": None})
+        with hidden, self.assertRaisesRegex(ImportError, "tables of Arrow need pyarrow: pip install pyarrow"):
             marple.read_tables(SMALL)["r"].to_parquet("never.parquet")
 
 

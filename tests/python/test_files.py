@@ -14,9 +14,9 @@ from marple import parts
 from marple.parts import job
 
 MARK = b"\xef\xbb\xbf"
-COUNT = "def count([c],[]) { c = c + 1; }\n"
-KEYS = COUNT + "r = groupby(pktstream, [srcip], count); print r;"
-SUMS = COUNT + "m = map(pktstream, [half = srcip / 2]); r = groupby(m, [half], count); print r;"
+COUNT = b"def count([c],[]) { c = c + 1; }\n"
+KEYS = COUNT + b"r = groupby(pktstream, [srcip], count); print r;"
+SUMS = COUNT + b"m = map(pktstream, [half = srcip / 2]); r = groupby(m, [half], count); print r;"
 ENDS = (b"\n", b"\n", b"\r\n", b"\r", b"\n\n", b"\r\n\r\n", b"\n\r")
 NOTES = (b"x", b"", MARK, b" ", b'a"b', b"\xff", MARK + b"y", b"9" * 40)
 QUOTED = (b'""', b'"\n"', b'"\r\n5,6\r\n"', b'","', b'"a""b"', b'"%s"' % MARK, b'"c"d', b'" "', b'"\r"')
@@ -44,7 +44,7 @@ class AnyFiles(unittest.TestCase):
         patch.start()
         self.addCleanup(patch.stop)
 
-    def whole(self, query: str, traces: list[str]) -> tuple[dict[int, int], tuple | None]:
+    def whole(self, query: bytes, traces: list[str]) -> tuple[dict[int, int], tuple | None]:
         """The counts of runs over each file, added; and the first fault with its file."""
         counts: Counter[int] = Counter()
         for trace in traces:
@@ -54,14 +54,14 @@ class AnyFiles(unittest.TestCase):
                 return {}, (refused.shown, trace)
         return dict(counts), None
 
-    def in_parts(self, query: str, traces: list[str], **options) -> tuple[dict[int, int], tuple | None]:
+    def in_parts(self, query: bytes, traces: list[str], **options) -> tuple[dict[int, int], tuple | None]:
         try:
             answer = parts.run(query, traces, **options)
         except marple.TraceRefused as refused:
             return {}, (refused.shown, refused.path)
         return {row[0]: row[-1] for row in answer["r"].rows}, None
 
-    def check(self, query: str, traces: list[str], **options) -> bool:
+    def check(self, query: bytes, traces: list[str], **options) -> bool:
         """Whether there was a fault."""
         expected = self.whole(query, traces)
         content = [Path(trace).read_bytes() for trace in traces]

@@ -17,8 +17,8 @@ from marple import parts
 from marple.parts import compression, records
 
 QUERY = TOP / "examples" / "cookbook" / "flows.query"
-COUNT = "def count([c],[]) { c = c + 1; }\n"
-SUMS = COUNT + "m = map(pktstream, [all = 0]); r = groupby(m, [all], count); print r;"
+COUNT = b"def count([c],[]) { c = c + 1; }\n"
+SUMS = COUNT + b"m = map(pktstream, [all = 0]); r = groupby(m, [all], count); print r;"
 TRACE = (300, 3)
 
 
@@ -103,7 +103,7 @@ class TheLimitOfFields(unittest.TestCase):
         self.addCleanup(csv.field_size_limit, csv.field_size_limit(4))
         folder = Folder(self)
         trace = folder.write("trace.csv", b'srcip,note\n5,"a note,\nlonger than that"\n6,"' + b"x" * 200_000)
-        self.assertEqual(parts.run(COUNT + "r = groupby(pktstream, [srcip], count); print r;", [trace])["r"].epochs, 2)
+        self.assertEqual(parts.run(COUNT + b"r = groupby(pktstream, [srcip], count); print r;", [trace])["r"].epochs, 2)
         self.assertEqual(parts.run(SUMS, [trace])["r"].rows[0][-1], 2)
         self.assertEqual(csv.field_size_limit(), 4)
 
@@ -159,7 +159,7 @@ class Compressed(unittest.TestCase):
             self.assertIn(f"{path} is compressed by {name}", str(refused.exception))
             self.assertEqual(refused.exception.status, 3)
         column = self.folder.write("BZh.csv", b"BZh9,srcip\n1,5\n")
-        self.assertEqual(parts.run(COUNT + "r = groupby(pktstream, [srcip], count); print r;", [column])["r"].epochs, 1)
+        self.assertEqual(parts.run(COUNT + b"r = groupby(pktstream, [srcip], count); print r;", [column])["r"].epochs, 1)
 
     def test_that_cannot_be_opened_is_refused(self):
         """A trace that can't be read isn't a folder that can't be written."""

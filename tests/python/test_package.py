@@ -80,7 +80,7 @@ class Installed(unittest.TestCase):
 
     def test_has_its_commands(self):
         if self.unpacked:
-            self.skipTest("pip isn't there, which makes the commands")
+            self.skipTest("pip")
         command = [str(self.place / "bin" / "marple-parts"), "--version"]
         done = subprocess.run(command, capture_output=True, text=True, check=False)
         self.assertEqual(done.stdout, f"marple {VERSION}\n")
@@ -117,7 +117,7 @@ class TheWheel(unittest.TestCase):
 
 def copied_checkout(top: Path) -> Path:
     """A copy of what the wheel is made from, with a program that was built."""
-    for name in ("python", "query_help", "docs"):
+    for name in ("python", "query_help", "docs", "building"):
         shutil.copytree(TOP / name, top / name, ignore=shutil.ignore_patterns("__pycache__"))
     shutil.copy(TOP / "VERSION", top / "VERSION")
     (top / "crates.txt").write_text("marple:\n")
@@ -129,7 +129,7 @@ def copied_checkout(top: Path) -> Path:
     return top
 
 
-@unittest.skipUnless(importlib.util.find_spec("pip"), "pip isn't there, which notes where a package came from")
+@unittest.skipUnless(importlib.util.find_spec("pip"), "pip")
 class TheProgramOfTheCheckout(unittest.TestCase):
     """After an install the program is that of the checkout that the package, or its wheel, came from."""
 
@@ -176,7 +176,7 @@ class OtherPythons(unittest.TestCase):
         for place in places:
             if subprocess.run([place, "-c", ""], capture_output=True, check=False).returncode == 0:
                 return place
-        self.skipTest(f"Python 3.{minor} isn't there")
+        self.skipTest(f"python3.{minor}")
 
     def ask(self, minor: int):
         """What this Python answers."""
@@ -196,7 +196,7 @@ class OtherPythons(unittest.TestCase):
     def test_3_9_does_not_install_it(self):
         python = self.python(9)
         if subprocess.run([python, "-m", "pip", "--version"], capture_output=True, check=False).returncode != 0:
-            self.skipTest("Python 3.9 has no pip")
+            self.skipTest("python3.9-pip")
         command = [python, "-m", "pip", "install", "--no-index", "--target", Folder(self).path("none"), TOP / "python"]
         environment = os.environ | {"PYTHONDONTWRITEBYTECODE": "1"}
         done = subprocess.run(command, env=environment, capture_output=True, text=True, check=False)
@@ -219,7 +219,7 @@ class Hints(unittest.TestCase):
     def test_are_complete(self):
         """Every argument has a hint, and mypy finds no fault: in all but the modules of parts."""
         if shutil.which("mypy") is None:
-            self.skipTest("mypy isn't there")
+            self.skipTest("mypy")
         folder = Folder(self)
         modules = sorted(map(str, (TOP / "python" / "marple").glob("*.py")))
         command = ["mypy", "--strict", "--python-version", "3.10", "--cache-dir", folder.path("cache"), *modules]

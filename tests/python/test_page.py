@@ -54,7 +54,7 @@ class ThePage(unittest.TestCase):
             with self.subTest(command=command.splitlines()[0]):
                 for module, signs in NEEDS.items():
                     if any(sign in command for sign in signs) and importlib.util.find_spec(module) is None:
-                        self.skipTest(f"{module} isn't there")
+                        self.skipTest(module)
                 self.assertEqual(self.printed(command).rstrip("\n"), answer.rstrip("\n"))
 
 

@@ -129,7 +129,7 @@ class JoinedTables(unittest.TestCase):
 class KeysWithoutNumbers(unittest.TestCase):
     """More records than one run takes have no number in a field that they are split by: that is the trace's fault."""
 
-    QUERY = "def count([c],[]) { c = c + 1; }\nr = groupby(pktstream, [srcip, dstip], count); print r;"
+    QUERY = b"def count([c],[]) { c = c + 1; }\nr = groupby(pktstream, [srcip, dstip], count); print r;"
     HEADER = b"srcip,dstip,uid\n"
 
     def setUp(self):
