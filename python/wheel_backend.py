@@ -26,11 +26,15 @@ Provides-Extra: arrow
 Requires-Dist: pyarrow>=11; extra == "arrow"
 Provides-Extra: cluster
 Requires-Dist: distributed>=2022.12; extra == "cluster"
+Provides-Extra: report
+Requires-Dist: jinja2>=3.0; extra == "report"
+Requires-Dist: matplotlib>=3.6; extra == "report"
 """
 WHEEL = f"Wheel-Version: 1.0\nGenerator: wheel_backend\nRoot-Is-Purelib: true\nTag: {TAG}\n"
 ENTRY_POINTS = """\
 [console_scripts]
 marple-parts = marple.parts.__main__:main
+marple-report = marple.report.__main__:main
 """
 PAGES = ("LANGUAGE.md", "FORMATS.md")  # from which refusals take their remedies, and options their bounds
 
@@ -44,11 +48,23 @@ def sources() -> dict:
     files = {str(path.relative_to(HERE)): path.read_bytes() for path in (HERE / "marple").rglob("*.py")}
     files["marple/py.typed"] = (HERE / "marple" / "py.typed").read_bytes()
     files["marple/VERSION"] = version().encode()
+    for name in ("page.html", "page.css", "page.js"):
+        files[f"marple/report/{name}"] = (HERE / "marple" / "report" / name).read_bytes()
+    for path in (TOP / "examples" / "cookbook").glob("*.query"):
+        files[f"marple/report/cookbook/{path.name}"] = path.read_bytes()
+    files.update(capture_scripts())
     for path in (TOP / "query_help").glob("*.py"):
         files[f"marple/explain/query_help/{path.name}"] = path.read_bytes()
     for name in PAGES:
         files[f"marple/explain/docs/{name}"] = (TOP / "docs" / name).read_bytes()
     return files
+
+
+def capture_scripts() -> dict:
+    """The scripts that make traces of captures, by their names in the wheel."""
+    folder = TOP / "examples" / "captures"
+    paths = [*folder.glob("trace-from-capture*"), *folder.glob("marple_captures/*.py")]
+    return {f"marple/report/captures/{path.relative_to(folder)}": path.read_bytes() for path in paths}
 
 
 def write_wheel(folder: str, files: dict) -> str:
