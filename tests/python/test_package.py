@@ -17,7 +17,9 @@ from pathlib import Path
 from support import TOP, Folder
 
 import marple
+from marple.report import page
 
+QUEUE = TOP / "examples" / "captures" / "queue.csv"
 VERSION = (TOP / "VERSION").read_text().strip()
 
 
@@ -78,12 +80,39 @@ class Installed(unittest.TestCase):
         asked = f"import marple\ntry: marple.run(b'{text}', b'srcip\\n', ways=3)\nexcept marple.UsageError as r: print(r)"
         self.assertIn("ways is 1, 2, 4, 8, 16 or 32", self.ask(asked))
 
+    def test_has_what_a_report_needs(self):
+        asked = "import marple.report.page as p, marple.report.recipes as r\nprint([r.query_text(name) for name in p.RECIPES])"
+        queries = [(TOP / "examples" / "cookbook" / f"{name}.query").read_text() for name in page.RECIPES]
+        self.assertEqual(self.ask(asked), f"{queries}\n")
+        asked = "import marple.report.captures as c\nfor name in c.SCRIPTS.values(): print(c.script_path(name))"
+        for script in self.ask(asked).splitlines():
+            self.assertTrue(script.startswith(str(self.place)), script)
+            done = subprocess.run([self.python, "-I", script, "--help"], capture_output=True, text=True, check=True)
+            self.assertIn("Makes a trace from", done.stdout)
+
+    def test_says_what_a_report_needs(self):
+        command = [self.python, "-I", "-m", "marple.report", str(QUEUE), "-o", self.folder.path("report.html")]
+        done = subprocess.run(command, capture_output=True, text=True, check=False)
+        self.assertIn("needs jinja2 and matplotlib: apt-get install python3-jinja2 python3-matplotlib", done.stderr)
+
+    @unittest.skipIf(page.missing_libraries(["jinja2"]), "jinja2")
+    @unittest.skipIf(page.missing_libraries(["matplotlib"]), "matplotlib")
+    def test_makes_a_report(self):
+        """With the libraries of this Python, which the new one doesn't have."""
+        places = sorted({str(Path(importlib.util.find_spec(name).origin).parents[1]) for name in page.LIBRARIES})
+        words = [str(QUEUE), "-o", self.folder.path("report.html")]
+        ask = f"import sys; sys.path += {places}; sys.argv[1:] = {words}; import marple.report.__main__ as r; sys.exit(r.main())"
+        done = subprocess.run([self.python, "-I", "-c", ask], capture_output=True, text=True, check=False)
+        self.assertEqual((done.returncode, done.stderr), (0, ""))
+        self.assertIn("<svg", Path(self.folder.path("report.html")).read_text(encoding="utf-8"))
+
     def test_has_its_commands(self):
         if self.unpacked:
             self.skipTest("pip")
-        command = [str(self.place / "bin" / "marple-parts"), "--version"]
-        done = subprocess.run(command, capture_output=True, text=True, check=False)
-        self.assertEqual(done.stdout, f"marple {VERSION}\n")
+        for name in ("marple-parts", "marple-report"):
+            command = [str(self.place / "bin" / name), "--version"]
+            done = subprocess.run(command, capture_output=True, text=True, check=False)
+            self.assertEqual(done.stdout, f"marple {VERSION}\n")
 
     def test_leaves_nothing_in_the_checkout(self):
         kept = [path.name for path in (TOP / "python").iterdir()]
@@ -100,6 +129,8 @@ class TheWheel(unittest.TestCase):
         self.assertIn("marple/py.typed", names)
         sources = {str(path.relative_to(TOP / "python")) for path in (TOP / "python" / "marple").rglob("*.py")}
         self.assertLessEqual(sources, set(names))
+        for name in ("page.html", "page.css", "page.js", "cookbook/loss.query", "captures/trace-from-captures"):
+            self.assertIn(f"marple/report/{name}", names)
         self.assertEqual(sorted(line.split(",")[0] for line in record), sorted(names))
 
     def test_depends_on_its_sources_alone(self):
@@ -117,7 +148,7 @@ class TheWheel(unittest.TestCase):
 
 def copied_checkout(top: Path) -> Path:
     """A copy of what the wheel is made from, with a program that was built."""
-    for name in ("python", "query_help", "docs", "building"):
+    for name in ("python", "query_help", "docs", "building", "examples"):
         shutil.copytree(TOP / name, top / name, ignore=shutil.ignore_patterns("__pycache__"))
     shutil.copy(TOP / "VERSION", top / "VERSION")
     (top / "crates.txt").write_text("marple:\n")
@@ -221,8 +252,10 @@ class Hints(unittest.TestCase):
         if shutil.which("mypy") is None:
             self.skipTest("mypy")
         folder = Folder(self)
-        modules = sorted(map(str, (TOP / "python" / "marple").glob("*.py")))
-        command = ["mypy", "--strict", "--python-version", "3.10", "--cache-dir", folder.path("cache"), *modules]
+        package = TOP / "python" / "marple"
+        modules = sorted(map(str, [*package.glob("*.py"), *(package / "report").glob("*.py")]))
+        command = ["mypy", "--strict", "--python-version", "3.10", "--follow-imports", "silent", "--cache-dir"]
+        command += [folder.path("cache"), *modules]
         done = subprocess.run(command, cwd=TOP / "python", capture_output=True, text=True, check=False)
         self.assertEqual(done.stdout, f"Success: no issues found in {len(modules)} source files\n")
 
