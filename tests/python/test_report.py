@@ -108,6 +108,14 @@ class Numbers(unittest.TestCase):
                 trace = Path(Folder(self).write("random.csv", generated(3_000, start)))
                 self.compare(trace, ("volume", "latency"))
 
+    def test_of_a_percentile_at_a_bin_s_end(self):
+        """A hundred packets, of 0 to 99 ms: exactly 50 of them are below 50 ms."""
+        header = "switch,qid,uid,srcip,dstip,srcport,dstport,proto,pkt_len,payload_len,tcpseq,tin,tout,qsize"
+        lines = [f"1,0,{at},7,8,9,10,17,100,80,0,{at},{at * 1000001},0" for at in range(100)]
+        trace = Path(Folder(self).write("hundred.csv", "\n".join([header, *lines, ""]).encode()))
+        shown, _ = self.compare(trace, ("latency",))
+        self.assertEqual([shown.tiles[f"Latency, p{p}"] for p in (50, 95, 99)], ["49–50", "94–95", "98–99"])
+
     def test_are_of_the_queries_that_they_name(self):
         text = page_of(QUEUE)
         shown = Reader(text)
@@ -167,14 +175,15 @@ class Pictures(unittest.TestCase):
 
         fields = "switch,qid,uid,srcip,dstip,srcport,dstport,proto,pkt_len,payload_len,tcpseq,tin,tout,qsize"
         start = 1795789722
-        lines = [f"1,0,{at},7,8,9,10,17,100,80,0,{start + at}000000000,{'inf' if at % 3 else f'{start + at}000000007'},{at % 5}"
+        lines = [f"1,0,{at},7,8,9,10,17,100,80,0,{start + at}000000000,{'inf' if at % 3 else f'{start + at}000000007'},{9 if at % 20 == 7 else at % 5}"
                  for at in range(7_200)]  # fmt: skip
         found = self.pictures(Path(Folder(self).write("long.csv", "\n".join([fields, *lines, ""]).encode())))
         for picture in found.values():
             for line in picture.lines:
                 self.assertTrue(100 < len(line.values) <= MOST_STEPS, (picture.name, len(line.values)))
         self.assertEqual(sum(found["losses"].lines[0].values.values()), 4_800)
-        self.assertEqual(max(found["depth"].lines[0].values.values()), 4)
+        *deepest, last = found["depth"].lines[0].values.values()
+        self.assertEqual((set(deepest), last), ({9}, 4))  # the last step has two packets
         self.assertIn("seconds after second 1795789722 of the trace", found["depth"].svg)
         self.assertIn("20 s", found["depth"].caption)
 
