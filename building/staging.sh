@@ -72,7 +72,7 @@ stage_programs() {
 stage_pages() {
     doc=share/doc/marple
     stage_page README.md $doc/README.md
-    stage CHANGES.md $doc/CHANGES.md 644
+    stage_page CHANGES.md $doc/CHANGES.md
     (cd "$top" && find docs -name '*.md' -o -name '*.png' | sort) >"$room/pages"
     while IFS= read -r page; do
         case $page in
