@@ -2,19 +2,6 @@
 # shellcheck shell=sh
 : "${room:?}" "${version:?}" "${maintainer:?}" "${epoch:?}"
 
-# Writes the copyright below the folder $1.
-write_copyright() {
-    cat >"$1/copyright" <<END
-Format: https://www.debian.org/doc/packaging-manuals/copyright-format/1.0/
-Upstream-Name: marple
-
-Files: *
-Copyright: $(date -u -d "@$epoch" +%Y) $maintainer
-License: Apache-2.0
- On Debian systems the text of the license is in /usr/share/common-licenses/Apache-2.0.
-END
-}
-
 # Writes the changelog of this version below the folder $1. What each version brought is in the page.
 write_changelog() {
     gzip -9n >"$1/changelog.gz" <<END
@@ -30,7 +17,6 @@ END
 follow_debian() {
     mv "$1/usr/share/zsh/site-functions" "$1/usr/share/zsh/vendor-completions" || fail "cannot move zsh's completions"
     gzip -9n "$1"/usr/share/man/man1/*.1 || fail "cannot compress the manual pages"
-    write_copyright "$1/usr/share/doc/marple"
     write_changelog "$1/usr/share/doc/marple"
     mkdir -p "$1/usr/share/lintian/overrides" || fail "cannot make $1/usr/share/lintian"
     cat >"$1/usr/share/lintian/overrides/marple" <<END

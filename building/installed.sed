@@ -8,5 +8,5 @@ s#<explain>#marple-explain#g
 1a\
 \
 *This copy is of an installed marple: the commands are those of its programs. They run as they stand in a folder that has a link\
-to the examples, which `ln -s /usr/share/doc/marple/examples .` makes. Other scripts, as `./build`, and the folders `crates`,\
-`tests`, `bench` and `python` are in the repository.*
+to the examples: `ln -s /usr/share/doc/marple/examples .`, or the same below another prefix. Other scripts, as `./build`, and\
+the folders `crates`, `tests`, `bench` and `python` are in the repository.*
