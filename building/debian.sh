@@ -16,6 +16,7 @@ END
 # Puts things below the folder $1 where Debian has them.
 follow_debian() {
     mv "$1/usr/share/zsh/site-functions" "$1/usr/share/zsh/vendor-completions" || fail "cannot move zsh's completions"
+    sed -i 's|~/\.local/share|/usr/share|' "$1"/usr/share/man/man1/*.1 || fail "cannot change the manual pages"
     gzip -9n "$1"/usr/share/man/man1/*.1 || fail "cannot compress the manual pages"
     write_changelog "$1/usr/share/doc/marple"
     mkdir -p "$1/usr/share/lintian/overrides" || fail "cannot make $1/usr/share/lintian"
