@@ -1,4 +1,4 @@
-# Completes the words of marple and marple-explain in bash.
+# Completes the words of marple and of the commands that are installed with it in bash.
 
 # The options of the command $1.
 _marple_options() {
@@ -64,5 +64,62 @@ _marple_explain() {
     esac
 }
 
+# Fills COMPREPLY with those of the options $2 .. that begin with $1, if it begins an option, and else with files.
+_marple_files_or() {
+    local typed=$1
+    shift
+    if [[ $typed == -* ]]; then
+        _marple_words "$typed" "$@"
+    else
+        _marple_files "$typed"
+    fi
+}
+
+_marple_trace_from_captures() {
+    case ${COMP_WORDS[COMP_CWORD - 1]} in
+    --switch | --queue | --origin | --shift | --direction | --split) COMPREPLY=() ;;
+    *)
+        _marple_files_or "${COMP_WORDS[COMP_CWORD]}" --switch --queue --origin --shift --direction --both-directions \
+            --split --no-split --force
+        ;;
+    esac
+}
+
+_marple_trace_from_capture() {
+    case ${COMP_WORDS[COMP_CWORD - 1]} in
+    --switch | --queue | --origin) COMPREPLY=() ;;
+    *) _marple_files_or "${COMP_WORDS[COMP_CWORD]}" --switch --queue --origin ;;
+    esac
+}
+
+_marple_quads() {
+    _marple_words "${COMP_WORDS[COMP_CWORD]}" --add
+}
+
+_marple_sql() {
+    COMPREPLY=()
+}
+
+_marple_draw() {
+    _marple_files_or "${COMP_WORDS[COMP_CWORD]}" --to
+}
+
+_marple_parts() {
+    case ${COMP_WORDS[COMP_CWORD - 1]} in
+    --by | --parts | --scheduler | --workers | --buckets | --pipe | --lag) COMPREPLY=() ;;
+    --ways) _marple_words "${COMP_WORDS[COMP_CWORD]}" 1 2 4 8 16 32 ;;
+    *)
+        _marple_files_or "${COMP_WORDS[COMP_CWORD]}" --by --parts --scheduler --workers --work --buckets --ways --pipe --lag \
+            --version
+        ;;
+    esac
+}
+
 complete -F _marple marple
 complete -F _marple_explain marple-explain
+complete -F _marple_trace_from_captures marple-trace-from-captures
+complete -F _marple_trace_from_capture marple-trace-from-capture
+complete -F _marple_quads marple-quads
+complete -F _marple_sql marple-sql
+complete -F _marple_draw marple-draw
+complete -F _marple_parts marple-parts

@@ -1,0 +1,111 @@
+# What is installed where, for scripts that read this with the folder of the repository in $top, a folder of their own in $room,
+# the version in $version and a function `fail`: below $room/stage is then what goes below a prefix.
+# shellcheck shell=sh
+: "${top:?}" "${room:?}" "${version:?}"
+
+# Puts the file $1 of the repository at $2 below the stage, with the mode $3.
+stage() {
+    if ! { mkdir -p "$room/stage/${2%/*}" && cp "$top/$1" "$room/stage/$2" && chmod "$3" "$room/stage/$2"; }; then
+        fail "cannot copy $1"
+    fi
+}
+
+# Puts a link to $1 at $2 below the stage.
+stage_link() {
+    if ! { mkdir -p "$room/stage/${2%/*}" && ln -s "$1" "$room/stage/$2"; }; then
+        fail "cannot make a link"
+    fi
+}
+
+# Puts the files $3.. of the repository's folder $1, or those that match a pattern there, into the folder $2 below the stage, each
+# with the mode that it has.
+stage_files() {
+    from=$1 to=$2
+    shift 2
+    for pattern in "$@"; do
+        for file in "$top/$from"/$pattern; do
+            [ -f "$file" ] || continue
+            mode=644
+            [ ! -x "$file" ] || mode=755
+            stage "$from/${file##*/}" "$to/${file##*/}" "$mode"
+        done
+    done
+}
+
+# Puts the page $1 of the repository at $2 below the stage, with the commands of the installed programs.
+stage_page() {
+    mkdir -p "$room/stage/${2%/*}" || fail "cannot make ${2%/*}"
+    sed -E -f "$top/building/installed.sed" "$top/$1" >"$room/stage/$2" || fail "cannot copy $1"
+}
+
+# Puts a command $1 into bin, which starts the script $2 of share/marple.
+stage_command() {
+    mkdir -p "$room/stage/bin" || fail "cannot make bin"
+    cat >"$room/stage/bin/$1" <<END
+#!/bin/sh
+exec "\$(dirname -- "\$(readlink -f -- "\$0")")/../share/marple/$2" "\$@"
+END
+    chmod 755 "$room/stage/bin/$1"
+}
+
+# Puts the program, the scripts, and what they read.
+stage_programs() {
+    stage crates/marple/out/marple bin/marple 755
+    # explain looks for marple and for the remedies beside itself
+    stage explain share/marple/explain 755
+    stage_link ../../bin/marple share/marple/marple
+    stage_files query_help share/marple/query_help '*.py'
+    stage_page docs/LANGUAGE.md share/marple/docs/LANGUAGE.md
+    stage_command marple-explain explain
+    stage_files examples/captures share/marple/captures 'trace-from-*' '*.pcap' '*.csv' '*.txt'
+    stage_files examples/captures/marple_captures share/marple/captures/marple_captures '*.py'
+    for script in trace-from-captures trace-from-capture; do
+        stage_command "marple-$script" "captures/$script"
+    done
+    stage_files examples/cookbook share/marple/cookbook '*'
+    for script in quads sql draw; do
+        stage_command "marple-$script" "cookbook/$script"
+    done
+}
+
+# Puts the pages for those who use the program, and the examples below the paths that the pages have.
+stage_pages() {
+    doc=share/doc/marple
+    stage_page README.md $doc/README.md
+    stage_page CHANGES.md $doc/CHANGES.md
+    (cd "$top" && find docs -name '*.md' -o -name '*.png' | sort) >"$room/pages"
+    while IFS= read -r page; do
+        case $page in
+        # these are about the repository
+        docs/ARCHITECTURE.md | docs/CHANGING.md | docs/DECISIONS.md | docs/TESTING.md) ;;
+        docs/LANGUAGE.md) stage_link "../../../marple/$page" "$doc/$page" ;;
+        *.png) stage "$page" "$doc/$page" 644 ;;
+        *) stage_page "$page" "$doc/$page" ;;
+        esac
+    done <"$room/pages"
+    stage_files examples $doc/examples '*.query' '*.csv'
+    stage_link ../../../marple/cookbook $doc/examples/cookbook
+    stage_link ../../../marple/captures $doc/examples/captures
+}
+
+# Puts the manual page of each command that is in bin or among the words, and the completions of each.
+stage_manuals() {
+    stage completions/marple.bash share/bash-completion/completions/marple 644
+    stage completions/_marple share/zsh/site-functions/_marple 644
+    mkdir -p "$room/stage/share/man/man1" || fail "cannot make share/man/man1"
+    for command in "$room/stage/bin"/* "$@"; do
+        command=${command##*/}
+        page=$room/stage/share/man/man1/$command.1
+        [ ! -e "$top/docs/$command.1" ] || sed "s/@VERSION@/$version/" "$top/docs/$command.1" >"$page" || fail "cannot write $page"
+        if [ "$command" != marple ] && grep -q "^complete -F [a-z_]* $command\$" "$top/completions/marple.bash"; then
+            stage_link marple "share/bash-completion/completions/$command"
+        fi
+    done
+}
+
+# Makes all of it. The words are further commands that have manual pages.
+stage_all() {
+    stage_programs
+    stage_pages
+    stage_manuals "$@"
+}

@@ -1,0 +1,53 @@
+"""A copy of what is installed, with a program that stands in for the proved one, for the tests of ./install and ./package."""
+
+from __future__ import annotations
+
+import os
+import shutil
+import subprocess
+from pathlib import Path
+
+import checks
+from checks import TOP, put
+
+VERSION = (TOP / "VERSION").read_text().strip()
+# Of a query with two bytes it says that its first name isn't known.
+PROGRAM = """#!/bin/sh
+if [ "$1" = plan ]; then
+    echo "marple: query: UnknownName at 0" >&2
+    exit 4
+fi
+echo "program with $*"
+"""
+FOLDERS = ("building", "completions", "docs", "examples", "python", "query_help")
+FILES = ("install", "package", "explain", "README.md", "CHANGES.md", "VERSION")
+
+
+def below(folder: Path) -> dict[str, bytes]:
+    """All that is below a folder, with what is in the files."""
+    return {str(it.relative_to(folder)): it.read_bytes() if it.is_file() else b"" for it in sorted(folder.rglob("*"))}
+
+
+class Tree(checks.Test):
+    """A copy of what is installed."""
+
+    def setUp(self) -> None:
+        self.room = self.new_folder()
+        self.tree, self.prefix = self.room / "a tree", self.room / "prefix"
+        for name in FOLDERS:
+            shutil.copytree(TOP / name, self.tree / name, ignore=shutil.ignore_patterns("__pycache__"))
+        for name in FILES:
+            shutil.copy2(TOP / name, self.tree / name)
+        put(self.tree / "crates.txt", "marple:\n")
+        put(self.tree / "crates/marple/src/main.rt", "main\n")
+        self.program = put(self.tree / "crates/marple/out/marple", PROGRAM, executable=True)
+        # another program that the environment names isn't the one that was installed
+        self.environment = {name: value for name, value in os.environ.items() if name != "MARPLE"}
+        self.environment["PATH"] = f"{self.prefix}/bin:/usr/local/bin:/usr/bin:/bin"
+        self.environment["HOME"] = str(self.room / "home")
+        (self.room / "home").mkdir()
+
+    def run_in(self, folder: Path, *words: object) -> tuple[int, str, str]:
+        settings = {"cwd": folder, "env": self.environment}
+        done = subprocess.run([str(it) for it in words], capture_output=True, text=True, check=False, **settings)
+        return done.returncode, done.stdout, done.stderr
