@@ -46,7 +46,7 @@ Architecture: amd64
 Maintainer: $maintainer
 Installed-Size: $(installed_size "$1/usr")
 Depends: libc6 (>= $(least_libc "$1/usr/bin/marple"))
-Recommends: python3 (>= 3.10), python3-matplotlib, sqlite3, tshark
+Recommends: python3 (>= 3.10), python3-jinja2, python3-matplotlib, sqlite3, tshark
 Suggests: python3-distributed, python3-pandas
 Section: net
 Priority: optional
@@ -60,8 +60,8 @@ Description: queries about queues and flows over packet traces
  The printed tables are proved to be the query's meaning over the whole list of
  packets, for every accepted query and trace.
  .
- Python is needed for captures, pictures, explanations and from Python itself,
- and tshark for captures.
+ Python is needed for captures, pictures, reports and explanations, and tshark
+ for captures.
 END
     cat >"$1/DEBIAN/postinst" <<'END'
 #!/bin/sh

@@ -115,6 +115,10 @@ _marple_parts() {
     esac
 }
 
+_marple_report() {
+    _marple_files_or "${COMP_WORDS[COMP_CWORD]}" --output --version
+}
+
 complete -F _marple marple
 complete -F _marple_explain marple-explain
 complete -F _marple_trace_from_captures marple-trace-from-captures
@@ -123,3 +127,4 @@ complete -F _marple_quads marple-quads
 complete -F _marple_sql marple-sql
 complete -F _marple_draw marple-draw
 complete -F _marple_parts marple-parts
+complete -F _marple_report marple-report
