@@ -1,0 +1,3 @@
+pub mod BackFacts
+pub mod LineFacts
+pub mod TextFacts

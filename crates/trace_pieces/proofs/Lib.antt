@@ -1,0 +1,4 @@
+pub mod ContentFacts
+pub mod CutFacts
+pub mod HeadFacts
+pub mod RowFacts
