@@ -1,4 +1,5 @@
 pub mod Finding
+pub mod InPlace
 pub mod Lexis
 pub mod Lexemes
 pub mod Bodies
@@ -9,5 +10,6 @@ pub mod Named
 pub mod LineWords
 pub mod Groups
 pub mod FoldLines
+pub mod FoldSaid
 pub mod Lines
 pub mod Texts

@@ -8,11 +8,13 @@ ghost use Rattle.fold_class.specs.Kinds.{class_of};
 ghost use Rattle.fold_class.specs.Depth.{IsDepth};
 ghost use Rattle.stage_plan.specs.Shape.{class_word};
 ghost use Rattle.plan_file.specs.Finding.{Finds};
+ghost use Rattle.plan_file.specs.declared.made.Folded.{Folded};
 ghost use Rattle.plan_file.specs.FoldLines.{IsFoldOf, IsFoldWords, AreBounds, IsFoldLine};
+ghost use Rattle.plan_file.specs.FoldSaid.{folded_as};
 ghost use Rattle.plan_file.specs.Lines.{IsGroupWithin};
 
 use crate::lexis::{cut_at_space, is_text, number};
-use crate::made::{Folded, Group};
+use crate::made::Group;
 use crate::named::{after_word, two_tokens};
 use crate::tree::body_of;
 use fold_class::classify;
@@ -21,7 +23,16 @@ use marple_base::Seq;
 use query_lang::{Class, Name, Span, TypedFold};
 use std::alloc::{AllocError, Global};
 
-/// What a line `fold` says.
+/// What a valid line `fold` says of its group's fold.
+#[derive(Clone, Copy)]
+pub struct Said {
+    pub class: Class,
+    pub depth: u32,
+    pub nodes: u32,
+    pub statements: u32,
+}
+
+/// The words of a line `fold`.
 #[derive(Clone, Copy)]
 struct FoldWords {
     class: Class,
@@ -143,14 +154,15 @@ fn class_and_depth(alloc: Global, fold: &TypedFold) -> Result<(Class, u32), Allo
     Ok((program.class, u32::from(program.depth)))
 }
 
-/// The group that a line `fold` ends, where the line is valid after the group's other lines.
+/// What a line `fold` says of a group, where the line is valid after the group's other lines.
 pub(crate) fn fold_line(
     alloc: Global,
-    before: Group,
+    group: &Group,
     line: &[u8],
-) -> Result<Option<Folded>, AllocError>
-    requires { IsGroupWithin before }
-    ensures { IfOk result (λ made. Finds made (IsFoldLine before line.now)) }
+) -> Result<Option<Said>, AllocError>
+    requires { IsGroupWithin group.now }
+    ensures { IfOk result (λ found. MatchOption found ((folded : Folded) → IsFoldLine group.now line.now folded
+        → ⊥) (λ said. IsFoldLine group.now line.now (folded_as group.now said))) }
 {
     let words = match fold_words(line) {
         Some(words) => words,
@@ -161,7 +173,7 @@ pub(crate) fn fold_line(
     }
     let nodes = words.nodes as u32;
     let statements = words.statements as u32;
-    let fold = match fold_of(alloc, &before, nodes, statements)? {
+    let fold = match fold_of(alloc, group, nodes, statements)? {
         Some(fold) => fold,
         None => return Ok(None),
     };
@@ -169,8 +181,7 @@ pub(crate) fn fold_line(
     if !is_said(words, class, depth) {
         return Ok(None);
     }
-    Ok(Some(Folded {
-        group: before,
+    Ok(Some(Said {
         class,
         depth,
         nodes,

@@ -2,6 +2,7 @@
 
 ghost use Rattle.std.specs.Prelude.{◌≡◌, ◌≤◌, ◌+◌, ◌<◌, ◌^◌, length, true, false, Contains, IfOk};
 ghost use Rattle.plan_file.specs.Finding.{Finds};
+ghost use Rattle.plan_file.specs.InPlace.{Makes};
 ghost use Rattle.plan_file.specs.Bodies.{IsBodyLine};
 ghost use Rattle.plan_file.specs.Groups as Groups;
 ghost use Rattle.plan_file.specs.Groups.{names_of, IsGroupLine, IsNewIn, IsKeyLine, IsArgLine, IsStateLine, IsGroupBody, IsInGroup};
@@ -93,81 +94,78 @@ pub(crate) fn group_line(
     Ok(Some(group_with(alloc, name, present)?))
 }
 
-// The group after a line `key`.
+// Whether a line `key` is valid in the group, which it adds to.
 fn key_line(
     alloc: Global,
     fields: &[Field],
     ops: &[PlanOp],
-    before: Group,
+    group: &mut Group,
     line: &[u8],
-) -> Result<Option<Group>, AllocError>
+) -> Result<bool, AllocError>
     requires few { length ops.now ≤ 32768 }
-    ensures { IfOk result (λ made. Finds made (IsKeyLine fields.now ops.now before line.now)) }
+    ensures { IfOk result (λ valid. Makes valid group.new (IsKeyLine fields.now ops.now group.old line.now)) }
 {
-    if !before.args.is_empty()
-        || !before.state_names.is_empty()
-        || before.body.is_some()
-        || before.keys.len() >= 8
+    if !group.args.is_empty()
+        || !group.state_names.is_empty()
+        || group.body.is_some()
+        || group.keys.len() >= 8
     {
-        return Ok(None);
+        return Ok(false);
     }
     let (name, value) = match named_operand(fields, ops, b"key", line) {
         Some(found) => found,
-        None => return Ok(None),
+        None => return Ok(false),
     };
-    if !is_new_in(&before, name) {
-        return Ok(None);
+    if !is_new_in(group, name) {
+        return Ok(false);
     }
-    let mut after = before;
-    after.key_names.push(Text::from_slice(alloc, name)?)?;
-    after.keys.push(value)?;
-    Ok(Some(after))
+    group.key_names.push(Text::from_slice(alloc, name)?)?;
+    group.keys.push(value)?;
+    Ok(true)
 }
 
-// The group after a line `arg`.
+// The same of a line `arg`.
 fn arg_line(
     fields: &[Field],
     ops: &[PlanOp],
-    before: Group,
+    group: &mut Group,
     line: &[u8],
-) -> Result<Option<Group>, AllocError>
+) -> Result<bool, AllocError>
     requires few { length ops.now ≤ 32768 }
-    ensures { IfOk result (λ made. Finds made (IsArgLine fields.now ops.now before line.now)) }
+    ensures { IfOk result (λ valid. Makes valid group.new (IsArgLine fields.now ops.now group.old line.now)) }
 {
-    if before.keys.is_empty()
-        || !before.state_names.is_empty()
-        || before.body.is_some()
-        || before.args.len() >= 16
+    if group.keys.is_empty()
+        || !group.state_names.is_empty()
+        || group.body.is_some()
+        || group.args.len() >= 16
     {
-        return Ok(None);
+        return Ok(false);
     }
     let value = match one_operand(fields, ops, b"arg", line) {
         Some(found) => found,
-        None => return Ok(None),
+        None => return Ok(false),
     };
-    let mut after = before;
-    after.args.push(value)?;
-    Ok(Some(after))
+    group.args.push(value)?;
+    Ok(true)
 }
 
-// The group after a line `state`.
-fn state_line(alloc: Global, before: Group, line: &[u8]) -> Result<Option<Group>, AllocError>
-    ensures { IfOk result (λ made. Finds made (IsStateLine before line.now)) }
+// The same of a line `state`.
+fn state_line(alloc: Global, group: &mut Group, line: &[u8]) -> Result<bool, AllocError>
+    ensures { IfOk result (λ valid. Makes valid group.new (IsStateLine group.old line.now)) }
 {
-    if before.keys.is_empty() || before.body.is_some() || before.initial.len() >= 8 {
-        return Ok(None);
+    if group.keys.is_empty() || group.body.is_some() || group.initial.len() >= 8 {
+        return Ok(false);
     }
     let (name, value) = match named_number(b"state", line) {
         Some(found) => found,
-        None => return Ok(None),
+        None => return Ok(false),
     };
-    if !is_new_in(&before, name) {
-        return Ok(None);
+    if !is_new_in(group, name) {
+        return Ok(false);
     }
-    let mut after = before;
-    after.state_names.push(Text::from_slice(alloc, name)?)?;
-    after.initial.push(value)?;
-    Ok(Some(after))
+    group.state_names.push(Text::from_slice(alloc, name)?)?;
+    group.initial.push(value)?;
+    Ok(true)
 }
 
 // The tokens of a line `body`.
@@ -192,46 +190,45 @@ fn body_words(
     }
 }
 
-// The group after a line `body`.
-fn body_line(alloc: Global, before: Group, line: &[u8]) -> Result<Option<Group>, AllocError>
-    requires states { length before.initial ≤ 8 }
-    requires args { length before.args ≤ 16 }
-    ensures { IfOk result (λ made. Finds made (IsGroupBody before line.now)) }
+// The same of a line `body`.
+fn body_line(alloc: Global, group: &mut Group, line: &[u8]) -> Result<bool, AllocError>
+    requires states { length group.old.initial ≤ 8 }
+    requires args { length group.old.args ≤ 16 }
+    ensures { IfOk result (λ valid. Makes valid group.new (IsGroupBody group.old line.now)) }
 {
-    if before.keys.is_empty() || before.body.is_some() {
-        return Ok(None);
+    if group.keys.is_empty() || group.body.is_some() {
+        return Ok(false);
     }
-    let states = before.initial.len() as u64;
-    let args = before.args.len() as u64;
+    let states = group.initial.len() as u64;
+    let args = group.args.len() as u64;
     match body_words(alloc, states, args, line)? {
         Some(words) => {
-            let mut after = before;
-            after.body = Some(words);
-            Ok(Some(after))
+            group.body = Some(words);
+            Ok(true)
         }
-        None => Ok(None),
+        None => Ok(false),
     }
 }
 
-/// The group after one more of its lines, which begins with this word.
+/// Whether one more line of a group is valid, which begins with this word and adds to the group.
 pub(crate) fn in_group(
     alloc: Global,
     word: LineWord,
     fields: &[Field],
     ops: &[PlanOp],
-    before: Group,
+    group: &mut Group,
     line: &[u8],
-) -> Result<Option<Group>, AllocError>
+) -> Result<bool, AllocError>
     requires few { length ops.now ≤ 32768 }
-    requires states { length before.initial ≤ 8 }
-    requires args { length before.args ≤ 16 }
-    ensures { IfOk result (λ made. Finds made (IsInGroup word fields.now ops.now before line.now)) }
+    requires states { length group.old.initial ≤ 8 }
+    requires args { length group.old.args ≤ 16 }
+    ensures { IfOk result (λ valid. Makes valid group.new (IsInGroup word fields.now ops.now group.old line.now)) }
 {
     match word {
-        LineWord::Key => key_line(alloc, fields, ops, before, line),
-        LineWord::Arg => arg_line(fields, ops, before, line),
-        LineWord::State => state_line(alloc, before, line),
-        LineWord::Body => body_line(alloc, before, line),
-        _ => Ok(None),
+        LineWord::Key => key_line(alloc, fields, ops, group, line),
+        LineWord::Arg => arg_line(fields, ops, group, line),
+        LineWord::State => state_line(alloc, group, line),
+        LineWord::Body => body_line(alloc, group, line),
+        _ => Ok(false),
     }
 }

@@ -2,7 +2,6 @@
 #![tactic(auto)]
 
 mod answer;
-mod check;
 mod fold_line;
 mod group_lines;
 mod lexemes;
@@ -18,7 +17,6 @@ mod tree;
 mod wants;
 
 pub use answer::PlanFileAnswer;
-pub use check::check_plan;
 pub use fold_line::fold_of;
 pub use lexemes::Lexeme;
 pub use line_word::LineWord;

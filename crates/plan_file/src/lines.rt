@@ -1,19 +1,20 @@
 //! One more line, as it is read after the lines before it.
 
 ghost use Rattle.std.specs.Prelude.{◌≡◌, ◌≤◌, length, true, false, Contains, IfOk};
-ghost use Rattle.plan_file.specs.Finding.{Finds};
+ghost use Rattle.plan_file.specs.InPlace.{Makes};
 ghost use Rattle.plan_file.specs.Lines as Lines;
 ghost use Rattle.plan_file.specs.Lines.{IsFirst, IsReads, IsOp, IsGroup, IsPart, IsFold, IsPrint, IsLine, IsWithin};
 
 use crate::fold_line::fold_line;
 use crate::group_lines::{group_line, in_group};
 use crate::line_word::{LineWord, line_word};
-use crate::made::Made;
+use crate::made::{Folded, Made};
 use crate::named::{is_first_line, one_number};
 use crate::operations::op_line;
 use crate::reads::reads_line;
 use marple_base::Seq;
 use std::alloc::{AllocError, Global};
+use std::mem;
 
 /// What no line made.
 pub(crate) fn nothing(alloc: Global) -> Made
@@ -29,144 +30,116 @@ pub(crate) fn nothing(alloc: Global) -> Made
     }
 }
 
-fn first(before: Made, line: &[u8]) -> Option<Made>
-    ensures { Finds result (IsFirst before line.now) }
+fn first(made: &mut Made, line: &[u8]) -> bool
+    ensures { Makes result made.new (IsFirst made.old line.now) }
 {
-    if before.begun || !is_first_line(line) {
-        return None;
+    if made.begun || !is_first_line(line) {
+        return false;
     }
-    let mut after = before;
-    after.begun = true;
-    Some(after)
+    made.begun = true;
+    true
 }
 
-fn reads(alloc: Global, before: Made, line: &[u8]) -> Result<Option<Made>, AllocError>
-    ensures { IfOk result (λ made. Finds made (IsReads before line.now)) }
+fn reads(alloc: Global, made: &mut Made, line: &[u8]) -> Result<bool, AllocError>
+    ensures { IfOk result (λ valid. Makes valid made.new (IsReads made.old line.now)) }
 {
-    if !before.begun || before.reads.is_some() {
-        return Ok(None);
+    if !made.begun || made.reads.is_some() {
+        return Ok(false);
     }
     match reads_line(alloc, line)? {
         Some(fields) => {
-            let mut after = before;
-            after.reads = Some(fields);
-            Ok(Some(after))
+            made.reads = Some(fields);
+            Ok(true)
         }
-        None => Ok(None),
+        None => Ok(false),
     }
 }
 
-fn op(before: Made, line: &[u8]) -> Result<Option<Made>, AllocError>
-    requires few { length before.ops ≤ 32768 }
-    ensures { IfOk result (λ made. Finds made (IsOp before line.now)) }
+fn op(made: &mut Made, line: &[u8]) -> Result<bool, AllocError>
+    requires few { length made.old.ops ≤ 32768 }
+    ensures { IfOk result (λ valid. Makes valid made.new (IsOp made.old line.now)) }
 {
-    if !before.groups.is_empty() || before.current.is_some() {
-        return Ok(None);
+    if !made.groups.is_empty() || made.current.is_some() {
+        return Ok(false);
     }
-    let found = match &before.reads {
-        Some(fields) => op_line(fields.as_slice(), before.ops.as_slice(), line),
-        None => return Ok(None),
+    let found = match &made.reads {
+        Some(fields) => op_line(fields.as_slice(), made.ops.as_slice(), line),
+        None => return Ok(false),
     };
     match found {
         Some(op) => {
-            let mut after = before;
-            after.ops.push(op)?;
-            Ok(Some(after))
+            made.ops.push(op)?;
+            Ok(true)
         }
-        None => Ok(None),
+        None => Ok(false),
     }
 }
 
-fn group(alloc: Global, before: Made, line: &[u8]) -> Result<Option<Made>, AllocError>
-    requires few { length before.ops ≤ 32768 }
-    ensures { IfOk result (λ made. Finds made (IsGroup before line.now)) }
+fn group(alloc: Global, made: &mut Made, line: &[u8]) -> Result<bool, AllocError>
+    requires few { length made.old.ops ≤ 32768 }
+    ensures { IfOk result (λ valid. Makes valid made.new (IsGroup made.old line.now)) }
 {
-    if before.current.is_some() || !before.prints.is_empty() {
-        return Ok(None);
+    if made.current.is_some() || !made.prints.is_empty() {
+        return Ok(false);
     }
-    let found = match &before.reads {
+    let found = match &made.reads {
         Some(fields) => group_line(
             alloc,
             fields.as_slice(),
-            before.ops.as_slice(),
-            before.groups.as_slice(),
+            made.ops.as_slice(),
+            made.groups.as_slice(),
             line,
         )?,
-        None => return Ok(None),
+        None => return Ok(false),
     };
     match found {
         Some(group) => {
-            let mut after = before;
-            after.current = Some(group);
-            Ok(Some(after))
+            made.current = Some(group);
+            Ok(true)
         }
-        None => Ok(None),
+        None => Ok(false),
     }
 }
 
-fn part(
-    alloc: Global,
-    word: LineWord,
-    before: Made,
-    line: &[u8],
-) -> Result<Option<Made>, AllocError>
-    requires { IsWithin before }
-    ensures { IfOk result (λ made. Finds made (IsPart word before line.now)) }
+fn part(alloc: Global, word: LineWord, made: &mut Made, line: &[u8]) -> Result<bool, AllocError>
+    requires { IsWithin made.old }
+    ensures { IfOk result (λ valid. Makes valid made.new (IsPart word made.old line.now)) }
 {
-    let Made {
-        begun,
-        reads,
-        ops,
-        groups,
-        current,
-        prints,
-    } = before;
-    let (fields, group) = match (reads, current) {
-        (Some(fields), Some(group)) => (fields, group),
-        _ => return Ok(None),
+    let fields = match &made.reads {
+        Some(fields) => fields.as_slice(),
+        None => return Ok(false),
     };
-    match in_group(alloc, word, fields.as_slice(), ops.as_slice(), group, line)? {
-        Some(next) => Ok(Some(Made {
-            begun,
-            reads: Some(fields),
-            ops,
-            groups,
-            current: Some(next),
-            prints,
-        })),
-        None => Ok(None),
+    let ops = made.ops.as_slice();
+    match &mut made.current {
+        Some(group) => in_group(alloc, word, fields, ops, group, line),
+        None => Ok(false),
     }
 }
 
-fn fold(alloc: Global, before: Made, line: &[u8]) -> Result<Option<Made>, AllocError>
-    requires { IsWithin before }
-    ensures { IfOk result (λ made. Finds made (IsFold before line.now)) }
+fn fold(alloc: Global, made: &mut Made, line: &[u8]) -> Result<bool, AllocError>
+    requires { IsWithin made.old }
+    ensures { IfOk result (λ valid. Makes valid made.new (IsFold made.old line.now)) }
 {
-    let Made {
-        begun,
-        reads,
-        ops,
-        mut groups,
-        current,
-        prints,
-    } = before;
-    let group = match current {
-        Some(group) => group,
-        None => return Ok(None),
+    let found = match &made.current {
+        Some(group) => fold_line(alloc, group, line)?,
+        None => return Ok(false),
     };
-    match fold_line(alloc, group, line)? {
-        Some(folded) => {
-            groups.push(folded)?;
-            Ok(Some(Made {
-                begun,
-                reads,
-                ops,
-                groups,
-                current: None,
-                prints,
-            }))
+    let said = match found {
+        Some(said) => said,
+        None => return Ok(false),
+    };
+    match mem::replace(&mut made.current, None) {
+        Some(group) => {
+            made.groups.push(Folded {
+                group,
+                class: said.class,
+                depth: said.depth,
+                nodes: said.nodes,
+                statements: said.statements,
+            })?;
+            Ok(true)
         }
-        None => Ok(None),
+        None => Ok(false),
     }
 }
 
@@ -183,41 +156,40 @@ fn has_print(prints: &[u16], n: u64) -> bool
     false
 }
 
-fn print(before: Made, line: &[u8]) -> Result<Option<Made>, AllocError>
-    requires { length before.groups ≤ 8 }
-    ensures { IfOk result (λ made. Finds made (IsPrint before line.now)) }
+fn print(made: &mut Made, line: &[u8]) -> Result<bool, AllocError>
+    requires { length made.old.groups ≤ 8 }
+    ensures { IfOk result (λ valid. Makes valid made.new (IsPrint made.old line.now)) }
 {
-    if before.current.is_some() {
-        return Ok(None);
+    if made.current.is_some() {
+        return Ok(false);
     }
     let number = match one_number(b"print", line) {
         Some(number) => number,
-        None => return Ok(None),
+        None => return Ok(false),
     };
-    if number >= before.groups.len() as u64 || has_print(before.prints.as_slice(), number) {
-        return Ok(None);
+    if number >= made.groups.len() as u64 || has_print(made.prints.as_slice(), number) {
+        return Ok(false);
     }
-    let mut after = before;
-    after.prints.push(number as u16)?;
-    Ok(Some(after))
+    made.prints.push(number as u16)?;
+    Ok(true)
 }
 
-/// What one more line makes of what the lines before it made, where it is valid after them.
-pub(crate) fn one_more(alloc: Global, before: Made, line: &[u8]) -> Result<Option<Made>, AllocError>
-    requires { IsWithin before }
-    ensures { IfOk result (λ made. Finds made (IsLine before line.now)) }
+/// Whether one more line is valid after the lines before it, whose work it goes on with.
+pub(crate) fn one_more(alloc: Global, made: &mut Made, line: &[u8]) -> Result<bool, AllocError>
+    requires { IsWithin made.old }
+    ensures { IfOk result (λ valid. Makes valid made.new (IsLine made.old line.now)) }
 {
     let word = line_word(line);
     match word {
-        LineWord::Plan => Ok(first(before, line)),
-        LineWord::Reads => reads(alloc, before, line),
-        LineWord::Op => op(before, line),
-        LineWord::Group => group(alloc, before, line),
+        LineWord::Plan => Ok(first(made, line)),
+        LineWord::Reads => reads(alloc, made, line),
+        LineWord::Op => op(made, line),
+        LineWord::Group => group(alloc, made, line),
         LineWord::Key | LineWord::Arg | LineWord::State | LineWord::Body => {
-            part(alloc, word, before, line)
+            part(alloc, word, made, line)
         }
-        LineWord::Fold => fold(alloc, before, line),
-        LineWord::Print => print(before, line),
-        LineWord::Other => Ok(None),
+        LineWord::Fold => fold(alloc, made, line),
+        LineWord::Print => print(made, line),
+        LineWord::Other => Ok(false),
     }
 }

@@ -2,6 +2,7 @@
 
 ghost use Rattle.std.specs.Prelude.{◌≡◌, ◌≤◌, ◌<◌, ◌+◌, ℕ, length, slice_get, IfSome, MatchOption, MatchResult, Some};
 ghost use Rattle.plan_file.specs.Lexis.{lines};
+ghost use Rattle.plan_file.specs.Lines.{nothing as nothing_made};
 ghost use Rattle.plan_file.specs.Texts.{IsAfterLines, IsLineStart, Says, IsRefused};
 
 use crate::answer::PlanFileAnswer;
@@ -41,26 +42,33 @@ fn refused(at: usize) -> PlanFileAnswer
     })
 }
 
-/// What the lines of a valid text make; a refusal gives the first line that isn't valid after the lines before it.
-pub fn read_text(alloc: Global, text: &[u8]) -> Result<Made, PlanFileAnswer>
-    ensures { MatchResult result (λ made. Says text.now made) (λ answer. IsRefused text.now answer) }
+// The lines of a text in order, which make this of nothing.
+fn read_lines(alloc: Global, text: &[u8], made: &mut Made) -> Result<(), PlanFileAnswer>
+    requires { made.old ≡ nothing_made }
+    ensures { MatchResult result (λ _. Says text.now made.new) (IsRefused text.now) }
 {
     if text.len() > MOST_BYTES {
         return Err(refused(MOST_BYTES));
     }
-    let mut made = nothing(alloc);
     let mut at = 0;
     'lines: while let Some((line, next)) = next_line(text, at) {
-        match one_more(alloc, made, line)? {
-            Some(after) => {
-                made = after;
-                at = next;
-            }
-            None => return Err(refused(at)),
+        let is_valid = one_more(alloc, made, line)?;
+        if !is_valid {
+            return Err(refused(at));
         }
+        at = next;
     }
     if at < text.len() || made.prints.is_empty() {
         return Err(refused(text.len()));
     }
+    Ok(())
+}
+
+/// What the lines of a valid text make; a refusal gives the first line that isn't valid after the lines before it.
+pub fn read_text(alloc: Global, text: &[u8]) -> Result<Made, PlanFileAnswer>
+    ensures { MatchResult result (λ made. Says text.now made) (IsRefused text.now) }
+{
+    let mut made = nothing(alloc);
+    read_lines(alloc, text, &mut made)?;
     Ok(made)
 }

@@ -1,19 +1,20 @@
 use Rattle.std.proofs.Common.{◌+◌}
 use Rattle.plan_file.proofs.ReadFacts.{reached_more}
 use Rattle.plan_file.proofs.WithinFacts.{line_within}
-use Rattle.plan_file.proofs.texts.read_text.Goals as goal
+use Rattle.plan_file.proofs.texts.read_lines.Goals as goal
 
 pub lines-preserved : goal.lines-preserved
 lines-preserved c =
     let text = c.args.text.now in
     let made = c.lines.made in
-    let is = rw c.in-Some-2.is at c.in_ok-after.ensures in
+    let after = c.one_more.new.made in
+    let is = rw c.if-not-is_valid.false at c.in_ok-is_valid.ensures in
     let i = c.lines.invariant.reached.0 in
     let r = c.lines.invariant.reached.1 in
     let step = c.in-Some.ensures.line i r.start in
     record {
       within = c.in-Some.ensures.later.1;
       small = c.lines.invariant.small;
-      limits = line_within made c.in-Some.line.now c.in-Some-2.after is c.lines.invariant.limits;
-      reached = (i + 1, reached_more text i c.lines.at c.in-Some.next made c.in-Some-2.after c.in-Some.line.now r step.0 step.1 is);
+      limits = line_within made c.in-Some.line.now after is c.lines.invariant.limits;
+      reached = (i + 1, reached_more text i c.lines.at c.in-Some.next made after c.in-Some.line.now r step.0 step.1 is);
     }

@@ -1,7 +1,7 @@
 use Rattle.std.proofs.Common.{ℕ, ◌≤◌, ◌-◌, length}
 use Rattle.plan_file.specs.Lines.{IsWithin}
 use Rattle.plan_file.proofs.ReadFacts.{IsReached}
-use Rattle.plan_file.proofs.texts.read_text.Given as goal
+use Rattle.plan_file.proofs.texts.read_lines.Given as goal
 
 abbrev pub invariant-lines : goal.invariant-lines
 invariant-lines l = record {

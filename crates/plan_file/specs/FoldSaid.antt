@@ -1,0 +1,13 @@
+-- A group with what its line `fold` says of it.
+use Rattle.plan_file.specs.declared.fold_line.Said.{Said}
+use Rattle.plan_file.specs.declared.made.Folded.{Folded}
+use Rattle.plan_file.specs.declared.made.Group.{Group}
+
+abbrev pub folded_as : Group → Said → Folded
+folded_as group said = record {
+  group = group;
+  class = said.class;
+  depth = said.depth;
+  nodes = said.nodes;
+  statements = said.statements;
+}
