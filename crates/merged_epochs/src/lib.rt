@@ -5,4 +5,4 @@ mod laws;
 mod shown;
 
 pub use laws::{held_rows_are_the_tables, merged_epochs_are_held};
-pub use shown::{ShownRows, shown_rows};
+pub use shown::{ShownRows, rows_held};

@@ -1,11 +1,15 @@
 //! Table rows, from the rows of a store.
 
-ghost use Rattle.std.specs.Prelude.{◌≡◌, ◌<◌, length, map, slice_get, slice_set, sum_by, Some};
+ghost use Rattle.std.specs.Prelude.{◌≡◌, ◌<◌, List, length, map, slice_get, slice_set, sum_by, Some, IfOk};
 ghost use Rattle.epoch_model.specs.declared.tables.Row.{Row};
-ghost use Rattle.epoch_model.specs.Tables.{epochs_shown, mark_of};
-ghost use Rattle.merged_epochs.specs.Merged.{epochs_in, shown_row};
+ghost use Rattle.epoch_model.specs.Machine.{Epoch};
+ghost use Rattle.epoch_model.specs.Tables.{Folding, closed_epochs, closed_rows, epochs_shown, mark_of};
+ghost use Rattle.merged_epochs.specs.Merged.{StoreHolds, epochs_in, shown_row};
 
+use crate::laws::held_rows_are_the_tables;
+use backing_store::BackingStore;
 use epoch_model::Mark;
+use std::alloc::AllocError;
 use table_rows::Rows;
 
 /// The rows of a table, and how many epochs they are for, or the greatest `u64` where that is more.
@@ -42,8 +46,8 @@ fn show_row(rows: &mut Rows, at: usize, row_per_epoch: bool) -> u64
     }
 }
 
-/// The table's rows for the rows of the store.
-pub fn shown_rows(stored: Rows, row_per_epoch: bool) -> ShownRows
+// The table's rows for the rows of the store.
+fn shown_rows(stored: Rows, row_per_epoch: bool) -> ShownRows
     ensures rows { result.rows ≡ map (shown_row row_per_epoch) stored }
     ensures epochs { result.epochs ≡ epochs_shown (sum_by (epochs_in row_per_epoch) stored) }
 {
@@ -53,4 +57,14 @@ pub fn shown_rows(stored: Rows, row_per_epoch: bool) -> ShownRows
         epochs = epochs.saturating_add(show_row(&mut rows, at, row_per_epoch));
     }
     ShownRows { rows, epochs }
+}
+
+/// The rows of the table of the epochs that a store holds. The store stays unchanged.
+pub fn rows_held(store: &BackingStore, row_per_epoch: bool) -> Result<ShownRows, AllocError>
+    ensures { IfOk result (λ shown. (f : Folding) (epochs : List Epoch) → f.row_per_epoch ≡ row_per_epoch → StoreHolds f store.now epochs
+        → (shown.rows ≡ closed_rows f epochs) × (shown.epochs ≡ closed_epochs epochs)) }
+{
+    held_rows_are_the_tables();
+    store.invariant();
+    Ok(shown_rows(store.sorted()?, row_per_epoch))
 }

@@ -4,7 +4,6 @@ ghost use Rattle.std.specs.Prelude.{◌≡◌, ◌+◌, ◌*◌, ◌==◌, ◌<�
 ghost use Rattle.std.specs.Prelude.{length};
 ghost use Rattle.std.specs.Prelude.{if◌then◌else◌, IfOk, OnOk, OnErr};
 ghost use Rattle.bucket_cache.specs.Caches.{list_at};
-ghost use Rattle.epoch_entry.specs.Foldings.{per_epoch};
 ghost use Rattle.epoch_model.specs.Driving.{event_of};
 ghost use Rattle.epoch_model.specs.Machine.{Epoch, Evict, Merge};
 ghost use Rattle.fold_class.specs.Program.{IsProgram};
@@ -27,13 +26,13 @@ use crate::fronts::take_packet;
 use backing_store::BackingStore;
 use epoch_entry::{AnyEpochs, EpochKind, entries_are_small, entries_suit_folds};
 use final_queries::Table;
-use marple_base::{Seq, Steps, Text};
-use net_wide::{add_front, all_drained, evict_at, merge_at, store_table};
+use marple_base::Steps;
+use net_wide::{add_front, all_drained, evict_at, merge_at};
 use stage_plan::{GroupPlan, Plan};
 use std::alloc::{AllocError, Global};
 use std::marker::Model;
 use std::sync::ledger::Ledger;
-use switch_core::{Front, Merged};
+use switch_core::{Front, Merged, held_table};
 
 /// What is kept for one groupby of all switches: a cache and a pipe for each switch, and one store.
 #[derive(Drop)]
@@ -49,17 +48,6 @@ impl<const WAYS: usize> Model for Group<WAYS> {
     ghost Value = { GroupView };
 
     ghost view = { λ g. record { kind = g.kind; fronts = g.fronts.items; store = g.store } };
-}
-
-// Copies of these texts.
-fn copied_texts(alloc: Global, texts: &[Text]) -> Result<Seq<Text>, AllocError>
-    ensures { IfOk result (λ copy. copy ≡ texts.now) }
-{
-    let mut copy = Seq::new(alloc);
-    for text in texts {
-        copy.push(Text::from_slice(alloc, text.as_slice())?)?;
-    }
-    Ok(copy)
 }
 
 impl<const WAYS: usize> Group<WAYS> {
@@ -201,23 +189,10 @@ impl<const WAYS: usize> Group<WAYS> {
 
     /// The table of the epochs that the store holds.
     pub fn table(&self, alloc: Global, part: &GroupPlan) -> Result<Table, AllocError>
-        requires keys { length part.now.key_names ≤ 8 }
-        requires class { (folding_in self.now).row_per_epoch ≡ per_epoch part.now.program.class }
+        requires { length part.now.key_names ≤ 8 }
         ensures { IfOk result (λ table. (epochs : List Epoch) → StoreHolds (folding_in self.now) self.now.store epochs
             → table ≡ closed_table (heading_of part.now) (folding_in self.now) epochs) }
     {
-        let name = Text::from_slice(alloc, part.name.as_slice())?;
-        let key_names = copied_texts(alloc, part.key_names.as_slice())?;
-        let state_names = copied_texts(alloc, part.state_names.as_slice())?;
-        let (class, depth) = (part.program.class, part.program.depth);
-        store_table(
-            &self.kind,
-            &self.store,
-            name,
-            key_names,
-            state_names,
-            class,
-            depth,
-        )
+        held_table(alloc, part, &self.store, self.kind.row_per_epoch())
     }
 }

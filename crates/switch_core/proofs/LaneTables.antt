@@ -1,29 +1,26 @@
 -- The tables of lanes in order.
-use Rattle.std.proofs.Common.{◌≡◌, ◌↔◌, ℕ, zero, suc, ◌+◌, ◌≤◌, Bool, true, false, List, [], ◌∷◌, ◌++◌, Some, length, map, take, refl, sym, ap, ◌∙◌, arith}
+use Rattle.std.proofs.Common.{◌≡◌, ℕ, zero, suc, ◌+◌, ◌≤◌, true, List, [], ◌∷◌, ◌++◌, Some, length, map, take, refl, sym, ap, ◌∙◌, arith}
 use Rattle.std.specs.List.{list_all}
 use Rattle.std.specs.Prelude.{slice_get}
-use Rattle.std.proofs.lemmas.Bool.{true≢false}
-use Rattle.query_lang.specs.declared.typed.Class.{Class}
-use Rattle.query_lang.specs.declared.typed.Class.TheVariants.{Linear}
 use Rattle.epoch_model.specs.Machine.{Machine}
 use Rattle.epoch_model.specs.Timeline.{IsSwept}
-use Rattle.epoch_entry.specs.Foldings.{per_epoch}
 use Rattle.epoch_entry.specs.contracts.any.AnyEpochsEpochKind.TheImpl.{ghosts}
+use Rattle.merged_epochs.specs.Merged.{StoreHolds}
 use Rattle.final_queries.specs.GroupTable.{closed_table}
 use Rattle.stage_plan.specs.declared.group.GroupPlan.{GroupPlan}
 use Rattle.switch_core.specs.Rows.{EachFrom}
 use Rattle.switch_core.specs.Pipelines.{heading_of, tables_of}
 use Rattle.switch_core.specs.PlanLanes.{LaneView, StandsFor, folding_at, lane_is_drained}
-use Rattle.switch_core.proofs.Drained.{drained_is_done}
+use Rattle.switch_core.proofs.ClosedTable.{all_held}
+use Rattle.switch_core.proofs.Drained.{drained_is_done, drained_parts}
 use Rattle.switch_core.proofs.LaneFacts.{both_pass}
+use Rattle.switch_core.proofs.MergeSteps.{none_piped}
 
--- a fold of this class has a row for all epochs exactly where it is linear
-pub class_fits : (class : Class) (each : Bool) → each ≡ per_epoch class → (class ≡ Linear) ↔ (each ≡ false)
-class_fits Linear each e = (λ h. e, λ h. refl)
-class_fits Class.Other each e = (λ h. absurd (other h), λ h. absurd (true≢false (sym e ∙ h)))
-  where
-    other : Class.Other ≡ Linear → ⊥
-    other h = cc
+-- where a lane is drained its store holds all epochs of its machine
+pub drained_holds : (lane : LaneView) (m : Machine) → lane_is_drained lane ≡ true → StandsFor lane m → StoreHolds (folding_at lane) lane.store m.closed
+drained_holds lane m drained stood =
+    let none = (drained_parts lane.cache lane.pipe drained).1 in
+    all_held (folding_at lane) lane.store m (none_piped (ghosts.stands lane.kind) lane.cache lane.pipe m stood.front none) stood.kept
 
 tables_next_at : (groups : List GroupPlan) (lanes : List LaneView) (ms : List Machine) (i : ℕ) (group : GroupPlan) (lane : LaneView) (m : Machine)
     → slice_get groups i ≡ Some group → slice_get lanes i ≡ Some lane → slice_get ms i ≡ Some m

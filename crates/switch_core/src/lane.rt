@@ -21,7 +21,7 @@ use epoch_entry::EpochKind;
 use evict_pipe::EvictPipe;
 use final_queries::{Table, TableKind};
 use marple_base::{Seq, Steps, Text};
-use merged_epochs::{held_rows_are_the_tables, shown_rows};
+use merged_epochs::rows_held;
 use query_lang::Class;
 use std::alloc::{AllocError, Global};
 use std::marker::Model;
@@ -191,12 +191,9 @@ impl<K: EpochKind, const WAYS: usize> Lane<K, WAYS> {
               depth = depth;
             }) (K.folding self.now.kind) m.closed) }
     {
-        held_rows_are_the_tables();
         self.invariant();
-        self.store.invariant();
         let keys = key_names.len() as u8;
-        let stored = self.store.sorted()?;
-        let shown = shown_rows(stored, self.front.kind().row_per_epoch());
+        let shown = rows_held(&self.store, self.front.kind().row_per_epoch())?;
         Ok(Table {
             name,
             columns: columns(key_names, state_names)?,

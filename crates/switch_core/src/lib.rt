@@ -21,3 +21,4 @@ pub use lane::Lane;
 pub use laws::tables_are_of_folds;
 pub use merging::merge_entry;
 pub use pipeline::Pipeline;
+pub use tables::held_table;

@@ -1,19 +1,23 @@
-//! The tables of a plan's lanes.
+//! The tables of the epochs that stores hold.
 
-ghost use Rattle.std.specs.Prelude.{◌≡◌, ℕ, List, true, length, map, IfOk};
+ghost use Rattle.std.specs.Prelude.{◌≡◌, ◌≤◌, ℕ, List, true, length, map, IfOk};
 ghost use Rattle.std.specs.List.{list_all};
-ghost use Rattle.epoch_model.specs.Machine.{Machine};
+ghost use Rattle.epoch_model.specs.Machine.{Epoch, Machine};
+ghost use Rattle.epoch_model.specs.Tables.{Folding};
 ghost use Rattle.epoch_entry.specs.declared.purpose.Entries.{Entries};
-ghost use Rattle.epoch_entry.specs.Foldings.{per_epoch};
+ghost use Rattle.merged_epochs.specs.Merged.{StoreHolds};
 ghost use Rattle.final_queries.specs.GroupTable.{closed_table};
 ghost use Rattle.switch_core.specs.Rows.{Each};
 ghost use Rattle.switch_core.specs.Pipelines.{heading_of, tables_of};
 ghost use Rattle.switch_core.specs.PlanLanes.{AreLanesOf, StandsFor, folding_at, lane_is_drained, lane_view};
 
+use crate::closing::columns;
 use crate::lane::Lane;
+use backing_store::BackingStore;
 use epoch_entry::{AnyEpochs, EpochKind};
-use final_queries::Table;
+use final_queries::{Table, TableKind};
 use marple_base::{Seq, Text};
+use merged_epochs::rows_held;
 use stage_plan::{GroupPlan, Plan};
 use std::alloc::{AllocError, Global};
 
@@ -28,23 +32,30 @@ fn copied_texts(alloc: Global, texts: &[Text]) -> Result<Seq<Text>, AllocError>
     Ok(copy)
 }
 
-// The table of a groupby.
-fn lane_table<const WAYS: usize>(
+/// The table of the epochs that a store holds, under the names of a groupby. The store stays unchanged.
+pub fn held_table(
     alloc: Global,
     group: &GroupPlan,
-    lane: &Lane<AnyEpochs, WAYS>,
+    store: &BackingStore,
+    row_per_epoch: bool,
 ) -> Result<Table, AllocError>
-    requires drained { lane_is_drained (lane_view lane.now) ≡ true }
-    requires keys { lane.now.cache.key_words ≡ length group.now.key_names }
-    requires class { (⟦<AnyEpochs as EpochKind>⟧.folding lane.now.kind).row_per_epoch ≡ per_epoch group.now.program.class }
-    ensures { IfOk result (λ table. (m : Machine) → StandsFor (lane_view lane.now) m
-        → table ≡ closed_table (heading_of group.now) (folding_at (lane_view lane.now)) m.closed) }
+    requires { length group.now.key_names ≤ 8 }
+    ensures { IfOk result (λ table. (f : Folding) (epochs : List Epoch)
+        → f.row_per_epoch ≡ row_per_epoch → StoreHolds f store.now epochs → table ≡ closed_table (heading_of group.now) f epochs) }
 {
     let name = Text::from_slice(alloc, group.name.as_slice())?;
     let key_names = copied_texts(alloc, group.key_names.as_slice())?;
     let state_names = copied_texts(alloc, group.state_names.as_slice())?;
+    let keys = group.key_names.len() as u8;
     let (class, depth) = (group.program.class, group.program.depth);
-    lane.close(name, key_names, state_names, class, depth)
+    let shown = rows_held(store, row_per_epoch)?;
+    Ok(Table {
+        name,
+        columns: columns(key_names, state_names)?,
+        keys,
+        kind: TableKind::Group(class, depth, shown.epochs),
+        rows: shown.rows,
+    })
 }
 
 /// The tables of the lanes, in the order of the groupbys.
@@ -61,7 +72,14 @@ pub fn lane_tables<const WAYS: usize>(
     plan.invariant();
     let mut tables = Seq::new(alloc);
     for i in 0..lanes.len() {
-        tables.push(lane_table(alloc, plan.group(i as u32), &lanes[i])?)?;
+        let lane = &lanes[i];
+        let row_per_epoch = lane.kind().row_per_epoch();
+        tables.push(held_table(
+            alloc,
+            plan.group(i as u32),
+            lane.store(),
+            row_per_epoch,
+        )?)?;
     }
     Ok(tables)
 }

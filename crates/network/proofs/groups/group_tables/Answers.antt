@@ -1,7 +1,6 @@
-use Rattle.std.proofs.Common.{◌≡◌, ◌++◌, [], ◌∷◌, Some, length, take, sym, ap, ◌∙◌, arith, lit<}
+use Rattle.std.proofs.Common.{◌≡◌, ◌++◌, [], ◌∷◌, Some, length, take, sym, ap, ◌∙◌, arith}
 use Rattle.std.proofs.Math.Facts.{Fits-below}
 use Rattle.std.specs.Prelude.{slice_get}
-use Rattle.epoch_entry.specs.Foldings.{per_epoch}
 use Rattle.merged_epochs.specs.Merged.{StoreHolds}
 use Rattle.switch_core.proofs.SideBySide.{same_some, each_long, each_at}
 use Rattle.net_wide.proofs.Sharing.{got_here}
@@ -32,7 +31,7 @@ table-requires g c =
     let same = same_some own.part c.group.result.now (sym own.there ∙ c.group.ensures) in
     let keys = ap (λ x. length x.key_names) same in
     let few = own.sound.most_keys in
-    (lit< tt, (omega arith, own.is.class ∙ ap (λ x. per_epoch x.program.class) same))
+    omega arith
 
 pub loop-i-preserved : goal.loop-i-preserved
 loop-i-preserved g c epochs hold =

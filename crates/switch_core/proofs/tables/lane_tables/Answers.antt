@@ -1,13 +1,16 @@
-use Rattle.std.proofs.Common.{◌≡◌, ◌++◌, [], ◌∷◌, Some, length, map, take, sym, ap, ◌∙◌, arith, lit<}
+-- Each table is that of the epochs of its lane's machine, since all of them are merged.
+use Rattle.std.proofs.Common.{◌≡◌, ◌++◌, [], ◌∷◌, Some, length, map, take, sym, ap, ◌∙◌, subst, arith}
 use Rattle.std.proofs.lemmas.List.{length-map}
 use Rattle.std.proofs.Math.Facts.{Fits-below}
 use Rattle.std.specs.Prelude.{slice_get}
-use Rattle.epoch_entry.specs.Foldings.{per_epoch}
+use Rattle.epoch_entry.specs.contracts.any.AnyEpochsEpochKind.TheImpl.{ghosts}
+use Rattle.merged_epochs.specs.Merged.{StoreHolds}
 use Rattle.switch_core.specs.Pipelines.{tables_of}
 use Rattle.switch_core.specs.PlanLanes.{StandsFor, folding_at, lane_is_drained, lane_view}
 use Rattle.switch_core.proofs.SideBySide.{same_some, each_long, each_at}
 use Rattle.switch_core.proofs.LaneFacts.{got_view, all_at}
-use Rattle.switch_core.proofs.LaneTables.{tables_next, tables_whole}
+use Rattle.switch_core.proofs.LaneTables.{drained_holds, tables_next, tables_whole}
+use Rattle.switch_core.proofs.LanesMade.{group_sound}
 use Rattle.switch_core.proofs.tables.lane_tables.Goals as goal
 
 pub overflow_cast-i : goal.overflow_cast-i
@@ -23,16 +26,10 @@ group-requires g c =
     let below = c.loop-i-test.true in
     omega arith
 
-pub lane_table-requires : goal.lane_table-requires
-lane_table-requires g c =
-    let i = c.loop-i.i in
-    let lanes = map lane_view c.args.lanes.now in
-    let lane = lane_view c.index-lanes-i.result in
-    let here : slice_get lanes i ≡ Some lane = got_view c.args.lanes.now i c.index-lanes-i.result c.loop-i-test.true ∙ ap (λ l. Some (lane_view l)) (sym c.index-lanes-i.is) in
-    let found = each_at _ 0 i lanes c.args.plan.now.groups lane c.requires.lanes.2 here in
-    let own = found.2 i (omega arith) in
-    let same = same_some found.0 c.group.result.now (sym found.1 ∙ c.group.ensures) in
-    (lit< tt, (all_at lane_is_drained lanes i lane c.requires.drained here, (own.keys ∙ ap (λ x. length x.key_names) same, own.class ∙ ap (λ x. per_epoch x.program.class) same)))
+pub held_table-requires : goal.held_table-requires
+held_table-requires g c =
+    let own = group_sound c.args.plan.now c.loop-i.i c.group.result.now c.invariant.ensures c.group.ensures in
+    own.2.most_keys
 
 pub loop-i-preserved : goal.loop-i-preserved
 loop-i-preserved g c machines stand =
@@ -41,9 +38,15 @@ loop-i-preserved g c machines stand =
     let lane = lane_view c.index-lanes-i.result in
     let here : slice_get lanes i ≡ Some lane = got_view c.args.lanes.now i c.index-lanes-i.result c.loop-i-test.true ∙ ap (λ l. Some (lane_view l)) (sym c.index-lanes-i.is) in
     let found = each_at (λ n. StandsFor) 0 i lanes machines lane stand here in
-    let table = c.in_ok-lane_table.ensures found.0 (found.2 i (omega arith)) in
+    let drained = all_at lane_is_drained lanes i lane c.requires.drained here in
+    let held : StoreHolds (folding_at lane) c.store.result.now found.0.closed =
+    subst (λ store. StoreHolds (folding_at lane) store found.0.closed) (sym c.store.ensures) (drained_holds lane found.0 drained (found.2 i (omega arith))) in
+    let each : (folding_at lane).row_per_epoch ≡ c.row_per_epoch-row_per_epoch.result =
+    sym (c.row_per_epoch-row_per_epoch.ensures ∙ ap (λ k. (ghosts.folding k).row_per_epoch) c.kind.ensures) in
+    let table = c.in_ok-held_table.ensures (folding_at lane) found.0.closed each held in
     let next = tables_next c.args.plan.now.groups lanes machines i c.group.result.now lane found.0 c.group.ensures here found.1 in
-    c.in_ok-push.ensures.ok ∙ (ap (λ ts. ts ++ c.in_ok-lane_table.field-0 ∷ []) (c.loop-i.invariant machines stand) ∙ (ap (λ t. take i (tables_of c.args.plan.now.groups (map folding_at lanes) machines) ++ t ∷ []) table ∙ sym next))
+    c.in_ok-push.ensures.ok ∙ (ap (λ ts. ts ++ c.in_ok-held_table.field-0 ∷ []) (c.loop-i.invariant machines stand)
+    ∙ (ap (λ t. take i (tables_of c.args.plan.now.groups (map folding_at lanes) machines) ++ t ∷ []) table ∙ sym next))
 
 pub returns : goal.returns
 returns g c machines stand =
