@@ -80,6 +80,7 @@ pub fn merge_at<K: EpochKind, const WAYS: usize, L: Ledger>(
     ensures sizes { (store.new.key_words ≡ store.old.key_words) × (store.new.state_words ≡ store.old.state_words) }
     ensures ready { OnOk result (AtSwitch (λ front. length front.pipe.records < front.pipe.places) fronts.new at) }
     ensures empty { AtSwitch (λ front. (result ≡ Ok Merged.Empty) ↔ (length front.pipe.records ≡ 0)) fronts.old at }
+    ensures same { result ≡ Ok Merged.Empty → (fronts.new ≡ fronts.old) × (store.new ≡ store.old) }
     ensures err { OnErr result ((fronts.new ≡ fronts.old) × (store.new ≡ store.old)) }
     ensures steps { steps.old ≤ steps.new }
     ensures cost { AtSwitch (λ front. steps.new ≤ steps.old

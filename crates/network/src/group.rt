@@ -171,6 +171,7 @@ impl<const WAYS: usize> Group<WAYS> {
         ensures makes { OnOk result (GroupMakes WAYS at Merge self.old self.new) }
         ensures ready { OnOk result (is_ready_at at self.new ≡ true) }
         ensures empty { AtSwitch (λ front. (result ≡ Ok Merged.Empty) ↔ (length front.pipe.records ≡ 0)) self.old.fronts at }
+        ensures same { result ≡ Ok Merged.Empty → self.new ≡ self.old }
         ensures err { OnErr result (self.new ≡ self.old) }
         ensures steps { steps.old ≤ steps.new }
         ensures cost { AtLaneIn (λ lane. steps.new ≤ steps.old + lane_merge_cost lane) self.old at }

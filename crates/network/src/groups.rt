@@ -182,6 +182,7 @@ pub fn merge_from<const WAYS: usize, L: Ledger>(
     ensures makes { OnOk result (GroupsMake WAYS at (event_at lane Merge) groups.old groups.new) }
     ensures ready { OnOk result (AtGroup (λ group. is_ready_at at group ≡ true) groups.new lane) }
     ensures empty { AtFront (λ front. (result ≡ Ok Merged.Empty) ↔ (length front.pipe.records ≡ 0)) groups.old at lane }
+    ensures same { result ≡ Ok Merged.Empty → groups.new ≡ groups.old }
     ensures err { OnErr result (groups.new ≡ groups.old) }
     ensures steps { steps.old ≤ steps.new }
     ensures cost { AtSwitchLane (λ one. steps.new ≤ steps.old + lane_merge_cost one) groups.old at lane }

@@ -228,7 +228,7 @@ impl<const WAYS: usize> Network<WAYS> {
     }
 
     /// Merges the oldest record of a switch's pipe into the store of all switches, at one groupby. `Empty` exactly
-    /// where the pipe is empty; out of memory leaves everything unchanged.
+    /// where the pipe is empty, and then everything is unchanged, as when out of memory.
     pub fn merge<L: Ledger>(
         &mut self,
         at: u32,
@@ -242,6 +242,7 @@ impl<const WAYS: usize> Network<WAYS> {
         ensures ready { OnOk result (AtGroup (λ group. is_ready_at at group ≡ true) self.new.groups lane) }
         ensures empty { AtFront (λ front. (result ≡ Ok Merged.Empty) ↔ (length front.pipe.records ≡ 0))
             self.old.groups at lane }
+        ensures same { result ≡ Ok Merged.Empty → self.new ≡ self.old }
         ensures err { OnErr result (self.new ≡ self.old) }
         ensures steps { steps.old ≤ steps.new }
         ensures cost { AtSwitchLane (λ one. steps.new ≤ steps.old + lane_merge_cost one) self.old.groups at lane }

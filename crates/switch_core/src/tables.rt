@@ -74,12 +74,7 @@ pub fn lane_tables<const WAYS: usize>(
     for i in 0..lanes.len() {
         let lane = &lanes[i];
         let row_per_epoch = lane.kind().row_per_epoch();
-        tables.push(held_table(
-            alloc,
-            plan.group(i as u32),
-            lane.store(),
-            row_per_epoch,
-        )?)?;
+        tables.push(held_table(alloc, plan.group(i as u32), lane.store(), row_per_epoch)?)?;
     }
     Ok(tables)
 }

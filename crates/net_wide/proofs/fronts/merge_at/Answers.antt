@@ -62,6 +62,14 @@ returns-clause-empty g c x e =
     let empty = c.merge_into.ensures.empty in
     (λ r. sym (ap (λ v. length v.pipe.records) same) ∙ empty.0 r, λ n. empty.1 (ap (λ v. length v.pipe.records) same ∙ n))
 
+pub returns-clause-same : goal.returns-clause-same
+returns-clause-same g c is =
+    let fronts = c.args.fronts.now in
+    let at = c.args.at in
+    let was = get_or fronts at c.index-fronts-at.result in
+    let same = c.merge_into.ensures.same is in
+    (ap (set fronts at) same.0 ∙ set_same fronts at was (got_here fronts at c.index-fronts-at.result c.requires.switch), same.1)
+
 pub returns-clause-err : goal.returns-clause-err
 returns-clause-err g c =
     let fronts = c.args.fronts.now in

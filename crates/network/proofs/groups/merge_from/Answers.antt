@@ -46,6 +46,13 @@ returns-clause-empty g c x e front f =
     let same = same_some group x (sym (got_here groups lane c.index-groups-lane.result c.requires.lane) ∙ e) in
     c.merge.ensures.empty front (ap (λ (v : GroupView). slice_get v.fronts c.args.at) same ∙ f)
 
+pub returns-clause-same : goal.returns-clause-same
+returns-clause-same g c is =
+    let groups = c.args.groups.now in
+    let lane = c.args.lane in
+    let group = get_or groups lane c.index-groups-lane.result in
+    ap (set groups lane) (c.merge.ensures.same is) ∙ set_same groups lane group (got_here groups lane c.index-groups-lane.result c.requires.lane)
+
 pub returns-clause-err : goal.returns-clause-err
 returns-clause-err g c =
     let groups = c.args.groups.now in

@@ -63,6 +63,18 @@ pub returns-clause-empty : goal.returns-clause-empty
 returns-clause-empty g c front e =
     c.merge_at.ensures.empty front (ap (λ xs. slice_get xs c.args.at) c.deref_mut.ensures.value ∙ (ap (λ (v : GroupView). slice_get v.fronts c.args.at) c.self.view_is ∙ e))
 
+pub returns-clause-same : goal.returns-clause-same
+returns-clause-same g c is =
+    let p = c.self.inside in
+    let new = c.merge_at.new.fronts in
+    let store = c.merge_at.new.store in
+    let whole = whole_written new (drop (length new) p.fronts.items) p.fronts.len (c.merge_at.auto.fronts ∙ c.deref_mut.ensures.len) in
+    let after : GroupView = record { kind = p.kind; fronts = take p.fronts.len (new ++ drop (length new) p.fronts.items); store = store } in
+    let view : GroupView = record { kind = p.kind; fronts = p.fronts.items; store = p.store } in
+    let same = c.merge_at.ensures.same is in
+    let fronts : after.fronts ≡ p.fronts.items = whole ∙ (same.0 ∙ c.deref_mut.ensures.value) in
+    ap (λ xs. record after { fronts = xs }) fronts ∙ (ap (λ s. record view { store = s }) same.1 ∙ c.self.view_is)
+
 pub returns-clause-err : goal.returns-clause-err
 returns-clause-err g c =
     let p = c.self.inside in

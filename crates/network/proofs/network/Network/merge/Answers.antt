@@ -77,6 +77,14 @@ pub returns-clause-empty : goal.returns-clause-empty
 returns-clause-empty g c group e front f =
     c.merge_from.ensures.empty group (ap (λ xs. slice_get xs c.args.lane) c.deref_mut.ensures.value ∙ (ap (λ (v : NetworkView). slice_get v.groups c.args.lane) c.self.view_is ∙ e)) front f
 
+pub returns-clause-same : goal.returns-clause-same
+returns-clause-same g c is =
+    let p = c.self.inside in
+    let view : NetworkView = record { plan = p.plan; buckets = p.buckets; pipe_records = p.pipe_records; switches = p.switches; groups = p.groups.items } in
+    let new = c.merge_from.new.groups in
+    let whole = whole_written new (drop (length new) p.groups.items) p.groups.len (c.merge_from.auto.groups ∙ c.deref_mut.ensures.len) in
+    ap (with_groups view) (whole ∙ (c.merge_from.ensures.same is ∙ c.deref_mut.ensures.value)) ∙ c.self.view_is
+
 pub returns-clause-err : goal.returns-clause-err
 returns-clause-err g c =
     let p = c.self.inside in
