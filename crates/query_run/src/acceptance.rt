@@ -3,6 +3,7 @@
 ghost use Rattle.std.specs.Prelude.{◌≡◌, ◌*◌, ◌<◌, ◌≤◌, [], All, IfErr, IfOk, IfSome, None, OnOk, Some, length};
 ghost use Rattle.trace_drive.specs.Drives.{coming, fault_of};
 ghost use Rattle.trace_drive.specs.Kept.{kept_of, kept_words};
+ghost use Rattle.query_run.specs.Accepting.{AreKept, AreUnread};
 ghost use Rattle.trace_reader.specs.Faults.{IfRefused};
 ghost use Rattle.trace_reader.specs.Traces.{most_records, packets, trace_fault};
 
@@ -45,6 +46,8 @@ fn keep_rest(
     ensures kept { IfOk result (λ found. IfSome found (λ kept. kept.packets ≡ trace.old.packets)) }
     ensures accepted { IfOk result (λ found. IfSome found (λ kept. trace.old.fault ≡ None)) }
     ensures within { IfOk result (λ found. IfSome found (λ kept. kept_words kept ≤ most_words)) }
+    ensures beyond { IfOk result (λ found. found ≡ None
+        → most_words < kept_words (record { fields = reads; packets = trace.old.packets })) }
     ensures fault { OnOk result (trace.new.fault ≡ trace.old.fault) }
     ensures refused { IfErr result (λ answer. IfRefused answer (λ fault. trace.old.fault ≡ Some fault)) }
 {
@@ -69,6 +72,8 @@ fn read_ahead(
 ) -> Result<Option<KeptPackets>, TraceAnswer>
     ensures kept { IfOk result (λ found. IfSome found (λ kept. kept.packets ≡ packets bytes.now reads)) }
     ensures within { IfOk result (λ found. IfSome found (λ kept. 8 * kept_words kept ≤ 2 * length bytes.now)) }
+    ensures beyond { IfOk result (λ found. found ≡ None
+        → 2 * length bytes.now < 8 * kept_words (record { fields = reads; packets = packets bytes.now reads })) }
     ensures accepted { OnOk result (trace_fault bytes.now reads ≡ None) }
     ensures refused { IfErr result (λ answer. IfRefused answer (λ fault. trace_fault bytes.now reads ≡ Some fault)) }
 {
@@ -84,7 +89,7 @@ fn read_ahead(
 
 /// The packets of a trace. Where a view is written after every N packets, the trace is read to its end first, so that what is
 /// written comes from a trace that is accepted; it is read again only where its packets take more than twice the memory of its
-/// text. With 0 nothing is read ahead.
+/// text. With 0 nothing is read ahead, and nothing is kept.
 pub(crate) fn opened_trace<'a>(
     alloc: Global,
     bytes: &'a [u8],
@@ -94,6 +99,9 @@ pub(crate) fn opened_trace<'a>(
     ensures all { IfOk result (λ given. coming given ≡ packets bytes.now reads) }
     ensures fault { IfOk result (λ given. fault_of given ≡ trace_fault bytes.now reads) }
     ensures accepted { IfOk result (λ given. 0 < every → trace_fault bytes.now reads ≡ None) }
+    ensures kept { IfOk result (λ given. 0 < every
+        → 8 * kept_words (record { fields = reads; packets = packets bytes.now reads }) ≤ 2 * length bytes.now → AreKept given) }
+    ensures unread { IfOk result (λ given. every ≡ 0 → AreUnread given) }
     ensures refused { IfErr result (λ answer. IfRefused answer (λ fault. trace_fault bytes.now reads ≡ Some fault)) }
 {
     if every > 0 {
