@@ -3,7 +3,6 @@
 use switch_core::Pipeline;
 
 /// The pipeline that a run leaves, with a variant for each number of ways of its caches.
-#[derive(Drop)]
 pub enum Driven {
     Ways1(Pipeline<1>),
     Ways2(Pipeline<2>),
@@ -11,4 +10,18 @@ pub enum Driven {
     Ways8(Pipeline<8>),
     Ways16(Pipeline<16>),
     Ways32(Pipeline<32>),
+}
+
+// One step at each exit of an owner, where a derived drop would be one for each part.
+impl Drop for Driven {
+    fn drop(self) {
+        match self {
+            Driven::Ways1(pipeline) => drop(pipeline),
+            Driven::Ways2(pipeline) => drop(pipeline),
+            Driven::Ways4(pipeline) => drop(pipeline),
+            Driven::Ways8(pipeline) => drop(pipeline),
+            Driven::Ways16(pipeline) => drop(pipeline),
+            Driven::Ways32(pipeline) => drop(pipeline),
+        }
+    }
 }

@@ -9,11 +9,21 @@ use marple_base::{Packet, Seq};
 use trace_reader::{Trace, TraceAnswer};
 
 /// The packets of a trace, or packets that were made or kept, with the place of the next one.
-#[derive(Drop)]
 pub enum Packets<'a> {
     Trace(Trace<'a>),
     Made(Seq<Packet>, usize),
     Kept(KeptPackets, usize),
+}
+
+// One step at each exit of an owner, where a derived drop would be one for each part.
+impl Drop for Packets<'_> {
+    fn drop(self) {
+        match self {
+            Packets::Trace(trace) => drop(trace),
+            Packets::Made(made, _) => drop(made),
+            Packets::Kept(kept, _) => drop(kept),
+        }
+    }
 }
 
 impl<'a> Packets<'a> {
