@@ -1,6 +1,6 @@
 //! Queries for the commands that have checks of their own: read, accepted, and checked.
-ghost use Rattle.std.specs.Prelude.{◌≡◌, ◌≤◌, Ok, None, IfOk, IfErr, IfSome};
-ghost use Rattle.marple_base.specs.Inputs.{IsClosed};
+ghost use Rattle.std.specs.Prelude.{◌≡◌, ◌+◌, ◌≤◌, Ok, None, IfOk, IfErr, IfSome};
+ghost use Rattle.marple_base.specs.Inputs.{IsClosed, LosesUpTo};
 ghost use Rattle.query_lang.specs.TypedQueries.{IsValidQuery};
 ghost use Rattle.stage_plan.specs.Planned.{IsPlanOf};
 ghost use Rattle.accepted_query.specs.Accepted.{accepted};
@@ -11,7 +11,7 @@ ghost use Rattle.plan_writer.specs.PlanText.{final_fault};
 ghost use Rattle.command_answers.specs.Phases.{QueryEnds};
 ghost use Rattle.command_answers.specs.OwnChecks.{fault_with};
 
-use crate::operands::read_query;
+use crate::operands::{MAX_QUERY, read_query};
 use crate::status::Status;
 use accepted_query::AcceptedQuery;
 use enclosure_folds::enclose_check;
@@ -30,6 +30,7 @@ pub fn query_for_net<I: Inputs>(alloc: Global, inputs: &mut I) -> Result<Accepte
     ensures valid { IfOk result (λ found. IsValidQuery found.typed) }
     ensures plan { IfOk result (λ found. IsPlanOf found.typed found.plan) }
     ensures err { IfErr result (QueryEnds (fault_with net_fault) (I.input inputs.old Which.Query) (I.input inputs.new Which.Query)) }
+    ensures lost { LosesUpTo (MAX_QUERY + 1) (I.input inputs.old Which.Query) (I.input inputs.new Which.Query) }
     ensures later { (I.input inputs.old Which.Query).faults ≤ (I.input inputs.new Which.Query).faults }
     ensures trace_kept { I.input inputs.new Which.Trace ≡ I.input inputs.old Which.Trace }
 {
@@ -49,6 +50,7 @@ pub fn query_for_bounds<I: Inputs>(alloc: Global, inputs: &mut I) -> Result<Acce
     ensures valid { IfOk result (λ found. IsValidQuery found.typed) }
     ensures plan { IfOk result (λ found. IsPlanOf found.typed found.plan) }
     ensures err { IfErr result (QueryEnds (fault_with enclose_fault) (I.input inputs.old Which.Query) (I.input inputs.new Which.Query)) }
+    ensures lost { LosesUpTo (MAX_QUERY + 1) (I.input inputs.old Which.Query) (I.input inputs.new Which.Query) }
     ensures later { (I.input inputs.old Which.Query).faults ≤ (I.input inputs.new Which.Query).faults }
     ensures trace_kept { I.input inputs.new Which.Trace ≡ I.input inputs.old Which.Trace }
 {
@@ -67,6 +69,7 @@ pub fn query_for_plan<I: Inputs>(alloc: Global, inputs: &mut I) -> Result<Accept
     ensures valid { IfOk result (λ found. IsValidQuery found.typed) }
     ensures plan { IfOk result (λ found. IsPlanOf found.typed found.plan) }
     ensures err { IfErr result (QueryEnds (fault_with final_fault) (I.input inputs.old Which.Query) (I.input inputs.new Which.Query)) }
+    ensures lost { LosesUpTo (MAX_QUERY + 1) (I.input inputs.old Which.Query) (I.input inputs.new Which.Query) }
     ensures later { (I.input inputs.old Which.Query).faults ≤ (I.input inputs.new Which.Query).faults }
     ensures trace_kept { I.input inputs.new Which.Trace ≡ I.input inputs.old Which.Trace }
 {

@@ -1,6 +1,6 @@
 //! The operands of a command: read, and accepted or refused.
 ghost use Rattle.std.specs.Prelude.{◌≡◌, ◌+◌, ◌≤◌, Ok, IfOk, IfErr, IfSome, take};
-ghost use Rattle.marple_base.specs.Inputs.{IsClosed};
+ghost use Rattle.marple_base.specs.Inputs.{IsClosed, LosesUpTo};
 ghost use Rattle.query_lang.specs.TypedQueries.{IsValidQuery};
 ghost use Rattle.stage_plan.specs.Planned.{IsPlanOf};
 ghost use Rattle.accepted_query.specs.Accepted.{accepted, query_fault};
@@ -31,6 +31,7 @@ pub fn read_query<I: Inputs>(alloc: Global, inputs: &mut I) -> Result<AcceptedQu
     ensures valid { IfOk result (λ found. IsValidQuery found.typed) }
     ensures plan { IfOk result (λ found. IsPlanOf found.typed found.plan) }
     ensures err { IfErr result (QueryEnds query_fault (I.input inputs.old Which.Query) (I.input inputs.new Which.Query)) }
+    ensures lost { LosesUpTo (MAX_QUERY + 1) (I.input inputs.old Which.Query) (I.input inputs.new Which.Query) }
     ensures later { (I.input inputs.old Which.Query).faults ≤ (I.input inputs.new Which.Query).faults }
     ensures trace_kept { I.input inputs.new Which.Trace ≡ I.input inputs.old Which.Trace }
 {
@@ -65,6 +66,7 @@ pub fn read_plan_text<I: Inputs>(alloc: Global, inputs: &mut I) -> Result<Loaded
     requires { IsClosed (I.input inputs.old Which.Query) }
     ensures ok { IfOk result (IsReadFrom (I.input inputs.old Which.Query)) }
     ensures err { IfErr result (PlanEnds (I.input inputs.old Which.Query) (I.input inputs.new Which.Query)) }
+    ensures lost { LosesUpTo (MAX_PLAN + 1) (I.input inputs.old Which.Query) (I.input inputs.new Which.Query) }
     ensures later { (I.input inputs.old Which.Query).faults ≤ (I.input inputs.new Which.Query).faults }
     ensures trace_kept { I.input inputs.new Which.Trace ≡ I.input inputs.old Which.Trace }
 {
@@ -85,6 +87,7 @@ pub fn read_trace<I: Inputs>(alloc: Global, inputs: &mut I) -> Result<Text, Stat
     requires { IsClosed (I.input inputs.old Which.Trace) }
     ensures ok { IfOk result (λ text. IfSome (I.input inputs.old Which.Trace).left (λ trace. text ≡ take (MAX_TRACE + 1) trace)) }
     ensures err { IfErr result (ReadEnds (I.input inputs.old Which.Trace) (I.input inputs.new Which.Trace)) }
+    ensures lost { LosesUpTo (MAX_TRACE + 1) (I.input inputs.old Which.Trace) (I.input inputs.new Which.Trace) }
     ensures later { (I.input inputs.old Which.Trace).faults ≤ (I.input inputs.new Which.Trace).faults }
     ensures query_kept { I.input inputs.new Which.Query ≡ I.input inputs.old Which.Query }
 {

@@ -80,7 +80,7 @@ module _ {O : Type 0} (taken : O → Option (List ℕ)) (faults : O → ℕ) (be
       → WhereQueryTold asked before (λ command query. refusal command query ≡ Some fault → new ≡ old)
   memory_at None fault a = λ command query is has left read some. absurd (clash is)
   memory_at (Some command) fault a =
-      asked_query command before (λ one query. refusal one query ≡ Some fault → new ≡ old) (λ query has left read some. a.0.1 query has left read (λ none. both fault (refusal command query) none some))
+      asked_query command before (λ one query. refusal one query ≡ Some fault → new ≡ old) (λ query has left read some. (a.0.1 query has left read (λ none. both fault (refusal command query) none some)).0)
 
   module _ (asked : Option Command) (status : Status) (a : Answers taken faults before after old new asked status) where
     pub input_fault : (which : Which) → status ≡ statuses.InputFault which → Takes asked which × Rose (before which).faults (after which).faults
@@ -154,3 +154,25 @@ module _ {O : Type 0} (taken : O → Option (List ℕ)) (faults : O → ℕ) (be
   refuses_query (Some command) status a fault =
       asked_query command before (λ one query. refusal one query ≡ Some fault → (status ≡ statuses.QueryRefused fault) ⊎ (status ≡ statuses.InputFault Query) ⊎ (status ≡ statuses.Memory))
       (refused_by command status a fault)
+
+  -- a query that is refused leaves the trace as it was, whatever the command ends in
+  first_by : (command : Command) (status : Status) → Answers taken faults before after old new (Some command) status → (fault : QueryFault)
+      → QueryTold command before (λ query. refusal command query ≡ Some fault → after Trace ≡ before Trace)
+  first_by command statuses.Usage a fault query has left read some = absurd a.0
+  first_by command (statuses.InputFault Query) a fault query has left read some = a.0.2
+  first_by command (statuses.InputFault Trace) a fault query has left read some =
+      absurd (both fault (refusal command query) (a.0.2 query has left read) some)
+  first_by command (statuses.QueryRefused found) a fault query has left read some = a.0.2
+  first_by command (statuses.TraceRefused found) a fault query has left read some =
+      absurd (both fault (refusal command query) (a.0.1 query has left read) some)
+  first_by command statuses.Ok a fault query has left read some = absurd (both fault (refusal command query) (a.0.0 query has left read) some)
+  first_by command statuses.Memory a fault query has left read some =
+      (a.0.1 query has left read (λ none. both fault (refusal command query) none some)).1
+  first_by command statuses.OutputFault a fault query has left read some =
+      absurd (both fault (refusal command query) (a.0.1 query has left read) some)
+
+  pub query_first : (asked : Option Command) (status : Status) → Answers taken faults before after old new asked status → (fault : QueryFault)
+      → WhereQueryTold asked before (λ command query. refusal command query ≡ Some fault → after Trace ≡ before Trace)
+  query_first None status a fault = λ command query is has left read some. absurd (clash is)
+  query_first (Some command) status a fault =
+      asked_query command before (λ one query. refusal one query ≡ Some fault → after Trace ≡ before Trace) (first_by command status a fault)

@@ -86,17 +86,19 @@ defined_is command query trace fault text accepts same is = parted (refusal comm
         some_none e = cc
 
 module _ {O : Type 0} (taken : O → Option (List ℕ)) (faults : O → ℕ) (command : Command) (before after : Which → Input) where
-  nothing_written : (out : O) → Ends taken faults command before after out out statuses.Memory
-  nothing_written out = (λ query trace holds. nothing_taken (taken out) _, λ query takes is read refused. refl)
+  nothing_written : (out : O) → after Trace ≡ before Trace → Ends taken faults command before after out out statuses.Memory
+  nothing_written out kept = (λ query trace holds. nothing_taken (taken out) _, λ query takes is read refused. (refl, kept))
 
-  pub memory_ends : (out : O) (result : Result (Unit {0}) Status) → IsErrAnd result (λ found. found ≡ statuses.Memory) → Ends taken faults command before after out out (status_of result)
-  memory_ends out result is = subst (Ends taken faults command before after out out) (sym (status_is result statuses.Memory is)) (nothing_written out)
+  pub memory_ends : (out : O) → after Trace ≡ before Trace → (result : Result (Unit {0}) Status)
+      → IsErrAnd result (λ found. found ≡ statuses.Memory) → Ends taken faults command before after out out (status_of result)
+  memory_ends out kept result is =
+      subst (Ends taken faults command before after out out) (sym (status_is result statuses.Memory is)) (nothing_written out kept)
 
   -- the first operand wasn't read, or it was refused: each such fault of its text is the one for which the command refuses it
   module _ (Refuses : List ℕ → QueryFault → Type 0) (by : (query : Source) (fault : QueryFault) → IsRead command query → Refuses query.text fault → refusal command query ≡ Some fault)
       (out : O) (has : takes command Query ≡ true) (kept : after Trace ≡ before Trace) where
     by_operand : (status : Status) → OperandEnds Refuses (before Query) (after Query) status → Ends taken faults command before after out out status
-    by_operand statuses.Memory ended = nothing_written out
+    by_operand statuses.Memory ended = nothing_written out kept
     by_operand (statuses.InputFault Query) ended = (has, ended, kept, refl)
     by_operand (statuses.QueryRefused fault) ended =
         (has, λ query t is read. by query fault read (told (λ text. Refuses text fault) (before Query).left query.text ended is), kept, refl)

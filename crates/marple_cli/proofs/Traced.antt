@@ -25,12 +25,21 @@ module _ {O : Type 0} (taken : O → Option (List ℕ)) (faults : O → ℕ) (co
     (reads : FieldSet) (fault : Contents → Option TraceFault) (text : Contents → List ℕ) (has_query : takes command Query ≡ true) (has_trace : takes command Trace ≡ true)
     (same : ToldOf command before (λ query trace. (trace_refusal command query trace ≡ fault (contents trace reads)) × (output command query trace ≡ text (contents trace reads))))
     (kept : middle Trace ≡ before Trace) where
-  ends_by : (old new : O) (result : Result (Unit {0}) Status) (status : Status) → IsErrAnd result (λ found. found ≡ status)
+  pub ends_by : (old new : O) (result : Result (Unit {0}) Status) (status : Status) → IsErrAnd result (λ found. found ≡ status)
       → TraceEnds taken faults (λ trace. fault (contents trace reads)) (λ trace. text (contents trace reads)) (middle Trace) (after Trace) old new status
       → Ends taken faults command before after old new (status_of result)
   ends_by old new result status is ended =
       trace_ends_it taken faults command before after old new accepts (λ trace. fault (contents trace reads)) (λ trace. text (contents trace reads)) has_query has_trace same result status is
       (subst (λ one. TraceEnds taken faults (λ trace. fault (contents trace reads)) (λ trace. text (contents trace reads)) one (after Trace) old new status) kept ended)
+
+  pub written_by : (old new : O) → IfSome (middle Trace).left (λ trace. fault (contents trace reads) ≡ None)
+      → IfSome (middle Trace).left (λ trace. Appends (taken old) (taken new) (text (contents trace reads)))
+      → Ends taken faults command before after old new statuses.Ok
+  written_by old new sound whole =
+      trace_written taken faults command before after old new accepts
+      (λ trace. fault (contents trace reads)) (λ trace. text (contents trace reads)) has_query has_trace same
+      (subst (λ one. IfSome one.left (λ trace. fault (contents trace reads) ≡ None)) kept sound)
+      (subst (λ one. IfSome one.left (λ trace. Appends (taken old) (taken new) (text (contents trace reads)))) kept whole)
 
   pub not_read : (out : O) (result : Result (Unit {0}) Status) (status : Status) → IsErrAnd result (λ found. found ≡ status) → ReadEnds (middle Trace) (after Trace) status
       → Ends taken faults command before after out out (status_of result)
@@ -46,7 +55,5 @@ module _ {O : Type 0} (taken : O → Option (List ℕ)) (faults : O → ℕ) (co
 
     pub whole_written : (old new : O) → fault (contents slice reads) ≡ None → Appends (taken old) (taken new) (text (contents slice reads)) → Ends taken faults command before after old new statuses.Ok
     whole_written old new sound whole =
-        trace_written taken faults command before after old new accepts (λ trace. fault (contents trace reads)) (λ trace. text (contents trace reads)) has_query has_trace same
-        (subst (λ one. IfSome one.left (λ trace. fault (contents trace reads) ≡ None)) kept (told_contents (λ found. fault found ≡ None) reads (middle Trace).left bytes slice read sliced sound))
-        (subst (λ one. IfSome one.left (λ trace. Appends (taken old) (taken new) (text (contents trace reads)))) kept
-        (told_contents (λ found. Appends (taken old) (taken new) (text found)) reads (middle Trace).left bytes slice read sliced whole))
+        written_by old new (told_contents (λ found. fault found ≡ None) reads (middle Trace).left bytes slice read sliced sound)
+        (told_contents (λ found. Appends (taken old) (taken new) (text found)) reads (middle Trace).left bytes slice read sliced whole)

@@ -1,13 +1,15 @@
 -- What a call of `marple` is about, and what each of its answers says.
-use Rattle.std.specs.Prelude.{◌≡◌, ℕ, true, List, Option, None, Some, String, map, string_bytes, ⊤}
+use Rattle.std.specs.Prelude.{◌≡◌, ◌+◌, ℕ, true, List, Option, None, Some, String, map, string_bytes, ⊤}
 use Rattle.std.specs.Io.KnownBytes.{Appends}
 use Rattle.marple_base.specs.Faults.{Rose}
-use Rattle.marple_base.specs.Inputs.{Input}
+use Rattle.marple_base.specs.Inputs.{Input, LosesUpTo}
 use Rattle.marple_base.specs.Sink.{TakesFront}
 use Rattle.marple_base.specs.declared.inputs.Which.{Which}
 use Rattle.marple_base.specs.declared.inputs.Which.TheVariants.{Query, Trace}
 use Rattle.command_line.specs.Command.{asked}
 use Rattle.command_line.specs.declared.command.Command.{Command}
+use Rattle.command_line.specs.declared.command.Command.TheVariants.{RunPlan}
+use Rattle.command_answers.specs.declared.operands.TheConstants.{MAX_PLAN, MAX_QUERY, MAX_TRACE}
 use Rattle.marple_cli.specs.Output.{IsAccepted, IsRead, Source, output, takes}
 use Rattle.command_answers.specs.declared.status.Status.{Status}
 use Rattle.command_answers.specs.declared.status.Status.TheVariants as statuses
@@ -73,3 +75,13 @@ IsBeforeTrace status = ⊥
 -- P holds of the bytes of the command's operands, where they are known.
 abbrev pub ToldOf : Command → (Which → Input) → (Source → List ℕ → Type 0) → Type 0
 ToldOf command inputs P = (query : Source) (trace : List ℕ) → Holds command inputs query trace → P query trace
+
+-- the most bytes that are read of an operand: one more than it may have
+abbrev pub most_read : Option Command → Which → ℕ
+most_read (Some (RunPlan setting)) Query = MAX_PLAN + 1
+most_read asked Query = MAX_QUERY + 1
+most_read asked Trace = MAX_TRACE + 1
+
+-- Each input lost at most the bytes that are read of an operand.
+abbrev pub LosesWhatIsRead : Option Command → (Which → Input) → (Which → Input) → Type 0
+LosesWhatIsRead asked before after = (which : Which) → LosesUpTo (most_read asked which) (before which) (after which)

@@ -29,7 +29,7 @@ module _ {O : Type 0} (taken : O → Option (List ℕ)) (faults : O → ℕ) (co
       × ToldOf command before (WritesOutput (taken old) (taken new) command)
   Ends statuses.Memory =
       ToldOf command before (λ query trace. TakesFront (taken old) (taken new) (defined_text command query trace))
-      × QueryTold command before (λ query. (refusal command query ≡ None → ⊥) → new ≡ old)
+      × QueryTold command before (λ query. (refusal command query ≡ None → ⊥) → (new ≡ old) × (after Trace ≡ before Trace))
   Ends statuses.Usage = ⊥
   Ends (statuses.InputFault Query) =
       (takes command Query ≡ true) × Rose (before Query).faults (after Query).faults × (after Trace ≡ before Trace) × (new ≡ old)

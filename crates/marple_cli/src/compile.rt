@@ -1,6 +1,7 @@
 //! The plan of a query as a text.
-ghost use Rattle.std.specs.Prelude.{◌≡◌, ◌≤◌};
+ghost use Rattle.std.specs.Prelude.{◌≡◌, ◌≤◌, Some};
 ghost use Rattle.marple_base.specs.Inputs.{IsClosed};
+ghost use Rattle.marple_cli.specs.Call.{LosesWhatIsRead};
 ghost use Rattle.marple_cli.specs.Ends.{Ends, status_of};
 
 use command_answers::{Status, query_for_plan};
@@ -14,6 +15,7 @@ pub fn compile<I: Inputs, O: Sink>(alloc: Global, inputs: &mut I, out: &mut O) -
     requires closed { IsClosed (I.input inputs.old Which.Query) }
     ensures ends { Ends O.taken O.faults Command.Compile (I.input inputs.old) (I.input inputs.new) out.old out.new (status_of result) }
     ensures trace_kept { I.input inputs.new Which.Trace ≡ I.input inputs.old Which.Trace }
+    ensures lost { LosesWhatIsRead (Some Command.Compile) (I.input inputs.old) (I.input inputs.new) }
     ensures query_later { (I.input inputs.old Which.Query).faults ≤ (I.input inputs.new Which.Query).faults }
     ensures out_later { O.faults out.old ≤ O.faults out.new }
 {

@@ -5,6 +5,7 @@ mod compile;
 mod enclose;
 mod generate;
 mod perform;
+mod reporting;
 mod run;
 mod run_plan;
 mod staging;

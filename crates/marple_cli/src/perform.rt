@@ -2,6 +2,7 @@
 ghost use Rattle.std.specs.Prelude.{◌≡◌, ◌≤◌, Some, false};
 ghost use Rattle.marple_base.specs.Inputs.{IsClosed};
 ghost use Rattle.command_line.specs.Command.{IsCommand};
+ghost use Rattle.marple_cli.specs.Call.{LosesWhatIsRead};
 ghost use Rattle.marple_cli.specs.Driven.{DrivenAfter};
 ghost use Rattle.marple_cli.specs.Ends.{Ends, status_of};
 ghost use Rattle.marple_cli.specs.Output.{takes};
@@ -36,6 +37,7 @@ pub fn perform<I: Inputs, O: Sink, L: Ledger>(
     ensures ends { Ends O.taken O.faults command (I.input inputs.old) (I.input inputs.new) out.old out.new (status_of result) }
     ensures kept { (which : _) → takes command which ≡ false → I.input inputs.new which ≡ I.input inputs.old which }
     ensures driven { DrivenAfter (Some command) (I.input inputs.old) driven.old driven.new (status_of result) }
+    ensures lost { LosesWhatIsRead (Some command) (I.input inputs.old) (I.input inputs.new) }
     ensures query_later { (I.input inputs.old Which.Query).faults ≤ (I.input inputs.new Which.Query).faults }
     ensures trace_later { (I.input inputs.old Which.Trace).faults ≤ (I.input inputs.new Which.Trace).faults }
     ensures out_later { O.faults out.old ≤ O.faults out.new }

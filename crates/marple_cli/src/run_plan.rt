@@ -2,14 +2,16 @@
 ghost use Rattle.std.specs.Prelude.{◌≤◌, Some};
 ghost use Rattle.marple_base.specs.Inputs.{IsClosed};
 ghost use Rattle.command_line.specs.Command.{IsSetting};
+ghost use Rattle.marple_cli.specs.Call.{LosesWhatIsRead};
 ghost use Rattle.marple_cli.specs.Driven.{DrivenAfter};
 ghost use Rattle.marple_cli.specs.Ends.{Ends, status_of};
 
-use command_answers::{Status, read_plan_text, read_trace};
+use crate::reporting::report_over;
+use command_answers::{Status, read_plan_text};
 use command_line::{Command, Setting};
 use marple_base::{Inputs, Sink, Steps, Which};
 use plan_loader::LoadedPlan;
-use query_run::{Driven, PlanTables, run_over_trace};
+use query_run::{Driven, PlanTables};
 use std::alloc::Global;
 use std::sync::ledger::Ledger;
 
@@ -28,34 +30,16 @@ pub fn run_plan<I: Inputs, O: Sink, L: Ledger>(
     ensures ends { Ends O.taken O.faults (Command.RunPlan setting) (I.input inputs.old)
         (I.input inputs.new) out.old out.new (status_of result) }
     ensures driven { DrivenAfter (Some (Command.RunPlan setting)) (I.input inputs.old) driven.old driven.new (status_of result) }
+    ensures lost { LosesWhatIsRead (Some (Command.RunPlan setting)) (I.input inputs.old) (I.input inputs.new) }
     ensures query_later { (I.input inputs.old Which.Query).faults ≤ (I.input inputs.new Which.Query).faults }
     ensures trace_later { (I.input inputs.old Which.Trace).faults ≤ (I.input inputs.new Which.Trace).faults }
     ensures out_later { O.faults out.old ≤ O.faults out.new }
     ensures steps { steps.old ≤ steps.new }
 {
     let loaded = read_plan_text(alloc, inputs)?;
-    let bytes = match read_trace(alloc, inputs) {
-        Ok(bytes) => bytes,
-        Err(status) => {
-            drop(loaded);
-            return Err(status);
-        }
-    };
     let LoadedPlan { plan, prints } = loaded;
     let report = PlanTables::of(prints);
-    let ran = run_over_trace(
-        alloc,
-        setting,
-        0,
-        &report,
-        plan,
-        bytes.as_slice(),
-        out,
-        steps,
-    );
-    drop(report);
-    drop(bytes);
-    let left = ran?;
+    let left = report_over(alloc, setting, 0, report, plan, inputs, out, steps)?;
     *driven = Some(left);
     Ok(())
 }

@@ -1,6 +1,7 @@
 //! The stages of a query.
-ghost use Rattle.std.specs.Prelude.{◌≡◌, ◌≤◌};
+ghost use Rattle.std.specs.Prelude.{◌≡◌, ◌≤◌, Some};
 ghost use Rattle.marple_base.specs.Inputs.{IsClosed};
+ghost use Rattle.marple_cli.specs.Call.{LosesWhatIsRead};
 ghost use Rattle.marple_cli.specs.Ends.{Ends, status_of};
 
 use command_answers::{Status, read_query};
@@ -19,6 +20,7 @@ pub fn write_stages<I: Inputs, O: Sink>(
     requires closed { IsClosed (I.input inputs.old Which.Query) }
     ensures ends { Ends O.taken O.faults (Command.Plan ways) (I.input inputs.old) (I.input inputs.new) out.old out.new (status_of result) }
     ensures trace_kept { I.input inputs.new Which.Trace ≡ I.input inputs.old Which.Trace }
+    ensures lost { LosesWhatIsRead (Some (Command.Plan ways)) (I.input inputs.old) (I.input inputs.new) }
     ensures query_later { (I.input inputs.old Which.Query).faults ≤ (I.input inputs.new Which.Query).faults }
     ensures out_later { O.faults out.old ≤ O.faults out.new }
 {

@@ -1,7 +1,8 @@
 //! A query over the switches of a network.
-ghost use Rattle.std.specs.Prelude.{◌≤◌};
+ghost use Rattle.std.specs.Prelude.{◌≤◌, Some};
 ghost use Rattle.marple_base.specs.Inputs.{IsClosed};
 ghost use Rattle.command_line.specs.Command.{IsNetSetting};
+ghost use Rattle.marple_cli.specs.Call.{LosesWhatIsRead};
 ghost use Rattle.marple_cli.specs.Ends.{Ends, status_of};
 
 use command_answers::{Status, query_for_net, read_trace};
@@ -24,6 +25,7 @@ pub fn run_network<I: Inputs, O: Sink, L: Ledger>(
     requires trace_closed { IsClosed (I.input inputs.old Which.Trace) }
     ensures ends { Ends O.taken O.faults (Command.Net setting) (I.input inputs.old) (I.input inputs.new) out.old out.new
         (status_of result) }
+    ensures lost { LosesWhatIsRead (Some (Command.Net setting)) (I.input inputs.old) (I.input inputs.new) }
     ensures query_later { (I.input inputs.old Which.Query).faults ≤ (I.input inputs.new Which.Query).faults }
     ensures trace_later { (I.input inputs.old Which.Trace).faults ≤ (I.input inputs.new Which.Trace).faults }
     ensures out_later { O.faults out.old ≤ O.faults out.new }

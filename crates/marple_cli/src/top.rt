@@ -5,7 +5,7 @@ ghost use Rattle.marple_base.specs.Faults.{Rose};
 ghost use Rattle.marple_base.specs.Inputs.{IsClosed};
 ghost use Rattle.marple_base.specs.Sink.{TakesFront};
 ghost use Rattle.marple_cli.specs.Call.{IsBeforeOutput, IsBeforeTrace, IsQuiet, Takes, WhereQueryTold, WhereTold, WritesFront};
-ghost use Rattle.marple_cli.specs.Call.{WritesOutput, asked_by};
+ghost use Rattle.marple_cli.specs.Call.{LosesWhatIsRead, WritesOutput, asked_by};
 ghost use Rattle.command_answers.specs.Complaint.{complaint};
 ghost use Rattle.marple_cli.specs.Driven.{DrivenAfter};
 ghost use Rattle.marple_cli.specs.Ends.{Answers};
@@ -32,6 +32,7 @@ fn answer<I: Inputs, O: Sink, L: Ledger>(
     requires trace_closed { IsClosed (I.input inputs.old Which.Trace) }
     ensures answers { Answers O.taken O.faults (I.input inputs.old) (I.input inputs.new) out.old out.new
         (asked_by words.now) result }
+    ensures lost { LosesWhatIsRead (asked_by words.now) (I.input inputs.old) (I.input inputs.new) }
     ensures driven { DrivenAfter (asked_by words.now) (I.input inputs.old) driven.old driven.new result }
     ensures query_later { (I.input inputs.old Which.Query).faults ≤ (I.input inputs.new Which.Query).faults }
     ensures trace_later { (I.input inputs.old Which.Trace).faults ≤ (I.input inputs.new Which.Trace).faults }
@@ -112,6 +113,10 @@ pub fn marple<I: Inputs, O: Sink, E: Sink, L: Ledger>(
     ensures no_operand { (which : _) → (Takes (asked_by words.now) which → ⊥)
         → I.input inputs.new which ≡ I.input inputs.old which }
     ensures not_reached { IsBeforeTrace result → I.input inputs.new Which.Trace ≡ I.input inputs.old Which.Trace }
+    ensures query_first { (fault : _) →
+        WhereQueryTold (asked_by words.now) (I.input inputs.old) (λ command query. refusal command query ≡ Some fault →
+        I.input inputs.new Which.Trace ≡ I.input inputs.old Which.Trace) }
+    ensures lost { LosesWhatIsRead (asked_by words.now) (I.input inputs.old) (I.input inputs.new) }
 
     // Complaints. A fault of `err` changes no status.
     ensures complaint_front { TakesFront (E.taken err.old) (E.taken err.new) (complaint result) }

@@ -1,6 +1,8 @@
+-- what the input lost is the text so far, which has at most the limit's bytes, also with the chunk that was read last
+use Rattle.std.proofs.Common.{arith}
+use Rattle.std.proofs.lemmas.Grind.{common_steps}
 use Rattle.std.proofs.KnownBytes.{Consumes-trans}
 use Rattle.marple_base.proofs.reading.read_input.Goals as goal
 
--- after the chunk that was read, as after what was read before it, the input has the rest
 pub returns-in_err-push_slice-clause-left : goal.returns-in_err-push_slice-clause-left
-returns-in_err-push_slice-clause-left g c = (_, Consumes-trans _ _ _ _ _ c.chunks.invariant.consumed c.in_ok-count.ensures.bytes.0)
+returns-in_err-push_slice-clause-left g c = (_, Consumes-trans _ _ _ _ _ c.chunks.invariant.consumed c.in_ok-count.ensures.bytes.0, grind (arith, common_steps))

@@ -1,10 +1,11 @@
-use Rattle.std.proofs.Common.{◌∙◌, ap, refl}
+use Rattle.std.proofs.Common.{Some, ◌∙◌, ap, refl}
 use Rattle.command_line.specs.Command.{ways_number}
 use Rattle.command_line.specs.declared.command.Command.TheVariants.{Plan}
 use Rattle.accepted_query.specs.Accepted.{query_fault}
 use Rattle.stage_plan.specs.Planned.{shape_of}
 use Rattle.stage_plan.specs.Shape.{plan_text_of}
 use Rattle.marple_cli.proofs.Ending.{all_written, cut_off, memory_ends, query_ends_it, query_told, stages_are_text}
+use Rattle.marple_cli.proofs.Taken.{query_lost}
 use Rattle.marple_cli.proofs.staging.write_stages.Goals as goal
 
 pub returns-in_err-query-clause-ends : goal.returns-in_err-query-clause-ends
@@ -14,7 +15,7 @@ returns-in_err-query-clause-ends g c =
 
 pub returns-in_err-text-clause-ends : goal.returns-in_err-text-clause-ends
 returns-in_err-text-clause-ends g c =
-    memory_ends g.O.Sink.taken g.O.Sink.faults (Plan c.args.ways) (g.I.Inputs.input c.args.inputs.now) (g.I.Inputs.input c.read_query.new.inputs) c.args.out.now
+    memory_ends g.O.Sink.taken g.O.Sink.faults (Plan c.args.ways) (g.I.Inputs.input c.args.inputs.now) (g.I.Inputs.input c.read_query.new.inputs) c.args.out.now c.in_ok-query.ensures.trace_kept
     c.from_residual-in_err-text.result c.from_residual-in_err-text.ensures.1
 
 pub returns-in_err-write_all-clause-ends : goal.returns-in_err-write_all-clause-ends
@@ -34,3 +35,19 @@ returns-clause-ends g c =
     all_written g.O.Sink.taken g.O.Sink.faults (Plan c.args.ways) before (g.I.Inputs.input c.read_query.new.inputs) c.args.out.now c.write_all.new.out
     (query_told (Plan c.args.ways) before found (λ bytes. refl) c.in_ok-query.ensures.ok) c.as_slice.result.now (stages_are_text c.args.ways before found c.as_slice.result.now c.in_ok-query.ensures.ok text)
     c.in_ok-write_all.ensures.ok
+
+pub returns-in_err-query-clause-lost : goal.returns-in_err-query-clause-lost
+returns-in_err-query-clause-lost g c =
+    query_lost (Some (Plan c.args.ways)) (g.I.Inputs.input c.args.inputs.now) (g.I.Inputs.input c.read_query.new.inputs) c.read_query.ensures.lost c.read_query.ensures.trace_kept
+
+pub returns-in_err-text-clause-lost : goal.returns-in_err-text-clause-lost
+returns-in_err-text-clause-lost g c =
+    query_lost (Some (Plan c.args.ways)) (g.I.Inputs.input c.args.inputs.now) (g.I.Inputs.input c.read_query.new.inputs) c.read_query.ensures.lost c.read_query.ensures.trace_kept
+
+pub returns-in_err-write_all-clause-lost : goal.returns-in_err-write_all-clause-lost
+returns-in_err-write_all-clause-lost g c =
+    query_lost (Some (Plan c.args.ways)) (g.I.Inputs.input c.args.inputs.now) (g.I.Inputs.input c.read_query.new.inputs) c.read_query.ensures.lost c.read_query.ensures.trace_kept
+
+pub returns-clause-lost : goal.returns-clause-lost
+returns-clause-lost g c =
+    query_lost (Some (Plan c.args.ways)) (g.I.Inputs.input c.args.inputs.now) (g.I.Inputs.input c.read_query.new.inputs) c.read_query.ensures.lost c.read_query.ensures.trace_kept

@@ -1,4 +1,4 @@
-use Rattle.std.proofs.Common.{Err, refl}
+use Rattle.std.proofs.Common.{Some, Err, refl}
 use Rattle.marple_base.specs.Inputs.{Input}
 use Rattle.marple_base.specs.declared.inputs.Which.{Which}
 use Rattle.command_line.specs.Command.{ways_number}
@@ -10,6 +10,7 @@ use Rattle.trace_drive.specs.Drives.{words_of}
 use Rattle.command_line.specs.declared.command.Command.TheVariants.{Net}
 use Rattle.command_answers.specs.OwnChecks.{fault_with}
 use Rattle.marple_cli.proofs.Ending.{query_ends_it, query_fits}
+use Rattle.marple_cli.proofs.Taken.{both_lost, query_lost}
 use Rattle.marple_cli.proofs.Texts.{net_is}
 use Rattle.marple_cli.proofs.Traced.{broken_off, not_read, whole_written}
 use Rattle.marple_cli.proofs.switches.run_network.Goals as goal
@@ -59,3 +60,22 @@ returns-clause-ends g c =
     whole_written g.O.Sink.taken g.O.Sink.faults command before middle after accepts (net_reads q) net_fault_in text refl refl (net_is before q known c.args.setting) c.in_ok-query.ensures.trace_kept
     c.in-Ok.bytes c.as_slice.result.now c.in-Ok.ensures.ok c.as_slice.ensures c.args.out.now c.net_over_trace.new.out
     c.in_ok-net_over_trace.ensures.accepted c.in_ok-net_over_trace.ensures.written
+
+pub returns-in_err-query-clause-lost : goal.returns-in_err-query-clause-lost
+returns-in_err-query-clause-lost g c =
+    query_lost (Some (Net c.args.setting)) (g.I.Inputs.input c.args.inputs.now) (g.I.Inputs.input c.query_for_net.new.inputs) c.query_for_net.ensures.lost c.query_for_net.ensures.trace_kept
+
+pub returns-in-Err-clause-lost : goal.returns-in-Err-clause-lost
+returns-in-Err-clause-lost g c =
+    both_lost (Some (Net c.args.setting)) (g.I.Inputs.input c.args.inputs.now) (g.I.Inputs.input c.read_trace.new.inputs) (g.I.Inputs.input c.query_for_net.new.inputs)
+    c.query_for_net.ensures.lost c.query_for_net.ensures.trace_kept c.read_trace.ensures.lost c.read_trace.ensures.query_kept
+
+pub returns-in_err-net_over_trace-clause-lost : goal.returns-in_err-net_over_trace-clause-lost
+returns-in_err-net_over_trace-clause-lost g c =
+    both_lost (Some (Net c.args.setting)) (g.I.Inputs.input c.args.inputs.now) (g.I.Inputs.input c.read_trace.new.inputs) (g.I.Inputs.input c.query_for_net.new.inputs)
+    c.query_for_net.ensures.lost c.query_for_net.ensures.trace_kept c.read_trace.ensures.lost c.read_trace.ensures.query_kept
+
+pub returns-clause-lost : goal.returns-clause-lost
+returns-clause-lost g c =
+    both_lost (Some (Net c.args.setting)) (g.I.Inputs.input c.args.inputs.now) (g.I.Inputs.input c.read_trace.new.inputs) (g.I.Inputs.input c.query_for_net.new.inputs)
+    c.query_for_net.ensures.lost c.query_for_net.ensures.trace_kept c.read_trace.ensures.lost c.read_trace.ensures.query_kept

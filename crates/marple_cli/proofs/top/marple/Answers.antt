@@ -1,5 +1,5 @@
 use Rattle.marple_cli.specs.Call.{asked_by}
-use Rattle.marple_cli.proofs.Clauses.{fault_of_trace, input_fault, memory_query, no_operand, not_reached, output_fault, query_refused, refuses_query, trace_refused, untouched, usage}
+use Rattle.marple_cli.proofs.Clauses.{fault_of_trace, input_fault, memory_query, no_operand, not_reached, output_fault, query_first, query_refused, refuses_query, trace_refused, untouched, usage}
 use Rattle.marple_cli.proofs.top.marple.Goals as goal
 
 pub returns-clause-usage : goal.returns-clause-usage
@@ -55,4 +55,9 @@ returns-clause-no_operand g c =
 pub returns-clause-not_reached : goal.returns-clause-not_reached
 returns-clause-not_reached g c =
     not_reached g.O.Sink.taken g.O.Sink.faults (g.I.Inputs.input c.args.inputs.now) (g.I.Inputs.input c.answer-status.new.inputs) c.args.out.now c.answer-status.new.out
+    (asked_by c.args.words.now) c.answer-status.result c.answer-status.ensures.answers
+
+pub returns-clause-query_first : goal.returns-clause-query_first
+returns-clause-query_first g c =
+    query_first g.O.Sink.taken g.O.Sink.faults (g.I.Inputs.input c.args.inputs.now) (g.I.Inputs.input c.answer-status.new.inputs) c.args.out.now c.answer-status.new.out
     (asked_by c.args.words.now) c.answer-status.result c.answer-status.ensures.answers

@@ -25,7 +25,7 @@ run_over_made-ran-requires-clause-whole g c =
 
 pub returns-in_err-query-clause-ends : goal.returns-in_err-query-clause-ends
 returns-in_err-query-clause-ends g c inputs =
-    memory_ends g.O.Sink.taken g.O.Sink.faults (Trial c.args.generation c.args.setting) inputs inputs c.args.out.now c.from_residual.result c.from_residual.ensures.1
+    memory_ends g.O.Sink.taken g.O.Sink.faults (Trial c.args.generation c.args.setting) inputs inputs c.args.out.now refl c.from_residual.result c.from_residual.ensures.1
 
 pub returns-in_err-query-clause-driven : goal.returns-in_err-query-clause-driven
 returns-in_err-query-clause-driven g c inputs =
@@ -33,7 +33,7 @@ returns-in_err-query-clause-driven g c inputs =
 
 pub returns-in-Err-clause-ends : goal.returns-in-Err-clause-ends
 returns-in-Err-clause-ends g c inputs =
-    memory_ends g.O.Sink.taken g.O.Sink.faults (Trial c.args.generation c.args.setting) inputs inputs c.args.out.now (Err Memory) refl
+    memory_ends g.O.Sink.taken g.O.Sink.faults (Trial c.args.generation c.args.setting) inputs inputs c.args.out.now refl (Err Memory) refl
 
 pub returns-in-Err-clause-driven : goal.returns-in-Err-clause-driven
 returns-in-Err-clause-driven g c inputs =
