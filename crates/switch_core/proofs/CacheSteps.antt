@@ -215,6 +215,17 @@ pub some_least : (pairs : List Pair) (place : ℕ) → Some place ≡ least_plac
 some_least [] place e = cc
 some_least (p ∷ pairs) place e = omega arith
 
+-- the least recently used pair has the place that is found
+pub least_pair : (pairs : List Pair) (place : ℕ) → Some place ≡ least_place pairs
+    → (pair : Pair) × (slice_get pairs (length pairs - 1) ≡ Some pair) × (pair.place ≡ place)
+least_pair pairs place e = at pairs (length pairs - 1) place (sym e)
+  where
+    at : (pairs : List Pair) (i place : ℕ) → slice_get (places_of pairs) i ≡ Some place
+        → (pair : Pair) × (slice_get pairs i ≡ Some pair) × (pair.place ≡ place)
+    at [] i place e = absurd (cc)
+    at (p ∷ pairs) zero place e = (p, refl, let same : p.place ≡ place = cc in same)
+    at (p ∷ pairs) (suc i) place e = at pairs i place e
+
 pub none_least : (pairs : List Pair) → None ≡ least_place pairs → length pairs ≡ 0
 none_least [] e = refl
 none_least (p ∷ pairs) e = absurd (never (places_of (p ∷ pairs)) (length (p ∷ pairs) - 1) (let l = length-map (p ∷ pairs) (λ (x : Pair). x.place) in omega arith) e)

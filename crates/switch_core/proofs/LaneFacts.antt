@@ -12,20 +12,9 @@ use Rattle.stage_plan.specs.Planned.{wiring_at}
 use Rattle.stage_plan.specs.Sound.{PlanParts, IsSoundPlan}
 use Rattle.switch_core.specs.FrontParts.{LaneOf}
 use Rattle.switch_core.specs.Pipelines.{IsLaneOf, event_at}
-use Rattle.switch_core.specs.PlanLanes.{LaneView, lane_view, parts_of, AreLanesOf, LaneMakes, LanesMake, LaneSweeps}
+use Rattle.switch_core.specs.PlanLanes.{LaneView, AreLanesOf, LaneMakes, LanesMake}
 use Rattle.switch_core.specs.Rows.{EachFrom}
-use Rattle.switch_core.proofs.SweepSteps.{sweep_none}
 use Rattle.switch_core.proofs.SideBySide.{same_some, got_some, got_below, each_at, each_set, untouched_start}
-
-pub got_view : (lanes : List (LaneOf AnyEpochs)) (i : ℕ) (d : LaneOf AnyEpochs) → i < length lanes → slice_get (map lane_view lanes) i ≡ Some (lane_view (get_or lanes i d))
-got_view [] i d h = absurd (omega arith)
-got_view (x ∷ lanes) zero d h = refl
-got_view (x ∷ lanes) (suc i) d h = got_view lanes i d (omega arith)
-
-pub set_view : (lanes : List (LaneOf AnyEpochs)) (i : ℕ) (x : LaneOf AnyEpochs) → map lane_view (set lanes i x) ≡ set (map lane_view lanes) i (lane_view x)
-set_view [] i x = refl
-set_view (y ∷ lanes) zero x = refl
-set_view (y ∷ lanes) (suc i) x = ap (λ vs. lane_view y ∷ vs) (set_view lanes i x)
 
 -- two tests that both pass
 pub both_pass : (b c : Bool) → (b && c) ≡ true → (b ≡ true) × (c ≡ true)
@@ -61,12 +50,6 @@ lane_fits entries plan buckets i lanes lane sound are at =
       few_keys = subst (λ w. length w.keys ≤ 8) (sym is) (let a = each.keys in let b = each.most_keys in omega arith);
       few_args = subst (λ w. length w.args ≤ 16) (sym is) each.most_args;
     }
-
--- lanes that had no event
-pub sweeps_start : (ways k : ℕ) (lanes : List LaneView) → EachFrom (λ n. LaneSweeps ways) k lanes lanes
-sweeps_start ways k [] = tt
-sweeps_start ways k (lane ∷ lanes) =
-    (record { kind = refl; made = sweep_none (ghosts.stands lane.kind) (ghosts.folding lane.kind) ways (parts_of lane) }, sweeps_start ways (suc k) lanes)
 
 pub on_ok : {X E : Type 0} (P Q : Type 0) (r : Result X E) → (P → Q) → OnOk r P → OnOk r Q
 on_ok P Q (Ok x) h o = h o

@@ -17,7 +17,8 @@ use Rattle.switch_core.proofs.LaneFacts.{both_pass}
 use Rattle.switch_core.proofs.MergeSteps.{none_piped}
 
 -- where a lane is drained its store holds all epochs of its machine
-pub drained_holds : (lane : LaneView) (m : Machine) → lane_is_drained lane ≡ true → StandsFor lane m → StoreHolds (folding_at lane) lane.store m.closed
+pub drained_holds : (lane : LaneView) (m : Machine) → lane_is_drained lane ≡ true → StandsFor lane m
+    → StoreHolds (folding_at lane) lane.store m.closed
 drained_holds lane m drained stood =
     let none = (drained_parts lane.cache lane.pipe drained).1 in
     all_held (folding_at lane) lane.store m (none_piped (ghosts.stands lane.kind) lane.cache lane.pipe m stood.front none) stood.kept

@@ -7,11 +7,13 @@ pub mod LaneMakes
 pub mod ClosedTable
 pub mod Drained
 pub mod Histories
-pub mod SweepSteps
-pub mod SweepEvents
+pub mod Carrying
+pub mod Emptying
+pub mod SweptMachines
 pub mod SweepCosts
 pub mod SideBySide
 pub mod LaneFacts
+pub mod LaneUpkeeps
 pub mod PipelineSteps
 pub mod LanesMade
 pub mod PacketBound

@@ -22,6 +22,11 @@ records_none stands kw (r ∷ records) epochs s e = absurd (omega arith)
 all_merged : (m : Machine) → m.merged ≤ length m.closed → drop m.merged m.closed ≡ [] → m.merged ≡ length m.closed
 all_merged m few e = let l = length-drop m.merged m.closed in let z = ap length e in omega arith
 
+-- of no records none is dropped
+pub none_dropped : (records : List (List ℕ)) → length records ≡ 0 → records ≡ drop 1 records
+none_dropped [] e = refl
+none_dropped (r ∷ records) e = absurd (omega arith)
+
 -- With no record in the pipe every closed epoch is merged.
 pub none_piped : (stands : Standing) (cache : Cache) (pipe : Pipe) (m : Machine) → FrontStands stands cache pipe m → length pipe.records ≡ 0 → m.merged ≡ length m.closed
 none_piped stands cache pipe m s e = all_merged m s.few (records_none stands cache.key_words pipe.records (drop m.merged m.closed) s.piped e)

@@ -4,7 +4,7 @@ use Rattle.std.specs.List.{list_all}
 use Rattle.std.specs.Prelude.{slice_get}
 use Rattle.epoch_model.specs.Machine.{Machine, Event, run, empty_buckets}
 use Rattle.epoch_model.specs.Tables.{Folding}
-use Rattle.epoch_model.specs.Timeline.{NoPacket}
+use Rattle.epoch_model.specs.Driving.{EventsKeepAlike, BucketsEmptyByEvictions}
 use Rattle.epoch_model.specs.Laws.{SameEpochs}
 use Rattle.epoch_entry.specs.declared.purpose.Entries.{Entries}
 use Rattle.epoch_entry.specs.Foldings.{merge_bound}
@@ -20,8 +20,12 @@ use Rattle.switch_core.specs.LaneEvents.{Parts, PartsStand, MakesAll}
 use Rattle.switch_core.specs.Closing.{held_in}
 use Rattle.switch_core.specs.Rows.{Each, EachFrom}
 use Rattle.switch_core.specs.Pipelines.{IsLaneOf, after_events, geometry_of}
-use Rattle.switch_core.specs.PlanLanes.{LaneView, MergesWithin, PipelineView, PipelineMakes, AreLanesOf, StandsFor, LaneMakes, LanesMake, LaneSweeps, LaneIsSwept, PipelineIsSwept, PipelineSweeps, parts_of, places_of}
+use Rattle.switch_core.specs.PlanLanes.{LaneView, MergesWithin, PipelineView, PipelineMakes, AreLanesOf, StandsFor}
+use Rattle.switch_core.specs.PlanLanes.{LaneMakes, LanesMake, AreKept, PipelineIsSwept, parts_of, places_of, upkeep_at, upkeeps_at}
+use Rattle.switch_core.specs.Upkeeps.{sweep_from}
+use Rattle.switch_core.specs.declared.upkeep.Upkeep.TheVariants as due
 use Rattle.switch_core.proofs.Histories.{followed}
+use Rattle.switch_core.proofs.SweptMachines.{sweep_alike}
 use Rattle.switch_core.proofs.SideBySide.{each_at, same_some}
 
 -- events keep a lane's sizes
@@ -40,11 +44,6 @@ sizes_kept means f ways (event ∷ events) a b made =
 pub makes_sizes : (ways : ℕ) (events : List Event) (old new : LaneView) → LaneMakes ways events old new → SameSizes old new
 makes_sizes ways events old new m =
     let s = sizes_kept (ghosts.stands old.kind) (ghosts.folding old.kind) ways events (parts_of old) (parts_of new) m.made in
-    record { kind = m.kind; buckets = s.0; key_words = s.1; places = s.2 }
-
-pub sweeps_sizes : (ways : ℕ) (old new : LaneView) → LaneSweeps ways old new → SameSizes old new
-sweeps_sizes ways old new m =
-    let s = sizes_kept (ghosts.stands old.kind) (ghosts.folding old.kind) ways m.made.0 (parts_of old) (parts_of new) m.made.2 in
     record { kind = m.kind; buckets = s.0; key_words = s.1; places = s.2 }
 
 -- they are still the lanes of the plan's groupbys
@@ -142,72 +141,46 @@ pipeline_makes ways events entries plan buckets old new are e = record {
   places = same_places (λ n. LaneMakes ways (events n)) (λ n a b m. makes_sizes ways (events n) a b m) 0 old new e;
 }
 
--- sweeps
+-- a sweep
 
-swept_stand : (buckets k : ℕ) (old new : List LaneView) (ms : List Machine) → ((n : ℕ) (lane : LaneView) → slice_get old n ≡ Some lane → length lane.cache.lists ≡ buckets)
-    → EachFrom (λ n a b. b.kind ≡ a.kind) k old new → EachFrom (λ n. LaneIsSwept) k old new → EachFrom (λ n. StandsFor) k old ms
-    → (ns : List Machine) × EachFrom (λ n. StandsFor) k new ns × EachFrom (λ i m n. SameEpochs n (empty_buckets buckets m)) k ms ns
-swept_stand buckets k [] [] [] many d e s = ([], tt, tt)
-swept_stand buckets k [] [] (m ∷ ms) many d e s = absurd s
-swept_stand buckets k [] (b ∷ new) ms many d e s = absurd e
-swept_stand buckets k (a ∷ old) [] ms many d e s = absurd e
-swept_stand buckets k (a ∷ old) (b ∷ new) [] many d e s = absurd s
-swept_stand buckets k (a ∷ old) (b ∷ new) (m ∷ ms) many d e s =
-    let led = e.0.leads m s.0 in
-    let rest = swept_stand buckets (suc k) old new ms (λ n lane h. many (suc n) lane h) d.1 e.1 s.1 in (
-      led.0 ∷ rest.0,
-      (subst (λ kind. PartsStand (ghosts.stands kind) (ghosts.folding kind) (parts_of b) led.0) (sym d.0) led.1, rest.1),
-      (subst (λ n. SameEpochs led.0 (empty_buckets n m)) (many 0 a refl) led.2, rest.2),
+-- the machines after a sweep have the epochs of those with all buckets emptied
+swept_alike : EventsKeepAlike → BucketsEmptyByEvictions → (ways buckets k j : ℕ) (all lanes : List LaneView) (ms : List Machine)
+    → ((n i : ℕ) → n ≡ k + i → slice_get all n ≡ slice_get lanes i)
+    → ((n : ℕ) (lane : LaneView) → slice_get lanes n ≡ Some lane → length lane.cache.lists ≡ buckets) → EachFrom (λ n. StandsFor) k lanes ms
+    → EachFrom (λ i m n. SameEpochs n (empty_buckets buckets m)) j ms
+    (after_events (geometry_of ways buckets) (upkeeps_at due.Sweep all) k ms)
+swept_alike alike emptied ways buckets k j all [] [] same many s = tt
+swept_alike alike emptied ways buckets k j all [] (m ∷ ms) same many s = absurd s
+swept_alike alike emptied ways buckets k j all (lane ∷ lanes) [] same many s = absurd s
+swept_alike alike emptied ways buckets k j all (lane ∷ lanes) (m ∷ ms) same many s =
+    let g = geometry_of ways buckets in
+    let here : sweep_from 0 lane.cache lane.pipe ≡ upkeeps_at due.Sweep all k = ap (upkeep_at due.Sweep) (sym (same k 0 (omega arith))) in
+    let led : SameEpochs (run g (sweep_from 0 lane.cache lane.pipe) m) (empty_buckets buckets m) =
+    subst (λ n. SameEpochs (run g (sweep_from 0 lane.cache lane.pipe) m) (empty_buckets n m)) (many 0 lane refl)
+    (sweep_alike alike emptied (ghosts.stands lane.kind) g lane.cache lane.pipe m s.0.front.cached) in (
+      subst (λ events. SameEpochs (run g events m) (empty_buckets buckets m)) here led,
+      swept_alike alike emptied ways buckets (suc k) (suc j) all lanes ms (λ n i q. same n (suc i) (omega arith))
+          (λ n l h. many (suc n) l h) s.1,
     )
 
-swept_empty : (k : ℕ) (old new : List LaneView) → EachFrom (λ n. LaneIsSwept) k old new → list_all (λ lane. held_in lane.cache == 0) new ≡ true
-swept_empty k [] [] e = refl
-swept_empty k [] (b ∷ new) e = absurd e
-swept_empty k (a ∷ old) [] e = absurd e
-swept_empty k (a ∷ old) (b ∷ new) e =
-    let none : (held_in b.cache == 0) ≡ true = let h = e.0.held in rw h refl in
-    let rest = swept_empty (suc k) old new e.1 in rw (none, rest) refl
+swept_empty : (lanes : List LaneView) → AreKept due.Sweep lanes → list_all (λ lane. held_in lane.cache == 0) lanes ≡ true
+swept_empty [] kept = refl
+swept_empty (lane ∷ lanes) kept =
+    let none : (held_in lane.cache == 0) ≡ true = let h = kept 0 lane refl in rw h refl in
+    let rest = swept_empty lanes (λ n l e. kept (suc n) l e) in rw (none, rest) refl
 
-kinds_each : (ways k : ℕ) (old new : List LaneView) → EachFrom (λ n. LaneSweeps ways) k old new → EachFrom (λ n a b. b.kind ≡ a.kind) k old new
-kinds_each ways k [] [] e = tt
-kinds_each ways k [] (b ∷ new) e = absurd e
-kinds_each ways k (a ∷ old) [] e = absurd e
-kinds_each ways k (a ∷ old) (b ∷ new) e = (e.0.kind, kinds_each ways (suc k) old new e.1)
-
-pub pipeline_is_swept : (ways : ℕ) (entries : Entries) (plan : PlanParts) (buckets : ℕ) (old new : List LaneView) → AreLanesOf entries plan buckets old → Each (LaneSweeps ways) old new → Each LaneIsSwept old new
-    → PipelineIsSwept (record { plan = plan; entries = entries; buckets = buckets; lanes = old }) (record { plan = plan; entries = entries; buckets = buckets; lanes = new })
-pipeline_is_swept ways entries plan buckets old new are made e = record {
-  stands = λ ms s. swept_stand buckets 0 old new ms (lanes_many entries plan buckets 0 old plan.groups are) (kinds_each ways 0 old new made) e s;
-  held = swept_empty 0 old new e;
-}
-
-sweeps_stand : (ways buckets k : ℕ) (old new : List LaneView) (ms : List Machine) → ((n : ℕ) (lane : LaneView) → slice_get old n ≡ Some lane → length lane.cache.lists ≡ buckets)
-    → EachFrom (λ n. LaneSweeps ways) k old new → EachFrom (λ n. StandsFor) k old ms
-    → (ns : List Machine) × EachFrom (λ n. StandsFor) k new ns × EachFrom (λ i m n. (events : List Event) × NoPacket events × (n ≡ run (geometry_of ways buckets) events m)) k ms ns
-sweeps_stand ways buckets k [] [] [] many e s = ([], tt, tt)
-sweeps_stand ways buckets k [] [] (m ∷ ms) many e s = absurd s
-sweeps_stand ways buckets k [] (b ∷ new) ms many e s = absurd e
-sweeps_stand ways buckets k (a ∷ old) [] ms many e s = absurd e
-sweeps_stand ways buckets k (a ∷ old) (b ∷ new) [] many e s = absurd s
-sweeps_stand ways buckets k (a ∷ old) (b ∷ new) (m ∷ ms) many e s =
-    let made = e.0.made in
-    let after = followed (ghosts.stands a.kind) (ghosts.folding a.kind) ways made.0 (parts_of a) (parts_of b) m s.0 made.2 in
-    let same = subst (λ n. PartsStand (ghosts.stands a.kind) (ghosts.folding a.kind) (parts_of b) (run (geometry_of ways n) made.0 m)) (many 0 a refl) after in
-    let rest = sweeps_stand ways buckets (suc k) old new ms (λ n lane h. many (suc n) lane h) e.1 s.1 in (
-      run (geometry_of ways buckets) made.0 m ∷ rest.0,
-      (subst (λ kind. PartsStand (ghosts.stands kind) (ghosts.folding kind) (parts_of b) (run (geometry_of ways buckets) made.0 m)) (sym e.0.kind) same, rest.1),
-      ((made.0, made.1, refl), rest.2),
-    )
-
-pub pipeline_sweeps : (ways : ℕ) (entries : Entries) (plan : PlanParts) (buckets : ℕ) (old new : List LaneView) → AreLanesOf entries plan buckets old → Each (LaneSweeps ways) old new
-    → PipelineSweeps ways (record { plan = plan; entries = entries; buckets = buckets; lanes = old }) (record { plan = plan; entries = entries; buckets = buckets; lanes = new })
-pipeline_sweeps ways entries plan buckets old new are e = record {
-  stands = λ ms s. sweeps_stand ways buckets 0 old new ms (lanes_many entries plan buckets 0 old plan.groups are) e s;
-  kinds = same_kinds (λ n. LaneSweeps ways) (λ n a b m. sweeps_sizes ways a b m) 0 old new e;
-  plan = refl;
-  entries = refl;
-  buckets = refl;
-  places = same_places (λ n. LaneSweeps ways) (λ n a b m. sweeps_sizes ways a b m) 0 old new e;
+pub pipeline_is_swept : EventsKeepAlike → BucketsEmptyByEvictions → (ways : ℕ) (old new : PipelineView)
+    → AreLanesOf old.entries old.plan old.buckets old.lanes
+    → PipelineMakes ways (upkeeps_at due.Sweep old.lanes) old new → AreKept due.Sweep new.lanes → PipelineIsSwept old new
+pipeline_is_swept alike emptied ways old new are made kept = record {
+  stands = λ ms s. (
+    after_events (geometry_of ways old.buckets) (upkeeps_at due.Sweep old.lanes) 0 ms,
+    made.stands ms s,
+    swept_alike alike emptied ways old.buckets 0 0 old.lanes old.lanes ms
+        (λ n i q. ap (slice_get old.lanes) (let e : n ≡ i = omega arith in e))
+        (lanes_many old.entries old.plan old.buckets 0 old.lanes old.plan.groups are) s,
+  );
+  held = swept_empty new.lanes kept;
 }
 
 -- the lane of a groupby has entries of the groupby's kind

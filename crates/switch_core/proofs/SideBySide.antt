@@ -1,5 +1,5 @@
 -- Lists that belong together, item by item.
-use Rattle.std.proofs.Common.{◌≡◌, ℕ, zero, suc, ◌+◌, ◌<◌, ◌≤◌, List, [], ◌∷◌, Some, length, take, set, refl, sym, ap, ◌∙◌, subst, arith}
+use Rattle.std.proofs.Common.{◌≡◌, ℕ, zero, suc, ◌+◌, ◌<◌, ◌≤◌, List, [], ◌∷◌, Some, length, take, set, get_or, refl, sym, ap, ◌∙◌, subst, arith}
 use Rattle.std.specs.List.{sum_by}
 use Rattle.std.specs.Prelude.{slice_get}
 use Rattle.std.proofs.lemmas.List.Sums.{sum_by-cons}
@@ -12,6 +12,11 @@ pub got_some : {X : Type 0} (xs : List X) (i : ℕ) → i < length xs → (x : X
 got_some [] i h = absurd (omega arith)
 got_some (x ∷ xs) zero h = (x, refl)
 got_some (x ∷ xs) (suc i) h = got_some xs i (omega arith)
+
+pub got_here : {X : Type 0} (xs : List X) (i : ℕ) (d : X) → i < length xs → slice_get xs i ≡ Some (get_or xs i d)
+got_here [] i d h = absurd (omega arith)
+got_here (x ∷ xs) zero d h = refl
+got_here (x ∷ xs) (suc i) d h = got_here xs i d (omega arith)
 
 pub got_below : {X : Type 0} (xs : List X) (i : ℕ) (x : X) → slice_get xs i ≡ Some x → i < length xs
 got_below [] i x h = cc
@@ -95,7 +100,7 @@ untouched_was i old new x u l e =
 pub done_end : {X : Type 0} (R : ℕ → X → X → Type 0) (i : ℕ) (old new : List X) → Done R i old new → length old ≤ i → EachFrom R 0 old new
 done_end R i old new d l = each_map (λ n a b. n < i → R n a b) R 0 old new (λ j n a b q f g r. r (let w = got_below old j a f in omega arith)) d
 
-each_both : {X Y : Type 0} (R S : ℕ → X → Y → Type 0) (k : ℕ) (xs : List X) (ys : List Y) → EachFrom R k xs ys → EachFrom S k xs ys → EachFrom (λ n x y. R n x y × S n x y) k xs ys
+pub each_both : {X Y : Type 0} (R S : ℕ → X → Y → Type 0) (k : ℕ) (xs : List X) (ys : List Y) → EachFrom R k xs ys → EachFrom S k xs ys → EachFrom (λ n x y. R n x y × S n x y) k xs ys
 each_both R S k [] [] r s = tt
 each_both R S k [] (y ∷ ys) r s = absurd r
 each_both R S k (x ∷ xs) [] r s = absurd r

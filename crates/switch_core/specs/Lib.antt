@@ -6,7 +6,7 @@ pub mod FrontEvents
 pub mod LaneEvents
 pub mod Closing
 pub mod Costs
-pub mod Sweeps
+pub mod Upkeeps
 pub mod Rows
 pub mod Pipelines
 pub mod PlanLanes

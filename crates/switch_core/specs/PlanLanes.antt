@@ -1,9 +1,8 @@
 -- What contracts see of a pipeline.
 use Rattle.std.specs.Prelude.{◌≡◌, ℕ, ◌+◌, ◌*◌, ◌<◌, ◌≤◌, Bool, List, [], length, map, nat_lt, slice_get}
-use Rattle.std.specs.Prelude.{sum_by, Some, true, ◌==◌}
+use Rattle.std.specs.Prelude.{sum_by, Option, Some, None, true, ◌==◌, if◌then◌else◌}
 use Rattle.std.specs.List.{All, list_all}
-use Rattle.epoch_model.specs.Machine.{Machine, Event, empty_buckets, run}
-use Rattle.epoch_model.specs.Timeline.{NoPacket}
+use Rattle.epoch_model.specs.Machine.{Machine, Event, empty_buckets}
 use Rattle.epoch_model.specs.Laws.{SameEpochs}
 use Rattle.epoch_model.specs.Tables.{Folding}
 use Rattle.epoch_entry.specs.declared.any.AnyEpochs.{AnyEpochs}
@@ -24,18 +23,13 @@ use Rattle.switch_core.specs.LaneEvents.{Parts, parts, MakesAll}
 use Rattle.switch_core.specs.Pipelines.{IsLaneOf, HasRooms, after_events, geometry_of}
 use Rattle.switch_core.specs.Closing.{held_in, is_drained}
 use Rattle.switch_core.specs.Costs.{evict_cost, merge_cost, sweep_cost}
-use Rattle.switch_core.specs.Sweeps.{Leads, MakesSweep, RunsAll, RunsFirst, lane_sweep}
-use Rattle.switch_core.specs.Rows.{Each, EachFrom}
+use Rattle.switch_core.specs.Rows.{AreFirst, Each, EachFrom}
+use Rattle.switch_core.specs.Upkeeps.{IsKept, upkeep_cost, upkeep_events}
+use Rattle.switch_core.specs.declared.upkeep.Upkeep.{Upkeep}
 
--- a lane: the kind of its entries, and the parts that represent a machine
-pub record LaneView : Type 0 where
-  pub kind : AnyEpochs
-  pub cache : Cache
-  pub pipe : Pipe
-  pub store : Store
-
-abbrev pub lane_view : LaneOf AnyEpochs → LaneView
-lane_view lane = record { kind = lane.kind; cache = lane.cache; pipe = lane.pipe; store = lane.store }
+-- a lane of a pipeline
+abbrev pub LaneView : Type 0
+LaneView = LaneOf AnyEpochs
 
 -- the plan, what the entries are for, the number of buckets of each lane, and the lanes in the order of the groupbys
 pub record PipelineView : Type 0 where
@@ -130,32 +124,36 @@ abbrev pub lane_sweep_cost : LaneView → ℕ
 lane_sweep_cost lane = sweep_cost (held_in lane.cache) (length lane.cache.lists)
     (evict_cost lane.cache.key_words lane.cache.entry_words) (lane_merge_cost lane)
 
--- a lane makes evictions and merges, and nothing else
-pub record LaneSweeps (ways : ℕ) (old new : LaneView) : Type 0 where
-  pub kind : new.kind ≡ old.kind
-  pub made : MakesSweep (ghosts.stands old.kind) (ghosts.folding old.kind) ways (parts_of old) (parts_of new)
+-- the most steps that an upkeep takes at a lane
+abbrev pub lane_upkeep_cost : Upkeep → LaneView → ℕ
+lane_upkeep_cost upkeep lane = upkeep_cost upkeep lane.cache lane.pipe (ghosts.merge_bound lane.kind)
 
--- they empty all buckets, in ascending order
-pub record LaneIsSwept (old new : LaneView) : Type 0 where
-  pub leads : Leads (ghosts.stands old.kind) (ghosts.folding old.kind) (λ m. empty_buckets (length old.cache.lists) m)
-      (parts_of old) (parts_of new)
-  pub held : held_in new.cache ≡ 0
+-- the events of an upkeep at a lane, where there is one
+abbrev pub upkeep_at : Upkeep → Option LaneView → List Event
+upkeep_at upkeep None = []
+upkeep_at upkeep (Some lane) = upkeep_events upkeep lane.cache lane.pipe
 
--- the lane made the events of its sweep
-abbrev pub LaneRunsSweep : ℕ → LaneView → LaneView → Type 0
-LaneRunsSweep ways old new = RunsAll (ghosts.stands old.kind) (ghosts.folding old.kind) ways
-    (lane_sweep ways (parts_of old)) (parts_of old) (parts_of new)
+-- those at the lane with this number
+abbrev pub upkeeps_at : Upkeep → List LaneView → ℕ → List Event
+upkeeps_at upkeep lanes n = upkeep_at upkeep (slice_get lanes n)
 
--- the lane made the first events of its sweep
-abbrev pub LaneBeginsSweep : ℕ → LaneView → LaneView → Type 0
-LaneBeginsSweep ways old new = RunsFirst (ghosts.stands old.kind) (ghosts.folding old.kind) ways
-    (lane_sweep ways (parts_of old)) (parts_of old) (parts_of new)
+-- those of the lanes below one, and of that one these
+abbrev pub upkeeps_until : Upkeep → List LaneView → ℕ → List Event → ℕ → List Event
+upkeeps_until upkeep lanes at first n = if nat_lt n at then upkeeps_at upkeep lanes n else (if n == at then first else [])
 
--- Sweeps of lanes in order, up to one that broke off: the lanes below its number made the events of their
--- sweeps, it made the first events of its sweep, and those above it are unchanged.
-abbrev pub SweepBreaksOff : ℕ → List LaneView → List LaneView → Type 0
-SweepBreaksOff ways old new = (at : ℕ) × (at < length old)
-    × EachFrom (λ n a b. (n < at → LaneRunsSweep ways a b) × (n ≡ at → LaneBeginsSweep ways a b) × (at < n → b ≡ a)) 0 old new
+-- Upkeeps of lanes in order broke off at one: the lanes below it made their events, it made the first of its events, and those above it
+-- made none.
+abbrev pub LanesBreakOff : ℕ → Upkeep → List LaneView → List LaneView → Type 0
+LanesBreakOff ways upkeep old new = (at : ℕ) × (first : List Event) × AreFirst first (upkeeps_at upkeep old at)
+    × LanesMake ways (upkeeps_until upkeep old at first) old new
+
+abbrev pub UpkeepBreaksOff : ℕ → Upkeep → PipelineView → PipelineView → Type 0
+UpkeepBreaksOff ways upkeep old new = (at : ℕ) × (first : List Event) × AreFirst first (upkeeps_at upkeep old.lanes at)
+    × PipelineMakes ways (upkeeps_until upkeep old.lanes at first) old new
+
+-- what holds of each lane after an upkeep
+abbrev pub AreKept : Upkeep → List LaneView → Type 0
+AreKept upkeep lanes = (n : ℕ) → AtLane (λ lane. IsKept upkeep lane.cache lane.pipe) lanes n
 
 -- the most steps that a packet takes: its registers, and what each lane takes
 abbrev pub pipeline_cost : ℕ → PipelineView → ℕ
@@ -171,14 +169,3 @@ pub record PipelineIsSwept (old new : PipelineView) : Type 0 where
   pub stands : (machines : List Machine) → PipelineStands old machines → (swept : List Machine) × PipelineStands new swept
       × Each (λ m n. SameEpochs n (empty_buckets old.buckets m)) machines swept
   pub held : list_all (λ lane. held_in lane.cache == 0) new.lanes ≡ true
-
--- Evictions and merges lead a pipeline from old parts to new ones, and nothing else: whatever machines it represented,
--- it now represents these after such events.
-pub record PipelineSweeps (ways : ℕ) (old new : PipelineView) : Type 0 where
-  pub stands : (machines : List Machine) → PipelineStands old machines → (later : List Machine) × PipelineStands new later
-      × Each (λ m n. (events : List Event) × NoPacket events × (n ≡ run (geometry_of ways old.buckets) events m)) machines later
-  pub kinds : map (λ lane. lane.kind) new.lanes ≡ map (λ lane. lane.kind) old.lanes
-  pub plan : new.plan ≡ old.plan
-  pub entries : new.entries ≡ old.entries
-  pub buckets : new.buckets ≡ old.buckets
-  pub places : places_of new.lanes ≡ places_of old.lanes

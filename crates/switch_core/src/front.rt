@@ -9,7 +9,8 @@ ghost use Rattle.bucket_cache.specs.Caches.{list_at, with_list};
 ghost use Rattle.switch_core.specs.Closing.{held_in, is_drained};
 ghost use Rattle.switch_core.specs.Costs.{evict_cost, merge_cost};
 ghost use Rattle.switch_core.specs.FrontParts.{IsFront, FitsStore};
-ghost use Rattle.switch_core.specs.FrontEvents.{FrontMakes, MergesNext};
+ghost use Rattle.backing_store.specs.Store.{Store};
+ghost use Rattle.switch_core.specs.FrontEvents.{Carries, FrontMakes, MergesNext, with_store};
 ghost use Rattle.switch_core.specs.Lanes.{FrontStands, geometry};
 
 use crate::merging::merge_record;
@@ -114,6 +115,8 @@ impl<K: EpochKind, const WAYS: usize> Front<K, WAYS> {
         requires key { length key.now ≡ self.old.cache.key_words }
         requires args { length args.now ≡ (K.sizes self.old.kind).args }
         ensures makes { FrontMakes (K.stands self.old.kind) WAYS (Packet key.now args.now) self.old self.new }
+        ensures carries { (store : Store) → Carries K.stands K.folding WAYS (Packet key.now args.now)
+            (with_store self.old store) (with_store self.new store) }
         ensures steps { steps.old ≤ steps.new }
         ensures cost { let key_words = self.old.cache.key_words in
             steps.new ≤ steps.old + (key_words + 2 * WAYS * (key_words + 1) + (key_words + (K.sizes self.old.kind).entry)
@@ -136,9 +139,12 @@ impl<K: EpochKind, const WAYS: usize> Front<K, WAYS> {
         requires ready { length self.old.pipe.records < self.old.pipe.places }
         requires range { bucket < length self.old.cache.lists }
         ensures makes { FrontMakes (K.stands self.old.kind) WAYS (Evict bucket) self.old self.new }
+        ensures carries { (store : Store) → Carries K.stands K.folding WAYS (Evict bucket)
+            (with_store self.old store) (with_store self.new store) }
         ensures some { result ≡ not (length (list_at self.old.cache bucket) == 0) }
         ensures cache { let list = list_at self.old.cache bucket in
             self.new.cache ≡ with_list self.old.cache bucket (take (length list - 1) list) }
+        ensures records { length self.new.pipe.records ≡ length self.old.pipe.records + (if result then 1 else 0) }
         ensures same { result ≡ false → self.new ≡ self.old }
         ensures steps { steps.old ≤ steps.new }
         ensures cost { let cache = self.old.cache in
@@ -164,6 +170,8 @@ impl<K: EpochKind, const WAYS: usize> Front<K, WAYS> {
     ) -> Result<Merged, AllocError>
         requires { FitsStore (K.sizes self.old.kind) self.old.cache store.old }
         ensures makes { OnOk result (FrontMakes (K.stands self.old.kind) WAYS Merge self.old self.new) }
+        ensures carries { OnOk result (Carries K.stands K.folding WAYS Merge
+            (with_store self.old store.old) (with_store self.new store.new)) }
         ensures held { OnOk result (MergesNext (K.stands self.old.kind) (K.folding self.old.kind) self.old store.old store.new) }
         ensures fits { FitsStore (K.sizes self.new.kind) self.new.cache store.new }
         ensures empty { (result ≡ Ok Merged.Empty) ↔ (length self.old.pipe.records ≡ 0) }

@@ -11,10 +11,13 @@ ghost use Rattle.switch_core.specs.FrontParts.{IsFront, FitsStore};
 ghost use Rattle.switch_core.specs.LaneEvents.{EventsAreFollowed, Makes, parts};
 ghost use Rattle.switch_core.specs.Closing.{held_in, is_drained};
 ghost use Rattle.switch_core.specs.Costs.{evict_cost, merge_cost};
+ghost use Rattle.switch_core.specs.FrontEvents.{CarriesAll, CarriesFirst};
+ghost use Rattle.switch_core.specs.Upkeeps.{IsKept, upkeep_cost, upkeep_events};
 ghost use Rattle.final_queries.specs.GroupTable.{closed_table};
 
 use crate::closing::columns;
 use crate::front::{Front, Merged};
+use crate::upkeep::{Upkeep, keep_up};
 use backing_store::BackingStore;
 use bucket_cache::BucketCache;
 use epoch_entry::EpochKind;
@@ -27,8 +30,8 @@ use std::alloc::{AllocError, Global};
 use std::marker::Model;
 use std::sync::ledger::Ledger;
 
-/// The cache, the pipe and the store of one groupby, for entries of one kind. Once a lane is made, only `merge` and
-/// `close` take memory.
+/// The cache, the pipe and the store of one groupby, for entries of one kind. Once a lane is made, only `merge`,
+/// `keep_up` and `close` take memory.
 #[derive(Drop)]
 pub struct Lane<K: EpochKind, const WAYS: usize> {
     front: Front<K, WAYS>,
@@ -141,6 +144,25 @@ impl<K: EpochKind, const WAYS: usize> Lane<K, WAYS> {
             steps.new ≤ steps.old + merge_cost cache.key_words cache.entry_words (K.merge_bound self.old.kind) }
     {
         self.front.merge_into(&mut self.store, steps)
+    }
+
+    /// Does what is due beside packets. When out of memory, it made only the first of the events.
+    #[inline(always)]
+    pub fn keep_up<L: Ledger>(
+        &mut self,
+        upkeep: Upkeep,
+        steps: &mut Steps<L>,
+    ) -> Result<(), AllocError>
+        ensures carries { OnOk result (CarriesAll K.stands K.folding WAYS (upkeep_events upkeep self.old.cache self.old.pipe)
+            self.old self.new) }
+        ensures breaks_off { OnErr result (CarriesFirst K.stands K.folding WAYS (upkeep_events upkeep self.old.cache self.old.pipe)
+            self.old self.new) }
+        ensures left { OnOk result (IsKept upkeep self.new.cache self.new.pipe) }
+        ensures steps { steps.old ≤ steps.new }
+        ensures cost { steps.new ≤ steps.old
+            + upkeep_cost upkeep self.old.cache self.old.pipe (K.merge_bound self.old.kind) }
+    {
+        keep_up(&mut self.front, &mut self.store, upkeep, steps)
     }
 
     /// The number of open epochs in the cache.

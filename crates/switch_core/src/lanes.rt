@@ -13,12 +13,12 @@ ghost use Rattle.switch_core.specs.Closing.{is_drained};
 ghost use Rattle.switch_core.specs.Costs.{evict_cost};
 ghost use Rattle.switch_core.specs.Rows.{Each};
 ghost use Rattle.switch_core.specs.Pipelines.{event_at};
-ghost use Rattle.switch_core.specs.PlanLanes.{AreLanesOf, AtLane, LaneMakes, LanesMake, LaneView, LaneIsSwept, LaneRunsSweep, LaneSweeps};
-ghost use Rattle.switch_core.specs.PlanLanes.{SweepBreaksOff, lane_cost, lane_is_ready, lane_merge_cost, lane_sweep_cost, lane_view};
+ghost use Rattle.switch_core.specs.PlanLanes.{AreKept, AreLanesOf, AtLane, LaneMakes, LanesBreakOff, LanesMake, LaneView};
+ghost use Rattle.switch_core.specs.PlanLanes.{lane_cost, lane_is_ready, lane_merge_cost, lane_upkeep_cost, upkeeps_at};
 
 use crate::front::Merged;
 use crate::lane::Lane;
-use crate::sweeping::sweep_lane;
+use crate::upkeep::Upkeep;
 use epoch_entry::{AnyEpochs, EpochKind};
 use marple_base::Steps;
 use stage_plan::Plan;
@@ -27,7 +27,7 @@ use std::sync::ledger::Ledger;
 
 /// Whether every pipe has room for a record.
 pub fn all_ready<const WAYS: usize>(lanes: &[Lane<AnyEpochs, WAYS>]) -> bool
-    ensures { result ≡ list_all lane_is_ready (map lane_view lanes.now) }
+    ensures { result ≡ list_all lane_is_ready lanes.now }
 {
     for lane in lanes {
         if !lane.ready() {
@@ -49,15 +49,15 @@ fn take_packet<const WAYS: usize, L: Ledger>(
 )
     requires group { group < length plan.now.groups }
     requires registers { length registers.now ≡ registers_of plan.now }
-    requires ready { lane_is_ready (lane_view lane.old) ≡ true }
+    requires ready { lane_is_ready lane.old ≡ true }
     requires key { lane.old.cache.key_words ≡ length (wiring_at plan.now group).keys }
     requires args { (⟦<AnyEpochs as EpochKind>⟧.sizes lane.old.kind).args ≡ length (wiring_at plan.now group).args }
     requires key_room { length (wiring_at plan.now group).keys ≤ length key.old }
     requires args_room { length (wiring_at plan.now group).args ≤ length args.old }
-    ensures makes { LaneMakes WAYS (event_of (taken_at (wiring_at plan.now group) registers.now)) (lane_view lane.old)
-        (lane_view lane.new) }
+    ensures makes { LaneMakes WAYS (event_of (taken_at (wiring_at plan.now group) registers.now)) lane.old
+        lane.new }
     ensures steps { steps.old ≤ steps.new }
-    ensures cost { steps.new ≤ steps.old + lane_cost WAYS (lane_view lane.old) }
+    ensures cost { steps.new ≤ steps.old + lane_cost WAYS lane.old }
 {
     if plan.present(group, registers) {
         let wiring = plan.wiring(group);
@@ -78,15 +78,15 @@ pub fn packet_lanes<const WAYS: usize, L: Ledger>(
     args: &mut [u64],
     steps: &mut Steps<L>,
 )
-    requires lanes { (entries : Entries) × (buckets : ℕ) × AreLanesOf entries plan.now buckets (map lane_view lanes.old) }
+    requires lanes { (entries : Entries) × (buckets : ℕ) × AreLanesOf entries plan.now buckets lanes.old }
     requires registers { length registers.now ≡ registers_of plan.now }
-    requires ready { list_all lane_is_ready (map lane_view lanes.old) ≡ true }
+    requires ready { list_all lane_is_ready lanes.old ≡ true }
     requires key { length key.old ≡ 8 }
     requires args { length args.old ≡ 16 }
     ensures makes { LanesMake WAYS (λ n. event_of (taken_at (wiring_at plan.now n) registers.now))
-        (map lane_view lanes.old) (map lane_view lanes.new) }
+        lanes.old lanes.new }
     ensures steps { steps.old ≤ steps.new }
-    ensures cost { steps.new ≤ steps.old + sum_by (lane_cost WAYS) (map lane_view lanes.old) }
+    ensures cost { steps.new ≤ steps.old + sum_by (lane_cost WAYS) lanes.old }
 {
     plan.invariant();
     for i in 0..lanes.len() {
@@ -103,13 +103,13 @@ pub fn evict_at<const WAYS: usize, L: Ledger>(
     steps: &mut Steps<L>,
 ) -> bool
     requires lane { at < length lanes.old }
-    requires ready { AtLane (λ lane. lane_is_ready lane ≡ true) (map lane_view lanes.old) at }
-    requires range { AtLane (λ lane. bucket < length lane.cache.lists) (map lane_view lanes.old) at }
-    ensures makes { LanesMake WAYS (event_at at (Evict bucket)) (map lane_view lanes.old) (map lane_view lanes.new) }
-    ensures some { AtLane (λ lane. result ≡ not (length (list_at lane.cache bucket) == 0)) (map lane_view lanes.old) at }
+    requires ready { AtLane (λ lane. lane_is_ready lane ≡ true) lanes.old at }
+    requires range { AtLane (λ lane. bucket < length lane.cache.lists) lanes.old at }
+    ensures makes { LanesMake WAYS (event_at at (Evict bucket)) lanes.old lanes.new }
+    ensures some { AtLane (λ lane. result ≡ not (length (list_at lane.cache bucket) == 0)) lanes.old at }
     ensures steps { steps.old ≤ steps.new }
     ensures cost { AtLane (λ lane. steps.new ≡ steps.old
-        + (if result then evict_cost lane.cache.key_words lane.cache.entry_words else 0)) (map lane_view lanes.old) at }
+        + (if result then evict_cost lane.cache.key_words lane.cache.entry_words else 0)) lanes.old at }
 {
     let lane = &mut lanes[at];
     lane.evict(bucket, steps)
@@ -122,39 +122,40 @@ pub fn merge_at<const WAYS: usize, L: Ledger>(
     steps: &mut Steps<L>,
 ) -> Result<Merged, AllocError>
     requires { at < length lanes.old }
-    ensures makes { OnOk result (LanesMake WAYS (event_at at Merge) (map lane_view lanes.old) (map lane_view lanes.new)) }
-    ensures ready { OnOk result (AtLane (λ lane. lane_is_ready lane ≡ true) (map lane_view lanes.new) at) }
-    ensures empty { AtLane (λ lane. (result ≡ Ok Merged.Empty) ↔ (length lane.pipe.records ≡ 0)) (map lane_view lanes.old) at }
-    ensures err { OnErr result (map lane_view lanes.new ≡ map lane_view lanes.old) }
+    ensures makes { OnOk result (LanesMake WAYS (event_at at Merge) lanes.old lanes.new) }
+    ensures ready { OnOk result (AtLane (λ lane. lane_is_ready lane ≡ true) lanes.new at) }
+    ensures empty { AtLane (λ lane. (result ≡ Ok Merged.Empty) ↔ (length lane.pipe.records ≡ 0)) lanes.old at }
+    ensures err { OnErr result (lanes.new ≡ lanes.old) }
     ensures steps { steps.old ≤ steps.new }
-    ensures cost { AtLane (λ lane. steps.new ≤ steps.old + lane_merge_cost lane) (map lane_view lanes.old) at }
+    ensures cost { AtLane (λ lane. steps.new ≤ steps.old + lane_merge_cost lane) lanes.old at }
 {
     let lane = &mut lanes[at];
     lane.merge(steps)
 }
 
-/// Closes all open epochs of all lanes, lane by lane.
-pub fn sweep_lanes<const WAYS: usize, L: Ledger>(
+/// Does what is due at each lane, lane by lane.
+#[inline(always)]
+pub fn keep_lanes<const WAYS: usize, L: Ledger>(
     lanes: &mut [Lane<AnyEpochs, WAYS>],
+    upkeep: Upkeep,
     steps: &mut Steps<L>,
 ) -> Result<(), AllocError>
-    ensures leads { OnOk result (Each LaneIsSwept (map lane_view lanes.old) (map lane_view lanes.new)) }
-    ensures runs { OnOk result (Each (LaneRunsSweep WAYS) (map lane_view lanes.old) (map lane_view lanes.new)) }
-    ensures breaks_off { OnErr result (SweepBreaksOff WAYS (map lane_view lanes.old) (map lane_view lanes.new)) }
-    ensures makes { Each (LaneSweeps WAYS) (map lane_view lanes.old) (map lane_view lanes.new) }
+    ensures makes { OnOk result (LanesMake WAYS (upkeeps_at upkeep lanes.old) lanes.old lanes.new) }
+    ensures breaks_off { OnErr result (LanesBreakOff WAYS upkeep lanes.old lanes.new) }
+    ensures left { OnOk result (AreKept upkeep lanes.new) }
     ensures steps { steps.old ≤ steps.new }
-    ensures cost { steps.new ≤ steps.old + sum_by lane_sweep_cost (map lane_view lanes.old) }
+    ensures cost { steps.new ≤ steps.old + sum_by (lane_upkeep_cost upkeep) lanes.old }
 {
     for i in 0..lanes.len() {
         let lane = &mut lanes[i];
-        sweep_lane(lane, steps)?;
+        lane.keep_up(upkeep, steps)?;
     }
     Ok(())
 }
 
 /// Whether all caches and pipes are empty.
 pub fn all_drained<const WAYS: usize>(lanes: &[Lane<AnyEpochs, WAYS>]) -> bool
-    ensures { result ≡ list_all (λ lane. is_drained lane.cache lane.pipe) (map lane_view lanes.now) }
+    ensures { result ≡ list_all (λ lane. is_drained lane.cache lane.pipe) lanes.now }
 {
     for lane in lanes {
         if !lane.drained() {

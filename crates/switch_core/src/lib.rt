@@ -13,8 +13,8 @@ mod packet;
 mod pipeline;
 mod places;
 mod registers;
-mod sweeping;
 mod tables;
+mod upkeep;
 
 pub use front::{Front, Merged};
 pub use lane::Lane;
@@ -22,3 +22,4 @@ pub use laws::tables_are_of_folds;
 pub use merging::merge_entry;
 pub use pipeline::Pipeline;
 pub use tables::held_table;
+pub use upkeep::{Upkeep, keep_up};

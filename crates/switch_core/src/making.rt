@@ -7,7 +7,7 @@ ghost use Rattle.epoch_model.specs.Machine.{empty_machine};
 ghost use Rattle.epoch_entry.specs.Purposes.{IsKindFor};
 ghost use Rattle.switch_core.specs.Rows.{Each};
 ghost use Rattle.switch_core.specs.Pipelines.{empty_machines, geometry_of};
-ghost use Rattle.switch_core.specs.PlanLanes.{AreLanesOf, HavePlaces, MergesWithin, StandsFor, lane_view};
+ghost use Rattle.switch_core.specs.PlanLanes.{AreLanesOf, HavePlaces, MergesWithin, StandsFor};
 
 use crate::lane::Lane;
 use epoch_entry::{AnyEpochs, Entries, EpochKind, entries_are_small, entries_suit_folds};
@@ -28,14 +28,14 @@ fn made_lane<const WAYS: usize>(
     requires pipe { (0 < pipe_records) × (pipe_records ≤ 65536) }
     requires program { IsProgram group.now.program }
     requires keys { (0 < length group.now.key_names) × (length group.now.key_names ≤ 8) }
-    ensures stands { IfOk result (λ lane. StandsFor (lane_view lane) (empty_machine (geometry_of WAYS buckets))) }
+    ensures stands { IfOk result (λ lane. StandsFor lane (empty_machine (geometry_of WAYS buckets))) }
     ensures buckets { IfOk result (λ lane. length lane.cache.lists ≡ buckets) }
     ensures pipe_places { IfOk result (λ lane. lane.pipe.places ≡ pipe_records) }
     ensures keys { IfOk result (λ lane. lane.cache.key_words ≡ length group.now.key_names) }
     ensures kind { IfOk result (λ lane. (f : TypedFold) → IsProgramOf f group.now.program
         → IsKindFor entries f (⟦<AnyEpochs as EpochKind>⟧.sizes lane.kind) (⟦<AnyEpochs as EpochKind>⟧.folding lane.kind)
         (⟦<AnyEpochs as EpochKind>⟧.open_bound lane.kind) (⟦<AnyEpochs as EpochKind>⟧.absorb_bound lane.kind)) }
-    ensures merges { IfOk result (λ lane. MergesWithin (lane_view lane) group.now) }
+    ensures merges { IfOk result (λ lane. MergesWithin lane group.now) }
 {
     entries_are_small();
     let kind = AnyEpochs::for_entries(entries, group.program.copy(alloc)?);
@@ -54,10 +54,10 @@ pub fn made_lanes<const WAYS: usize>(
     requires buckets { 0 < buckets }
     requires places { buckets * WAYS ≤ 65536 }
     requires pipe { (0 < pipe_records) × (pipe_records ≤ 65536) }
-    ensures lanes { IfOk result (λ lanes. AreLanesOf entries plan.now buckets (map lane_view lanes.items)) }
-    ensures merges { IfOk result (λ lanes. Each MergesWithin (map lane_view lanes.items) plan.now.groups) }
-    ensures pipe_places { IfOk result (λ lanes. HavePlaces pipe_records (map lane_view lanes.items)) }
-    ensures stands { IfOk result (λ lanes. Each StandsFor (map lane_view lanes.items)
+    ensures lanes { IfOk result (λ lanes. AreLanesOf entries plan.now buckets lanes.items) }
+    ensures merges { IfOk result (λ lanes. Each MergesWithin lanes.items plan.now.groups) }
+    ensures pipe_places { IfOk result (λ lanes. HavePlaces pipe_records lanes.items) }
+    ensures stands { IfOk result (λ lanes. Each StandsFor lanes.items
         (empty_machines (geometry_of WAYS buckets) plan.now.groups)) }
 {
     entries_suit_folds();

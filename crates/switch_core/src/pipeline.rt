@@ -15,17 +15,19 @@ ghost use Rattle.stage_plan.specs.Planned.{plan_bound};
 ghost use Rattle.switch_core.specs.Closing.{held_in};
 ghost use Rattle.switch_core.specs.Costs.{evict_cost};
 ghost use Rattle.switch_core.specs.Pipelines.{empty_machines, event_at, geometry_of, packet_events, tables_of};
-ghost use Rattle.switch_core.specs.PlanLanes.{AreLanesOf, AtLane, HavePlaces, LaneRunsSweep, MergesWithin, PipelineIsSwept, PipelineMakes};
-ghost use Rattle.switch_core.specs.PlanLanes.{PipelineStands, PipelineSweeps, SweepBreaksOff, folding_at, lane_is_drained, lane_is_ready};
-ghost use Rattle.switch_core.specs.PlanLanes.{lane_merge_cost, lane_sweep_cost, lane_view, pipeline_cost};
+ghost use Rattle.switch_core.specs.PlanLanes.{AreKept, AreLanesOf, AtLane, HavePlaces, MergesWithin, PipelineIsSwept, PipelineMakes};
+ghost use Rattle.switch_core.specs.PlanLanes.{PipelineStands, UpkeepBreaksOff, folding_at, lane_is_drained, lane_is_ready};
+ghost use Rattle.switch_core.specs.PlanLanes.{lane_merge_cost, lane_sweep_cost, lane_upkeep_cost, pipeline_cost, upkeeps_at};
 
 use crate::front::Merged;
 use crate::lane::Lane;
-use crate::lanes::{all_drained, all_ready, evict_at, merge_at, packet_lanes, sweep_lanes};
+use crate::lanes::{all_drained, all_ready, evict_at, keep_lanes, merge_at, packet_lanes};
 use crate::making::made_lanes;
 use crate::registers::{fill_registers, registers_of};
 use crate::tables::lane_tables;
+use crate::upkeep::Upkeep;
 use epoch_entry::{AnyEpochs, Entries, EpochKind, entries_suit_folds};
+use epoch_model::{buckets_empty_by_evictions, events_keep_alike};
 use final_queries::Table;
 use fold_class::depth_is_found;
 use marple_base::{Packet, Seq, Steps};
@@ -35,7 +37,7 @@ use std::marker::Model;
 use std::sync::ledger::Ledger;
 
 /// A plan with a lane for each groupby, whose entries give the folds or bounds of them. Once it is made, only `merge`,
-/// `sweep` and `close` take memory.
+/// `keep_up`, `sweep` and `close` take memory.
 #[derive(Drop)]
 pub struct Pipeline<const WAYS: usize> {
     alloc: Global,
@@ -50,17 +52,17 @@ pub struct Pipeline<const WAYS: usize> {
 
 impl<const WAYS: usize> Model for Pipeline<WAYS> {
     ghost use Rattle.std.specs.Prelude.{map};
-    ghost use Rattle.switch_core.specs.PlanLanes.{PipelineView, IsPipeline, lane_view};
+    ghost use Rattle.switch_core.specs.PlanLanes.{PipelineView, IsPipeline};
 
     ghost Value = { PipelineView };
 
-    ghost view = { λ p. record { plan = p.plan; entries = p.entries; buckets = p.buckets; lanes = map lane_view p.lanes.items } };
+    ghost view = { λ p. record { plan = p.plan; entries = p.entries; buckets = p.buckets; lanes = p.lanes.items } };
 
     ghost invariant = { λ p. IsPipeline WAYS (record {
       plan = p.plan;
       entries = p.entries;
       buckets = p.buckets;
-      lanes = map lane_view p.lanes.items;
+      lanes = p.lanes.items;
     }) p.registers.items p.key.items p.args.items };
 }
 
@@ -185,17 +187,36 @@ impl<const WAYS: usize> Pipeline<WAYS> {
         merge_at(&mut self.lanes, lane as usize, steps)
     }
 
+    /// Does what is due at each lane, lane by lane. When out of memory, the lanes before one did it, that one made only the
+    /// first of its events, and those after it none.
+    #[inline(always)]
+    pub fn keep_up<L: Ledger>(
+        &mut self,
+        upkeep: Upkeep,
+        steps: &mut Steps<L>,
+    ) -> Result<(), AllocError>
+        ensures makes { OnOk result (PipelineMakes WAYS (upkeeps_at upkeep self.old.lanes) self.old self.new) }
+        ensures breaks_off { OnErr result (UpkeepBreaksOff WAYS upkeep self.old self.new) }
+        ensures left { OnOk result (AreKept upkeep self.new.lanes) }
+        ensures steps { steps.old ≤ steps.new }
+        ensures cost { steps.new ≤ steps.old + sum_by (lane_upkeep_cost upkeep) self.old.lanes }
+    {
+        keep_lanes(&mut self.lanes, upkeep, steps)
+    }
+
     /// Closes all open epochs: for each lane and each bucket in ascending order it evicts until the bucket is empty, with
     /// one merge before an eviction where the lane isn't ready.
     pub fn sweep<L: Ledger>(&mut self, steps: &mut Steps<L>) -> Result<(), AllocError>
         ensures swept { OnOk result (PipelineIsSwept self.old self.new) }
-        ensures makes { PipelineSweeps WAYS self.old self.new }
-        ensures runs { OnOk result (Each (LaneRunsSweep WAYS) self.old.lanes self.new.lanes) }
-        ensures breaks_off { OnErr result (SweepBreaksOff WAYS self.old.lanes self.new.lanes) }
+        ensures makes { OnOk result (PipelineMakes WAYS (upkeeps_at Upkeep.Sweep self.old.lanes) self.old self.new) }
+        ensures breaks_off { OnErr result (UpkeepBreaksOff WAYS Upkeep.Sweep self.old self.new) }
         ensures steps { steps.old ≤ steps.new }
         ensures cost { steps.new ≤ steps.old + sum_by lane_sweep_cost self.old.lanes }
     {
-        sweep_lanes(&mut self.lanes, steps)
+        events_keep_alike();
+        buckets_empty_by_evictions();
+        self.invariant();
+        self.keep_up(Upkeep::Sweep, steps)
     }
 
     /// The number of open epochs in a lane's cache.
@@ -238,11 +259,11 @@ impl<const WAYS: usize> Pipeline<WAYS> {
     /// them takes at most the steps that the fold allows.
     pub fn lane(&self, lane: u32) -> &Lane<AnyEpochs, WAYS>
         requires { lane < length self.now.lanes }
-        ensures lane { slice_get self.now.lanes lane ≡ Some (lane_view result.now) }
+        ensures lane { slice_get self.now.lanes lane ≡ Some result.now }
         ensures kind { (group : GroupPlan) (f : TypedFold) → slice_get self.now.plan.groups lane ≡ Some group → IsProgramOf f group.program
             → IsKindFor self.now.entries f (⟦<AnyEpochs as EpochKind>⟧.sizes result.now.kind) (⟦<AnyEpochs as EpochKind>⟧.folding result.now.kind)
             (⟦<AnyEpochs as EpochKind>⟧.open_bound result.now.kind) (⟦<AnyEpochs as EpochKind>⟧.absorb_bound result.now.kind) }
-        ensures merges { (group : GroupPlan) → slice_get self.now.plan.groups lane ≡ Some group → MergesWithin (lane_view result.now) group }
+        ensures merges { (group : GroupPlan) → slice_get self.now.plan.groups lane ≡ Some group → MergesWithin result.now group }
     {
         &self.lanes[lane as usize]
     }

@@ -9,7 +9,7 @@ ghost use Rattle.merged_epochs.specs.Merged.{StoreHolds};
 ghost use Rattle.final_queries.specs.GroupTable.{closed_table};
 ghost use Rattle.switch_core.specs.Rows.{Each};
 ghost use Rattle.switch_core.specs.Pipelines.{heading_of, tables_of};
-ghost use Rattle.switch_core.specs.PlanLanes.{AreLanesOf, StandsFor, folding_at, lane_is_drained, lane_view};
+ghost use Rattle.switch_core.specs.PlanLanes.{AreLanesOf, StandsFor, folding_at, lane_is_drained};
 
 use crate::closing::columns;
 use crate::lane::Lane;
@@ -64,10 +64,10 @@ pub fn lane_tables<const WAYS: usize>(
     plan: &Plan,
     lanes: &[Lane<AnyEpochs, WAYS>],
 ) -> Result<Seq<Table>, AllocError>
-    requires lanes { (entries : Entries) × (buckets : ℕ) × AreLanesOf entries plan.now buckets (map lane_view lanes.now) }
-    requires drained { list_all lane_is_drained (map lane_view lanes.now) ≡ true }
-    ensures { IfOk result (λ tables. (machines : List Machine) → Each StandsFor (map lane_view lanes.now) machines
-        → tables ≡ tables_of plan.now.groups (map folding_at (map lane_view lanes.now)) machines) }
+    requires lanes { (entries : Entries) × (buckets : ℕ) × AreLanesOf entries plan.now buckets lanes.now }
+    requires drained { list_all lane_is_drained lanes.now ≡ true }
+    ensures { IfOk result (λ tables. (machines : List Machine) → Each StandsFor lanes.now machines
+        → tables ≡ tables_of plan.now.groups (map folding_at lanes.now) machines) }
 {
     plan.invariant();
     let mut tables = Seq::new(alloc);

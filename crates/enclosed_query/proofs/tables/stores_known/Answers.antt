@@ -3,7 +3,6 @@ use Rattle.std.specs.Prelude.{slice_get}
 use Rattle.std.proofs.lemmas.Bool.{ltb-true, ltb-false}
 use Rattle.epoch_model.proofs.KeyLists.{by_test}
 use Rattle.backing_store.specs.Store.{IsStore}
-use Rattle.switch_core.specs.PlanLanes.{lane_view}
 use Rattle.switch_core.proofs.SideBySide.{got_below, same_some}
 use Rattle.enclosed_query.specs.AfterEvents.{HasStoredKeys}
 use Rattle.enclosed_query.proofs.tables.stores_known.Goals as goal
@@ -16,7 +15,7 @@ loop-i-preserved g c n lane below at =
     (λ e.
     let least = ltb-false n i e in
     let same : n ≡ i = omega (arith, below, least) in
-    let is : lane_view c.lane-lane.result.now ≡ lane = same_some (lane_view c.lane-lane.result.now) lane (sym c.lane-lane.ensures.lane ∙ (ap (slice_get c.args.pipeline.now.lanes) (sym same) ∙ at)) in
+    let is : c.lane-lane.result.now ≡ lane = same_some c.lane-lane.result.now lane (sym c.lane-lane.ensures.lane ∙ (ap (slice_get c.args.pipeline.now.lanes) (sym same) ∙ at)) in
     subst HasStoredKeys is (record { store = subst IsStore c.store.ensures c.invariant-in-loop-i.ensures; words = c.invariant.ensures.store.key }))
 
 pub returns : goal.returns

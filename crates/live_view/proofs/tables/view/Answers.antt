@@ -1,7 +1,7 @@
 use Rattle.std.proofs.Common.{◌≡◌, [], ◌∷◌, ◌++◌, Some, length, map, take, sym, ap, ◌∙◌, subst, arith, lit<}
 use Rattle.std.specs.Prelude.{slice_get}
 use Rattle.stage_plan.specs.Sound.{IsSoundPlan}
-use Rattle.switch_core.specs.PlanLanes.{StandsFor, folding_at, lane_view}
+use Rattle.switch_core.specs.PlanLanes.{StandsFor, folding_at}
 use Rattle.live_view.specs.Views.{tables_seen}
 use Rattle.live_view.proofs.Lanes.{each_long, each_at, lane_fits, seen_next, seen_whole}
 use Rattle.live_view.proofs.tables.view.Goals as goal
@@ -19,7 +19,7 @@ pub view_lane-requires : goal.view_lane-requires
 view_lane-requires g c =
     let p = c.args.p.now in
     let i = c.loop-i.i in
-    let lane = lane_view c.lane.result.now in
+    let lane = c.lane.result.now in
     let at : slice_get p.plan.groups i ≡ Some c.group.result.now = ap (λ x. slice_get x.groups i) (sym c.plan-plan.ensures) ∙ c.group.ensures in
     let fits = lane_fits p.entries p.plan p.buckets i p.lanes c.group.result.now lane c.entries_are_small.ensures (subst IsSoundPlan c.plan-plan.ensures c.invariant-2.ensures) c.invariant.ensures at c.lane.ensures.lane in
     (lit< tt, (sym fits.keys, fits.small))
@@ -28,7 +28,7 @@ pub loop-i-preserved : goal.loop-i-preserved
 loop-i-preserved g c =
     let p = c.args.p.now in
     let i = c.loop-i.i in
-    let lane = lane_view c.lane.result.now in
+    let lane = c.lane.result.now in
     let at : slice_get p.plan.groups i ≡ Some c.group.result.now = ap (λ x. slice_get x.groups i) (sym c.plan-plan.ensures) ∙ c.group.ensures in
     record {
       tables = λ machines stand.

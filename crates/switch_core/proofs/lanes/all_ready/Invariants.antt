@@ -1,8 +1,8 @@
 use Rattle.std.proofs.Common.{◌≡◌, true, map, take}
 use Rattle.std.specs.List.{list_all}
-use Rattle.switch_core.specs.PlanLanes.{lane_is_ready, lane_view}
+use Rattle.switch_core.specs.PlanLanes.{lane_is_ready}
 use Rattle.switch_core.proofs.lanes.all_ready.Given as goal
 
 -- the same of the lanes so far
 abbrev pub invariant-loop-lane : goal.invariant-loop-lane
-invariant-loop-lane g l = list_all lane_is_ready (take l.lane-index (map lane_view l.lanes)) ≡ true
+invariant-loop-lane g l = list_all lane_is_ready (take l.lane-index l.lanes) ≡ true

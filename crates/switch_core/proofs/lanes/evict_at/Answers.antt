@@ -4,9 +4,9 @@ use Rattle.epoch_model.specs.Machine.{Evict}
 use Rattle.bucket_cache.specs.Caches.{list_at}
 use Rattle.switch_core.specs.Costs.{evict_cost}
 use Rattle.switch_core.specs.Pipelines.{event_at}
-use Rattle.switch_core.specs.PlanLanes.{LanesMake, lane_view, parts_of}
-use Rattle.switch_core.proofs.SideBySide.{same_some}
-use Rattle.switch_core.proofs.LaneFacts.{got_view, set_view, make_one}
+use Rattle.switch_core.specs.PlanLanes.{LanesMake, parts_of}
+use Rattle.switch_core.proofs.SideBySide.{got_here, same_some}
+use Rattle.switch_core.proofs.LaneFacts.{make_one}
 use Rattle.switch_core.proofs.lanes.evict_at.Goals as goal
 
 pub evict-requires : goal.evict-requires
@@ -14,29 +14,32 @@ evict-requires g c =
     let at = c.args.at in
     let lanes = c.args.lanes.now in
     let lane = get_or lanes at c.index-lanes-at.result in
-    let here = got_view lanes at c.index-lanes-at.result c.requires.lane in
-    (lit< tt, (ltb-true (length lane.pipe.records) lane.pipe.places (c.requires.ready (lane_view lane) here), c.requires.range (lane_view lane) here))
+    let here = got_here lanes at c.index-lanes-at.result c.requires.lane in
+    (lit< tt, (ltb-true (length lane.pipe.records) lane.pipe.places (c.requires.ready lane here), c.requires.range lane here))
 
 pub returns-clause-makes : goal.returns-clause-makes
 returns-clause-makes g c =
     let at = c.args.at in
     let lanes = c.args.lanes.now in
     let lane = get_or lanes at c.index-lanes-at.result in
-    let new = lane_view c.evict.new.self in
-    let here = got_view lanes at c.index-lanes-at.result c.requires.lane in
-    subst (LanesMake g.row.WAYS (event_at at (Evict c.args.bucket)) (map lane_view lanes)) (sym (set_view lanes at c.evict.new.self))
-    (make_one g.row.WAYS at (Evict c.args.bucket) (map lane_view lanes) (lane_view lane) new here (record { kind = c.evict.ensures.kind; made = (parts_of new, c.evict.ensures.stands, refl) }))
+    let new = c.evict.new.self in
+    let here = got_here lanes at c.index-lanes-at.result c.requires.lane in
+    make_one g.row.WAYS at (Evict c.args.bucket) lanes lane new here
+    (record { kind = c.evict.ensures.kind; made = (parts_of new, c.evict.ensures.stands, refl) })
 
 pub returns-clause-some : goal.returns-clause-some
 returns-clause-some g c x e =
     let at = c.args.at in
     let lanes = c.args.lanes.now in
-    let same = same_some (lane_view (get_or lanes at c.index-lanes-at.result)) x (sym (got_view lanes at c.index-lanes-at.result c.requires.lane) ∙ e) in
+    let same = same_some (get_or lanes at c.index-lanes-at.result) x
+    (sym (got_here lanes at c.index-lanes-at.result c.requires.lane) ∙ e) in
     c.evict.ensures.some ∙ ap (λ v. not (length (list_at v.cache c.args.bucket) == 0)) same
 
 pub returns-clause-cost : goal.returns-clause-cost
 returns-clause-cost g c x e =
     let at = c.args.at in
     let lanes = c.args.lanes.now in
-    let same = same_some (lane_view (get_or lanes at c.index-lanes-at.result)) x (sym (got_view lanes at c.index-lanes-at.result c.requires.lane) ∙ e) in
-    subst (λ v. c.evict.new.steps ≡ c.args.steps.now + (if c.evict.result then evict_cost v.cache.key_words v.cache.entry_words else 0)) same c.evict.ensures.cost
+    let same = same_some (get_or lanes at c.index-lanes-at.result) x
+    (sym (got_here lanes at c.index-lanes-at.result c.requires.lane) ∙ e) in
+    subst (λ v. c.evict.new.steps ≡ c.args.steps.now +
+    (if c.evict.result then evict_cost v.cache.key_words v.cache.entry_words else 0)) same c.evict.ensures.cost

@@ -1,6 +1,5 @@
 use Rattle.std.proofs.Common.{◌≡◌, ◌+◌, ◌++◌, [], ◌∷◌, length, map, take, sym, ap, ◌∙◌, subst, arith, lit<, ℕ}
 use Rattle.std.proofs.lemmas.List.{length-take-le}
-use Rattle.std.proofs.lemmas.List.{map-append}
 use Rattle.std.proofs.lemmas.List.Elements.{All-append, All-cons, All-nil}
 use Rattle.epoch_model.specs.Machine.{empty_machine}
 use Rattle.epoch_entry.specs.contracts.any.AnyEpochsEpochKind.TheImpl.{ghosts}
@@ -8,40 +7,58 @@ use Rattle.stage_plan.specs.declared.group.GroupPlan.{GroupPlan}
 use Rattle.stage_plan.specs.Planned.{wiring_at}
 use Rattle.switch_core.specs.Rows.{Each, EachFrom}
 use Rattle.switch_core.specs.Pipelines.{IsLaneOf, empty_machines, geometry_of}
-use Rattle.switch_core.specs.PlanLanes.{HavePlaces, LaneView, MergesWithin, StandsFor, lane_view}
+use Rattle.switch_core.specs.PlanLanes.{HavePlaces, LaneView, MergesWithin, StandsFor}
 use Rattle.switch_core.proofs.SideBySide.{got_below, each_long}
 use Rattle.switch_core.proofs.LanesMade.{each_push, take_next, empties_push, group_sound, lane_made}
 use Rattle.switch_core.proofs.making.made_lanes.Goals as goal
 
 pub made_lane-requires : goal.made_lane-requires
 made_lane-requires g c =
-    let own = group_sound c.args.plan.now c.loop-i.i c.group.result.now c.invariant.ensures c.group.ensures in
-    (lit< tt, (c.requires.ways, (c.requires.buckets, (c.requires.places, (c.requires.pipe, (own.2.program, (own.2.some_keys, own.2.most_keys)))))))
+    let own = group_sound c.args.plan.now c.loop-i.i c.group.result.now c.invariant.ensures c.group.ensures in (
+      lit< tt,
+      (
+        c.requires.ways,
+        (
+          c.requires.buckets,
+          (c.requires.places, (c.requires.pipe, (own.2.program, (own.2.some_keys, own.2.most_keys)))),
+        ),
+      ),
+    )
 
 pub loop-i-preserved : goal.loop-i-preserved
 loop-i-preserved g c =
     let i = c.loop-i.i in
     let plan = c.args.plan.now in
     let group = c.group.result.now in
-    let lanes = map lane_view c.loop-i.lanes.items in
-    let lane = lane_view c.in_ok-lane.lane in
+    let lanes = c.loop-i.lanes.items in
+    let lane = c.in_ok-lane.lane in
     let made = c.in_ok-lane.ensures in
-    let pushed : map lane_view c.push.new.self.items ≡ lanes ++ lane ∷ [] = ap (map lane_view) c.in_ok-push.ensures.items ∙ map-append lane_view c.loop-i.lanes.items (c.in_ok-lane.lane ∷ []) in
+    let pushed : c.push.new.self.items ≡ lanes ++ lane ∷ [] = c.in_ok-push.ensures.items in
     let more : take (i + 1) plan.groups ≡ take i plan.groups ++ group ∷ [] = take_next plan.groups i group c.group.ensures in
-    let many : length lanes ≡ i = each_long _ 0 lanes (take i plan.groups) c.loop-i.invariant.lanes ∙ length-take-le i plan.groups (let b = got_below plan.groups i group c.group.ensures in omega arith) in
+    let many : length lanes ≡ i = each_long _ 0 lanes (take i plan.groups) c.loop-i.invariant.lanes ∙ length-take-le i plan.groups
+    (let b = got_below plan.groups i group c.group.ensures in omega arith) in
     let own = lane_made c.entries_suit_folds.ensures c.args.entries plan c.args.buckets i lane group c.invariant.ensures c.group.ensures made.buckets made.keys made.kind in
-    let R : ℕ → LaneView → GroupPlan → Type 0 = λ n l x. IsLaneOf c.args.entries c.args.buckets l.cache (ghosts.sizes l.kind) (ghosts.folding l.kind) (ghosts.open_bound l.kind) (ghosts.absorb_bound l.kind) x (wiring_at plan n) in
-    let empties : empty_machines (geometry_of g.row.WAYS c.args.buckets) (take (i + 1) plan.groups) ≡ empty_machines (geometry_of g.row.WAYS c.args.buckets) (take i plan.groups) ++ empty_machine (geometry_of g.row.WAYS c.args.buckets) ∷ [] =
-    ap (empty_machines (geometry_of g.row.WAYS c.args.buckets)) more ∙ empties_push (geometry_of g.row.WAYS c.args.buckets) (take i plan.groups) group in
+    let R : ℕ → LaneView → GroupPlan → Type 0 = λ n l x. IsLaneOf c.args.entries c.args.buckets l.cache (ghosts.sizes l.kind)
+    (ghosts.folding l.kind) (ghosts.open_bound l.kind) (ghosts.absorb_bound l.kind) x (wiring_at plan n) in
+    let empties : empty_machines (geometry_of g.row.WAYS c.args.buckets) (take (i + 1) plan.groups) ≡ empty_machines
+    (geometry_of g.row.WAYS c.args.buckets) (take i plan.groups) ++ empty_machine (geometry_of g.row.WAYS c.args.buckets) ∷ [] =
+    ap (empty_machines (geometry_of g.row.WAYS c.args.buckets)) more ∙ empties_push (geometry_of g.row.WAYS c.args.buckets)
+    (take i plan.groups) group in
     let has_places : LaneView → Type 0 = λ l. l.pipe.places ≡ c.args.pipe_records in
     record {
-      lanes = subst (λ ls. EachFrom R 0 ls (take (i + 1) plan.groups)) (sym pushed) (subst (λ gs. EachFrom R 0 (lanes ++ lane ∷ []) gs) (sym more)
-          (each_push R 0 lanes (take i plan.groups) lane group c.loop-i.invariant.lanes (λ n q. let is : i ≡ n = omega arith in subst (λ k. R k lane group) is own)));
-      merges = subst (λ ls. Each MergesWithin ls (take (i + 1) plan.groups)) (sym pushed) (subst (λ gs. Each MergesWithin (lanes ++ lane ∷ []) gs) (sym more)
+      lanes = subst (λ ls. EachFrom R 0 ls (take (i + 1) plan.groups)) (sym pushed)
+          (subst (λ gs. EachFrom R 0 (lanes ++ lane ∷ []) gs) (sym more)
+          (each_push R 0 lanes (take i plan.groups) lane group c.loop-i.invariant.lanes
+          (λ n q. let is : i ≡ n = omega arith in subst (λ k. R k lane group) is own)));
+      merges = subst (λ ls. Each MergesWithin ls (take (i + 1) plan.groups)) (sym pushed)
+          (subst (λ gs. Each MergesWithin (lanes ++ lane ∷ []) gs) (sym more)
           (each_push (λ n. MergesWithin) 0 lanes (take i plan.groups) lane group c.loop-i.invariant.merges (λ n q. made.merges)));
       pipe_places = subst (HavePlaces c.args.pipe_records) (sym pushed)
-          (All-append has_places lanes (lane ∷ []) c.loop-i.invariant.pipe_places (All-cons has_places lane [] made.pipe_places (All-nil has_places)));
-      stands = subst (λ ls. Each StandsFor ls (empty_machines (geometry_of g.row.WAYS c.args.buckets) (take (i + 1) plan.groups))) (sym pushed)
+          (All-append has_places lanes (lane ∷ []) c.loop-i.invariant.pipe_places
+          (All-cons has_places lane [] made.pipe_places (All-nil has_places)));
+      stands = subst (λ ls. Each StandsFor ls (empty_machines (geometry_of g.row.WAYS c.args.buckets) (take (i + 1) plan.groups)))
+          (sym pushed)
           (subst (λ ms. Each StandsFor (lanes ++ lane ∷ []) ms) (sym empties)
-          (each_push (λ n. StandsFor) 0 lanes (empty_machines (geometry_of g.row.WAYS c.args.buckets) (take i plan.groups)) lane (empty_machine (geometry_of g.row.WAYS c.args.buckets)) c.loop-i.invariant.stands (λ n q. made.stands)));
+          (each_push (λ n. StandsFor) 0 lanes (empty_machines (geometry_of g.row.WAYS c.args.buckets) (take i plan.groups)) lane
+          (empty_machine (geometry_of g.row.WAYS c.args.buckets)) c.loop-i.invariant.stands (λ n q. made.stands)));
     }

@@ -1,14 +1,13 @@
 -- Each table is that of the epochs of its lane's machine, since all of them are merged.
 use Rattle.std.proofs.Common.{◌≡◌, ◌++◌, [], ◌∷◌, Some, length, map, take, sym, ap, ◌∙◌, subst, arith}
-use Rattle.std.proofs.lemmas.List.{length-map}
 use Rattle.std.proofs.Math.Facts.{Fits-below}
 use Rattle.std.specs.Prelude.{slice_get}
 use Rattle.epoch_entry.specs.contracts.any.AnyEpochsEpochKind.TheImpl.{ghosts}
 use Rattle.merged_epochs.specs.Merged.{StoreHolds}
 use Rattle.switch_core.specs.Pipelines.{tables_of}
-use Rattle.switch_core.specs.PlanLanes.{StandsFor, folding_at, lane_is_drained, lane_view}
-use Rattle.switch_core.proofs.SideBySide.{same_some, each_long, each_at}
-use Rattle.switch_core.proofs.LaneFacts.{got_view, all_at}
+use Rattle.switch_core.specs.PlanLanes.{StandsFor, folding_at, lane_is_drained}
+use Rattle.switch_core.proofs.SideBySide.{got_here, each_long, each_at}
+use Rattle.switch_core.proofs.LaneFacts.{all_at}
 use Rattle.switch_core.proofs.LaneTables.{drained_holds, tables_next, tables_whole}
 use Rattle.switch_core.proofs.LanesMade.{group_sound}
 use Rattle.switch_core.proofs.tables.lane_tables.Goals as goal
@@ -16,13 +15,13 @@ use Rattle.switch_core.proofs.tables.lane_tables.Goals as goal
 pub overflow_cast-i : goal.overflow_cast-i
 overflow_cast-i g c =
     let many = c.invariant.ensures.most_groups in
-    let long : length c.args.lanes.now ≡ length c.args.plan.now.groups = sym (length-map c.args.lanes.now lane_view) ∙ each_long _ 0 (map lane_view c.args.lanes.now) c.args.plan.now.groups c.requires.lanes.2 in
+    let long : length c.args.lanes.now ≡ length c.args.plan.now.groups = each_long _ 0 c.args.lanes.now c.args.plan.now.groups c.requires.lanes.2 in
     let below = c.loop-i-test.true in
     Fits-below {n = 8} tt (omega arith)
 
 pub group-requires : goal.group-requires
 group-requires g c =
-    let long : length c.args.lanes.now ≡ length c.args.plan.now.groups = sym (length-map c.args.lanes.now lane_view) ∙ each_long _ 0 (map lane_view c.args.lanes.now) c.args.plan.now.groups c.requires.lanes.2 in
+    let long : length c.args.lanes.now ≡ length c.args.plan.now.groups = each_long _ 0 c.args.lanes.now c.args.plan.now.groups c.requires.lanes.2 in
     let below = c.loop-i-test.true in
     omega arith
 
@@ -34,13 +33,15 @@ held_table-requires g c =
 pub loop-i-preserved : goal.loop-i-preserved
 loop-i-preserved g c machines stand =
     let i = c.loop-i.i in
-    let lanes = map lane_view c.args.lanes.now in
-    let lane = lane_view c.index-lanes-i.result in
-    let here : slice_get lanes i ≡ Some lane = got_view c.args.lanes.now i c.index-lanes-i.result c.loop-i-test.true ∙ ap (λ l. Some (lane_view l)) (sym c.index-lanes-i.is) in
+    let lanes = c.args.lanes.now in
+    let lane = c.index-lanes-i.result in
+    let here : slice_get lanes i ≡ Some lane = got_here c.args.lanes.now i c.index-lanes-i.result c.loop-i-test.true ∙ ap (λ l. Some l)
+    (sym c.index-lanes-i.is) in
     let found = each_at (λ n. StandsFor) 0 i lanes machines lane stand here in
     let drained = all_at lane_is_drained lanes i lane c.requires.drained here in
     let held : StoreHolds (folding_at lane) c.store.result.now found.0.closed =
-    subst (λ store. StoreHolds (folding_at lane) store found.0.closed) (sym c.store.ensures) (drained_holds lane found.0 drained (found.2 i (omega arith))) in
+    subst (λ store. StoreHolds (folding_at lane) store found.0.closed) (sym c.store.ensures)
+    (drained_holds lane found.0 drained (found.2 i (omega arith))) in
     let each : (folding_at lane).row_per_epoch ≡ c.row_per_epoch-row_per_epoch.result =
     sym (c.row_per_epoch-row_per_epoch.ensures ∙ ap (λ k. (ghosts.folding k).row_per_epoch) c.kind.ensures) in
     let table = c.in_ok-held_table.ensures (folding_at lane) found.0.closed each held in
@@ -50,7 +51,6 @@ loop-i-preserved g c machines stand =
 
 pub returns : goal.returns
 returns g c machines stand =
-    let lanes = map lane_view c.args.lanes.now in
-    let long = length-map c.args.lanes.now lane_view in
+    let lanes = c.args.lanes.now in
     let end = c.loop-i-test.false in
     c.loop-i.invariant machines stand ∙ tables_whole c.args.plan.now.groups lanes machines c.loop-i.i (omega arith)

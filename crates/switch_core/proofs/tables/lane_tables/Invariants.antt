@@ -2,10 +2,10 @@ use Rattle.std.proofs.Common.{◌≡◌, List, map, take}
 use Rattle.epoch_model.specs.Machine.{Machine}
 use Rattle.switch_core.specs.Rows.{Each}
 use Rattle.switch_core.specs.Pipelines.{tables_of}
-use Rattle.switch_core.specs.PlanLanes.{StandsFor, folding_at, lane_view}
+use Rattle.switch_core.specs.PlanLanes.{StandsFor, folding_at}
 use Rattle.switch_core.proofs.tables.lane_tables.Given as goal
 
 -- the tables of the lanes so far
 abbrev pub invariant-loop-i : goal.invariant-loop-i
-invariant-loop-i g l = (machines : List Machine) → Each StandsFor (map lane_view l.lanes) machines
-    → l.tables ≡ take l.i (tables_of l.plan.groups (map folding_at (map lane_view l.lanes)) machines)
+invariant-loop-i g l = (machines : List Machine) → Each StandsFor l.lanes machines
+    → l.tables ≡ take l.i (tables_of l.plan.groups (map folding_at l.lanes) machines)

@@ -1,15 +1,18 @@
-use Rattle.std.proofs.Common.{◌≡◌, ◌+◌, ◌-◌, ◌<◌, false, take, length, refl, sym, ap, ◌∙◌, subst, lit<, length-set, arith}
-use Rattle.std.specs.Prelude.{not, ◌==◌}
+-- An eviction pushes the record of the least recently used pair and drops the pair, or finds no pair.
+use Rattle.std.proofs.Common.{◌≡◌, ℕ, ◌+◌, ◌-◌, ◌<◌, false, take, length, refl, sym, ap, ◌∙◌, subst, lit<, length-append, length-set, arith, if◌then◌else◌}
+use Rattle.std.specs.Prelude.{nat_lt, not, ◌==◌}
+use Rattle.std.proofs.lemmas.Bool.{lt-ltb, le-ltb}
 use Rattle.epoch_model.specs.Machine.{Evict, evict}
 use Rattle.bucket_cache.specs.Caches.{list_at, with_list}
 use Rattle.switch_core.specs.Costs.{evict_cost}
 use Rattle.switch_core.specs.FrontParts.{front_of}
 use Rattle.switch_core.specs.FrontEvents.{FrontMakes}
 use Rattle.switch_core.specs.Lanes.{FrontStands, PipeStands}
-use Rattle.switch_core.proofs.CacheSteps.{least_within, some_least, none_least, drop_stands, evict_none}
+use Rattle.switch_core.proofs.CacheSteps.{least_pair, least_within, some_least, none_least, drop_stands, evict_none}
 use Rattle.switch_core.proofs.PipeSteps.{pipe_evicted}
 use Rattle.switch_core.proofs.LaneSteps.{evict_merged_same}
 use Rattle.switch_core.proofs.Drained.{nothing_taken}
+use Rattle.switch_core.proofs.Carrying.{carries_evict}
 use Rattle.switch_core.proofs.front.Front.evict.Goals as goal
 
 pub push_pair-requires : goal.push_pair-requires
@@ -28,18 +31,21 @@ returns-in-Some-clause-makes g c =
     let stands = g.K.EpochKind.stands old.kind in
     let some = some_least (list_at old.cache c.args.bucket) c.in-Some.place c.in-Some.ensures.place in
     let new = front_of old.kind c.drop_entry.new.self c.push_pair.new.pipe in
-    let range : c.args.bucket < length old.cache.lists = subst (λ x. c.args.bucket < length x.cache.lists) (sym c.self.view_is) c.requires.range in
+    let range : c.args.bucket < length old.cache.lists = subst (λ x. c.args.bucket < length x.cache.lists)
+    (sym c.self.view_is) c.requires.range in
     subst (λ x. FrontMakes (g.K.EpochKind.stands x.kind) g.row.WAYS (Evict c.args.bucket) x new) c.self.view_is
     record {
       stands = λ m s. record {
         cached = drop_stands stands old.cache c.drop_entry.new.self c.args.bucket range some c.drop_entry.ensures.pairs m s.cached;
-        piped = subst (λ n. PipeStands stands n c.push_pair.new.pipe.records (evict m c.args.bucket)) (sym (ap (λ x. x.key_words) c.drop_entry.ensures.pairs))
+        piped = subst (λ n. PipeStands stands n c.push_pair.new.pipe.records (evict m c.args.bucket))
+            (sym (ap (λ x. x.key_words) c.drop_entry.ensures.pairs))
             (pipe_evicted stands g.row.WAYS old.cache c.args.bucket c.in-Some.place old.pipe.records c.push_pair.new.pipe.records c.in-Some.ensures.sound some (sym c.in-Some.ensures.place) c.push_pair.ensures.pushed m s.cached s.few s.piped);
         few = (evict_merged_same m c.args.bucket s.few).1;
       };
       kind = refl;
       buckets = ap (λ x. length x.lists) c.drop_entry.ensures.pairs ∙ length-set old.cache.lists c.args.bucket _;
       key_words = ap (λ x. x.key_words) c.drop_entry.ensures.pairs;
+      entry_words = ap (λ x. x.entry_words) c.drop_entry.ensures.pairs;
       places = ap (λ p. p.places) c.push_pair.ensures.rest;
     }
 
@@ -54,6 +60,7 @@ returns-in-None-clause-makes g c =
       kind = refl;
       buckets = refl;
       key_words = refl;
+      entry_words = refl;
       places = refl;
     }
 
@@ -65,7 +72,9 @@ returns-in-None-clause-some g c =
 pub returns-in-None-clause-cache : goal.returns-in-None-clause-cache
 returns-in-None-clause-cache g c =
     let none = none_least (list_at c.self.inside.cache c.args.bucket) c.in-None.ensures.place in
-    subst (λ x. x.cache ≡ with_list x.cache c.args.bucket (take (length (list_at x.cache c.args.bucket) - 1) (list_at x.cache c.args.bucket))) c.self.view_is (nothing_taken c.self.inside.cache c.args.bucket none)
+    subst (λ x. x.cache ≡ with_list x.cache c.args.bucket
+    (take (length (list_at x.cache c.args.bucket) - 1) (list_at x.cache c.args.bucket))) c.self.view_is
+    (nothing_taken c.self.inside.cache c.args.bucket none)
 
 pub returns-in-Some-clause-cost : goal.returns-in-Some-clause-cost
 returns-in-Some-clause-cost g c =
@@ -73,3 +82,39 @@ returns-in-Some-clause-cost g c =
     let pushed = c.push_pair.ensures.cost in
     let dropped = c.drop_entry.ensures.cost in
     subst (λ x. c.drop_entry.new.steps ≡ c.args.steps.now + evict_cost x.cache.key_words x.cache.entry_words) c.self.view_is (omega arith)
+
+pub returns-in-Some-clause-records : goal.returns-in-Some-clause-records
+returns-in-Some-clause-records g c =
+    let old = c.self.inside in
+    let list = list_at old.cache c.args.bucket in
+    let found = least_pair list c.in-Some.place c.in-Some.ensures.place in
+    let pushed = c.push_pair.ensures.pushed c.args.bucket (length list - 1) found.0 found.1 found.2 in
+    subst (λ x. length c.push_pair.new.pipe.records ≡ length x.pipe.records + 1) c.self.view_is
+    (ap length pushed ∙ length-append old.pipe.records _)
+
+pub returns-in-Some-clause-carries : goal.returns-in-Some-clause-carries
+returns-in-Some-clause-carries g c store =
+    let old = c.args.self.now in
+    let list = list_at old.cache c.args.bucket in
+    let new = front_of c.self.inside.kind c.drop_entry.new.self c.push_pair.new.pipe in
+    let found : 0 < length list =
+    subst (λ x. 0 < length (list_at x.cache c.args.bucket)) c.self.view_is
+    (some_least (list_at c.self.inside.cache c.args.bucket) c.in-Some.place c.in-Some.ensures.place) in
+    let more : ℕ = if nat_lt 0 (length list) then 1 else 0 in
+    let one : more ≡ 1 = let t = lt-ltb 0 (length list) found in rw t refl in
+    carries_evict g.K.EpochKind.stands g.K.EpochKind.folding g.row.WAYS c.args.bucket old new (returns-in-Some-clause-makes g c)
+    (subst (λ x. c.drop_entry.new.self ≡ with_list x.cache c.args.bucket
+    (take (length (list_at x.cache c.args.bucket) - 1) (list_at x.cache c.args.bucket))) c.self.view_is c.drop_entry.ensures.pairs)
+    (returns-in-Some-clause-records g c ∙ ap (λ n. length old.pipe.records + n) (sym one)) (λ none. absurd (omega arith)) store
+
+pub returns-in-None-clause-carries : goal.returns-in-None-clause-carries
+returns-in-None-clause-carries g c store =
+    let old = c.args.self.now in
+    let list = list_at old.cache c.args.bucket in
+    let none : length list ≡ 0 =
+    subst (λ x. length (list_at x.cache c.args.bucket) ≡ 0) c.self.view_is
+    (none_least (list_at c.self.inside.cache c.args.bucket) c.in-None.ensures.place) in
+    let more : ℕ = if nat_lt 0 (length list) then 1 else 0 in
+    let zero : more ≡ 0 = let t = le-ltb 0 (length list) (omega arith) in rw t refl in
+    carries_evict g.K.EpochKind.stands g.K.EpochKind.folding g.row.WAYS c.args.bucket old old (returns-in-None-clause-makes g c)
+    (returns-in-None-clause-cache g c) (omega (arith, zero)) (λ h. refl) store

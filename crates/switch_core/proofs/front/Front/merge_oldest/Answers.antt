@@ -20,6 +20,7 @@ returns-clause-makes g c =
       kind = refl;
       buckets = refl;
       key_words = refl;
+      entry_words = refl;
       places = ap (λ p. p.places) c.drop_front.ensures;
     }
 

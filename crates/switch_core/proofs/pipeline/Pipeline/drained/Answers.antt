@@ -1,11 +1,12 @@
 use Rattle.std.proofs.Common.{◌≡◌, true, map, sym, ap, ◌∙◌, subst}
 use Rattle.std.specs.List.{list_all}
-use Rattle.switch_core.specs.PlanLanes.{lane_is_drained, lane_view}
+use Rattle.switch_core.specs.PlanLanes.{lane_is_drained}
 use Rattle.switch_core.proofs.LaneTables.{all_done}
 use Rattle.switch_core.proofs.pipeline.Pipeline.drained.Goals as goal
 
 pub returns-clause-done : goal.returns-clause-done
 returns-clause-done g c t machines stand =
-    let seen : map lane_view c.deref.result.now ≡ c.args.self.now.lanes = ap (map lane_view) c.deref.ensures.value ∙ ap (λ v. v.lanes) c.self.view_is in
-    let drained : list_all lane_is_drained c.args.self.now.lanes ≡ true = subst (λ ls. list_all lane_is_drained ls ≡ true) seen (sym c.all_drained.ensures ∙ t) in
+    let seen : c.deref.result.now ≡ c.args.self.now.lanes = c.deref.ensures.value ∙ ap (λ v. v.lanes) c.self.view_is in
+    let drained : list_all lane_is_drained c.args.self.now.lanes ≡ true = subst (λ ls. list_all lane_is_drained ls ≡ true) seen
+    (sym c.all_drained.ensures ∙ t) in
     all_done 0 c.args.self.now.lanes machines drained stand

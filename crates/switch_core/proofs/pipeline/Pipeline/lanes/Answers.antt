@@ -1,7 +1,7 @@
 use Rattle.std.proofs.Common.{length, map, sym, ap, ◌∙◌}
-use Rattle.switch_core.specs.PlanLanes.{lane_view}
 use Rattle.switch_core.proofs.SideBySide.{each_long}
 use Rattle.switch_core.proofs.pipeline.Pipeline.lanes.Goals as goal
 
 pub returns : goal.returns
-returns g c = c.groups.ensures ∙ (sym (each_long _ 0 (map lane_view c.self.inside.lanes.items) c.self.inside.plan.groups c.self.invariant.lanes) ∙ ap (λ v. length v.lanes) c.self.view_is)
+returns g c = c.groups.ensures ∙ (sym (each_long _ 0 c.self.inside.lanes.items c.self.inside.plan.groups c.self.invariant.lanes) ∙ ap
+    (λ v. length v.lanes) c.self.view_is)

@@ -1,0 +1,23 @@
+use Rattle.std.proofs.Common.{◌≡◌, ◌+◌, ◌*◌, ◌≤◌, ◌<◌, ℕ, length}
+use Rattle.bucket_cache.specs.Caches.{list_at}
+use Rattle.switch_core.specs.Closing.{held_in}
+use Rattle.switch_core.specs.Costs.{evict_cost, merge_cost}
+use Rattle.switch_core.specs.FrontEvents.{CarriesUpTo, KeepsSizes, with_store}
+use Rattle.switch_core.specs.Upkeeps.{sweep_from}
+use Rattle.switch_core.proofs.upkeep.empty_cache.Given as goal
+
+-- the buckets below this one are empty
+abbrev pub invariant-loop-bucket : goal.invariant-loop-bucket
+invariant-loop-bucket g l =
+    let first = l.initial.front in
+    let evicting = evict_cost first.cache.key_words first.cache.entry_words in
+    let merging = merge_cost first.cache.key_words first.cache.entry_words (g.K.EpochKind.merge_bound first.kind) in
+    record {
+      carries : CarriesUpTo g.K.EpochKind.stands g.K.EpochKind.folding g.row.WAYS (sweep_from 0 first.cache first.pipe)
+          (sweep_from l.bucket l.front.cache l.front.pipe) (with_store first l.initial.store) (with_store l.front l.store);
+      empty : (other : ℕ) → other < l.bucket → length (list_at l.front.cache other) ≡ 0;
+      sizes : KeepsSizes (with_store first l.initial.store) (with_store l.front l.store);
+      later : l.initial.steps ≤ l.steps;
+      cost : l.steps + held_in l.front.cache * (evicting + merging) ≤ l.initial.steps +
+          (held_in first.cache * (evicting + merging) + l.bucket * merging);
+    }

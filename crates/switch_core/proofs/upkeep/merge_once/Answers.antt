@@ -1,0 +1,15 @@
+-- One merge, as the front makes it.
+use Rattle.std.proofs.Common.{refl}
+use Rattle.switch_core.specs.FrontEvents.{with_store}
+use Rattle.switch_core.proofs.Carrying.{keeps_same}
+use Rattle.switch_core.proofs.upkeep.merge_once.Goals as goal
+
+pub returns-clause-carries : goal.returns-clause-carries
+returns-clause-carries g c = (with_store c.merge_into.new.self c.merge_into.new.store, c.in_ok-_merged.ensures.carries, refl)
+
+pub returns-clause-sizes : goal.returns-clause-sizes
+returns-clause-sizes g c = c.in_ok-_merged.ensures.carries.sizes
+
+pub returns-in_err-_merged-clause-sizes : goal.returns-in_err-_merged-clause-sizes
+returns-in_err-_merged-clause-sizes g c =
+    keeps_same c.args.front.now c.merge_into.new.self c.args.store.now c.merge_into.new.store c.in_err-_merged.ensures.err
