@@ -1,12 +1,12 @@
 -- The events of a sweep lead a machine to one whose buckets were emptied.
-use Rattle.std.proofs.Common.{◌≡◌, ℕ, zero, suc, ◌+◌, ◌-◌, ◌<◌, ◌≤◌, true, false, List, [], ◌∷◌, ◌++◌, length, map, take, get_or, refl, sym, ap, ◌∙◌, subst}
-use Rattle.std.proofs.Common.{arith, length-take-le, if◌then◌else◌}
+use Rattle.std.proofs.Common.{◌≡◌, ℕ, zero, suc, ◌+◌, ◌-◌, ◌<◌, true, false, List, [], ◌∷◌, ◌++◌, length, map, get_or, refl, sym, ap, ◌∙◌, subst}
+use Rattle.std.proofs.Common.{arith, length-take-le}
 use Rattle.std.specs.Prelude.{nat_lt}
 use Rattle.std.proofs.lemmas.Bool.{lt-ltb, le-ltb}
 use Rattle.epoch_model.specs.Driving.{EventsKeepAlike, BucketsEmptyByEvictions}
 use Rattle.epoch_model.specs.Epochs.{Geometry}
 use Rattle.epoch_model.specs.Laws.{SameEpochs}
-use Rattle.epoch_model.specs.Machine.{Epoch, Machine, Event, Evict, Merge, all_but_last, empty_bucket, empty_buckets, evict, merge, open_in, run, step}
+use Rattle.epoch_model.specs.Machine.{Epoch, Machine, Event, Evict, Merge, empty_bucket, empty_buckets, evict, merge, open_in, run, step}
 use Rattle.epoch_model.proofs.MachineSteps.{evict_empty}
 use Rattle.epoch_model.proofs.PacketSteps.{evict-open_same, evict-open_other}
 use Rattle.bucket_cache.specs.Buckets.{Pair}

@@ -1,5 +1,5 @@
 -- What contracts see of a pipeline.
-use Rattle.std.specs.Prelude.{◌≡◌, ℕ, ◌+◌, ◌*◌, ◌<◌, ◌≤◌, Bool, List, [], length, map, nat_lt, slice_get}
+use Rattle.std.specs.Prelude.{◌≡◌, ℕ, ◌+◌, ◌*◌, ◌≤◌, Bool, List, [], length, map, nat_lt, slice_get}
 use Rattle.std.specs.Prelude.{sum_by, Option, Some, None, true, ◌==◌, if◌then◌else◌}
 use Rattle.std.specs.List.{All, list_all}
 use Rattle.epoch_model.specs.Machine.{Machine, Event, empty_buckets}
@@ -12,9 +12,6 @@ use Rattle.epoch_entry.specs.Foldings.{merge_bound}
 use Rattle.fold_class.specs.Program.{IsProgramOf}
 use Rattle.query_lang.specs.declared.fold.TypedFold.{TypedFold}
 use Rattle.stage_plan.specs.declared.group.GroupPlan.{GroupPlan}
-use Rattle.bucket_cache.specs.Caches.{Cache}
-use Rattle.evict_pipe.specs.Pipes.{Pipe}
-use Rattle.backing_store.specs.Store.{Store}
 use Rattle.stage_plan.specs.Planned.{registers_of, wiring_at}
 use Rattle.stage_plan.specs.Sound.{PlanParts}
 use Rattle.switch_core.specs.FrontParts.{LaneOf}

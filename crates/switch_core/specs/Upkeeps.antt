@@ -1,5 +1,5 @@
 -- What keeps a front in order beside its packets: the events of each kind of upkeep, what they leave, and what they cost.
-use Rattle.std.specs.Prelude.{◌≡◌, ℕ, zero, suc, ◌+◌, ◌-◌, ◌*◌, ◌<◌, Bool, true, false, List, [], ◌∷◌, ◌++◌, length, map, nat_lt}
+use Rattle.std.specs.Prelude.{◌≡◌, ℕ, suc, ◌+◌, ◌-◌, ◌*◌, ◌<◌, Bool, true, false, List, [], ◌∷◌, ◌++◌, length, map, nat_lt}
 use Rattle.std.specs.Prelude.{replicate, drop, if◌then◌else◌}
 use Rattle.epoch_model.specs.Machine.{Event, Evict, Merge}
 use Rattle.bucket_cache.specs.Caches.{Cache}

@@ -1,6 +1,6 @@
 //! Lanes side by side.
 
-ghost use Rattle.std.specs.Prelude.{◌≡◌, ◌+◌, ◌<◌, ◌≤◌, ◌==◌, ◌↔◌, ℕ, true, not, length, map, slice_get};
+ghost use Rattle.std.specs.Prelude.{◌≡◌, ◌+◌, ◌<◌, ◌≤◌, ◌==◌, ◌↔◌, ℕ, true, not, length};
 ghost use Rattle.std.specs.Prelude.{sum_by, if◌then◌else◌, OnOk, OnErr};
 ghost use Rattle.std.specs.List.{list_all};
 ghost use Rattle.epoch_model.specs.Machine.{Evict, Merge};
@@ -11,9 +11,8 @@ ghost use Rattle.stage_plan.specs.Registers.{taken_at};
 ghost use Rattle.bucket_cache.specs.Caches.{list_at};
 ghost use Rattle.switch_core.specs.Closing.{is_drained};
 ghost use Rattle.switch_core.specs.Costs.{evict_cost};
-ghost use Rattle.switch_core.specs.Rows.{Each};
 ghost use Rattle.switch_core.specs.Pipelines.{event_at};
-ghost use Rattle.switch_core.specs.PlanLanes.{AreKept, AreLanesOf, AtLane, LaneMakes, LanesBreakOff, LanesMake, LaneView};
+ghost use Rattle.switch_core.specs.PlanLanes.{AreKept, AreLanesOf, AtLane, LaneMakes, LanesBreakOff, LanesMake};
 ghost use Rattle.switch_core.specs.PlanLanes.{lane_cost, lane_is_ready, lane_merge_cost, lane_upkeep_cost, upkeeps_at};
 
 use crate::front::Merged;

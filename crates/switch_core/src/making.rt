@@ -1,6 +1,6 @@
 //! The lanes of a plan's groupbys.
 
-ghost use Rattle.std.specs.Prelude.{◌≡◌, ◌*◌, ◌<◌, ◌≤◌, length, map, IfOk};
+ghost use Rattle.std.specs.Prelude.{◌≡◌, ◌*◌, ◌<◌, ◌≤◌, length, IfOk};
 ghost use Rattle.fold_class.specs.Program.{IsProgram, IsProgramOf};
 ghost use Rattle.query_lang.specs.declared.fold.TypedFold.{TypedFold};
 ghost use Rattle.epoch_model.specs.Machine.{empty_machine};

@@ -1,5 +1,6 @@
 -- Pipelines whose lanes are swept and whose pipes are empty.
-use Rattle.std.proofs.Common.{◌≡◌, ℕ, suc, ◌==◌, ◌&&◌, true, List, [], ◌∷◌, length, get_or, refl, ap, ◌∙◌, subst, arith}
+use Rattle.std.proofs.Common.{◌≡◌, ℕ, suc, ◌-◌, ◌==◌, ◌&&◌, true, List, [], ◌∷◌, length, drop, get_or, refl, ap, ◌∙◌, subst, arith}
+use Rattle.std.proofs.lemmas.List.{length-drop}
 use Rattle.std.specs.List.{list_all, sum_by}
 use Rattle.std.proofs.lemmas.List.Elements.{All-cons, All-head, All-nil, All-tail}
 use Rattle.std.proofs.lemmas.List.Sums.{sum_by-cons}
@@ -15,21 +16,32 @@ use Rattle.stage_plan.specs.Planned.{wiring_at}
 use Rattle.stage_plan.specs.Sound.{PlanParts}
 use Rattle.stage_plan.specs.declared.group.GroupPlan.{GroupPlan}
 use Rattle.switch_core.specs.Closing.{held_in, is_drained}
-use Rattle.switch_core.specs.Lanes.{PairStands, PairsStand}
+use Rattle.switch_core.specs.Lanes.{PairStands, PairsStand, RecordsStand, Standing}
 use Rattle.switch_core.specs.Pipelines.{IsLaneOf}
-use Rattle.switch_core.specs.PlanLanes.{AreLanesOf, HavePlaces, LaneView, PipelineView, PipelineStands, StandsFor, places_of}
+use Rattle.switch_core.specs.PlanLanes.{AreKept, AreLanesOf, HavePlaces, LaneView, PipelineView, PipelineStands, StandsFor, places_of}
 use Rattle.switch_core.specs.Rows.{EachFrom}
+use Rattle.switch_core.specs.declared.upkeep.Upkeep.TheVariants as due
 use Rattle.trace_drive.specs.Drives.{end_machines, ends_from, uses_by}
-use Rattle.trace_drive.specs.Follows.{AlikeFrom, FollowsBy, Keeps, waiting}
+use Rattle.trace_drive.specs.Follows.{AlikeFrom, FollowsBy, Keeps}
 use Rattle.trace_drive.proofs.Following.{follows_as}
-use Rattle.trace_drive.proofs.Waiting.{piped}
+
+records_long : (means : Standing) (key_words : ℕ) (records : List (List ℕ)) (epochs : List Epoch) → RecordsStand means key_words records epochs → length records ≡ length epochs
+records_long means key_words [] [] s = refl
+records_long means key_words [] (e ∷ epochs) s = absurd s
+records_long means key_words (r ∷ records) [] s = absurd s
+records_long means key_words (r ∷ records) (e ∷ epochs) s = ap (λ n. suc n) (records_long means key_words records epochs s.1)
+
+-- as many records as there are closed epochs that aren't merged
+piped : (lane : LaneView) (m : Machine) → StandsFor lane m → length lane.pipe.records ≡ length m.closed - m.merged
+piped lane m s =
+    records_long (ghosts.stands lane.kind) lane.cache.key_words lane.pipe.records (drop m.merged m.closed) s.front.piped ∙ length-drop m.merged m.closed
 
 -- the machine of the groupby with this number, swept after the last packet
 abbrev last : PlanParts → Geometry → List (List ℕ) → ℕ → Machine
 last plan g words i = empty_buckets g.buckets (after_packets g (uses_by plan i words) (length words))
 
 ends_reached : SweepsReachTheEnd → (plan : PlanParts) (g : Geometry) (words : List (List ℕ)) (i k : ℕ) (lanes : List LaneView) (machines : List Machine) (groups : List GroupPlan)
-    → length lanes ≡ length groups → EachFrom (λ n. StandsFor) k lanes machines → AlikeFrom (last plan g words) i machines → ((lane : ℕ) → waiting lanes lane ≡ 0)
+    → length lanes ≡ length groups → EachFrom (λ n. StandsFor) k lanes machines → AlikeFrom (last plan g words) i machines → AreKept due.Rest lanes
     → EachFrom (λ n. StandsFor) k lanes (ends_from plan g words i groups)
 ends_reached law plan g words i k [] machines [] long s a none = tt
 ends_reached law plan g words i k [] machines (group ∷ groups) long s a none = absurd (omega arith)
@@ -37,15 +49,15 @@ ends_reached law plan g words i k (lane ∷ lanes) machines [] long s a none = a
 ends_reached law plan g words i k (lane ∷ lanes) [] (group ∷ groups) long s a none = absurd s
 ends_reached law plan g words i k (lane ∷ lanes) (m ∷ machines) (group ∷ groups) long s a none =
     let left = piped lane m s.0 in
-    let here = none 0 in
+    let here = none 0 lane refl in
     let few = s.0.front.few in
     let merged : m.merged ≡ length m.closed = omega arith in (
       subst (StandsFor lane) (law.whole g (uses_by plan i words) (length words) m a.0 merged) s.0,
-      ends_reached law plan g words (suc i) (suc k) lanes machines groups (omega arith) s.1 a.1 (λ lane. none (suc lane)),
+      ends_reached law plan g words (suc i) (suc k) lanes machines groups (omega arith) s.1 a.1 (λ n at e. none (suc n) at e),
     )
 
 end_reached : SweepsReachTheEnd → (g : Geometry) (words : List (List ℕ)) (plan : PlanParts) (p : PipelineView) → length p.lanes ≡ length plan.groups → FollowsBy (last plan g words) p
-    → ((lane : ℕ) → waiting p.lanes lane ≡ 0) → PipelineStands p (end_machines plan g words)
+    → AreKept due.Rest p.lanes → PipelineStands p (end_machines plan g words)
 end_reached law g words plan p long f none = ends_reached law plan g words 0 0 p.lanes f.machines plan.groups long f.stands f.alike none
 
 pairs_long : (R : Pair → Epoch → Type 0) (pairs : List Pair) (epochs : List Epoch) → PairsStand R pairs epochs → length pairs ≡ length epochs
@@ -70,15 +82,15 @@ both_zero : (a b : ℕ) → a ≡ 0 → b ≡ 0 → ((a == 0) && (b == 0)) ≡ t
 both_zero a b e f = rw (e, f) refl
 
 drained_from : SweepsReachTheEnd → (plan : PlanParts) (g : Geometry) (words : List (List ℕ)) (i k : ℕ) (lanes : List LaneView) (groups : List GroupPlan)
-    → EachFrom (λ n. StandsFor) k lanes (ends_from plan g words i groups) → ((lane : ℕ) → waiting lanes lane ≡ 0) → list_all (λ lane. is_drained lane.cache lane.pipe) lanes ≡ true
+    → EachFrom (λ n. StandsFor) k lanes (ends_from plan g words i groups) → AreKept due.Rest lanes → list_all (λ lane. is_drained lane.cache lane.pipe) lanes ≡ true
 drained_from law plan g words i k [] groups s none = refl
 drained_from law plan g words i k (lane ∷ lanes) [] s none = absurd s
 drained_from law plan g words i k (lane ∷ lanes) (group ∷ groups) s none =
-    let here = both_zero (held_in lane.cache) (length lane.pipe.records) (lane_empty lane (end_of g (uses_by plan i words) (length words)) s.0 (law.swept g (uses_by plan i words) (length words))) (none 0) in
-    let rest = drained_from law plan g words (suc i) (suc k) lanes groups s.1 (λ lane. none (suc lane)) in
+    let here = both_zero (held_in lane.cache) (length lane.pipe.records) (lane_empty lane (end_of g (uses_by plan i words) (length words)) s.0 (law.swept g (uses_by plan i words) (length words))) (none 0 lane refl) in
+    let rest = drained_from law plan g words (suc i) (suc k) lanes groups s.1 (λ n at e. none (suc n) at e) in
     rw (here, rest) refl
 
-end_drained : SweepsReachTheEnd → (g : Geometry) (words : List (List ℕ)) (plan : PlanParts) (p : PipelineView) → PipelineStands p (end_machines plan g words) → ((lane : ℕ) → waiting p.lanes lane ≡ 0)
+end_drained : SweepsReachTheEnd → (g : Geometry) (words : List (List ℕ)) (plan : PlanParts) (p : PipelineView) → PipelineStands p (end_machines plan g words) → AreKept due.Rest p.lanes
     → list_all (λ lane. is_drained lane.cache lane.pipe) p.lanes ≡ true
 end_drained law g words plan p s none = drained_from law plan g words 0 0 p.lanes plan.groups s none
 
@@ -113,7 +125,7 @@ places_kept places (a ∷ old) (b ∷ new) kept have =
 -- the pipeline of a plan, once all packets are taken, all lanes swept and all pipes empty
 pub whole_trace : SweepsReachTheEnd → (g : Geometry) (plan : PlanParts) (words : List (List ℕ)) (count : ℕ) (start took done : PipelineView) → start.plan ≡ plan → start.buckets ≡ g.buckets → count ≡ length words
     → Keeps start took → Keeps took done → AreLanesOf done.entries done.plan done.buckets done.lanes → FollowsBy (λ i. empty_buckets took.buckets (after_packets g (uses_by start.plan i words) count)) done
-    → ((lane : ℕ) → waiting done.lanes lane ≡ 0) → PipelineStands done (end_machines plan g words) × (list_all (λ lane. is_drained lane.cache lane.pipe) done.lanes ≡ true)
+    → AreKept due.Rest done.lanes → PipelineStands done (end_machines plan g words) × (list_all (λ lane. is_drained lane.cache lane.pipe) done.lanes ≡ true)
 whole_trace law g plan words count start took done p b n k l are f none =
     let long = lanes_long done.entries done.plan done.buckets done.lanes are ∙ ap (λ x. length x.groups) (l.plan ∙ (k.plan ∙ p)) in
     let past = follows_as (λ (i : ℕ). empty_buckets took.buckets (after_packets g (uses_by start.plan i words) count)) (last plan g words) done

@@ -1,13 +1,19 @@
 -- Pipelines, and the machines that their lanes are as far as.
-use Rattle.std.proofs.Common.{◌≡◌, ℕ, suc, ◌==◌, Bool, true, false, List, [], ◌∷◌, Option, Some, None, Result, Ok, Err, OnOk, refl, sym, ap, ◌∙◌, subst, if◌then◌else◌}
+use Rattle.std.proofs.Common.{◌≡◌, ℕ, zero, suc, ◌<◌, Bool, true, false, List, [], ◌∷◌, Option, Some, None, Result, Ok, Err, OnOk, length, nat_lt, replicate, refl, sym, ap, ◌∙◌, subst}
+use Rattle.std.proofs.Common.{if◌then◌else◌}
+use Rattle.std.specs.List.{slice_get, list_all}
+use Rattle.std.proofs.lemmas.Bool.{lt-ltb}
+use Rattle.std.proofs.lemmas.List.{length-map}
 use Rattle.epoch_model.specs.Driving.{EventsKeepAlike, Taken, after_packet, event_of}
 use Rattle.epoch_model.specs.Epochs.{Geometry, is_refresh}
 use Rattle.epoch_model.specs.Laws.{SameEpochs}
-use Rattle.epoch_model.specs.Machine.{Machine, Event, Packet, Merge, run, empty_buckets, empty_machine}
+use Rattle.epoch_model.specs.Machine.{Machine, Event, Packet, Evict, Merge, merge, run, empty_buckets, empty_machine}
 use Rattle.stage_plan.specs.Planned.{taken}
 use Rattle.stage_plan.specs.declared.group.GroupPlan.{GroupPlan}
-use Rattle.switch_core.specs.Pipelines.{after_events, empty_machines, event_at, geometry_of, packet_events}
-use Rattle.switch_core.specs.PlanLanes.{PipelineView, PipelineMakes, PipelineIsSwept, PipelineStands}
+use Rattle.switch_core.specs.Pipelines.{after_events, empty_machines, geometry_of, packet_events}
+use Rattle.switch_core.specs.PlanLanes.{LaneView, PipelineView, PipelineMakes, PipelineIsSwept, PipelineStands, lane_is_ready, upkeep_at, upkeeps_at}
+use Rattle.switch_core.specs.declared.upkeep.Upkeep.{Upkeep}
+use Rattle.switch_core.specs.declared.upkeep.Upkeep.TheVariants as due
 use Rattle.switch_core.specs.Rows.{EachFrom}
 use Rattle.trace_drive.specs.Follows.{AlikeFrom, FollowsBy, Keeps}
 
@@ -44,14 +50,69 @@ makes_follow ways events old new after later made h f = record {
   alike = events_alike (geometry_of ways old.buckets) events after later h 0 f.machines f.alike;
 }
 
-merge_alike : EventsKeepAlike → (g : Geometry) (here : Bool) (m n : Machine) → SameEpochs m n → SameEpochs (run g (if here then Merge ∷ [] else []) m) n
-merge_alike alike g true m n s = alike.on_merge m n s
-merge_alike alike g false m n s = s
+-- merges change no epoch
 
--- a merge changes no epoch
-pub merge_follows : EventsKeepAlike → (ways lane : ℕ) (old new : PipelineView) (after : ℕ → Machine) → PipelineMakes ways (event_at lane Merge) old new → FollowsBy after old → FollowsBy after new
-merge_follows alike ways lane old new after made f =
-    makes_follow ways (event_at lane Merge) old new after after made (λ i m s. merge_alike alike (geometry_of ways old.buckets) (i == lane) m (after i) s) f
+AreMerges : List Event → Type 0
+AreMerges [] = Unit {0}
+AreMerges (Packet key row ∷ events) = ⊥
+AreMerges (Evict bucket ∷ events) = ⊥
+AreMerges (Merge ∷ events) = AreMerges events
+
+merges_alike : EventsKeepAlike → (g : Geometry) (events : List Event) (m n : Machine) → AreMerges events → SameEpochs m n → SameEpochs (run g events m) n
+unfolding AreMerges
+merges_alike alike g [] m n are s = s
+merges_alike alike g (Packet key row ∷ events) m n are s = absurd are
+merges_alike alike g (Evict bucket ∷ events) m n are s = absurd are
+merges_alike alike g (Merge ∷ events) m n are s = merges_alike alike g events (merge m) n are (alike.on_merge m n s)
+
+-- an upkeep that is no sweep
+abbrev pub IsMerging : Upkeep → Type 0
+IsMerging due.Room = Unit {0}
+IsMerging due.Lag = Unit {0}
+IsMerging due.Sweep = ⊥
+IsMerging due.Rest = Unit {0}
+
+merges_many : (n : ℕ) → AreMerges (replicate n Merge)
+unfolding AreMerges
+merges_many zero = tt
+merges_many (suc n) = merges_many n
+
+room_merges : (room : Bool) → AreMerges (if room then [] else Merge ∷ [])
+unfolding AreMerges
+room_merges true = tt
+room_merges false = tt
+
+upkeep_merges : (upkeep : Upkeep) (lane : Option LaneView) → IsMerging upkeep → AreMerges (upkeep_at upkeep lane)
+unfolding AreMerges
+upkeep_merges upkeep None is = tt
+upkeep_merges due.Room (Some lane) is = room_merges (nat_lt (length lane.pipe.records) lane.pipe.places)
+upkeep_merges due.Lag (Some lane) is = tt
+upkeep_merges due.Sweep (Some lane) is = absurd is
+upkeep_merges due.Rest (Some lane) is = merges_many (suc (length lane.pipe.records))
+
+-- an upkeep that only merges leads to no other machine
+pub upkeep_follows : EventsKeepAlike → (ways : ℕ) (upkeep : Upkeep) (old new : PipelineView) (after : ℕ → Machine) → IsMerging upkeep
+    → PipelineMakes ways (upkeeps_at upkeep old.lanes) old new → FollowsBy after old → FollowsBy after new
+upkeep_follows alike ways upkeep old new after is made f =
+    makes_follow ways (upkeeps_at upkeep old.lanes) old new after after made
+    (λ i m s. merges_alike alike (geometry_of ways old.buckets) (upkeeps_at upkeep old.lanes i) m (after i) (upkeep_merges upkeep (slice_get old.lanes i) is) s) f
+
+-- events leave what is kept of a pipeline
+pub makes_keeps : (ways : ℕ) (events : ℕ → List Event) (old new : PipelineView) → PipelineMakes ways events old new → Keeps old new
+makes_keeps ways events old new made = record {
+  plan = made.plan;
+  entries = made.entries;
+  buckets = made.buckets;
+  lanes = sym (length-map new.lanes (λ (lane : LaneView). lane.kind)) ∙ (ap length made.kinds ∙ length-map old.lanes (λ (lane : LaneView). lane.kind));
+  places = made.places;
+}
+
+-- where each pipe has room, all have
+pub all_ready : (lanes : List LaneView) → ((n : ℕ) (lane : LaneView) → slice_get lanes n ≡ Some lane → length lane.pipe.records < lane.pipe.places) → list_all lane_is_ready lanes ≡ true
+all_ready [] ready = refl
+all_ready (lane ∷ lanes) ready =
+    let here = lt-ltb (length lane.pipe.records) lane.pipe.places (ready 0 lane refl) in
+    let rest = all_ready lanes (λ n l e. ready (suc n) l e) in rw (here, rest) refl
 
 packet_alike : EventsKeepAlike → (g : Geometry) (taking : Option Taken) (m n : Machine) → SameEpochs m n → SameEpochs (run g (event_of taking) m) (run g (event_of taking) n)
 packet_alike alike g None m n s = s

@@ -1,9 +1,10 @@
 pub mod Counting
 pub mod Following
-pub mod Waiting
+pub mod Turning
 pub mod Taking
 pub mod Ending
 pub mod Replaying
+pub mod ReplayTurns
 pub mod EachPacket
 mod ReadWords
 pub mod WholePackets

@@ -7,10 +7,11 @@ use Rattle.epoch_model.specs.Machine.{Machine, after_packets, empty_buckets, emp
 use Rattle.marple_base.specs.declared.field.Packet.{Packet}
 use Rattle.stage_plan.specs.Planned.{taken}
 use Rattle.switch_core.specs.Pipelines.{empty_machines, geometry_of}
-use Rattle.switch_core.specs.PlanLanes.{AreLanesOf, PipelineView, PipelineStands, lane_is_drained}
+use Rattle.switch_core.specs.PlanLanes.{AreKept, AreLanesOf, PipelineView, PipelineStands, lane_is_drained}
+use Rattle.switch_core.specs.declared.upkeep.Upkeep.TheVariants as due
 use Rattle.trace_drive.specs.Clocks.{HasCounted}
 use Rattle.trace_drive.specs.Drives.{coming, end_machines, geometry_for, uses_by, words_of}
-use Rattle.trace_drive.specs.Follows.{FollowsBy, Keeps, waiting}
+use Rattle.trace_drive.specs.Follows.{FollowsBy, Keeps}
 use Rattle.trace_drive.specs.Replays.{Advances, IsUnderWay}
 use Rattle.trace_drive.specs.declared.packets.Packets.{Packets}
 use Rattle.trace_drive.specs.declared.replay.Replay.{Replay}
@@ -97,7 +98,7 @@ less_left schedule all count old new before after =
 -- the pipeline after the end of a trace all of whose packets were taken
 pub at_the_end : SweepsReachTheEnd → {ways : ℕ} (schedule : Schedule) (all : List Packet) (took : Replay ways) (done : PipelineView) → IsUnderWay schedule all (length all) took → Keeps took.pipeline done
     → AreLanesOf done.entries done.plan done.buckets done.lanes → ((after : ℕ → Machine) → FollowsBy after took.pipeline → FollowsBy (λ i. empty_buckets took.pipeline.buckets (after i)) done)
-    → ((lane : ℕ) → waiting done.lanes lane ≡ 0)
+    → AreKept due.Rest done.lanes
     → PipelineStands done (end_machines done.plan (geometry_for ways schedule) (words_of all)) × (list_all lane_is_drained done.lanes ≡ true)
 at_the_end law {ways} schedule all took done way keeps lanes follows none =
     let g = geometry_for ways schedule in

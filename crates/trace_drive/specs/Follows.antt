@@ -1,8 +1,8 @@
--- When the lanes of a pipeline are as far as the machines of a trace, and what is left in a lane's pipe.
-use Rattle.std.specs.Prelude.{◌≡◌, ℕ, zero, suc, List, [], ◌∷◌, length}
+-- When the lanes of a pipeline are as far as the machines of a trace.
+use Rattle.std.specs.Prelude.{◌≡◌, ℕ, suc, List, [], ◌∷◌, length}
 use Rattle.epoch_model.specs.Laws.{SameEpochs}
 use Rattle.epoch_model.specs.Machine.{Machine}
-use Rattle.switch_core.specs.PlanLanes.{LaneView, PipelineStands, PipelineView, places_of}
+use Rattle.switch_core.specs.PlanLanes.{PipelineStands, PipelineView, places_of}
 
 -- the machines have the epochs of those with the numbers from this one on
 abbrev pub AlikeFrom : (ℕ → Machine) → ℕ → List Machine → Type 0
@@ -22,9 +22,3 @@ pub record Keeps (old new : PipelineView) : Type 0 where
   pub buckets : new.buckets ≡ old.buckets
   pub lanes : length new.lanes ≡ length old.lanes
   pub places : places_of new.lanes ≡ places_of old.lanes
-
--- how many records wait in the pipe of a lane
-abbrev pub waiting : List LaneView → ℕ → ℕ
-waiting [] lane = 0
-waiting (first ∷ lanes) zero = length first.pipe.records
-waiting (first ∷ lanes) (suc lane) = waiting lanes lane

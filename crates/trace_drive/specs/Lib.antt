@@ -1,6 +1,7 @@
 pub mod Drives
 pub mod Clocks
 pub mod Follows
+pub mod Turns
 pub mod Replays
 pub mod Answers
 pub mod ReadPackets

@@ -1,11 +1,12 @@
 -- A trace on its way through a pipeline, and how far it comes.
-use Rattle.std.specs.Prelude.{◌≡◌, ◌+◌, ◌<◌, ◌≤◌, ℕ, List, length, drop, Option}
+use Rattle.std.specs.Prelude.{◌≡◌, ◌+◌, ◌<◌, ◌≤◌, ℕ, suc, List, length, take, drop, Option}
 use Rattle.epoch_model.specs.Machine.{after_packets}
 use Rattle.marple_base.specs.declared.field.Packet.{Packet}
 use Rattle.switch_core.specs.PlanLanes.{PipelineView, PipelineStands}
 use Rattle.trace_drive.specs.Clocks.{HasCounted}
 use Rattle.trace_drive.specs.Drives.{coming, end_machines, fault_of, geometry_for, uses_by, words_of}
 use Rattle.trace_drive.specs.Follows.{FollowsBy}
+use Rattle.trace_drive.specs.Turns.{MakesTurns}
 use Rattle.trace_drive.specs.declared.replay.Replay.{Replay}
 use Rattle.trace_drive.specs.declared.schedule.Schedule.{Schedule}
 use Rattle.trace_reader.specs.declared.fault.TraceFault.{TraceFault}
@@ -39,6 +40,11 @@ IsOnItsWay replay = (schedule : Schedule) × (all : List Packet) × (count : ℕ
 abbrev pub Advances : {ways : ℕ} → ℕ → Replay ways → Replay ways → Type 0
 Advances more old new = (schedule : Schedule) (all : List Packet) (count : ℕ) → IsUnderWay schedule all count old
     → IsUnderWay schedule all (count + more) new
+
+-- The pipeline made the turns of this many more packets, and no other events.
+abbrev pub MakesTheirTurns : {ways : ℕ} → ℕ → Replay ways → Replay ways → Type 0
+MakesTheirTurns {ways} more old new = (schedule : Schedule) (all : List Packet) (count : ℕ) → IsUnderWay schedule all count old
+    → MakesTurns ways schedule.refresh schedule.lag (suc count) (words_of (take more (drop count all))) (pipeline_in old) (pipeline_in new)
 
 -- All packets that were left were taken, which were fewer than this number.
 abbrev pub TakesTheRest : {ways : ℕ} → ℕ → Replay ways → Replay ways → Type 0

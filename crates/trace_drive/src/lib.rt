@@ -7,7 +7,6 @@ mod answer;
 mod clock;
 mod kept;
 mod laws;
-mod merging;
 mod packets;
 mod replay;
 mod schedule;

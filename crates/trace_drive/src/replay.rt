@@ -4,24 +4,24 @@ ghost use Rattle.std.specs.Prelude.{◌≡◌, ◌≤◌, ℕ, None, Some, IfErr
 ghost use Rattle.std.specs.List.{list_all};
 ghost use Rattle.epoch_model.specs.Machine.{Machine, empty_buckets};
 ghost use Rattle.switch_core.specs.Pipelines.{empty_machines, geometry_of};
-ghost use Rattle.switch_core.specs.PlanLanes.{HavePlaces, PipelineStands, lane_is_drained};
+ghost use Rattle.switch_core.specs.PlanLanes.{AreKept, HavePlaces, PipelineStands, lane_is_drained};
 ghost use Rattle.trace_drive.specs.Drives.{coming, end_machines, fault_of, geometry_for, words_of};
-ghost use Rattle.trace_drive.specs.Follows.{FollowsBy, Keeps, waiting};
-ghost use Rattle.trace_drive.specs.Replays.{Advances, IsOnItsWay, IsUnderWay, ReachesTheEnd, TakesAll, TakesTheRest, fault_in, pipeline_in};
+ghost use Rattle.trace_drive.specs.Follows.{FollowsBy, Keeps};
+ghost use Rattle.trace_drive.specs.Replays.{Advances, IsOnItsWay, IsUnderWay, MakesTheirTurns, ReachesTheEnd};
+ghost use Rattle.trace_drive.specs.Replays.{TakesAll, TakesTheRest, fault_in, pipeline_in};
 ghost use Rattle.trace_reader.specs.Faults.{IfRefused};
 
 use crate::clock::Clock;
-use crate::merging::empty_pipes;
 use crate::packets::Packets;
 use crate::schedule::Schedule;
-use crate::turn::{sweep, turn};
+use crate::turn::turn;
 use epoch_model::{
     events_keep_alike, packets_follow_the_trace, sweeps_reach_the_end, taken_uses_are_in_trace,
 };
 use marple_base::{Packet, Steps};
 use std::alloc::AllocError;
 use std::sync::ledger::Ledger;
-use switch_core::Pipeline;
+use switch_core::{Pipeline, Upkeep};
 use trace_reader::TraceAnswer;
 
 /// A trace that is taken packet by packet: its pipeline, the packets still to come, and when the next refresh and the next
@@ -39,15 +39,15 @@ fn drain<const WAYS: usize, L: Ledger>(
     pipeline: &mut Pipeline<WAYS>,
     steps: &mut Steps<L>,
 ) -> Result<(), AllocError>
-    requires { (after : ℕ → Machine) × FollowsBy after pipeline.old }
     ensures follows { OnOk result ((after : ℕ → Machine) → FollowsBy after pipeline.old
         → FollowsBy (λ i. empty_buckets pipeline.old.buckets (after i)) pipeline.new) }
-    ensures empty { OnOk result ((lane : ℕ) → waiting pipeline.new.lanes lane ≡ 0) }
+    ensures empty { OnOk result (AreKept Upkeep.Rest pipeline.new.lanes) }
     ensures keeps { OnOk result (Keeps pipeline.old pipeline.new) }
     ensures steps { steps.old ≤ steps.new }
 {
-    sweep(pipeline, steps)?;
-    empty_pipes(pipeline, steps)
+    events_keep_alike();
+    pipeline.sweep(steps)?;
+    pipeline.keep_up(Upkeep::Rest, steps)
 }
 
 impl<'a, const WAYS: usize> Replay<'a, WAYS> {
@@ -91,6 +91,7 @@ impl<'a, const WAYS: usize> Replay<'a, WAYS> {
     ) -> Result<bool, TraceAnswer>
         requires { IsOnItsWay self.old }
         ensures next { result ≡ Ok true → Advances 1 self.old self.new }
+        ensures turn { result ≡ Ok true → MakesTheirTurns 1 self.old self.new }
         ensures end { result ≡ Ok false → TakesTheRest 1 self.old self.new }
         ensures accepted { result ≡ Ok false → fault_in self.old ≡ None }
         ensures fault { OnOk result (fault_in self.new ≡ fault_in self.old) }
@@ -126,6 +127,7 @@ impl<'a, const WAYS: usize> Replay<'a, WAYS> {
     ) -> Result<bool, TraceAnswer>
         requires { IsOnItsWay self.old }
         ensures all { result ≡ Ok true → Advances most self.old self.new }
+        ensures turns { result ≡ Ok true → MakesTheirTurns most self.old self.new }
         ensures end { result ≡ Ok false → TakesTheRest most self.old self.new }
         ensures accepted { result ≡ Ok false → fault_in self.old ≡ None }
         ensures fault { OnOk result (fault_in self.new ≡ fault_in self.old) }

@@ -1,23 +1,23 @@
 //! What happens for one packet.
 
-ghost use Rattle.std.specs.Prelude.{◌≡◌, ◌<◌, ◌≤◌, ℕ, suc, OnOk, length, true, if◌then◌else◌};
+ghost use Rattle.std.specs.Prelude.{◌≡◌, ◌≤◌, ℕ, suc, OnOk, true, false};
 ghost use Rattle.std.specs.List.{list_all};
 ghost use Rattle.epoch_model.specs.Driving.{after_packet, event_of};
 ghost use Rattle.epoch_model.specs.Epochs.{is_refresh};
 ghost use Rattle.epoch_model.specs.Machine.{Machine, empty_buckets, run};
 ghost use Rattle.stage_plan.specs.Planned.{taken};
 ghost use Rattle.switch_core.specs.Pipelines.{geometry_of};
-ghost use Rattle.switch_core.specs.PlanLanes.{lane_is_ready};
+ghost use Rattle.switch_core.specs.PlanLanes.{PipelineMakes, lane_is_ready};
 ghost use Rattle.trace_drive.specs.Clocks.{HasCounted};
 ghost use Rattle.trace_drive.specs.Follows.{FollowsBy, Keeps};
+ghost use Rattle.trace_drive.specs.Turns.{MakesTurn, turn_at};
 
 use crate::clock::Clock;
-use crate::merging::{make_room, merge_each};
 use epoch_model::events_keep_alike;
 use marple_base::{Packet, Steps};
 use std::alloc::AllocError;
 use std::sync::ledger::Ledger;
-use switch_core::Pipeline;
+use switch_core::{Pipeline, Upkeep};
 
 // The packet event of each lane, with room for an evicted record made before.
 #[inline(always)]
@@ -29,45 +29,14 @@ fn take_packet<const WAYS: usize, L: Ledger>(
     ensures follows { OnOk result ((after : ℕ → Machine) → FollowsBy after pipeline.old
         → FollowsBy (λ i. run (geometry_of WAYS pipeline.old.buckets)
         (event_of (taken pipeline.old.plan i packet.now.words)) (after i)) pipeline.new) }
+    ensures makes { OnOk result (PipelineMakes WAYS (turn_at packet.now.words false pipeline.old) pipeline.old pipeline.new) }
     ensures keeps { OnOk result (Keeps pipeline.old pipeline.new) }
     ensures steps { steps.old ≤ steps.new }
 {
     events_keep_alike();
-    make_room(pipeline, steps)?;
+    pipeline.keep_up(Upkeep::Room, steps)?;
     pipeline.packet(packet, steps);
     Ok(())
-}
-
-/// A sweep of all lanes.
-pub fn sweep<const WAYS: usize, L: Ledger>(
-    pipeline: &mut Pipeline<WAYS>,
-    steps: &mut Steps<L>,
-) -> Result<(), AllocError>
-    ensures follows { OnOk result ((after : ℕ → Machine) → FollowsBy after pipeline.old
-        → FollowsBy (λ i. empty_buckets pipeline.old.buckets (after i)) pipeline.new) }
-    ensures keeps { OnOk result (Keeps pipeline.old pipeline.new) }
-    ensures steps { steps.old ≤ steps.new }
-{
-    events_keep_alike();
-    pipeline.sweep(steps)
-}
-
-// A merge of each lane, where the lag is over.
-fn catch_up<const WAYS: usize, L: Ledger>(
-    pipeline: &mut Pipeline<WAYS>,
-    is_due: bool,
-    steps: &mut Steps<L>,
-) -> Result<(), AllocError>
-    ensures follows { OnOk result ((after : ℕ → Machine) → FollowsBy after pipeline.old → FollowsBy after pipeline.new) }
-    ensures keeps { OnOk result (Keeps pipeline.old pipeline.new) }
-    ensures ready { OnOk result (is_due ≡ true → list_all lane_is_ready pipeline.new.lanes ≡ true) }
-    ensures steps { steps.old ≤ steps.new }
-{
-    if is_due {
-        merge_each(pipeline, steps)
-    } else {
-        Ok(())
-    }
 }
 
 // A packet, and then a merge of each lane.
@@ -80,12 +49,14 @@ fn take_and_merge<const WAYS: usize, L: Ledger>(
     ensures follows { OnOk result ((after : ℕ → Machine) → FollowsBy after pipeline.old
         → FollowsBy (λ i. run (geometry_of WAYS pipeline.old.buckets)
         (event_of (taken pipeline.old.plan i packet.now.words)) (after i)) pipeline.new) }
+    ensures makes { OnOk result (PipelineMakes WAYS (turn_at packet.now.words true pipeline.old) pipeline.old pipeline.new) }
     ensures keeps { OnOk result (Keeps pipeline.old pipeline.new) }
     ensures ready { OnOk result (list_all lane_is_ready pipeline.new.lanes ≡ true) }
     ensures steps { steps.old ≤ steps.new }
 {
+    events_keep_alike();
     take_packet(pipeline, packet, steps)?;
-    merge_each(pipeline, steps)
+    pipeline.keep_up(Upkeep::Lag, steps)
 }
 
 // A packet, a sweep, and then a merge of each lane where the lag is over. Apart, since few packets are followed by a sweep.
@@ -100,13 +71,18 @@ fn take_and_sweep<const WAYS: usize, L: Ledger>(
     ensures follows { OnOk result ((after : ℕ → Machine) → FollowsBy after pipeline.old
         → FollowsBy (λ i. empty_buckets pipeline.old.buckets (run (geometry_of WAYS pipeline.old.buckets)
         (event_of (taken pipeline.old.plan i packet.now.words)) (after i))) pipeline.new) }
+    ensures makes { OnOk result (MakesTurn WAYS packet.now.words true lag_over pipeline.old pipeline.new) }
     ensures keeps { OnOk result (Keeps pipeline.old pipeline.new) }
     ensures merged { OnOk result (lag_over ≡ true → list_all lane_is_ready pipeline.new.lanes ≡ true) }
     ensures steps { steps.old ≤ steps.new }
 {
+    events_keep_alike();
     take_packet(pipeline, packet, steps)?;
-    sweep(pipeline, steps)?;
-    catch_up(pipeline, lag_over, steps)
+    pipeline.sweep(steps)?;
+    if !lag_over {
+        return Ok(());
+    }
+    pipeline.keep_up(Upkeep::Lag, steps)
 }
 
 /// A packet, and then the sweep and the merges that are due by the clocks.
@@ -127,6 +103,9 @@ pub fn turn<const WAYS: usize, L: Ledger>(
           ways = WAYS;
           refresh = refreshes.old.every;
         }) (suc number) (event_of (taken pipeline.old.plan i packet.now.words)) (after i)) pipeline.new) }
+    ensures turns { OnOk result ((refreshed lagged : ℕ) → HasCounted refreshed refreshes.old → HasCounted lagged lags.old
+        → MakesTurn WAYS packet.now.words (is_refresh refreshes.old.every (suc refreshed)) (is_refresh lags.old.every (suc lagged))
+        pipeline.old pipeline.new) }
     ensures keeps { OnOk result (Keeps pipeline.old pipeline.new) }
     ensures merged { OnOk result ((number : ℕ) → HasCounted number lags.old → is_refresh lags.old.every (suc number) ≡ true
         → list_all lane_is_ready pipeline.new.lanes ≡ true) }

@@ -1,4 +1,4 @@
-use Rattle.std.proofs.Common.{◌<◌, Some, length, map, sym, ap, ◌∙◌}
+use Rattle.std.proofs.Common.{◌<◌, Some, length, sym, ap, ◌∙◌}
 use Rattle.switch_core.specs.PlanLanes.{lane_is_ready}
 use Rattle.switch_core.proofs.SideBySide.{got_here}
 use Rattle.switch_core.proofs.LaneFacts.{all_next, all_fails}

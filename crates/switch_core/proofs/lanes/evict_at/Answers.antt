@@ -1,10 +1,9 @@
-use Rattle.std.proofs.Common.{◌≡◌, ◌+◌, ◌==◌, if◌then◌else◌, not, length, map, get_or, refl, sym, ap, ◌∙◌, subst, lit<}
+use Rattle.std.proofs.Common.{◌≡◌, ◌+◌, ◌==◌, if◌then◌else◌, not, length, get_or, refl, sym, ap, ◌∙◌, subst, lit<}
 use Rattle.std.proofs.lemmas.Bool.{ltb-true}
 use Rattle.epoch_model.specs.Machine.{Evict}
 use Rattle.bucket_cache.specs.Caches.{list_at}
 use Rattle.switch_core.specs.Costs.{evict_cost}
-use Rattle.switch_core.specs.Pipelines.{event_at}
-use Rattle.switch_core.specs.PlanLanes.{LanesMake, parts_of}
+use Rattle.switch_core.specs.PlanLanes.{parts_of}
 use Rattle.switch_core.proofs.SideBySide.{got_here, same_some}
 use Rattle.switch_core.proofs.LaneFacts.{make_one}
 use Rattle.switch_core.proofs.lanes.evict_at.Goals as goal

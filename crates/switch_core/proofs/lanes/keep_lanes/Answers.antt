@@ -1,12 +1,8 @@
 -- Each lane makes the events of its upkeep, in order.
-use Rattle.std.proofs.Common.{◌≡◌, ℕ, ◌<◌, ◌≤◌, ◌+◌, List, Some, inl, inr, length, set, get_or, sym, ap, ◌∙◌, subst, arith, refl}
-use Rattle.std.specs.Prelude.{slice_get}
-use Rattle.std.proofs.lemmas.Bool.{cases_eq}
-use Rattle.epoch_model.specs.Machine.{Event}
-use Rattle.epoch_entry.specs.contracts.any.AnyEpochsEpochKind.TheImpl.{ghosts}
-use Rattle.switch_core.specs.PlanLanes.{LaneMakes, LaneView, LanesBreakOff, lane_upkeep_cost, upkeep_at, upkeeps_at}
+use Rattle.std.proofs.Common.{◌<◌, ◌+◌, length, set, get_or, sym, ap, ◌∙◌, subst, arith}
+use Rattle.switch_core.specs.PlanLanes.{LaneMakes, LanesBreakOff, lane_upkeep_cost, upkeep_at, upkeeps_at}
 use Rattle.switch_core.specs.Upkeeps.{IsKept}
-use Rattle.switch_core.proofs.LaneFacts.{err_holds, got_set}
+use Rattle.switch_core.proofs.LaneFacts.{err_holds}
 use Rattle.switch_core.proofs.LaneUpkeeps.{breaks_off_at, lane_carries, others_stay}
 use Rattle.switch_core.proofs.SideBySide.{got_below, got_here, same_some, done_start, untouched_start, done_next, untouched_next, untouched_was, done_end, sum_next}
 use Rattle.switch_core.proofs.SweepCosts.{sum_within}

@@ -1,10 +1,10 @@
-use Rattle.std.proofs.Common.{◌≡◌, ℕ, ◌<◌, ◌+◌, length, map, get_or, refl, sym, ◌∙◌, subst, arith, lit<}
+use Rattle.std.proofs.Common.{◌≡◌, ℕ, ◌<◌, length, get_or, refl, sym, ◌∙◌, subst, arith, lit<}
 use Rattle.std.proofs.Math.Facts.{Fits-below}
 use Rattle.epoch_model.specs.Driving.{event_of}
 use Rattle.stage_plan.specs.Planned.{wiring_at}
 use Rattle.stage_plan.specs.Registers.{taken_at}
 use Rattle.switch_core.specs.PlanLanes.{LaneView, LaneMakes, lane_cost, lane_is_ready}
-use Rattle.switch_core.proofs.SideBySide.{got_here, same_some, Done, Untouched, each_long, done_start, untouched_start, done_next, untouched_next, untouched_was, done_end, sum_next}
+use Rattle.switch_core.proofs.SideBySide.{got_here, same_some, each_long, done_start, untouched_start, done_next, untouched_next, untouched_was, done_end, sum_next}
 use Rattle.switch_core.proofs.LaneFacts.{all_at, lane_fits}
 use Rattle.switch_core.proofs.lanes.packet_lanes.Goals as goal
 

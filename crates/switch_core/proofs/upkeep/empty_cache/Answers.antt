@@ -1,5 +1,5 @@
 -- The buckets are emptied in order, so that their events come one after another.
-use Rattle.std.proofs.Common.{rules, ◌≡◌, ◌≢◌, ◌+◌, ◌*◌, ◌<◌, ◌≤◌, ⊎_elim, suc, [], length, sym, ap, ◌∙◌, subst, arith, refl}
+use Rattle.std.proofs.Common.{rules, ◌≡◌, ◌+◌, ◌*◌, ◌<◌, ◌≤◌, ⊎_elim, suc, length, ap, ◌∙◌, subst, arith}
 use Rattle.std.proofs.lemmas.Bool.{cases_eq}
 use Rattle.bucket_cache.specs.Caches.{list_at}
 use Rattle.switch_core.specs.Closing.{held_in}

@@ -1,5 +1,5 @@
 -- Merges one after another, up to the one that finds the pipe empty.
-use Rattle.std.proofs.Common.{rules, ◌≡◌, ◌+◌, ◌-◌, ◌*◌, ◌<◌, ◌≤◌, Ok, suc, zero, [], ◌∷◌, length, replicate, refl, sym, ap, ◌∙◌, subst, arith, length-drop}
+use Rattle.std.proofs.Common.{rules, ◌≡◌, Ok, suc, [], ◌∷◌, length, replicate, refl, sym, ap, ◌∙◌, subst, arith, length-drop}
 use Rattle.epoch_model.specs.Machine.{Merge}
 use Rattle.switch_core.specs.Costs.{merge_cost}
 use Rattle.switch_core.specs.FrontEvents.{CarriesFirst, CarriesUpTo, with_store}

@@ -1,4 +1,4 @@
-use Rattle.std.proofs.Common.{◌≡◌, ◌+◌, ◌*◌, ◌≤◌, ℕ, suc, length, replicate}
+use Rattle.std.proofs.Common.{◌+◌, ◌*◌, ◌≤◌, suc, length, replicate}
 use Rattle.epoch_model.specs.Machine.{Merge}
 use Rattle.switch_core.specs.Costs.{merge_cost}
 use Rattle.switch_core.specs.FrontEvents.{CarriesUpTo, KeepsSizes, with_store}

@@ -1,5 +1,5 @@
 -- A full pipe merges once, and any other is left as it is.
-use Rattle.std.proofs.Common.{◌≡◌, true, false, length, refl, sym, ap, ◌∙◌, subst, arith, length-drop}
+use Rattle.std.proofs.Common.{◌≡◌, true, false, length, refl, sym, ap, ◌∙◌, subst, length-drop}
 use Rattle.std.specs.Prelude.{nat_lt}
 use Rattle.switch_core.specs.FrontEvents.{CarriesAll, with_store}
 use Rattle.switch_core.proofs.Carrying.{keeps_start, keeps_same}

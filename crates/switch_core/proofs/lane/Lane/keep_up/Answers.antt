@@ -1,5 +1,5 @@
 -- An upkeep of a lane's front, with the lane's store.
-use Rattle.std.proofs.Common.{◌≤◌, ◌+◌, OnErr, OnOk, lit<, sym, subst}
+use Rattle.std.proofs.Common.{◌≤◌, ◌+◌, OnErr, OnOk, subst}
 use Rattle.switch_core.specs.FrontEvents.{CarriesAll, CarriesFirst, with_store}
 use Rattle.switch_core.specs.Upkeeps.{upkeep_cost, upkeep_events}
 use Rattle.switch_core.proofs.Carrying.{fits_kept}

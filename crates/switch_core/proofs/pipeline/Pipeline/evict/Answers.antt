@@ -1,4 +1,4 @@
-use Rattle.std.proofs.Common.{◌≡◌, ◌++◌, Some, length, map, take, drop, sym, ap, ◌∙◌, subst, arith, lit<}
+use Rattle.std.proofs.Common.{◌≡◌, ◌++◌, Some, length, take, drop, sym, ap, ◌∙◌, subst, arith, lit<}
 use Rattle.std.specs.Prelude.{slice_get}
 use Rattle.epoch_model.specs.Machine.{Evict}
 use Rattle.switch_core.specs.Rows.{Each}

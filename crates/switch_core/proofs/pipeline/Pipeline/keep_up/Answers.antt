@@ -1,5 +1,5 @@
 -- The lanes make the events of their upkeeps, and stay those of the plan.
-use Rattle.std.proofs.Common.{◌≡◌, ◌≤◌, ◌+◌, ◌++◌, ℕ, List, OnOk, OnErr, length, take, drop, sym, ◌∙◌, subst}
+use Rattle.std.proofs.Common.{◌≡◌, ◌≤◌, ◌+◌, ◌++◌, ℕ, List, OnOk, length, take, drop, sym, ◌∙◌, subst}
 use Rattle.std.specs.Prelude.{sum_by}
 use Rattle.epoch_model.specs.Machine.{Event}
 use Rattle.switch_core.specs.Rows.{Each}

@@ -1,4 +1,4 @@
-use Rattle.std.proofs.Common.{length, map, sym, ap, ◌∙◌}
+use Rattle.std.proofs.Common.{length, sym, ap, ◌∙◌}
 use Rattle.switch_core.proofs.SideBySide.{each_long}
 use Rattle.switch_core.proofs.pipeline.Pipeline.lanes.Goals as goal
 

@@ -1,4 +1,4 @@
-use Rattle.std.proofs.Common.{◌≡◌, ◌++◌, length, map, take, drop, sym, ◌∙◌, subst}
+use Rattle.std.proofs.Common.{◌≡◌, ◌++◌, length, take, drop, sym, ◌∙◌, subst}
 use Rattle.epoch_model.specs.Machine.{Merge}
 use Rattle.switch_core.specs.Rows.{Each}
 use Rattle.switch_core.specs.Pipelines.{event_at}

@@ -1,11 +1,13 @@
+-- The packets are taken one by one, each with its turn.
 use Rattle.std.proofs.Common.{◌+◌, ◌≡◌, Ok, ap, ◌∙◌, arith, refl, subst, lit<}
-use Rattle.trace_drive.specs.Replays.{Advances}
+use Rattle.trace_drive.specs.Replays.{Advances, MakesTheirTurns}
 use Rattle.trace_drive.proofs.Following.{keeps_along}
 use Rattle.trace_drive.proofs.Replaying.{keeps_itself, none_taken, taken_next}
+use Rattle.trace_drive.proofs.ReplayTurns.{no_turns, turns_next}
 use Rattle.trace_drive.proofs.replay.Replay.advance.Goals as goal
 
 pub packets-init : goal.packets-init
-packets-init g c = record { taken = none_taken c.args.self.now; fault = refl; keeps = keeps_itself c.args.self.now.pipeline; later = omega arith }
+packets-init g c = record { taken = none_taken c.args.self.now; turns = no_turns c.args.self.now; fault = refl; keeps = keeps_itself c.args.self.now.pipeline; later = omega arith }
 
 pub step-requires : goal.step-requires
 step-requires g c =
@@ -18,6 +20,7 @@ packets-preserved g c =
     let done = c.in_ok-step.ensures in
     record {
       taken = taken_next c.packets._taken c.args.self.now c.packets.self c.step.new.self was.taken (done.next (ap Ok c.if-not-branch.false));
+      turns = turns_next c.packets._taken c.args.self.now c.packets.self c.step.new.self was.taken was.turns (done.turn (ap Ok c.if-not-branch.false));
       fault = done.fault ∙ was.fault;
       keeps = keeps_along c.args.self.now.pipeline c.packets.self.pipeline c.step.new.self.pipeline was.keeps done.keeps;
       later = let a = was.later in let b = c.step.ensures.steps in omega arith;
@@ -34,3 +37,10 @@ returns-clause-all g c is =
     let within = c.packets.auto._taken-end in
     let all : c.packets._taken ≡ c.args.most = omega arith in
     subst (λ n. Advances n c.args.self.now c.packets.self) all c.packets.invariant.taken
+
+pub returns-clause-turns : goal.returns-clause-turns
+returns-clause-turns g c is =
+    let end = c.packets-test.false in
+    let within = c.packets.auto._taken-end in
+    let all : c.packets._taken ≡ c.args.most = omega arith in
+    subst (λ n. MakesTheirTurns n c.args.self.now c.packets.self) all c.packets.invariant.turns

@@ -1,16 +1,8 @@
-use Rattle.std.proofs.Common.{ℕ, length, ◌∙◌, lit<}
-use Rattle.epoch_model.specs.Machine.{after_packets}
-use Rattle.trace_drive.specs.Drives.{geometry_for, uses_by, words_of}
+use Rattle.std.proofs.Common.{◌∙◌}
 use Rattle.trace_drive.proofs.Ending.{places_kept}
 use Rattle.trace_drive.proofs.Following.{keeps_along}
 use Rattle.trace_drive.proofs.Replaying.{at_the_end}
 use Rattle.trace_drive.proofs.replay.Replay.finish.Goals as goal
-
-pub drain-requires : goal.drain-requires
-drain-requires g c =
-    let r = c.requires in
-    let end = c.in_ok-take_rest.ensures.rest r.0 r.1 r.2 r.3 in
-    (lit< tt, ((λ (i : ℕ). after_packets (geometry_for g.row.WAYS r.0) (uses_by c.take_rest.new.self.pipeline.plan i (words_of r.1)) (length r.1)), end.follows))
 
 pub returns-in-Ok-clause-machines : goal.returns-in-Ok-clause-machines
 returns-in-Ok-clause-machines g c schedule all count way =

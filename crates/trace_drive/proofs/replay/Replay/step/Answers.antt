@@ -1,7 +1,9 @@
+-- A packet and its turn, or the end of the packets.
 use Rattle.std.proofs.Common.{ℕ, Ok, ap}
 use Rattle.epoch_model.specs.Machine.{after_packets}
 use Rattle.trace_drive.specs.Drives.{geometry_for, uses_by, words_of}
 use Rattle.trace_drive.proofs.Replaying.{none_more, one_more}
+use Rattle.trace_drive.proofs.ReplayTurns.{one_turn}
 use Rattle.trace_drive.proofs.replay.Replay.step.Goals as goal
 
 pub returns-in-Ok-clause-next : goal.returns-in-Ok-clause-next
@@ -18,3 +20,8 @@ pub returns-then-not-branch-clause-end : goal.returns-then-not-branch-clause-end
 returns-then-not-branch-clause-end g c is schedule all count way =
     let ended = c.in_ok-next_into.ensures.end (ap Ok c.if-not-branch.true) in
     none_more schedule all count c.args.self.now c.next_into.new.self way ended.0 ended.1
+
+pub returns-in-Ok-clause-turn : goal.returns-in-Ok-clause-turn
+returns-in-Ok-clause-turn g c is schedule all count way =
+    one_turn schedule all count c.next_into.new.packet c.args.self.now c.turn.new.pipeline c.next_into.new.self way
+    (c.in_ok-next_into.ensures.packet (ap Ok c.if-not-branch.false)) (c.in-Ok.ensures.turns count count way.refreshes way.lags)
