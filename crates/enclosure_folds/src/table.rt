@@ -11,7 +11,6 @@ pub enum Enclosed {
 }
 
 /// A groupby's table of bounds, with a row for each key.
-#[derive(Drop)]
 pub struct BoundsTable {
     pub name: Text,
     pub key_names: Seq<Text>,
@@ -23,12 +22,37 @@ pub struct BoundsTable {
     pub rows: Seq<BoundsRow>,
 }
 
+// One step at each exit of an owner, where a derived drop would be one for each part.
+impl Drop for BoundsTable {
+    fn drop(self) {
+        let BoundsTable {
+            name: _,
+            key_names: _,
+            state_names: _,
+            depth: _,
+            epochs: _,
+            rows: _,
+        } = self;
+    }
+}
+
 /// A key, and the bounds of its fold over all packets, word by word.
-#[derive(Drop)]
 pub struct BoundsRow {
     pub key: Seq<u64>,
     /// How many epochs the key has, or the greatest `u64` where that is more.
     pub epochs: u64,
     pub low: Seq<u64>,
     pub high: Seq<u64>,
+}
+
+// One step at each exit of an owner, where a derived drop would be one for each part.
+impl Drop for BoundsRow {
+    fn drop(self) {
+        let BoundsRow {
+            key: _,
+            epochs: _,
+            low: _,
+            high: _,
+        } = self;
+    }
 }

@@ -15,12 +15,23 @@ use query_lang::Class;
 use std::sync::ledger::Ledger;
 
 /// Entries of a fold of any class: linear by sums, linear by maxima, any other, or those of its bounds.
-#[derive(Drop)]
 pub enum AnyEpochs {
     Linear(LinearEpochs<Wrapping64>),
     Maxima(LinearEpochs<MaxPlus64>),
     Other(OtherEpochs),
     Bounds(BoundsEpochs),
+}
+
+// One step at each exit of an owner, where a derived drop would be one for each part.
+impl Drop for AnyEpochs {
+    fn drop(self) {
+        match self {
+            AnyEpochs::Linear(_) => {}
+            AnyEpochs::Maxima(_) => {}
+            AnyEpochs::Other(_) => {}
+            AnyEpochs::Bounds(_) => {}
+        }
+    }
 }
 
 impl AnyEpochs {

@@ -12,12 +12,23 @@ use std::marker::Model;
 use std::sync::ledger::Ledger;
 
 /// Records of a fixed number of words, first in, first out. Only `new` allocates memory: a row is in use or free.
-#[derive(Drop)]
 pub struct EvictPipe {
     record_words: usize,
     places: u32,
     held: HeapCircularBuffer<Vec<u64>>,
     free: HeapCircularBuffer<Vec<u64>>,
+}
+
+// One step at each exit of an owner, where a derived drop would be one for each part.
+impl Drop for EvictPipe {
+    fn drop(self) {
+        let EvictPipe {
+            record_words: _,
+            places: _,
+            held: _,
+            free: _,
+        } = self;
+    }
 }
 
 impl Model for EvictPipe {

@@ -35,11 +35,21 @@ use std::sync::ledger::Ledger;
 use switch_core::{Front, Merged, held_table};
 
 /// What is kept for one groupby of all switches: a cache and a pipe for each switch, and one store.
-#[derive(Drop)]
 pub struct Group<const WAYS: usize> {
     kind: AnyEpochs,
     fronts: Vec<Front<AnyEpochs, WAYS>>,
     store: BackingStore,
+}
+
+// One step at each exit of an owner, where a derived drop would be one for each part.
+impl<const WAYS: usize> Drop for Group<WAYS> {
+    fn drop(self) {
+        let Group {
+            kind: _,
+            fronts: _,
+            store: _,
+        } = self;
+    }
 }
 
 impl<const WAYS: usize> Model for Group<WAYS> {

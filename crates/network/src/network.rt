@@ -38,7 +38,6 @@ use switch_core::Merged;
 
 /// A plan over several switches: each switch has a cache and a pipe for each groupby, and all of them share one store for
 /// each groupby.
-#[derive(Drop)]
 pub struct Network<const WAYS: usize> {
     alloc: Global,
     plan: Plan,
@@ -49,6 +48,23 @@ pub struct Network<const WAYS: usize> {
     registers: Vec<u64>,
     key: Vec<u64>,
     args: Vec<u64>,
+}
+
+// One step at each exit of an owner, where a derived drop would be one for each part.
+impl<const WAYS: usize> Drop for Network<WAYS> {
+    fn drop(self) {
+        let Network {
+            alloc: _,
+            plan: _,
+            buckets: _,
+            pipe_records: _,
+            switches: _,
+            groups: _,
+            registers: _,
+            key: _,
+            args: _,
+        } = self;
+    }
 }
 
 impl<const WAYS: usize> Model for Network<WAYS> {

@@ -11,7 +11,6 @@ use marple_base::{Packet, Seq};
 use std::alloc::{AllocError, Global};
 
 /// The generator between two packets.
-#[derive(Drop)]
 pub(crate) struct Generator {
     start: u32,
     capacity: u32,
@@ -20,6 +19,21 @@ pub(crate) struct Generator {
     time: u64,
     flows: [u64; 64],
     queues: Vec<Queue>,
+}
+
+// One step at each exit of an owner, where a derived drop would be one for each part.
+impl Drop for Generator {
+    fn drop(self) {
+        let Generator {
+            start: _,
+            capacity: _,
+            draws: _,
+            number: _,
+            time: _,
+            flows: _,
+            queues: _,
+        } = self;
+    }
 }
 
 // The words of a packet.

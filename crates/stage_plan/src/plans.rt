@@ -18,13 +18,25 @@ use std::marker::Model;
 use std::sync::ledger::Ledger;
 
 /// Operations in the order of their stages, and what the groupbys take of the registers that they fill.
-#[derive(Drop)]
 pub struct Plan {
     reads: FieldSet,
     ops: Seq<PlanOp>,
     groups: Seq<GroupPlan>,
     wiring: Seq<GroupWiring>,
     chain: Seq<u32>,
+}
+
+// One step at each exit of an owner, where a derived drop would be one for each part.
+impl Drop for Plan {
+    fn drop(self) {
+        let Plan {
+            reads: _,
+            ops: _,
+            groups: _,
+            wiring: _,
+            chain: _,
+        } = self;
+    }
 }
 
 impl Model for Plan {

@@ -38,7 +38,6 @@ use std::sync::ledger::Ledger;
 
 /// A plan with a lane for each groupby, whose entries give the folds or bounds of them. Once it is made, only `merge`,
 /// `keep_up`, `sweep` and `close` take memory.
-#[derive(Drop)]
 pub struct Pipeline<const WAYS: usize> {
     alloc: Global,
     plan: Plan,
@@ -48,6 +47,22 @@ pub struct Pipeline<const WAYS: usize> {
     registers: Vec<u64>,
     key: Vec<u64>,
     args: Vec<u64>,
+}
+
+// One step at each exit of an owner, where a derived drop would be one for each part.
+impl<const WAYS: usize> Drop for Pipeline<WAYS> {
+    fn drop(self) {
+        let Pipeline {
+            alloc: _,
+            plan: _,
+            entries: _,
+            buckets: _,
+            lanes: _,
+            registers: _,
+            key: _,
+            args: _,
+        } = self;
+    }
 }
 
 impl<const WAYS: usize> Model for Pipeline<WAYS> {

@@ -11,7 +11,6 @@ use std::marker::Model;
 
 /// Packets with the words of some fields alone, one after the other. Contracts see these fields, and the packets, which
 /// have 0 in all others.
-#[derive(Drop)]
 pub struct KeptPackets {
     of: FieldSet,
     /// The fields that are kept, in their order.
@@ -19,6 +18,18 @@ pub struct KeptPackets {
     /// As many words for each packet as there are such fields.
     words: Vec<u64>,
     count: usize,
+}
+
+// One step at each exit of an owner, where a derived drop would be one for each part.
+impl Drop for KeptPackets {
+    fn drop(self) {
+        let KeptPackets {
+            of: _,
+            fields: _,
+            words: _,
+            count: _,
+        } = self;
+    }
 }
 
 impl Model for KeptPackets {

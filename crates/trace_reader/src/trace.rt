@@ -23,7 +23,6 @@ enum Progress {
 
 /// A trace that is read packet by packet. Contracts see the packets that are still to come, the fault after them,
 /// if there is one, and the answer that stopped the trace, if one did.
-#[derive(Drop)]
 pub struct Trace<'a> {
     reader: Reader<&'a [u8]>,
     row: ByteRecord,
@@ -31,6 +30,20 @@ pub struct Trace<'a> {
     columns: Columns,
     given: u32,
     progress: Progress,
+}
+
+// One step at each exit of an owner, where a derived drop would be one for each part.
+impl Drop for Trace<'_> {
+    fn drop(self) {
+        let Trace {
+            reader: _,
+            row: _,
+            width: _,
+            columns: _,
+            given: _,
+            progress: _,
+        } = self;
+    }
 }
 
 impl<'a> Model for Trace<'a> {
