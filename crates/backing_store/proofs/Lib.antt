@@ -9,3 +9,6 @@ pub mod SameRows
 pub mod SortedFacts
 pub mod LentFacts
 pub mod LawFacts
+mod StoredStates
+mod ClosedRows
+pub mod Showing

@@ -10,3 +10,5 @@ pub mod SortedRows
 pub mod LendingStates
 pub mod LendingRows
 pub mod StoreLaws
+pub mod Merged
+pub mod HeldRows

@@ -1,12 +1,16 @@
-//! The rows of each key, into which epochs are merged.
+//! The rows of each key, into which epochs are merged, and what they show: the rows of a table.
 #![tactic(auto)]
 
+mod held;
 mod keys;
 mod laws;
 mod marks;
+mod shown;
 mod slices;
 mod states;
 mod store;
 
+pub use held::{held_rows_are_the_tables, merged_epochs_are_held};
 pub use laws::{epochs_are_counted, keys_are_kept, last_rows_are_written, rows_are_added};
+pub use shown::{ShownRows, rows_held};
 pub use store::BackingStore;

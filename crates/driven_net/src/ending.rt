@@ -15,14 +15,13 @@ ghost use Rattle.net_wide.specs.NetLaws.{TellsSwitches};
 ghost use Rattle.driven_net.specs.Follows.{NetFollows};
 
 use final_queries::Table;
-use marple_base::{Seq, Sink, Steps};
+use marple_base::{Seq, Sink, Steps, TextBuffer};
 use net_wide::net_tables_are_read;
 use network::{Network, runs_follow_events};
 use query_lang::TypedQuery;
 use query_tables::write_tables;
 use std::alloc::{AllocError, Global};
 use std::sync::ledger::Ledger;
-use text_buffer::TextBuffer;
 use trace_drive::RunError;
 
 /// Closes and merges all epochs: the tables of the query's groupbys. The network's memory is freed.

@@ -11,17 +11,16 @@ ghost use Rattle.final_queries.specs.Finals.{IsTable, table_shape};
 ghost use Rattle.enclosed_query.specs.EnclosedTables.{enclosed_print, table_read};
 ghost use Rattle.enclosed_query.specs.Parts.{IsWholeIfThere, bounds_at, bounds_shown, text_at};
 ghost use Rattle.enclosed_query.specs.Reading.{IsWhole};
-ghost use Rattle.text_buffer.specs.Pieces.{TakesAllBut};
+ghost use Rattle.marple_base.specs.Pieces.{TakesAllBut};
 
 use enclosure_folds::{BoundsTable, Enclosed, exact_rows, write_bounds};
 use final_queries::Table;
-use marple_base::{Seq, Sink, Steps};
+use marple_base::{Seq, Sink, Steps, TextBuffer, WriteError};
 use query_lang::{PrintOf, TypedQuery};
 use query_tables::{add_finals, table_number};
 use std::alloc::{AllocError, Global};
 use std::sync::ledger::Ledger;
 use table_printer::write_table;
-use text_buffer::{TextBuffer, WriteError};
 
 // What is shown of groupbys: the tables that finals read, and the bounds that are shown instead of some of them.
 #[derive(Drop)]

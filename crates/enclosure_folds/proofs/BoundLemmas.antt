@@ -14,9 +14,9 @@ use Rattle.epoch_model.specs.Tables.{Folding, epoch_rows, exact_row, key_rows}
 use Rattle.epoch_model.proofs.Cuts.{epochs_cut_the_rows_lem}
 use Rattle.epoch_entry.specs.Kinds.{Sizes}
 use Rattle.epoch_entry.proofs.FoldLemmas.{length-folded}
-use Rattle.monotone_folds.specs.Kinds.{is_monotone}
-use Rattle.monotone_folds.specs.States.{IsAtMost}
-use Rattle.monotone_folds.proofs.Enclosure as Enclosure
+use Rattle.enclosure_folds.specs.Kinds.{is_monotone}
+use Rattle.enclosure_folds.specs.States.{IsAtMost}
+use Rattle.enclosure_folds.proofs.Enclosure as Enclosure
 use Rattle.epoch_entry.specs.Triples.{first_third, second_third, last_third}
 use Rattle.epoch_entry.specs.Bounds.{least_state, greatest_state, bounds_after, IsBoundsKindOf}
 use Rattle.enclosure_folds.specs.Bounds.{last_or, low_bound, high_bound, is_exact, Encloses, row_words, RowsEnclose, all_rows}

@@ -6,7 +6,7 @@ use Rattle.query_lang.specs.Words.{op_value}
 use Rattle.query_lang.specs.Blocks.{Block}
 use Rattle.query_lang.specs.Folds.{after, fold_block, initial_state}
 use Rattle.epoch_model.specs.Keys.{ArgRow}
-use Rattle.monotone_folds.specs.Examples.{HasBody, decayed_sum, clamped}
+use Rattle.enclosure_folds.specs.MonotoneExamples.{HasBody, decayed_sum, clamped}
 use Rattle.epoch_entry.specs.Triples.{beside}
 use Rattle.epoch_entry.specs.Bounds.{bounds_after}
 use Rattle.enclosure_folds.specs.Bounds.{low_bound, high_bound, is_exact}

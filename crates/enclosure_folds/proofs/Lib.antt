@@ -5,3 +5,8 @@ pub mod RowFacts
 pub mod ShownFacts
 pub mod ReadFacts
 pub mod ClosedFacts
+pub mod Operators
+pub mod Ties
+pub mod Runs
+pub mod Enclosure
+pub mod MonotoneExampleFacts

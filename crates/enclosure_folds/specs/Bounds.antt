@@ -3,7 +3,7 @@ use Rattle.std.specs.Prelude.{◌≡◌, ℕ, Bool, true, List, [], ◌∷◌, m
 use Rattle.std.specs.Cmp.Lexicographic.{pointwise}
 use Rattle.epoch_model.specs.Keys.{ArgRow}
 use Rattle.epoch_model.specs.declared.tables.Row.{Row}
-use Rattle.monotone_folds.specs.States.{IsAtMost}
+use Rattle.enclosure_folds.specs.States.{IsAtMost}
 use Rattle.epoch_entry.specs.Triples.{first_third, second_third, last_third}
 
 -- the last item, or this one if there is none

@@ -12,7 +12,7 @@ use Rattle.query_lang.specs.declared.typed.TypedStream.{TypedStream}
 use Rattle.query_lang.specs.Streams.{taking_of}
 use Rattle.fold_class.specs.Kinds.{class_of}
 use Rattle.stage_plan.specs.Planned.{fold_at}
-use Rattle.monotone_folds.specs.Kinds.{is_monotone}
+use Rattle.enclosure_folds.specs.Kinds.{is_monotone}
 
 -- a linear fold has its value, and any other fold has bounds where it is monotone
 abbrev pub is_bounded : Class → TypedFold → Bool

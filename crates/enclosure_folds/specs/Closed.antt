@@ -12,7 +12,7 @@ use Rattle.epoch_model.specs.Machine.{Epoch, Event, empty_machine, lists_of, run
 use Rattle.epoch_model.specs.Tables.{Folding, closed_epochs, closed_keys}
 use Rattle.epoch_model.specs.Timeline.{IsSwept}
 use Rattle.fold_class.specs.Kinds.{class_of}
-use Rattle.monotone_folds.specs.Kinds.{is_monotone}
+use Rattle.enclosure_folds.specs.Kinds.{is_monotone}
 use Rattle.epoch_entry.specs.declared.purpose.Entries.TheVariants.{Bounds}
 use Rattle.epoch_entry.specs.Foldings.{folding_of}
 use Rattle.epoch_entry.specs.Kinds.{Sizes}

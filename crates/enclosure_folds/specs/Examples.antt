@@ -4,7 +4,7 @@ use Rattle.query_lang.specs.declared.fold.TypedFold.{TypedFold}
 use Rattle.query_lang.specs.Blocks.{Block}
 use Rattle.query_lang.specs.Folds.{initial_state}
 use Rattle.epoch_model.specs.Keys.{ArgRow}
-use Rattle.monotone_folds.specs.Examples.{HasBody}
+use Rattle.enclosure_folds.specs.MonotoneExamples.{HasBody}
 use Rattle.epoch_entry.specs.Bounds.{bounds_after}
 use Rattle.enclosure_folds.specs.Bounds.{low_bound, high_bound, is_exact}
 

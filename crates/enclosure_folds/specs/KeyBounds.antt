@@ -13,7 +13,7 @@ use Rattle.epoch_model.specs.Keys.{Key, ArgRow, key_eq}
 use Rattle.epoch_model.specs.Epochs.{Use, Geometry, is_use_of, epochs}
 use Rattle.epoch_model.specs.Tables.{Folding, epochs_shown, keys_used, group_epochs}
 use Rattle.fold_class.specs.Kinds.{class_of}
-use Rattle.monotone_folds.specs.Kinds.{is_monotone}
+use Rattle.enclosure_folds.specs.Kinds.{is_monotone}
 use Rattle.epoch_entry.specs.Bounds.{bounds_after, IsBoundsKindOf}
 use Rattle.epoch_entry.specs.Foldings.{folding_of}
 use Rattle.epoch_entry.specs.Kinds.{Sizes}

@@ -6,3 +6,6 @@ pub mod KeyBounds
 pub mod Shown
 pub mod Holding
 pub mod Closed
+pub mod Kinds
+pub mod States
+pub mod MonotoneExamples

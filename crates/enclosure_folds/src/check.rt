@@ -9,8 +9,8 @@ ghost use Rattle.fold_class.specs.Kinds.{class_of};
 ghost use Rattle.stage_plan.specs.Planned.{IsPlanOf};
 ghost use Rattle.enclosure_folds.specs.Check.{enclose_fault, fold_fault, is_bounded};
 
+use crate::is_monotone;
 use marple_base::Seq;
-use monotone_folds::is_monotone;
 use query_lang::{Class, FaultKind, Name, QueryFault, TypedFold, TypedOp, TypedQuery};
 use stage_plan::Plan;
 

@@ -6,14 +6,13 @@ ghost use Rattle.marple_base.specs.Sink.{TakesFront};
 ghost use Rattle.table_printer.specs.TableText.{continued, joined, line, numbers};
 ghost use Rattle.enclosure_folds.specs.BoundsTables.{IsBoundsTable, row_is_exact, mark_text, in_turn, bound_names, bounds_title};
 ghost use Rattle.enclosure_folds.specs.BoundsTables.{bounds_heading, bounds_parts, bounds_text};
-ghost use Rattle.text_buffer.specs.Pieces.{TakesAllBut};
+ghost use Rattle.marple_base.specs.Pieces.{TakesAllBut};
 
 use crate::rows::is_exact;
 use crate::table::{BoundsRow, BoundsTable};
 use itoa::Buffer;
-use marple_base::{Sink, Text};
+use marple_base::{Sink, Text, TextBuffer, WriteError};
 use std::alloc::AllocError;
-use text_buffer::{TextBuffer, WriteError};
 
 // Writes the decimal digits of a number.
 fn push_number(text: &mut TextBuffer, n: u64) -> Result<(), AllocError>

@@ -14,8 +14,8 @@ use Rattle.epoch_model.specs.Tables.{exact_row, closed_keys}
 use Rattle.epoch_model.proofs.KeyLists.{by_test}
 use Rattle.backing_store.specs.Store.{Store, IsStore}
 use Rattle.backing_store.specs.SortedRows.{sorted_rows}
-use Rattle.merged_epochs.specs.Laws.{HeldRowsAreTheTables}
-use Rattle.merged_epochs.specs.Merged.{StoreHolds, shown_row}
+use Rattle.backing_store.specs.HeldRows.{HeldRowsAreTheTables}
+use Rattle.backing_store.specs.Merged.{StoreHolds, shown_row}
 use Rattle.final_queries.specs.Finals.{is_read, columns_of, plain_row, grouped_key, grouped_args, grouped_rows}
 use Rattle.final_queries.specs.Grouped.{whole_folding, row_epoch, row_epochs, plain_of}
 use Rattle.final_queries.specs.Joining.{reads}

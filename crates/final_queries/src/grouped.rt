@@ -4,7 +4,7 @@ ghost use Rattle.std.specs.Prelude.{◌≡◌, ◌+◌, ◌≤◌, ◌++◌, ◌
 ghost use Rattle.epoch_model.specs.Machine.{Epoch};
 ghost use Rattle.fold_code.specs.Meaning.{IsCodeOf, code_scratch};
 ghost use Rattle.table_rows.specs.LentRows.{row_of};
-ghost use Rattle.merged_epochs.specs.Merged.{StoreHolds};
+ghost use Rattle.backing_store.specs.Merged.{StoreHolds};
 ghost use Rattle.query_lang.specs.declared.fold.TypedFold.{TypedFold as AnyFold};
 ghost use Rattle.query_lang.specs.Folds.{IsValidFold, fold_args, initial_state};
 ghost use Rattle.query_lang.specs.TypedQueries.{AreSlots};
@@ -14,10 +14,9 @@ ghost use Rattle.final_queries.specs.Joining.{reads};
 
 use crate::rows::is_read;
 use crate::value::values_into;
-use backing_store::BackingStore;
+use backing_store::{BackingStore, held_rows_are_the_tables, merged_epochs_are_held};
 use fold_code::{FoldCode, compile};
 use marple_base::Steps;
-use merged_epochs::{held_rows_are_the_tables, merged_epochs_are_held};
 use query_lang::TypedFold;
 use std::alloc::{AllocError, Global};
 use std::sync::ledger::Ledger;

@@ -2,7 +2,7 @@
 
 ghost use Rattle.std.specs.Prelude.{◌≡◌, ◌+◌, ◌≤◌, IfOk};
 ghost use Rattle.epoch_model.specs.Machine.{Machine};
-ghost use Rattle.merged_epochs.specs.Merged.{StoreHolds};
+ghost use Rattle.backing_store.specs.Merged.{StoreHolds};
 ghost use Rattle.switch_core.specs.Lanes.{LaneStands};
 ghost use Rattle.live_view.specs.Views.{all_epochs};
 

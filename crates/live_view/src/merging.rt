@@ -3,7 +3,7 @@
 ghost use Rattle.std.specs.Prelude.{◌≡◌, ◌+◌, ◌<◌, ◌≤◌, List, [], ◌∷◌, ◌++◌, length, reverse, OnOk};
 ghost use Rattle.epoch_model.specs.Machine.{Epoch, Machine};
 ghost use Rattle.bucket_cache.specs.Caches.{IsSoundCache, list_at};
-ghost use Rattle.merged_epochs.specs.Merged.{StoreHolds};
+ghost use Rattle.backing_store.specs.Merged.{StoreHolds};
 ghost use Rattle.switch_core.specs.Lanes.{CacheStands, PairStands, PairsStand, RecordsStand};
 ghost use Rattle.live_view.specs.Merging.{FitsKind};
 ghost use Rattle.live_view.specs.Views.{open_epochs};

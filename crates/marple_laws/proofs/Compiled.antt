@@ -9,18 +9,18 @@ use Rattle.accepted_query.specs.Accepted.{accepted, fault_in}
 use Rattle.query_run.specs.Driven.{geometry_of}
 use Rattle.plan_file.specs.declared.made.Made.{Made}
 use Rattle.plan_loader.specs.Meaning.{plan_output, reads_in}
-use Rattle.plan_laws.specs.Readings.{IsReadingOf}
-use Rattle.plan_laws.proofs.OneReading.{read_once}
+use Rattle.marple_laws.specs.Readings.{IsReadingOf}
+use Rattle.marple_laws.proofs.OneReading.{read_once}
 use Rattle.plan_writer.specs.PlanText.{compiled_text, final_fault}
-use Rattle.plan_laws.proofs.Accepted.{accepted_load}
+use Rattle.marple_laws.proofs.Accepted.{accepted_load}
 use Rattle.query_tables.specs.Tables.{query_text}
 use Rattle.query_run.specs.Views.{NoViewsWithoutNumber}
 use Rattle.stage_plan.specs.Fields.{reads_of}
 use Rattle.trace_drive.specs.Drives.{words_of}
 use Rattle.trace_drive.specs.ReadPackets.{ReadPacketsAreWhole}
 use Rattle.trace_reader.specs.Traces as traces
-use Rattle.plan_laws.specs.MadeOf.{made_of}
-use Rattle.plan_laws.specs.RunLaws.{IsAsTheQuery}
+use Rattle.marple_laws.specs.MadeOf.{made_of}
+use Rattle.marple_laws.specs.RunLaws.{IsAsTheQuery}
 use Rattle.command_answers.specs.OwnChecks.{fault_after}
 use Rattle.marple_cli.specs.Output.{IsRead, Source, fault_for, of_accepted, plan_tables_text, read_packets, run_text}
 use Rattle.marple_laws.specs.Compiled.{CompiledPlansRunAsQueries}

@@ -6,9 +6,9 @@ use Rattle.command_line.specs.declared.command.Command.TheVariants as commands
 use Rattle.query_lang.specs.Checks.{Checked}
 use Rattle.plan_file.specs.declared.made.Made.{Made}
 use Rattle.plan_file.specs.Lines.{nothing}
-use Rattle.plan_laws.specs.Readings.{IsReadingOf}
-use Rattle.plan_laws.proofs.OneReading.{read_once}
-use Rattle.plan_laws.proofs.TextReadings.{every_text}
+use Rattle.marple_laws.specs.Readings.{IsReadingOf}
+use Rattle.marple_laws.proofs.OneReading.{read_once}
+use Rattle.marple_laws.proofs.TextReadings.{every_text}
 use Rattle.marple_cli.specs.Output.{Source, defined_text, refusal, trace_refusal}
 use Rattle.marple_laws.specs.Sources.{AreAlike, SourcesAreOne, SourcesAreThere}
 

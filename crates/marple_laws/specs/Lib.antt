@@ -1,2 +1,9 @@
 pub mod Sources
 pub mod Compiled
+pub mod LaneLaws
+pub mod Readings
+pub mod MadeOf
+pub mod WellNamed
+pub mod RunLaws
+pub mod PlanOf
+pub mod AcceptedPlans

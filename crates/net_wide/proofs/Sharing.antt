@@ -15,7 +15,7 @@ use Rattle.epoch_model.proofs.Turns.{run-append}
 use Rattle.switch_core.specs.FrontParts.{FrontOf}
 use Rattle.epoch_model.specs.Tables.{Folding}
 use Rattle.backing_store.specs.Store.{Store}
-use Rattle.merged_epochs.specs.Merged.{StoreHolds}
+use Rattle.backing_store.specs.Merged.{StoreHolds}
 use Rattle.switch_core.specs.FrontEvents.{FrontMakes, MergesNext, next_merged}
 use Rattle.switch_core.specs.Lanes.{Standing, FrontStands, geometry}
 use Rattle.switch_core.specs.Closing.{is_drained}

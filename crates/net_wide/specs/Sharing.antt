@@ -4,7 +4,7 @@ use Rattle.epoch_model.specs.Machine.{Epoch, Event, Packet, Evict, Merge}
 use Rattle.bucket_cache.specs.Caches.{list_at, with_list}
 use Rattle.epoch_model.specs.Tables.{Folding}
 use Rattle.backing_store.specs.Store.{Store}
-use Rattle.merged_epochs.specs.Merged.{StoreHolds}
+use Rattle.backing_store.specs.Merged.{StoreHolds}
 use Rattle.switch_core.specs.FrontParts.{FrontOf}
 use Rattle.switch_core.specs.FrontEvents.{FrontMakes, next_merged}
 use Rattle.switch_core.specs.Lanes.{Standing, FrontStands}

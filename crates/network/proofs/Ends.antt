@@ -17,7 +17,7 @@ use Rattle.epoch_model.specs.Timeline.{NoPacket}
 use Rattle.epoch_model.specs.Driving.{Taken, event_of}
 use Rattle.epoch_model.proofs.KeyLists.{by_test}
 use Rattle.epoch_entry.specs.Foldings.{folding_of}
-use Rattle.merged_epochs.specs.Merged.{StoreHolds}
+use Rattle.backing_store.specs.Merged.{StoreHolds}
 use Rattle.final_queries.specs.declared.table.Table.{Table}
 use Rattle.final_queries.specs.GroupTable.{closed_table}
 use Rattle.final_queries.specs.FinalLaws.{AreAlike, AlikeFoldingsMakeOneTable}

@@ -8,7 +8,7 @@ use Rattle.epoch_model.specs.Tables.{Folding, folded}
 use Rattle.epoch_model.proofs.KeyLists.{by_test}
 use Rattle.epoch_entry.specs.Kinds.{Sizes}
 use Rattle.backing_store.specs.Store.{Store}
-use Rattle.merged_epochs.specs.Merged.{StoreHolds, stored}
+use Rattle.backing_store.specs.Merged.{StoreHolds, stored}
 use Rattle.final_queries.specs.FinalLaws.{AreAlike}
 use Rattle.switch_core.specs.FrontParts.{FrontOf, FitsStore}
 use Rattle.switch_core.specs.Rows.{Each, EachFrom}

@@ -10,7 +10,7 @@ use Rattle.epoch_entry.specs.declared.any.AnyEpochs.{AnyEpochs}
 use Rattle.epoch_entry.specs.contracts.any.AnyEpochsEpochKind.TheImpl.{ghosts}
 use Rattle.epoch_entry.specs.Foldings.{IsKindOf, per_epoch}
 use Rattle.backing_store.specs.Store.{Store}
-use Rattle.merged_epochs.specs.Merged.{StoreHolds}
+use Rattle.backing_store.specs.Merged.{StoreHolds}
 use Rattle.final_queries.specs.declared.table.Table.{Table}
 use Rattle.final_queries.specs.GroupTable.{closed_table}
 use Rattle.stage_plan.specs.declared.group.GroupPlan.{GroupPlan}

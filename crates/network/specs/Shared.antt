@@ -2,7 +2,7 @@
 use Rattle.std.specs.Prelude.{◌≡◌, ℕ, List, length, slice_get, Some}
 use Rattle.epoch_model.specs.Tables.{Folding}
 use Rattle.backing_store.specs.Store.{Store}
-use Rattle.merged_epochs.specs.Merged.{StoreHolds}
+use Rattle.backing_store.specs.Merged.{StoreHolds}
 use Rattle.final_queries.specs.FinalLaws.{AreAlike}
 use Rattle.epoch_entry.specs.Kinds.{Sizes}
 use Rattle.switch_core.specs.FrontParts.{FrontOf, FitsStore}

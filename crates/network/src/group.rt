@@ -7,7 +7,7 @@ ghost use Rattle.bucket_cache.specs.Caches.{list_at};
 ghost use Rattle.epoch_model.specs.Driving.{event_of};
 ghost use Rattle.epoch_model.specs.Machine.{Epoch, Evict, Merge};
 ghost use Rattle.fold_class.specs.Program.{IsProgram};
-ghost use Rattle.merged_epochs.specs.Merged.{StoreHolds};
+ghost use Rattle.backing_store.specs.Merged.{StoreHolds};
 ghost use Rattle.final_queries.specs.GroupTable.{closed_table};
 ghost use Rattle.stage_plan.specs.declared.group.GroupWiring.{GroupWiring};
 ghost use Rattle.stage_plan.specs.Planned.{registers_of, wiring_at};

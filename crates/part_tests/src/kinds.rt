@@ -2,7 +2,7 @@
 ghost use Rattle.query_lang.specs.TypedQueries.{IsValidQuery};
 
 use crate::fold_programs::{query_of, typed_of};
-use monotone_folds::is_monotone;
+use enclosure_folds::is_monotone;
 use query_lang::TypedQuery;
 use std::alloc::Global;
 use std::test::Fail;

@@ -24,11 +24,10 @@ use enclosed_query::{
 use enclosure_folds::{Enclosed, enclosed_of, triples_give_whole_tables};
 use epoch_entry::Entries;
 use final_queries::Table;
-use marple_base::{Seq, Sink, Steps};
+use marple_base::{Seq, Sink, Steps, TextBuffer, WriteError};
 use query_lang::TypedQuery;
 use std::alloc::{AllocError, Global};
 use std::sync::ledger::Ledger;
-use text_buffer::{TextBuffer, WriteError};
 use trace_drive::read_packets_are_words;
 
 // What is shown of groupbys with these tables.

@@ -11,17 +11,16 @@ ghost use Rattle.query_tables.specs.Tables.{text_at};
 ghost use Rattle.stage_plan.specs.Sound.{PlanParts};
 ghost use Rattle.query_run.specs.PlanReports.{HasKeys, HaveNumbers, numbered_print};
 ghost use Rattle.query_run.specs.Reports.{Reports};
-ghost use Rattle.text_buffer.specs.Pieces.{TakesAllBut};
+ghost use Rattle.marple_base.specs.Pieces.{TakesAllBut};
 
 use crate::laws::ends_are_the_texts;
 use crate::report::Report;
 use epoch_entry::Entries;
 use final_queries::Table;
-use marple_base::{Seq, Sink, Steps};
+use marple_base::{Seq, Sink, Steps, TextBuffer, WriteError};
 use std::alloc::Global;
 use std::sync::ledger::Ledger;
 use table_printer::write_table;
-use text_buffer::{TextBuffer, WriteError};
 
 // Writes the text of the table with this number.
 fn write_at<O: Sink>(

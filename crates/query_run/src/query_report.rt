@@ -13,12 +13,11 @@ use crate::laws::ends_are_the_querys;
 use crate::report::Report;
 use epoch_entry::Entries;
 use final_queries::Table;
-use marple_base::{Seq, Sink, Steps};
+use marple_base::{Seq, Sink, Steps, TextBuffer, WriteError};
 use query_lang::TypedQuery;
 use query_tables::{query_tables_are_read, write_tables};
 use std::alloc::Global;
 use std::sync::ledger::Ledger;
-use text_buffer::{TextBuffer, WriteError};
 
 /// The report of a query: the tables of its groupbys and finals that it prints.
 #[derive(Drop)]

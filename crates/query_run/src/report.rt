@@ -5,14 +5,13 @@ ghost use Rattle.epoch_entry.specs.declared.purpose.Entries.{Entries as AnyEntri
 ghost use Rattle.final_queries.specs.declared.table.Table.{Table as AnyTable};
 ghost use Rattle.marple_base.specs.Faults.{Rose};
 ghost use Rattle.marple_base.specs.Sink.{TakesFront};
-ghost use Rattle.text_buffer.specs.Pieces.{TakesAllBut};
+ghost use Rattle.marple_base.specs.Pieces.{TakesAllBut};
 
 use epoch_entry::Entries;
 use final_queries::Table;
-use marple_base::{Seq, Sink, Steps};
+use marple_base::{Seq, Sink, Steps, TextBuffer, WriteError};
 use std::alloc::Global;
 use std::sync::ledger::Ledger;
-use text_buffer::{TextBuffer, WriteError};
 
 /// What a run prints of the tables of its groupbys: in each view of those of the packets so far, and at the end of those of
 /// all packets.

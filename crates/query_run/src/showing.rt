@@ -16,11 +16,10 @@ use crate::report::Report;
 use final_queries::Table;
 use itoa::Buffer;
 use live_view::{view, views_end_the_trace};
-use marple_base::{Seq, Sink, Steps};
+use marple_base::{Seq, Sink, Steps, TextBuffer};
 use std::alloc::{AllocError, Global};
 use std::sync::ledger::Ledger;
 use switch_core::Pipeline;
-use text_buffer::TextBuffer;
 use trace_drive::RunError;
 
 /// Writes these bytes, and then what a report prints of tables: all of it, or some first bytes.

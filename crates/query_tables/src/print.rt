@@ -9,15 +9,14 @@ ghost use Rattle.query_lang.specs.Streams.{takings};
 ghost use Rattle.query_lang.specs.TypedFinals.{table_number};
 ghost use Rattle.final_queries.specs.Finals.{IsTable, table_shape, with_finals};
 ghost use Rattle.query_tables.specs.Tables.{printed, text_at};
-ghost use Rattle.text_buffer.specs.Pieces.{TakesAllBut};
+ghost use Rattle.marple_base.specs.Pieces.{TakesAllBut};
 
 use final_queries::{Table, run_final};
-use marple_base::{Seq, Sink, Steps};
+use marple_base::{Seq, Sink, Steps, TextBuffer, WriteError};
 use query_lang::{PrintOf, TypedQuery};
 use std::alloc::{AllocError, Global};
 use std::sync::ledger::Ledger;
 use table_printer::write_table;
-use text_buffer::{TextBuffer, WriteError};
 
 /// The tables of the groupbys, followed by those of the finals, each made of the tables before it.
 pub fn add_finals<L: Ledger>(

@@ -9,7 +9,7 @@ use Rattle.epoch_model.specs.Tables.{Folding}
 use Rattle.epoch_entry.specs.Kinds.{Sizes}
 use Rattle.bucket_cache.specs.Caches.{list_at, with_list}
 use Rattle.backing_store.specs.Store.{Store}
-use Rattle.merged_epochs.specs.Merged.{StoreHolds}
+use Rattle.backing_store.specs.Merged.{StoreHolds}
 use Rattle.switch_core.specs.FrontParts.{FitsStore, FrontOf, LaneOf}
 use Rattle.switch_core.specs.FrontEvents.{Carries, CarriesAll, CarriesFirst, CarriesUpTo, FrontMakes, KeepsSizes, MergesNext, merges_of, with_store}
 use Rattle.switch_core.specs.LaneEvents.{Makes, MakesAll, parts}

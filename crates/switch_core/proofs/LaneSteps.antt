@@ -9,7 +9,7 @@ use Rattle.epoch_model.specs.Tables.{Folding}
 use Rattle.bucket_cache.specs.Caches.{Cache, empty_cache}
 use Rattle.evict_pipe.specs.Pipes.{Pipe}
 use Rattle.backing_store.specs.Store.{Store, epochs_of, states_at, number_of}
-use Rattle.merged_epochs.specs.Merged.{StoreHolds}
+use Rattle.backing_store.specs.Merged.{StoreHolds}
 use Rattle.switch_core.specs.Lanes.{Standing, PairStands, PairsStand, RecordsStand, StoreStands, FrontStands, geometry}
 use Rattle.switch_core.proofs.Standing.{by_test}
 

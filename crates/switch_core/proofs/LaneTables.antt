@@ -5,7 +5,7 @@ use Rattle.std.specs.Prelude.{slice_get}
 use Rattle.epoch_model.specs.Machine.{Machine}
 use Rattle.epoch_model.specs.Timeline.{IsSwept}
 use Rattle.epoch_entry.specs.contracts.any.AnyEpochsEpochKind.TheImpl.{ghosts}
-use Rattle.merged_epochs.specs.Merged.{StoreHolds}
+use Rattle.backing_store.specs.Merged.{StoreHolds}
 use Rattle.final_queries.specs.GroupTable.{closed_table}
 use Rattle.stage_plan.specs.declared.group.GroupPlan.{GroupPlan}
 use Rattle.switch_core.specs.Rows.{EachFrom}

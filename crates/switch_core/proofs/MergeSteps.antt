@@ -9,7 +9,7 @@ use Rattle.epoch_model.specs.Tables.{Folding}
 use Rattle.bucket_cache.specs.Caches.{Cache}
 use Rattle.evict_pipe.specs.Pipes.{Pipe}
 use Rattle.backing_store.specs.Store.{Store}
-use Rattle.merged_epochs.specs.Merged.{StoreHolds}
+use Rattle.backing_store.specs.Merged.{StoreHolds}
 use Rattle.switch_core.specs.Lanes.{Standing, RecordStands, RecordsStand, StoreStands, FrontStands}
 use Rattle.switch_core.specs.FrontEvents.{next_merged}
 use Rattle.switch_core.proofs.Standing.{by_test}

@@ -4,7 +4,7 @@ use Rattle.epoch_model.specs.Machine.{Epoch, Machine, Event, Packet, Evict, Merg
 use Rattle.epoch_model.specs.Tables.{Folding}
 use Rattle.bucket_cache.specs.Caches.{list_at, with_list}
 use Rattle.backing_store.specs.Store.{Store}
-use Rattle.merged_epochs.specs.Merged.{StoreHolds}
+use Rattle.backing_store.specs.Merged.{StoreHolds}
 use Rattle.switch_core.specs.FrontParts.{FrontOf, LaneOf}
 use Rattle.switch_core.specs.Lanes.{Standing, FrontStands, geometry}
 use Rattle.switch_core.specs.Rows.{AreFirst}

@@ -4,13 +4,12 @@ ghost use Rattle.std.specs.Prelude.{◌≡◌, ◌+◌, ◌≤◌, List, [], ◌
 ghost use Rattle.epoch_model.specs.Keys.{ArgRow};
 ghost use Rattle.epoch_model.specs.Machine.{Epoch};
 ghost use Rattle.backing_store.specs.Store.{Store};
-ghost use Rattle.merged_epochs.specs.Merged.{StoreHolds};
+ghost use Rattle.backing_store.specs.Merged.{StoreHolds};
 ghost use Rattle.switch_core.specs.Lanes.{RecordStands};
 
-use backing_store::BackingStore;
+use backing_store::{BackingStore, merged_epochs_are_held};
 use epoch_entry::EpochKind;
 use marple_base::Steps;
-use merged_epochs::merged_epochs_are_held;
 use std::alloc::AllocError;
 use std::sync::ledger::Ledger;
 

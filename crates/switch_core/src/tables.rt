@@ -5,7 +5,7 @@ ghost use Rattle.std.specs.List.{list_all};
 ghost use Rattle.epoch_model.specs.Machine.{Epoch, Machine};
 ghost use Rattle.epoch_model.specs.Tables.{Folding};
 ghost use Rattle.epoch_entry.specs.declared.purpose.Entries.{Entries};
-ghost use Rattle.merged_epochs.specs.Merged.{StoreHolds};
+ghost use Rattle.backing_store.specs.Merged.{StoreHolds};
 ghost use Rattle.final_queries.specs.GroupTable.{closed_table};
 ghost use Rattle.switch_core.specs.Rows.{Each};
 ghost use Rattle.switch_core.specs.Pipelines.{heading_of, tables_of};
@@ -13,11 +13,10 @@ ghost use Rattle.switch_core.specs.PlanLanes.{AreLanesOf, StandsFor, folding_at,
 
 use crate::closing::columns;
 use crate::lane::Lane;
-use backing_store::BackingStore;
+use backing_store::{BackingStore, rows_held};
 use epoch_entry::{AnyEpochs, EpochKind};
 use final_queries::{Table, TableKind};
 use marple_base::{Seq, Text};
-use merged_epochs::rows_held;
 use stage_plan::{GroupPlan, Plan};
 use std::alloc::{AllocError, Global};
 

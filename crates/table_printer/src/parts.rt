@@ -4,9 +4,8 @@ ghost use Rattle.table_printer.specs.TableText.{numbers};
 ghost use Rattle.table_printer.specs.Parts.{parts_from};
 
 use itoa::Buffer;
-use marple_base::Text;
+use marple_base::{Text, TextBuffer};
 use std::alloc::AllocError;
-use text_buffer::TextBuffer;
 
 /// Writes the decimal digits of a number.
 pub fn push_number(text: &mut TextBuffer, n: u64) -> Result<(), AllocError>

@@ -6,14 +6,13 @@ ghost use Rattle.table_rows.specs.LentRows.{row_of};
 ghost use Rattle.table_printer.specs.TableText.{joined, mark_text, class_text, epoch_text, numbers, line, group_parts, final_parts};
 ghost use Rattle.table_printer.specs.TableText.{row_parts, heading, kind_text, title, table_text};
 ghost use Rattle.table_printer.specs.Parts.{parts_from};
-ghost use Rattle.text_buffer.specs.Pieces.{TakesAllBut};
+ghost use Rattle.marple_base.specs.Pieces.{TakesAllBut};
 
 use crate::parts::{push_names, push_number, push_part, push_word, push_words};
 use final_queries::{Mark, RowRef, Rows, Table, TableKind};
-use marple_base::{Sink, Text};
+use marple_base::{Sink, Text, TextBuffer, WriteError};
 use query_lang::Class;
 use std::alloc::AllocError;
-use text_buffer::{TextBuffer, WriteError};
 
 fn class_word(class: Class) -> &'static [u8]
     ensures { result.now ≡ class_text class }

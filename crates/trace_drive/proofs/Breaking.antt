@@ -6,8 +6,8 @@ use Rattle.std.proofs.KnownBytes.{Appends-nil}
 use Rattle.std.specs.Io.KnownBytes.{Appends}
 use Rattle.marple_base.specs.Faults.{Rose}
 use Rattle.marple_base.specs.Sink.{TakesFront}
-use Rattle.text_buffer.specs.declared.answer.WriteError.{WriteError}
-use Rattle.text_buffer.specs.declared.answer.WriteError.TheVariants as writes
+use Rattle.marple_base.specs.declared.write_error.WriteError.{WriteError}
+use Rattle.marple_base.specs.declared.write_error.WriteError.TheVariants as writes
 use Rattle.trace_reader.specs.Faults.{IfRefused}
 use Rattle.trace_reader.specs.declared.fault.TraceAnswer.{TraceAnswer}
 use Rattle.trace_reader.specs.declared.fault.TraceAnswer.TheVariants as answers

@@ -7,8 +7,8 @@ use Rattle.trace_drive.specs.declared.answer.RunError.TheVariants.{Refused, Memo
 use Rattle.trace_reader.specs.declared.fault.TraceAnswer.{TraceAnswer}
 use Rattle.trace_reader.specs.declared.fault.TraceAnswer.TheVariants as answers
 use Rattle.trace_reader.specs.declared.fault.TraceFault.{TraceFault}
-use Rattle.text_buffer.specs.declared.answer.WriteError.{WriteError}
-use Rattle.text_buffer.specs.declared.answer.WriteError.TheVariants as writes
+use Rattle.marple_base.specs.declared.write_error.WriteError.{WriteError}
+use Rattle.marple_base.specs.declared.write_error.WriteError.TheVariants as writes
 
 -- the answer of a run where the trace's reader gives this answer
 abbrev pub answer_for : TraceAnswer → RunError

@@ -4,9 +4,8 @@ ghost use Rattle.std.specs.Prelude.{◌≡◌};
 ghost use Rattle.trace_drive.specs.Answers.{answer_for, answer_of};
 ghost use Rattle.trace_drive.specs.declared.answer.RunError.TheVariants.{Failed as WriteFailed, Memory as OutOfMemory};
 
-use marple_base::Failed;
+use marple_base::{Failed, WriteError};
 use std::alloc::AllocError;
-use text_buffer::WriteError;
 use trace_reader::{TraceAnswer, TraceFault};
 
 /// Why a run over packets breaks off: the trace has a fault, memory ran out, or a write failed.

@@ -1,7 +1,7 @@
 use Rattle.std.proofs.Common.{◌≡◌, None, Some, ◌++◌, ◌∙◌, OnErr, OnOk, ap, arith, option_and_then, subst, sym}
 use Rattle.std.proofs.lemmas.Option.{slice_get_past}
 use Rattle.marple_base.specs.Sink.{TakesFront}
-use Rattle.text_buffer.specs.Pieces.{TakesAllBut}
+use Rattle.marple_base.specs.Pieces.{TakesAllBut}
 use Rattle.enclosed_query.specs.Parts.{bounds_at}
 use Rattle.enclosed_query.proofs.TextParts.{table_text_at}
 use Rattle.enclosed_query.proofs.printing.write_at.Goals as goal

@@ -3,8 +3,8 @@ use Rattle.std.specs.List.{All}
 use Rattle.marple_base.specs.Sink.{TakesFront}
 use Rattle.enclosed_query.specs.EnclosedTables.{enclosed_print}
 use Rattle.enclosed_query.specs.Parts.{IsWholeIfThere}
-use Rattle.text_buffer.specs.Pieces.{TakesAllBut}
-use Rattle.text_buffer.proofs.Pieces.{none_taken, on_err}
+use Rattle.marple_base.specs.Pieces.{TakesAllBut}
+use Rattle.marple_base.proofs.Pieces.{none_taken, on_err}
 use Rattle.enclosed_query.proofs.TextParts.{texts_are, whole_parts}
 use Rattle.enclosed_query.proofs.printing.write_enclosed.Goals as goal
 

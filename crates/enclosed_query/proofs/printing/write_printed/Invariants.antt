@@ -2,7 +2,7 @@ use Rattle.std.proofs.Common.{◌≤◌, ◌++◌, drop}
 use Rattle.std.specs.List.{flat_map}
 use Rattle.query_lang.specs.TypedFinals.{table_number}
 use Rattle.enclosed_query.specs.Parts.{text_at}
-use Rattle.text_buffer.specs.Pieces.{TakesAllBut}
+use Rattle.marple_base.specs.Pieces.{TakesAllBut}
 use Rattle.enclosed_query.proofs.printing.write_printed.Given as goal
 
 -- what waits, and then the texts of the prints that are left, is all that isn't written

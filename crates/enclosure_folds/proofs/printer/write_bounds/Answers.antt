@@ -3,8 +3,8 @@ use Rattle.std.proofs.lemmas.List.{drop_all, drop_more}
 use Rattle.std.specs.List.{flat_map}
 use Rattle.marple_base.specs.Sink.{TakesFront}
 use Rattle.table_printer.specs.TableText.{line}
-use Rattle.text_buffer.specs.Pieces.{TakesAllBut}
-use Rattle.text_buffer.proofs.Pieces.{all_waits, front_is_taken, none_taken, on_err, part_broke, part_more}
+use Rattle.marple_base.specs.Pieces.{TakesAllBut}
+use Rattle.marple_base.proofs.Pieces.{all_waits, front_is_taken, none_taken, on_err, part_broke, part_more}
 use Rattle.enclosure_folds.specs.BoundsTables.{bounds_heading, bounds_parts, bounds_text, bounds_title}
 use Rattle.enclosure_folds.specs.declared.table.BoundsRow.{BoundsRow}
 use Rattle.enclosure_folds.proofs.printer.write_bounds.Goals as goal

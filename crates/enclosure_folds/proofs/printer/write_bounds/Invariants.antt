@@ -1,7 +1,7 @@
 use Rattle.std.proofs.Common.{◌≤◌, ◌++◌, drop}
 use Rattle.std.specs.List.{flat_map}
 use Rattle.table_printer.specs.TableText.{line}
-use Rattle.text_buffer.specs.Pieces.{TakesAllBut}
+use Rattle.marple_base.specs.Pieces.{TakesAllBut}
 use Rattle.enclosure_folds.specs.BoundsTables.{bounds_parts, bounds_text}
 use Rattle.enclosure_folds.proofs.printer.write_bounds.Given as goal
 

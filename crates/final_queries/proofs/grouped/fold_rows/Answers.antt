@@ -1,5 +1,5 @@
 use Rattle.std.proofs.Common.{◌≡◌, ◌∙◌, sym, ap, subst, length, arith, length-take, length-append, length-drop}
-use Rattle.merged_epochs.specs.Merged.{StoreHolds}
+use Rattle.backing_store.specs.Merged.{StoreHolds}
 use Rattle.query_lang.specs.TypedQueries.{AreSlots}
 use Rattle.table_rows.specs.LentRows.{row_of}
 use Rattle.table_rows.proofs.LentFacts.{holds_at}

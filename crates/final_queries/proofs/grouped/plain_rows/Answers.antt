@@ -1,6 +1,6 @@
 use Rattle.std.proofs.Common.{◌≡◌, suc, ◌+◌, ◌∙◌, List, Some, set, sym, ap, subst, arith, slice_get}
 use Rattle.epoch_model.specs.declared.tables.Row.{Row}
-use Rattle.merged_epochs.proofs.Showing.{here_stored, one_shown, row_at, shown_to}
+use Rattle.backing_store.proofs.Showing.{here_stored, one_shown, row_at, shown_to}
 use Rattle.final_queries.specs.Grouped.{plain_of}
 use Rattle.final_queries.proofs.grouped.plain_rows.Goals as goal
 

@@ -1,5 +1,5 @@
 use Rattle.std.proofs.Common.{◌≡◌}
-use Rattle.merged_epochs.proofs.Showing.{shown_to}
+use Rattle.backing_store.proofs.Showing.{shown_to}
 use Rattle.final_queries.specs.Grouped.{plain_of}
 use Rattle.final_queries.proofs.grouped.plain_rows.Given as goal
 

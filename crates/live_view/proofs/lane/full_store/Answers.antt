@@ -1,5 +1,5 @@
 use Rattle.std.proofs.Common.{◌≡◌, take, drop, sym, ap, ◌∙◌, subst, take-append-drop}
-use Rattle.merged_epochs.specs.Merged.{StoreHolds}
+use Rattle.backing_store.specs.Merged.{StoreHolds}
 use Rattle.switch_core.specs.Lanes.{CacheStands, LaneStands, RecordsStand}
 use Rattle.live_view.specs.Views.{all_epochs}
 use Rattle.live_view.proofs.lane.full_store.Goals as goal

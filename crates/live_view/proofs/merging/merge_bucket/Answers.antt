@@ -1,7 +1,7 @@
 use Rattle.std.proofs.Common.{◌≡◌, ◌+◌, ◌-◌, ◌∷◌, ◌++◌, length, drop, reverse, refl, sym, ap, ◌∙◌, subst, arith, lit<, append-nil}
 use Rattle.std.proofs.lemmas.List.{drop_all}
 use Rattle.bucket_cache.specs.Caches.{list_at, entry_at}
-use Rattle.merged_epochs.specs.Merged.{StoreHolds}
+use Rattle.backing_store.specs.Merged.{StoreHolds}
 use Rattle.switch_core.specs.Lanes.{PairStands}
 use Rattle.live_view.proofs.Standing.{pairs_long, pair_before, none_after, place_is_there, one_before}
 use Rattle.live_view.proofs.merging.merge_bucket.Goals as goal

@@ -1,7 +1,7 @@
 use Rattle.std.proofs.Common.{◌≡◌, ◌≤◌, List, ◌++◌, drop, reverse}
 use Rattle.epoch_model.specs.Machine.{Epoch}
 use Rattle.bucket_cache.specs.Caches.{list_at}
-use Rattle.merged_epochs.specs.Merged.{StoreHolds}
+use Rattle.backing_store.specs.Merged.{StoreHolds}
 use Rattle.switch_core.specs.Lanes.{PairStands, PairsStand}
 use Rattle.live_view.proofs.merging.merge_bucket.Given as goal
 

@@ -1,7 +1,7 @@
 use Rattle.std.proofs.Common.{◌≡◌, ◌<◌, ◌++◌, length, take, flat_map, reverse, ◌∙◌, subst, arith}
 use Rattle.std.proofs.lemmas.List.{take_all}
 use Rattle.epoch_model.specs.Machine.{open_in}
-use Rattle.merged_epochs.specs.Merged.{StoreHolds}
+use Rattle.backing_store.specs.Merged.{StoreHolds}
 use Rattle.live_view.proofs.Standing.{bucket_after}
 use Rattle.live_view.proofs.merging.merge_cache.Goals as goal
 

@@ -1,6 +1,6 @@
 use Rattle.std.proofs.Common.{◌≡◌, ◌≤◌, List, ◌++◌, take, flat_map, reverse}
 use Rattle.epoch_model.specs.Machine.{Epoch, Machine}
-use Rattle.merged_epochs.specs.Merged.{StoreHolds}
+use Rattle.backing_store.specs.Merged.{StoreHolds}
 use Rattle.switch_core.specs.Lanes.{CacheStands}
 use Rattle.live_view.proofs.merging.merge_cache.Given as goal
 

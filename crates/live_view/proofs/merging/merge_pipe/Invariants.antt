@@ -1,6 +1,6 @@
 use Rattle.std.proofs.Common.{◌≡◌, ◌≤◌, List, ◌++◌, take}
 use Rattle.epoch_model.specs.Machine.{Epoch}
-use Rattle.merged_epochs.specs.Merged.{StoreHolds}
+use Rattle.backing_store.specs.Merged.{StoreHolds}
 use Rattle.switch_core.specs.Lanes.{RecordsStand}
 use Rattle.live_view.proofs.merging.merge_pipe.Given as goal
 

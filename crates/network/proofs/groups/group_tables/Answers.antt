@@ -1,7 +1,7 @@
 use Rattle.std.proofs.Common.{◌≡◌, ◌++◌, [], ◌∷◌, Some, length, take, sym, ap, ◌∙◌, arith}
 use Rattle.std.proofs.Math.Facts.{Fits-below}
 use Rattle.std.specs.Prelude.{slice_get}
-use Rattle.merged_epochs.specs.Merged.{StoreHolds}
+use Rattle.backing_store.specs.Merged.{StoreHolds}
 use Rattle.switch_core.proofs.SideBySide.{same_some, each_long, each_at}
 use Rattle.net_wide.proofs.Sharing.{got_here}
 use Rattle.network.specs.Groups.{folding_in, shared_tables}

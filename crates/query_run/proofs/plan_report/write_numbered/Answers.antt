@@ -3,8 +3,8 @@ use Rattle.std.proofs.lemmas.List.{drop_all, drop_more}
 use Rattle.std.specs.List.{flat_map}
 use Rattle.final_queries.specs.declared.table.Table.{Table}
 use Rattle.query_tables.specs.Tables.{text_at}
-use Rattle.text_buffer.specs.Pieces.{TakesAllBut}
-use Rattle.text_buffer.proofs.Pieces.{all_waits, on_err, part_broke, part_more}
+use Rattle.marple_base.specs.Pieces.{TakesAllBut}
+use Rattle.marple_base.proofs.Pieces.{all_waits, on_err, part_broke, part_more}
 use Rattle.query_run.proofs.plan_report.write_numbered.Goals as goal
 
 -- the text of the next number, and then those after it

@@ -1,5 +1,5 @@
 use Rattle.std.proofs.Common.{Err, None, ◌++◌, ap, refl}
-use Rattle.text_buffer.proofs.Pieces.{front_taken, rest_taken}
+use Rattle.marple_base.proofs.Pieces.{front_taken, rest_taken}
 use Rattle.trace_drive.specs.Answers.{BreaksOff, answer_of}
 use Rattle.trace_drive.specs.declared.answer.RunError.TheVariants.{Failed}
 use Rattle.trace_drive.proofs.Breaking.{err_is, rose_since, unwritten}

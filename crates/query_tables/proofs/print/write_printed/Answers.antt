@@ -5,8 +5,8 @@ use Rattle.final_queries.specs.declared.table.Table.{Table}
 use Rattle.query_lang.specs.TypedFinals.{table_number}
 use Rattle.query_lang.specs.declared.typed.PrintOf.{PrintOf}
 use Rattle.query_tables.specs.Tables.{text_at}
-use Rattle.text_buffer.specs.Pieces.{TakesAllBut}
-use Rattle.text_buffer.proofs.Pieces.{all_waits, on_err, part_broke, part_more}
+use Rattle.marple_base.specs.Pieces.{TakesAllBut}
+use Rattle.marple_base.proofs.Pieces.{all_waits, on_err, part_broke, part_more}
 use Rattle.query_tables.proofs.print.write_printed.Goals as goal
 
 -- the text of the next print, and then those after it

@@ -2,7 +2,7 @@ use Rattle.std.proofs.Common.{◌≡◌, [], ◌++◌, OnErr, OnOk, ap, option_m
 use Rattle.marple_base.specs.Sink.{TakesFront}
 use Rattle.query_tables.specs.Tables.{text_at}
 use Rattle.table_printer.specs.TableText.{table_text}
-use Rattle.text_buffer.specs.Pieces.{TakesAllBut}
+use Rattle.marple_base.specs.Pieces.{TakesAllBut}
 use Rattle.query_tables.proofs.print.write_table_at.Goals as goal
 
 pub returns-clause-ok : goal.returns-clause-ok

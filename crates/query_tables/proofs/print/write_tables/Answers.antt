@@ -10,8 +10,8 @@ use Rattle.query_lang.specs.TypedQueries.{group_shape}
 use Rattle.final_queries.specs.declared.table.Table.{Table}
 use Rattle.final_queries.specs.Finals.{table_shape, with_finals}
 use Rattle.query_tables.specs.Tables.{printed, text_at}
-use Rattle.text_buffer.specs.Pieces.{TakesAllBut}
-use Rattle.text_buffer.proofs.Pieces.{none_taken, on_err}
+use Rattle.marple_base.specs.Pieces.{TakesAllBut}
+use Rattle.marple_base.proofs.Pieces.{none_taken, on_err}
 use Rattle.query_tables.proofs.print.write_tables.Goals as goal
 
 texts_are : (q : TypedQuery) (groups : List Table) (count : ℕ) (tables : List Table) (prints : List PrintOf) → count ≡ length groups

@@ -5,8 +5,8 @@ use Rattle.marple_base.specs.Sink.{TakesFront}
 use Rattle.table_rows.specs.LentRows.{row_of}
 use Rattle.table_rows.proofs.LentFacts.{rows_from}
 use Rattle.table_printer.specs.TableText.{heading, line, row_parts, table_text, title}
-use Rattle.text_buffer.specs.Pieces.{TakesAllBut}
-use Rattle.text_buffer.proofs.Pieces.{all_waits, front_is_taken, none_taken, on_err, part_broke, part_more}
+use Rattle.marple_base.specs.Pieces.{TakesAllBut}
+use Rattle.marple_base.proofs.Pieces.{all_waits, front_is_taken, none_taken, on_err, part_broke, part_more}
 use Rattle.table_printer.proofs.printer.write_table.Goals as goal
 
 pub returns-in_err-push_head-clause-err : goal.returns-in_err-push_head-clause-err

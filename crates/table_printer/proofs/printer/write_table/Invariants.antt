@@ -1,6 +1,6 @@
 use Rattle.std.proofs.Common.{◌≤◌, ◌++◌, drop, flat_map}
 use Rattle.table_printer.specs.TableText.{table_text, row_parts, line}
-use Rattle.text_buffer.specs.Pieces.{TakesAllBut}
+use Rattle.marple_base.specs.Pieces.{TakesAllBut}
 use Rattle.table_printer.proofs.printer.write_table.Given as goal
 
 -- what waits, and then the lines of the rows that are left, is all of the table that isn't written

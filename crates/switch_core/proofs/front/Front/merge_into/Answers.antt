@@ -1,6 +1,6 @@
 -- An empty pipe merges nothing, and another one its oldest record.
 use Rattle.std.proofs.Common.{◌≡◌, ◌++◌, ◌<◌, length, refl, sym, ap, ◌∙◌, subst, arith, append-nil}
-use Rattle.merged_epochs.specs.Merged.{StoreHolds}
+use Rattle.backing_store.specs.Merged.{StoreHolds}
 use Rattle.switch_core.specs.Lanes.{FrontStands}
 use Rattle.switch_core.proofs.MergeSteps.{none_dropped, none_piped, merge_none, none_next}
 use Rattle.switch_core.proofs.Carrying.{carries_merge}

@@ -1,0 +1,11 @@
+use Rattle.std.proofs.Common.{false, replicate, arith, ◌∙◌}
+use Rattle.std.proofs.lemmas.List.{get_or-replicate}
+use Rattle.fold_class.specs.Walk.{flag_in}
+use Rattle.fold_class.proofs.LinearLemmas.{same_fixed}
+use Rattle.enclosure_folds.specs.Kinds.{role, none_fixed}
+use Rattle.enclosure_folds.proofs.monotone.is_monotone.Goals as goal
+
+pub returns : goal.returns
+returns c =
+    c.has_no_other.ensures
+    ∙ same_fixed role c.args.f.now (flag_in (replicate 8 false)) none_fixed (λ v lt. get_or-replicate 8 v false false (omega (arith, lt, c.requires.states)))

@@ -1,0 +1,247 @@
+-- The words of a body are read as the tokens that write it.
+use Rattle.std.proofs.Common.{◌≡◌, ℕ, ◌+◌, ◌-◌, ◌^◌, ◌<◌, ◌≤◌, Bool, true, false, eqb, List, [], ◌∷◌, ◌++◌, Some, None, refl, ap, ◌∙◌, arith}
+use Rattle.std.specs.Prelude.{decimal, codes, map, nat_lt, if◌then◌else◌}
+use Rattle.std.proofs.lemmas.Bool.Decides.{nat_tests}
+use Rattle.std.proofs.lemmas.Fmt.{decimal_is_IsNumeral}
+use Rattle.std.proofs.lemmas.List.{map-append}
+use Rattle.std.proofs.lemmas.Str.Parse.{digit_from_value}
+use Rattle.std.specs.Str.Parse.{AllDigits}
+use Rattle.query_lang.specs.declared.fold.Op.{Op}
+use Rattle.query_lang.specs.declared.fold.Op.TheVariants as ops
+use Rattle.query_lang.specs.Blocks.{Block, End, Set, Fork}
+use Rattle.query_lang.specs.Terms.{Term, Literal, Read, Negation, Operation}
+use Rattle.query_lang.specs.Folds.{IsValidTerm, IsValidBlock, block_count}
+use Rattle.plan_file.specs.declared.lexemes.Lexeme.TheVariants as word
+use Rattle.plan_file.specs.Lexis.{number, function_named}
+use Rattle.plan_file.specs.Lexemes.{lexeme_among, lexeme_of}
+use Rattle.plan_file.specs.Bodies.{slot_lexeme, written, written_block, open_braces, IsBody}
+use Rattle.plan_writer.specs.Words.{function_word, number_word, state_word, slot_word, term_words, block_words}
+use Rattle.marple_laws.proofs.Tokens.{is_token, AreTokens}
+use Rattle.marple_laws.proofs.Numbers.{number_decimal, token_marked}
+
+pub function_read : (op : Op) → function_named (function_word op) ≡ Some op
+unfolding function_named
+function_read ops.Mul = refl
+function_read ops.Div = refl
+function_read ops.Rem = refl
+function_read ops.Add = refl
+function_read ops.Sub = refl
+function_read ops.Shl = refl
+function_read ops.Shr = refl
+function_read ops.And = refl
+function_read ops.Xor = refl
+function_read ops.Or = refl
+function_read ops.Eq = refl
+function_read ops.Ne = refl
+function_read ops.Lt = refl
+function_read ops.Le = refl
+function_read ops.Gt = refl
+function_read ops.Ge = refl
+function_read ops.Both = refl
+function_read ops.Either = refl
+function_read ops.Max = refl
+function_read ops.Min = refl
+function_read ops.Sadd = refl
+function_read ops.Decay = refl
+
+pub token_function : (op : Op) → is_token (function_word op) ≡ true
+token_function ops.Mul = refl
+token_function ops.Div = refl
+token_function ops.Rem = refl
+token_function ops.Add = refl
+token_function ops.Sub = refl
+token_function ops.Shl = refl
+token_function ops.Shr = refl
+token_function ops.And = refl
+token_function ops.Xor = refl
+token_function ops.Or = refl
+token_function ops.Eq = refl
+token_function ops.Ne = refl
+token_function ops.Lt = refl
+token_function ops.Le = refl
+token_function ops.Gt = refl
+token_function ops.Ge = refl
+token_function ops.Both = refl
+token_function ops.Either = refl
+token_function ops.Max = refl
+token_function ops.Min = refl
+token_function ops.Sadd = refl
+token_function ops.Decay = refl
+
+function_lexeme : (op : Op) → lexeme_of (function_word op) ≡ word.Function op
+unfolding lexeme_of function_named
+function_lexeme ops.Mul = refl
+function_lexeme ops.Div = refl
+function_lexeme ops.Rem = refl
+function_lexeme ops.Add = refl
+function_lexeme ops.Sub = refl
+function_lexeme ops.Shl = refl
+function_lexeme ops.Shr = refl
+function_lexeme ops.And = refl
+function_lexeme ops.Xor = refl
+function_lexeme ops.Or = refl
+function_lexeme ops.Eq = refl
+function_lexeme ops.Ne = refl
+function_lexeme ops.Lt = refl
+function_lexeme ops.Le = refl
+function_lexeme ops.Gt = refl
+function_lexeme ops.Ge = refl
+function_lexeme ops.Both = refl
+function_lexeme ops.Either = refl
+function_lexeme ops.Max = refl
+function_lexeme ops.Min = refl
+function_lexeme ops.Sadd = refl
+function_lexeme ops.Decay = refl
+
+number_lexeme : (n : ℕ) → n < 2 ^ 64 → lexeme_of (number_word n) ≡ word.Number n
+unfolding lexeme_of function_named
+number_lexeme n small = ap (λ o. lexeme_among None o None None) (number_decimal n small)
+
+-- a digit is none of the letters that follow `s` or `a` in another word
+other_byte : (c d : ℕ) → c ≤ 57 → 57 < d → eqb c d ≡ false
+other_byte c d low high = grind (arith, nat_tests)
+
+state_digits : (ds : List ℕ) (v : ℕ) → AllDigits 10 ds → number ds ≡ Some v → lexeme_of (115 ∷ ds) ≡ word.State v
+unfolding lexeme_of function_named
+state_digits [] v d e = cc
+state_digits (c ∷ ds) v d e =
+    let k = digit_from_value c d.0 in
+    let low : c ≤ 57 = k.1 in
+    rw (other_byte c 101 low (omega arith), other_byte c 117 low (omega arith), other_byte c 104 low (omega arith), other_byte c 97 low (omega arith))
+    (ap (λ o. lexeme_among None None o None) e)
+
+argument_digits : (ds : List ℕ) (v : ℕ) → AllDigits 10 ds → number ds ≡ Some v → lexeme_of (97 ∷ ds) ≡ word.Argument v
+unfolding lexeme_of function_named
+argument_digits [] v d e = cc
+argument_digits (c ∷ ds) v d e =
+    let k = digit_from_value c d.0 in
+    let low : c ≤ 57 = k.1 in
+    rw (other_byte c 100 low (omega arith), other_byte c 110 low (omega arith))
+    (ap (λ o. lexeme_among None None None o) e)
+
+state_lexeme : (v : ℕ) → v < 2 ^ 64 → lexeme_of (state_word v) ≡ word.State v
+state_lexeme v small = state_digits (decimal v) v (decimal_is_IsNumeral v small).0.1 (number_decimal v small)
+
+slot_read : (states s : ℕ) → s < 2 ^ 64 → lexeme_of (slot_word states s) ≡ slot_lexeme states s
+slot_read states s small = by (nat_lt s states)
+  where
+    less : s - states < 2 ^ 64
+    less = omega arith
+
+    by : (b : Bool) → lexeme_of (if b then state_word s else 97 ∷ decimal (s - states)) ≡ (if b then word.State s else word.Argument (s - states))
+    by true = state_lexeme s small
+    by false = argument_digits (decimal (s - states)) (s - states) (decimal_is_IsNumeral (s - states) less).0.1 (number_decimal (s - states) less)
+
+set_lexeme : lexeme_of (codes "set") ≡ word.Set
+unfolding lexeme_of
+set_lexeme = refl
+
+if_lexeme : lexeme_of (codes "if") ≡ word.If
+unfolding lexeme_of
+if_lexeme = refl
+
+open_lexeme : lexeme_of (codes "{") ≡ word.Open
+unfolding lexeme_of
+open_lexeme = refl
+
+close_lexeme : lexeme_of (codes "}") ≡ word.Close
+unfolding lexeme_of
+close_lexeme = refl
+
+not_lexeme : lexeme_of (codes "not") ≡ word.Not
+unfolding lexeme_of
+not_lexeme = refl
+
+-- this many slots have numbers that fit a word
+abbrev pub AreFew : ℕ → Type 0
+AreFew slots = slots < 2 ^ 64
+
+pub term_read : (states slots : ℕ) (e : Term) → AreFew slots → IsValidTerm slots e → map lexeme_of (term_words states e) ≡ written states e
+term_read states slots (Literal n) few v = ap (λ w. w ∷ []) (number_lexeme n v)
+term_read states slots (Read s) few v = ap (λ w. w ∷ []) (slot_read states s (omega (arith, few, v)))
+term_read states slots (Negation e) few v =
+    ap (λ w. w ∷ map lexeme_of (term_words states e)) not_lexeme ∙ ap (λ l. word.Not ∷ l) (term_read states slots e few v.0)
+term_read states slots (Operation op a b) few v =
+    ap (λ w. w ∷ map lexeme_of (term_words states a ++ term_words states b)) (function_lexeme op)
+    ∙ ap (λ l. word.Function op ∷ l) (map-append lexeme_of (term_words states a) (term_words states b)
+    ∙ ap (λ l. l ++ map lexeme_of (term_words states b)) (term_read states slots a few v.0)
+    ∙ ap (λ l. written states a ++ l) (term_read states slots b few v.1))
+
+pub block_read : (states args : ℕ) (body : Block) → AreFew (states + args) → IsValidBlock states args body → map lexeme_of (block_words states body) ≡ written_block states body
+block_read states args End few v = refl
+block_read states args (Set s e next) few v =
+    let small : s < 2 ^ 64 = omega (arith, v.0, few) in
+    ap (λ w. w ∷ lexeme_of (state_word s) ∷ map lexeme_of (term_words states e ++ block_words states next)) set_lexeme
+    ∙ ap (λ w. word.Set ∷ w ∷ map lexeme_of (term_words states e ++ block_words states next)) (state_lexeme s small)
+    ∙ ap (λ l. word.Set ∷ word.State s ∷ l) (map-append lexeme_of (term_words states e) (block_words states next)
+    ∙ ap (λ l. l ++ map lexeme_of (block_words states next)) (term_read states (states + args) e few v.1)
+    ∙ ap (λ l. written states e ++ l) (block_read states args next few v.3))
+block_read states args (Fork c a b next) few v =
+    let x = term_words states c in
+    let y = block_words states a in
+    let z = block_words states b in
+    let n = block_words states next in
+    pieces (codes "if") (codes "{") (codes "}") x y z n
+    ∙ (λ k. if_lexeme k ∷ (term_read states (states + args) c few v.0 k
+    ++ (open_lexeme k ∷ (block_read states args a few v.2 k
+    ++ (close_lexeme k ∷ open_lexeme k ∷ (block_read states args b few v.3 k
+    ++ (close_lexeme k ∷ block_read states args next few v.4 k)))))))
+  where
+    pieces : (i o e : List ℕ) (x y z n : List (List ℕ)) →
+        map lexeme_of (i ∷ (x ++ (o ∷ (y ++ (e ∷ o ∷ (z ++ (e ∷ n)))))))
+        ≡ lexeme_of i ∷ (map lexeme_of x ++ (lexeme_of o ∷ (map lexeme_of y ++ (lexeme_of e ∷ lexeme_of o ∷ (map lexeme_of z ++ (lexeme_of e ∷ map lexeme_of n))))))
+    pieces i o e x y z n = simp (map-append)
+
+-- each choice is a statement, so there are no more braces open at once than statements
+pub few_braces : (body : Block) → open_braces body ≤ block_count body
+few_braces End = omega arith
+few_braces (Set v e next) = omega (arith, few_braces next)
+few_braces (Fork c a b next) = omega (arith, few_braces a, few_braces b, few_braces next)
+
+-- the words are tokens
+
+tokens_append : (xs ys : List (List ℕ)) → AreTokens xs → AreTokens ys → AreTokens (xs ++ ys)
+tokens_append [] ys a b = b
+tokens_append (x ∷ xs) ys a b = (a.0, tokens_append xs ys a.1 b)
+
+token_slot : (states s : ℕ) → s < 2 ^ 64 → is_token (slot_word states s) ≡ true
+token_slot states s small = by (nat_lt s states)
+  where
+    by : (b : Bool) → is_token (if b then state_word s else 97 ∷ decimal (s - states)) ≡ true
+    by true = token_marked 115 s refl small
+    by false = token_marked 97 (s - states) refl (omega arith)
+
+tokens_term : (states slots : ℕ) (e : Term) → AreFew slots → IsValidTerm slots e → AreTokens (term_words states e)
+tokens_term states slots (Literal n) few v = (token_marked 35 n refl v, tt)
+tokens_term states slots (Read s) few v = (token_slot states s (omega (arith, few, v)), tt)
+tokens_term states slots (Negation e) few v = (refl, tokens_term states slots e few v.0)
+tokens_term states slots (Operation op a b) few v =
+    (token_function op, tokens_append (term_words states a) (term_words states b) (tokens_term states slots a few v.0) (tokens_term states slots b few v.1))
+
+pub tokens_block : (states args : ℕ) (body : Block) → AreFew (states + args) → IsValidBlock states args body → AreTokens (block_words states body)
+tokens_block states args End few v = tt
+tokens_block states args (Set s e next) few v = (
+  refl,
+  (
+    token_marked 115 s refl (omega (arith, v.0, few)),
+    tokens_append (term_words states e) (block_words states next) (tokens_term states (states + args) e few v.1) (tokens_block states args next few v.3),
+  ),
+)
+tokens_block states args (Fork c a b next) few v = (
+  refl,
+  tokens_append (term_words states c) _ (tokens_term states (states + args) c few v.0) (
+    refl,
+    tokens_append (block_words states a) _ (tokens_block states args a few v.2) (
+      refl,
+      (
+        refl,
+        tokens_append (block_words states b) _ (tokens_block states args b few v.3)
+            (refl, tokens_block states args next few v.4),
+      ),
+    ),
+  ),
+)
+
+-- the words write the body
+pub body_written : (states args : ℕ) (body : Block) → AreFew (states + args) → IsValidBlock states args body → block_count body ≤ 64 → IsBody states args (map lexeme_of (block_words states body)) body
+body_written states args body few v least = record { statements = block_read states args body few v; typed = v; nesting = omega (arith, few_braces body, least) }

@@ -1,0 +1,190 @@
+-- Whether tokens of bodies are the same, and whether a body is valid, is decided.
+use Rattle.std.proofs.Common.{◌≡◌, ℕ, ◌+◌, ◌<◌, ◌^◌, true, false, List, [], ◌∷◌, get_or, refl, sym, ap, ap₂, ◌∙◌, subst, inl, inr}
+use Rattle.std.specs.Prelude.{◌==◌, if◌then◌else◌}
+use Rattle.query_lang.specs.declared.fold.Op.{Op}
+use Rattle.query_lang.specs.declared.fold.Op.TheVariants as ops
+use Rattle.query_lang.specs.Blocks.{Block, End, Set, Fork}
+use Rattle.query_lang.specs.Folds.{IsConstant, IsValidBlock, IsValidTerm, TakesOperands, is_condition}
+use Rattle.query_lang.specs.Terms.{Term, Literal, Read, Negation, Operation}
+use Rattle.plan_file.specs.declared.lexemes.Lexeme.{Lexeme}
+use Rattle.plan_file.specs.declared.lexemes.Lexeme.TheVariants as word
+use Rattle.plan_file.specs.Bodies.{IsBody, open_braces, written_block}
+use Rattle.plan_loader.specs.Reading.{block_written}
+use Rattle.plan_loader.proofs.BodyReading.{bodies}
+use Rattle.marple_laws.proofs.Decisions.{Decided, both, by_both, is_false, is_true, less, most, same_list, same_number}
+
+-- functions by their numbers
+
+abbrev number_of : Op → ℕ
+number_of ops.Mul = 0
+number_of ops.Div = 1
+number_of ops.Rem = 2
+number_of ops.Add = 3
+number_of ops.Sub = 4
+number_of ops.Shl = 5
+number_of ops.Shr = 6
+number_of ops.And = 7
+number_of ops.Xor = 8
+number_of ops.Or = 9
+number_of ops.Eq = 10
+number_of ops.Ne = 11
+number_of ops.Lt = 12
+number_of ops.Le = 13
+number_of ops.Gt = 14
+number_of ops.Ge = 15
+number_of ops.Both = 16
+number_of ops.Either = 17
+number_of ops.Max = 18
+number_of ops.Min = 19
+number_of ops.Sadd = 20
+number_of ops.Decay = 21
+
+abbrev all_ops : List Op
+all_ops = ops.Mul ∷ ops.Div ∷ ops.Rem ∷ ops.Add ∷ ops.Sub ∷ ops.Shl ∷ ops.Shr ∷ ops.And ∷ ops.Xor ∷ ops.Or ∷ ops.Eq ∷ ops.Ne ∷ ops.Lt ∷ ops.Le ∷ ops.Gt ∷ ops.Ge ∷ ops.Both ∷ ops.Either ∷ ops.Max ∷ ops.Min ∷ ops.Sadd ∷ ops.Decay ∷ []
+
+op_again : (op : Op) → get_or all_ops (number_of op) ops.Mul ≡ op
+op_again ops.Mul = refl
+op_again ops.Div = refl
+op_again ops.Rem = refl
+op_again ops.Add = refl
+op_again ops.Sub = refl
+op_again ops.Shl = refl
+op_again ops.Shr = refl
+op_again ops.And = refl
+op_again ops.Xor = refl
+op_again ops.Or = refl
+op_again ops.Eq = refl
+op_again ops.Ne = refl
+op_again ops.Lt = refl
+op_again ops.Le = refl
+op_again ops.Gt = refl
+op_again ops.Ge = refl
+op_again ops.Both = refl
+op_again ops.Either = refl
+op_again ops.Max = refl
+op_again ops.Min = refl
+op_again ops.Sadd = refl
+op_again ops.Decay = refl
+
+-- tokens as two numbers
+
+abbrev kind_of : Lexeme → ℕ
+kind_of word.Set = 0
+kind_of word.If = 1
+kind_of word.Open = 2
+kind_of word.Close = 3
+kind_of word.Not = 4
+kind_of (word.Function op) = 5
+kind_of (word.Number n) = 6
+kind_of (word.State n) = 7
+kind_of (word.Argument n) = 8
+kind_of word.Other = 9
+
+abbrev part_of : Lexeme → ℕ
+part_of (word.Function op) = number_of op
+part_of (word.Number n) = n
+part_of (word.State n) = n
+part_of (word.Argument n) = n
+part_of _ = 0
+
+abbrev word_with : ℕ → ℕ → Lexeme
+word_with kind part =
+    if kind == 0 then word.Set else
+    if kind == 1 then word.If else
+    if kind == 2 then word.Open else
+    if kind == 3 then word.Close else
+    if kind == 4 then word.Not else
+    if kind == 5 then word.Function (get_or all_ops part ops.Mul) else
+    if kind == 6 then word.Number part else
+    if kind == 7 then word.State part else
+    if kind == 8 then word.Argument part else
+    word.Other
+
+word_again : (w : Lexeme) → word_with (kind_of w) (part_of w) ≡ w
+word_again word.Set = refl
+word_again word.If = refl
+word_again word.Open = refl
+word_again word.Close = refl
+word_again word.Not = refl
+word_again (word.Function op) = ap word.Function (op_again op)
+word_again (word.Number n) = refl
+word_again (word.State n) = refl
+word_again (word.Argument n) = refl
+word_again word.Other = refl
+
+same_word : (a b : Lexeme) → Decided (a ≡ b)
+same_word a b =
+    by_both (λ p. sym (word_again a) ∙ ap₂ word_with p.0 p.1 ∙ word_again b) (λ e. (ap kind_of e, ap part_of e))
+    (both (same_number (kind_of a) (kind_of b)) (same_number (part_of a) (part_of b)))
+
+-- valid terms and blocks
+
+constant : (P : ℕ → Type 0) → ((n : ℕ) → Decided (P n)) → (e : Term) → Decided (IsConstant P e)
+constant P decide (Literal n) = decide n
+constant P decide (Read s) = inr (λ p. p)
+constant P decide (Negation e) = inr (λ p. p)
+constant P decide (Operation op a b) = inr (λ p. p)
+
+conditions : (a b : Term) → Decided ((is_condition a ≡ true) × (is_condition b ≡ true))
+conditions a b = both (is_true (is_condition a)) (is_true (is_condition b))
+
+two_words : (a b : Term) → Decided ((is_condition a ≡ false) × (is_condition b ≡ false))
+two_words a b = both (is_false (is_condition a)) (is_false (is_condition b))
+
+divided : (a b : Term) → Decided ((is_condition a ≡ false) × IsConstant (λ n. 0 < n) b)
+divided a b = both (is_false (is_condition a)) (constant (λ n. 0 < n) (λ n. less 0 n) b)
+
+shifted : (a b : Term) → Decided ((is_condition a ≡ false) × IsConstant (λ n. n < 64) b)
+shifted a b = both (is_false (is_condition a)) (constant (λ n. n < 64) (λ n. less n 64) b)
+
+takes : (op : Op) (a b : Term) → Decided (TakesOperands op a b)
+takes ops.Mul a b = two_words a b
+takes ops.Div a b = divided a b
+takes ops.Rem a b = divided a b
+takes ops.Add a b = two_words a b
+takes ops.Sub a b = two_words a b
+takes ops.Shl a b = shifted a b
+takes ops.Shr a b = shifted a b
+takes ops.And a b = two_words a b
+takes ops.Xor a b = two_words a b
+takes ops.Or a b = two_words a b
+takes ops.Eq a b = two_words a b
+takes ops.Ne a b = two_words a b
+takes ops.Lt a b = two_words a b
+takes ops.Le a b = two_words a b
+takes ops.Gt a b = two_words a b
+takes ops.Ge a b = two_words a b
+takes ops.Both a b = conditions a b
+takes ops.Either a b = conditions a b
+takes ops.Max a b = two_words a b
+takes ops.Min a b = two_words a b
+takes ops.Sadd a b = two_words a b
+takes ops.Decay a b = shifted a b
+
+valid_term : (slots : ℕ) (e : Term) → Decided (IsValidTerm slots e)
+valid_term slots (Literal n) = less n (2 ^ 64)
+valid_term slots (Read s) = less s slots
+valid_term slots (Negation e) = both (valid_term slots e) (is_true (is_condition e))
+valid_term slots (Operation op a b) =
+    by_both (λ p. (p.0.0, p.0.1, p.1)) (λ p. ((p.0, p.1), p.2)) (both (both (valid_term slots a) (valid_term slots b)) (takes op a b))
+
+valid_block : (states args : ℕ) (b : Block) → Decided (IsValidBlock states args b)
+valid_block states args End = inl tt
+valid_block states args (Set v e rest) =
+    by_both (λ p. (p.0.0, p.0.1, p.1.0, p.1.1)) (λ p. ((p.0, p.1), (p.2, p.3)))
+    (both (both (less v states) (valid_term (states + args) e)) (both (is_false (is_condition e)) (valid_block states args rest)))
+valid_block states args (Fork c a b rest) =
+    by_both (λ p. (p.0.0, p.0.1, p.1.0, p.1.1.0, p.1.1.1)) (λ p. ((p.0, p.1), (p.2, (p.3, p.4))))
+    (both (both (valid_term (states + args) c) (is_true (is_condition c))) (both (valid_block states args a) (both (valid_block states args b) (valid_block states args rest))))
+
+-- the body that tokens write is the only one that they can be
+pub is_body : (states args : ℕ) (words : List Lexeme) → Decided ((body : Block) × IsBody states args words body)
+is_body states args words =
+    let body = block_written states words in
+    by_both
+    (λ p. (body, record { statements = p.0; typed = p.1.0; nesting = p.1.1 }))
+    (λ found.
+    let same : found.0 ≡ body = sym (bodies.written states args words found.0 found.1) in
+    let is = subst (IsBody states args words) same found.1 in
+    (is.statements, (is.typed, is.nesting)))
+    (both (same_list same_word words (written_block states body)) (both (valid_block states args body) (most (open_braces body) 64)))

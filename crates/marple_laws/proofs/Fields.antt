@@ -1,0 +1,154 @@
+-- The fields of a set in their order, and which registers the lines of a plan know.
+use Rattle.std.proofs.Common.{◌≡◌, ℕ, suc, ◌+◌, ◌^◌, ◌<◌, ◌≤◌, Bool, true, false, cond, List, [], ◌∷◌, length, refl, sym, ap, subst, ◌∙◌, inl, inr, arith, Contains}
+use Rattle.std.specs.Prelude.{All, map, filter, codes}
+use Rattle.std.proofs.lemmas.Bool.{cases_lt}
+use Rattle.std.proofs.lemmas.List.Elements.{All-head, All-tail}
+use Rattle.marple_base.specs.declared.field.Field.{Field}
+use Rattle.marple_base.specs.declared.field.Field.TheVariants.{Switch, Qid, Uid, SrcIp, DstIp, SrcPort, DstPort, Proto, PktLen, PayloadLen, TcpSeq, Tin, Tout, QSize}
+use Rattle.marple_base.specs.declared.field.FieldSet.{FieldSet}
+use Rattle.marple_base.specs.Field.{number_of, field_name, all_fields, has_field}
+use Rattle.stage_plan.specs.declared.op.Operand.{Operand}
+use Rattle.stage_plan.specs.declared.op.Operand.TheVariants.{Register, Number}
+use Rattle.stage_plan.specs.declared.op.PlanOp.{PlanOp}
+use Rattle.stage_plan.specs.Sound.{IsWithin}
+use Rattle.plan_file.specs.declared.line_word.LineWord.TheVariants as lead
+use Rattle.plan_file.specs.declared.made.Made.{Made}
+use Rattle.plan_file.specs.LineWords.{word_named}
+use Rattle.plan_file.specs.Lines.{nothing}
+use Rattle.plan_file.specs.Operations.{AreFrom, IsKnown}
+use Rattle.plan_writer.specs.PlanText.{fields_of, reads_line}
+use Rattle.plan_writer.specs.Words.{line}
+use Rattle.marple_laws.proofs.GroupLines.{IsReadable, AreReadable}
+use Rattle.marple_laws.proofs.Listed.{IsIn}
+use Rattle.marple_laws.proofs.Known.{IsGood, AllGood}
+use Rattle.marple_laws.proofs.OpLines.{Fits, with_ops}
+use Rattle.marple_laws.proofs.Tokens.{is_token, AreTokens}
+use Rattle.marple_laws.proofs.Written.{IsWritten, line_written}
+
+pub in_filter : (test : Field → Bool) (f : Field) (fields : List Field) → test f ≡ true → IsIn f fields → IsIn f (filter test fields)
+in_filter test f [] e h = absurd h
+in_filter test f (g ∷ fields) e (inl same) =
+    let passes : test g ≡ true = ap test (sym same) ∙ e in
+    subst (λ b. IsIn f (cond b (g ∷ filter test fields) (filter test fields))) (sym passes) (inl same)
+in_filter test f (g ∷ fields) e (inr h) = by (test g) (in_filter test f fields e h)
+  where
+    by : (b : Bool) → IsIn f (filter test fields) → IsIn f (cond b (g ∷ filter test fields) (filter test fields))
+    by true rest = inr rest
+    by false rest = rest
+
+-- the test holds for a field that is left
+pub out_of_filter : (test : Field → Bool) (f : Field) (fields : List Field) → IsIn f (filter test fields) → test f ≡ true
+out_of_filter test f [] h = absurd h
+out_of_filter test f (g ∷ fields) h = by (test g) refl h (out_of_filter test f fields)
+  where
+    by : (b : Bool) → test g ≡ b → IsIn f (cond b (g ∷ filter test fields) (filter test fields)) → (IsIn f (filter test fields) → test f ≡ true) → test f ≡ true
+    by true e (inl same) rest = ap test same ∙ e
+    by true e (inr k) rest = rest k
+    by false e k rest = rest k
+
+pub all_in : (f : Field) → IsIn f all_fields
+all_in Switch = inl refl
+all_in Qid = inr (inl refl)
+all_in Uid = inr (inr (inl refl))
+all_in SrcIp = inr (inr (inr (inl refl)))
+all_in DstIp = inr (inr (inr (inr (inl refl))))
+all_in SrcPort = inr (inr (inr (inr (inr (inl refl)))))
+all_in DstPort = inr (inr (inr (inr (inr (inr (inl refl))))))
+all_in Proto = inr (inr (inr (inr (inr (inr (inr (inl refl)))))))
+all_in PktLen = inr (inr (inr (inr (inr (inr (inr (inr (inl refl))))))))
+all_in PayloadLen = inr (inr (inr (inr (inr (inr (inr (inr (inr (inl refl)))))))))
+all_in TcpSeq = inr (inr (inr (inr (inr (inr (inr (inr (inr (inr (inl refl))))))))))
+all_in Tin = inr (inr (inr (inr (inr (inr (inr (inr (inr (inr (inr (inl refl)))))))))))
+all_in Tout = inr (inr (inr (inr (inr (inr (inr (inr (inr (inr (inr (inr (inl refl))))))))))))
+all_in QSize = inr (inr (inr (inr (inr (inr (inr (inr (inr (inr (inr (inr (inr (inl refl)))))))))))))
+
+number_there : (f : Field) (fields : List Field) → IsIn f fields → Contains (map number_of fields) (number_of f)
+number_there f [] h = absurd h
+number_there f (g ∷ fields) (inl e) = (0, omega arith, ap number_of (sym e))
+number_there f (g ∷ fields) (inr h) = let c = number_there f fields h in (suc c.0, omega (arith, c.1), c.2)
+
+-- the fields of a set are in order
+
+from_less : (fields : List Field) (m n : ℕ) → m ≤ n → AreFrom n fields → AreFrom m fields
+from_less [] m n le h = tt
+from_less (f ∷ fields) m n le h = (omega (arith, le, h.0), h.1)
+
+from_filter : (test : Field → Bool) (fields : List Field) (least : ℕ) → AreFrom least fields → AreFrom least (filter test fields)
+from_filter test [] least h = tt
+from_filter test (f ∷ fields) least h = by (test f) (from_filter test fields (number_of f + 1) h.1)
+  where
+    by : (b : Bool) → AreFrom (number_of f + 1) (filter test fields) → AreFrom least (cond b (f ∷ filter test fields) (filter test fields))
+    by true rest = (h.0, rest)
+    by false rest = from_less (filter test fields) least (number_of f + 1) (omega (arith, h.0)) rest
+
+all_ordered : AreFrom 0 all_fields
+all_ordered = (omega arith, (omega arith, (omega arith, (omega arith, (omega arith, (omega arith, (omega arith, (omega arith, (omega arith, (omega arith, (omega arith, (omega arith, (omega arith, (omega arith, tt))))))))))))))
+
+token_field : (f : Field) → is_token (field_name f) ≡ true
+token_field Switch = refl
+token_field Qid = refl
+token_field Uid = refl
+token_field SrcIp = refl
+token_field DstIp = refl
+token_field SrcPort = refl
+token_field DstPort = refl
+token_field Proto = refl
+token_field PktLen = refl
+token_field PayloadLen = refl
+token_field TcpSeq = refl
+token_field Tin = refl
+token_field Tout = refl
+token_field QSize = refl
+
+tokens_fields : (fields : List Field) → AreTokens (map field_name fields)
+tokens_fields [] = tt
+tokens_fields (f ∷ fields) = (token_field f, tokens_fields fields)
+
+-- the first line
+
+plan_lead : word_named (codes "marple-plan") ≡ lead.Plan
+unfolding word_named
+plan_lead = refl
+
+abbrev pub begun : Made
+begun = record nothing { begun = true }
+
+pub first_written : IsWritten (line (codes "marple-plan") (codes "1" ∷ [])) nothing begun
+first_written = line_written lead.Plan (codes "marple-plan") (codes "1" ∷ []) nothing begun refl (refl, tt) plan_lead (λ cut. record { first = refl; words = cut; made = refl })
+
+-- the line of fields
+
+reads_lead : word_named (codes "reads") ≡ lead.Reads
+unfolding word_named
+reads_lead = refl
+
+pub reads_written : (reads : FieldSet) → IsWritten (reads_line reads) begun (with_ops (fields_of reads) [])
+reads_written reads =
+    line_written lead.Reads (codes "reads") (map field_name (fields_of reads)) begun (with_ops (fields_of reads) []) refl (tokens_fields (fields_of reads)) reads_lead
+    (λ cut. record {
+      begun = refl;
+      second = refl;
+      fields = fields_of reads;
+      valid = record { words = cut; order = from_filter (has_field reads) all_fields 0 all_ordered };
+      made = refl;
+    })
+
+-- an operand that is allowed is known after the operations before it
+pub operand_known : (reads : FieldSet) (ops : List PlanOp) (o : Operand) → IsGood reads o → IsWithin (14 + length ops) o → IsKnown (fields_of reads) ops o
+operand_known reads ops (Number n) good inside = tt
+operand_known reads ops (Register r) good inside = elim (cases_lt r 14) [
+  | inl early ↦ (let g = good early in inl (subst (Contains (map number_of (fields_of reads))) g.1 (number_there g.0 (fields_of reads) (in_filter (has_field reads) g.0 all_fields g.2 (all_in g.0)))))
+  | inr late ↦ inr (late, inside)
+]
+
+pub operand_fits : (reads : FieldSet) (n : ℕ) (o : Operand) → IsGood reads o → IsWithin n o → n < 2 ^ 64 → Fits o
+operand_fits reads n (Number m) good inside small = good
+operand_fits reads n (Register r) good inside small = omega (arith, inside, small)
+
+pub operand_readable : (reads : FieldSet) (ops : List PlanOp) (o : Operand) → IsGood reads o → IsWithin (14 + length ops) o → length ops ≤ 32768 → IsReadable (fields_of reads) ops o
+operand_readable reads ops o good inside few = record { known = operand_known reads ops o good inside; fits = operand_fits reads (14 + length ops) o good inside (omega (arith, few)) }
+
+pub operands_readable : (reads : FieldSet) (ops : List PlanOp) (operands : List Operand) → AllGood reads operands → All (IsWithin (14 + length ops)) operands → length ops ≤ 32768 → AreReadable (fields_of reads) ops operands
+operands_readable reads ops [] good inside few = tt
+operands_readable reads ops (o ∷ operands) good inside few =
+    (operand_readable reads ops o good.0 (All-head (IsWithin (14 + length ops)) o operands inside) few, operands_readable reads ops operands good.1 (All-tail (IsWithin (14 + length ops)) o operands inside) few)

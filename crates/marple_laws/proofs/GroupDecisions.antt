@@ -1,0 +1,277 @@
+-- The lines of a group, decided.
+use Rattle.std.proofs.Common.{◌≡◌, ℕ, ◌≤◌, List, [], ◌∷◌, ◌++◌, length, map, Some, None, refl, sym, ap, ◌∙◌, subst, inl, inr}
+use Rattle.std.specs.Prelude.{◌⊎◌, codes, unwrap_or, Contains}
+use Rattle.std.proofs.lemmas.List.{length-replicate}
+use Rattle.marple_base.specs.declared.field.Field.{Field}
+use Rattle.query_lang.specs.Blocks.{Block}
+use Rattle.query_lang.specs.declared.fold.TypedFold.{TypedFold}
+use Rattle.query_lang.specs.declared.typed.Class.{Class}
+use Rattle.query_lang.specs.declared.typed.Class.TheVariants.{Linear}
+use Rattle.query_lang.specs.Folds.{block_count, block_nodes, fold_block}
+use Rattle.fold_class.specs.Depth.{IsDepth, depth_of}
+use Rattle.fold_class.specs.Kinds.{class_of}
+use Rattle.fold_class.proofs.LawLemmas.{depth_found_is}
+use Rattle.stage_plan.specs.declared.op.Operand.{Operand}
+use Rattle.stage_plan.specs.declared.op.PlanOp.{PlanOp}
+use Rattle.stage_plan.specs.Shape.{class_word}
+use Rattle.plan_file.specs.declared.lexemes.Lexeme.{Lexeme}
+use Rattle.plan_file.specs.declared.line_word.LineWord.{LineWord}
+use Rattle.plan_file.specs.declared.line_word.LineWord.TheVariants as words
+use Rattle.plan_file.specs.declared.made.Folded.{Folded}
+use Rattle.plan_file.specs.declared.made.Group.{Group}
+use Rattle.plan_file.specs.Bodies.{IsBody, IsBodyLine}
+use Rattle.plan_file.specs.FoldLines.{AreBounds, IsFoldLine, IsFoldOf, IsFoldWords}
+use Rattle.plan_file.specs.Groups.{IsArgLine, IsGroupBody, IsGroupLine, IsInGroup, IsKeyLine, IsNewIn, IsStateLine, group_with, names_of}
+use Rattle.plan_file.specs.Lexemes.{lexeme_of}
+use Rattle.plan_file.specs.Lexis.{number, tokens}
+use Rattle.plan_file.specs.Named.{IsNamedNumber, IsNamedOperand, IsOneOperand}
+use Rattle.plan_file.proofs.SameFold.{words_once}
+use Rattle.plan_loader.specs.Meaning.{block_in, fold_in}
+use Rattle.plan_loader.specs.Reading.{block_written}
+use Rattle.plan_loader.proofs.BodyReading.{bodies, stmts_same}
+use Rattle.plan_loader.proofs.Folds.{blocks, classes, depths}
+use Rattle.marple_laws.proofs.BodyDecisions.{is_body}
+use Rattle.marple_laws.proofs.Decisions.{Decided, both, by_both, contains, is_empty, is_none, less, most, neither, none_some, same_number, same_text, some_same, value_of}
+use Rattle.marple_laws.proofs.PartDecisions.{named_number, named_operand, one_operand}
+
+operand_name : (fs gs : List Field) (o : List PlanOp) (w line n m : List ℕ) (u v : Operand) → IsNamedOperand fs o w line n u → IsNamedOperand gs o w line m v → n ≡ m
+operand_name fs gs o w line n m u v p q =
+    let words : w ∷ n ∷ p.token ∷ [] ≡ w ∷ m ∷ q.token ∷ [] = sym p.words ∙ q.words in
+    cc
+
+number_name : (w line n m : List ℕ) (u v : ℕ) → IsNamedNumber w line n u → IsNamedNumber w line m v → n ≡ m
+number_name w line n m u v p q =
+    let words : w ∷ n ∷ p.token ∷ [] ≡ w ∷ m ∷ q.token ∷ [] = sym p.words ∙ q.words in
+    cc
+
+pub group_line : (fs : List Field) (ops : List PlanOp) (groups : List Folded) (line : List ℕ) → Decided ((after : Group) × IsGroupLine fs ops groups line after)
+group_line fs ops groups line = by (named_operand fs ops (codes "group") line)
+  where
+    by : Decided ((name : List ℕ) × (v : Operand) × IsNamedOperand fs ops (codes "group") line name v) → Decided ((after : Group) × IsGroupLine fs ops groups line after)
+    by (inr none) = inr (λ p. none (p.0.name, p.0.present, p.1.valid))
+    by (inl (n, v, valid)) =
+        by_both
+        (λ q. (group_with n v, record { room = q.0; valid = valid; no_stream = q.1.0; new = q.1.1; made = refl }))
+        (λ p.
+        let same : p.0.name ≡ n = operand_name fs fs ops (codes "group") line p.0.name n p.0.present v p.1.valid valid in
+        (p.1.room, (λ e. p.1.no_stream (same ∙ e), λ there. p.1.new (subst (Contains (names_of groups)) (sym same) there))))
+        (both (less (length groups) 8) (both (neither (same_text n (codes "pktstream"))) (neither (contains same_text (names_of groups) n))))
+
+new_in : (group : Group) (name : List ℕ) → Decided (IsNewIn group name)
+new_in group name =
+    by_both (λ p. record { no_key = p.0; no_state = p.1 }) (λ r. (r.no_key, r.no_state))
+    (both (neither (contains same_text group.key_names name)) (neither (contains same_text group.state_names name)))
+
+key_line : (fs : List Field) (ops : List PlanOp) (before : Group) (line : List ℕ) → Decided ((after : Group) × IsKeyLine fs ops before line after)
+key_line fs ops before line = by (named_operand fs ops (codes "key") line)
+  where
+    by : Decided ((name : List ℕ) × (v : Operand) × IsNamedOperand fs ops (codes "key") line name v) → Decided ((after : Group) × IsKeyLine fs ops before line after)
+    by (inr none) = inr (λ p. none (p.1.name, p.1.value, p.1.valid))
+    by (inl (n, v, valid)) =
+        by_both
+        (λ q. (
+          record before { key_names = before.key_names ++ n ∷ []; keys = before.keys ++ v ∷ [] },
+          record { args = q.0.0; states = q.0.1; body = q.1.0; room = q.1.1.0; name = n; value = v; valid = valid; new = q.1.1.1; made = refl },
+        ))
+        (λ p.
+        let same : p.1.name ≡ n = operand_name fs fs ops (codes "key") line p.1.name n p.1.value v p.1.valid valid in
+        ((p.1.args, p.1.states), (p.1.body, (p.1.room, subst (IsNewIn before) same p.1.new))))
+        (both (both (is_empty before.args) (is_empty before.state_names)) (both (is_none before.body) (both (less (length before.keys) 8) (new_in before n))))
+
+arg_line : (fs : List Field) (ops : List PlanOp) (before : Group) (line : List ℕ) → Decided ((after : Group) × IsArgLine fs ops before line after)
+arg_line fs ops before line = by (one_operand fs ops (codes "arg") line)
+  where
+    by : Decided ((v : Operand) × IsOneOperand fs ops (codes "arg") line v) → Decided ((after : Group) × IsArgLine fs ops before line after)
+    by (inr none) = inr (λ p. none (p.1.value, p.1.valid))
+    by (inl (v, valid)) =
+        by_both
+        (λ q. (record before { args = before.args ++ v ∷ [] }, record { keys = q.0.0; states = q.0.1; body = q.1.0; room = q.1.1; value = v; valid = valid; made = refl }))
+        (λ p. ((p.1.keys, p.1.states), (p.1.body, p.1.room)))
+        (both (both (less 0 (length before.keys)) (is_empty before.state_names)) (both (is_none before.body) (less (length before.args) 16)))
+
+state_line : (before : Group) (line : List ℕ) → Decided ((after : Group) × IsStateLine before line after)
+state_line before line = by (named_number (codes "state") line)
+  where
+    by : Decided ((name : List ℕ) × (v : ℕ) × IsNamedNumber (codes "state") line name v) → Decided ((after : Group) × IsStateLine before line after)
+    by (inr none) = inr (λ p. none (p.1.name, p.1.value, p.1.valid))
+    by (inl (n, v, valid)) =
+        by_both
+        (λ q. (
+          record before { state_names = before.state_names ++ n ∷ []; initial = before.initial ++ v ∷ [] },
+          record { keys = q.0.0; body = q.0.1; room = q.1.0; name = n; value = v; valid = valid; new = q.1.1; made = refl },
+        ))
+        (λ p.
+        let same : p.1.name ≡ n = number_name (codes "state") line p.1.name n p.1.value v p.1.valid valid in
+        ((p.1.keys, p.1.body), (p.1.room, subst (IsNewIn before) same p.1.new)))
+        (both (both (less 0 (length before.keys)) (is_none before.body)) (both (less (length before.initial) 8) (new_in before n)))
+
+body_words : (states args : ℕ) (line : List ℕ) → Decided ((ws : List Lexeme) × IsBodyLine states args line ws)
+body_words states args line = by (tokens line) refl
+  where
+    by : (ts : List (List ℕ)) → tokens line ≡ ts → Decided ((ws : List Lexeme) × IsBodyLine states args line ws)
+    by [] e = inr (λ p. (let w = p.1.begins in cc))
+    by (t ∷ rest) e =
+        by_both
+        (λ q. (map lexeme_of rest, record { rest = rest; begins = e ∙ ap (λ w. w ∷ rest) q.0; are = refl; body = q.1.0; is_body = q.1.1 }))
+        (λ p.
+        let both_ways : t ∷ rest ≡ codes "body" ∷ p.1.rest = sym e ∙ p.1.begins in
+        let first : t ≡ codes "body" = cc in
+        let same : p.1.rest ≡ rest = cc in
+        (first, (p.1.body, subst (λ ws. IsBody states args ws p.1.body) (p.1.are ∙ ap (map lexeme_of) same) p.1.is_body)))
+        (both (same_text t (codes "body")) (is_body states args (map lexeme_of rest)))
+
+body_line : (before : Group) (line : List ℕ) → Decided ((after : Group) × IsGroupBody before line after)
+body_line before line =
+    by_both
+    (λ q. (record before { body = Some q.1.1.0 }, record { keys = q.0; once = q.1.0; words = q.1.1.0; valid = q.1.1.1; made = refl }))
+    (λ p. (p.1.keys, (p.1.once, (p.1.words, p.1.valid))))
+    (both (less 0 (length before.keys)) (both (is_none before.body) (body_words (length before.initial) (length before.args) line)))
+
+pub in_group : (word : LineWord) (fs : List Field) (ops : List PlanOp) (before : Group) (line : List ℕ) → Decided ((after : Group) × IsInGroup word fs ops before line after)
+in_group words.Key fs ops before line = key_line fs ops before line
+in_group words.Arg fs ops before line = arg_line fs ops before line
+in_group words.State fs ops before line = state_line before line
+in_group words.Body fs ops before line = body_line before line
+in_group words.Plan fs ops before line = inr (λ p. p.1)
+in_group words.Reads fs ops before line = inr (λ p. p.1)
+in_group words.Op fs ops before line = inr (λ p. p.1)
+in_group words.Group fs ops before line = inr (λ p. p.1)
+in_group words.Fold fs ops before line = inr (λ p. p.1)
+in_group words.Print fs ops before line = inr (λ p. p.1)
+in_group words.Other fs ops before line = inr (λ p. p.1)
+
+-- the line `fold`
+
+class_named : (token : List ℕ) → Decided ((class : Class) × (token ≡ class_word class))
+class_named token = by (same_text token (class_word Linear)) (same_text token (class_word Class.Other))
+  where
+    neither_one : (token ≡ class_word Linear → ⊥) → (token ≡ class_word Class.Other → ⊥) → (class : Class) → token ≡ class_word class → ⊥
+    neither_one a b Linear e = a e
+    neither_one a b Class.Other e = b e
+
+    by : Decided (token ≡ class_word Linear) → Decided (token ≡ class_word Class.Other) → Decided ((class : Class) × (token ≡ class_word class))
+    by (inl e) other = inl (Linear, e)
+    by (inr linear) (inl e) = inl (Class.Other, e)
+    by (inr linear) (inr other) = inr (λ p. neither_one linear other p.0 p.1)
+
+same_class : (a b : Class) → Decided (a ≡ b)
+same_class Linear Linear = inl refl
+same_class Linear Class.Other = inr (λ e. cc)
+same_class Class.Other Linear = inr (λ e. cc)
+same_class Class.Other Class.Other = inl refl
+
+abbrev FoldWords : List ℕ → Type 0
+FoldWords line = (class : Class) × (depth : ℕ) × (nodes : ℕ) × (statements : ℕ) × IsFoldWords line class depth nodes statements
+
+number_of : (token : List ℕ) → Decided ((n : ℕ) × (number token ≡ Some n))
+number_of token = by (value_of (number token))
+  where
+    by : ((n : ℕ) × (number token ≡ Some n)) ⊎ (number token ≡ None) → Decided ((n : ℕ) × (number token ≡ Some n))
+    by (inl found) = inl found
+    by (inr none) = inr (λ p. none_some (number token) p.0 none p.1)
+
+fold_words : (line : List ℕ) → Decided (FoldWords line)
+fold_words line = by (tokens line) refl
+  where
+    by : (ts : List (List ℕ)) → tokens line ≡ ts → Decided (FoldWords line)
+    by [] e = inr (λ p. (let w = p.4.words in cc))
+    by (a ∷ []) e = inr (λ p. (let w = p.4.words in cc))
+    by (a ∷ c ∷ []) e = inr (λ p. (let w = p.4.words in cc))
+    by (a ∷ c ∷ d ∷ []) e = inr (λ p. (let w = p.4.words in cc))
+    by (a ∷ c ∷ d ∷ n ∷ []) e = inr (λ p. (let w = p.4.words in cc))
+    by (a ∷ c ∷ d ∷ n ∷ s ∷ x ∷ ts) e = inr (λ p. (let w = p.4.words in cc))
+    by (a ∷ c ∷ d ∷ n ∷ s ∷ []) e =
+        by_both
+        (λ q. (
+          q.0.1.0,
+          q.1.0.0,
+          q.1.1.0.0,
+          q.1.1.1.0,
+          record {
+            depth_token = d;
+            nodes_token = n;
+            statements_token = s;
+            words = e ∙ ap (λ w. w ∷ c ∷ d ∷ n ∷ s ∷ []) q.0.0 ∙ ap (λ w. codes "fold" ∷ w ∷ d ∷ n ∷ s ∷ []) q.0.1.1;
+            depth_is = q.1.0.1;
+            nodes_are = q.1.1.0.1;
+            statements_are = q.1.1.1.1;
+          },
+        ))
+        (λ p.
+        let line_is : a ∷ c ∷ d ∷ n ∷ s ∷ [] ≡ codes "fold" ∷ class_word p.0 ∷ p.4.depth_token ∷ p.4.nodes_token ∷ p.4.statements_token ∷ [] = sym e ∙ p.4.words in
+        let first : a ≡ codes "fold" = cc in
+        let class : c ≡ class_word p.0 = cc in
+        let depth : d ≡ p.4.depth_token = cc in
+        let nodes : n ≡ p.4.nodes_token = cc in
+        let statements : s ≡ p.4.statements_token = cc in (
+          (first, (p.0, class)),
+          ((p.1, ap number depth ∙ p.4.depth_is), ((p.2, ap number nodes ∙ p.4.nodes_are), (p.3, ap number statements ∙ p.4.statements_are))),
+        ))
+        (both (both (same_text a (codes "fold")) (class_named c)) (both (number_of d) (both (number_of n) (number_of s))))
+
+bounds : (f : TypedFold) (nodes statements : ℕ) → Decided (AreBounds f nodes statements)
+bounds f nodes statements =
+    by_both (λ p. record { enough_nodes = p.0.0; most_nodes = p.0.1; enough_statements = p.1.0; most_statements = p.1.1 })
+    (λ b. ((b.enough_nodes, b.most_nodes), (b.enough_statements, b.most_statements)))
+    (both (both (most (block_nodes (fold_block f)) nodes) (most nodes 512)) (both (most (block_count (fold_block f)) statements) (most statements 64)))
+
+-- the fold that a `fold` line of these words ends
+fold_is : (one : Folded) (ws : List Lexeme) (b : Block) → one.group.body ≡ Some ws → IsBody (length one.group.initial) (length one.group.args) ws b → IsFoldOf one.group (fold_in one)
+fold_is one ws b has is =
+    let group = one.group in
+    let same : b ≡ fold_block (fold_in one) =
+    sym (bodies.written (length group.initial) (length group.args) ws b is)
+    ∙ ap (λ o. block_written (length group.initial) (unwrap_or o [])) (sym has)
+    ∙ sym (stmts_same (block_in group)) in
+    record {
+      words = ws;
+      has_body = has;
+      body = subst (IsBody (length group.initial) (length group.args) ws) same is;
+      states = length-replicate (length group.initial) 0;
+      args = length-replicate (length group.args) 0;
+      initial = refl;
+      emit = refl;
+    }
+
+ended : (before : Group) (line : List ℕ) (class : Class) (depth nodes statements : ℕ) → IsFoldWords line class depth nodes statements → (ws : List Lexeme) (b : Block) → before.body ≡ Some ws
+    → IsBody (length before.initial) (length before.args) ws b → Decided ((after : Folded) × IsFoldLine before line after)
+ended before line class depth nodes statements valid ws b has is =
+    let after : Folded = record { group = before; class = class; depth = depth; nodes = nodes; statements = statements } in
+    let f = fold_in after in
+    let of = fold_is after ws b has is in
+    by_both
+    (λ q. (after, record { valid = valid; fold = f; is_fold = of; class = q.0; depth = subst (IsDepth f) (sym q.1.0) (depth_found_is f); bounds = q.1.1; made = refl }))
+    (λ p.
+    let g = p.1.fold in
+    let once = words_once line p.0.class class p.0.depth depth p.0.nodes nodes p.0.statements statements p.1.valid valid in
+    let class_is : class ≡ class_of f = sym once.0 ∙ p.1.class ∙ classes before g f p.1.is_fold of in
+    let depth_is : depth ≡ depth_of f = sym once.1 ∙ depths before g f p.1.is_fold of p.0.depth (depth_of f) p.1.depth (depth_found_is f) in
+    let same = blocks before g f p.1.is_fold of in (
+      class_is,
+      (
+        depth_is,
+        record {
+          enough_nodes = subst (λ n. block_nodes (fold_block f) ≤ n) once.2 (subst (λ x. block_nodes x ≤ p.0.nodes) same p.1.bounds.enough_nodes);
+          most_nodes = subst (λ n. n ≤ 512) once.2 p.1.bounds.most_nodes;
+          enough_statements = subst (λ n. block_count (fold_block f) ≤ n) once.3 (subst (λ x. block_count x ≤ p.0.statements) same p.1.bounds.enough_statements);
+          most_statements = subst (λ n. n ≤ 64) once.3 p.1.bounds.most_statements;
+        },
+      ),
+    ))
+    (both (same_class class (class_of f)) (both (same_number depth (depth_of f)) (bounds f nodes statements)))
+
+pub fold_line : (before : Group) (line : List ℕ) → Decided ((after : Folded) × IsFoldLine before line after)
+fold_line before line = by (fold_words line) (value_of before.body)
+  where
+    with_body : FoldWords line → (ws : List Lexeme) → before.body ≡ Some ws → Decided ((b : Block) × IsBody (length before.initial) (length before.args) ws b)
+        → Decided ((after : Folded) × IsFoldLine before line after)
+    with_body (class, depth, nodes, statements, valid) ws has (inl (b, is)) = ended before line class depth nodes statements valid ws b has is
+    with_body said ws has (inr none) = inr (λ p. none (
+      fold_block p.1.fold,
+      subst (λ w. IsBody (length before.initial) (length before.args) w (fold_block p.1.fold)) (some_same before.body p.1.is_fold.words ws p.1.is_fold.has_body has) p.1.is_fold.body,
+    ))
+
+    by : Decided (FoldWords line) → ((ws : List Lexeme) × (before.body ≡ Some ws)) ⊎ (before.body ≡ None) → Decided ((after : Folded) × IsFoldLine before line after)
+    by (inr none) body = inr (λ p. none (p.0.class, p.0.depth, p.0.nodes, p.0.statements, p.1.valid))
+    by (inl said) (inr none) = inr (λ p. none_some before.body p.1.is_fold.words none p.1.is_fold.has_body)
+    by (inl said) (inl (ws, has)) = with_body said ws has (is_body (length before.initial) (length before.args) ws)

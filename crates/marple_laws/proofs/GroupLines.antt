@@ -1,0 +1,155 @@
+-- The lines of a groupby are valid in sequence.
+use Rattle.std.proofs.Common.{◌≡◌, ℕ, ◌+◌, ◌<◌, ◌≤◌, true, List, [], ◌∷◌, ◌++◌, length, Some, None, Option, refl, subst, arith, append_assoc, append-nil, Contains}
+use Rattle.std.specs.Prelude.{flat_map, map, codes, decimal}
+use Rattle.std.proofs.lemmas.List.{length_push}
+use Rattle.marple_base.specs.declared.field.Field.{Field}
+use Rattle.plan_file.specs.declared.lexemes.Lexeme.{Lexeme}
+use Rattle.plan_file.specs.declared.line_word.LineWord.TheVariants as lead
+use Rattle.plan_file.specs.declared.made.Folded.{Folded}
+use Rattle.plan_file.specs.declared.made.Group.{Group}
+use Rattle.plan_file.specs.declared.made.Made.{Made}
+use Rattle.stage_plan.specs.declared.op.Operand.{Operand}
+use Rattle.stage_plan.specs.declared.op.PlanOp.{PlanOp}
+use Rattle.plan_file.specs.LineWords.{word_named}
+use Rattle.plan_file.specs.Operations.{IsKnown}
+use Rattle.plan_writer.specs.PlanText.{named_lines}
+use Rattle.plan_writer.specs.Words.{line, operand_word}
+use Rattle.marple_laws.specs.WellNamed.{AreNames, AreNew, AreNoKeys, AllWords}
+use Rattle.marple_laws.proofs.Numbers.{number_decimal, token_decimal}
+use Rattle.marple_laws.proofs.OpLines.{Fits, operand_read, token_operand}
+use Rattle.marple_laws.proofs.Names.{token_name}
+use Rattle.marple_laws.proofs.Written.{IsWritten, nothing_written, written_then, line_written}
+
+-- an operand whose register is known, with a number that fits a word
+pub record IsReadable (fields : List Field) (ops : List PlanOp) (o : Operand) : Type 0 where
+  pub known : IsKnown fields ops o
+  pub fits : Fits o
+
+abbrev pub AreReadable : List Field → List PlanOp → List Operand → Type 0
+AreReadable fields ops [] = Unit {0}
+AreReadable fields ops (o ∷ operands) = IsReadable fields ops o × AreReadable fields ops operands
+
+none_in : (name : List ℕ) → Contains [] name → ⊥
+none_in name h = omega (arith, h.1)
+
+-- what lines make while a group's lines are read
+abbrev pub within : List Field → List PlanOp → List Folded → Group → Made
+within fields ops groups g = record { begun = true; reads = Some fields; ops = ops; groups = groups; current = Some g; prints = [] }
+
+-- and before or after them
+abbrev pub outside : List Field → List PlanOp → List Folded → Made
+outside fields ops groups = record { begun = true; reads = Some fields; ops = ops; groups = groups; current = None; prints = [] }
+
+module _ (fields : List Field) (ops : List PlanOp) (groups : List Folded) (name : List ℕ) (present : Operand) where
+  -- a group with these keys, arguments and state variables
+  abbrev pub group_so_far : List (List ℕ) → List Operand → List Operand → List (List ℕ) → List ℕ → Option (List Lexeme) → Group
+  group_so_far key_names keys args state_names initial body =
+      record { name = name; present = present; key_names = key_names; keys = keys; args = args; state_names = state_names; initial = initial; body = body }
+
+  abbrev pub with_keys : List (List ℕ) → List Operand → Made
+  with_keys names values = within fields ops groups (group_so_far names values [] [] [] None)
+
+  key_word : word_named (codes "key") ≡ lead.Key
+  unfolding word_named
+  key_word = refl
+
+  pub keys_written : (before_names : List (List ℕ)) (before : List Operand) (names : List (List ℕ)) (values : List Operand) → length names ≡ length values → length before + length values ≤ 8 → AreNames names → AreNew before_names names → AreReadable fields ops values →
+      IsWritten (named_lines (codes "key") names (map operand_word values)) (with_keys before_names before) (with_keys (before_names ++ names) (before ++ values))
+  keys_written bn b [] [] long few named new ok = nothing_written (with_keys bn b) (with_keys (bn ++ []) (b ++ [])) (λ k. with_keys (append-nil bn k) (append-nil b k))
+  keys_written bn b (n ∷ names) (v ∷ values) long few named new ok =
+      written_then (line (codes "key") (n ∷ operand_word v ∷ [])) (named_lines (codes "key") names (map operand_word values)) (with_keys bn b) (with_keys (bn ++ n ∷ []) (b ++ v ∷ [])) (with_keys (bn ++ n ∷ names) (b ++ v ∷ values))
+      (line_written lead.Key (codes "key") (n ∷ operand_word v ∷ []) (with_keys bn b) (with_keys (bn ++ n ∷ []) (b ++ v ∷ [])) refl (token_name n named.0, (token_operand v ok.0.fits, tt)) key_word
+      (λ cut. record {
+        fields = fields;
+        reads = refl;
+        group = group_so_far bn b [] [] [] None;
+        current = refl;
+        next = group_so_far (bn ++ n ∷ []) (b ++ v ∷ []) [] [] [] None;
+        valid = record {
+          args = refl;
+          states = refl;
+          body = refl;
+          room = omega (arith, few);
+          name = n;
+          value = v;
+          valid = record { token = operand_word v; words = cut; named = named.0; reads = operand_read v ok.0.fits; known = ok.0.known };
+          new = record { no_key = new.0; no_state = none_in n };
+          made = refl;
+        };
+        made = refl;
+      }))
+      (subst (λ m. IsWritten (named_lines (codes "key") names (map operand_word values)) (with_keys (bn ++ n ∷ []) (b ++ v ∷ [])) m) (λ k. with_keys (append_assoc bn (n ∷ []) names k) (append_assoc b (v ∷ []) values k))
+      (keys_written (bn ++ n ∷ []) (b ++ v ∷ []) names values (omega (arith, long)) (omega (arith, few, length_push b v)) named.1 new.1 ok.1))
+  keys_written bn b [] (v ∷ values) long few named new ok = absurd (omega (arith, long))
+  keys_written bn b (n ∷ names) [] long few named new ok = absurd (omega (arith, long))
+
+  module _ (key_names : List (List ℕ)) (keys : List Operand) (some : 0 < length keys) where
+    abbrev pub with_args : List Operand → Made
+    with_args args = within fields ops groups (group_so_far key_names keys args [] [] None)
+
+    arg_word : word_named (codes "arg") ≡ lead.Arg
+    unfolding word_named
+    arg_word = refl
+
+    pub args_written : (before values : List Operand) → length before + length values ≤ 16 → AreReadable fields ops values →
+        IsWritten (flat_map (λ a. line (codes "arg") (operand_word a ∷ [])) values) (with_args before) (with_args (before ++ values))
+    args_written b [] few ok = nothing_written (with_args b) (with_args (b ++ [])) (λ k. with_args (append-nil b k))
+    args_written b (v ∷ values) few ok =
+        written_then (line (codes "arg") (operand_word v ∷ [])) (flat_map (λ a. line (codes "arg") (operand_word a ∷ [])) values) (with_args b) (with_args (b ++ v ∷ [])) (with_args (b ++ v ∷ values))
+        (line_written lead.Arg (codes "arg") (operand_word v ∷ []) (with_args b) (with_args (b ++ v ∷ [])) refl (token_operand v ok.0.fits, tt) arg_word
+        (λ cut. record {
+          fields = fields;
+          reads = refl;
+          group = group_so_far key_names keys b [] [] None;
+          current = refl;
+          next = group_so_far key_names keys (b ++ v ∷ []) [] [] None;
+          valid = record {
+            keys = some;
+            states = refl;
+            body = refl;
+            room = omega (arith, few);
+            value = v;
+            valid = record { token = operand_word v; words = cut; reads = operand_read v ok.0.fits; known = ok.0.known };
+            made = refl;
+          };
+          made = refl;
+        }))
+        (subst (λ m. IsWritten (flat_map (λ a. line (codes "arg") (operand_word a ∷ [])) values) (with_args (b ++ v ∷ [])) m) (λ k. with_args (append_assoc b (v ∷ []) values k))
+        (args_written (b ++ v ∷ []) values (omega (arith, few, length_push b v)) ok.1))
+
+    module _ (args : List Operand) where
+      abbrev pub with_states : List (List ℕ) → List ℕ → Made
+      with_states names initial = within fields ops groups (group_so_far key_names keys args names initial None)
+
+      state_lead : word_named (codes "state") ≡ lead.State
+      unfolding word_named
+      state_lead = refl
+
+      pub states_written : (before_names : List (List ℕ)) (before : List ℕ) (names : List (List ℕ)) (values : List ℕ) → length names ≡ length values → length before + length values ≤ 8 → AreNames names → AreNew before_names names → AreNoKeys key_names names → AllWords values →
+          IsWritten (named_lines (codes "state") names (map decimal values)) (with_states before_names before) (with_states (before_names ++ names) (before ++ values))
+      states_written bn b [] [] long few named new apart ok = nothing_written (with_states bn b) (with_states (bn ++ []) (b ++ [])) (λ k. with_states (append-nil bn k) (append-nil b k))
+      states_written bn b (n ∷ names) (v ∷ values) long few named new apart ok =
+          written_then (line (codes "state") (n ∷ decimal v ∷ [])) (named_lines (codes "state") names (map decimal values)) (with_states bn b) (with_states (bn ++ n ∷ []) (b ++ v ∷ [])) (with_states (bn ++ n ∷ names) (b ++ v ∷ values))
+          (line_written lead.State (codes "state") (n ∷ decimal v ∷ []) (with_states bn b) (with_states (bn ++ n ∷ []) (b ++ v ∷ [])) refl (token_name n named.0, (token_decimal v ok.0, tt)) state_lead
+          (λ cut. record {
+            fields = fields;
+            reads = refl;
+            group = group_so_far key_names keys args bn b None;
+            current = refl;
+            next = group_so_far key_names keys args (bn ++ n ∷ []) (b ++ v ∷ []) None;
+            valid = record {
+              keys = some;
+              body = refl;
+              room = omega (arith, few);
+              name = n;
+              value = v;
+              valid = record { token = decimal v; words = cut; named = named.0; reads = number_decimal v ok.0 };
+              new = record { no_key = apart.0; no_state = new.0 };
+              made = refl;
+            };
+            made = refl;
+          }))
+          (subst (λ m. IsWritten (named_lines (codes "state") names (map decimal values)) (with_states (bn ++ n ∷ []) (b ++ v ∷ [])) m) (λ k. with_states (append_assoc bn (n ∷ []) names k) (append_assoc b (v ∷ []) values k))
+          (states_written (bn ++ n ∷ []) (b ++ v ∷ []) names values (omega (arith, long)) (omega (arith, few, length_push b v)) named.1 new.1 apart.1 ok.1))
+      states_written bn b [] (v ∷ values) long few named new apart ok = absurd (omega (arith, long))
+      states_written bn b (n ∷ names) [] long few named new apart ok = absurd (omega (arith, long))

@@ -1,0 +1,215 @@
+-- The greatest length of the lines of a plan's groupbys.
+use Rattle.std.proofs.Common.{◌≡◌, ℕ, zero, suc, ◌+◌, ◌*◌, ◌≤◌, Bool, true, false, List, [], ◌∷◌, ◌++◌, length, Option, Some, None, refl, subst, arith}
+use Rattle.std.specs.Prelude.{All, codes, decimal, flat_map, map, option_map, slice_get, if◌then◌else◌}
+use Rattle.std.specs.List.{cons_option, range_with_len}
+use Rattle.std.proofs.lemmas.List.{length-append}
+use Rattle.std.proofs.lemmas.Option.{same_Some}
+use Rattle.query_lang.specs.declared.fold.TypedFold.{TypedFold}
+use Rattle.query_lang.specs.declared.typed.Class.{Class}
+use Rattle.query_lang.specs.declared.typed.Class.TheVariants as class
+use Rattle.query_lang.specs.declared.typed.TypedOp.{TypedOp}
+use Rattle.query_lang.specs.declared.typed.TypedOp.TheVariants as typed
+use Rattle.query_lang.specs.declared.typed.TypedStream.{TypedStream}
+use Rattle.query_lang.specs.Folds.{IsValidFold, fold_args, fold_block, fold_states}
+use Rattle.query_lang.specs.Streams.{Taking, taking_of, takings}
+use Rattle.query_lang.specs.TypedQueries.{AreValidStreams, IsValidOp}
+use Rattle.fold_class.specs.Depth.{depth_of, is_enough, least_from}
+use Rattle.stage_plan.specs.declared.group.GroupWiring.{GroupWiring}
+use Rattle.stage_plan.specs.declared.op.Operand.{Operand}
+use Rattle.stage_plan.specs.Shape.{GroupShape, class_word}
+use Rattle.plan_writer.specs.PlanText.{group_lines, named_lines}
+use Rattle.plan_writer.specs.Words.{block_words, line, operand_word}
+use Rattle.marple_laws.specs.WellNamed.{AllWords}
+use Rattle.marple_laws.proofs.OpLines.{Fits}
+use Rattle.marple_laws.proofs.LineSizes.{after_size, block_size, decimal_size, line_size, operand_size}
+use Rattle.marple_laws.proofs.NameSizes.{total}
+use Rattle.marple_laws.proofs.Texts.{all_at}
+
+-- words of at most 21 bytes
+abbrev AreShort : List (List ℕ) → Type 0
+AreShort [] = Unit {0}
+AreShort (word ∷ words) = (length word ≤ 21) × AreShort words
+
+abbrev pub AllFit : List Operand → Type 0
+AllFit [] = Unit {0}
+AllFit (o ∷ operands) = Fits o × AllFit operands
+
+operands_short : (operands : List Operand) → AllFit operands → AreShort (map operand_word operands)
+operands_short [] fit = tt
+operands_short (o ∷ operands) fit = (operand_size o fit.0, operands_short operands fit.1)
+
+words_short : (numbers : List ℕ) → AllWords numbers → AreShort (map decimal numbers)
+words_short [] all = tt
+words_short (n ∷ numbers) all = ((let d = decimal_size n all.0 in omega (arith, d)), words_short numbers all.1)
+
+named_size : (word : List ℕ) → length word ≤ 5 → (names lasts : List (List ℕ)) → AreShort lasts
+    → length (named_lines word names lasts) ≤ total names + 29 * length names
+named_size word short [] lasts are = omega arith
+named_size word short (name ∷ names) [] are = omega arith
+named_size word short (name ∷ names) (last ∷ lasts) are =
+    let n = length-append (line word (name ∷ last ∷ [])) (named_lines word names lasts) in
+    let l = line_size word (name ∷ last ∷ []) in
+    let a = after_size name (last ∷ []) in
+    let b = after_size last [] in
+    let s = are.0 in
+    let h = named_size word short names lasts are.1 in
+    omega (arith, n, l, a, b, s, h, short)
+
+args_size : (args : List Operand) → AllFit args → length (flat_map (λ a. line (codes "arg") (operand_word a ∷ [])) args) ≤ 26 * length args
+args_size [] fit = omega arith
+args_size (o ∷ args) fit =
+    let n = length-append (line (codes "arg") (operand_word o ∷ [])) (flat_map (λ a. line (codes "arg") (operand_word a ∷ [])) args) in
+    let l = line_size (codes "arg") (operand_word o ∷ []) in
+    let a = after_size (operand_word o) [] in
+    let s = operand_size o fit.0 in
+    let h = args_size args fit.1 in
+    omega (arith, n, l, a, s, h)
+
+class_size : (c : Class) → length (class_word c) ≤ 6
+class_size class.Linear = omega arith
+class_size class.Other = omega arith
+
+-- what bounds the lines of a groupby
+pub record IsLimited (shape : GroupShape) (wiring : GroupWiring) (f : TypedFold) : Type 0 where
+  pub present : Fits wiring.present
+  pub keys : AllFit wiring.keys
+  pub args : AllFit wiring.args
+  pub initial : AllWords f.initial
+  pub most_keys : length shape.key_names ≤ 8
+  pub most_args : length wiring.args ≤ 16
+  pub most_states : length shape.state_names ≤ 8
+  pub valid : IsValidFold f
+  pub depth : shape.depth ≤ 8
+  pub nodes : shape.nodes ≤ 512
+  pub statements : shape.statements ≤ 64
+
+head_size : (shape : GroupShape) (wiring : GroupWiring) (f : TypedFold) → IsLimited shape wiring f
+    → length (line (codes "group") (shape.name ∷ operand_word wiring.present ∷ [])) ≤ 29 + length shape.name
+head_size shape wiring f l =
+    let n = line_size (codes "group") (shape.name ∷ operand_word wiring.present ∷ []) in
+    let a = after_size shape.name (operand_word wiring.present ∷ []) in
+    let b = after_size (operand_word wiring.present) [] in
+    let s = operand_size wiring.present l.present in
+    omega (arith, n, a, b, s)
+
+body_size : (f : TypedFold) → IsValidFold f → length (line (codes "body") (block_words (length f.state_names) (fold_block f))) ≤ 12933
+body_size f v =
+    let n = line_size (codes "body") (block_words (length f.state_names) (fold_block f)) in
+    let states = v.states in
+    let args = v.args in
+    let b = block_size (fold_states f) (fold_args f) (omega (arith, states, args)) (fold_block f) v.statements in
+    let c = v.enough_nodes in
+    let d = v.most_nodes in
+    let e = v.enough_statements in
+    let g = v.most_statements in
+    omega (arith, n, b, c, d, e, g)
+
+fold_size : (shape : GroupShape) → shape.depth ≤ 8 → shape.nodes ≤ 512 → shape.statements ≤ 64
+    → length (line (codes "fold") (class_word shape.class ∷ decimal shape.depth ∷ decimal shape.nodes ∷ decimal shape.statements ∷ [])) ≤ 75
+fold_size shape depth nodes statements =
+    let n = line_size (codes "fold") (class_word shape.class ∷ decimal shape.depth ∷ decimal shape.nodes ∷ decimal shape.statements ∷ []) in
+    let a = after_size (class_word shape.class) (decimal shape.depth ∷ decimal shape.nodes ∷ decimal shape.statements ∷ []) in
+    let b = after_size (decimal shape.depth) (decimal shape.nodes ∷ decimal shape.statements ∷ []) in
+    let c = after_size (decimal shape.nodes) (decimal shape.statements ∷ []) in
+    let d = after_size (decimal shape.statements) [] in
+    let e = class_size shape.class in
+    let f = decimal_size shape.depth (omega (arith, depth)) in
+    let g = decimal_size shape.nodes (omega (arith, nodes)) in
+    let h = decimal_size shape.statements (omega (arith, statements)) in
+    omega (arith, n, a, b, c, d, e, f, g, h)
+
+pub group_size : (shape : GroupShape) (wiring : GroupWiring) (f : TypedFold) → IsLimited shape wiring f
+    → length (group_lines shape wiring f) ≤ 14000 + length shape.name + (total shape.key_names + total shape.state_names)
+group_size shape wiring f l =
+    let head = head_size shape wiring f l in
+    let keys = named_size (codes "key") (omega arith) shape.key_names (map operand_word wiring.keys) (operands_short wiring.keys l.keys) in
+    let args = args_size wiring.args l.args in
+    let states = named_size (codes "state") (omega arith) shape.state_names (map decimal f.initial) (words_short f.initial l.initial) in
+    let body = body_size f l.valid in
+    let fold = fold_size shape l.depth l.nodes l.statements in
+    let head_line : List ℕ = line (codes "group") (shape.name ∷ operand_word wiring.present ∷ []) in
+    let key_lines : List ℕ = named_lines (codes "key") shape.key_names (map operand_word wiring.keys) in
+    let arg_lines : List ℕ = flat_map (λ a. line (codes "arg") (operand_word a ∷ [])) wiring.args in
+    let state_lines : List ℕ = named_lines (codes "state") shape.state_names (map decimal f.initial) in
+    let body_line : List ℕ = line (codes "body") (block_words (length f.state_names) (fold_block f)) in
+    let fold_line : List ℕ = line (codes "fold") (class_word shape.class ∷ decimal shape.depth ∷ decimal shape.nodes ∷ decimal shape.statements ∷ []) in
+    let a = length-append body_line fold_line in
+    let b = length-append state_lines (body_line ++ fold_line) in
+    let c = length-append arg_lines (state_lines ++ (body_line ++ fold_line)) in
+    let d = length-append key_lines (arg_lines ++ (state_lines ++ (body_line ++ fold_line))) in
+    let e : length (group_lines shape wiring f) ≡ length head_line + length (key_lines ++ (arg_lines ++ (state_lines ++ (body_line ++ fold_line)))) =
+    length-append head_line (key_lines ++ (arg_lines ++ (state_lines ++ (body_line ++ fold_line)))) in
+    let mk = l.most_keys in
+    let ma = l.most_args in
+    let ms = l.most_states in
+    omega (arith, head, keys, args, states, body, fold, a, b, c, d, e, mk, ma, ms)
+
+-- ---- what is small
+
+depth_below : (f : TypedFold) (tries d : ℕ) → least_from f tries d ≤ tries + d
+depth_below f zero d = omega arith
+depth_below f (suc tries) d = by (is_enough f d) (depth_below f tries (suc d))
+  where
+    by : (b : Bool) → least_from f tries (suc d) ≤ tries + suc d → (if b then d else least_from f tries (suc d)) ≤ suc tries + d
+    by true h = omega arith
+    by false h = omega (arith, h)
+
+pub shallow : (f : TypedFold) → IsValidFold f → depth_of f ≤ 8
+shallow f v =
+    let b = depth_below f (fold_states f) 0 in
+    let s = v.states in
+    omega (arith, b, s)
+
+args_few : (folds : List TypedFold) (number n : ℕ) → All IsValidFold folds → option_map fold_args (slice_get folds number) ≡ Some n → n ≤ 16
+args_few folds number n valid e = by (slice_get folds number) refl e
+  where
+    by : (o : Option TypedFold) → slice_get folds number ≡ o → option_map fold_args o ≡ Some n → n ≤ 16
+    by None h e = absurd (no e)
+      where
+        no : None ≡ Some n → ⊥
+        no z = cc
+    by (Some f) h e =
+        let same = same_Some (fold_args f) n e in
+        let few = (all_at IsValidFold folds number f valid h).args in
+        omega (arith, same, few)
+
+pub taking_few : (names : ℕ) (folds : List TypedFold) → All IsValidFold folds → (before streams : List TypedStream) → AreValidStreams names folds before streams
+    → (i : ℕ) (t : Taking) → slice_get (takings streams) i ≡ Some t → length t.args ≤ 16
+taking_few names folds valid before [] v i t e = absurd (no e)
+  where
+    no : None ≡ Some t → ⊥
+    no z = cc
+taking_few names folds valid before (one ∷ rest) v i t e =
+    by one.op v.0.operator (taking_few names folds valid (before ++ one ∷ []) rest v.1) i e
+  where
+    by : (o : TypedOp) → IsValidOp folds before (length one.columns) o
+        → ((i : ℕ) (t : Taking) → slice_get (takings rest) i ≡ Some t → length t.args ≤ 16)
+        → (i : ℕ) → slice_get (cons_option (taking_of o) (takings rest)) i ≡ Some t → length t.args ≤ 16
+    by (typed.Filter input condition) w more i e = more i t e
+    by (typed.Map input values) w more i e = more i t e
+    by (typed.Zip left right slots) w more i e = more i t e
+    by (typed.Group input keys f args) w more zero e =
+        let same : record { input = input; keys = keys; fold_number = f; args = args } ≡ t = same_Some _ t e in
+        subst (λ (u : Taking). length u.args ≤ 16) same (args_few folds f (length args) valid w.1.all_args)
+    by (typed.Group input keys f args) w more (suc i) e = more i t e
+
+-- the lines of groupbys with these names, each of at most 79,690 bytes beside its name
+pub groups_size : (f : ℕ → List ℕ) (shapes : List GroupShape) (k n : ℕ)
+    → ((i : ℕ) (shape : GroupShape) → slice_get shapes i ≡ Some shape → length (f (k + i)) ≤ 79690 + length shape.name)
+    → ((i : ℕ) → slice_get shapes i ≡ None → length (f (k + i)) ≡ 0)
+    → length (flat_map f (range_with_len k n)) ≤ 79690 * n + total (map (λ shape. shape.name) shapes)
+groups_size f shapes k zero each none = omega arith
+groups_size f [] k (suc n) each none =
+    let first : length (f k) ≡ 0 = subst (λ m. length (f m) ≡ 0) (omega arith) (none 0 refl) in
+    let rest = groups_size f [] (k + 1) n (λ i shape e. absurd (nothing i shape e)) (λ i e. subst (λ m. length (f m) ≡ 0) (omega arith) (none (suc i) refl)) in
+    let a = length-append (f k) (flat_map f (range_with_len (k + 1) n)) in
+    omega (arith, first, rest, a)
+  where
+    nothing : (i : ℕ) (shape : GroupShape) → slice_get [] i ≡ Some shape → ⊥
+    nothing i shape e = cc
+groups_size f (s ∷ shapes) k (suc n) each none =
+    let first : length (f k) ≤ 79690 + length s.name = subst (λ m. length (f m) ≤ 79690 + length s.name) (omega arith) (each 0 s refl) in
+    let rest = groups_size f shapes (k + 1) n (λ i shape e. subst (λ m. length (f m) ≤ 79690 + length shape.name) (omega arith) (each (suc i) shape e))
+    (λ i e. subst (λ m. length (f m) ≡ 0) (omega arith) (none (suc i) e)) in
+    let a = length-append (f k) (flat_map f (range_with_len (k + 1) n)) in
+    omega (arith, first, rest, a)

@@ -1,0 +1,73 @@
+-- The query of an accepted text has a plan's text.
+use Rattle.std.proofs.Common.{◌≡◌, ℕ, ◌≤◌, List, [], length, Option, Some, None, Ok, refl, sym, ap, subst, arith}
+use Rattle.std.specs.Prelude.{codes, flat_map}
+use Rattle.query_lang.specs.declared.fault.QueryFault.{QueryFault}
+use Rattle.query_lang.specs.declared.query.Query.{Query}
+use Rattle.query_lang.specs.declared.typed.TypedQuery.{TypedQuery}
+use Rattle.query_lang.specs.Checks.{and_then}
+use Rattle.query_lang.specs.Names.{number_in}
+use Rattle.query_lang.specs.Typing.{checked, typed_names}
+use Rattle.query_grammar.specs.Texts.{IsQueryOf, parsed_text}
+use Rattle.query_laws.proofs.QueryLaws.{query_sound}
+use Rattle.query_laws.proofs.Steps.{found_first, same_ok}
+use Rattle.stage_plan.specs.Depths.{stage_fault}
+use Rattle.accepted_query.specs.Accepted.{accepted, staged, unless_fault}
+use Rattle.query_laws.proofs.Valid.{parts, accepted_valid, accepted_starts}
+use Rattle.marple_laws.specs.MadeOf.{printed_group}
+use Rattle.marple_laws.specs.AcceptedPlans.{AcceptedHavePlanTexts}
+use Rattle.marple_laws.proofs.Differ.{NamesDiffer}
+use Rattle.marple_laws.proofs.Lexical.{AreGood, cut_good, typed_good}
+use Rattle.marple_laws.proofs.NameSizes.{cut_total, total, typed_total}
+use Rattle.marple_laws.proofs.Queries.{checked_differ}
+use Rattle.marple_laws.proofs.Texts.{named_well, names_differ}
+use Rattle.marple_laws.proofs.TextSize.{text_size}
+use Rattle.marple_laws.proofs.Prints.{only_groups, as_many, numbers_new, starts}
+
+-- the names of a text's query
+names_good : (text : List ℕ) (query : Query) → IsQueryOf text query → AreGood query.names
+names_good text query h = cut_good (length text) 0 [] text (h.tokens, query.names) (record { once = λ i j t a b. cc; lexical = λ i t a. cc }) h.cut
+
+names_short : (text : List ℕ) (query : Query) → IsQueryOf text query → total (typed_names query.names) ≤ 65690
+names_short text query h =
+    let most = h.short in
+    let cut = cut_total (length text) 0 [] text (h.tokens, query.names) h.cut in
+    let typed = typed_total query.names in
+    omega (arith, most, cut, typed)
+
+-- no stream of an accepted query needs too many stages
+fault_none : (o : Option QueryFault) (p q : TypedQuery) → unless_fault o p ≡ Ok q → (o ≡ None) × (p ≡ q)
+fault_none None p q e = (refl, same_ok p q e)
+fault_none (Some fault) p q e = absurd cc
+
+pub staged_none : (text : List ℕ) (q : TypedQuery) → accepted text ≡ Ok q → stage_fault q ≡ None
+unfolding accepted
+staged_none text q e =
+    let first = found_first (parsed_text text) (λ (z : Query). and_then (checked z) staged) q e in
+    let second = found_first (checked first.0) staged q first.2 in
+    let none = fault_none (stage_fault second.0) second.0 q second.2 in
+    subst (λ (z : TypedQuery). stage_fault z ≡ None) none.1 none.0
+
+pub plan_texts : AcceptedHavePlanTexts
+plan_texts text q e none =
+    let p = parts text q e in
+    let valid = accepted_valid text q e in
+    let same : q.names ≡ typed_names p.0.names = ap (λ (t : TypedQuery). t.names) (query_sound p.0 q p.2).is in
+    let good : AreGood q.names = subst AreGood (sym same) (typed_good p.0.names (names_good text p.0 p.1)) in
+    let few : total q.names ≤ 65690 = subst (λ names. total names ≤ 65690) (sym same) (names_short text p.0 p.1) in
+    let packets : ℕ = number_in (typed_names p.0.names) (codes "pktstream") in
+    let differ : NamesDiffer packets q = checked_differ p.0 q p.2 in
+    let is : packets ≡ number_in q.names (codes "pktstream") = ap (λ names. number_in names (codes "pktstream")) (sym same) in
+    let groups = only_groups q q.prints valid.prints none in
+    let many : length (flat_map printed_group q.prints) ≡ length q.prints = as_many q.prints groups in
+    let some = differ.printed in
+    let well = named_well q packets is valid good differ in
+    let names = names_differ q packets valid good differ in
+    let start = starts q.folds (accepted_starts text q e) in
+    record {
+      groups = well;
+      names_differ = names;
+      initial = start;
+      printed = omega (arith, many, some);
+      prints_differ = numbers_new q.prints [] [] (λ i h. absurd h) groups differ.prints;
+      short = text_size q valid (staged_none text q e) start differ.columns well few names groups differ.prints;
+    }

@@ -1,0 +1,73 @@
+-- It still holds where the operations are put into the order of their stages.
+use Rattle.std.proofs.Common.{◌≡◌, ℕ, ◌-◌, ◌≤◌, Bool, true, false, List, Some, None, Option, refl, ap, arith}
+use Rattle.std.specs.Prelude.{nat_lt, slice_get, if◌then◌else◌}
+use Rattle.marple_base.specs.declared.field.FieldSet.{FieldSet}
+use Rattle.query_lang.specs.declared.fold.Op.{Op}
+use Rattle.query_lang.specs.declared.fold.Op.TheVariants as two
+use Rattle.query_lang.specs.Terms.{Operation}
+use Rattle.stage_plan.specs.declared.op.Operand.{Operand}
+use Rattle.stage_plan.specs.declared.op.Operand.TheVariants.{Register, Number}
+use Rattle.stage_plan.specs.declared.op.Operation as operation
+use Rattle.stage_plan.specs.declared.op.Operation.TheVariants.{Not, Two}
+use Rattle.stage_plan.specs.declared.op.PlanOp.{PlanOp}
+use Rattle.stage_plan.specs.Ordering.{moved, moved_op, register_or_none}
+use Rattle.plan_file.specs.Operations.{is_right_of, takes_right}
+use Rattle.marple_laws.proofs.Known.{IsGood, IsSingle, IsWritable, below_two}
+
+-- what is moved with the registers of operations
+
+abbrev pub AreAfterFields : List ℕ → Type 0
+AreAfterFields registers = (k r : ℕ) → slice_get registers k ≡ Some r → 14 ≤ r
+
+pub moved_good : (reads : FieldSet) (registers : List ℕ) (o : Operand) → AreAfterFields registers → IsGood reads o → IsGood reads (moved registers o)
+moved_good reads registers (Number n) beyond g = g
+moved_good reads registers (Register r) beyond g = by (nat_lt r 14) refl
+  where
+    new : (o : Option ℕ) → slice_get registers (r - 14) ≡ o → IsGood reads (register_or_none o)
+    new None e = below_two 0 refl
+    new (Some x) e = λ early. absurd (omega (arith, early, beyond (r - 14) x e))
+
+    by : (b : Bool) → nat_lt r 14 ≡ b → IsGood reads (if b then Register r else register_or_none (slice_get registers (r - 14)))
+    by true e = g
+    by false e = new (slice_get registers (r - 14)) refl
+
+moved_right : (registers : List ℕ) (op : operation.Operation) (right : Operand) → is_right_of op right ≡ true → is_right_of op (moved registers right) ≡ true
+moved_right registers op (Number n) e = e
+moved_right registers Not (Register r) e = refl
+moved_right registers (Two f) (Register r) e = by f e
+  where
+    by : (f : Op) → takes_right f (Register r) ≡ true → takes_right f (moved registers (Register r)) ≡ true
+    by two.Div e = cc
+    by two.Rem e = cc
+    by two.Shl e = cc
+    by two.Shr e = cc
+    by two.Decay e = cc
+    by two.Mul e = refl
+    by two.Add e = refl
+    by two.Sub e = refl
+    by two.And e = refl
+    by two.Xor e = refl
+    by two.Or e = refl
+    by two.Eq e = refl
+    by two.Ne e = refl
+    by two.Lt e = refl
+    by two.Le e = refl
+    by two.Gt e = refl
+    by two.Ge e = refl
+    by two.Both e = refl
+    by two.Either e = refl
+    by two.Max e = refl
+    by two.Min e = refl
+    by two.Sadd e = refl
+
+moved_single : (registers : List ℕ) (op : operation.Operation) (right : Operand) → IsSingle op right → IsSingle op (moved registers right)
+moved_single registers Not right e = ap (moved registers) e
+moved_single registers (Two f) right e = tt
+
+pub moved_writable : (reads : FieldSet) (registers : List ℕ) (one : PlanOp) → AreAfterFields registers → IsWritable reads one → IsWritable reads (moved_op registers one)
+moved_writable reads registers one beyond w = record {
+  left = moved_good reads registers one.left beyond w.left;
+  right = moved_good reads registers one.right beyond w.right;
+  constant = moved_right registers one.op one.right w.constant;
+  single = moved_single registers one.op one.right w.single;
+}

@@ -1,0 +1,69 @@
+-- Numbers that are written are read again.
+use Rattle.std.proofs.Common.{◌≡◌, ℕ, ◌^◌, ◌<◌, ◌≤◌, Bool, true, false, List, [], ◌∷◌, length, get_or, Some, None, refl, ap, ◌∙◌, inl, inr, arith}
+use Rattle.std.specs.Prelude.{decimal, not, nat_lt, if◌then◌else◌, ◌==◌}
+use Rattle.std.specs.List.{list_all}
+use Rattle.std.specs.Str.Parse.{AllDigits, digits_value}
+use Rattle.std.proofs.lemmas.Bool.{cases_lt}
+use Rattle.std.proofs.lemmas.Bool.Decides.{nat_tests}
+use Rattle.std.proofs.lemmas.Fmt.{decimal_is_IsNumeral, decimal_digit, first_decimal}
+use Rattle.std.proofs.lemmas.Str.Parse.{digit_from_value}
+use Rattle.query_lang.specs.Lexis.{below_limit, is_digit}
+use Rattle.plan_file.specs.Lexis.{is_first_digit, number}
+use Rattle.marple_laws.proofs.Tokens.{both_are, is_plain, is_token}
+
+-- a decimal digit, which is neither a space nor LF
+digit_in : (c : ℕ) → 48 ≤ c → c ≤ 57 → is_digit c ≡ true
+digit_in c low high =
+    let a : nat_lt c 58 ≡ true = grind (arith, nat_tests) in
+    let b : nat_lt c 48 ≡ false = grind (arith, nat_tests) in
+    both_are (nat_lt c 58) (if nat_lt c 48 then false else true) a (ap (λ t. if t then false else true) b)
+
+plain_digit : (c : ℕ) → 48 ≤ c → is_plain c ≡ true
+plain_digit c low =
+    let a : (c == 32) ≡ false = grind (arith, nat_tests) in
+    let b : (c == 10) ≡ false = grind (arith, nat_tests) in
+    both_are (not (c == 32)) (not (c == 10)) (ap not a) (ap not b)
+
+digits_are : (ds : List ℕ) → AllDigits 10 ds → list_all is_digit ds ≡ true
+digits_are [] d = refl
+digits_are (c ∷ ds) d = let k = digit_from_value c d.0 in both_are (is_digit c) (list_all is_digit ds) (digit_in c k.0 k.1) (digits_are ds d.1)
+
+plain_digits : (ds : List ℕ) → AllDigits 10 ds → is_token ds ≡ true
+plain_digits [] d = refl
+plain_digits (c ∷ ds) d = let k = digit_from_value c d.0 in both_are (is_plain c) (is_token ds) (plain_digit c k.0) (plain_digits ds d.1)
+
+pub token_decimal : (n : ℕ) → n < 2 ^ 64 → is_token (decimal n) ≡ true
+token_decimal n small = plain_digits (decimal n) (decimal_is_IsNumeral n small).0.1
+
+-- after a byte that says what kind of number it is
+pub token_marked : (mark n : ℕ) → is_plain mark ≡ true → n < 2 ^ 64 → is_token (mark ∷ decimal n) ≡ true
+token_marked mark n plain small = both_are (is_plain mark) (is_token (decimal n)) plain (token_decimal n small)
+
+one_digit : (ds : List ℕ) → AllDigits 10 ds → 0 < length ds → (get_or ds 0 0 ≡ 48 → length ds ≡ 1) → digits_value 10 ds < 2 ^ 64 → number ds ≡ Some (digits_value 10 ds)
+one_digit [] d some first small = absurd (omega arith)
+one_digit (c ∷ ds) d some first small =
+    ap (λ t. if t then below_limit (digits_value 10 (c ∷ ds)) else None) (both_are (list_all is_digit (c ∷ ds)) (is_first_digit c ds) (digits_are (c ∷ ds) d) (leads ds first))
+    ∙ ap (λ t. if t then Some (digits_value 10 (c ∷ ds)) else None) below
+  where
+    below : nat_lt (digits_value 10 (c ∷ ds)) (2 ^ 64) ≡ true
+    below = grind (arith, nat_tests)
+
+    leads : (ds : List ℕ) → (c ≡ 48 → length (c ∷ ds) ≡ 1) → is_first_digit c ds ≡ true
+    leads [] h = refl
+    leads (next ∷ rest) h = by (c == 48) refl
+      where
+        by : (b : Bool) → (c == 48) ≡ b → not (c == 48) ≡ true
+        by false e = ap not e
+        by true e = let same : c ≡ 48 = grind (arith, nat_tests) in absurd (omega (arith, h same))
+
+-- the number that a text's digits say
+pub number_decimal : (n : ℕ) → n < 2 ^ 64 → number (decimal n) ≡ Some n
+number_decimal n small =
+    let d = decimal_is_IsNumeral n small in
+    one_digit (decimal n) d.0.1 d.0.0 leading (omega (arith, d.1)) ∙ ap Some d.1
+  where
+    leading : get_or (decimal n) 0 0 ≡ 48 → length (decimal n) ≡ 1
+    leading e = elim (cases_lt 0 n) [
+      | inl some ↦ absurd (omega (arith, first_decimal n some small))
+      | inr none ↦ (let zero_is : n ≡ 0 = omega arith in ap (λ m. length (decimal m)) zero_is ∙ ap length (decimal_digit 0 (omega arith)))
+    ]

@@ -1,0 +1,97 @@
+-- The lines of operations are valid in sequence.
+use Rattle.std.proofs.Common.{◌≡◌, ℕ, ◌^◌, ◌<◌, true, List, [], ◌∷◌, ◌++◌, length, take, Some, None, refl, sym, ap, subst, ◌∙◌, append_assoc, append-nil}
+use Rattle.std.specs.Prelude.{flat_map, codes, decimal, slice_get}
+use Rattle.std.proofs.lemmas.List.{take_at}
+use Rattle.marple_base.specs.declared.field.Field.{Field}
+use Rattle.plan_file.specs.declared.line_word.LineWord.TheVariants as lead
+use Rattle.plan_file.specs.declared.made.Made.{Made}
+use Rattle.stage_plan.specs.declared.op.Operand.{Operand}
+use Rattle.stage_plan.specs.declared.op.Operand.TheVariants.{Register, Number}
+use Rattle.stage_plan.specs.declared.op.Operation as operation
+use Rattle.stage_plan.specs.declared.op.Operation.TheVariants.{Not, Two}
+use Rattle.stage_plan.specs.declared.op.PlanOp.{PlanOp}
+use Rattle.plan_file.specs.LineWords.{word_named}
+use Rattle.plan_file.specs.Lexis.{function_named}
+use Rattle.plan_file.specs.Operations.{operand, either_operand, op_words, not_of, two_of, IsAllowed}
+use Rattle.plan_writer.specs.PlanText.{op_line}
+use Rattle.plan_writer.specs.Words.{operand_word, operation_words, function_word}
+use Rattle.marple_laws.proofs.Bodies.{function_read, token_function}
+use Rattle.marple_laws.proofs.Known.{IsSingle}
+use Rattle.marple_laws.proofs.Numbers.{number_decimal, token_decimal, token_marked}
+use Rattle.marple_laws.proofs.Tokens.{is_token, AreTokens}
+use Rattle.marple_laws.proofs.Written.{IsWritten, nothing_written, written_then, line_written}
+
+-- the number of an operand fits a word
+abbrev pub Fits : Operand → Type 0
+Fits (Register r) = r < 2 ^ 64
+Fits (Number n) = n < 2 ^ 64
+
+pub operand_read : (o : Operand) → Fits o → operand (operand_word o) ≡ Some o
+operand_read (Register r) fits = ap (λ x. either_operand x None) (number_decimal r fits)
+operand_read (Number n) fits = ap (λ x. either_operand None x) (number_decimal n fits)
+
+pub token_operand : (o : Operand) → Fits o → is_token (operand_word o) ≡ true
+token_operand (Register r) fits = token_marked 114 r refl fits
+token_operand (Number n) fits = token_marked 35 n refl fits
+
+-- an operation that is allowed after these, with numbers that fit words
+pub record IsOpOk (fields : List Field) (before : List PlanOp) (one : PlanOp) : Type 0 where
+  pub allowed : IsAllowed fields before one
+  pub stage : one.stage < 2 ^ 64
+  pub left : Fits one.left
+  pub right : Fits one.right
+  pub single : IsSingle one.op one.right
+
+op_read : (stage : ℕ) (op : operation.Operation) (left right : Operand) → stage < 2 ^ 64 → Fits left → Fits right → IsSingle op right →
+    op_words (codes "op" ∷ decimal stage ∷ operation_words op left right) ≡ Some (record { stage = stage; op = op; left = left; right = right })
+op_read stage Not left right s l r single =
+    ap (λ n. not_of n (operand (operand_word left))) (number_decimal stage s)
+    ∙ ap (not_of (Some stage)) (operand_read left l)
+    ∙ ap (λ b. Some (record { stage = stage; op = Not; left = left; right = b })) (sym single)
+op_read stage (Two f) left right s l r single =
+    ap (λ n. two_of n (function_named (function_word f)) (operand (operand_word left)) (operand (operand_word right))) (number_decimal stage s)
+    ∙ ap (λ g. two_of (Some stage) g (operand (operand_word left)) (operand (operand_word right))) (function_read f)
+    ∙ ap (λ a. two_of (Some stage) (Some f) a (operand (operand_word right))) (operand_read left l)
+    ∙ ap (λ b. two_of (Some stage) (Some f) (Some left) b) (operand_read right r)
+
+op_tokens : (stage : ℕ) (op : operation.Operation) (left right : Operand) → stage < 2 ^ 64 → Fits left → Fits right → AreTokens (decimal stage ∷ operation_words op left right)
+op_tokens stage Not left right s l r = (token_decimal stage s, (refl, (token_operand left l, tt)))
+op_tokens stage (Two f) left right s l r = (token_decimal stage s, (token_function f, (token_operand left l, (token_operand right r, tt))))
+
+op_word : word_named (codes "op") ≡ lead.Op
+unfolding word_named
+op_word = refl
+
+-- what lines make before the first group
+abbrev pub with_ops : List Field → List PlanOp → Made
+with_ops fields ops = record { begun = true; reads = Some fields; ops = ops; groups = []; current = None; prints = [] }
+
+op_written : (fields : List Field) (before : List PlanOp) (one : PlanOp) → IsOpOk fields before one → IsWritten (op_line one) (with_ops fields before) (with_ops fields (before ++ one ∷ []))
+op_written fields before one ok =
+    line_written lead.Op (codes "op") (decimal one.stage ∷ operation_words one.op one.left one.right) (with_ops fields before) (with_ops fields (before ++ one ∷ [])) refl
+    (op_tokens one.stage one.op one.left one.right ok.stage ok.left ok.right) op_word
+    (λ cut. record {
+      fields = fields;
+      reads = refl;
+      groups = refl;
+      current = refl;
+      op = one;
+      valid = record { words = ap op_words cut ∙ op_read one.stage one.op one.left one.right ok.stage ok.left ok.right ok.single; allowed = ok.allowed };
+      made = refl;
+    })
+
+middle : {A : Type 0} (xs : List A) (y : A) (ys : List A) → slice_get (xs ++ y ∷ ys) (length xs) ≡ Some y
+middle [] y ys = refl
+middle (x ∷ xs) y ys = middle xs y ys
+
+-- operations after others
+pub ops_written : (fields : List Field) (all : List PlanOp) → ((i : ℕ) (one : PlanOp) → slice_get all i ≡ Some one → IsOpOk fields (take i all) one) → (before rest : List PlanOp) → before ++ rest ≡ all →
+    IsWritten (flat_map op_line rest) (with_ops fields before) (with_ops fields all)
+ops_written fields all ok before [] e = nothing_written (with_ops fields before) (with_ops fields all) (ap (with_ops fields) (sym e ∙ append-nil before))
+ops_written fields all ok before (one ∷ rest) e =
+    written_then (op_line one) (flat_map op_line rest) (with_ops fields before) (with_ops fields (before ++ one ∷ [])) (with_ops fields all)
+    (op_written fields before one (subst (λ l. IsOpOk fields l one) front (ok (length before) one (ap (λ l. slice_get l (length before)) (sym e) ∙ middle before one rest))))
+    (ops_written fields all ok (before ++ one ∷ []) rest (append_assoc before (one ∷ []) rest ∙ e))
+  where
+    front : take (length before) all ≡ before
+    front = ap (take (length before)) (sym e) ∙ take_at before (one ∷ rest) (length before) refl

@@ -1,0 +1,210 @@
+-- The parts of lines, decided.
+use Rattle.std.proofs.Common.{◌≡◌, ℕ, ◌+◌, ◌≤◌, max, List, [], ◌∷◌, length, map, Some, None, refl, sym, ap, ap₂, ◌∙◌, subst, inl, inr}
+use Rattle.std.specs.Prelude.{◌⊎◌, codes}
+use Rattle.marple_base.specs.declared.field.Field.{Field}
+use Rattle.marple_base.specs.declared.field.Field.TheVariants as fields
+use Rattle.marple_base.specs.Field.{all_fields, field_name, number_of}
+use Rattle.stage_plan.specs.declared.op.Operand.{Operand}
+use Rattle.stage_plan.specs.declared.op.Operand.TheVariants.{Register, Number}
+use Rattle.stage_plan.specs.declared.op.PlanOp.{PlanOp}
+use Rattle.plan_file.specs.Lexis.{is_name, number, tokens}
+use Rattle.plan_file.specs.Named.{IsNamedNumber, IsNamedOperand, IsOneNumber, IsOneOperand}
+use Rattle.plan_file.specs.Operations.{AreFrom, IsAllowed, IsKnown, IsOpLine, IsReadsLine, IsStaged, is_right_of, last_stage, op_words, operand, stage_of}
+use Rattle.plan_file.proofs.ReadsFacts.{same_name}
+use Rattle.marple_laws.proofs.Decisions.{Decided, both, by_both, contains, either, is_true, less, most, none_some, same_number, same_text, some_same, three_tokens, two_tokens, value_of}
+
+-- the line `reads`
+
+abbrev Avoids : List ℕ → List Field → Type 0
+Avoids t [] = Unit {0}
+Avoids t (f ∷ fs) = (t ≡ field_name f → ⊥) × Avoids t fs
+
+search_field : (t : List ℕ) (fs : List Field) → ((f : Field) × (t ≡ field_name f)) ⊎ Avoids t fs
+search_field t [] = inr tt
+search_field t (f ∷ fs) = by (same_text t (field_name f)) (search_field t fs)
+  where
+    by : Decided (t ≡ field_name f) → ((g : Field) × (t ≡ field_name g)) ⊎ Avoids t fs → ((g : Field) × (t ≡ field_name g)) ⊎ Avoids t (f ∷ fs)
+    by (inl e) rest = inl (f, e)
+    by (inr other) (inl found) = inl found
+    by (inr other) (inr others) = inr (other, others)
+
+no_field : (t : List ℕ) → Avoids t all_fields → (f : Field) → t ≡ field_name f → ⊥
+no_field t a fields.Switch = a.0
+no_field t a fields.Qid = a.1.0
+no_field t a fields.Uid = a.1.1.0
+no_field t a fields.SrcIp = a.1.1.1.0
+no_field t a fields.DstIp = a.1.1.1.1.0
+no_field t a fields.SrcPort = a.1.1.1.1.1.0
+no_field t a fields.DstPort = a.1.1.1.1.1.1.0
+no_field t a fields.Proto = a.1.1.1.1.1.1.1.0
+no_field t a fields.PktLen = a.1.1.1.1.1.1.1.1.0
+no_field t a fields.PayloadLen = a.1.1.1.1.1.1.1.1.1.0
+no_field t a fields.TcpSeq = a.1.1.1.1.1.1.1.1.1.1.0
+no_field t a fields.Tin = a.1.1.1.1.1.1.1.1.1.1.1.0
+no_field t a fields.Tout = a.1.1.1.1.1.1.1.1.1.1.1.1.0
+no_field t a fields.QSize = a.1.1.1.1.1.1.1.1.1.1.1.1.1.0
+
+field_named : (t : List ℕ) → Decided ((f : Field) × (t ≡ field_name f))
+field_named t = by (search_field t all_fields)
+  where
+    by : ((f : Field) × (t ≡ field_name f)) ⊎ Avoids t all_fields → Decided ((f : Field) × (t ≡ field_name f))
+    by (inl found) = inl found
+    by (inr others) = inr (λ p. no_field t others p.0 p.1)
+
+abbrev ReadsFrom : ℕ → List (List ℕ) → Type 0
+ReadsFrom least ts = (fs : List Field) × (ts ≡ map field_name fs) × AreFrom least fs
+
+reads_from : (least : ℕ) (ts : List (List ℕ)) → Decided (ReadsFrom least ts)
+reads_from least [] = inl ([], refl, tt)
+reads_from least (t ∷ ts) = by (λ k. reads_from k ts) (field_named t)
+  where
+    unnamed : (((f : Field) × (t ≡ field_name f)) → ⊥) → (fs : List Field) → t ∷ ts ≡ map field_name fs → ⊥
+    unnamed none [] e = cc
+    unnamed none (g ∷ gs) e = (let head : t ≡ field_name g = cc in none (g, head))
+
+    back : (f : Field) → t ≡ field_name f → (fs : List Field) → t ∷ ts ≡ map field_name fs → AreFrom least fs → (least ≤ number_of f) × ReadsFrom (number_of f + 1) ts
+    back f named [] e from = absurd (let no : t ∷ ts ≡ [] = e in cc)
+    back f named (g ∷ gs) e from =
+        let head : t ≡ field_name g = cc in
+        let rest : ts ≡ map field_name gs = cc in
+        let same : g ≡ f = same_name g f (sym head ∙ named) in
+        (subst (λ x. least ≤ number_of x) same from.0, (gs, rest, subst (λ x. AreFrom (number_of x + 1) gs) same from.1))
+
+    with_field : (f : Field) → t ≡ field_name f → Decided ((least ≤ number_of f) × ReadsFrom (number_of f + 1) ts) → Decided (ReadsFrom least (t ∷ ts))
+    with_field f named (inl p) = inl (f ∷ p.1.0, ap₂ (λ x xs. x ∷ xs) named p.1.1, (p.0, p.1.2))
+    with_field f named (inr none) = inr (λ p. none (back f named p.0 p.1 p.2))
+
+    by : ((k : ℕ) → Decided (ReadsFrom k ts)) → Decided ((f : Field) × (t ≡ field_name f)) → Decided (ReadsFrom least (t ∷ ts))
+    by rest (inl (f, named)) = with_field f named (both (most least (number_of f)) (rest (number_of f + 1)))
+    by rest (inr none) = inr (λ p. unnamed none p.0 p.1)
+
+pub reads_line : (line : List ℕ) → Decided ((fs : List Field) × IsReadsLine line fs)
+reads_line line = by (tokens line) refl
+  where
+    by : (ts : List (List ℕ)) → tokens line ≡ ts → Decided ((fs : List Field) × IsReadsLine line fs)
+    by [] e = inr (λ p. (let w = p.1.words in cc))
+    by (t ∷ ts) e =
+        by_both
+        (λ p. (p.1.0, record { words = e ∙ ap₂ (λ x xs. x ∷ xs) p.0 p.1.1; order = p.1.2 }))
+        (λ p.
+        let words : t ∷ ts ≡ codes "reads" ∷ map field_name p.0 = sym e ∙ p.1.words in
+        let first : t ≡ codes "reads" = cc in
+        let rest : ts ≡ map field_name p.0 = cc in
+        (first, (p.0, rest, p.1.order)))
+        (both (same_text t (codes "reads")) (reads_from 0 ts))
+
+-- operands and the lines `op`
+
+pub known : (fs : List Field) (ops : List PlanOp) (o : Operand) → Decided (IsKnown fs ops o)
+known fs ops (Register r) = either (contains same_number (map number_of fs) r) (both (most 14 r) (less r (14 + length ops)))
+known fs ops (Number n) = inl tt
+
+staged : (ops : List PlanOp) (op : PlanOp) → Decided (IsStaged ops op)
+staged ops op =
+    by_both
+    (λ p. record { room = p.0.0; least = p.0.1; most = p.1.0.0; order = p.1.0.1; stage = p.1.1.0; constant = p.1.1.1 })
+    (λ s. ((s.room, s.least), ((s.most, s.order), (s.stage, s.constant))))
+    (both (both (less (length ops) 32768) (most 1 op.stage))
+    (both (both (most op.stage 64) (most (last_stage ops) op.stage))
+    (both (same_number op.stage (1 + max (stage_of ops op.left) (stage_of ops op.right))) (is_true (is_right_of op.op op.right)))))
+
+allowed : (fs : List Field) (ops : List PlanOp) (op : PlanOp) → Decided (IsAllowed fs ops op)
+allowed fs ops op =
+    by_both (λ p. record { left = p.0.0; right = p.0.1; staged = p.1 }) (λ a. ((a.left, a.right), a.staged))
+    (both (both (known fs ops op.left) (known fs ops op.right)) (staged ops op))
+
+pub op_line : (fs : List Field) (ops : List PlanOp) (line : List ℕ) → Decided ((op : PlanOp) × IsOpLine fs ops line op)
+op_line fs ops line = by (value_of (op_words (tokens line)))
+  where
+    by : ((op : PlanOp) × (op_words (tokens line) ≡ Some op)) ⊎ (op_words (tokens line) ≡ None) → Decided ((op : PlanOp) × IsOpLine fs ops line op)
+    by (inl (op, e)) =
+        by_both (λ a. (op, record { words = e; allowed = a }))
+        (λ p. subst (IsAllowed fs ops) (some_same (op_words (tokens line)) p.0 op p.1.words e) p.1.allowed) (allowed fs ops op)
+    by (inr none) = inr (λ p. none_some (op_words (tokens line)) p.0 none p.1.words)
+
+-- lines of a word, a name and an operand or a number
+
+pub named_operand : (fs : List Field) (ops : List PlanOp) (word line : List ℕ) → Decided ((name : List ℕ) × (v : Operand) × IsNamedOperand fs ops word line name v)
+named_operand fs ops word line = by (three_tokens (tokens line))
+  where
+    with_value : (a n t : List ℕ) → tokens line ≡ a ∷ n ∷ t ∷ [] → ((v : Operand) × (operand t ≡ Some v)) ⊎ (operand t ≡ None)
+        → Decided ((name : List ℕ) × (v : Operand) × IsNamedOperand fs ops word line name v)
+    with_value a n t e (inr none) = inr (λ p.
+        let words : a ∷ n ∷ t ∷ [] ≡ word ∷ p.0 ∷ p.2.token ∷ [] = sym e ∙ p.2.words in
+        let same : t ≡ p.2.token = cc in
+        none_some (operand t) p.1 none (ap operand same ∙ p.2.reads))
+    with_value a n t e (inl (v, r)) =
+        by_both
+        (λ q. (n, v, record { token = t; words = e ∙ ap (λ w. w ∷ n ∷ t ∷ []) q.0; named = q.1.0; reads = r; known = q.1.1 }))
+        (λ p.
+        let words : a ∷ n ∷ t ∷ [] ≡ word ∷ p.0 ∷ p.2.token ∷ [] = sym e ∙ p.2.words in
+        let first : a ≡ word = cc in
+        let name : n ≡ p.0 = cc in
+        let same : t ≡ p.2.token = cc in
+        (first, (ap is_name name ∙ p.2.named, subst (IsKnown fs ops) (some_same (operand t) p.1 v (ap operand same ∙ p.2.reads) r) p.2.known)))
+        (both (same_text a word) (both (is_true (is_name n)) (known fs ops v)))
+
+    by : Decided ((a : List ℕ) × (n : List ℕ) × (t : List ℕ) × (tokens line ≡ a ∷ n ∷ t ∷ [])) → Decided ((name : List ℕ) × (v : Operand) × IsNamedOperand fs ops word line name v)
+    by (inr none) = inr (λ p. none (word, p.0, p.2.token, p.2.words))
+    by (inl (a, n, t, e)) = with_value a n t e (value_of (operand t))
+
+pub one_operand : (fs : List Field) (ops : List PlanOp) (word line : List ℕ) → Decided ((v : Operand) × IsOneOperand fs ops word line v)
+one_operand fs ops word line = by (two_tokens (tokens line))
+  where
+    with_value : (a t : List ℕ) → tokens line ≡ a ∷ t ∷ [] → ((v : Operand) × (operand t ≡ Some v)) ⊎ (operand t ≡ None) → Decided ((v : Operand) × IsOneOperand fs ops word line v)
+    with_value a t e (inr none) = inr (λ p.
+        let words : a ∷ t ∷ [] ≡ word ∷ p.1.token ∷ [] = sym e ∙ p.1.words in
+        let same : t ≡ p.1.token = cc in
+        none_some (operand t) p.0 none (ap operand same ∙ p.1.reads))
+    with_value a t e (inl (v, r)) =
+        by_both
+        (λ q. (v, record { token = t; words = e ∙ ap (λ w. w ∷ t ∷ []) q.0; reads = r; known = q.1 }))
+        (λ p.
+        let words : a ∷ t ∷ [] ≡ word ∷ p.1.token ∷ [] = sym e ∙ p.1.words in
+        let first : a ≡ word = cc in
+        let same : t ≡ p.1.token = cc in
+        (first, subst (IsKnown fs ops) (some_same (operand t) p.0 v (ap operand same ∙ p.1.reads) r) p.1.known))
+        (both (same_text a word) (known fs ops v))
+
+    by : Decided ((a : List ℕ) × (t : List ℕ) × (tokens line ≡ a ∷ t ∷ [])) → Decided ((v : Operand) × IsOneOperand fs ops word line v)
+    by (inr none) = inr (λ p. none (word, p.1.token, p.1.words))
+    by (inl (a, t, e)) = with_value a t e (value_of (operand t))
+
+pub named_number : (word line : List ℕ) → Decided ((name : List ℕ) × (v : ℕ) × IsNamedNumber word line name v)
+named_number word line = by (three_tokens (tokens line))
+  where
+    with_value : (a n t : List ℕ) → tokens line ≡ a ∷ n ∷ t ∷ [] → ((v : ℕ) × (number t ≡ Some v)) ⊎ (number t ≡ None) → Decided ((name : List ℕ) × (v : ℕ) × IsNamedNumber word line name v)
+    with_value a n t e (inr none) = inr (λ p.
+        let words : a ∷ n ∷ t ∷ [] ≡ word ∷ p.0 ∷ p.2.token ∷ [] = sym e ∙ p.2.words in
+        let same : t ≡ p.2.token = cc in
+        none_some (number t) p.1 none (ap number same ∙ p.2.reads))
+    with_value a n t e (inl (v, r)) =
+        by_both
+        (λ q. (n, v, record { token = t; words = e ∙ ap (λ w. w ∷ n ∷ t ∷ []) q.0; named = q.1; reads = r }))
+        (λ p.
+        let words : a ∷ n ∷ t ∷ [] ≡ word ∷ p.0 ∷ p.2.token ∷ [] = sym e ∙ p.2.words in
+        let first : a ≡ word = cc in
+        let name : n ≡ p.0 = cc in
+        (first, ap is_name name ∙ p.2.named))
+        (both (same_text a word) (is_true (is_name n)))
+
+    by : Decided ((a : List ℕ) × (n : List ℕ) × (t : List ℕ) × (tokens line ≡ a ∷ n ∷ t ∷ [])) → Decided ((name : List ℕ) × (v : ℕ) × IsNamedNumber word line name v)
+    by (inr none) = inr (λ p. none (word, p.0, p.2.token, p.2.words))
+    by (inl (a, n, t, e)) = with_value a n t e (value_of (number t))
+
+pub one_number : (word line : List ℕ) → Decided ((v : ℕ) × IsOneNumber word line v)
+one_number word line = by (two_tokens (tokens line))
+  where
+    with_value : (a t : List ℕ) → tokens line ≡ a ∷ t ∷ [] → ((v : ℕ) × (number t ≡ Some v)) ⊎ (number t ≡ None) → Decided ((v : ℕ) × IsOneNumber word line v)
+    with_value a t e (inr none) = inr (λ p.
+        let words : a ∷ t ∷ [] ≡ word ∷ p.1.token ∷ [] = sym e ∙ p.1.words in
+        let same : t ≡ p.1.token = cc in
+        none_some (number t) p.0 none (ap number same ∙ p.1.reads))
+    with_value a t e (inl (v, r)) =
+        by_both (λ q. (v, record { token = t; words = e ∙ ap (λ w. w ∷ t ∷ []) q; reads = r }))
+        (λ p. (let words : a ∷ t ∷ [] ≡ word ∷ p.1.token ∷ [] = sym e ∙ p.1.words in cc))
+        (same_text a word)
+
+    by : Decided ((a : List ℕ) × (t : List ℕ) × (tokens line ≡ a ∷ t ∷ [])) → Decided ((v : ℕ) × IsOneNumber word line v)
+    by (inr none) = inr (λ p. none (word, p.1.token, p.1.words))
+    by (inl (a, t, e)) = with_value a t e (value_of (number t))

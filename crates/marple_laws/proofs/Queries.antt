@@ -1,0 +1,179 @@
+-- The names of each query that was checked differ.
+use Rattle.std.proofs.Common.{◌≡◌, ℕ, ◌+◌, ◌<◌, Bool, true, false, List, [], ◌∷◌, ◌++◌, length, Some, None, Option, Ok, refl, sym, ap, subst, ◌∙◌, inl, inr, arith, nat_eq, nat_lt, is_some}
+use Rattle.std.specs.Prelude.{codes, map, option_map, if◌then◌else◌}
+use Rattle.std.proofs.lemmas.Bool.Decides.{nat_tests}
+use Rattle.std.proofs.lemmas.List.{length_push}
+use Rattle.query_lang.specs.declared.fault.FaultKind.TheVariants.{NameTaken, NothingPrinted}
+use Rattle.query_lang.specs.declared.query.FinalDef.{FinalDef}
+use Rattle.query_lang.specs.declared.query.Item.{Item}
+use Rattle.query_lang.specs.declared.query.Item.TheVariants as item
+use Rattle.query_lang.specs.declared.query.Name.{Name}
+use Rattle.query_lang.specs.declared.query.Query.{Query}
+use Rattle.query_lang.specs.declared.typed.PrintOf.{PrintOf}
+use Rattle.query_lang.specs.declared.typed.PrintOf.TheVariants as place
+use Rattle.query_lang.specs.declared.typed.TypedQuery.{TypedQuery}
+use Rattle.query_lang.specs.declared.typing.Earlier.{Earlier}
+use Rattle.query_lang.specs.declared.typing.FoldView.{FoldView}
+use Rattle.query_lang.specs.declared.typing.Given.{Given}
+use Rattle.query_lang.specs.declared.typing.Known.{Known}
+use Rattle.query_lang.specs.declared.typing.MadeFinal.{MadeFinal}
+use Rattle.query_lang.specs.declared.typing.Meaning.{Meaning}
+use Rattle.query_lang.specs.declared.typing.Meaning.TheVariants as meaning
+use Rattle.query_lang.specs.declared.typing.Origin.TheVariants as origin
+use Rattle.query_lang.specs.declared.typing.TableView.{TableView}
+use Rattle.query_lang.specs.Checks.{is_among}
+use Rattle.query_lang.specs.Names.{number_in}
+use Rattle.query_lang.specs.TypedFinals.{as_table, table_at, table_named, five_fields, made_final, with_final, final_checked}
+use Rattle.query_lang.specs.TypedStreams.{meaning_of, begun}
+use Rattle.query_lang.specs.Typing.{field_numbers, print_checked, item_checked, items_checked, start_of, typed_names, given_of, checked}
+use Rattle.marple_laws.proofs.Items.{must_ok, must_not_ok, found_first, same_ok, IsIn, in_at, in_push, not_in, new_push}
+use Rattle.marple_laws.proofs.Places.{place_in, place_at, IsBelow, Good, fold_good, stream_good, grown, meaning_cases}
+use Rattle.marple_laws.proofs.Differ.{NamesDiffer}
+
+-- one more final
+with_final_good : (packets : ℕ) (e : Earlier) (name : Name) (made : MadeFinal) → Good packets e → Good packets (with_final e name made)
+with_final_good packets e name made good =
+    let entry : Known = record { name = name.id; meaning = meaning.Final (record { place = place.Final (length e.finals); columns = made.columns; keys = made.keys }) } in
+    let g = grown packets e entry e.groups (length (with_final e name made).finals) good (omega arith) (omega (arith, more)) fresh below in
+    record {
+      places = g.places;
+      bounds = g.bounds;
+      prints_known = g.prints_known;
+      prints = good.prints;
+      streams_known = g.streams_known;
+      streams = good.streams;
+      folds_known = λ id v h. elim (meaning_cases e.known entry id (meaning.Fold v) h) [
+        | inl old ↦ good.folds_known id v old
+        | inr new ↦ absurd (no v new.1)
+      ];
+      folds = good.folds;
+      columns = good.columns;
+    }
+  where
+    more : length (with_final e name made).finals ≡ length e.finals + 1
+    more = length_push e.finals _
+
+    no : (v : FoldView) → meaning.Final (record { place = place.Final (length e.finals); columns = made.columns; keys = made.keys }) ≡ meaning.Fold v → ⊥
+    no v h = cc
+
+    fresh : (p : PrintOf) → Some (place.Final (length e.finals)) ≡ Some p → IsBelow e.groups (length e.finals) p → ⊥
+    fresh p h l =
+        let is_p : place.Final (length e.finals) ≡ p = cc in
+        let low : length e.finals < length e.finals = subst (IsBelow e.groups (length e.finals)) (sym is_p) l in
+        omega (arith, low)
+
+    below : (p : PrintOf) → Some (place.Final (length e.finals)) ≡ Some p → IsBelow e.groups (length (with_final e name made).finals) p
+    below p h =
+        let is_p : place.Final (length e.finals) ≡ p = cc in
+        subst (IsBelow e.groups (length (with_final e name made).finals)) is_p (omega (arith, more))
+
+final_good : (packets : ℕ) (given : Given) (e after : Earlier) (d : FinalDef) → Good packets e → final_checked given e d ≡ Ok after → Good packets after
+final_good packets given e after d good ok =
+    let b = found_first (begun e d.name) _ after ok in
+    let m = found_first (made_final given e d.op) _ after b.2 in
+    subst (Good packets) (same_ok (with_final e d.name m.0) after m.2) (with_final_good packets e d.name m.0 good)
+
+-- the place of a table that has a name
+place_of_table : (known : List Known) (name : Name) (t : TableView) → table_named known name ≡ Ok t → place_at known name.id ≡ Some t.place
+place_of_table known name t ok = by (meaning_of known name.id) ok
+  where
+    at : (o : Option TableView) → table_at o name.span ≡ Ok t → option_map (λ (t : TableView). t.place) o ≡ Some t.place
+    at None ok = cc
+    at (Some s) ok = ap (λ (t : TableView). Some t.place) (same_ok s t ok)
+
+    by : (o : Option Meaning) → as_table o name.span ≡ Ok t → place_in o ≡ Some t.place
+    by None ok = cc
+    by (Some (meaning.Fold f)) ok = cc
+    by (Some (meaning.Stream s)) ok = at s.table ok
+    by (Some (meaning.Final s)) ok = ap (λ (t : TableView). Some t.place) (same_ok s t ok)
+
+pub in_left : {A : Type 0} (x : A) (xs ys : List A) → IsIn x xs → IsIn x (xs ++ ys)
+in_left x [] ys h = absurd h
+in_left x (y ∷ xs) ys (inl e) = inl e
+in_left x (y ∷ xs) ys (inr h) = inr (in_left x xs ys h)
+
+pub in_last : {A : Type 0} (xs : List A) (x : A) → IsIn x (xs ++ x ∷ [])
+in_last [] x = inl refl
+in_last (y ∷ xs) x = inr (in_last xs x)
+
+-- one more print
+print_good : (packets : ℕ) (e after : Earlier) (name : Name) → Good packets e → print_checked e name ≡ Ok after → Good packets after
+print_good packets e after name good ok =
+    let t = found_first (table_named e.known name) _ after ok in
+    let free = must_not_ok (is_among name.id e.printed) NameTaken name.span _ after t.2 in
+    let at = place_of_table e.known name t.0 t.1 in
+    subst (Good packets) (same_ok (record e { prints = e.prints ++ t.0.place ∷ []; printed = e.printed ++ name.id ∷ [] }) after free.1) (record {
+      places = good.places;
+      bounds = good.bounds;
+      prints_known = λ p i. elim (in_push e.prints t.0.place p i) [
+        | inl old ↦ (let k = good.prints_known p old in (k.0, in_left k.0 e.printed (name.id ∷ []) k.1, k.2))
+        | inr same ↦ (name.id, in_last e.printed name.id, at ∙ ap Some (sym same))
+      ];
+      prints = new_push [] e.prints t.0.place good.prints (λ i. (let k = good.prints_known t.0.place i in
+          let same : k.0 ≡ name.id = good.places k.0 name.id t.0.place k.2 at in not_in e.printed name.id free.0 (subst (λ n. IsIn n e.printed) same k.1)));
+      streams_known = good.streams_known;
+      streams = good.streams;
+      folds_known = good.folds_known;
+      folds = good.folds;
+      columns = good.columns;
+    })
+
+item_good : (packets : ℕ) (given : Given) (e after : Earlier) (one : Item) → Good packets e → item_checked given e one ≡ Ok after → Good packets after
+item_good packets given e after (item.Fold d) good ok = fold_good packets e after d good ok
+item_good packets given e after (item.Stream d) good ok = stream_good packets (five_fields given.fields) e after d good ok
+item_good packets given e after (item.Final d) good ok = final_good packets given e after d good ok
+item_good packets given e after (item.Print name) good ok = print_good packets e after name good ok
+
+items_good : (packets : ℕ) (given : Given) (items : List Item) (e after : Earlier) → Good packets e → items_checked given e items ≡ Ok after → Good packets after
+items_good packets given [] e after good ok = subst (Good packets) (same_ok e after ok) good
+items_good packets given (one ∷ items) e after good ok =
+    let f = found_first (item_checked given e one) _ after ok in
+    items_good packets given items f.0 after (item_good packets given e f.0 one good f.1) f.2
+
+-- at the start there are only the packets
+start_good : (names : List (List ℕ)) → Good (number_in names (codes "pktstream")) (start_of names)
+start_good names = record {
+  places = λ a b p ea eb. absurd (no a p ea);
+  bounds = λ a p ea. absurd (no a p ea);
+  prints_known = λ p i. absurd i;
+  prints = tt;
+  streams_known = λ id i. known id i;
+  streams = tt;
+  folds_known = λ id v h. absurd (none id v h);
+  folds = λ f i. absurd i;
+  columns = λ one i. absurd i;
+}
+  where
+    no : (a : ℕ) (p : PrintOf) → place_at (start_of names).known a ≡ Some p → ⊥
+    no a p e = by (nat_eq (number_in names (codes "pktstream")) a) e
+      where
+        by : (b : Bool) → place_in (if b then Some (meaning.Stream (record { number = 0; columns = map (λ id. record { name = id; origin = origin.Field }) (field_numbers names); hidden = []; table = None })) else None) ≡ Some p → ⊥
+        by true e = cc
+        by false e = cc
+
+    none : (id : ℕ) (v : FoldView) → meaning_of (start_of names).known id ≡ Some (meaning.Fold v) → ⊥
+    none id v e = by (nat_eq (number_in names (codes "pktstream")) id) e
+      where
+        by : (b : Bool) → (if b then Some (meaning.Stream (record { number = 0; columns = map (λ id. record { name = id; origin = origin.Field }) (field_numbers names); hidden = []; table = None })) else None) ≡ Some (meaning.Fold v) → ⊥
+        by true e = cc
+        by false e = cc
+
+    known : (id : ℕ) → IsIn id (number_in names (codes "pktstream") ∷ []) → is_some (meaning_of (start_of names).known id) ≡ true
+    known id (inl e) =
+        let t : nat_eq (number_in names (codes "pktstream")) id ≡ true = grind (arith, nat_tests) in
+        ap (λ b. is_some (if b then Some (meaning.Stream (record { number = 0; columns = map (λ id. record { name = id; origin = origin.Field }) (field_numbers names); hidden = []; table = None })) else None)) t
+    known id (inr h) = absurd h
+
+pub checked_differ : (parsed : Query) (q : TypedQuery) → checked parsed ≡ Ok q → NamesDiffer (number_in (typed_names parsed.names) (codes "pktstream")) q
+checked_differ parsed q ok =
+    let names = typed_names parsed.names in
+    let e = found_first (items_checked (given_of names parsed.items) (start_of names) parsed.items) _ q ok in
+    let good = items_good (number_in names (codes "pktstream")) (given_of names parsed.items) parsed.items (start_of names) e.0 (start_good names) e.1 in
+    let some = must_ok (nat_lt 0 (length e.0.prints)) NothingPrinted parsed.end _ q e.2 in
+    subst (NamesDiffer (number_in names (codes "pktstream"))) (same_ok _ q some.1) (record {
+      streams = good.streams;
+      states = λ i f h. good.folds f (in_at e.0.folds i f h);
+      columns = λ i one h. good.columns one (in_at e.0.streams i one h);
+      printed = (let t = some.0 in grind (arith, nat_tests));
+      prints = good.prints;
+    })

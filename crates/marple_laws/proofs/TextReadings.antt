@@ -1,0 +1,61 @@
+-- Every text is valid, or it is refused at some place.
+use Rattle.std.proofs.Common.{◌≡◌, ℕ, suc, ◌<◌, ◌≤◌, List, [], ◌∷◌, length, take, Some, refl, inl, inr, arith}
+use Rattle.std.specs.Prelude.{◌⊎◌, Ok, Err, slice_get}
+use Rattle.query_lang.specs.Checks.{Checked}
+use Rattle.query_lang.specs.declared.fault.FaultKind.TheVariants.{BadPlan}
+use Rattle.plan_file.specs.declared.made.Made.{Made}
+use Rattle.plan_file.specs.Lexis.{bytes_after_lines, lines, start_of_line}
+use Rattle.plan_file.specs.Lines.{IsLine, IsValidAfter, nothing}
+use Rattle.plan_file.specs.Texts.{IsBadAt, Make, most_bytes}
+use Rattle.marple_laws.specs.Readings.{EveryTextIsRead, IsReadingOf}
+use Rattle.marple_laws.proofs.Decisions.{Decided, is_empty, most}
+use Rattle.marple_laws.proofs.LineDecisions.{valid_after}
+
+-- the first line that is not valid after those before it
+record IsBadIn (ls : List (List ℕ)) (first : Made) (i : ℕ) : Type 0 where
+  before : Made
+  valid_before : Make (take i ls) first before
+  line : List ℕ
+  is : slice_get ls i ≡ Some line
+  bad : IsValidAfter before line → ⊥
+
+-- lines are all valid, or there is a first one that is not
+abbrev Reached : List (List ℕ) → Made → Type 0
+Reached ls first = ((after : Made) × Make ls first after) ⊎ ((i : ℕ) × IsBadIn ls first i)
+
+reached : (ls : List (List ℕ)) (first : Made) → Reached ls first
+reached [] first = inl (first, refl)
+reached (line ∷ ls) first = by (λ next. reached ls next) (valid_after first line)
+  where
+    beyond : (next : Made) → IsLine first line next → Reached ls next → Reached (line ∷ ls) first
+    beyond next valid (inl (after, rest)) = inl (after, (next, valid, rest))
+    beyond next valid (inr (i, b)) = inr (suc i, record { before = b.before; valid_before = (next, valid, b.valid_before); line = b.line; is = b.is; bad = b.bad })
+
+    by : ((next : Made) → Reached ls next) → Decided (IsValidAfter first line) → Reached (line ∷ ls) first
+    by rest (inl (next, valid)) = beyond next valid (rest next)
+    by rest (inr bad) = inr (0, record { before = first; valid_before = refl; line = line; is = refl; bad = bad })
+
+some_items : {A : Type 0} (xs : List A) → (xs ≡ [] → ⊥) → 0 < length xs
+some_items [] none = absurd (none refl)
+some_items (x ∷ xs) none = omega arith
+
+pub every_text : EveryTextIsRead
+every_text text = by_size (most (length text) most_bytes)
+  where
+    refuse : (place : ℕ) → IsBadAt text place → (found : Checked Made) × IsReadingOf text found
+    refuse place bad = (Err (record { kind = BadPlan; span = record { start = place; end = place } }), (refl, bad, refl))
+
+    ends : (plan : Made) → length text ≤ most_bytes → Make (lines text) nothing plan → Decided (bytes_after_lines text ≡ []) → Decided (plan.prints ≡ []) → (found : Checked Made) × IsReadingOf text found
+    ends plan size valid (inr more) printed = refuse (length text) (inr (size, inr (record { plan = plan; valid = valid; bad = inl (some_items (bytes_after_lines text) more) }, refl)))
+    ends plan size valid (inl whole) (inl none) = refuse (length text) (inr (size, inr (record { plan = plan; valid = valid; bad = inr none }, refl)))
+    ends plan size valid (inl whole) (inr some) = (Ok plan, record { size = size; valid = valid; ended = whole; printed = some_items plan.prints some })
+
+    by_lines : length text ≤ most_bytes → Reached (lines text) nothing → (found : Checked Made) × IsReadingOf text found
+    by_lines size (inl (plan, valid)) = ends plan size valid (is_empty (bytes_after_lines text)) (is_empty plan.prints)
+    by_lines size (inr (i, b)) =
+        refuse (start_of_line text i)
+        (inr (size, inl (i, record { before = b.before; valid_before = b.valid_before; line = b.line; is = b.is; bad = b.bad }, refl)))
+
+    by_size : Decided (length text ≤ most_bytes) → (found : Checked Made) × IsReadingOf text found
+    by_size (inl size) = by_lines size (reached (lines text) nothing)
+    by_size (inr long) = refuse most_bytes (inl (omega arith, refl))

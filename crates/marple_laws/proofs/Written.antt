@@ -1,0 +1,46 @@
+-- Texts of whole lines, and what their lines make.
+use Rattle.std.proofs.Common.{◌≡◌, ℕ, true, List, [], ◌∷◌, ◌++◌, refl, sym, ap, subst, ◌∙◌, append_assoc, append-nil}
+use Rattle.std.proofs.lemmas.Grind.{flat_map-append}
+use Rattle.plan_file.specs.declared.line_word.LineWord.{LineWord}
+use Rattle.plan_file.specs.declared.made.Made.{Made}
+use Rattle.plan_file.specs.LineWords.{first_of, line_word, word_named}
+use Rattle.plan_file.specs.Lexis.{tokens}
+use Rattle.plan_file.specs.Lines.{IsLineOf}
+use Rattle.plan_file.specs.Texts.{Make}
+use Rattle.plan_writer.specs.Words.{spaced, line}
+use Rattle.marple_laws.proofs.Tokens.{is_token, AreTokens, AreLines, ended, tokens_of, none_in_line, lines_append}
+
+pub make_both : (xs ys : List (List ℕ)) (before mid after : Made) → Make xs before mid → Make ys mid after → Make (xs ++ ys) before after
+make_both [] ys before mid after a b = subst (λ m. Make ys m after) a b
+make_both (x ∷ xs) ys before mid after a b = (a.0, a.1, make_both xs ys a.0 mid after a.2 b)
+
+-- a text of whole lines, which are valid after what was made before, and make this with it
+pub record IsWritten (text : List ℕ) (before after : Made) : Type 0 where
+  pub all : List (List ℕ)
+  pub each : AreLines all
+  pub text_is : text ≡ ended all
+  pub make : Make all before after
+
+pub nothing_written : (before after : Made) → after ≡ before → IsWritten [] before after
+nothing_written before after e = record { all = []; each = tt; text_is = refl; make = e }
+
+pub written_then : (a b : List ℕ) (before mid after : Made) → IsWritten a before mid → IsWritten b mid after → IsWritten (a ++ b) before after
+written_then a b before mid after p q = record {
+  all = p.all ++ q.all;
+  each = lines_append p.all q.all p.each q.each;
+  text_is = ap (λ t. t ++ b) p.text_is ∙ ap (λ t. ended p.all ++ t) q.text_is ∙ sym (flat_map-append (λ one. one ++ 10 ∷ []) p.all q.all);
+  make = make_both p.all q.all before mid after p.make q.make;
+}
+
+-- one line of these words
+pub line_written : (word : LineWord) (first : List ℕ) (words : List (List ℕ)) (before after : Made) → is_token first ≡ true → AreTokens words → word_named first ≡ word →
+    (tokens (first ++ spaced words) ≡ first ∷ words → IsLineOf word before (first ++ spaced words) after) → IsWritten (line first words) before after
+line_written word first words before after t are named valid = record {
+  all = (first ++ spaced words) ∷ [];
+  each = (none_in_line first words t are, tt);
+  text_is = sym (append_assoc first (spaced words) (10 ∷ [])) ∙ sym (append-nil ((first ++ spaced words) ++ 10 ∷ []));
+  make = (after, subst (λ w. IsLineOf w before (first ++ spaced words) after) (sym (first_is ∙ named)) (valid (tokens_of first words t are)), refl);
+}
+  where
+    first_is : line_word (first ++ spaced words) ≡ word_named first
+    first_is = ap (λ l. word_named (first_of l)) (tokens_of first words t are)

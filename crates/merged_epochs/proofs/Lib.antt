@@ -1,3 +1,0 @@
-mod StoredStates
-mod ClosedRows
-pub mod Showing

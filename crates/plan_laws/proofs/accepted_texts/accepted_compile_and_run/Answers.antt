@@ -1,5 +1,0 @@
-use Rattle.plan_laws.proofs.Accepted.{accepted_load}
-use Rattle.plan_laws.proofs.accepted_texts.accepted_compile_and_run.Goals as goal
-
-pub returns : goal.returns
-returns c = accepted_load

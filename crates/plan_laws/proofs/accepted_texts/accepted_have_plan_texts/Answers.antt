@@ -1,5 +1,0 @@
-use Rattle.plan_laws.proofs.Hold.{plan_texts}
-use Rattle.plan_laws.proofs.accepted_texts.accepted_have_plan_texts.Goals as goal
-
-pub returns : goal.returns
-returns c = plan_texts

@@ -1,5 +1,0 @@
-use Rattle.plan_laws.proofs.PlanOf.{have_plans}
-use Rattle.plan_laws.proofs.accepted_texts.accepted_have_plans.Goals as goal
-
-pub returns : goal.returns
-returns c = have_plans

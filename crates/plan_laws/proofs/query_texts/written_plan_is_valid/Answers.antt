@@ -1,5 +1,0 @@
-use Rattle.plan_laws.proofs.Says.{text_says}
-use Rattle.plan_laws.proofs.query_texts.written_plan_is_valid.Goals as goal
-
-pub returns : goal.returns
-returns c = text_says c.args.q.now c.args.p.now c.requires.valid c.requires.text c.requires.plan c.invariant.ensures

@@ -1,5 +1,0 @@
-use Rattle.plan_laws.proofs.TextReadings.{every_text}
-use Rattle.plan_laws.proofs.readings.every_text_is_read.Goals as goal
-
-pub returns : goal.returns
-returns c = every_text

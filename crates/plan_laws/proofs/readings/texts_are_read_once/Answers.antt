@@ -1,5 +1,0 @@
-use Rattle.plan_laws.proofs.OneReading.{read_once}
-use Rattle.plan_laws.proofs.readings.texts_are_read_once.Goals as goal
-
-pub returns : goal.returns
-returns c = read_once
