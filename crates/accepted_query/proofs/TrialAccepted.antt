@@ -31,10 +31,14 @@ folds = with_fold (with_fold (with_fold (with_fold start count_typed) lost_typed
 
 items : items_checked given start trial_read.items ≡ items_checked given folds trial_rest
 items =
-    fold_next given start count_fold count_typed (item.Fold lost_fold ∷ item.Fold oos_fold ∷ item.Fold deepest_fold ∷ trial_rest) refl count_is
-    ∙ fold_next given (with_fold start count_typed) lost_fold lost_typed (item.Fold oos_fold ∷ item.Fold deepest_fold ∷ trial_rest) refl lost_is
-    ∙ fold_next given (with_fold (with_fold start count_typed) lost_typed) oos_fold oos_typed (item.Fold deepest_fold ∷ trial_rest) refl oos_is
-    ∙ fold_next given (with_fold (with_fold (with_fold start count_typed) lost_typed) oos_typed) deepest_fold deepest_typed trial_rest refl deepest_is
+    fold_next given start count_fold count_typed (item.Fold lost_fold ∷ item.Fold oos_fold ∷ item.Fold deepest_fold ∷ trial_rest) refl
+    count_is
+    ∙ fold_next given (with_fold start count_typed) lost_fold lost_typed (item.Fold oos_fold ∷ item.Fold deepest_fold ∷ trial_rest) refl
+    lost_is
+    ∙ fold_next given (with_fold (with_fold start count_typed) lost_typed) oos_fold oos_typed (item.Fold deepest_fold ∷ trial_rest) refl
+    oos_is
+    ∙ fold_next given (with_fold (with_fold (with_fold start count_typed) lost_typed) oos_typed) deepest_fold deepest_typed trial_rest refl
+    deepest_is
 
 -- whether no fault is found
 abbrev is_fine : Checked TypedQuery → Bool

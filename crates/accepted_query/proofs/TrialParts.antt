@@ -32,7 +32,8 @@ lost_fold = record {
   name = (named 2 38 42);
   states = (record { name = (named 3 44 45); initial = 0 }) ∷ [];
   args = (named 4 49 53) ∷ [];
-  body = If (Binary Eq (at 67 69) (Named (named 4 62 66)) (Number (2 ^ 64 - 1) (at 70 78))) (Assign (named 3 82 83) (Binary Add (at 88 89) (Named (named 3 86 87)) (Number 1 (at 90 91))) ∷ []) [] ∷ [];
+  body = If (Binary Eq (at 67 69) (Named (named 4 62 66)) (Number (2 ^ 64 - 1) (at 70 78)))
+      (Assign (named 3 82 83) (Binary Add (at 88 89) (Named (named 3 86 87)) (Number 1 (at 90 91))) ∷ []) [] ∷ [];
 }
 
 abbrev pub oos_fold : FoldDef
@@ -41,7 +42,9 @@ oos_fold = record {
   states = (record { name = (named 6 106 110); initial = 0 })
       ∷ (record { name = (named 7 112 113); initial = 0 }) ∷ [];
   args = (named 8 117 123) ∷ (named 9 125 136) ∷ [];
-  body = If (Binary Ne (at 150 152) (Named (named 6 145 149)) (Named (named 8 153 159))) (Assign (named 7 163 164) (Binary Add (at 169 170) (Named (named 7 167 168)) (Number 1 (at 171 172))) ∷ []) [] ∷ Assign (named 6 176 180) (Binary Add (at 190 191) (Named (named 8 183 189)) (Named (named 9 192 203))) ∷ [];
+  body = If (Binary Ne (at 150 152) (Named (named 6 145 149)) (Named (named 8 153 159)))
+      (Assign (named 7 163 164) (Binary Add (at 169 170) (Named (named 7 167 168)) (Number 1 (at 171 172))) ∷ []) []
+      ∷ Assign (named 6 176 180) (Binary Add (at 190 191) (Named (named 8 183 189)) (Named (named 9 192 203))) ∷ [];
 }
 
 abbrev pub deepest_fold : FoldDef

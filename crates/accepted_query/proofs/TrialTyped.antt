@@ -19,7 +19,8 @@ use Rattle.query_lang.specs.declared.typing.Sort.TheVariants as sort
 use Rattle.query_lang.specs.Checks.{and_then}
 use Rattle.query_lang.specs.TypedExprs.{condition_of, word_of}
 use Rattle.query_lang.specs.TypedFolds.{inside, in_order, stmt_checked, body_checked, fold_checked}
-use Rattle.accepted_query.proofs.TrialSteps.{number_is, named_is, binary_is, call_is, word_is, condition_is, names_is, assign_is, increment_is, if_is, typed_as, fold_is}
+use Rattle.accepted_query.proofs.TrialSteps.{number_is, named_is, binary_is, call_is, word_is, condition_is, names_is, assign_is}
+use Rattle.accepted_query.proofs.TrialSteps.{increment_is, if_is, typed_as, fold_is}
 use Rattle.accepted_query.proofs.TrialParts.{at, named, count_fold, lost_fold, oos_fold, deepest_fold}
 
 -- no conditions around a statement, and no statements before it
@@ -35,7 +36,8 @@ increment v = typed_stmt.Assign v (typed.Binary Add (typed.Slot v) (typed.Number
 
 abbrev plus_one : ℕ → ℕ → ℕ → ℕ → ℕ → Stmt
 plus_one v target name plus one =
-    statement.Assign (named v target (target + 1)) (whole.Binary Add (at plus (plus + 1)) (whole.Named (named v name (name + 1))) (whole.Number 1 (at one (one + 1))))
+    statement.Assign (named v target (target + 1)) (whole.Binary Add (at plus (plus + 1)) (whole.Named (named v name (name + 1)))
+    (whole.Number 1 (at one (one + 1))))
 
 abbrev slot_found : ℕ → Span → Found
 slot_found slot span = record { tree = typed.Slot slot; sort = sort.Word; at = span }
@@ -55,7 +57,8 @@ count_typed = typed_as count_fold (1 ∷ []) [] (after (increment 0 ∷ []))
 pub count_is : fold_checked count_fold ≡ Ok count_typed
 count_is =
     let one = increment_is (1 ∷ []) [] (named 1 21 22) (named 1 25 26) (at 27 28) (at 29 30) 0 top (after []) refl refl in
-    let body : body_checked (1 ∷ []) [] count_fold.body ≡ Ok (after (increment 0 ∷ [])) = ap (λ r. and_then r (λ more. in_order [] top more)) one in
+    let body : body_checked (1 ∷ []) [] count_fold.body ≡ Ok (after (increment 0 ∷ [])) =
+    ap (λ r. and_then r (λ more. in_order [] top more)) one in
     fold_is count_fold (1 ∷ []) [] (after (increment 0 ∷ [])) refl refl body
 
 abbrev lost_body : Body
@@ -70,10 +73,12 @@ lost_is =
     let holds : TypedExpr = typed.Binary Eq (typed.Slot 1) (typed.Number (2 ^ 64 - 1)) in
     let condition : condition_of (3 ∷ 4 ∷ []) [] written ≡ Ok holds =
     condition_is (3 ∷ 4 ∷ []) written holds (at 62 66)
-    (binary_is (3 ∷ 4 ∷ []) Eq (at 67 69) (whole.Named (named 4 62 66)) (whole.Number (2 ^ 64 - 1) (at 70 78)) (slot_found 1 (at 62 66)) (number_found (2 ^ 64 - 1) (at 70 78)) (condition_found holds (at 62 66))
+    (binary_is (3 ∷ 4 ∷ []) Eq (at 67 69) (whole.Named (named 4 62 66)) (whole.Number (2 ^ 64 - 1) (at 70 78)) (slot_found 1 (at 62 66))
+    (number_found (2 ^ 64 - 1) (at 70 78)) (condition_found holds (at 62 66))
     (named_is (3 ∷ 4 ∷ []) (named 4 62 66) 1 refl) (number_is (3 ∷ 4 ∷ []) (2 ^ 64 - 1) (at 70 78)) refl)
     in
-    let one = increment_is (3 ∷ []) (4 ∷ []) (named 3 82 83) (named 3 86 87) (at 88 89) (at 90 91) 0 (inside (3 ∷ []) top written holds) (after []) refl refl in
+    let one = increment_is (3 ∷ []) (4 ∷ []) (named 3 82 83) (named 3 86 87) (at 88 89) (at 90 91) 0 (inside (3 ∷ []) top written holds)
+    (after []) refl refl in
     let choice = if_is (3 ∷ []) (4 ∷ []) written (plus_one 3 82 86 88 90) top (after []) (after (increment 0 ∷ [])) holds condition one in
     let body : body_checked (3 ∷ []) (4 ∷ []) lost_fold.body ≡ Ok lost_body = ap (λ r. and_then r (λ more. in_order [] top more)) choice in
     fold_is lost_fold (3 ∷ []) (4 ∷ []) lost_body refl refl body
@@ -97,14 +102,19 @@ oos_is =
     let sum : Expr = whole.Binary Add (at 190 191) (whole.Named (named 8 183 189)) (whole.Named (named 9 192 203)) in
     let first : Body = after (typed_stmt.If oos_condition (increment 1 ∷ []) [] ∷ []) in
     let condition : condition_of columns [] written ≡ Ok oos_condition =
-    condition_is columns written oos_condition (at 145 149) (names_is columns Ne (at 150 152) (named 6 145 149) (named 8 153 159) 0 2 (condition_found oos_condition (at 145 149)) refl refl refl)
+    condition_is columns written oos_condition (at 145 149) (names_is columns Ne (at 150 152) (named 6 145 149) (named 8 153 159) 0 2
+    (condition_found oos_condition (at 145 149)) refl refl refl)
     in
-    let word : word_of columns [] sum ≡ Ok oos_sum = word_is columns sum oos_sum (at 183 189) (names_is columns Add (at 190 191) (named 8 183 189) (named 9 192 203) 2 3 (word_found oos_sum (at 183 189)) refl refl refl) in
-    let one = increment_is (6 ∷ 7 ∷ []) (8 ∷ 9 ∷ []) (named 7 163 164) (named 7 167 168) (at 169 170) (at 171 172) 1 (inside (6 ∷ 7 ∷ []) top written oos_condition) (after []) refl refl in
-    let choice = if_is (6 ∷ 7 ∷ []) (8 ∷ 9 ∷ []) written (plus_one 7 163 167 169 171) top (after []) (after (increment 1 ∷ [])) oos_condition condition one in
+    let word : word_of columns [] sum ≡ Ok oos_sum = word_is columns sum oos_sum (at 183 189)
+    (names_is columns Add (at 190 191) (named 8 183 189) (named 9 192 203) 2 3 (word_found oos_sum (at 183 189)) refl refl refl) in
+    let one = increment_is (6 ∷ 7 ∷ []) (8 ∷ 9 ∷ []) (named 7 163 164) (named 7 167 168) (at 169 170) (at 171 172) 1
+    (inside (6 ∷ 7 ∷ []) top written oos_condition) (after []) refl refl in
+    let choice = if_is (6 ∷ 7 ∷ []) (8 ∷ 9 ∷ []) written (plus_one 7 163 167 169 171) top (after []) (after (increment 1 ∷ []))
+    oos_condition condition one in
     let last = assign_is (6 ∷ 7 ∷ []) (8 ∷ 9 ∷ []) (named 6 176 180) sum 0 oos_sum top first refl word in
     let body : body_checked (6 ∷ 7 ∷ []) (8 ∷ 9 ∷ []) oos_fold.body ≡ Ok oos_body =
-    ap (λ r. and_then r (λ more. and_then (stmt_checked (6 ∷ 7 ∷ []) (8 ∷ 9 ∷ []) (statement.Assign (named 6 176 180) sum) top more) (λ next. in_order [] top next))) choice
+    ap (λ r. and_then r (λ more. and_then (stmt_checked (6 ∷ 7 ∷ []) (8 ∷ 9 ∷ []) (statement.Assign (named 6 176 180) sum) top more)
+    (λ next. in_order [] top next))) choice
     ∙ ap (λ r. and_then r (λ next. in_order [] top next)) last
     in
     fold_is oos_fold (6 ∷ 7 ∷ []) (8 ∷ 9 ∷ []) oos_body refl refl body
@@ -124,9 +134,11 @@ deepest_is =
     let call : Expr = whole.Call Max (at 239 242) (whole.Named (named 11 243 244) ∷ whole.Named (named 12 246 251) ∷ []) in
     let word : word_of columns [] call ≡ Ok greater =
     word_is columns call greater (at 239 242)
-    (call_is columns Max (at 239 242) (whole.Named (named 11 243 244)) (whole.Named (named 12 246 251)) (slot_found 0 (at 243 244)) (slot_found 1 (at 246 251)) (word_found greater (at 239 242))
+    (call_is columns Max (at 239 242) (whole.Named (named 11 243 244)) (whole.Named (named 12 246 251)) (slot_found 0 (at 243 244))
+    (slot_found 1 (at 246 251)) (word_found greater (at 239 242))
     (named_is columns (named 11 243 244) 0 refl) (named_is columns (named 12 246 251) 1 refl) refl)
     in
     let one = assign_is (11 ∷ []) (12 ∷ []) (named 11 235 236) call 0 greater top (after []) refl word in
-    let body : body_checked (11 ∷ []) (12 ∷ []) deepest_fold.body ≡ Ok deepest_body = ap (λ r. and_then r (λ more. in_order [] top more)) one in
+    let body : body_checked (11 ∷ []) (12 ∷ []) deepest_fold.body ≡ Ok deepest_body =
+    ap (λ r. and_then r (λ more. in_order [] top more)) one in
     fold_is deepest_fold (11 ∷ []) (12 ∷ []) deepest_body refl refl body

@@ -1,5 +1,6 @@
 -- A block that only adds does the same from every state: it adds to it.
-use Rattle.std.proofs.Common.{◌≡◌, ℕ, zero, suc, ◌+◌, ◌%◌, ◌^◌, ◌<◌, Bool, true, false, ◌&&◌, List, [], ◌∷◌, ◌++◌, length, set, replicate, slice_index, refl, sym, ap, ◌∙◌, subst, arith, if◌then◌else◌, length-set}
+use Rattle.std.proofs.Common.{◌≡◌, ℕ, zero, suc, ◌+◌, ◌%◌, ◌^◌, ◌<◌, Bool, true, false, ◌&&◌, List, [], ◌∷◌, ◌++◌, length, set, replicate}
+use Rattle.std.proofs.Common.{slice_index, refl, sym, ap, ◌∙◌, subst, arith, if◌then◌else◌, length-set}
 use Rattle.std.proofs.lemmas.Bool.Decides.{nat_tests}
 use Rattle.std.proofs.lemmas.List.{get_or_append_left, length-replicate}
 use Rattle.std.proofs.lemmas.List.Elements.{All-nil, All-cons, All-head, All-tail}
@@ -26,7 +27,8 @@ words-plus [] ys h = All-nil IsWord
 words-plus (x ∷ xs) [] h = h
 words-plus (x ∷ xs) (y ∷ ys) h = All-cons IsWord ((x + y) % 2 ^ 64) (plus xs ys) (omega arith) (words-plus xs ys (All-tail IsWord x xs h))
 
-pub plus_at : (xs ys : List ℕ) (v : ℕ) → length xs ≡ length ys → v < length xs → slice_index (plus xs ys) v ≡ (slice_index xs v + slice_index ys v) % 2 ^ 64
+pub plus_at : (xs ys : List ℕ) (v : ℕ) → length xs ≡ length ys → v < length xs
+    → slice_index (plus xs ys) v ≡ (slice_index xs v + slice_index ys v) % 2 ^ 64
 plus_at [] ys v e h = absurd (omega arith)
 plus_at (x ∷ xs) [] v e h = absurd (omega arith)
 plus_at (x ∷ xs) (y ∷ ys) zero e h = refl
@@ -54,14 +56,17 @@ plus_set op h (x ∷ xs) (z ∷ zs) zero w e = ap (λ n. n ∷ plus xs zs) (op_s
 plus_set op h (x ∷ xs) (z ∷ zs) (suc v) w e = ap (λ ns. (x + z) % 2 ^ 64 ∷ ns) (plus_set op h xs zs v w (omega arith))
 
 module _ (states : ℕ) where
-  variable_value : (v : ℕ) (e : Term) (args xs : List ℕ) → is_variable v e ≡ true → v < length xs → term_value e (xs ++ args) ≡ slice_index xs v
-  variable_value v (Read s) args xs h lt = let same : s ≡ v = grind (arith, nat_tests) in ap (slice_index (xs ++ args)) same ∙ get_or_append_left xs args 0 v lt
+  variable_value : (v : ℕ) (e : Term) (args xs : List ℕ) → is_variable v e ≡ true → v < length xs
+      → term_value e (xs ++ args) ≡ slice_index xs v
+  variable_value v (Read s) args xs h lt = let same : s ≡ v = grind (arith, nat_tests) in ap (slice_index (xs ++ args)) same
+      ∙ get_or_append_left xs args 0 v lt
   variable_value v (Literal n) args xs h lt = cc
   variable_value v (Negation e) args xs h lt = cc
   variable_value v (Operation op a b) args xs h lt = cc
 
   -- an assignment adds the same to every state
-  set_adds : (v : ℕ) (e : Term) (args xs zs : List ℕ) → is_increment states v e ≡ true → v < states → length xs ≡ states → length zs ≡ states →
+  set_adds : (v : ℕ) (e : Term) (args xs zs : List ℕ) → is_increment states v e ≡ true → v < states → length xs ≡ states
+      → length zs ≡ states →
       set (plus xs zs) v (term_value e (plus xs zs ++ args)) ≡ plus xs (set zs v (term_value e (zs ++ args)))
   set_adds v (Literal n) args xs zs h lt ex ez = cc
   set_adds v (Read s) args xs zs h lt ex ez = cc
@@ -79,36 +84,43 @@ module _ (states : ℕ) where
       ∙ plus_set op adds xs zs v w (ex ∙ sym ez)
       ∙ ap (λ n. plus xs (set zs v (op_value op n w))) (sym (variable_value v a args zs is_v (subst (λ n. v < n) (sym ez) lt)))
 
-  block_adds : (nargs : ℕ) (b : Block) (args xs zs : List ℕ) → IsValidBlock states nargs b → is_additive_block states true b ≡ true → length xs ≡ states → length zs ≡ states →
+  block_adds : (nargs : ℕ) (b : Block) (args xs zs : List ℕ) → IsValidBlock states nargs b → is_additive_block states true b ≡ true
+      → length xs ≡ states → length zs ≡ states →
       after b args (plus xs zs) ≡ plus xs (after b args zs)
   block_adds nargs End args xs zs valid h ex ez = refl
   block_adds nargs (Set v e rest) args xs zs valid h ex ez =
       let front = and_true_left (is_increment states v e) (is_additive_block states true rest) h in
       let more = and_true_right (is_increment states v e) (is_additive_block states true rest) h in
       ap (after rest args) (set_adds v e args xs zs front valid.0 ex ez)
-      ∙ block_adds nargs rest args xs (set zs v (term_value e (zs ++ args))) valid.3 more ex (length-set zs v (term_value e (zs ++ args)) ∙ ez)
+      ∙ block_adds nargs rest args xs (set zs v (term_value e (zs ++ args))) valid.3 more ex
+      (length-set zs v (term_value e (zs ++ args)) ∙ ez)
   block_adds nargs (Fork c a b rest) args xs zs valid h ex ez =
       let inner = names_no_state states c in
-      let front = and_true_left (is_additive_block states inner a && is_additive_block states inner b) (is_additive_block states true rest) h in
-      let more = and_true_right (is_additive_block states inner a && is_additive_block states inner b) (is_additive_block states true rest) h in
+      let front = and_true_left (is_additive_block states inner a && is_additive_block states inner b) (is_additive_block states true rest)
+      h in
+      let more = and_true_right (is_additive_block states inner a && is_additive_block states inner b) (is_additive_block states true rest)
+      h in
       let ha = and_true_left (is_additive_block states inner a) (is_additive_block states inner b) front in
       let hb = and_true_right (is_additive_block states inner a) (is_additive_block states inner b) front in
       let next = if holds (term_value c (zs ++ args)) then after a args zs else after b args zs in
-      ap (after rest args) (branch inner refl ha hb (λ g. block_adds nargs a args xs zs valid.2 g ex ez) (λ g. block_adds nargs b args xs zs valid.3 g ex ez))
+      ap (after rest args) (branch inner refl ha hb (λ g. block_adds nargs a args xs zs valid.2 g ex ez)
+      (λ g. block_adds nargs b args xs zs valid.3 g ex ez))
       ∙ block_adds nargs rest args xs next valid.4 more ex (size (holds (term_value c (zs ++ args))))
     where
       size : (t : Bool) → length (if t then after a args zs else after b args zs) ≡ states
       size true = length-after a args zs ∙ ez
       size false = length-after b args zs ∙ ez
 
-      same : (t u : Bool) → t ≡ u → after a args (plus xs zs) ≡ plus xs (after a args zs) → after b args (plus xs zs) ≡ plus xs (after b args zs) →
+      same : (t u : Bool) → t ≡ u → after a args (plus xs zs) ≡ plus xs (after a args zs)
+          → after b args (plus xs zs) ≡ plus xs (after b args zs) →
           (if t then after a args (plus xs zs) else after b args (plus xs zs)) ≡ plus xs (if u then after a args zs else after b args zs)
       same true true e p q = p
       same true false e p q = cc
       same false true e p q = cc
       same false false e p q = q
 
-      still : (t u : Bool) → after a args (plus xs zs) ≡ plus xs zs → after b args (plus xs zs) ≡ plus xs zs → after a args zs ≡ zs → after b args zs ≡ zs →
+      still : (t u : Bool) → after a args (plus xs zs) ≡ plus xs zs → after b args (plus xs zs) ≡ plus xs zs → after a args zs ≡ zs
+          → after b args zs ≡ zs →
           (if t then after a args (plus xs zs) else after b args (plus xs zs)) ≡ plus xs (if u then after a args zs else after b args zs)
       still true true p q r s = p ∙ ap (plus xs) (sym r)
       still true false p q r s = p ∙ ap (plus xs) (sym s)
@@ -125,7 +137,8 @@ module _ (states : ℕ) where
           (ap holds (known_value states no_state args (plus xs zs) zs c (length-plus xs zs ∙ ex) ez (λ s lt k. cc) e)) (ia ga) (ib gb)
       branch false e ga gb ia ib =
           still (holds (term_value c (plus xs zs ++ args))) (holds (term_value c (zs ++ args)))
-          (idle states no_state (is_increment states) a args (plus xs zs) ga) (idle states no_state (is_increment states) b args (plus xs zs) gb)
+          (idle states no_state (is_increment states) a args (plus xs zs) ga)
+          (idle states no_state (is_increment states) b args (plus xs zs) gb)
           (idle states no_state (is_increment states) a args zs ga) (idle states no_state (is_increment states) b args zs gb)
 
 pub length-amount : (f : TypedFold) (row : ArgRow) → length (amount f row) ≡ fold_states f
@@ -135,7 +148,8 @@ pub step_adds : (f : TypedFold) (state : List ℕ) (row : ArgRow) → IsAdditive
 step_adds f state row h =
     let same : plus state (zeros f) ≡ state = ap (λ n. plus state (replicate n 0)) (sym h.size) ∙ plus_zeros state h.words in
     ap (λ s. body f s row) (sym same)
-    ∙ block_adds (fold_states f) (fold_args f) (fold_block f) row state (zeros f) h.valid.statements h.additive h.size (length-replicate (fold_states f) 0)
+    ∙ block_adds (fold_states f) (fold_args f) (fold_block f) row state (zeros f) h.valid.statements h.additive h.size
+    (length-replicate (fold_states f) 0)
 
 -- the state after a row is one for the fold again
 pub step_stays : (f : TypedFold) (state : List ℕ) (row : ArgRow) → IsAdditiveFrom f state → IsAdditiveFrom f (body f state row)

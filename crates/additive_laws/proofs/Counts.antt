@@ -1,5 +1,6 @@
 -- The merged epochs of a key, switch by switch.
-use Rattle.std.proofs.Common.{◌≡◌, ◌≢◌, ℕ, ◌+◌, Bool, true, false, not, ◌||◌, ◌==◌, List, [], ◌∷◌, ◌++◌, length, filter, flat_map, refl, sym, ap, ◌∙◌, subst, arith, append-nil, length-append}
+use Rattle.std.proofs.Common.{◌≡◌, ◌≢◌, ℕ, ◌+◌, Bool, true, false, not, ◌||◌, ◌==◌, List, [], ◌∷◌, ◌++◌, length, filter, flat_map, refl}
+use Rattle.std.proofs.Common.{sym, ap, ◌∙◌, subst, arith, append-nil, length-append}
 use Rattle.std.proofs.lemmas.Bool.{true≢false, false≢true}
 use Rattle.std.proofs.lemmas.Bool.Decides.{nat_tests}
 use Rattle.epoch_model.specs.Keys.{Key, ArgRow}
@@ -41,7 +42,8 @@ module _ (key : Key) where
   abbrev apart_from : ℕ → List SwitchEpoch → List SwitchEpoch
   apart_from s merged = filter (λ e. not (e.switch == s)) merged
 
-  split_count : (s : ℕ) (merged : List SwitchEpoch) → length (lists_of key (all_epochs merged)) ≡ length (own merged s) + length (lists_of key (all_epochs (apart_from s merged)))
+  split_count : (s : ℕ) (merged : List SwitchEpoch) → length (lists_of key (all_epochs merged)) ≡ length (own merged s)
+      + length (lists_of key (all_epochs (apart_from s merged)))
   split_count s [] = refl
   split_count s (e ∷ merged) = let h = split_count s merged in by_test (e.switch == s)
       (λ t. by_test (is_of key e.epoch) (λ u. rw (t, u) (omega (arith, h))) (λ u. rw (t, u) h))
@@ -54,13 +56,16 @@ module _ (key : Key) where
   own_kept : (s k : ℕ) (merged : List SwitchEpoch) → (k == s) ≡ false → own (apart_from s merged) k ≡ own merged k
   own_kept s k [] d = refl
   own_kept s k (e ∷ merged) d = by_test (e.switch == s)
-      (λ t. let other : (e.switch == k) ≡ false = ap (λ n. n == k) (same_number e.switch s t) ∙ turned k s d in rw (t, other) (own_kept s k merged d))
+      (λ t. let other : (e.switch == k) ≡ false = ap (λ n. n == k) (same_number e.switch s t)
+      ∙ turned k s d in rw (t, other) (own_kept s k merged d))
       (λ t. rw t (by_test (e.switch == k)
-      (λ u. rw u (by_test (is_of key e.epoch) (λ v. rw v (ap (λ ls. e.epoch.rows ∷ ls) (own_kept s k merged d))) (λ v. rw v (own_kept s k merged d))))
+      (λ u. rw u (by_test (is_of key e.epoch) (λ v. rw v (ap (λ ls. e.epoch.rows ∷ ls) (own_kept s k merged d)))
+      (λ v. rw v (own_kept s k merged d))))
       (λ u. rw u (own_kept s k merged d))))
 
   -- the switch of an epoch that is of the key
-  first_of : (e : SwitchEpoch) (merged : List SwitchEpoch) → is_of key e.epoch ≡ true → own (e ∷ merged) e.switch ≡ e.epoch.rows ∷ own merged e.switch
+  first_of : (e : SwitchEpoch) (merged : List SwitchEpoch) → is_of key e.epoch ≡ true → own (e ∷ merged) e.switch ≡ e.epoch.rows
+      ∷ own merged e.switch
   first_of e merged u = rw (own_number e.switch) (rw u refl)
 
   none_after : (e : SwitchEpoch) (merged : List SwitchEpoch) (s : ℕ) → own (e ∷ merged) s ≡ [] → own merged s ≡ []
@@ -76,17 +81,21 @@ module _ (key : Key) where
       (λ u. absurd (not_empty e.epoch.rows (own merged e.switch) (sym (first_of e merged u) ∙ h e.switch)))
       (λ u. rw u (all_gone merged (λ s. none_after e merged s (h s))))
 
-  same_lists : (s : ℕ) (merged : List SwitchEpoch) (switches : List ℕ) → has_number s switches ≡ false → flat_map (own (apart_from s merged)) switches ≡ flat_map (own merged) switches
+  same_lists : (s : ℕ) (merged : List SwitchEpoch) (switches : List ℕ) → has_number s switches ≡ false
+      → flat_map (own (apart_from s merged)) switches ≡ flat_map (own merged) switches
   same_lists s merged [] h = refl
   same_lists s merged (k ∷ switches) h =
       let both = both_fail (k == s) (has_number s switches) h in
-      ap (λ ls. ls ++ flat_map (own (apart_from s merged)) switches) (own_kept s k merged both.0) ∙ ap (λ ls. own merged k ++ ls) (same_lists s merged switches both.1)
+      ap (λ ls. ls ++ flat_map (own (apart_from s merged)) switches) (own_kept s k merged both.0)
+      ∙ ap (λ ls. own merged k ++ ls) (same_lists s merged switches both.1)
 
-  adds_up : (switches : List ℕ) (merged : List SwitchEpoch) → AreSwitchesOf key merged switches → length (lists_of key (all_epochs merged)) ≡ length (flat_map (own merged) switches)
+  adds_up : (switches : List ℕ) (merged : List SwitchEpoch) → AreSwitchesOf key merged switches
+      → length (lists_of key (all_epochs merged)) ≡ length (flat_map (own merged) switches)
   adds_up [] merged a = ap length (all_gone merged (λ s. a.others s refl))
   adds_up (s ∷ switches) merged a =
       split_count s merged
-      ∙ (ap (λ n. length (own merged s) + n) (adds_up switches (apart_from s merged) rest ∙ ap length (same_lists s merged switches a.apart.0))
+      ∙ (ap (λ n. length (own merged s) + n) (adds_up switches (apart_from s merged) rest
+      ∙ ap length (same_lists s merged switches a.apart.0))
       ∙ sym (length-append (own merged s) (flat_map (own merged) switches)))
     where
       rest : AreSwitchesOf key (apart_from s merged) switches
@@ -110,13 +119,15 @@ module _ (key : Key) where
       (λ u. absurd (not_empty e.epoch.rows (own merged e.switch) (sym (first_of e merged u) ∙ h e.switch (not_number e.switch s t))))
       (λ u. rw t (rw u rest)))
 
-  none_of : (merged : List SwitchEpoch) (switches : List ℕ) (one : ℕ) → ((k : ℕ) → k ≢ one → own merged k ≡ []) → has_number one switches ≡ false → flat_map (own merged) switches ≡ []
+  none_of : (merged : List SwitchEpoch) (switches : List ℕ) (one : ℕ) → ((k : ℕ) → k ≢ one → own merged k ≡ [])
+      → has_number one switches ≡ false → flat_map (own merged) switches ≡ []
   none_of merged [] one h none = refl
   none_of merged (k ∷ switches) one h none =
       let both = both_fail (k == one) (has_number one switches) none in
       ap (λ ls. ls ++ flat_map (own merged) switches) (h k (not_number k one both.0)) ∙ none_of merged switches one h both.1
 
-  just_one : (merged : List SwitchEpoch) (switches : List ℕ) (one : ℕ) → AreApart switches → ((k : ℕ) → k ≢ one → own merged k ≡ []) → has_number one switches ≡ true
+  just_one : (merged : List SwitchEpoch) (switches : List ℕ) (one : ℕ) → AreApart switches → ((k : ℕ) → k ≢ one → own merged k ≡ [])
+      → has_number one switches ≡ true
       → flat_map (own merged) switches ≡ own merged one
   just_one merged [] one apart h some = absurd (false≢true some)
   just_one merged (k ∷ switches) one apart h some = by_test (k == one)

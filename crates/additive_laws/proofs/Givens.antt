@@ -12,7 +12,8 @@ use Rattle.epoch_model.proofs.TableRows.{given-some, joined-some, same_keys}
 use Rattle.additive_laws.specs.Pieces.{joined}
 use Rattle.additive_laws.specs.Network.{SwitchEvent, all_events, events_at, all_epochs}
 use Rattle.additive_laws.proofs.StoreTables.{same_some, as_many, pieces}
-use Rattle.additive_laws.specs.Traces.{Step, from_switch, given, if_packet, packets_among, taken_of, whole_uses, unless_merge, without_merges, unrefreshed}
+use Rattle.additive_laws.specs.Traces.{Step, from_switch, given, if_packet, packets_among, taken_of, whole_uses, unless_merge}
+use Rattle.additive_laws.specs.Traces.{without_merges, unrefreshed}
 use Rattle.additive_laws.specs.TraceLaws.{rows_used, RunsGiveTheTrace, RunsHavePackets, MergedKeysAreUsed}
 use Rattle.additive_laws.proofs.Runs.{given_other}
 
@@ -31,7 +32,8 @@ packets_none : (events : List SwitchEvent) → NoPacket (all_events events) → 
 packets_none [] n = refl
 packets_none (e ∷ events) n = none e.switch e.event events (λ more. packets_none events more) n
   where
-    none : (k : ℕ) (event : Event) (events : List SwitchEvent) → (NoPacket (all_events events) → packets_among events ≡ []) → NoPacket (event ∷ all_events events)
+    none : (k : ℕ) (event : Event) (events : List SwitchEvent) → (NoPacket (all_events events) → packets_among events ≡ [])
+        → NoPacket (event ∷ all_events events)
         → if_packet k event (packets_among events) ≡ []
     none k (Packet key row) events rest n = absurd n
     none k (Evict bucket) events rest n = rest n
@@ -41,7 +43,8 @@ packets_unmerged : (events : List SwitchEvent) → packets_among events ≡ pack
 packets_unmerged [] = refl
 packets_unmerged (e ∷ events) = ap (if_packet e.switch e.event) (packets_unmerged events) ∙ unless e.switch e.event (without_merges events)
   where
-    unless : (k : ℕ) (event : Event) (others : List SwitchEvent) → if_packet k event (packets_among others) ≡ packets_among (unless_merge k event others)
+    unless : (k : ℕ) (event : Event) (others : List SwitchEvent) → if_packet k event (packets_among others) ≡ packets_among
+        (unless_merge k event others)
     unless k (Packet key row) others = refl
     unless k (Evict bucket) others = refl
     unless k Merge others = refl
@@ -50,7 +53,8 @@ packets_given : (steps : List Step) → packets_among (given steps) ≡ given st
 packets_given [] = refl
 packets_given (one ∷ steps) = step one.switch one.taken (given steps) (packets_given steps)
   where
-    step : (k : ℕ) (taken : Option Taken) (more : List SwitchEvent) → packets_among more ≡ more → packets_among (from_switch k (event_of taken) ++ more) ≡ from_switch k (event_of taken) ++ more
+    step : (k : ℕ) (taken : Option Taken) (more : List SwitchEvent) → packets_among more ≡ more
+        → packets_among (from_switch k (event_of taken) ++ more) ≡ from_switch k (event_of taken) ++ more
     step k None more h = h
     step k (Some t) more h = ap (λ es. record { switch = k; event = Packet t.key t.row } ∷ es) h
 
@@ -65,7 +69,8 @@ run_has steps events r =
 -- ---- rows
 
 module _ (key : Key) where
-  if_rows : (k : ℕ) (event : Event) (events : List Event) (others : List SwitchEvent) → rows_given key events ≡ rows_given key (all_events others)
+  if_rows : (k : ℕ) (event : Event) (events : List Event) (others : List SwitchEvent)
+      → rows_given key events ≡ rows_given key (all_events others)
       → rows_given key (event ∷ events) ≡ rows_given key (all_events (if_packet k event others))
   if_rows k (Packet j row) events others h = by_test (key_eq j key) (λ t. rw t (ap (λ rs. row ∷ rs) h)) (λ t. rw t h)
   if_rows k (Evict bucket) events others h = h
@@ -75,35 +80,42 @@ module _ (key : Key) where
   rows_packets [] = refl
   rows_packets (e ∷ events) = if_rows e.switch e.event (all_events events) (packets_among events) (rows_packets events)
 
-  rows_step : (k n : ℕ) (taken : Option Taken) (events : List SwitchEvent) (uses : List Use) → rows_given key (all_events events) ≡ rows_used key uses
+  rows_step : (k n : ℕ) (taken : Option Taken) (events : List SwitchEvent) (uses : List Use)
+      → rows_given key (all_events events) ≡ rows_used key uses
       → rows_given key (all_events (from_switch k (event_of taken) ++ events)) ≡ rows_used key (use_at n taken ++ uses)
   rows_step k n None events uses h = h
   rows_step k n (Some one) events uses h = by_test (key_eq one.key key) (λ t. rw t (ap (λ rs. one.row ∷ rs) h)) (λ t. rw t h)
 
-  rows_steps : (n : ℕ) (steps : List Step) → rows_given key (all_events (given steps)) ≡ rows_used key (uses_taken n (map (λ one. one.taken) steps))
+  rows_steps : (n : ℕ) (steps : List Step) → rows_given key (all_events (given steps)) ≡ rows_used key
+      (uses_taken n (map (λ one. one.taken) steps))
   rows_steps n [] = refl
-  rows_steps n (one ∷ steps) = rows_step one.switch n one.taken (given steps) (uses_taken (suc n) (map (λ x. x.taken) steps)) (rows_steps (suc n) steps)
+  rows_steps n (one ∷ steps) = rows_step one.switch n one.taken (given steps) (uses_taken (suc n) (map (λ x. x.taken) steps))
+      (rows_steps (suc n) steps)
 
   -- of one switch
 
-  own_one : (k s : ℕ) → (k == s) ≡ true → (event : Event) (events : List Event) (others : List SwitchEvent) → rows_given key events ≡ rows_given key (events_at s others)
+  own_one : (k s : ℕ) → (k == s) ≡ true → (event : Event) (events : List Event) (others : List SwitchEvent)
+      → rows_given key events ≡ rows_given key (events_at s others)
       → rows_given key (event ∷ events) ≡ rows_given key (events_at s (if_packet k event others))
   own_one k s t (Packet j row) events others h = rw t (by_test (key_eq j key) (λ u. rw u (ap (λ rs. row ∷ rs) h)) (λ u. rw u h))
   own_one k s t (Evict bucket) events others h = h
   own_one k s t Merge events others h = h
 
-  own_other : (k s : ℕ) → (k == s) ≡ false → (event : Event) (others : List SwitchEvent) → events_at s (if_packet k event others) ≡ events_at s others
+  own_other : (k s : ℕ) → (k == s) ≡ false → (event : Event) (others : List SwitchEvent)
+      → events_at s (if_packet k event others) ≡ events_at s others
   own_other k s t (Packet j row) others = rw t refl
   own_other k s t (Evict bucket) others = refl
   own_other k s t Merge others = refl
 
-  own_packets : (s : ℕ) (events : List SwitchEvent) → rows_given key (events_at s events) ≡ rows_given key (events_at s (packets_among events))
+  own_packets : (s : ℕ) (events : List SwitchEvent) → rows_given key (events_at s events) ≡ rows_given key
+      (events_at s (packets_among events))
   own_packets s [] = refl
   own_packets s (e ∷ events) = by_test (e.switch == s)
       (λ t. rw t (own_one e.switch s t e.event (events_at s events) (packets_among events) (own_packets s events)))
       (λ t. rw t (own_packets s events ∙ ap (rows_given key) (sym (own_other e.switch s t e.event (packets_among events)))))
 
-  own_step : (k s n : ℕ) → (k == s) ≡ true → (taken : Option Taken) (events : List SwitchEvent) (uses : List Use) → rows_given key (events_at s events) ≡ rows_used key uses
+  own_step : (k s n : ℕ) → (k == s) ≡ true → (taken : Option Taken) (events : List SwitchEvent) (uses : List Use)
+      → rows_given key (events_at s events) ≡ rows_used key uses
       → rows_given key (events_at s (from_switch k (event_of taken) ++ events)) ≡ rows_used key (use_at n taken ++ uses)
   own_step k s n t None events uses h = h
   own_step k s n t (Some one) events uses h = rw t (by_test (key_eq one.key key) (λ u. rw u (ap (λ rs. one.row ∷ rs) h)) (λ u. rw u h))
@@ -126,14 +138,17 @@ keys_packets : (events : List SwitchEvent) → keys_given (all_events events) �
 keys_packets [] = refl
 keys_packets (e ∷ events) = if_keys e.switch e.event (all_events events) (packets_among events) (keys_packets events)
 
-keys_step : (k n : ℕ) (taken : Option Taken) (events : List SwitchEvent) (uses : List Use) → keys_given (all_events events) ≡ map (λ u. u.key) uses
+keys_step : (k n : ℕ) (taken : Option Taken) (events : List SwitchEvent) (uses : List Use)
+    → keys_given (all_events events) ≡ map (λ u. u.key) uses
     → keys_given (all_events (from_switch k (event_of taken) ++ events)) ≡ map (λ u. u.key) (use_at n taken ++ uses)
 keys_step k n None events uses h = h
 keys_step k n (Some one) events uses h = ap (λ ks. one.key ∷ ks) h
 
-keys_steps : (n : ℕ) (steps : List Step) → keys_given (all_events (given steps)) ≡ map (λ u. u.key) (uses_taken n (map (λ one. one.taken) steps))
+keys_steps : (n : ℕ) (steps : List Step) → keys_given (all_events (given steps)) ≡ map (λ u. u.key)
+    (uses_taken n (map (λ one. one.taken) steps))
 keys_steps n [] = refl
-keys_steps n (one ∷ steps) = keys_step one.switch n one.taken (given steps) (uses_taken (suc n) (map (λ x. x.taken) steps)) (keys_steps (suc n) steps)
+keys_steps n (one ∷ steps) = keys_step one.switch n one.taken (given steps) (uses_taken (suc n) (map (λ x. x.taken) steps))
+    (keys_steps (suc n) steps)
 
 pub gives : RunsGiveTheTrace
 gives steps events has = record {
@@ -146,5 +161,6 @@ pub keys_are : MergedKeysAreUsed
 keys_are buckets ways steps events merged room r all = same_keys (all_epochs merged) (map (λ u. u.key) (whole_uses steps))
     (λ k. ap (has k) (sym (gives steps events r).keys)
     ∙ (given-some k (all_events events)
-    ∙ (same_some (rows_given k (all_events events)) (joined (lists_of k (all_epochs merged))) (as_many (unrefreshed buckets ways) events merged room all k)
+    ∙ (same_some (rows_given k (all_events events)) (joined (lists_of k (all_epochs merged)))
+    (as_many (unrefreshed buckets ways) events merged room all k)
     ∙ joined-some (lists_of k (all_epochs merged)) (pieces (unrefreshed buckets ways) events merged room all k))))

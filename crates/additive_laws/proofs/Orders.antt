@@ -1,12 +1,14 @@
 -- Rows of several switches: one switch's rows stay in order, and pieces are merged in any order.
-use Rattle.std.proofs.Common.{◌≡◌, ℕ, ◌+◌, Bool, true, false, cond, ◌==◌, List, [], ◌∷◌, ◌++◌, map, filter, slice_index, refl, sym, ap, ◌∙◌, subst, arith}
+use Rattle.std.proofs.Common.{◌≡◌, ℕ, ◌+◌, Bool, true, false, cond, ◌==◌, List, [], ◌∷◌, ◌++◌, map, filter, slice_index, refl, sym, ap, ◌∙◌}
+use Rattle.std.proofs.Common.{subst, arith}
 use Rattle.std.proofs.lemmas.Bool.Decides.{nat_tests}
 use Rattle.std.specs.List.{sum_by, flat_map}
 use Rattle.std.specs.List.Sorted.{IsPermutation}
 use Rattle.std.proofs.lemmas.List.{map-append}
 use Rattle.std.proofs.lemmas.List.Elements.{filter-append}
 use Rattle.std.proofs.lemmas.List.Sums.{sum_by-cons, sum_by-append}
-use Rattle.std.proofs.lemmas.List.Sorted.{IsPermutation-refl, IsPermutation-sym, IsPermutation-trans, IsPermutation-cons, IsPermutation-middle, IsPermutation-map, sum_by-IsPermutation}
+use Rattle.std.proofs.lemmas.List.Sorted.{IsPermutation-refl, IsPermutation-sym, IsPermutation-trans, IsPermutation-cons}
+use Rattle.std.proofs.lemmas.List.Sorted.{IsPermutation-middle, IsPermutation-map, sum_by-IsPermutation}
 use Rattle.epoch_model.specs.Keys.{ArgRow}
 use Rattle.query_lang.specs.declared.fold.TypedFold.{TypedFold}
 use Rattle.query_lang.specs.Folds.{folded}
@@ -32,7 +34,8 @@ module _ {X : Type 0} (tag : X → ℕ) where
   find_first x rest [] e = cc
   find_first x rest (y ∷ ys) e = at (λ h. find_first x rest ys h) (tag y == tag x) refl e
     where
-      at : (tagged (tag x) ys ≡ x ∷ rest → Found x rest ys) → (t : Bool) → (tag y == tag x) ≡ t → cond t (y ∷ tagged (tag x) ys) (tagged (tag x) ys) ≡ x ∷ rest → Found x rest (y ∷ ys)
+      at : (tagged (tag x) ys ≡ x ∷ rest → Found x rest ys) → (t : Bool) → (tag y == tag x) ≡ t
+          → cond t (y ∷ tagged (tag x) ys) (tagged (tag x) ys) ≡ x ∷ rest → Found x rest (y ∷ ys)
       at find true t e =
           let head : y ≡ x = cc in
           let tail : tagged (tag x) ys ≡ rest = cc in
@@ -58,7 +61,8 @@ module _ {X : Type 0} (tag : X → ℕ) where
       let f = find_first x (tagged (tag x) xs) ys (sym (h (tag x)) ∙ own x xs) in
       let rest = same_at_each xs (f.before ++ f.after) (λ s. at f s (tag x == s) refl) in
       subst (IsPermutation (x ∷ xs)) (sym f.is)
-      (IsPermutation-trans (x ∷ xs) (x ∷ (f.before ++ f.after)) (f.before ++ x ∷ f.after) (IsPermutation-cons x xs (f.before ++ f.after) rest)
+      (IsPermutation-trans (x ∷ xs) (x ∷ (f.before ++ f.after)) (f.before ++ x ∷ f.after)
+      (IsPermutation-cons x xs (f.before ++ f.after) rest)
       (IsPermutation-sym (f.before ++ x ∷ f.after) (x ∷ (f.before ++ f.after)) (IsPermutation-middle f.before x f.after)))
     where
       at : (f : Found x (tagged (tag x) xs) ys) (s : ℕ) (t : Bool) → (tag x == s) ≡ t → tagged s xs ≡ tagged s (f.before ++ f.after)
@@ -97,11 +101,14 @@ is_under s (g ∷ given) = at (is_under s given) (g.switch == s) refl
         ap (λ x. x ∷ at_switch s given) (same is) ∙ ap (λ xs. from_switch s g.row ∷ xs) rest
     at rest false e = rest
 
-pub same_rows : (given other : List Given) → ((s : ℕ) → rows_from s given ≡ rows_from s other) → IsPermutation (all_rows given) (all_rows other)
+pub same_rows : (given other : List Given) → ((s : ℕ) → rows_from s given ≡ rows_from s other)
+    → IsPermutation (all_rows given) (all_rows other)
 same_rows given other h =
-    IsPermutation-map (λ g. g.row) given other (same_at_each (λ g. g.switch) given other (λ s. is_under s given ∙ ap (under s) (h s) ∙ sym (is_under s other)))
+    IsPermutation-map (λ g. g.row) given other (same_at_each (λ g. g.switch) given other
+    (λ s. is_under s given ∙ ap (under s) (h s) ∙ sym (is_under s other)))
 
-pub any_interleaving : (f : TypedFold) (state : List ℕ) (given other : List Given) → IsAdditiveFrom f state → ((s : ℕ) → rows_from s given ≡ rows_from s other) → folded f state (all_rows given) ≡ folded f state (all_rows other)
+pub any_interleaving : (f : TypedFold) (state : List ℕ) (given other : List Given) → IsAdditiveFrom f state
+    → ((s : ℕ) → rows_from s given ≡ rows_from s other) → folded f state (all_rows given) ≡ folded f state (all_rows other)
 any_interleaving f state given other h e = any_order f state (all_rows given) (all_rows other) h (same_rows given other e)
 
 -- the rows of the pieces, each with its switch
@@ -127,7 +134,8 @@ none_of s k (row ∷ rows) e =
 all_of : (s k : ℕ) (rows : List ArgRow) → (k == s) ≡ true → rows_from s (under k rows) ≡ rows
 all_of s k [] e = refl
 all_of s k (row ∷ rows) e =
-    ap (λ b. all_rows (cond b (from_switch k row ∷ at_switch s (under k rows)) (at_switch s (under k rows)))) e ∙ ap (λ rs. row ∷ rs) (all_of s k rows e)
+    ap (λ b. all_rows (cond b (from_switch k row ∷ at_switch s (under k rows)) (at_switch s (under k rows)))) e
+    ∙ ap (λ rs. row ∷ rs) (all_of s k rows e)
 
 spread_at : (s : ℕ) (pieces : List Piece) → rows_from s (spread pieces) ≡ joined (lists_from s pieces)
 spread_at s [] = refl
@@ -136,23 +144,29 @@ spread_at s (p ∷ pieces) =
     ∙ map-append (λ g. g.row) (at_switch s (under p.switch p.rows)) (at_switch s (spread pieces))
     ∙ at (spread_at s pieces) (p.switch == s) refl
   where
-    at : rows_from s (spread pieces) ≡ joined (lists_from s pieces) → (t : Bool) → (p.switch == s) ≡ t → rows_from s (under p.switch p.rows) ++ rows_from s (spread pieces) ≡ joined (lists_merged (cond t (p ∷ filter (λ q. q.switch == s) pieces) (filter (λ q. q.switch == s) pieces)))
+    at : rows_from s (spread pieces) ≡ joined (lists_from s pieces) → (t : Bool) → (p.switch == s) ≡ t → rows_from s (under p.switch p.rows)
+        ++ rows_from s (spread pieces) ≡ joined (lists_merged (cond t (p ∷ filter (λ q. q.switch == s) pieces)
+        (filter (λ q. q.switch == s) pieces)))
     at rest true e = ap (λ rs. rs ++ rows_from s (spread pieces)) (all_of s p.switch p.rows e) ∙ ap (λ rs. p.rows ++ rs) rest
     at rest false e = ap (λ rs. rs ++ rows_from s (spread pieces)) (none_of s p.switch p.rows e) ∙ rest
 
 -- the rows of the pieces are those of the trace in another order
-pub interleaved_rows : (given : List Given) (pieces : List Piece) → Interleaves given pieces → IsPermutation (joined (lists_merged pieces)) (all_rows given)
-interleaved_rows given pieces e = subst (λ rs. IsPermutation rs (all_rows given)) (rows_spread pieces) (same_rows (spread pieces) given (λ s. spread_at s pieces ∙ sym (e s)))
+pub interleaved_rows : (given : List Given) (pieces : List Piece) → Interleaves given pieces
+    → IsPermutation (joined (lists_merged pieces)) (all_rows given)
+interleaved_rows given pieces e = subst (λ rs. IsPermutation rs (all_rows given)) (rows_spread pieces)
+    (same_rows (spread pieces) given (λ s. spread_at s pieces ∙ sym (e s)))
 
 -- a sum over the rows of pieces is one over the pieces
-total_joined : (f : TypedFold) (v : ℕ) (pieces : List Piece) → total f v (joined (lists_merged pieces)) ≡ sum_by (λ p. total f v p.rows) pieces
+total_joined : (f : TypedFold) (v : ℕ) (pieces : List Piece) → total f v (joined (lists_merged pieces)) ≡ sum_by (λ p. total f v p.rows)
+    pieces
 total_joined f v [] = refl
 total_joined f v (p ∷ pieces) =
     sum_by-append (λ row. slice_index (amount f row) v) p.rows (joined (lists_merged pieces))
     ∙ ap (λ n. total f v p.rows + n) (total_joined f v pieces)
     ∙ sym (sum_by-cons (λ q. total f v q.rows) p pieces)
 
-pub merged_any_order : (f : TypedFold) (state : List ℕ) (given : List Given) (pieces merged : List Piece) → IsAdditiveFrom f state → Interleaves given pieces → IsPermutation pieces merged →
+pub merged_any_order : (f : TypedFold) (state : List ℕ) (given : List Given) (pieces merged : List Piece) → IsAdditiveFrom f state
+    → Interleaves given pieces → IsPermutation pieces merged →
     folded f state (joined (lists_merged merged)) ≡ folded f state (all_rows given)
 merged_any_order f state given pieces merged h e p =
     same_totals f state (joined (lists_merged merged)) (joined (lists_merged pieces)) h

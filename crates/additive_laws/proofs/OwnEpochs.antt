@@ -13,7 +13,8 @@ use Rattle.epoch_model.proofs.Turns.{row_lists_are_epochs_lem}
 use Rattle.additive_laws.specs.Network.{SwitchEvent, SwitchEpoch, events_at, epochs_at, machine_at, AllMerged}
 use Rattle.additive_laws.specs.Traces.{Step, IsRun, own_uses, taken_of, unrefreshed}
 use Rattle.additive_laws.specs.TraceLaws.{OwnEpochs}
-use Rattle.additive_laws.proofs.Runs.{events_append, no_packet_at, unmerged_at, unmerged_append, unmerged_none, turns, given_events, are_turns, turn_uses}
+use Rattle.additive_laws.proofs.Runs.{events_append, no_packet_at, unmerged_at, unmerged_append, unmerged_none, turns, given_events}
+use Rattle.additive_laws.proofs.Runs.{are_turns, turn_uses}
 
 -- machines with the same epochs have the same row lists
 same_lists : (g : Geometry) (m n : Machine) (key : Key) → SameEpochs m n → row_lists g m key ≡ row_lists g n key
@@ -38,7 +39,8 @@ module _ (buckets ways : ℕ) (steps : List Step) (events : List SwitchEvent) (s
   turned : unmerged front ≡ timeline.all_events (turns taken)
   turned = unmerged_at s r.first ∙ (ap (events_at s) r.packets ∙ given_events s steps)
 
-  own_lists : (merged : List SwitchEpoch) (key : Key) → HasRoom g → AllMerged g events merged → lists_of key (epochs_at s merged) ≡ epochs g (own_uses s steps) key
+  own_lists : (merged : List SwitchEpoch) (key : Key) → HasRoom g → AllMerged g events merged
+      → lists_of key (epochs_at s merged) ≡ epochs g (own_uses s steps) key
   own_lists merged key room all =
       ap (lists_of key) (all.epochs s)
       ∙ (closed-lists g (machine_at g s events) key (all.swept s)
@@ -46,7 +48,8 @@ module _ (buckets ways : ℕ) (steps : List Step) (events : List SwitchEvent) (s
       ∙ (same_lists g (run g (front ++ back) (empty_machine g)) (run g (unmerged (front ++ back)) (empty_machine g)) key
       (merges_decide_nothing_lem g (front ++ back) (empty_machine g) (empty_machine g) (record { recent = refl; closed = refl }))
       ∙ (ap (λ es. row_lists g (run g es (empty_machine g)) key) (unmerged_append front back ∙ ap (λ es. es ++ unmerged back) turned)
-      ∙ (row_lists_are_epochs_lem g (turns taken) (unmerged back) key room (are_turns buckets ways 1 (empty_machine g) taken) (unmerged_none back (no_packet_at s r.rest r.ending))
+      ∙ (row_lists_are_epochs_lem g (turns taken) (unmerged back) key room (are_turns buckets ways 1 (empty_machine g) taken)
+      (unmerged_none back (no_packet_at s r.rest r.ending))
       ∙ ap (λ us. epochs g us key) (turn_uses 1 taken))))))
 
 pub own : OwnEpochs

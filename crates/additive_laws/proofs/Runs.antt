@@ -34,13 +34,15 @@ no_packet_at s (e ∷ events) n =
     let rest = no_packet_at s events (no_rest e.event (all_events events) n) in
     by_test (e.switch == s) (λ t. rw t (no_first e.event (all_events events) (events_at s events) n rest)) (λ t. rw t rest)
 
-unmerged_own : (k s : ℕ) → (k == s) ≡ true → (event : Event) (more : List Event) (events : List SwitchEvent) → unmerged more ≡ events_at s events
+unmerged_own : (k s : ℕ) → (k == s) ≡ true → (event : Event) (more : List Event) (events : List SwitchEvent)
+    → unmerged more ≡ events_at s events
     → unmerged (event ∷ more) ≡ events_at s (unless_merge k event events)
 unmerged_own k s t (Packet key row) more events h = rw t (ap (λ es. Packet key row ∷ es) h)
 unmerged_own k s t (Evict bucket) more events h = rw t (ap (λ es. Evict bucket ∷ es) h)
 unmerged_own k s t Merge more events h = h
 
-unmerged_other : (k s : ℕ) → (k == s) ≡ false → (event : Event) (events : List SwitchEvent) → events_at s (unless_merge k event events) ≡ events_at s events
+unmerged_other : (k s : ℕ) → (k == s) ≡ false → (event : Event) (events : List SwitchEvent)
+    → events_at s (unless_merge k event events) ≡ events_at s events
 unmerged_other k s t (Packet key row) events = rw t refl
 unmerged_other k s t (Evict bucket) events = rw t refl
 unmerged_other k s t Merge events = refl
@@ -78,7 +80,8 @@ given_own : (k s : ℕ) → (k == s) ≡ true → (taken : Option Taken) (events
 given_own k s t None events more h = h
 given_own k s t (Some one) events more h = rw t (ap (λ es. Packet one.key one.row ∷ es) h)
 
-pub given_other : (k s : ℕ) → (k == s) ≡ false → (taken : Option Taken) (events : List SwitchEvent) → events_at s (from_switch k (event_of taken) ++ events) ≡ events_at s events
+pub given_other : (k s : ℕ) → (k == s) ≡ false → (taken : Option Taken) (events : List SwitchEvent)
+    → events_at s (from_switch k (event_of taken) ++ events) ≡ events_at s events
 given_other k s t None events = refl
 given_other k s t (Some one) events = rw t refl
 
@@ -92,7 +95,8 @@ no_evict : (taken : Option Taken) → NoEvict (event_of taken)
 no_evict None = tt
 no_evict (Some one) = tt
 
-pub are_turns : (buckets ways number : ℕ) (m : Machine) (taken : List (Option Taken)) → AreTurns (unrefreshed buckets ways) number m (turns taken)
+pub are_turns : (buckets ways number : ℕ) (m : Machine) (taken : List (Option Taken))
+    → AreTurns (unrefreshed buckets ways) number m (turns taken)
 are_turns buckets ways number m [] = tt
 are_turns buckets ways number m (one ∷ taken) = (
   record { packets = no_evict one; sweep = tt; at_refresh = λ e. absurd (false≢true e); elsewhere = λ e. tt },
@@ -102,4 +106,5 @@ are_turns buckets ways number m (one ∷ taken) = (
 pub turn_uses : (number : ℕ) (taken : List (Option Taken)) → timeline.all_uses number (turns taken) ≡ uses_taken number taken
 turn_uses number [] = refl
 turn_uses number (None ∷ taken) = turn_uses (suc number) taken
-turn_uses number (Some one ∷ taken) = ap (λ us. record { packet = number; key = one.key; row = one.row } ∷ us) (turn_uses (suc number) taken)
+turn_uses number (Some one ∷ taken) = ap (λ us. record { packet = number; key = one.key; row = one.row } ∷ us)
+    (turn_uses (suc number) taken)

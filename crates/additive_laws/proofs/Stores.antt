@@ -32,7 +32,8 @@ module _ (key : Key) where
   abbrev pub pieces_at : List SwitchEpoch → List Piece
   pieces_at merged = map piece (filter (λ e. is_of key e.epoch) merged)
 
-  event_rows : (s : ℕ) (event : Event) (more : List Given) (events : List Event) → all_rows more ≡ rows_given key events → all_rows (taken s event ++ more) ≡ rows_given key (event ∷ events)
+  event_rows : (s : ℕ) (event : Event) (more : List Given) (events : List Event) → all_rows more ≡ rows_given key events
+      → all_rows (taken s event ++ more) ≡ rows_given key (event ∷ events)
   event_rows s (Packet k row) more events h = by_test (key_eq k key) (λ t. rw t (ap (λ rs. row ∷ rs) h)) (λ t. rw t h)
   event_rows s (Evict bucket) more events h = h
   event_rows s Merge more events h = h
@@ -41,12 +42,14 @@ module _ (key : Key) where
   given_rows [] = refl
   given_rows (e ∷ events) = event_rows e.switch e.event (given_at events) (all_events events) (given_rows events)
 
-  own_rows : (s : ℕ) (k : ℕ) → (k == s) ≡ true → (event : Event) (more : List Given) (events : List Event) → rows_from s more ≡ rows_given key events → rows_from s (taken k event ++ more) ≡ rows_given key (event ∷ events)
+  own_rows : (s : ℕ) (k : ℕ) → (k == s) ≡ true → (event : Event) (more : List Given) (events : List Event)
+      → rows_from s more ≡ rows_given key events → rows_from s (taken k event ++ more) ≡ rows_given key (event ∷ events)
   own_rows s k e (Packet j row) more events h = by_test (key_eq j key) (λ t. rw t (rw e (ap (λ rs. row ∷ rs) h))) (λ t. rw t h)
   own_rows s k e (Evict bucket) more events h = h
   own_rows s k e Merge more events h = h
 
-  other_rows : (s : ℕ) (k : ℕ) → (k == s) ≡ false → (event : Event) (more : List Given) → rows_from s (taken k event ++ more) ≡ rows_from s more
+  other_rows : (s : ℕ) (k : ℕ) → (k == s) ≡ false → (event : Event) (more : List Given)
+      → rows_from s (taken k event ++ more) ≡ rows_from s more
   other_rows s k e (Packet j row) more = by_test (key_eq j key) (λ t. rw t (rw e refl)) (λ t. rw t refl)
   other_rows s k e (Evict bucket) more = refl
   other_rows s k e Merge more = refl
@@ -59,7 +62,8 @@ module _ (key : Key) where
 
   pub lists_all : (merged : List SwitchEpoch) → lists_merged (pieces_at merged) ≡ lists_of key (all_epochs merged)
   lists_all [] = refl
-  lists_all (e ∷ merged) = by_test (is_of key e.epoch) (λ t. rw t (ap (λ ls. e.epoch.rows ∷ ls) (lists_all merged))) (λ t. rw t (lists_all merged))
+  lists_all (e ∷ merged) = by_test (is_of key e.epoch) (λ t. rw t (ap (λ ls. e.epoch.rows ∷ ls) (lists_all merged)))
+      (λ t. rw t (lists_all merged))
 
   lists_at : (s : ℕ) (merged : List SwitchEpoch) → lists_from s (pieces_at merged) ≡ lists_of key (epochs_at s merged)
   lists_at s [] = refl
@@ -71,7 +75,8 @@ module _ (key : Key) where
       (λ u. rw (t, u) (rw t (lists_at s merged)))
       (λ u. rw (t, u) (lists_at s merged)))
 
-  pub events_interleave : (g : Geometry) (events : List SwitchEvent) (merged : List SwitchEpoch) → HasRoom g → AllMerged g events merged → Interleaves (given_at events) (pieces_at merged)
+  pub events_interleave : (g : Geometry) (events : List SwitchEvent) (merged : List SwitchEpoch) → HasRoom g → AllMerged g events merged
+      → Interleaves (given_at events) (pieces_at merged)
   events_interleave g events merged room h s =
       given_from s events
       ∙ sym (no_row_is_lost_lem g (events_at s events) key room)
@@ -79,9 +84,11 @@ module _ (key : Key) where
       ∙ ap (λ es. joined (lists_of key es)) (sym (h.epochs s))
       ∙ ap joined (sym (lists_at s merged))
 
-pub store_folds : (f : TypedFold) (state : List ℕ) (g : Geometry) (events : List SwitchEvent) (merged : List SwitchEpoch) (key : Key) → IsAdditiveFrom f state → HasRoom g → AllMerged g events merged →
+pub store_folds : (f : TypedFold) (state : List ℕ) (g : Geometry) (events : List SwitchEvent) (merged : List SwitchEpoch) (key : Key)
+    → IsAdditiveFrom f state → HasRoom g → AllMerged g events merged →
     folded f state (joined (lists_of key (all_epochs merged))) ≡ folded f state (rows_given key (all_events events))
 store_folds f state g events merged key h room a =
     ap (λ ls. folded f state (joined ls)) (sym (lists_all key merged))
-    ∙ merged_any_order f state (given_at key events) (pieces_at key merged) (pieces_at key merged) h (events_interleave key g events merged room a) (IsPermutation-refl (pieces_at key merged))
+    ∙ merged_any_order f state (given_at key events) (pieces_at key merged) (pieces_at key merged) h
+    (events_interleave key g events merged room a) (IsPermutation-refl (pieces_at key merged))
     ∙ ap (folded f state) (given_rows key events)

@@ -30,7 +30,8 @@ state_is_a_sum f state [] v h lt =
     omega arith
 state_is_a_sum f state (row ∷ rows) v h lt =
     let first : slice_index (body f state row) v ≡ (slice_index state v + slice_index (amount f row) v) % 2 ^ 64 =
-    ap (λ s. slice_index s v) (step_adds f state row h) ∙ plus_at state (amount f row) v (h.size ∙ sym (length-amount f row)) (subst (λ n. v < n) (sym h.size) lt) in
+    ap (λ s. slice_index s v) (step_adds f state row h) ∙ plus_at state (amount f row) v (h.size ∙ sym (length-amount f row))
+    (subst (λ n. v < n) (sym h.size) lt) in
     state_is_a_sum f (body f state row) rows v (step_stays f state row h) lt
     ∙ ap (λ n. (n + total f v rows) % 2 ^ 64) first
     ∙ carry (slice_index state v) (slice_index (amount f row) v) (total f v rows)
@@ -40,25 +41,31 @@ state_is_a_sum f state (row ∷ rows) v h lt =
     carry x y z = omega arith
 
 -- rows with the same sums lead to the same state
-pub same_totals : (f : TypedFold) (state : List ℕ) (rows others : List ArgRow) → IsAdditiveFrom f state → ((v : ℕ) → total f v rows ≡ total f v others) → folded f state rows ≡ folded f state others
+pub same_totals : (f : TypedFold) (state : List ℕ) (rows others : List ArgRow) → IsAdditiveFrom f state
+    → ((v : ℕ) → total f v rows ≡ total f v others) → folded f state rows ≡ folded f state others
 same_totals f state rows others h e =
     ext_get_or 0 (folded f state rows) (folded f state others) (length-folded f state rows ∙ sym (length-folded f state others))
     (λ v lt. at v (subst (λ n. v < n) (length-folded f state rows ∙ h.size) lt))
   where
     at : (v : ℕ) → v < fold_states f → slice_index (folded f state rows) v ≡ slice_index (folded f state others) v
-    at v lt = state_is_a_sum f state rows v h lt ∙ ap (λ n. (slice_index state v + n) % 2 ^ 64) (e v) ∙ sym (state_is_a_sum f state others v h lt)
+    at v lt = state_is_a_sum f state rows v h lt ∙ ap (λ n. (slice_index state v + n) % 2 ^ 64) (e v)
+        ∙ sym (state_is_a_sum f state others v h lt)
 
-pub any_order : (f : TypedFold) (state : List ℕ) (rows others : List ArgRow) → IsAdditiveFrom f state → IsPermutation rows others → folded f state rows ≡ folded f state others
-any_order f state rows others h p = same_totals f state rows others h (λ v. sym (sum_by-IsPermutation (λ row. slice_index (amount f row) v) rows others p))
+pub any_order : (f : TypedFold) (state : List ℕ) (rows others : List ArgRow) → IsAdditiveFrom f state → IsPermutation rows others
+    → folded f state rows ≡ folded f state others
+any_order f state rows others h p = same_totals f state rows others h (λ v. sym
+    (sum_by-IsPermutation (λ row. slice_index (amount f row) v) rows others p))
 
-pub exchanged : (f : TypedFold) (state : List ℕ) (before after : List ArgRow) (a b : ArgRow) → IsAdditiveFrom f state → folded f state (before ++ a ∷ b ∷ after) ≡ folded f state (before ++ b ∷ a ∷ after)
+pub exchanged : (f : TypedFold) (state : List ℕ) (before after : List ArgRow) (a b : ArgRow) → IsAdditiveFrom f state
+    → folded f state (before ++ a ∷ b ∷ after) ≡ folded f state (before ++ b ∷ a ∷ after)
 exchanged f state before after a b h = same_totals f state (before ++ a ∷ b ∷ after) (before ++ b ∷ a ∷ after) h each
   where
     each : (v : ℕ) → total f v (before ++ a ∷ b ∷ after) ≡ total f v (before ++ b ∷ a ∷ after)
     each v =
         let g : ArgRow → ℕ = λ row. slice_index (amount f row) v in
         sum_by-append g before (a ∷ b ∷ after)
-        ∙ ap (λ n. sum_by g before + n) (sum_by-cons g a (b ∷ after) ∙ ap (λ n. g a + n) (sum_by-cons g b after) ∙ swapped (g a) (g b) (sum_by g after)
+        ∙ ap (λ n. sum_by g before + n) (sum_by-cons g a (b ∷ after) ∙ ap (λ n. g a + n) (sum_by-cons g b after)
+        ∙ swapped (g a) (g b) (sum_by g after)
         ∙ sym (sum_by-cons g b (a ∷ after) ∙ ap (λ n. g b + n) (sum_by-cons g a after)))
         ∙ sym (sum_by-append g before (b ∷ a ∷ after))
       where

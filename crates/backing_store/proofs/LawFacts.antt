@@ -1,5 +1,6 @@
 -- What an epoch of a key, and what is written into its last row, mean for each key.
-use Rattle.std.proofs.Common.{◌≡◌, ℕ, suc, zero, ◌<◌, ◌≤◌, ◌||◌, Bool, true, false, cond, List, [], ◌∷◌, ◌++◌, drop, length, slice_get, Some, refl, sym, ap, ◌∙◌, eq-eqb, inl, inr, arith}
+use Rattle.std.proofs.Common.{◌≡◌, ℕ, suc, zero, ◌<◌, ◌≤◌, ◌||◌, Bool, true, false, cond, List, [], ◌∷◌, ◌++◌, drop, length, slice_get}
+use Rattle.std.proofs.Common.{Some, refl, sym, ap, ◌∙◌, eq-eqb, inl, inr, arith}
 use Rattle.std.specs.Prelude.{◌==◌}
 use Rattle.std.proofs.lemmas.Bool.{cases_lt, ne_eqb}
 use Rattle.std.proofs.lemmas.List.{drop_all}
@@ -7,7 +8,8 @@ use Rattle.std.proofs.lemmas.Option.{same_Some}
 use Rattle.epoch_model.specs.Keys.{Key, has, key_eq}
 use Rattle.epoch_model.proofs.KeyLists.{by_test, key_eq-not, key_eq-refl, key_eq-sym_false, key_eq-true}
 use Rattle.bucket_cache.proofs.LentEntries.{over-all}
-use Rattle.backing_store.specs.Store.{AreRowsOf, IsLastIn, Store, StoredKey, StoredRow, makes_row, number_of, row_keys, states_at, with_epoch}
+use Rattle.backing_store.specs.Store.{AreRowsOf, IsLastIn, Store, StoredKey, StoredRow, makes_row, number_of, row_keys, states_at}
+use Rattle.backing_store.specs.Store.{with_epoch}
 use Rattle.backing_store.specs.StoreLaws.{EpochsAreCounted, KeysAreKept, LastRowsAreWritten, RowsAreAdded, keys_of, with_last}
 use Rattle.backing_store.specs.StoreLending.{with_words_at}
 use Rattle.backing_store.proofs.SortedFacts.{no_states, states_push}
@@ -27,7 +29,8 @@ or_twice false b = refl
 pub keys_kept : KeysAreKept
 keys_kept [] key other = refl
 keys_kept (stored ∷ keys) key other = by_test (key_eq key stored.key)
-    (λ same. rw same (or_twice (key_eq stored.key other) (has other (keys_of keys)) ∙ ap (λ k. key_eq k other || (key_eq stored.key other || has other (keys_of keys))) (sym (key_eq-true key stored.key same))))
+    (λ same. rw same (or_twice (key_eq stored.key other) (has other (keys_of keys))
+    ∙ ap (λ k. key_eq k other || (key_eq stored.key other || has other (keys_of keys))) (sym (key_eq-true key stored.key same))))
     (λ differs. rw (differs, keys_kept keys key other) (or_swap (key_eq stored.key other) (key_eq key other) (has other (keys_of keys))))
 
 -- the other way round
@@ -49,7 +52,8 @@ epochs_counted (stored ∷ keys) key other = by_test (key_eq key stored.key)
     (λ differs. rw (there, differs) (epochs_counted keys key other)))
 
 -- keys that are there keep their numbers
-number_stays : (keys : List StoredKey) (key other : Key) → number_of keys other < length keys → number_of (with_epoch keys key) other ≡ number_of keys other
+number_stays : (keys : List StoredKey) (key other : Key) → number_of keys other < length keys
+    → number_of (with_epoch keys key) other ≡ number_of keys other
 number_stays [] key other there = absurd (omega arith)
 number_stays (stored ∷ keys) key other there = by_test (key_eq key stored.key)
     (λ here. rw here refl)
@@ -65,10 +69,12 @@ number_new (stored ∷ keys) key = by_test (key_eq key stored.key)
 
 number_bound : (keys : List StoredKey) (key : Key) → number_of keys key ≤ length keys
 number_bound [] key = omega arith
-number_bound (stored ∷ keys) key = by_test (key_eq key stored.key) (λ here. rw here (omega arith)) (λ apart. rw apart (omega (arith, number_bound keys key)))
+number_bound (stored ∷ keys) key = by_test (key_eq key stored.key) (λ here. rw here (omega arith))
+    (λ apart. rw apart (omega (arith, number_bound keys key)))
 
 -- different keys that are there have different numbers
-numbers_differ : (keys : List StoredKey) (key other : Key) → key_eq key other ≡ false → number_of keys other < length keys → number_of keys key ≡ number_of keys other → ⊥
+numbers_differ : (keys : List StoredKey) (key other : Key) → key_eq key other ≡ false → number_of keys other < length keys
+    → number_of keys key ≡ number_of keys other → ⊥
 numbers_differ [] key other apart there same = omega arith
 numbers_differ (stored ∷ keys) key other apart there same = by_test (key_eq key stored.key)
     (λ here. by_test (key_eq other stored.key)
@@ -82,18 +88,22 @@ numbers_differ (stored ∷ keys) key other apart there same = by_test (key_eq ke
 abbrev rows_after : Store → Key → List ℕ → Bool → List StoredRow
 rows_after store key initial made = cond made (store.rows ++ record { key = number_of store.keys key; words = initial } ∷ []) store.rows
 
-same_number : (store : Store) (key : Key) (initial : List ℕ) (made : Bool) → states_at (rows_after store key initial made) (number_of store.keys key)
+same_number : (store : Store) (key : Key) (initial : List ℕ) (made : Bool)
+    → states_at (rows_after store key initial made) (number_of store.keys key)
     ≡ cond made (states_at store.rows (number_of store.keys key) ++ initial ∷ []) (states_at store.rows (number_of store.keys key))
 same_number store key initial false = refl
 same_number store key initial true =
     let n = number_of store.keys key in
-    states_push store.rows (record { key = n; words = initial }) n ∙ ap (λ t. cond t (states_at store.rows n ++ initial ∷ []) (states_at store.rows n)) (eq-eqb n n refl)
+    states_push store.rows (record { key = n; words = initial }) n ∙ ap
+    (λ t. cond t (states_at store.rows n ++ initial ∷ []) (states_at store.rows n)) (eq-eqb n n refl)
 
-other_number : (store : Store) (key : Key) (initial : List ℕ) (made : Bool) (m : ℕ) → (number_of store.keys key ≡ m → ⊥) → states_at (rows_after store key initial made) m ≡ states_at store.rows m
+other_number : (store : Store) (key : Key) (initial : List ℕ) (made : Bool) (m : ℕ) → (number_of store.keys key ≡ m → ⊥)
+    → states_at (rows_after store key initial made) m ≡ states_at store.rows m
 other_number store key initial false m differs = refl
 other_number store key initial true m differs =
     let n = number_of store.keys key in
-    states_push store.rows (record { key = n; words = initial }) m ∙ ap (λ t. cond t (states_at store.rows m ++ initial ∷ []) (states_at store.rows m)) (ne_eqb n m differs)
+    states_push store.rows (record { key = n; words = initial }) m ∙ ap
+    (λ t. cond t (states_at store.rows m ++ initial ∷ []) (states_at store.rows m)) (ne_eqb n m differs)
 
 pub rows_added : RowsAreAdded
 rows_added store key other initial row_per_epoch kept key_size row_size =
@@ -111,8 +121,10 @@ rows_added store key other initial row_per_epoch kept key_size row_size =
           let missing : number_of store.keys other ≡ length store.keys = omega (arith, number_bound store.keys other) in
           let now = missing_counted store.keys key other missing apart in
           ap (λ n. states_at (rows_after store key initial made) n) now
-          ∙ no_states (length (with_epoch store.keys key)) store.state_words (length (with_epoch store.keys key)) (rows_after store key initial made) after.rows (omega arith)
-          ∙ sym (ap (λ n. states_at store.rows n) missing ∙ no_states (length store.keys) store.state_words (length store.keys) store.rows kept.rows (omega arith))
+          ∙ no_states (length (with_epoch store.keys key)) store.state_words (length (with_epoch store.keys key))
+          (rows_after store key initial made) after.rows (omega arith)
+          ∙ sym (ap (λ n. states_at store.rows n) missing ∙ no_states (length store.keys) store.state_words (length store.keys) store.rows
+          kept.rows (omega arith))
     ]))
 
 no_later : (rows : List StoredRow) (m : ℕ) → ((later : ℕ) → slice_get (row_keys rows) later ≡ Some m → ⊥) → states_at rows m ≡ []
@@ -132,10 +144,13 @@ last_of_more x [] item some = absurd (omega arith)
 last_of_more x (y ∷ xs) item some = refl
 
 -- what is written into a row of as many words changes no row after it
-only_one : (row : StoredRow) (rows : List StoredRow) (state : List ℕ) → length state ≡ length row.words → with_words_at rows 0 (drop (length row.words) state) ≡ rows
-only_one row rows state same = ap (λ rest. with_words_at rows 0 rest) (drop_all (length row.words) state (omega (arith, same))) ∙ written-whole rows
+only_one : (row : StoredRow) (rows : List StoredRow) (state : List ℕ) → length state ≡ length row.words
+    → with_words_at rows 0 (drop (length row.words) state) ≡ rows
+only_one row rows state same = ap (λ rest. with_words_at rows 0 rest) (drop_all (length row.words) state (omega (arith, same)))
+    ∙ written-whole rows
 
-written_last : (keys words : ℕ) (rows : List StoredRow) (m place : ℕ) (state : List ℕ) → AreRowsOf keys words rows → IsLastIn (row_keys rows) m place → length state ≡ words
+written_last : (keys words : ℕ) (rows : List StoredRow) (m place : ℕ) (state : List ℕ) → AreRowsOf keys words rows
+    → IsLastIn (row_keys rows) m place → length state ≡ words
     → states_at (with_words_at rows place state) m ≡ with_last (states_at rows m) state
 written_last keys words [] m place state are is size = absurd (cc is.here)
 written_last keys words (row ∷ rows) m zero state are is size =
@@ -143,20 +158,27 @@ written_last keys words (row ∷ rows) m zero state are is size =
     let none = no_later rows m (λ later at. is.last (suc later) (omega arith) at) in
     rw (here, only_one row rows state (size ∙ sym are.1), none, over-all row.words state (size ∙ sym are.1)) refl
 written_last keys words (row ∷ rows) m (suc place) state are is size =
-    let rest : IsLastIn (row_keys rows) m place = record { here = is.here; last = λ later after at. is.last (suc later) (omega (arith, after)) at } in
+    let rest : IsLastIn (row_keys rows) m place = record {
+      here = is.here;
+      last =
+          λ later after at. is.last (suc later) (omega (arith, after)) at;
+    } in
     let more = written_last keys words rows m place state are.2 rest size in
     by_test (row.key == m)
     (λ same. rw (same, more) (sym (last_of_more row.words (states_at rows m) state (some_state rows m place is.here))))
     (λ differs. rw (differs, more) refl)
 
-written_other : (keys words : ℕ) (rows : List StoredRow) (n m place : ℕ) (state : List ℕ) → AreRowsOf keys words rows → length state ≡ words → slice_get (row_keys rows) place ≡ Some n → (n ≡ m → ⊥) → states_at (with_words_at rows place state) m ≡ states_at rows m
+written_other : (keys words : ℕ) (rows : List StoredRow) (n m place : ℕ) (state : List ℕ) → AreRowsOf keys words rows → length state ≡ words
+    → slice_get (row_keys rows) place ≡ Some n → (n ≡ m → ⊥) → states_at (with_words_at rows place state) m ≡ states_at rows m
 written_other keys words [] n m place state are size here differs = refl
-written_other keys words (row ∷ rows) n m zero state are size here differs = rw (only_one row rows state (size ∙ sym are.1), ne_eqb row.key m (λ e. differs (sym (same_Some _ _ here) ∙ e))) refl
+written_other keys words (row ∷ rows) n m zero state are size here differs =
+    rw (only_one row rows state (size ∙ sym are.1), ne_eqb row.key m (λ e. differs (sym (same_Some _ _ here) ∙ e))) refl
 written_other keys words (row ∷ rows) n m (suc place) state are size here differs = by_test (row.key == m)
     (λ same. rw (same, written_other keys words rows n m place state are.2 size here differs) refl)
     (λ apart. rw (apart, written_other keys words rows n m place state are.2 size here differs) refl)
 
-number_small : (keys words : ℕ) (rows : List StoredRow) (n place : ℕ) → AreRowsOf keys words rows → slice_get (row_keys rows) place ≡ Some n → n < keys
+number_small : (keys words : ℕ) (rows : List StoredRow) (n place : ℕ) → AreRowsOf keys words rows → slice_get (row_keys rows) place ≡ Some n
+    → n < keys
 number_small keys words [] n place are here = absurd (cc here)
 number_small keys words (row ∷ rows) n zero are here = rw (← same_Some _ _ here) are.0
 number_small keys words (row ∷ rows) n (suc place) are here = number_small keys words rows n place are.2 here
@@ -166,7 +188,14 @@ last_written store key other place state kept is size = by_test (key_eq key othe
     (λ same.
     let e = key_eq-true key other same in
     rw (same, ← e) (written_last (length store.keys) store.state_words store.rows (number_of store.keys key) place state kept.rows is size))
-    (λ apart. rw apart (written_other (length store.keys) store.state_words store.rows (number_of store.keys key) (number_of store.keys other) place state kept.rows size is.here (λ e. elim (cases_lt (number_of store.keys other) (length store.keys)) [
+    (λ apart. rw apart (written_other (length store.keys) store.state_words store.rows (number_of store.keys key)
+    (number_of store.keys other) place state kept.rows size is.here
+    (λ e. elim (cases_lt (number_of store.keys other) (length store.keys)) [
       | inl there ↦ numbers_differ store.keys key other apart there e
-      | inr past ↦ omega (arith, number_small (length store.keys) store.state_words store.rows (number_of store.keys key) place kept.rows is.here, e)
+      | inr past ↦ omega (
+        arith,
+        number_small (length store.keys) store.state_words store.rows (number_of store.keys key) place kept.rows
+            is.here,
+        e,
+      )
     ])))

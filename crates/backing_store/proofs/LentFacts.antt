@@ -8,7 +8,8 @@ use Rattle.backing_store.specs.States.{paired, states_in}
 use Rattle.backing_store.specs.StoreLending.{with_words_at}
 
 -- rows are written as entries are
-paired_written : (keys : List ℕ) (rows : List (List ℕ)) (at : ℕ) (w : List ℕ) → paired keys (with_entry rows at w) ≡ with_words_at (paired keys rows) at w
+paired_written : (keys : List ℕ) (rows : List (List ℕ)) (at : ℕ) (w : List ℕ)
+    → paired keys (with_entry rows at w) ≡ with_words_at (paired keys rows) at w
 paired_written [] rows at w = refl
 paired_written (key ∷ keys) [] at w = refl
 paired_written (key ∷ keys) (row ∷ rows) zero w =
@@ -19,6 +20,7 @@ paired_written (key ∷ keys) (row ∷ rows) (suc at) w =
     ap (λ rest. first ∷ rest) (paired_written keys rows at w)
 
 pub rows_written : (at width : ℕ) (keys words w : List ℕ) → at < length keys → length words ≡ length keys * width
-    → states_in width keys (take (at * width) words ++ written_over (drop (at * width) words) w) ≡ with_words_at (states_in width keys words) at w
+    → states_in width keys (take (at * width) words ++ written_over (drop (at * width) words) w) ≡ with_words_at
+    (states_in width keys words) at w
 rows_written at width keys words w low flat =
     ap (paired keys) (entry_written at width (length keys) words w low flat) ∙ paired_written keys (rows_of width (length keys) words) at w

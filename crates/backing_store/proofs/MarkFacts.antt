@@ -1,5 +1,6 @@
 -- Marks that are taken, where a key is sought and where one is added.
-use Rattle.std.proofs.Common.{◌≡◌, ◌≢◌, ℕ, zero, suc, ◌+◌, ◌*◌, ◌^◌, ◌<◌, ◌≤◌, inl, inr, true, false, eqb, List, [], ◌∷◌, ◌++◌, length, get_or, position, refl, sym, ap, ap₂, ◌∙◌, subst, arith, eq-eqb, length-append, Some, slice_get}
+use Rattle.std.proofs.Common.{◌≡◌, ◌≢◌, ℕ, zero, suc, ◌+◌, ◌*◌, ◌^◌, ◌<◌, ◌≤◌, inl, inr, true, false, eqb, List, [], ◌∷◌, ◌++◌, length}
+use Rattle.std.proofs.Common.{get_or, position, refl, sym, ap, ap₂, ◌∙◌, subst, arith, eq-eqb, length-append, Some, slice_get}
 use Rattle.std.specs.List.{AllByRecursion, IsDistinct, list_any}
 use Rattle.std.proofs.lemmas.Bool.{cases_eq, cases_lt, eqb-true, ne_eqb, true≢false}
 use Rattle.std.proofs.lemmas.Cmp.{nat_eq_equiv}
@@ -22,14 +23,17 @@ found_at marks mark at found =
 pub not_found : (marks : List ℕ) (mark : ℕ) → list_any (eqb mark) marks ≡ false → (at : ℕ) → slice_get marks at ≢ Some mark
 not_found marks mark none at here = true≢false (sym (any_passes_from_place (eqb mark) marks at mark here (eq-eqb mark mark refl)) ∙ none)
 
-two_places : (marks : List ℕ) (mark a b : ℕ) → IsDistinct eqb marks → a < b → slice_get marks a ≡ Some mark → slice_get marks b ≡ Some mark → ⊥
+two_places : (marks : List ℕ) (mark a b : ℕ) → IsDistinct eqb marks → a < b → slice_get marks a ≡ Some mark → slice_get marks b ≡ Some mark
+    → ⊥
 two_places marks mark a b once order at_a at_b =
     let low : b < length marks = slice_get_within marks b mark at_b in
     let apart = apart_from_distinct eqb marks a b 0 once order low in
-    true≢false (sym (eq-eqb mark mark refl) ∙ rw (get_or_from_slice_get marks a mark 0 at_a, get_or_from_slice_get marks b mark 0 at_b) at apart)
+    true≢false (sym (eq-eqb mark mark refl) ∙ rw (get_or_from_slice_get marks a mark 0 at_a, get_or_from_slice_get marks b mark 0 at_b) at
+    apart)
 
 -- no two places have the same mark
-pub one_place : (marks : List ℕ) (mark a b : ℕ) → IsDistinct eqb marks → slice_get marks a ≡ Some mark → slice_get marks b ≡ Some mark → a ≡ b
+pub one_place : (marks : List ℕ) (mark a b : ℕ) → IsDistinct eqb marks → slice_get marks a ≡ Some mark → slice_get marks b ≡ Some mark
+    → a ≡ b
 one_place marks mark a b once at_a at_b = elim (cases_eq a b) [
   | inl e ↦ e
   | inr differ ↦ elim (cases_lt a b) [
@@ -39,7 +43,8 @@ one_place marks mark a b once at_a at_b = elim (cases_eq a b) [
 ]
 
 -- one mark more is taken
-pub taken_more : (marks : List ℕ) (first count : ℕ) → AreTaken marks first count → IsTaken marks (mark_after first count) → AreTaken marks first (count + 1)
+pub taken_more : (marks : List ℕ) (first count : ℕ) → AreTaken marks first count → IsTaken marks (mark_after first count)
+    → AreTaken marks first (count + 1)
 taken_more marks first count taken here step low = elim (cases_eq step count) [
   | inl e ↦ subst (λ s. IsTaken marks (mark_after first s)) (sym e) here
   | inr differs ↦ taken step (omega (arith, low, differs))
@@ -56,7 +61,8 @@ length-marks_on first (suc count) = ap suc (length-marks_on first count)
 same_mark : (first a b : ℕ) → a < b → b < 2 ^ 64 → mark_after first b ≡ mark_after first a → ⊥
 same_mark first a b low small e = omega (arith, low, small, e)
 
-marks_apart : (first last count : ℕ) → count ≤ last → last < 2 ^ 64 → AllByRecursion (λ mark. eqb (mark_after first last) mark ≡ false) (marks_on first count)
+marks_apart : (first last count : ℕ) → count ≤ last → last < 2 ^ 64 → AllByRecursion (λ mark. eqb (mark_after first last) mark ≡ false)
+    (marks_on first count)
 marks_apart first last zero low small = tt
 marks_apart first last (suc count) low small = (
   ne_eqb (mark_after first last) (mark_after first count) (same_mark first count last (omega (arith, low)) small),
@@ -66,9 +72,14 @@ marks_apart first last (suc count) low small = (
 marks_differ : (first count : ℕ) → count ≤ 2 ^ 64 → IsDistinct eqb (marks_on first count)
 unfolding IsDistinct
 marks_differ first zero small = tt
-marks_differ first (suc count) small = (marks_apart first count count (omega arith) (omega (arith, small)), marks_differ first count (omega (arith, small)))
+marks_differ first (suc count) small = (
+  marks_apart first count count (omega arith) (omega (arith, small)),
+  marks_differ first count
+      (omega (arith, small)),
+)
 
-marks_within : (marks : List ℕ) (first count : ℕ) → AreTaken marks first count → (q : ℕ) → list_any (eqb q) (marks_on first count) ≡ true → list_any (eqb q) marks ≡ true
+marks_within : (marks : List ℕ) (first count : ℕ) → AreTaken marks first count → (q : ℕ) → list_any (eqb q) (marks_on first count) ≡ true
+    → list_any (eqb q) marks ≡ true
 marks_within marks first zero taken q has = absurd (true≢false (sym has))
 marks_within marks first (suc count) taken q has = by_test (eqb q (mark_after first count))
     (λ here.
@@ -79,7 +90,8 @@ marks_within marks first (suc count) taken q has = by_test (eqb q (mark_after fi
 -- more marks than there are can't be taken
 pub too_many : (marks : List ℕ) (first : ℕ) → length marks < 2 ^ 63 → AreTaken marks first (length marks + 1) → ⊥
 too_many marks first small taken =
-    let most = length-le_from_is_member nat_eq_equiv (marks_on first (length marks + 1)) marks (marks_differ first (length marks + 1) (omega (arith, small))) (marks_within marks first (length marks + 1) taken) in
+    let most = length-le_from_is_member nat_eq_equiv (marks_on first (length marks + 1)) marks
+    (marks_differ first (length marks + 1) (omega (arith, small))) (marks_within marks first (length marks + 1) taken) in
     omega (arith, most, length-marks_on first (length marks + 1))
 
 -- at the marks before this step there is no place of the key
@@ -87,18 +99,23 @@ abbrev pub IsNotBefore : ℕ → List ℕ → List ℕ → Key → ℕ → Type 
 IsNotBefore width words marks key count =
     (step at : ℕ) → step < count → slice_get marks at ≡ Some (mark_after (fingerprint key) step) → row_at width words at ≢ key
 
-pub not_before_more : (width : ℕ) (words marks : List ℕ) (key : Key) (count at : ℕ) → IsDistinct eqb marks → IsNotBefore width words marks key count
-    → slice_get marks at ≡ Some (mark_after (fingerprint key) count) → row_at width words at ≢ key → IsNotBefore width words marks key (count + 1)
+pub not_before_more : (width : ℕ) (words marks : List ℕ) (key : Key) (count at : ℕ) → IsDistinct eqb marks
+    → IsNotBefore width words marks key count
+    → slice_get marks at ≡ Some (mark_after (fingerprint key) count) → row_at width words at ≢ key
+    → IsNotBefore width words marks key (count + 1)
 not_before_more width words marks key count at once before here differs step place low there = elim (cases_eq step count) [
   | inl e ↦
-      let same = one_place marks (mark_after (fingerprint key) count) place at once (there ∙ ap (λ s. Some (mark_after (fingerprint key) s)) e) here in
+      let same = one_place marks (mark_after (fingerprint key) count) place at once
+      (there ∙ ap (λ s. Some (mark_after (fingerprint key) s)) e) here in
       (λ is. differs (ap (row_at width words) (sym same) ∙ is))
   | inr apart ↦ before step place (omega (arith, low, apart)) there
 ]
 
 -- a key whose search comes to a free mark isn't there
-pub not_there : (width : ℕ) (words marks : List ℕ) (key : Key) (count : ℕ) → AreKeys width words marks → IsNotBefore width words marks key count
-    → ((at : ℕ) → slice_get marks at ≢ Some (mark_after (fingerprint key) count)) → (at : ℕ) → at < length marks → row_at width words at ≢ key
+pub not_there : (width : ℕ) (words marks : List ℕ) (key : Key) (count : ℕ) → AreKeys width words marks
+    → IsNotBefore width words marks key count
+    → ((at : ℕ) → slice_get marks at ≢ Some (mark_after (fingerprint key) count)) → (at : ℕ) → at < length marks
+    → row_at width words at ≢ key
 not_there width words marks key count keys before free at low is =
     let of : IsMarkOf marks key (get_or marks at 0) = subst (λ k. IsMarkOf marks k (get_or marks at 0)) is (keys.marked at low) in
     let here : slice_get marks at ≡ Some (mark_after (fingerprint key) of.steps) = slice_get-get_or marks at 0 low ∙ ap Some of.after in
@@ -132,22 +149,26 @@ get_pushed [] x = refl
 get_pushed (y ∷ xs) x = get_pushed xs x
 
 -- one key more, with a mark that no other key has
-pub keys_more : (width : ℕ) (words marks : List ℕ) (key : Key) (mark : ℕ) → AreKeys width words marks → length key ≡ width → IsMarkOf marks key mark
+pub keys_more : (width : ℕ) (words marks : List ℕ) (key : Key) (mark : ℕ) → AreKeys width words marks → length key ≡ width
+    → IsMarkOf marks key mark
     → AreKeys width (words ++ key) (marks ++ mark ∷ [])
 keys_more width words marks key mark keys long of =
     let count = length marks in
     let more : length (marks ++ mark ∷ []) ≡ count + 1 = omega (arith, length-append marks (mark ∷ [])) in
     record {
-      flat = length-append words key ∙ (ap₂ (λ a b. a + b) keys.flat long ∙ ((let e : count * width + width ≡ (count + 1) * width = omega arith in e) ∙ ap (λ m. m * width) (sym more)));
+      flat = length-append words key ∙ (ap₂ (λ a b. a + b) keys.flat long
+          ∙ ((let e : count * width + width ≡ (count + 1) * width = omega arith in e) ∙ ap (λ m. m * width) (sym more)));
       marked = λ at low. elim (cases_eq at count) [
         | inl e ↦
             subst (λ n. IsMarkOf (marks ++ mark ∷ []) (row_at width (words ++ key) n) (get_or (marks ++ mark ∷ []) n 0)) (sym e)
             (subst (λ m. IsMarkOf (marks ++ mark ∷ []) (row_at width (words ++ key) count) m) (sym (get_pushed marks mark))
-            (subst (λ k. IsMarkOf (marks ++ mark ∷ []) k mark) (sym (row_at-new width count words key keys.flat long)) (mark_kept marks mark key mark of)))
+            (subst (λ k. IsMarkOf (marks ++ mark ∷ []) k mark) (sym (row_at-new width count words key keys.flat long))
+            (mark_kept marks mark key mark of)))
         | inr apart ↦
             let there : at < count = omega (arith, low, apart, more) in
             subst (λ m. IsMarkOf (marks ++ mark ∷ []) (row_at width (words ++ key) at) m) (sym (get_push marks mark at there))
-            (subst (λ k. IsMarkOf (marks ++ mark ∷ []) k (get_or marks at 0)) (sym (row_at-append width at words key (row_within at count width words there keys.flat)))
+            (subst (λ k. IsMarkOf (marks ++ mark ∷ []) k (get_or marks at 0))
+            (sym (row_at-append width at words key (row_within at count width words there keys.flat)))
             (mark_kept marks mark (row_at width words at) (get_or marks at 0) (keys.marked at there)))
       ];
     }

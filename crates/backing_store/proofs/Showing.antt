@@ -17,13 +17,15 @@ pub none_shown : (F : Row → Row) (rows : List Row) → shown_to F rows 0 ≡ r
 none_shown F rows = refl
 
 -- the row at the place is still the store's
-pub here_stored : (F : Row → Row) (rows : List Row) (at : ℕ) (row : Row) → slice_get rows at ≡ Some row → slice_get (shown_to F rows at) at ≡ Some row
+pub here_stored : (F : Row → Row) (rows : List Row) (at : ℕ) (row : Row) → slice_get rows at ≡ Some row
+    → slice_get (shown_to F rows at) at ≡ Some row
 here_stored F [] at row here = cc here
 here_stored F (first ∷ rows) zero row here = here
 here_stored F (first ∷ rows) (suc at) row here = here_stored F rows at row here
 
 -- and it is shown next
-pub one_shown : (F : Row → Row) (rows : List Row) (at : ℕ) (row : Row) → slice_get rows at ≡ Some row → set (shown_to F rows at) at (F row) ≡ shown_to F rows (suc at)
+pub one_shown : (F : Row → Row) (rows : List Row) (at : ℕ) (row : Row) → slice_get rows at ≡ Some row
+    → set (shown_to F rows at) at (F row) ≡ shown_to F rows (suc at)
 one_shown F [] at row here = cc here
 one_shown F (first ∷ rows) zero row here = rw (← same_Some _ _ here) refl
 one_shown F (first ∷ rows) (suc at) row here = ap (λ (rest : List Row). F first ∷ rest) (one_shown F rows at row here)

@@ -1,5 +1,6 @@
 -- The entries of the map, as a store's keys.
-use Rattle.std.proofs.Common.{◌≡◌, ℕ, suc, zero, ◌<◌, Bool, true, false, List, [], ◌∷◌, ◌++◌, length, map, slice_get, length-append, Some, None, refl, sym, ap, ◌∙◌, ◌⊎◌, inl, inr, arith, eq-eqb}
+use Rattle.std.proofs.Common.{◌≡◌, ℕ, suc, zero, ◌<◌, Bool, true, false, List, [], ◌∷◌, ◌++◌, length, map, slice_get, length-append, Some}
+use Rattle.std.proofs.Common.{None, refl, sym, ap, ◌∙◌, ◌⊎◌, inl, inr, arith, eq-eqb}
 use Rattle.std.specs.Prelude.{◌==◌, ◌||◌}
 use Rattle.std.proofs.lemmas.Bool.{ne_eqb}
 use Rattle.std.specs.Map.{lookup, values_of}
@@ -30,13 +31,15 @@ number_at key [] i first = absurd first
 number_at key (e ∷ es) zero first = rw first refl
 number_at key (e ∷ es) (suc i) first = rw (first.0, number_at key es i first.1) (omega arith)
 
-pub with_epoch_at : (key : List ℕ) (es : List Entry) (i : ℕ) (was now : Merged) → FirstAt key es i → slice_get (values_of es) i ≡ Some was → now.epochs ≡ one_more was.epochs
+pub with_epoch_at : (key : List ℕ) (es : List Entry) (i : ℕ) (was now : Merged) → FirstAt key es i → slice_get (values_of es) i ≡ Some was
+    → now.epochs ≡ one_more was.epochs
     → with_epoch (map stored es) key ≡ map stored (set_value_at es i now)
 with_epoch_at key [] i was now first at more = absurd first
 with_epoch_at key (e ∷ es) zero was now first at more =
     let same : e.1 ≡ was = same_Some _ _ at in
     rw (first, more, ← same) refl
-with_epoch_at key (e ∷ es) (suc i) was now first at more = rw first.0 (ap (λ rest. stored e ∷ rest) (with_epoch_at key es i was now first.1 at more))
+with_epoch_at key (e ∷ es) (suc i) was now first at more = rw first.0 (ap (λ rest. stored e ∷ rest)
+    (with_epoch_at key es i was now first.1 at more))
 
 -- where it doesn't
 pub absent_number : (key : List ℕ) (es : List Entry) → lookup (λ k. key_eq key k) es ≡ None → number_of (map stored es) key ≡ length es
@@ -53,7 +56,8 @@ pub absent_epoch : (key : List ℕ) (es : List Entry) → lookup (λ k. key_eq k
 absent_epoch key [] none = refl
 absent_epoch key (e ∷ es) none = by (key_eq key e.0) refl (absent_epoch key es)
   where
-    by : (b : Bool) → key_eq key e.0 ≡ b → (lookup (λ k. key_eq key k) es ≡ None → with_epoch (map stored es) key ≡ map stored es ++ record { key = key; epochs = 1 } ∷ [])
+    by : (b : Bool) → key_eq key e.0 ≡ b → (lookup (λ k. key_eq key k) es ≡ None → with_epoch (map stored es) key ≡ map stored es
+        ++ record { key = key; epochs = 1 } ∷ [])
         → with_epoch (map stored (e ∷ es)) key ≡ map stored (e ∷ es) ++ record { key = key; epochs = 1 } ∷ []
     by true p more = cc (rw p at none)
     by false p more = rw p (ap (λ rest. stored e ∷ rest) (more (rw p at none)))
@@ -108,7 +112,8 @@ value_push_cases (x ∷ es) k (suc n) now m e = elim (value_push_cases es k n no
   | inr h ↦ inr ((λ q. h.0 (omega (arith, q))), h.1)
 ]
 
-pub sound_again : (es : List Entry) (rows : List StoredRow) (at : ℕ) (was now : Merged) → SoundFor es rows → slice_get (values_of es) at ≡ Some was → now.last ≡ was.last
+pub sound_again : (es : List Entry) (rows : List StoredRow) (at : ℕ) (was now : Merged) → SoundFor es rows
+    → slice_get (values_of es) at ≡ Some was → now.last ≡ was.last
     → SoundFor (set_value_at es at now) rows
 sound_again es rows at was now sound here same number merged e = elim (value_set_cases es at number now merged e) [
   | inl h ↦ rw (h.1, same, h.0) (sound at was here)
@@ -134,11 +139,13 @@ sound_row es rows row now sound place number merged e = elim (value_set_cases es
   | inr h ↦ rw (row_keys_push rows row) (last_other (row_keys rows) number row.key merged.last (sound number merged h.1) h.0)
 ]
 
-pub sound_first : (es : List Entry) (rows : List StoredRow) (row : StoredRow) (k : List ℕ) (now : Merged) → SoundFor es rows → now.last ≡ length rows → row.key ≡ length es
+pub sound_first : (es : List Entry) (rows : List StoredRow) (row : StoredRow) (k : List ℕ) (now : Merged) → SoundFor es rows
+    → now.last ≡ length rows → row.key ≡ length es
     → SoundFor (es ++ (k, now) ∷ []) (rows ++ row ∷ [])
 sound_first es rows row k now sound place key number merged e = elim (value_push_cases es k number now merged e) [
   | inl h ↦ rw (h.1, place, h.0, ← key) (last_of_push rows row)
-  | inr h ↦ rw (row_keys_push rows row) (last_other (row_keys rows) number row.key merged.last (sound number merged h.1) (λ q. h.0 (sym key ∙ q)))
+  | inr h ↦ rw (row_keys_push rows row) (last_other (row_keys rows) number row.key merged.last (sound number merged h.1)
+      (λ q. h.0 (sym key ∙ q)))
 ]
 
 first_within : (key : List ℕ) (es : List Entry) (at : ℕ) → FirstAt key es at → at < length (map stored es)
@@ -152,27 +159,35 @@ first_kept key (e ∷ es) zero now first = first
 first_kept key (e ∷ es) (suc at) now first = (first.0, first_kept key es at now first.1)
 
 -- the key's number after its epoch was counted
-pub number_kept : (key : List ℕ) (es : List Entry) (at : ℕ) (now : Merged) → FirstAt key es at → number_of (map stored (set_value_at es at now)) key ≡ at
+pub number_kept : (key : List ℕ) (es : List Entry) (at : ℕ) (now : Merged) → FirstAt key es at
+    → number_of (map stored (set_value_at es at now)) key ≡ at
 number_kept key es at now first = number_at key (set_value_at es at now) at (first_kept key es at now first)
 
-value_now : (key : List ℕ) (es : List Entry) (at : ℕ) (now : Merged) → FirstAt key es at → slice_get (values_of (set_value_at es at now)) at ≡ Some now
+value_now : (key : List ℕ) (es : List Entry) (at : ℕ) (now : Merged) → FirstAt key es at
+    → slice_get (values_of (set_value_at es at now)) at ≡ Some now
 value_now key [] at now first = absurd first
 value_now key (e ∷ es) zero now first = refl
 value_now key (e ∷ es) (suc at) now first = value_now key es at now first.1
 
 -- the place that the key keeps is that of its last row
-pub place_kept : (key : List ℕ) (es : List Entry) (rows : List StoredRow) (at : ℕ) (now : Merged) → FirstAt key es at → SoundFor (set_value_at es at now) rows
+pub place_kept : (key : List ℕ) (es : List Entry) (rows : List StoredRow) (at : ℕ) (now : Merged) → FirstAt key es at
+    → SoundFor (set_value_at es at now) rows
     → IsLastIn (row_keys rows) (number_of (map stored (set_value_at es at now)) key) now.last
 place_kept key es rows at now first sound = rw (number_kept key es at now first) (sound at now (value_now key es at now first))
 
-pub counted_again : (key initial : List ℕ) (es : List Entry) (rows : List StoredRow) (kw sw at : ℕ) (was now : Merged) → FirstAt key es at → slice_get (values_of es) at ≡ Some was
-    → now.epochs ≡ one_more was.epochs → store_with (set_value_at es at now) rows kw sw ≡ counted (store_with es rows kw sw) key initial false
+pub counted_again : (key initial : List ℕ) (es : List Entry) (rows : List StoredRow) (kw sw at : ℕ) (was now : Merged) → FirstAt key es at
+    → slice_get (values_of es) at ≡ Some was
+    → now.epochs ≡ one_more was.epochs → store_with (set_value_at es at now) rows kw sw ≡ counted (store_with es rows kw sw) key initial
+    false
 counted_again key initial es rows kw sw at was now first here more =
-    let apart : (at == length (map stored es)) ≡ false = ne_eqb at (length (map stored es)) (λ e. absurd (omega (arith, first_within key es at first, e))) in
+    let apart : (at == length (map stored es)) ≡ false = ne_eqb at (length (map stored es))
+    (λ e. absurd (omega (arith, first_within key es at first, e))) in
     rw (with_epoch_at key es at was now first here more, number_at key es at first, apart) refl
 
-pub counted_row : (key initial : List ℕ) (es : List Entry) (rows : List StoredRow) (kw sw at : ℕ) (was now : Merged) → FirstAt key es at → slice_get (values_of es) at ≡ Some was
-    → now.epochs ≡ one_more was.epochs → store_with (set_value_at es at now) (rows ++ record { key = at; words = initial } ∷ []) kw sw ≡ counted (store_with es rows kw sw) key initial true
+pub counted_row : (key initial : List ℕ) (es : List Entry) (rows : List StoredRow) (kw sw at : ℕ) (was now : Merged) → FirstAt key es at
+    → slice_get (values_of es) at ≡ Some was
+    → now.epochs ≡ one_more was.epochs → store_with (set_value_at es at now) (rows ++ record { key = at; words = initial } ∷ []) kw sw
+    ≡ counted (store_with es rows kw sw) key initial true
 counted_row key initial es rows kw sw at was now first here more =
     rw (with_epoch_at key es at was now first here more, number_at key es at first) refl
 
@@ -190,17 +205,20 @@ length-stored (e ∷ es) = ap suc (length-stored es)
 
 pub counted_first : (key initial : List ℕ) (es : List Entry) (rows : List StoredRow) (kw sw : ℕ) (b : Bool) (k : List ℕ) (last : ℕ)
     → lookup (λ k. key_eq key k) es ≡ None → k ≡ key
-    → store_with (es ++ (k, record { epochs = 1; last = last }) ∷ []) (rows ++ record { key = length es; words = initial } ∷ []) kw sw ≡ counted (store_with es rows kw sw) key initial b
+    → store_with (es ++ (k, record { epochs = 1; last = last }) ∷ []) (rows ++ record { key = length es; words = initial } ∷ []) kw sw
+    ≡ counted (store_with es rows kw sw) key initial b
 counted_first key initial es rows kw sw b k last none same =
     let there : (length es == length (map stored es)) ≡ true = eq-eqb (length es) (length (map stored es)) (sym (length-stored es)) in
-    rw (map-push es (k, record { epochs = 1; last = last }), same, absent_epoch key es none, absent_number key es none, there, or_true b) refl
+    rw (map-push es (k, record { epochs = 1; last = last }), same, absent_epoch key es none, absent_number key es none, there, or_true b)
+    refl
 
 number_pushed : (key : List ℕ) (es : List Entry) (k : List ℕ) (m : Merged) → lookup (λ k. key_eq key k) es ≡ None → k ≡ key
     → number_of (map stored (es ++ (k, m) ∷ [])) key ≡ length es
 number_pushed key [] k m none same = rw (same, key_eq-refl key) refl
 number_pushed key (e ∷ es) k m none same = by (key_eq key e.0) refl (number_pushed key es k m)
   where
-    by : (b : Bool) → key_eq key e.0 ≡ b → (lookup (λ k. key_eq key k) es ≡ None → k ≡ key → number_of (map stored (es ++ (k, m) ∷ [])) key ≡ length es)
+    by : (b : Bool) → key_eq key e.0 ≡ b → (lookup (λ k. key_eq key k) es ≡ None → k ≡ key
+        → number_of (map stored (es ++ (k, m) ∷ [])) key ≡ length es)
         → number_of (map stored ((e ∷ es) ++ (k, m) ∷ [])) key ≡ length (e ∷ es)
     by true p more = cc (rw p at none)
     by false p more = rw (p, more (rw p at none) same) (omega arith)
@@ -209,6 +227,7 @@ value_pushed : (es : List Entry) (k : List ℕ) (m : Merged) → slice_get (valu
 value_pushed [] k m = refl
 value_pushed (e ∷ es) k m = value_pushed es k m
 
-pub place_pushed : (key : List ℕ) (es : List Entry) (rows : List StoredRow) (k : List ℕ) (m : Merged) → lookup (λ k. key_eq key k) es ≡ None → k ≡ key
+pub place_pushed : (key : List ℕ) (es : List Entry) (rows : List StoredRow) (k : List ℕ) (m : Merged) → lookup (λ k. key_eq key k) es ≡ None
+    → k ≡ key
     → SoundFor (es ++ (k, m) ∷ []) rows → IsLastIn (row_keys rows) (number_of (map stored (es ++ (k, m) ∷ [])) key) m.last
 place_pushed key es rows k m none same sound = rw (number_pushed key es k m none same) (sound (length es) m (value_pushed es k m))

@@ -1,5 +1,7 @@
 -- A bucket's pairs after a key moves to the front, or a new one comes.
-use Rattle.std.proofs.Common.{◌≡◌, ◌≢◌, length-set, ℕ, zero, suc, ◌+◌, ◌-◌, ◌*◌, ◌<◌, ◌≤◌, Bool, true, false, List, [], ◌∷◌, Some, None, length, take, get_or, set, refl, sym, ap, ap₂, ◌∙◌, subst, arith, All, AllPairs, get_or-take, get_or-set_other, get_or-set_same, take-take}
+use Rattle.std.proofs.Common.{◌≡◌, ◌≢◌, length-set, ℕ, zero, suc, ◌+◌, ◌-◌, ◌*◌, ◌<◌, ◌≤◌, Bool, true, false, List, [], ◌∷◌, Some, None}
+use Rattle.std.proofs.Common.{length, take, get_or, set, refl, sym, ap, ap₂, ◌∙◌, subst, arith, All, AllPairs, get_or-take}
+use Rattle.std.proofs.Common.{get_or-set_other, get_or-set_same, take-take}
 use Rattle.std.specs.List.{AllByRecursion}
 use Rattle.std.proofs.lemmas.List.{get_or_default, length-map, take-map, get_or-map, length-take-le}
 use Rattle.std.proofs.lemmas.List.Elements.{All-set, recursion_from_All}
@@ -18,7 +20,8 @@ abbrev pub Matches : List Key → List ℕ → ℕ → Key → Bool → Type 0
 Matches keys ways at key answer = key_eq (get_or keys (get_or ways at 0) []) key ≡ answer
 
 -- the ways in use are the first ones
-pub matches-front : (used at : ℕ) (order : List ℕ) (keys : List Key) (key : Key) (answer : Bool) → at < used → Matches keys order at key answer → Matches keys (take used order) at key answer
+pub matches-front : (used at : ℕ) (order : List ℕ) (keys : List Key) (key : Key) (answer : Bool) → at < used
+    → Matches keys order at key answer → Matches keys (take used order) at key answer
 matches-front used at order keys key answer l h = ap (λ way. key_eq (get_or keys way []) key) (get_or-take used order at 0 l) ∙ h
 
 pub in-front : (used at : ℕ) (order : List ℕ) → used ≤ length order → at < used → at < length (take used order)
@@ -26,7 +29,8 @@ in-front used at order w l = subst (λ n. at < n) (sym (length-take-le used orde
 
 matching : (first at : ℕ) (ways : List ℕ) (keys : List Key) (key : Key) → at < length ways → Matches keys ways at key true
     → key_eq (get_or (pairs_at first keys ways) at (pair_at first keys 0)).key key ≡ true
-matching first at ways keys key h e = ap (λ (p : Pair). key_eq p.key key) (get_or-map (pair_at first keys) ways at 0 (pair_at first keys 0) h) ∙ e
+matching first at ways keys key h e = ap (λ (p : Pair). key_eq p.key key)
+    (get_or-map (pair_at first keys) ways at 0 (pair_at first keys 0) h) ∙ e
 
 long_pairs : (first : ℕ) (ways : List ℕ) (keys : List Key) → length (pairs_at first keys ways) ≡ length ways
 long_pairs first ways keys = length-map ways (pair_at first keys)
@@ -34,27 +38,36 @@ long_pairs first ways keys = length-map ways (pair_at first keys)
 place_is : (first used at : ℕ) (order : List ℕ) (keys : List Key) → at < length (take used order) → at < used
     → (get_or (pairs_at first keys (take used order)) at (pair_at first keys 0)).place ≡ first + get_or order at 0
 place_is first used at order keys h l =
-    ap (λ (p : Pair). p.place) (get_or-map (pair_at first keys) (take used order) at 0 (pair_at first keys 0) h) ∙ ap (λ n. first + n) (get_or-take used order at 0 l)
+    ap (λ (p : Pair). p.place) (get_or-map (pair_at first keys) (take used order) at 0 (pair_at first keys 0) h)
+    ∙ ap (λ n. first + n) (get_or-take used order at 0 l)
 
-pub hit-has : (first at : ℕ) (ways : List ℕ) (keys : List Key) (key : Key) → at < length ways → Matches keys ways at key true → has_key key (pairs_at first keys ways) ≡ true
-hit-has first at ways keys key h e = has-at at (pair_at first keys 0) key (pairs_at first keys ways) (let l = long_pairs first ways keys in omega arith) (matching first at ways keys key h e)
+pub hit-has : (first at : ℕ) (ways : List ℕ) (keys : List Key) (key : Key) → at < length ways → Matches keys ways at key true
+    → has_key key (pairs_at first keys ways) ≡ true
+hit-has first at ways keys key h e = has-at at (pair_at first keys 0) key (pairs_at first keys ways)
+    (let l = long_pairs first ways keys in omega arith) (matching first at ways keys key h e)
 
-pub hit-place : (first kw used at : ℕ) (order : List ℕ) (keys : List Key) (key : Key) → IsBucket first kw used order keys → at < length (take used order) → at < used → Matches keys (take used order) at key true
+pub hit-place : (first kw used at : ℕ) (order : List ℕ) (keys : List Key) (key : Key) → IsBucket first kw used order keys
+    → at < length (take used order) → at < used → Matches keys (take used order) at key true
     → place_of key (pairs_at first keys (take used order)) ≡ Some (first + get_or order at 0)
 hit-place first kw used at order keys key b h l e =
-    place-at at (pair_at first keys 0) key (pairs_at first keys (take used order)) (let n = long_pairs first (take used order) keys in omega arith) b.once (matching first at (take used order) keys key h e)
+    place-at at (pair_at first keys 0) key (pairs_at first keys (take used order))
+    (let n = long_pairs first (take used order) keys in omega arith) b.once (matching first at (take used order) keys key h e)
     ∙ ap (λ n. Some n) (place_is first used at order keys h l)
 
-pub hit-pairs : (first kw used at : ℕ) (order : List ℕ) (keys : List Key) (key : Key) → IsBucket first kw used order keys → at < length (take used order) → at < used → Matches keys (take used order) at key true
-    → pairs_at first keys (take used (at_front at order)) ≡ record { key = key; place = first + get_or order at 0 } ∷ without_key key (pairs_at first keys (take used order))
+pub hit-pairs : (first kw used at : ℕ) (order : List ℕ) (keys : List Key) (key : Key) → IsBucket first kw used order keys
+    → at < length (take used order) → at < used → Matches keys (take used order) at key true
+    → pairs_at first keys (take used (at_front at order)) ≡ record { key = key; place = first + get_or order at 0 }
+    ∷ without_key key (pairs_at first keys (take used order))
 hit-pairs first kw used at order keys key b h l e =
     let ps = pairs_at first keys (take used order) in
     ap (pairs_at first keys) (take-at_front used at order l b.within)
     ∙ (map-at_front (pair_at first keys) at (take used order)
-    ∙ (front-pair at (pair_at first keys 0) key ps (let n = long_pairs first (take used order) keys in omega arith) b.once (matching first at (take used order) keys key h e)
+    ∙ (front-pair at (pair_at first keys 0) key ps (let n = long_pairs first (take used order) keys in omega arith) b.once
+    (matching first at (take used order) keys key h e)
     ∙ ap (λ n. record { key = key; place = n } ∷ without_key key ps) (place_is first used at order keys h l)))
 
-pub hit-bucket : (first kw used at : ℕ) (order : List ℕ) (keys : List Key) (key : Key) → IsBucket first kw used order keys → at < length (take used order) → at < used → Matches keys (take used order) at key true
+pub hit-bucket : (first kw used at : ℕ) (order : List ℕ) (keys : List Key) (key : Key) → IsBucket first kw used order keys
+    → at < length (take used order) → at < used → Matches keys (take used order) at key true
     → IsBucket first kw used (at_front at order) keys
 hit-bucket first kw used at order keys key b h l e =
     let w = b.within in
@@ -71,35 +84,43 @@ hit-bucket first kw used at order keys key b h l e =
       places = omega arith;
       ways = subst (λ n. All (λ way. way < n) (at_front at order)) (sym long) (All-at_front (λ way. way < length order) at order b.ways);
       apart = AllPairs-at_front at order here b.apart;
-      once = subst AreOnce (sym (hit-pairs first kw used at order keys key b h l e)) (once-front key (first + get_or order at 0) (pairs_at first keys (take used order)) b.once);
+      once = subst AreOnce (sym (hit-pairs first kw used at order keys key b h l e))
+          (once-front key (first + get_or order at 0) (pairs_at first keys (take used order)) b.once);
     }
 
-pub none-has : (first : ℕ) (ways : List ℕ) (keys : List Key) (key : Key) → ((at : ℕ) → at < length ways → Matches keys ways at key false) → has_key key (pairs_at first keys ways) ≡ false
+pub none-has : (first : ℕ) (ways : List ℕ) (keys : List Key) (key : Key) → ((at : ℕ) → at < length ways → Matches keys ways at key false)
+    → has_key key (pairs_at first keys ways) ≡ false
 none-has first [] keys key h = refl
 none-has first (way ∷ ways) keys key h =
     let this : key_eq (get_or keys way []) key ≡ false = h 0 (omega arith) in
     rw this (none-has first ways keys key (λ at l. h (suc at) (omega arith)))
 
-pub none-in-front : (first used : ℕ) (order : List ℕ) (keys : List Key) (key : Key) → used ≤ length order → ((at : ℕ) → at < used → Matches keys order at key false) → has_key key (pairs_at first keys (take used order)) ≡ false
+pub none-in-front : (first used : ℕ) (order : List ℕ) (keys : List Key) (key : Key) → used ≤ length order
+    → ((at : ℕ) → at < used → Matches keys order at key false) → has_key key (pairs_at first keys (take used order)) ≡ false
 none-in-front first used order keys key w h = none-has first (take used order) keys key (λ at l.
     let l' : at < used = subst (λ n. at < n) (length-take-le used order w) l in
     matches-front used at order keys key false l' (h at l'))
 
 -- a key at a way that isn't among these changes no pair of these
-pairs-set : (first way : ℕ) (key : Key) (keys : List Key) (ways : List ℕ) → AllByRecursion (λ other. other ≢ way) ways → pairs_at first (set keys way key) ways ≡ pairs_at first keys ways
+pairs-set : (first way : ℕ) (key : Key) (keys : List Key) (ways : List ℕ) → AllByRecursion (λ other. other ≢ way) ways
+    → pairs_at first (set keys way key) ways ≡ pairs_at first keys ways
 pairs-set first way key keys [] a = refl
 pairs-set first way key keys (other ∷ ways) a =
-    ap₂ (λ k ps. record { key = k; place = first + other } ∷ ps) (get_or-set_other keys way other key [] a.0) (pairs-set first way key keys ways a.1)
+    ap₂ (λ k ps. record { key = k; place = first + other } ∷ ps) (get_or-set_other keys way other key [] a.0)
+    (pairs-set first way key keys ways a.1)
 
-not_among : (used : ℕ) (order : List ℕ) → used < length order → AllPairs (λ way other. way ≢ other) order → AllByRecursion (λ other. other ≢ get_or order used 0) (take used order)
+not_among : (used : ℕ) (order : List ℕ) → used < length order → AllPairs (λ way other. way ≢ other) order
+    → AllByRecursion (λ other. other ≢ get_or order used 0) (take used order)
 not_among used order h a = recursion_from_All (λ other. other ≢ get_or order used 0) (take used order) (λ k d l.
     let long = length-take-le used order (omega arith) in
     let below : k < used = omega arith in
     λ e. a k used 0 below h (sym (get_or-take used order k 0 below) ∙ (get_or_default (take used order) k 0 d l ∙ e)))
 
-pub free-pairs : (first kw used : ℕ) (order : List ℕ) (keys keys' : List Key) (key : Key) → IsBucket first kw used order keys → used < length order
+pub free-pairs : (first kw used : ℕ) (order : List ℕ) (keys keys' : List Key) (key : Key) → IsBucket first kw used order keys
+    → used < length order
     → keys' ≡ set keys (get_or order used 0) key
-    → pairs_at first keys' (take (used + 1) (at_front used order)) ≡ record { key = key; place = first + get_or order used 0 } ∷ pairs_at first keys (take used order)
+    → pairs_at first keys' (take (used + 1) (at_front used order)) ≡ record { key = key; place = first + get_or order used 0 }
+    ∷ pairs_at first keys (take used order)
 free-pairs first kw used order keys keys' key b h s =
     let way = get_or order used 0 in
     let m = b.same in
@@ -108,7 +129,8 @@ free-pairs first kw used order keys keys' key b h s =
     ∙ ap₂ (λ k ps. record { key = k; place = first + way } ∷ ps) (ap (λ ks. get_or ks way []) s ∙ get_or-set_same keys way key [] in_keys)
     (ap (λ ks. pairs_at first ks (take used order)) s ∙ pairs-set first way key keys (take used order) (not_among used order h b.apart))
 
-pub free-bucket : (first kw used : ℕ) (order : List ℕ) (keys keys' : List Key) (key : Key) → IsBucket first kw used order keys → used < length order
+pub free-bucket : (first kw used : ℕ) (order : List ℕ) (keys keys' : List Key) (key : Key) → IsBucket first kw used order keys
+    → used < length order
     → has_key key (pairs_at first keys (take used order)) ≡ false → length key ≡ kw
     → keys' ≡ set keys (get_or order used 0) key
     → IsBucket first kw (used + 1) (at_front used order) keys'
@@ -123,7 +145,8 @@ free-bucket first kw used order keys keys' key b h none w s =
       words = subst (λ ks. All (λ k. length k ≡ kw) ks) (sym s) (All-set (λ k. length k ≡ kw) keys (get_or order used 0) key w b.words);
       short = b.short;
       places = omega arith;
-      ways = subst (λ n. All (λ way. way < n) (at_front used order)) (sym long) (All-at_front (λ way. way < length order) used order b.ways);
+      ways = subst (λ n. All (λ way. way < n) (at_front used order)) (sym long)
+          (All-at_front (λ way. way < length order) used order b.ways);
       apart = AllPairs-at_front used order h b.apart;
       once = subst AreOnce (sym (free-pairs first kw used order keys keys' key b h s)) (none, b.once);
     }
@@ -134,16 +157,19 @@ some-get (y ∷ xs) zero x e = omega arith
 some-get (y ∷ xs) (suc i) x e = let rest = some-get xs i x e in omega arith
 
 -- the place of a way in use
-pub place-pair : (first used i : ℕ) (order : List ℕ) (keys : List Key) → used ≤ length order → i < used → slice_get (places_of (pairs_at first keys (take used order))) i ≡ Some (first + get_or order i 0)
+pub place-pair : (first used i : ℕ) (order : List ℕ) (keys : List Key) → used ≤ length order → i < used
+    → slice_get (places_of (pairs_at first keys (take used order))) i ≡ Some (first + get_or order i 0)
 place-pair first used i order keys l h =
     let ways = take used order in
     let ps = pairs_at first keys ways in
     let in_ways : i < length ways = in-front used i order l h in
     let in_pairs : i < length ps = subst (λ n. i < n) (sym (long_pairs first ways keys)) in_ways in
     slice_get-get_or (places_of ps) i 0 (subst (λ n. i < n) (sym (length-map ps (λ (p : Pair). p.place))) in_pairs)
-    ∙ ap (λ n. Some n) (get_or-map (λ (p : Pair). p.place) ps i (pair_at first keys 0) 0 in_pairs ∙ place_is first used i order keys in_ways h)
+    ∙ ap (λ n. Some n) (get_or-map (λ (p : Pair). p.place) ps i (pair_at first keys 0) 0 in_pairs
+    ∙ place_is first used i order keys in_ways h)
 
-pub no-place : (first used i : ℕ) (order : List ℕ) (keys : List Key) → used ≤ length order → used ≤ i → slice_get (places_of (pairs_at first keys (take used order))) i ≡ None
+pub no-place : (first used i : ℕ) (order : List ℕ) (keys : List Key) → used ≤ length order → used ≤ i
+    → slice_get (places_of (pairs_at first keys (take used order))) i ≡ None
 no-place first used i order keys l h =
     let ps = pairs_at first keys (take used order) in
     let all = length-map ps (λ (p : Pair). p.place) in
@@ -152,24 +178,29 @@ no-place first used i order keys l h =
     slice_get_past (places_of ps) i (omega arith)
 
 -- the pair of the last way in use is the least recent one
-pub least-pair : (first used : ℕ) (order : List ℕ) (keys : List Key) → 0 < used → used ≤ length order → IsLeast (pairs_at first keys (take used order)) (first + get_or order (used - 1) 0)
+pub least-pair : (first used : ℕ) (order : List ℕ) (keys : List Key) → 0 < used → used ≤ length order
+    → IsLeast (pairs_at first keys (take used order)) (first + get_or order (used - 1) 0)
 least-pair first used order keys h l =
     let ps = pairs_at first keys (take used order) in
-    ap (λ n. slice_get (places_of ps) (n - 1)) (long_pairs first (take used order) keys ∙ length-take-le used order l) ∙ place-pair first used (used - 1) order keys l (omega arith)
+    ap (λ n. slice_get (places_of ps) (n - 1)) (long_pairs first (take used order) keys ∙ length-take-le used order l)
+    ∙ place-pair first used (used - 1) order keys l (omega arith)
 
-pub few-pairs : (first used : ℕ) (order : List ℕ) (keys : List Key) → used ≤ length order → length (pairs_at first keys (take used order)) ≡ used
+pub few-pairs : (first used : ℕ) (order : List ℕ) (keys : List Key) → used ≤ length order
+    → length (pairs_at first keys (take used order)) ≡ used
 few-pairs first used order keys l = long_pairs first (take used order) keys ∙ length-take-le used order l
 
 -- the pairs of one way fewer
 pub fewer-pairs : (first used : ℕ) (order : List ℕ) (keys : List Key) → used ≤ length order
-    → pairs_at first keys (take (used - 1) order) ≡ take (length (pairs_at first keys (take used order)) - 1) (pairs_at first keys (take used order))
+    → pairs_at first keys (take (used - 1) order) ≡ take (length (pairs_at first keys (take used order)) - 1)
+    (pairs_at first keys (take used order))
 fewer-pairs first used order keys l =
     let ps = pairs_at first keys (take used order) in
     ap (pairs_at first keys) (sym (take-take (used - 1) used order (omega arith)))
     ∙ (sym (take-map (pair_at first keys) (used - 1) (take used order))
     ∙ ap (λ n. take (n - 1) ps) (sym (few-pairs first used order keys l)))
 
-pub fewer-bucket : (first kw used : ℕ) (order : List ℕ) (keys : List Key) → IsBucket first kw used order keys → IsBucket first kw (used - 1) order keys
+pub fewer-bucket : (first kw used : ℕ) (order : List ℕ) (keys : List Key) → IsBucket first kw used order keys
+    → IsBucket first kw (used - 1) order keys
 fewer-bucket first kw used order keys b =
     let w = b.within in
     record {
@@ -181,10 +212,12 @@ fewer-bucket first kw used order keys b =
       places = b.places;
       ways = b.ways;
       apart = b.apart;
-      once = subst AreOnce (sym (fewer-pairs first used order keys b.within)) (once-take (length (pairs_at first keys (take used order)) - 1) (pairs_at first keys (take used order)) b.once);
+      once = subst AreOnce (sym (fewer-pairs first used order keys b.within))
+          (once-take (length (pairs_at first keys (take used order)) - 1) (pairs_at first keys (take used order)) b.once);
     }
 
-pub replaced-bucket : (first kw used : ℕ) (order : List ℕ) (keys keys' : List Key) (key : Key) → IsBucket first kw used order keys → used ≡ length order
+pub replaced-bucket : (first kw used : ℕ) (order : List ℕ) (keys keys' : List Key) (key : Key) → IsBucket first kw used order keys
+    → used ≡ length order
     → has_key key (pairs_at first keys (take used order)) ≡ false → length key ≡ kw
     → keys' ≡ set keys (get_or order (used - 1) 0) key
     → IsBucket first kw used (at_front (used - 1) order) keys'
@@ -192,13 +225,16 @@ replaced-bucket first kw used order keys keys' key b full none w s =
     let some = b.some in
     let one : used - 1 + 1 ≡ used = omega arith in
     let absent : has_key key (pairs_at first keys (take (used - 1) order)) ≡ false =
-    ap (has_key key) (fewer-pairs first used order keys b.within) ∙ has-front key (length (pairs_at first keys (take used order)) - 1) (pairs_at first keys (take used order)) none in
+    ap (has_key key) (fewer-pairs first used order keys b.within) ∙ has-front key (length (pairs_at first keys (take used order)) - 1)
+    (pairs_at first keys (take used order)) none in
     subst (λ n. IsBucket first kw n (at_front (used - 1) order) keys') one
     (free-bucket first kw (used - 1) order keys keys' key (fewer-bucket first kw used order keys b) (omega arith) absent w s)
 
-pub replaced-pairs : (first kw used : ℕ) (order : List ℕ) (keys keys' : List Key) (key : Key) → IsBucket first kw used order keys → used ≡ length order
+pub replaced-pairs : (first kw used : ℕ) (order : List ℕ) (keys keys' : List Key) (key : Key) → IsBucket first kw used order keys
+    → used ≡ length order
     → keys' ≡ set keys (get_or order (used - 1) 0) key
-    → pairs_at first keys' (take used (at_front (used - 1) order)) ≡ record { key = key; place = first + get_or order (used - 1) 0 } ∷ take (length (pairs_at first keys (take used order)) - 1) (pairs_at first keys (take used order))
+    → pairs_at first keys' (take used (at_front (used - 1) order)) ≡ record { key = key; place = first + get_or order (used - 1) 0 }
+    ∷ take (length (pairs_at first keys (take used order)) - 1) (pairs_at first keys (take used order))
 replaced-pairs first kw used order keys keys' key b full s =
     let some = b.some in
     let one : used - 1 + 1 ≡ used = omega arith in
@@ -207,7 +243,8 @@ replaced-pairs first kw used order keys keys' key b full s =
     ∙ ap (λ ps. record { key = key; place = first + get_or order (used - 1) 0 } ∷ ps) (fewer-pairs first used order keys b.within))
 
 -- the pair at a number, by the way there
-pub pair-is : (first used i : ℕ) (order : List ℕ) (keys : List Key) (d : Pair) → used ≤ length order → i < used → get_or (pairs_at first keys (take used order)) i d ≡ pair_at first keys (get_or order i 0)
+pub pair-is : (first used i : ℕ) (order : List ℕ) (keys : List Key) (d : Pair) → used ≤ length order → i < used
+    → get_or (pairs_at first keys (take used order)) i d ≡ pair_at first keys (get_or order i 0)
 pair-is first used i order keys d w l =
     let ways = take used order in
     let long_ways : length ways ≡ used = length-take-le used order w in
@@ -216,7 +253,8 @@ pair-is first used i order keys d w l =
     get_or_default (pairs_at first keys ways) i d (pair_at first keys 0) in_pairs
     ∙ (get_or-map (pair_at first keys) ways i 0 (pair_at first keys 0) in_ways ∙ ap (pair_at first keys) (get_or-take used order i 0 l))
 
-pub bucket_sound : (first kw used : ℕ) (order : List ℕ) (keys : List Key) → IsBucket first kw used order keys → IsSound (record { first = first; ways = length order; key_words = kw; pairs = pairs_at first keys (take used order) })
+pub bucket_sound : (first kw used : ℕ) (order : List ℕ) (keys : List Key) → IsBucket first kw used order keys
+    → IsSound (record { first = first; ways = length order; key_words = kw; pairs = pairs_at first keys (take used order) })
 bucket_sound first kw used order keys b =
     let ps = pairs_at first keys (take used order) in
     let long : length ps ≡ used = few-pairs first used order keys b.within in
@@ -243,18 +281,21 @@ bucket_sound first kw used order keys b =
     }
 
 -- the key of the pair at a place
-pub key-pair : (first kw used : ℕ) (order : List ℕ) (keys : List Key) → IsBucket first kw used order keys → (way i : ℕ) (pair : Pair) → slice_get (pairs_at first keys (take used order)) i ≡ Some pair → pair.place ≡ first + way
+pub key-pair : (first kw used : ℕ) (order : List ℕ) (keys : List Key) → IsBucket first kw used order keys → (way i : ℕ) (pair : Pair)
+    → slice_get (pairs_at first keys (take used order)) i ≡ Some pair → pair.place ≡ first + way
     → get_or keys way [] ≡ pair.key
 key-pair first kw used order keys b way i pair e p =
     let ps = pairs_at first keys (take used order) in
     let below : i < used = subst (λ n. i < n) (few-pairs first used order keys b.within) (some-get ps i pair e) in
-    let is : pair_at first keys (get_or order i 0) ≡ pair = sym (pair-is first used i order keys pair b.within below) ∙ get_or_from_slice_get ps i pair pair e in
+    let is : pair_at first keys (get_or order i 0) ≡ pair = sym (pair-is first used i order keys pair b.within below)
+    ∙ get_or_from_slice_get ps i pair pair e in
     let place = ap (λ (x : Pair). x.place) is in
     let same : way ≡ get_or order i 0 = omega arith in
     ap (λ w. get_or keys w []) same ∙ ap (λ (x : Pair). x.key) is
 
 -- a bucket with no way in use, whose order is that of the ways
-pub empty-bucket : (first kw : ℕ) (order words : List ℕ) → 0 < length order → kw ≤ 8 → first + length order ≤ 65536 → ((k : ℕ) → k < length order → get_or order k 0 ≡ k) → length words ≡ length order * kw
+pub empty-bucket : (first kw : ℕ) (order words : List ℕ) → 0 < length order → kw ≤ 8 → first + length order ≤ 65536
+    → ((k : ℕ) → k < length order → get_or order k 0 ≡ k) → length words ≡ length order * kw
     → IsBucket first kw 0 order (rows_of kw (length order) words)
 empty-bucket first kw order words some short places each flat = record {
   some = some;

@@ -1,5 +1,6 @@
 -- What is read from buckets that are stored one after another.
-use Rattle.std.proofs.Common.{◌≡◌, ℕ, ◌+◌, ◌-◌, ◌*◌, ◌<◌, ◌≤◌, List, [], ◌++◌, Some, None, length, take, drop, get_or, set, replicate, sym, ap, ap₂, ◌∙◌, subst, arith, take-append-drop, drop-drop, get_or-drop, get_or-take, take-take}
+use Rattle.std.proofs.Common.{◌≡◌, ℕ, ◌+◌, ◌-◌, ◌*◌, ◌<◌, ◌≤◌, List, [], ◌++◌, Some, None, length, take, drop, get_or, set, replicate, sym}
+use Rattle.std.proofs.Common.{ap, ap₂, ◌∙◌, subst, arith, take-append-drop, drop-drop, get_or-drop, get_or-take, take-take}
 use Rattle.std.specs.Prelude.{slice_get, sum_by, ◌/◌, ◌%◌}
 use Rattle.std.proofs.lemmas.List.{drop-take, get_or-replicate, length-replicate, get_or_default, get_or-map}
 use Rattle.std.proofs.lemmas.Nat.{mod-mul-add}
@@ -10,7 +11,8 @@ use Rattle.bucket_cache.specs.Touches.{least_place}
 use Rattle.bucket_cache.specs.FlatBuckets.{no_bucket, buckets_of, lists_in, list_in, orders_of, words_of, AreBuckets, IsFlatCache}
 use Rattle.bucket_cache.proofs.FlatRows.{row_fits, row_width, get-rows_of}
 use Rattle.bucket_cache.proofs.BucketLists.{place-pair, no-place, key-pair, fewer-pairs, fewer-bucket, empty-bucket}
-use Rattle.bucket_cache.proofs.FlatBuckets.{length-buckets_of, get-buckets_of, list-is, bucket-is, all-used, row-long, with_row, written-buckets, written-lists}
+use Rattle.bucket_cache.proofs.FlatBuckets.{length-buckets_of, get-buckets_of, list-is, bucket-is, all-used, row-long, with_row}
+use Rattle.bucket_cache.proofs.FlatBuckets.{written-buckets, written-lists}
 use Rattle.bucket_cache.proofs.CacheLists.{pair_home, place_in, bucket_in_range, empty_lists, held_more}
 use Rattle.bucket_cache.proofs.FlatCaches.{shaped}
 
@@ -24,7 +26,8 @@ pub record Stands (ways b i : ℕ) (order : List ℕ) : Type 0 where
 read-order : (ways b i : ℕ) (order : List ℕ) → i < ways → get_or (take ways (drop (b * ways) order)) i 0 ≡ get_or order (b * ways + i) 0
 read-order ways b i order h = get_or-take ways (drop (b * ways) order) i 0 h ∙ get_or-drop (b * ways) order i 0
 
-pub stands : (ways kw b i : ℕ) (used order words : List ℕ) → AreBuckets ways kw used order words → b < length used → i < get_or used b 0 → Stands ways b i order
+pub stands : (ways kw b i : ℕ) (used order words : List ℕ) → AreBuckets ways kw used order words → b < length used → i < get_or used b 0
+    → Stands ways b i order
 stands ways kw b i used order words are h l =
     let is = bucket-is ways kw b used order words are h in
     let o = take ways (drop (b * ways) order) in
@@ -48,19 +51,22 @@ flat-place ways kw b i used order words are h l =
     ∙ (place-pair (b * ways) (get_or used b 0) i o keys is.within l
     ∙ ap (λ n. Some (b * ways + n)) (read-order ways b i order (stands ways kw b i used order words are h l).below))
 
-pub flat-no-place : (ways kw b i : ℕ) (used order words : List ℕ) → AreBuckets ways kw used order words → b < length used → get_or used b 0 ≤ i
+pub flat-no-place : (ways kw b i : ℕ) (used order words : List ℕ) → AreBuckets ways kw used order words → b < length used
+    → get_or used b 0 ≤ i
     → slice_get (places_of (list_in ways kw used order words b)) i ≡ None
 flat-no-place ways kw b i used order words are h l =
     let is = bucket-is ways kw b used order words are h in
     ap (λ ps. slice_get (places_of ps) i) (list-is ways kw b used order words h)
-    ∙ no-place (b * ways) (get_or used b 0) i (take ways (drop (b * ways) order)) (rows_of kw ways (take (ways * kw) (drop (b * (ways * kw)) words))) is.within l
+    ∙ no-place (b * ways) (get_or used b 0) i (take ways (drop (b * ways) order))
+    (rows_of kw ways (take (ways * kw) (drop (b * (ways * kw)) words))) is.within l
 
 pub flat-least : (ways kw b : ℕ) (used order words : List ℕ) → AreBuckets ways kw used order words → b < length used
     → slice_get (places_of (list_in ways kw used order words b)) (get_or used b 0 - 1) ≡ least_place (list_in ways kw used order words b)
 flat-least ways kw b used order words are h =
     ap (λ n. slice_get (places_of (list_in ways kw used order words b)) (n - 1)) (sym (all-used ways kw b used order words are h))
 
-pub flat-no-least : (ways kw b : ℕ) (used order words : List ℕ) → AreBuckets ways kw used order words → b < length used → get_or used b 0 ≡ 0
+pub flat-no-least : (ways kw b : ℕ) (used order words : List ℕ) → AreBuckets ways kw used order words → b < length used
+    → get_or used b 0 ≡ 0
     → least_place (list_in ways kw used order words b) ≡ None
 flat-no-least ways kw b used order words are h none =
     sym (flat-least ways kw b used order words are h) ∙ flat-no-place ways kw b (get_or used b 0 - 1) used order words are h (omega arith)
@@ -74,25 +80,31 @@ key-fits ways kw at used order words are h =
     let flat = are.flat in
     omega arith
 
-pub key-long : (ways kw at : ℕ) (used order words row : List ℕ) → AreBuckets ways kw used order words → at < length used * ways → row ≡ take kw (drop (at * kw) words) → length row ≡ kw
+pub key-long : (ways kw at : ℕ) (used order words row : List ℕ) → AreBuckets ways kw used order words → at < length used * ways
+    → row ≡ take kw (drop (at * kw) words) → length row ≡ kw
 key-long ways kw at used order words row are h e =
     row_width (length used * ways) at kw words row h (are.flat ∙ sym (mul_assoc (length used) ways kw)) e
 
 place-word : (b ways way kw : ℕ) → b * (ways * kw) + way * kw ≡ (b * ways + way) * kw
 place-word b ways way kw = let a = mul_assoc b ways kw in omega arith
 
-row-key : (b ways way kw : ℕ) (words : List ℕ) → way < ways → take kw (drop ((b * ways + way) * kw) words) ≡ take kw (drop (way * kw) (take (ways * kw) (drop (b * (ways * kw)) words)))
+row-key : (b ways way kw : ℕ) (words : List ℕ) → way < ways → take kw (drop ((b * ways + way) * kw) words) ≡ take kw
+    (drop (way * kw) (take (ways * kw) (drop (b * (ways * kw)) words)))
 row-key b ways way kw words h =
     let f = row_fits way ways kw h in
     let rest = ways * kw - way * kw in
     let split : way * kw + rest ≡ ways * kw = omega arith in
     let xs = drop (b * (ways * kw)) words in
-    let here : drop (way * kw) xs ≡ drop ((b * ways + way) * kw) words = drop-drop (way * kw) (b * (ways * kw)) words ∙ ap (λ n. drop n words) (place-word b ways way kw) in
-    let cut : drop (way * kw) (take (ways * kw) xs) ≡ take rest (drop (way * kw) xs) = ap (λ n. drop (way * kw) (take n xs)) (sym split) ∙ drop-take (way * kw) rest xs in
+    let here : drop (way * kw) xs ≡ drop ((b * ways + way) * kw) words = drop-drop (way * kw) (b * (ways * kw)) words
+    ∙ ap (λ n. drop n words) (place-word b ways way kw) in
+    let cut : drop (way * kw) (take (ways * kw) xs) ≡ take rest (drop (way * kw) xs) = ap (λ n. drop (way * kw) (take n xs)) (sym split)
+    ∙ drop-take (way * kw) rest xs in
     sym (ap (take kw) cut ∙ (take-take kw rest (drop (way * kw) xs) (omega arith) ∙ ap (take kw) here))
 
-pub flat-key : (ways kw ew at : ℕ) (used order words : List ℕ) (entries : List (List ℕ)) → IsFlatCache ways kw ew used order words entries → at < length used * ways
-    → (bucket i : ℕ) (pair : Pair) → slice_get (list_in ways kw used order words bucket) i ≡ Some pair → pair.place ≡ at → take kw (drop (at * kw) words) ≡ pair.key
+pub flat-key : (ways kw ew at : ℕ) (used order words : List ℕ) (entries : List (List ℕ)) → IsFlatCache ways kw ew used order words entries
+    → at < length used * ways
+    → (bucket i : ℕ) (pair : Pair) → slice_get (list_in ways kw used order words bucket) i ≡ Some pair → pair.place ≡ at
+    → take kw (drop (at * kw) words) ≡ pair.key
 flat-key ways kw ew at used order words entries s h bucket i pair e p =
     let b = at / ways in
     let way = at % ways in
@@ -100,15 +112,18 @@ flat-key ways kw ew at used order words entries s h bucket i pair e p =
     let place : b * ways + way ≡ at = split.0 in
     let below : way < ways = split.1 in
     let range : b < length used = bucket_in_range ways at (length used) s.some h in
-    let same : bucket ≡ b = pair_home ways kw ew (buckets_of ways kw used order words) entries bucket i at pair (shaped ways kw ew used order words entries s) e p in
+    let same : bucket ≡ b = pair_home ways kw ew (buckets_of ways kw used order words) entries bucket i at pair
+    (shaped ways kw ew used order words entries s) e p in
     let o = take ways (drop (b * ways) order) in
     let row = take (ways * kw) (drop (b * (ways * kw)) words) in
     let here : slice_get (pairs_at (b * ways) (rows_of kw ways row) (take (get_or used b 0) o)) i ≡ Some pair =
-    ap (λ ps. slice_get ps i) (sym (list-is ways kw b used order words range)) ∙ (ap (λ n. slice_get (list_in ways kw used order words n) i) (sym same) ∙ e) in
+    ap (λ ps. slice_get ps i) (sym (list-is ways kw b used order words range))
+    ∙ (ap (λ n. slice_get (list_in ways kw used order words n) i) (sym same) ∙ e) in
     ap (λ n. take kw (drop (n * kw) words)) (sym place)
     ∙ (row-key b ways way kw words below
     ∙ (sym (get-rows_of kw ways row way [] below)
-    ∙ key-pair (b * ways) kw (get_or used b 0) o (rows_of kw ways row) (bucket-is ways kw b used order words s.buckets range) way i pair here (p ∙ sym place)))
+    ∙ key-pair (b * ways) kw (get_or used b 0) o (rows_of kw ways row) (bucket-is ways kw b used order words s.buckets range) way i pair
+    here (p ∙ sym place)))
 
 -- a row written over with itself
 same-row : (width b : ℕ) (xs : List ℕ) → with_row width b (take width (drop (b * width) xs)) xs ≡ xs
@@ -124,11 +139,13 @@ fewer-buckets ways kw b used order words are h =
     let u = get_or used b 0 - 1 in
     subst (λ x. AreBuckets ways kw (set used b u) x words) (same-row ways b order)
     (subst (λ x. AreBuckets ways kw (set used b u) (with_row ways b o order) x) (same-row (ways * kw) b words)
-    (written-buckets ways kw b u o row used order words are h long wide (fewer-bucket (b * ways) kw (get_or used b 0) o (rows_of kw ways row) (bucket-is ways kw b used order words are h))))
+    (written-buckets ways kw b u o row used order words are h long wide
+    (fewer-bucket (b * ways) kw (get_or used b 0) o (rows_of kw ways row) (bucket-is ways kw b used order words are h))))
 
 pub fewer-lists : (ways kw b : ℕ) (used order words : List ℕ) → AreBuckets ways kw used order words → b < length used
     → lists_in ways kw (set used b (get_or used b 0 - 1)) order words
-    ≡ set (lists_in ways kw used order words) b (take (length (list_in ways kw used order words b) - 1) (list_in ways kw used order words b))
+    ≡ set (lists_in ways kw used order words) b (take (length (list_in ways kw used order words b) - 1)
+    (list_in ways kw used order words b))
 fewer-lists ways kw b used order words are h =
     let o = take ways (drop (b * ways) order) in
     let row = take (ways * kw) (drop (b * (ways * kw)) words) in
@@ -156,7 +173,8 @@ no-lists ways kw count order words =
     ∙ ap (λ n. pairs_at (k * ways) keys (take n o)) (get_or-replicate count k 0 0 (subst (λ n. k < n) many l)))
     ∙ ap (λ n. replicate n []) (long ∙ many)
 
-pub new-buckets : (ways kw count : ℕ) (order words : List ℕ) → 0 < ways → kw ≤ 8 → count * ways ≤ 65536 → length order ≡ count * ways → length words ≡ count * ways * kw
+pub new-buckets : (ways kw count : ℕ) (order words : List ℕ) → 0 < ways → kw ≤ 8 → count * ways ≤ 65536 → length order ≡ count * ways
+    → length words ≡ count * ways * kw
     → ((k : ℕ) → k < count * ways → get_or order k 0 ≡ k % ways) → AreBuckets ways kw (replicate count 0) order words
 new-buckets ways kw count order words some short room eo ew each =
     let used : List ℕ = replicate count 0 in
@@ -178,20 +196,27 @@ new-buckets ways kw count order words some short room eo ew each =
           (λ k l. let below : k < ways = omega arith in
           read-order ways b k order below ∙ (each (b * ways + k) (omega arith) ∙ mod-mul-add b ways k below))
           (wide ∙ ap (λ n. n * kw) (sym long)) in
-          subst (λ u. IsBucket (b * ways) kw u (get_or (orders_of ways used order) b []) (rows_of kw ways (get_or (words_of ways kw used words) b []))) (sym (get_or-replicate count b 0 0 below_count))
-          (subst (λ x. IsBucket (b * ways) kw 0 x (rows_of kw ways (get_or (words_of ways kw used words) b []))) (sym (get-rows_of ways (length used) order b [] h))
+          subst (λ u. IsBucket (b * ways) kw u (get_or (orders_of ways used order) b [])
+          (rows_of kw ways (get_or (words_of ways kw used words) b []))) (sym (get_or-replicate count b 0 0 below_count))
+          (subst (λ x. IsBucket (b * ways) kw 0 x (rows_of kw ways (get_or (words_of ways kw used words) b [])))
+          (sym (get-rows_of ways (length used) order b [] h))
           (subst (λ x. IsBucket (b * ways) kw 0 o (rows_of kw ways x)) (sym (get-rows_of (ways * kw) (length used) words b [] h))
           (subst (λ n. IsBucket (b * ways) kw 0 o (rows_of kw n row)) long is)));
     }
 
 -- the pairs of one bucket more are counted
-pub flat-more : (ways kw ew held i : ℕ) (used order words : List ℕ) (entries : List (List ℕ)) → IsFlatCache ways kw ew used order words entries → i < length used
+pub flat-more : (ways kw ew held i : ℕ) (used order words : List ℕ) (entries : List (List ℕ))
+    → IsFlatCache ways kw ew used order words entries → i < length used
     → held ≡ sum_by (λ ps. length ps) (take i (lists_in ways kw used order words)) → held ≤ i * ways
-    → (held + get_or used i 0 ≡ sum_by (λ ps. length ps) (take (i + 1) (lists_in ways kw used order words))) × (held + get_or used i 0 ≤ (i + 1) * ways)
+    → (held + get_or used i 0 ≡ sum_by (λ ps. length ps) (take (i + 1) (lists_in ways kw used order words)))
+    × (held + get_or used i 0 ≤ (i + 1) * ways)
 flat-more ways kw ew held i used order words entries s h e b =
     let buckets = buckets_of ways kw used order words in
     let inside : i < length buckets = subst (λ n. i < n) (sym (length-buckets_of ways kw used order words)) h in
     let r = get_or buckets i no_bucket in
-    let more = held_more ways kw ew held buckets entries i r (shaped ways kw ew used order words entries s) inside (get_or_default buckets i no_bucket r inside) e b in
-    let pairs : length r.pairs ≡ get_or used i 0 = sym (ap length (get_or-map (λ (x : Recency). x.pairs) buckets i no_bucket [] inside)) ∙ all-used ways kw i used order words s.buckets h in
-    subst (λ n. (held + n ≡ sum_by (λ ps. length ps) (take (i + 1) (lists_in ways kw used order words))) × (held + n ≤ (i + 1) * ways)) pairs more
+    let more = held_more ways kw ew held buckets entries i r (shaped ways kw ew used order words entries s) inside
+    (get_or_default buckets i no_bucket r inside) e b in
+    let pairs : length r.pairs ≡ get_or used i 0 = sym (ap length (get_or-map (λ (x : Recency). x.pairs) buckets i no_bucket [] inside))
+    ∙ all-used ways kw i used order words s.buckets h in
+    subst (λ n. (held + n ≡ sum_by (λ ps. length ps) (take (i + 1) (lists_in ways kw used order words))) × (held + n ≤ (i + 1) * ways))
+    pairs more

@@ -1,5 +1,6 @@
 -- Words that are written over others, entry by entry.
-use Rattle.std.proofs.Common.{◌≡◌, ℕ, zero, suc, ◌+◌, ◌*◌, ◌<◌, ◌≤◌, List, [], ◌∷◌, ◌++◌, length, take, drop, get_or, set, replicate, refl, sym, ap, ap₂, ◌∙◌, arith, length-append, length-drop, drop-drop, All}
+use Rattle.std.proofs.Common.{◌≡◌, ℕ, zero, suc, ◌+◌, ◌*◌, ◌<◌, ◌≤◌, List, [], ◌∷◌, ◌++◌, length, take, drop, get_or, set, replicate, refl}
+use Rattle.std.proofs.Common.{sym, ap, ap₂, ◌∙◌, arith, length-append, length-drop, drop-drop, All}
 use Rattle.std.proofs.lemmas.List.{append-nil, take_all, drop_all, length-take-le}
 use Rattle.std.proofs.lemmas.List.Elements.{All-cons, All-head, All-tail}
 use Rattle.bucket_cache.specs.Slices.{rows_of}
@@ -23,7 +24,8 @@ drop-over (suc n) (x ∷ xs) (y ∷ w) = drop-over n xs w
 
 -- what a vector holds after a part of it was written
 pub written_from : (i len : ℕ) (items w : List ℕ) → len ≡ length items → i ≤ length items
-    → (let X : List ℕ = take i items ++ (w ++ drop (length w) (drop i items)) in take len (X ++ drop (length X) items)) ≡ take i items ++ written_over (drop i items) w
+    → (let X : List ℕ = take i items ++ (w ++ drop (length w) (drop i items)) in take len (X ++ drop (length X) items)) ≡ take i items
+    ++ written_over (drop i items) w
 written_from zero len items w same within =
     let X : List ℕ = w ++ drop (length w) items in
     let long : length items ≤ length X = omega (arith, length-append w (drop (length w) items), length-drop (length w) items) in
@@ -31,7 +33,8 @@ written_from zero len items w same within =
 written_from (suc i) len [] w same within = absurd (omega (arith, within))
 written_from (suc i) len (x ∷ items) w same within =
     let X : List ℕ = take i items ++ (w ++ drop (length w) (drop i items)) in
-    ap (λ n. take n (x ∷ (X ++ drop (length X) items))) same ∙ ap (λ rest. x ∷ rest) (written_from i (length items) items w refl (omega (arith, within)))
+    ap (λ n. take n (x ∷ (X ++ drop (length X) items))) same ∙ ap (λ rest. x ∷ rest)
+    (written_from i (length items) items w refl (omega (arith, within)))
 
 first_written : (width count : ℕ) (words w : List ℕ) → length words ≡ count * width
     → rows_of width count (written_over words w) ≡ with_entry (rows_of width count words) zero w
@@ -50,7 +53,8 @@ front-take (suc width) m (x ∷ words) more h =
     ap (λ n. take (suc width) (take n (x ∷ words) ++ more)) (let e : suc width + m ≡ suc (width + m) = omega arith in e)
     ∙ ap (λ rest. x ∷ rest) (front-take width m words more (omega (arith, h)))
 
-front-drop : (width m : ℕ) (words more : List ℕ) → width + m ≤ length words → drop width (take (width + m) words ++ more) ≡ take m (drop width words) ++ more
+front-drop : (width m : ℕ) (words more : List ℕ) → width + m ≤ length words
+    → drop width (take (width + m) words ++ more) ≡ take m (drop width words) ++ more
 front-drop zero m words more h = ap (λ n. take n words ++ more) (let e : 0 + m ≡ m = omega arith in e)
 front-drop (suc width) m [] more h = absurd (omega (arith, h))
 front-drop (suc width) m (x ∷ words) more h =
@@ -59,10 +63,12 @@ front-drop (suc width) m (x ∷ words) more h =
 
 -- the words of all entries, with other words from an entry on
 pub entry_written : (at width count : ℕ) (words w : List ℕ) → at < count → length words ≡ count * width
-    → rows_of width count (take (at * width) words ++ written_over (drop (at * width) words) w) ≡ with_entry (rows_of width count words) at w
+    → rows_of width count (take (at * width) words ++ written_over (drop (at * width) words) w) ≡ with_entry (rows_of width count words) at
+    w
 entry_written at width zero words w low flat = absurd (omega (arith, low))
 entry_written zero width (suc count) words w low flat =
-    ap (λ n. rows_of width (suc count) (take n words ++ written_over (drop n words) w)) (let e : 0 * width ≡ 0 = omega arith in e) ∙ first_written width (suc count) words w flat
+    ap (λ n. rows_of width (suc count) (take n words ++ written_over (drop n words) w)) (let e : 0 * width ≡ 0 = omega arith in e)
+    ∙ first_written width (suc count) words w flat
 entry_written (suc at) width (suc count) words w low flat =
     let split : suc at * width ≡ width + at * width = omega arith in
     let fits : at * width + width ≤ count * width = row_fits at count width (omega (arith, low)) in
@@ -70,15 +76,18 @@ entry_written (suc at) width (suc count) words w low flat =
     let rest : length (drop width words) ≡ count * width = omega (arith, length-drop width words, flat) in
     let more = written_over (drop (width + at * width) words) w in
     ap (λ n. rows_of width (suc count) (take n words ++ written_over (drop n words) w)) split
-    ∙ (ap₂ (λ row others. row ∷ rows_of width count others) (front-take width (at * width) words more within) (front-drop width (at * width) words more within)
-    ∙ (ap (λ xs. take width words ∷ rows_of width count (take (at * width) (drop width words) ++ written_over xs w)) (sym (drop-drop (at * width) width words))
+    ∙ (ap₂ (λ row others. row ∷ rows_of width count others) (front-take width (at * width) words more within)
+    (front-drop width (at * width) words more within)
+    ∙ (ap (λ xs. take width words ∷ rows_of width count (take (at * width) (drop width words) ++ written_over xs w))
+    (sym (drop-drop (at * width) width words))
     ∙ ap (λ others. take width words ∷ others) (entry_written at width count (drop width words) w (omega (arith, low)) rest)))
 
 -- no words change no entry
 entries-kept : (entries : List (List ℕ)) → with_entry entries zero [] ≡ entries
 entries-kept [] = refl
 entries-kept (entry ∷ entries) =
-    ap₂ (λ (words : List ℕ) (rest : List ℕ). words ∷ with_entry entries zero rest) (over-none entry) (drop_all (length entry) [] (omega arith))
+    ap₂ (λ (words : List ℕ) (rest : List ℕ). words ∷ with_entry entries zero rest) (over-none entry)
+    (drop_all (length entry) [] (omega arith))
     ∙ ap (λ others. entry ∷ others) (entries-kept entries)
 
 pub over-all : (old w : List ℕ) → length w ≡ length old → written_over old w ≡ w
@@ -87,17 +96,24 @@ over-all old w same =
     ∙ (ap (take (length old)) (append-nil w) ∙ take_all (length old) w (omega (arith, same)))
 
 -- as many words as an entry has take its place
-pub entry_replaced : (entries : List (List ℕ)) (at : ℕ) (w : List ℕ) → at < length entries → length w ≡ length (get_or entries at []) → with_entry entries at w ≡ set entries at w
+pub entry_replaced : (entries : List (List ℕ)) (at : ℕ) (w : List ℕ) → at < length entries → length w ≡ length (get_or entries at [])
+    → with_entry entries at w ≡ set entries at w
 entry_replaced [] at w low same = absurd (omega (arith, low))
 entry_replaced (entry ∷ entries) zero w low same =
-    ap₂ (λ (words : List ℕ) (rest : List ℕ). words ∷ with_entry entries zero rest) (over-all entry w same) (drop_all (length entry) w (omega (arith, same)))
+    ap₂ (λ (words : List ℕ) (rest : List ℕ). words ∷ with_entry entries zero rest) (over-all entry w same)
+    (drop_all (length entry) w (omega (arith, same)))
     ∙ ap (λ others. w ∷ others) (entries-kept entries)
 entry_replaced (entry ∷ entries) (suc at) w low same = ap (λ others. entry ∷ others) (entry_replaced entries at w (omega (arith, low)) same)
 
 -- as many words as before
 pub length-over : (old w : List ℕ) → length (written_over old w) ≡ length old
 length-over old w =
-    length-take-le (length old) (w ++ drop (length w) old) (omega (arith, length-append w (drop (length w) old), length-drop (length w) old))
+    length-take-le (length old) (w ++ drop (length w) old) (omega (
+      arith,
+      length-append w (drop (length w) old),
+      length-drop (length w)
+          old,
+    ))
 
 -- as many entries as before
 pub length-with_entry : (entries : List (List ℕ)) (at : ℕ) (w : List ℕ) → length (with_entry entries at w) ≡ length entries
@@ -125,7 +141,8 @@ zeros n = replicate n 0
 
 take-zeros : (n m : ℕ) → take n (zeros (n + m)) ≡ zeros n
 take-zeros zero m = refl
-take-zeros (suc n) m = ap (λ k. take (suc n) (zeros k)) (let e : suc n + m ≡ suc (n + m) = omega arith in e) ∙ ap (λ (rest : List ℕ). 0 ∷ rest) (take-zeros n m)
+take-zeros (suc n) m = ap (λ k. take (suc n) (zeros k)) (let e : suc n + m ≡ suc (n + m) = omega arith in e)
+    ∙ ap (λ (rest : List ℕ). 0 ∷ rest) (take-zeros n m)
 
 drop-zeros : (n m : ℕ) → drop n (zeros (n + m)) ≡ zeros m
 drop-zeros zero m = ap zeros (let e : 0 + m ≡ m = omega arith in e)

@@ -1,5 +1,6 @@
 -- Lists of pairs with distinct keys.
-use Rattle.std.proofs.Common.{◌≡◌, ℕ, zero, suc, ◌+◌, ◌<◌, true, false, ◌||◌, List, [], ◌∷◌, ◌++◌, Some, length, take, drop, get_or, find, option_map, refl, sym, ap, ap₂, ◌∙◌, subst, arith, All}
+use Rattle.std.proofs.Common.{◌≡◌, ℕ, zero, suc, ◌+◌, ◌<◌, true, false, ◌||◌, List, [], ◌∷◌, ◌++◌, Some, length, take, drop, get_or, find}
+use Rattle.std.proofs.Common.{option_map, refl, sym, ap, ap₂, ◌∙◌, subst, arith, All}
 use Rattle.std.specs.Prelude.{slice_get}
 use Rattle.std.proofs.lemmas.Bool.{true≢false}
 use Rattle.epoch_model.specs.Keys.{Key, key_eq}
@@ -8,7 +9,8 @@ use Rattle.bucket_cache.specs.Slices.{at_front}
 use Rattle.bucket_cache.specs.Buckets.{Pair, is_pair_of, has_key, place_of, places_of, without_key, AreOnce}
 use Rattle.bucket_cache.proofs.Fronts.{by_test, front-cons}
 
-pub absent_head : (key : Key) (pair : Pair) (pairs : List Pair) → has_key key (pair ∷ pairs) ≡ false → (key_eq pair.key key ≡ false) × (has_key key pairs ≡ false)
+pub absent_head : (key : Key) (pair : Pair) (pairs : List Pair) → has_key key (pair ∷ pairs) ≡ false → (key_eq pair.key key ≡ false)
+    × (has_key key pairs ≡ false)
 absent_head key pair pairs h = by_test (key_eq pair.key key)
     (λ e. absurd (true≢false (sym (ap (λ t. t || has_key key pairs) e) ∙ h)))
     (λ e. (e, sym (ap (λ t. t || has_key key pairs) e) ∙ h))
@@ -35,33 +37,43 @@ once-without key (pair ∷ pairs) o = by_test (key_eq pair.key key)
     (λ e. rw e (once-without key pairs o.1))
     (λ e. rw e (has-without key pair.key pairs o.0, once-without key pairs o.1))
 
-pub once-front : (key : Key) (place : ℕ) (pairs : List Pair) → AreOnce pairs → AreOnce (record { key = key; place = place } ∷ without_key key pairs)
+pub once-front : (key : Key) (place : ℕ) (pairs : List Pair) → AreOnce pairs
+    → AreOnce (record { key = key; place = place } ∷ without_key key pairs)
 once-front key place pairs o = (has-without_same key pairs, once-without key pairs o)
 
-pub has-at : (at : ℕ) (d : Pair) (key : Key) (pairs : List Pair) → at < length pairs → key_eq (get_or pairs at d).key key ≡ true → has_key key pairs ≡ true
+pub has-at : (at : ℕ) (d : Pair) (key : Key) (pairs : List Pair) → at < length pairs → key_eq (get_or pairs at d).key key ≡ true
+    → has_key key pairs ≡ true
 has-at at d key [] h e = absurd (omega arith)
 has-at zero d key (pair ∷ pairs) h e = rw e refl
-has-at (suc at) d key (pair ∷ pairs) h e = by_test (key_eq pair.key key) (λ t. rw t refl) (λ t. rw t (has-at at d key pairs (omega arith) e))
+has-at (suc at) d key (pair ∷ pairs) h e = by_test (key_eq pair.key key) (λ t. rw t refl)
+    (λ t. rw t (has-at at d key pairs (omega arith) e))
 
-pub find-at : (at : ℕ) (d : Pair) (key : Key) (pairs : List Pair) → at < length pairs → AreOnce pairs → key_eq (get_or pairs at d).key key ≡ true → find (is_pair_of key) pairs ≡ Some (get_or pairs at d)
+pub find-at : (at : ℕ) (d : Pair) (key : Key) (pairs : List Pair) → at < length pairs → AreOnce pairs
+    → key_eq (get_or pairs at d).key key ≡ true → find (is_pair_of key) pairs ≡ Some (get_or pairs at d)
 find-at at d key [] h o e = absurd (omega arith)
 find-at zero d key (pair ∷ pairs) h o e = rw e refl
 find-at (suc at) d key (pair ∷ pairs) h o e = by_test (key_eq pair.key key)
-    (λ t. absurd (true≢false (sym (has-at at d key pairs (omega arith) e) ∙ subst (λ k. has_key k pairs ≡ false) (key_eq-true pair.key key t) o.0)))
+    (λ t. absurd (true≢false (sym (has-at at d key pairs (omega arith) e)
+    ∙ subst (λ k. has_key k pairs ≡ false) (key_eq-true pair.key key t) o.0)))
     (λ t. rw t (find-at at d key pairs (omega arith) o.1 e))
 
-pub place-at : (at : ℕ) (d : Pair) (key : Key) (pairs : List Pair) → at < length pairs → AreOnce pairs → key_eq (get_or pairs at d).key key ≡ true → place_of key pairs ≡ Some (get_or pairs at d).place
+pub place-at : (at : ℕ) (d : Pair) (key : Key) (pairs : List Pair) → at < length pairs → AreOnce pairs
+    → key_eq (get_or pairs at d).key key ≡ true → place_of key pairs ≡ Some (get_or pairs at d).place
 place-at at d key pairs h o e = ap (option_map (λ pair. pair.place)) (find-at at d key pairs h o e)
 
 -- of distinct keys the one at this place goes, and no other
-pub without-at : (at : ℕ) (d : Pair) (key : Key) (pairs : List Pair) → at < length pairs → AreOnce pairs → key_eq (get_or pairs at d).key key ≡ true → take at pairs ++ drop (suc at) pairs ≡ without_key key pairs
+pub without-at : (at : ℕ) (d : Pair) (key : Key) (pairs : List Pair) → at < length pairs → AreOnce pairs
+    → key_eq (get_or pairs at d).key key ≡ true → take at pairs ++ drop (suc at) pairs ≡ without_key key pairs
 without-at at d key [] h o e = absurd (omega arith)
-without-at zero d key (pair ∷ pairs) h o e = rw e (sym (without_absent key pairs (subst (λ k. has_key k pairs ≡ false) (key_eq-true pair.key key e) o.0)))
+without-at zero d key (pair ∷ pairs) h o e = rw e (sym (without_absent key pairs
+    (subst (λ k. has_key k pairs ≡ false) (key_eq-true pair.key key e) o.0)))
 without-at (suc at) d key (pair ∷ pairs) h o e = by_test (key_eq pair.key key)
-    (λ t. absurd (true≢false (sym (has-at at d key pairs (omega arith) e) ∙ subst (λ k. has_key k pairs ≡ false) (key_eq-true pair.key key t) o.0)))
+    (λ t. absurd (true≢false (sym (has-at at d key pairs (omega arith) e)
+    ∙ subst (λ k. has_key k pairs ≡ false) (key_eq-true pair.key key t) o.0)))
     (λ t. rw t (ap (λ ps. pair ∷ ps) (without-at at d key pairs (omega arith) o.1 e)))
 
-pub front-pair : (at : ℕ) (d : Pair) (key : Key) (pairs : List Pair) → at < length pairs → AreOnce pairs → key_eq (get_or pairs at d).key key ≡ true
+pub front-pair : (at : ℕ) (d : Pair) (key : Key) (pairs : List Pair) → at < length pairs → AreOnce pairs
+    → key_eq (get_or pairs at d).key key ≡ true
     → at_front at pairs ≡ record { key = key; place = (get_or pairs at d).place } ∷ without_key key pairs
 front-pair at d key pairs h o e =
     front-cons at d pairs h
@@ -79,11 +91,13 @@ once-take (suc n) [] o = tt
 once-take (suc n) (pair ∷ pairs) o = (has-front pair.key n pairs o.0, once-take n pairs o.1)
 
 -- the pair that comes first, by its place
-pub first-pair : (pairs : List Pair) (place : ℕ) → Some place ≡ slice_get (places_of pairs) 0 → (pair : Pair) × (slice_get pairs 0 ≡ Some pair) × (pair.place ≡ place)
+pub first-pair : (pairs : List Pair) (place : ℕ) → Some place ≡ slice_get (places_of pairs) 0 → (pair : Pair)
+    × (slice_get pairs 0 ≡ Some pair) × (pair.place ≡ place)
 first-pair [] place e = cc
 first-pair (pair ∷ pairs) place e = (pair, refl, cc)
 
-pub first-within : (pairs : List Pair) (place n : ℕ) → All (λ pair. pair.place < n) pairs → Some place ≡ slice_get (places_of pairs) 0 → place < n
+pub first-within : (pairs : List Pair) (place n : ℕ) → All (λ pair. pair.place < n) pairs → Some place ≡ slice_get (places_of pairs) 0
+    → place < n
 first-within [] place n a e = cc
 first-within (pair ∷ pairs) place n a e =
     let same : place ≡ pair.place = cc in
@@ -91,12 +105,17 @@ first-within (pair ∷ pairs) place n a e =
     omega arith
 
 -- a key that comes first stays there
-pub first-stays : (key : Key) (place : ℕ) (pairs : List Pair) → AreOnce pairs → slice_get pairs 0 ≡ Some (record { key = key; place = place })
+pub first-stays : (key : Key) (place : ℕ) (pairs : List Pair) → AreOnce pairs
+    → slice_get pairs 0 ≡ Some (record { key = key; place = place })
     → (has_key key pairs ≡ true) × (place_of key pairs ≡ Some place) × (pairs ≡ record { key = key; place = place } ∷ without_key key pairs)
 first-stays key place [] o e = cc
 first-stays key place (pair ∷ pairs) o e =
     let same : pair ≡ record { key = key; place = place } = cc in
     let is : pair.key ≡ key = ap (λ (p : Pair). p.key) same in
     let first : key_eq pair.key key ≡ true = ap (λ k. key_eq k key) is ∙ key_eq-refl key in
-    let absent : has_key key pairs ≡ false = subst (λ k. has_key k pairs ≡ false) is o.0 in
-    (rw first refl, rw first (ap (λ (p : Pair). Some p.place) same), rw first (ap₂ (λ p ps. p ∷ ps) same (sym (without_absent key pairs absent))))
+    let absent : has_key key pairs ≡ false = subst (λ k. has_key k pairs ≡ false) is o.0 in (
+      rw first refl,
+      rw first (ap (λ (p : Pair). Some p.place) same),
+      rw first
+          (ap₂ (λ p ps. p ∷ ps) same (sym (without_absent key pairs absent))),
+    )

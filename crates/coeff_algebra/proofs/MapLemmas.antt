@@ -29,7 +29,8 @@ module _ {C : Type 0} {is_element : C → Type 0} {k : Elements C} (s : ElementL
 
   pub sum_same : (n : ℕ) (f g : ℕ → C) → ((i : ℕ) → i < n → f i ≡ g i) → sum_below k n f ≡ sum_below k n g
   sum_same zero f g h = refl
-  sum_same (suc n) f g h = ap (λ z. add z (f n)) (sum_same n f g (λ i lt. h i (omega arith))) ∙ ap (add (sum_below k n g)) (h n (omega arith))
+  sum_same (suc n) f g h = ap (λ z. add z (f n)) (sum_same n f g (λ i lt. h i (omega arith)))
+      ∙ ap (add (sum_below k n g)) (h n (omega arith))
 
   pub sum_add : (n : ℕ) (f g : ℕ → C) → sum_below k n (λ i. add (f i) (g i)) ≡ add (sum_below k n f) (sum_below k n g)
   sum_add zero f g = sym nothing_twice
@@ -49,13 +50,15 @@ module _ {C : Type 0} {is_element : C → Type 0} {k : Elements C} (s : ElementL
       ap (λ z. add z (sum_below k m (f n))) (sum_swap n m f)
       ∙ sym (sum_add m (λ j. sum_below k n (λ i. f i j)) (f n))
 
-  compose_front : (n : ℕ) (later earlier : ℕ → ℕ → C) (i j : ℕ) → j < n → map_compose k n later earlier i j ≡ sum_below k n (λ l. mul (later i l) (earlier l j))
+  compose_front : (n : ℕ) (later earlier : ℕ → ℕ → C) (i j : ℕ) → j < n
+      → map_compose k n later earlier i j ≡ sum_below k n (λ l. mul (later i l) (earlier l j))
   compose_front n later earlier i j h =
       let products = sum_below k n (λ l. mul (later i l) (earlier l j)) in
       let off : (j == n) ≡ false = grind (arith, nat_tests) in
       ap (λ b. if b then add products (later i n) else products) off
 
-  compose_last : (n : ℕ) (later earlier : ℕ → ℕ → C) (i : ℕ) → map_compose k n later earlier i n ≡ add (sum_below k n (λ l. mul (later i l) (earlier l n))) (later i n)
+  compose_last : (n : ℕ) (later earlier : ℕ → ℕ → C) (i : ℕ) → map_compose k n later earlier i n ≡ add
+      (sum_below k n (λ l. mul (later i l) (earlier l n))) (later i n)
   compose_last n later earlier i =
       let products = sum_below k n (λ l. mul (later i l) (earlier l n)) in
       let on : (n == n) ≡ true = grind (arith, nat_tests) in
@@ -73,12 +76,15 @@ module _ {C : Type 0} {is_element : C → Type 0} {k : Elements C} (s : ElementL
       (λ j h. ap (λ z. mul z (x j)) (compose_front n later earlier i j h) ∙ sum_mul n (λ l. mul (later i l) (earlier l j)) (x j)) in
       let regroup : S (λ l. S (λ j. mul (mul (later i l) (earlier l j)) (x j))) ≡ S (λ l. mul (later i l) (inner l)) =
       sum_same n (λ l. S (λ j. mul (mul (later i l) (earlier l j)) (x j))) (λ l. mul (later i l) (inner l))
-      (λ l h. sum_same n (λ j. mul (mul (later i l) (earlier l j)) (x j)) (λ j. mul (later i l) (mul (earlier l j) (x j))) (λ j hj. s.mul_assoc (later i l) (earlier l j) (x j))
+      (λ l h. sum_same n (λ j. mul (mul (later i l) (earlier l j)) (x j)) (λ j. mul (later i l) (mul (earlier l j) (x j)))
+      (λ j hj. s.mul_assoc (later i l) (earlier l j) (x j))
       ∙ sym (mul_sum n (later i l) (λ j. mul (earlier l j) (x j)))) in
       let gather : S (λ l. mul (later i l) (add (inner l) (earlier l n))) ≡ add (S (λ l. mul (later i l) (inner l))) constants =
-      sum_same n (λ l. mul (later i l) (add (inner l) (earlier l n))) (λ l. add (mul (later i l) (inner l)) (mul (later i l) (earlier l n))) (λ l h. s.mul_add (later i l) (inner l) (earlier l n))
+      sum_same n (λ l. mul (later i l) (add (inner l) (earlier l n))) (λ l. add (mul (later i l) (inner l)) (mul (later i l) (earlier l n)))
+      (λ l h. s.mul_add (later i l) (inner l) (earlier l n))
       ∙ sum_add n (λ l. mul (later i l) (inner l)) (λ l. mul (later i l) (earlier l n)) in
-      ap (λ z. add z (map_compose k n later earlier i n)) (spread ∙ sum_swap n n (λ j l. mul (mul (later i l) (earlier l j)) (x j)) ∙ regroup)
+      ap (λ z. add z (map_compose k n later earlier i n)) (spread ∙ sum_swap n n (λ j l. mul (mul (later i l) (earlier l j)) (x j))
+      ∙ regroup)
       ∙ ap (add (S (λ l. mul (later i l) (inner l)))) (compose_last n later earlier i)
       ∙ sym (s.add_assoc (S (λ l. mul (later i l) (inner l))) constants (later i n))
       ∙ ap (λ z. add z (later i n)) (sym gather)
@@ -93,10 +99,12 @@ module _ {C : Type 0} {is_element : C → Type 0} {k : Elements C} (s : ElementL
     where
       at : (i < n → IsWordOf k (sum_below k n f)) → (b : Bool) → nat_lt i n ≡ b → IsWordOf k (k.add (sum_below k n f) (f n))
       at front true t = s.add_word (sum_below k n f) (f n) (front (grind (arith, nat_tests)))
-      at front false t = let same : i ≡ n = grind (arith, nat_tests) in word_add (sum_below k n f) (f n) (subst (λ m. IsWordOf k (f m)) same w)
+      at front false t = let same : i ≡ n = grind (arith, nat_tests) in word_add (sum_below k n f) (f n)
+          (subst (λ m. IsWordOf k (f m)) same w)
 
   -- a row with a word, times rows with words, is a row with a word
-  pub compose_has : (n : ℕ) (later earlier : ℕ → ℕ → C) (i : ℕ) → HasWord k n (later i) → ((l : ℕ) → l < n → HasWord k n (earlier l)) → HasWord k n (map_compose k n later earlier i)
+  pub compose_has : (n : ℕ) (later earlier : ℕ → ℕ → C) (i : ℕ) → HasWord k n (later i) → ((l : ℕ) → l < n → HasWord k n (earlier l))
+      → HasWord k n (map_compose k n later earlier i)
   compose_has n later earlier i h rows = place (nat_lt h.0 n) refl
     where
       inner : (j : ℕ) (b : Bool) (p : C) → IsWordOf k p → IsWordOf k (if b then add p (later i n) else p)

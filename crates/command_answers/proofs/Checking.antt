@@ -22,11 +22,13 @@ module _ (own : TypedQuery → Option QueryFault) where
   text_first (Err found) fault is = is
 
   -- a phase that reads the query and refuses it for the text's faults ends as one that also has a check of its own
-  pub text_ends : (before after : Input) (status : Status) → QueryEnds query_fault before after status → QueryEnds (fault_with own) before after status
+  pub text_ends : (before after : Input) (status : Status) → QueryEnds query_fault before after status
+      → QueryEnds (fault_with own) before after status
   text_ends before after statuses.Memory ended = ended
   text_ends before after (statuses.InputFault Query) ended = ended
   text_ends before after (statuses.QueryRefused fault) ended =
-      IfSome-map (λ query. query_fault query ≡ Some fault) (λ query. fault_with own query ≡ Some fault) before.left (λ query is. text_first (accepted query) fault is) ended
+      IfSome-map (λ query. query_fault query ≡ Some fault) (λ query. fault_with own query ≡ Some fault) before.left
+      (λ query is. text_first (accepted query) fault is) ended
   text_ends before after statuses.Ok ended = absurd ended
   text_ends before after statuses.Usage ended = absurd ended
   text_ends before after (statuses.InputFault Trace) ended = absurd ended
@@ -34,7 +36,9 @@ module _ (own : TypedQuery → Option QueryFault) where
   text_ends before after statuses.OutputFault ended = absurd ended
 
   -- an accepted query is refused for the fault that the command finds in it
-  pub own_refused : (left : Option (List ℕ)) (q : TypedQuery) (fault : QueryFault) → IfSome left (λ query. accepted query ≡ Ok q) → own q ≡ Some fault
+  pub own_refused : (left : Option (List ℕ)) (q : TypedQuery) (fault : QueryFault) → IfSome left (λ query. accepted query ≡ Ok q)
+      → own q ≡ Some fault
       → IfSome left (λ query. fault_with own query ≡ Some fault)
   own_refused left q fault known is =
-      IfSome-map (λ query. accepted query ≡ Ok q) (λ query. fault_with own query ≡ Some fault) left (λ query read. ap (fault_after own) read ∙ is) known
+      IfSome-map (λ query. accepted query ≡ Ok q) (λ query. fault_with own query ≡ Some fault) left
+      (λ query read. ap (fault_after own) read ∙ is) known

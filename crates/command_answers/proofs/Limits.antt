@@ -1,5 +1,6 @@
 -- What is read to one byte more than a limit says the same as all the bytes, where all longer texts are alike.
-use Rattle.std.proofs.Common.{inl, inr, ◌≡◌, ℕ, ◌+◌, ◌<◌, ◌≤◌, true, nat_lt, List, length, take, Option, None, Some, IfSome, ap, sym, ◌∙◌, arith, Result, Ok, Err, refl, [], IfErr, subst}
+use Rattle.std.proofs.Common.{inl, inr, ◌≡◌, ℕ, ◌+◌, ◌<◌, ◌≤◌, true, nat_lt, List, length, take, Option, None, Some, IfSome, ap, sym, ◌∙◌}
+use Rattle.std.proofs.Common.{arith, Result, Ok, Err, refl, [], IfErr, subst}
 use Rattle.std.specs.Result.{IsErrAnd}
 use Rattle.std.proofs.lemmas.Bool.Decides.{leb_tells, nat_tests}
 use Rattle.std.proofs.lemmas.Grind.{common_steps}
@@ -40,7 +41,8 @@ test_true m n less = grind (arith, nat_tests)
 abbrev pub IsLimited : {A : Type 0} → ℕ → A → (List ℕ → A) → Type 0
 IsLimited limit beyond f = (bytes : List ℕ) → limit < length bytes → f bytes ≡ beyond
 
-cut_same : {A : Type 0} (limit : ℕ) (beyond : A) (f : List ℕ → A) (bytes : List ℕ) → IsLimited limit beyond f → f bytes ≡ f (take (limit + 1) bytes)
+cut_same : {A : Type 0} (limit : ℕ) (beyond : A) (f : List ℕ → A) (bytes : List ℕ) → IsLimited limit beyond f
+    → f bytes ≡ f (take (limit + 1) bytes)
 cut_same limit beyond f bytes limited =
     elim (leb_tells (length bytes) limit) [
       | inl short ↦ ap f (sym (take_whole limit bytes short.1))
@@ -57,17 +59,20 @@ long_query : IsLimited 65536 (Err (fault_at kinds.QueryTooLong 65536)) accepted
 unfolding accepted
 long_query bytes long = rw (test_true 65536 (length bytes) long) refl
 
-told_query : (left : Option (List ℕ)) (text : List ℕ) → IfSome left (λ bytes. text ≡ take 65537 bytes) → IfSome left (λ bytes. accepted bytes ≡ accepted text)
+told_query : (left : Option (List ℕ)) (text : List ℕ) → IfSome left (λ bytes. text ≡ take 65537 bytes)
+    → IfSome left (λ bytes. accepted bytes ≡ accepted text)
 told_query left text read = told_same 65536 (Err (fault_at kinds.QueryTooLong 65536)) accepted left text long_query read
 
-long_trace : (reads : FieldSet) → IsLimited 268435456 (record { packets = []; fault = Some faults.TraceTooLong }) (λ bytes. contents bytes reads)
+long_trace : (reads : FieldSet) → IsLimited 268435456 (record { packets = []; fault = Some faults.TraceTooLong })
+    (λ bytes. contents bytes reads)
 unfolding contents opening
 long_trace reads bytes long = rw (test_true 268435456 (length bytes) long) refl
 
 told_trace : (reads : FieldSet) (left : Option (List ℕ)) (text : List ℕ) → IfSome left (λ bytes. text ≡ take 268435457 bytes)
     → IfSome left (λ bytes. contents bytes reads ≡ contents text reads)
 told_trace reads left text read =
-    told_same 268435456 (record { packets = []; fault = Some faults.TraceTooLong }) (λ bytes. contents bytes reads) left text (long_trace reads) read
+    told_same 268435456 (record { packets = []; fault = Some faults.TraceTooLong }) (λ bytes. contents bytes reads) left text
+    (long_trace reads) read
 
 -- a fact that follows, where the bytes are known
 pub IfSome-map : {A : Type 0} (P Q : A → Type 0) (o : Option A) → ((x : A) → P x → Q x) → IfSome o P → IfSome o Q
@@ -75,38 +80,49 @@ IfSome-map P Q None f p = tt
 IfSome-map P Q (Some x) f p = f x p
 
 -- What is known of the query of the bytes that were read holds of the query in the input.
-pub told_answer : (P : Checked TypedQuery → Type 0) (left : Option (List ℕ)) (text slice : List ℕ) → IfSome left (λ bytes. text ≡ take 65537 bytes) → slice ≡ text
+pub told_answer : (P : Checked TypedQuery → Type 0) (left : Option (List ℕ)) (text slice : List ℕ)
+    → IfSome left (λ bytes. text ≡ take 65537 bytes) → slice ≡ text
     → P (accepted slice) → IfSome left (λ bytes. P (accepted bytes))
 told_answer P left text slice read same known =
     IfSome-map (λ bytes. accepted bytes ≡ accepted text) (λ bytes. P (accepted bytes)) left
     (λ bytes is. subst P (ap accepted same ∙ sym is) known) (told_query left text read)
 
-pub told_refused : (left : Option (List ℕ)) (text slice : List ℕ) (answer : QueryError) (fault : QueryFault) → IfSome left (λ bytes. text ≡ take 65537 bytes) → slice ≡ text
+pub told_refused : (left : Option (List ℕ)) (text slice : List ℕ) (answer : QueryError) (fault : QueryFault)
+    → IfSome left (λ bytes. text ≡ take 65537 bytes) → slice ≡ text
     → answer ≡ Refused fault → IsAnswerTo slice answer → IfSome left (λ bytes. query_fault bytes ≡ Some fault)
 told_refused left text slice answer fault read same is refused =
     told_answer (λ found. fault_in found ≡ Some fault) left text slice read same (ap fault_in (subst (IsAnswerTo slice) is refused))
 
 -- What is known of the packets and the fault of the bytes that were read holds of the trace in the input.
-pub told_contents : (P : Contents → Type 0) (reads : FieldSet) (left : Option (List ℕ)) (text slice : List ℕ) → IfSome left (λ bytes. text ≡ take 268435457 bytes) → slice ≡ text
+pub told_contents : (P : Contents → Type 0) (reads : FieldSet) (left : Option (List ℕ)) (text slice : List ℕ)
+    → IfSome left (λ bytes. text ≡ take 268435457 bytes) → slice ≡ text
     → P (contents slice reads) → IfSome left (λ bytes. P (contents bytes reads))
 told_contents P reads left text slice read same known =
     IfSome-map (λ bytes. contents bytes reads ≡ contents text reads) (λ bytes. P (contents bytes reads)) left
     (λ bytes is. subst P (ap (λ bytes. contents bytes reads) same ∙ sym is) known) (told_trace reads left text read)
 
 -- how the phase of the trace ends, where the run over its packets broke off with this answer
-pub trace_ends : {O : Type 0} (taken : O → Option (List ℕ)) (faults : O → ℕ) (reads : FieldSet) (fault : Contents → Option TraceFault) (shown : Contents → List ℕ)
+pub trace_ends : {O : Type 0} (taken : O → Option (List ℕ)) (faults : O → ℕ) (reads : FieldSet) (fault : Contents → Option TraceFault)
+    (shown : Contents → List ℕ)
     (before after : Input) (old new : O) (text slice : List ℕ) (answer : RunError)
-    → IfSome before.left (λ bytes. text ≡ take 268435457 bytes) → slice ≡ text → BreaksOff taken faults (shown (contents slice reads)) (fault (contents slice reads)) old new answer
-    → TraceEnds taken faults (λ bytes. fault (contents bytes reads)) (λ bytes. shown (contents bytes reads)) before after old new (status_for answer)
+    → IfSome before.left (λ bytes. text ≡ take 268435457 bytes) → slice ≡ text
+    → BreaksOff taken faults (shown (contents slice reads)) (fault (contents slice reads)) old new answer
+    → TraceEnds taken faults (λ bytes. fault (contents bytes reads)) (λ bytes. shown (contents bytes reads)) before after old new
+    (status_for answer)
 trace_ends taken faults reads fault shown before after old new text slice breaks.Memory read same ended =
-    told_contents (λ found. TakesFront (taken old) (taken new) (text_unless (fault found) (shown found))) reads before.left text slice read same ended
+    told_contents (λ found. TakesFront (taken old) (taken new) (text_unless (fault found) (shown found))) reads before.left text slice read
+    same ended
 trace_ends taken faults reads fault shown before after old new text slice (breaks.Refused refused) read same ended =
     (told_contents (λ found. fault found ≡ Some refused) reads before.left text slice read same ended.0, ended.1)
-trace_ends taken faults reads fault shown before after old new text slice breaks.Failed read same ended =
-    (ended.1, told_contents (λ found. (fault found ≡ None) × TakesFront (taken old) (taken new) (shown found)) reads before.left text slice read same (ended.0, ended.2))
+trace_ends taken faults reads fault shown before after old new text slice breaks.Failed read same ended = (
+  ended.1,
+  told_contents (λ found. (fault found ≡ None) × TakesFront (taken old) (taken new) (shown found)) reads before.left text slice
+      read same (ended.0, ended.2),
+)
 
 -- how the phase that reads the trace ends, where nothing was written
-pub read_ends : {O : Type 0} (taken : O → Option (List ℕ)) (faults : O → ℕ) (fault : List ℕ → Option TraceFault) (shown : List ℕ → List ℕ) (before after : Input) (out : O) (status : Status)
+pub read_ends : {O : Type 0} (taken : O → Option (List ℕ)) (faults : O → ℕ) (fault : List ℕ → Option TraceFault) (shown : List ℕ → List ℕ)
+    (before after : Input) (out : O) (status : Status)
     → ReadEnds before after status → TraceEnds taken faults fault shown before after out out status
 read_ends taken faults fault shown before after out statuses.Memory ended = by_left before.left
   where
@@ -122,7 +138,8 @@ read_ends taken faults fault shown before after out (statuses.TraceRefused found
 read_ends taken faults fault shown before after out statuses.OutputFault ended = absurd ended
 
 -- how a phase that writes ends, where a run over generated packets broke off with this answer
-pub made_ends : {O : Type 0} (taken : O → Option (List ℕ)) (faults : O → ℕ) (text : List ℕ) (old new : O) (answer : RunError) → BreaksOff taken faults text None old new answer
+pub made_ends : {O : Type 0} (taken : O → Option (List ℕ)) (faults : O → ℕ) (text : List ℕ) (old new : O) (answer : RunError)
+    → BreaksOff taken faults text None old new answer
     → WriteEnds taken faults text old new (status_for answer)
 made_ends taken faults text old new breaks.Memory ended = ended
 made_ends taken faults text old new (breaks.Refused found) ended = absurd (no_fault ended.0)
@@ -132,6 +149,7 @@ made_ends taken faults text old new (breaks.Refused found) ended = absurd (no_fa
 made_ends taken faults text old new breaks.Failed ended = (ended.1, ended.2)
 
 -- a fact about the status in a result
-pub err_told : {A : Type 0} (P : Status → Type 0) (result : Result A Status) (status : Status) → IsErrAnd result (λ found. found ≡ status) → P status → IfErr result P
+pub err_told : {A : Type 0} (P : Status → Type 0) (result : Result A Status) (status : Status) → IsErrAnd result (λ found. found ≡ status)
+    → P status → IfErr result P
 err_told P (Ok done) status is known = tt
 err_told P (Err found) status is known = subst P (sym is) known

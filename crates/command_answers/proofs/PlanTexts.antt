@@ -13,13 +13,15 @@ use Rattle.command_answers.specs.Phases.{IsReadFrom}
 use Rattle.command_answers.proofs.Limits.{take_long, take_whole}
 
 -- what was read of a text, to one byte more than the limit, says what the text says
-pub told_says : (left : Option (List ℕ)) (text slice : List ℕ) (made : Made) → IfSome left (λ bytes. text ≡ take 2097153 bytes) → slice ≡ text → Says slice made → IfSome left (λ bytes. Says bytes made)
+pub told_says : (left : Option (List ℕ)) (text slice : List ℕ) (made : Made) → IfSome left (λ bytes. text ≡ take 2097153 bytes)
+    → slice ≡ text → Says slice made → IfSome left (λ bytes. Says bytes made)
 told_says None text slice made read same says = tt
 told_says (Some bytes) text slice made read same says =
     let is : slice ≡ take 2097153 bytes = same ∙ read in
     elim (leb_tells (length bytes) 2097152) [
       | inl short ↦ subst (λ one. Says one made) (is ∙ take_whole 2097152 bytes short.1) says
-      | inr long ↦ absurd (too_long (length slice) says.size (subst (λ one. 2097152 < length one) (sym is) (take_long 2097152 bytes long.1)))
+      | inr long ↦ absurd (too_long (length slice) says.size (subst (λ one. 2097152 < length one) (sym is)
+          (take_long 2097152 bytes long.1)))
     ]
   where
     too_long : (n : ℕ) → n ≤ 2097152 → 2097152 < n → ⊥
@@ -34,7 +36,8 @@ at_the_most text place long (inr short) = absurd (both (length text) short.0 lon
     both n a b = omega arith
 
 -- and it is refused where the text is
-pub told_refusal : (left : Option (List ℕ)) (text slice : List ℕ) (answer : PlanFileAnswer) (fault : QueryFault) → IfSome left (λ bytes. text ≡ take 2097153 bytes) → slice ≡ text
+pub told_refusal : (left : Option (List ℕ)) (text slice : List ℕ) (answer : PlanFileAnswer) (fault : QueryFault)
+    → IfSome left (λ bytes. text ≡ take 2097153 bytes) → slice ≡ text
     → answer ≡ Refused fault → IsRefused slice answer → IfSome left (λ bytes. IsRefused bytes (Refused fault))
 told_refusal None text slice answer fault read same found refused = tt
 told_refusal (Some bytes) text slice answer fault read same found refused =
@@ -42,9 +45,23 @@ told_refusal (Some bytes) text slice answer fault read same found refused =
     let known : IsRefused slice (Refused fault) = subst (IsRefused slice) found refused in
     elim (leb_tells (length bytes) 2097152) [
       | inl short ↦ subst (λ one. IsRefused one (Refused fault)) (is ∙ take_whole 2097152 bytes short.1) known
-      | inr long ↦ (known.0, inl (long.1, at_the_most slice fault.span.start (subst (λ one. 2097152 < length one) (sym is) (take_long 2097152 bytes long.1)) known.1), known.2)
+      | inr long ↦ (
+        known.0,
+        inl (
+          long.1,
+          at_the_most slice fault.span.start
+              (subst (λ one. 2097152 < length one) (sym is) (take_long 2097152 bytes long.1)) known.1,
+        ),
+        known.2,
+      )
     ]
 
 -- the plan that was read comes from the text of the first operand
-pub plan_is_read : (before : Input) (text slice : List ℕ) (loaded : LoadedPlan) → IfSome before.left (λ bytes. text ≡ take 2097153 bytes) → slice ≡ text → IsLoaded slice loaded → IsReadFrom before loaded
-plan_is_read before text slice loaded read same is = record { made = is.made; from = is.from; says = told_says before.left text slice is.made read same is.says }
+pub plan_is_read : (before : Input) (text slice : List ℕ) (loaded : LoadedPlan) → IfSome before.left (λ bytes. text ≡ take 2097153 bytes)
+    → slice ≡ text → IsLoaded slice loaded → IsReadFrom before loaded
+plan_is_read before text slice loaded read same is = record {
+  made = is.made;
+  from = is.from;
+  says =
+      told_says before.left text slice is.made read same is.says;
+}

@@ -1,5 +1,6 @@
 -- Clocks of switches, of which one counts a packet.
-use Rattle.std.proofs.Common.{◌≡◌, ◌≢◌, ℕ, zero, suc, ◌==◌, Bool, true, false, List, [], ◌∷◌, ◌++◌, replicate, set, Some, refl, sym, ap, ◌∙◌, subst, arith}
+use Rattle.std.proofs.Common.{◌≡◌, ◌≢◌, ℕ, zero, suc, ◌==◌, Bool, true, false, List, [], ◌∷◌, ◌++◌, replicate, set, Some, refl, sym, ap}
+use Rattle.std.proofs.Common.{◌∙◌, subst, arith}
 use Rattle.std.specs.Prelude.{slice_get}
 use Rattle.std.proofs.lemmas.Bool.Decides.{nat_tests}
 use Rattle.std.proofs.lemmas.List.{length-set}
@@ -15,7 +16,8 @@ use Rattle.driven_net.specs.Lags.{AreLagClocks, CountsAt, HaveCounted, taken_by}
 use Rattle.driven_net.proofs.Following.{by_on, turn_by}
 
 -- one clock counts
-module _ (clocks : List Clock) (at : ℕ) (old new : Clock) (here : slice_get clocks at ≡ Some old) (counts : (number : ℕ) → HasCounted number old → HasCounted (suc number) new) where
+module _ (clocks : List Clock) (at : ℕ) (old new : Clock) (here : slice_get clocks at ≡ Some old)
+    (counts : (number : ℕ) → HasCounted number old → HasCounted (suc number) new) where
   there : slice_get (set clocks at new) at ≡ Some new
   there = got_set clocks at new (got_within clocks at old here)
 
@@ -42,12 +44,17 @@ module _ (clocks : List Clock) (at : ℕ) (old new : Clock) (here : slice_get cl
         (λ t. ap (λ (k : Clock). k.every) (is_new s clock t e) ∙ (every ∙ are.lags at old here))
         (λ t. are.lags s clock (is_old s clock t e));
     counted = λ s clock e. by_test (s == at)
-        (λ t. let was = are.counted at old here in (suc was.0, subst (HasCounted (suc was.0)) (sym (is_new s clock t e)) (counts was.0 was.1)))
+        (λ t. let was = are.counted at old here in (
+          suc was.0,
+          subst (HasCounted (suc was.0)) (sym (is_new s clock t e))
+              (counts was.0 was.1),
+        ))
         (λ t. are.counted s clock (is_old s clock t e));
   }
 
 -- clocks of which one counted a packet's turn
-pub counted_on : (at : ℕ) (words : List ℕ) (over : Bool) (net : NetworkView) (events : List NetworkEvent) (olds news : List Clock) (old : Clock) → slice_get olds at ≡ Some old → HaveCounted events olds
+pub counted_on : (at : ℕ) (words : List ℕ) (over : Bool) (net : NetworkView) (events : List NetworkEvent) (olds news : List Clock)
+    (old : Clock) → slice_get olds at ≡ Some old → HaveCounted events olds
     → CountsAt at olds news → HaveCounted (events ++ turn_events at words over net) news
 counted_on at words over net events olds news old here counted counts s clock e =
     let a = by_on s events (turn_events at words over net) in
@@ -58,7 +65,8 @@ counted_on at words over net events olds news old here counted counts s clock e 
     let is : own.0 ≡ clock = same_some own.0 clock (sym own.1 ∙ (ap (slice_get news) same ∙ e)) in
     let one : taken_by s (Takes at words ∷ []) ≡ 1 = rw t refl in
     let count : taken_by s (events ++ turn_events at words over net) ≡ suc (taken_by s events) = omega arith in
-    subst (λ n. HasCounted n clock) (ap (λ k. suc (taken_by k events)) same ∙ sym count) (subst (HasCounted (suc (taken_by at events))) is own.2))
+    subst (λ n. HasCounted n clock) (ap (λ k. suc (taken_by k events)) same ∙ sym count)
+    (subst (HasCounted (suc (taken_by at events))) is own.2))
     (λ t. let far : s ≢ at = grind (arith, nat_tests) in
     let none : taken_by s (Takes at words ∷ []) ≡ 0 = rw t refl in
     let count : taken_by s (events ++ turn_events at words over net) ≡ taken_by s events = omega arith in

@@ -1,5 +1,6 @@
 -- Switches that are known, by number.
-use Rattle.std.proofs.Common.{◌≡◌, ◌≢◌, ℕ, suc, ◌<◌, ◌≤◌, Bool, true, false, ◌||◌, ◌==◌, nat_lt, List, [], ◌∷◌, ◌++◌, length, slice_index, ◌⊎◌, inl, inr, Option, Some, None, refl, sym, ap, ◌∙◌, subst, arith, length-append}
+use Rattle.std.proofs.Common.{◌≡◌, ◌≢◌, ℕ, suc, ◌<◌, ◌≤◌, Bool, true, false, ◌||◌, ◌==◌, nat_lt, List, [], ◌∷◌, ◌++◌, length, slice_index}
+use Rattle.std.proofs.Common.{◌⊎◌, inl, inr, Option, Some, None, refl, sym, ap, ◌∙◌, subst, arith, length-append}
 use Rattle.std.specs.Prelude.{slice_get}
 use Rattle.std.specs.List.{list_any}
 use Rattle.std.proofs.lemmas.Bool.{true≢false}
@@ -17,7 +18,8 @@ place_of (other ∷ known) s h = by_test (other == s)
     (λ t. rw t (same_number other s t))
     (λ t. let less : suc (place_among known s) < suc (length known) = rw t at h in rw t (place_of known s (omega arith)))
 
-pub numbered : (known : List ℕ) (packets : List (List ℕ)) → ((s : ℕ) → IsSeen s packets → place_among known s < length known) → AreNumbered (place_among known) packets
+pub numbered : (known : List ℕ) (packets : List (List ℕ)) → ((s : ℕ) → IsSeen s packets → place_among known s < length known)
+    → AreNumbered (place_among known) packets
 numbered known packets h a b sa sb e = sym (place_of known a (h a sa)) ∙ (ap (slice_index known) e ∙ place_of known b (h b sb))
 
 place_within : (known : List ℕ) (s : ℕ) → place_among known s ≤ length known
@@ -28,7 +30,8 @@ pub place_after : (known : List ℕ) (s t : ℕ) → place_among known t < lengt
 place_after [] s t h = absurd (omega arith)
 place_after (other ∷ known) s t h = by_test (other == t)
     (λ e. rw e refl)
-    (λ e. let less : suc (place_among known t) < suc (length known) = rw e at h in rw e (ap (λ n. suc n) (place_after known s t (omega arith))))
+    (λ e. let less : suc (place_among known t) < suc (length known) = rw e at h in rw e
+    (ap (λ n. suc n) (place_after known s t (omega arith))))
 
 place_new : (known : List ℕ) (s : ℕ) → place_among known s ≡ length known → place_among (known ++ s ∷ []) s ≡ length known
 place_new [] s e = let t : (s == s) ≡ true = own_number s in rw t refl
@@ -42,12 +45,14 @@ some_same a b e = cc
 -- what a switch's number says
 pub number_is : (known : List ℕ) (s at : ℕ) → switch_number known s ≡ Some at → (place_among known s ≡ at) × (at < 64)
 number_is known s at e = by_test (nat_lt (place_among known s) 64)
-    (λ t. let same : Some (place_among known s) ≡ Some at = rw t at e in let is = some_same (place_among known s) at same in (is, grind (arith, nat_tests)))
+    (λ t. let same : Some (place_among known s) ≡ Some at = rw t at e in let is =
+    some_same (place_among known s) at same in (is, grind (arith, nat_tests)))
     (λ t. let wrong : None ≡ Some at = rw t at e in cc)
 
 -- a known switch changes nothing
 pub known_same : (known : List ℕ) (s : ℕ) → place_among known s ≢ length known → with_switch known s ≡ known
-known_same known s d = let w = place_within known s in let t : nat_lt (place_among known s) (length known) ≡ true = grind (arith, nat_tests) in rw t refl
+known_same known s d = let w = place_within known s in let t : nat_lt (place_among known s) (length known) ≡ true =
+    grind (arith, nat_tests) in rw t refl
 
 -- a new one goes last
 pub known_more : (known : List ℕ) (s : ℕ) → place_among known s ≡ length known → length known < 64 → with_switch known s ≡ known ++ s ∷ []
@@ -57,7 +62,8 @@ known_more known s e few =
     rw t (rw u refl)
 
 -- then the switch has this number
-pub number_stays : (known : List ℕ) (s at : ℕ) → switch_number known s ≡ Some at → (place_among (with_switch known s) s ≡ at) × (at < length (with_switch known s))
+pub number_stays : (known : List ℕ) (s at : ℕ) → switch_number known s ≡ Some at → (place_among (with_switch known s) s ≡ at)
+    × (at < length (with_switch known s))
 number_stays known s at e =
     let is = number_is known s at e in
     by_test (nat_lt (place_among known s) (length known))
@@ -68,8 +74,11 @@ number_stays known s at e =
     let g : length known ≤ place_among known s = grind (arith, nat_tests) in
     let last : place_among known s ≡ length known = omega arith in
     let more = known_more known s last (let a = is.0 in let b = is.1 in omega arith) in
-    let long = length-append known (s ∷ []) in
-    (ap (λ ks. place_among ks s) more ∙ (place_new known s last ∙ (sym last ∙ is.0)), subst (λ ks. at < length ks) (sym more) (let a = is.0 in omega arith)))
+    let long = length-append known (s ∷ []) in (
+      ap (λ ks. place_among ks s) more ∙ (place_new known s last ∙ (sym last ∙ is.0)),
+      subst (λ ks. at < length ks) (sym more)
+          (let a = is.0 in omega arith),
+    ))
 
 -- packets that are seen
 
@@ -83,7 +92,8 @@ seen_more words packets s seen = or_right (switch_in words == s) (list_any (λ w
 pub seen_first : (words : List ℕ) (packets : List (List ℕ)) → IsSeen (switch_in words) (words ∷ packets)
 seen_first words packets = ap (λ b. b || list_any (λ ws. switch_in ws == switch_in words) packets) (own_number (switch_in words))
 
-pub seen_last : (packets : List (List ℕ)) (words : List ℕ) (s : ℕ) → IsSeen s (packets ++ words ∷ []) → IsSeen s packets ⊎ (switch_in words ≡ s)
+pub seen_last : (packets : List (List ℕ)) (words : List ℕ) (s : ℕ) → IsSeen s (packets ++ words ∷ [])
+    → IsSeen s packets ⊎ (switch_in words ≡ s)
 seen_last [] words s h = by_test (switch_in words == s)
     (λ t. inr (same_number (switch_in words) s t))
     (λ t. absurd (true≢false (sym h ∙ ap (λ b. b || false) t)))
@@ -94,12 +104,14 @@ seen_last (one ∷ packets) words s h = by_test (switch_in one == s)
       | inr same ↦ inr same
     ])
 
-pub steps_same : (number other : ℕ → ℕ) (take : List ℕ → Option Taken) (packets : List (List ℕ)) → ((s : ℕ) → IsSeen s packets → number s ≡ other s)
+pub steps_same : (number other : ℕ → ℕ) (take : List ℕ → Option Taken) (packets : List (List ℕ))
+    → ((s : ℕ) → IsSeen s packets → number s ≡ other s)
     → steps_of number take packets ≡ steps_of other take packets
 steps_same number other take [] h = refl
 steps_same number other take (words ∷ packets) h =
     ap (λ n. record { switch = n; taken = take words } ∷ steps_of number take packets) (h (switch_in words) (seen_first words packets))
-    ∙ ap (λ ss. record { switch = other (switch_in words); taken = take words } ∷ ss) (steps_same number other take packets (λ s seen. h s (seen_more words packets s seen)))
+    ∙ ap (λ ss. record { switch = other (switch_in words); taken = take words } ∷ ss)
+    (steps_same number other take packets (λ s seen. h s (seen_more words packets s seen)))
 
 -- the switch that a packet's words have
 pub switch_is : (words : List ℕ) (found : ℕ) → slice_get words 0 ≡ Some found → found ≡ switch_in words

@@ -1,5 +1,6 @@
 -- The machines of a plan at the end of a trace, groupby by groupby, and what is shown of them.
-use Rattle.std.proofs.Common.{◌≡◌, ℕ, zero, suc, ◌+◌, ◌<◌, List, [], ◌∷◌, ◌++◌, Option, Some, length, map, drop, refl, sym, ap, ◌∙◌, subst, arith}
+use Rattle.std.proofs.Common.{◌≡◌, ℕ, zero, suc, ◌+◌, ◌<◌, List, [], ◌∷◌, ◌++◌, Option, Some, length, map, drop, refl, sym, ap, ◌∙◌, subst}
+use Rattle.std.proofs.Common.{arith}
 use Rattle.std.specs.Prelude.{option_and_then, unwrap_or}
 use Rattle.std.specs.List.{All, slice_get}
 use Rattle.std.proofs.lemmas.List.{length-map}
@@ -50,11 +51,14 @@ got_at (x ∷ xs) (suc i) h = got_at xs i (omega (arith, h))
 abbrev pub FoldAt : List TypedFold → List TypedStream → ℕ → Type 0
 FoldAt folds streams i = (f : TypedFold) × (option_and_then (λ t. slice_get folds t.fold_number) (slice_get (takings streams) i) ≡ Some f)
 
-pub fold_there : (names : ℕ) (folds : List TypedFold) (before streams : List TypedStream) → AreValidStreams names folds before streams → (i : ℕ) → i < length (takings streams) → FoldAt folds streams i
+pub fold_there : (names : ℕ) (folds : List TypedFold) (before streams : List TypedStream) → AreValidStreams names folds before streams
+    → (i : ℕ) → i < length (takings streams) → FoldAt folds streams i
 fold_there names folds before [] valid i h = absurd (omega (arith, h))
-fold_there names folds before (one ∷ streams) valid i h = by_op one.op valid.0.operator (fold_there names folds (before ++ one ∷ []) streams valid.1) i h
+fold_there names folds before (one ∷ streams) valid i h = by_op one.op valid.0.operator
+    (fold_there names folds (before ++ one ∷ []) streams valid.1) i h
   where
-    by_op : (o : TypedOp) → IsValidOp folds before (length one.columns) o → ((j : ℕ) → j < length (takings streams) → FoldAt folds streams j)
+    by_op : (o : TypedOp) → IsValidOp folds before (length one.columns) o
+        → ((j : ℕ) → j < length (takings streams) → FoldAt folds streams j)
         → (j : ℕ) → j < length (takings (record one { op = o } ∷ streams)) → FoldAt folds (record one { op = o } ∷ streams) j
     by_op (op.Filter input condition) v rest j lt = rest j lt
     by_op (op.Map input values) v rest j lt = rest j lt
@@ -62,23 +66,31 @@ fold_there names folds before (one ∷ streams) valid i h = by_op one.op valid.0
     by_op (op.Group input keys f args) v rest zero lt = got_at folds f v.1.is_fold
     by_op (op.Group input keys f args) v rest (suc j) lt = rest j (omega (arith, lt))
 
-module _ (law : TablesGiveBounds) (closed : ClosedGiveTheGroupTable) (order : TakenUsesAreInTrace) (q : TypedQuery) (plan : PlanParts) (buckets : ℕ) (g : Geometry) (packets : List (List ℕ))
+module _ (law : TablesGiveBounds) (closed : ClosedGiveTheGroupTable) (order : TakenUsesAreInTrace) (q : TypedQuery) (plan : PlanParts)
+    (buckets : ℕ) (g : Geometry) (packets : List (List ℕ))
     (valid : IsValidQuery q) (p : IsPlanOf q plan) (sound : IsSoundPlan plan) (room : HasRoom g) (whole : AreWhole packets) where
   in_trace : (i : ℕ) → IsInTrace (length packets) (uses_by plan i packets)
-  in_trace i = subst (λ n. IsInTrace n (uses_by plan i packets)) (length-map packets (taken plan i)) (order.order (map (taken plan i) packets))
+  in_trace i = subst (λ n. IsInTrace n (uses_by plan i packets)) (length-map packets (taken plan i))
+      (order.order (map (taken plan i) packets))
 
   uses_are : (i : ℕ) → i < length plan.groups → uses_by plan i packets ≡ uses q i packets
   uses_are i within = sym (p.takes i packets within whole)
 
   -- the keys of what is taken have as many words as the groupby has keys
-  taken_keys : (i n number : ℕ) (rows : List (List ℕ)) → length (wiring_at plan i).keys ≡ n → All (λ u. length u.key ≡ n) (uses_taken number (map (taken plan i) rows))
+  taken_keys : (i n number : ℕ) (rows : List (List ℕ)) → length (wiring_at plan i).keys ≡ n
+      → All (λ u. length u.key ≡ n) (uses_taken number (map (taken plan i) rows))
   taken_keys i n number [] e = All-nil (λ u. length u.key ≡ n)
   taken_keys i n number (words ∷ rows) e =
       let registers = row_of plan words in
       let later = taken_keys i n (suc number) rows e in
       let rest = uses_taken (suc number) (map (taken plan i) rows) in
       by_test (holds (operand_value registers (wiring_at plan i).present))
-      (λ t. rw t (All-cons (λ u. length u.key ≡ n) (record { packet = number; key = map (operand_value registers) (wiring_at plan i).keys; row = map (operand_value registers) (wiring_at plan i).args }) rest
+      (λ t. rw t (All-cons (λ u. length u.key ≡ n) (record {
+        packet = number;
+        key =
+            map (operand_value registers) (wiring_at plan i).keys;
+        row = map (operand_value registers) (wiring_at plan i).args;
+      }) rest
       (length-map (wiring_at plan i).keys (operand_value registers) ∙ e) later))
       (λ t. rw t later)
 
@@ -91,7 +103,8 @@ module _ (law : TablesGiveBounds) (closed : ClosedGiveTheGroupTable) (order : Ta
     is : shown (table_at i group lane) ≡ enclosed_table (heading_of group) f g (uses q i packets)
 
   one : (i : ℕ) (group : GroupPlan) (lane : LaneView) (f : TypedFold)
-      → IsLaneOf Bounds buckets lane.cache (ghosts.sizes lane.kind) (ghosts.folding lane.kind) (ghosts.open_bound lane.kind) (ghosts.absorb_bound lane.kind) group (wiring_at plan i)
+      → IsLaneOf Bounds buckets lane.cache (ghosts.sizes lane.kind) (ghosts.folding lane.kind) (ghosts.open_bound lane.kind)
+      (ghosts.absorb_bound lane.kind) group (wiring_at plan i)
       → slice_get plan.groups i ≡ Some group → i < length plan.groups → fold_at q i ≡ Some f → IsShown i group lane f
   one i group lane f of_lane at within has =
       let program = p.programs i f group has at in
@@ -100,28 +113,34 @@ module _ (law : TablesGiveBounds) (closed : ClosedGiveTheGroupTable) (order : Ta
       let known = sound.each i group wired.0 at wired.1 in
       let given = uses_by plan i packets in
       let heading = heading_is (14 + length plan.ops) group wired.0 f known program in
-      let words : length (wiring_at plan i).keys ≡ length group.key_names = ap (λ (o : Option GroupWiring). length (unwrap_or {T = GroupWiring} o (record { present = Number 0; keys = []; args = [] })).keys) wired.1 ∙ known.keys in
+      let words : length (wiring_at plan i).keys ≡ length group.key_names =
+      ap (λ (o : Option GroupWiring). length (unwrap_or {T = GroupWiring} o (record { present = Number 0; keys = []; args = [] })).keys)
+      wired.1 ∙ known.keys in
       let same = closed (heading_of group) (folding_at lane) g given (length packets) room (in_trace i) in
       record {
-        may = subst MayBeShown (sym same) (law.may (heading_of group) f (ghosts.sizes lane.kind) (folding_at lane) (ghosts.open_bound lane.kind) (ghosts.absorb_bound lane.kind) g given kind heading program.valid
+        may = subst MayBeShown (sym same) (law.may (heading_of group) f (ghosts.sizes lane.kind) (folding_at lane)
+            (ghosts.open_bound lane.kind) (ghosts.absorb_bound lane.kind) g given kind heading program.valid
             (taken_keys i (length group.key_names) 1 packets words));
         is =
             ap shown same
-            ∙ (law.shown (heading_of group) f (ghosts.sizes lane.kind) (folding_at lane) (ghosts.open_bound lane.kind) (ghosts.absorb_bound lane.kind) g given kind heading
+            ∙ (law.shown (heading_of group) f (ghosts.sizes lane.kind) (folding_at lane) (ghosts.open_bound lane.kind)
+            (ghosts.absorb_bound lane.kind) g given kind heading
             ∙ ap (enclosed_table (heading_of group) f g) (uses_are i within));
       }
 
   -- all of them
   abbrev LanesFrom : ℕ → List LaneView → List GroupPlan → Type 0
   LanesFrom i lanes groups =
-      EachFrom (λ n lane group. IsLaneOf Bounds buckets lane.cache (ghosts.sizes lane.kind) (ghosts.folding lane.kind) (ghosts.open_bound lane.kind) (ghosts.absorb_bound lane.kind) group (wiring_at plan n)) i lanes groups
+      EachFrom (λ n lane group. IsLaneOf Bounds buckets lane.cache (ghosts.sizes lane.kind) (ghosts.folding lane.kind)
+      (ghosts.open_bound lane.kind) (ghosts.absorb_bound lane.kind) group (wiring_at plan n)) i lanes groups
 
   abbrev AreShown : ℕ → List LaneView → List GroupPlan → Type 0
   AreShown i lanes groups =
       let tables = tables_of groups (map folding_at lanes) (ends_from plan g packets i groups) in
       All MayBeShown tables × (map shown tables ≡ enclosed_from q g packets i (map group_shape groups))
 
-  all_from : (i : ℕ) (groups : List GroupPlan) (lanes : List LaneView) → drop i plan.groups ≡ groups → LanesFrom i lanes groups → AreShown i lanes groups
+  all_from : (i : ℕ) (groups : List GroupPlan) (lanes : List LaneView) → drop i plan.groups ≡ groups → LanesFrom i lanes groups
+      → AreShown i lanes groups
   all_from i [] [] e each = (All-nil MayBeShown, refl)
   all_from i [] (lane ∷ lanes) e each = absurd each
   all_from i (group ∷ groups) [] e each = absurd each
@@ -132,22 +151,27 @@ module _ (law : TablesGiveBounds) (closed : ClosedGiveTheGroupTable) (order : Ta
       let next : suc i ≡ i + 1 = omega arith in
       let more = all_from (suc i) groups lanes (ap (λ k. drop k plan.groups) next ∙ at.next) each.1 in
       let rest = tables_of groups (map folding_at lanes) (ends_from plan g packets (suc i) groups) in
-      let parts : enclosed_if q g packets i (group_shape group) (fold_at q i) ≡ enclosed_table (heading_of group) f.0 g (uses q i packets) ∷ [] = ap (enclosed_if q g packets i (group_shape group)) f.1 in (
+      let parts : enclosed_if q g packets i (group_shape group) (fold_at q i) ≡ enclosed_table (heading_of group) f.0 g (uses q i packets)
+      ∷ [] = ap (enclosed_if q g packets i (group_shape group)) f.1 in (
         All-cons MayBeShown (table_at i group lane) rest here.may more.0,
         ap (λ t. t ∷ map shown rest) here.is
             ∙ (ap (λ ts. enclosed_table (heading_of group) f.0 g (uses q i packets) ∷ ts) more.1
             ∙ ap (λ ts. ts ++ enclosed_from q g packets (suc i) (map group_shape groups)) (sym parts)),
       )
 
-  pub all_may : (lanes : List LaneView) → AreLanesOf Bounds plan buckets lanes → All MayBeShown (tables_of plan.groups (map folding_at lanes) (end_machines plan g packets))
+  pub all_may : (lanes : List LaneView) → AreLanesOf Bounds plan buckets lanes
+      → All MayBeShown (tables_of plan.groups (map folding_at lanes) (end_machines plan g packets))
   all_may lanes each = (all_from 0 plan.groups lanes refl each).0
 
-  pub all_shown : (lanes : List LaneView) → AreLanesOf Bounds plan buckets lanes → map shown (tables_of plan.groups (map folding_at lanes) (end_machines plan g packets)) ≡ enclosed_tables q g packets
+  pub all_shown : (lanes : List LaneView) → AreLanesOf Bounds plan buckets lanes
+      → map shown (tables_of plan.groups (map folding_at lanes) (end_machines plan g packets)) ≡ enclosed_tables q g packets
   unfolding enclosed_tables
   all_shown lanes each = (all_from 0 plan.groups lanes refl each).1 ∙ ap (enclosed_from q g packets 0) (ap (λ shape. shape.groups) p.shape)
 
 pub ends_give : TablesGiveBounds → ClosedGiveTheGroupTable → TakenUsesAreInTrace → EndsGiveEnclosedTables
 ends_give law closed order = record {
-  may = λ q plan buckets lanes g packets valid p sound each room whole. all_may law closed order q plan buckets g packets valid p sound room whole lanes each;
-  tables = λ q plan buckets lanes g packets valid p sound each room whole. all_shown law closed order q plan buckets g packets valid p sound room whole lanes each;
+  may = λ q plan buckets lanes g packets valid p sound each room whole. all_may law closed order q plan buckets g packets valid p sound room
+      whole lanes each;
+  tables = λ q plan buckets lanes g packets valid p sound each room whole. all_shown law closed order q plan buckets g packets valid p sound
+      room whole lanes each;
 }

@@ -8,7 +8,8 @@ use Rattle.stage_plan.specs.Sound.{IsSoundGroup}
 use Rattle.switch_core.specs.Pipelines.{heading_of}
 use Rattle.enclosure_folds.specs.Shown.{IsHeadingOf}
 
-pub heading_is : (registers : ℕ) (group : GroupPlan) (wiring : GroupWiring) (f : TypedFold) → IsSoundGroup registers group wiring → IsProgramOf f group.program → IsHeadingOf f (heading_of group)
+pub heading_is : (registers : ℕ) (group : GroupPlan) (wiring : GroupWiring) (f : TypedFold) → IsSoundGroup registers group wiring
+    → IsProgramOf f group.program → IsHeadingOf f (heading_of group)
 heading_is registers group wiring f known program = record {
   class = program.class;
   states = known.states ∙ (ap (λ l. length l) program.layout.initial ∙ program.valid.starts);

@@ -1,5 +1,6 @@
 -- What is shown of each groupby holds over all packets.
-use Rattle.std.proofs.Common.{◌≡◌, ℕ, zero, suc, ◌+◌, ◌<◌, List, [], ◌∷◌, ◌++◌, Option, Some, None, length, get_or, map, true, refl, sym, ap, ◌∙◌, subst, arith, if◌then◌else◌}
+use Rattle.std.proofs.Common.{◌≡◌, ℕ, zero, suc, ◌+◌, ◌<◌, List, [], ◌∷◌, ◌++◌, Option, Some, None, length, get_or, map, true, refl, sym}
+use Rattle.std.proofs.Common.{ap, ◌∙◌, subst, arith, if◌then◌else◌}
 use Rattle.std.specs.Prelude.{option_and_then}
 use Rattle.std.specs.List.{All, filter, flat_map, slice_get}
 use Rattle.std.proofs.lemmas.List.{length-map}
@@ -58,11 +59,13 @@ module _ (f : TypedFold) (g : Geometry) (given : List Use) where
 
   one_whole_row : class_of f ≡ Linear → (key : Key) → key_rows (folding_of f) g given key ≡ whole_row key ∷ []
   one_whole_row e key =
-      ap (λ c. if per_epoch c then epoch_rows (folding_of f) key (length (epochs g given key)) 1 (epochs g given key) else (whole_row key ∷ [])) e
+      ap (λ c. if per_epoch c then epoch_rows (folding_of f) key (length (epochs g given key)) 1 (epochs g given key) else
+      (whole_row key ∷ [])) e
 
   whole_rows : class_of f ≡ Linear → (keys : List Key) → flat_map (key_rows (folding_of f) g given) keys ≡ map whole_row keys
   whole_rows e [] = refl
-  whole_rows e (key ∷ keys) = ap (λ rows. rows ++ flat_map (key_rows (folding_of f) g given) keys) (one_whole_row e key) ∙ ap (λ rows. whole_row key ∷ rows) (whole_rows e keys)
+  whole_rows e (key ∷ keys) = ap (λ rows. rows ++ flat_map (key_rows (folding_of f) g given) keys) (one_whole_row e key)
+      ∙ ap (λ rows. whole_row key ∷ rows) (whole_rows e keys)
 
   keys_whole : (keys : List Key) → map (λ (row : Row). row.key) (map whole_row keys) ≡ keys
   keys_whole [] = refl
@@ -79,15 +82,18 @@ module _ (f : TypedFold) (g : Geometry) (given : List Use) where
   abbrev BoundsHold : BoundsRow → Type 0
   BoundsHold row = Encloses row.low row.high (key_fold f given row.key)
 
-  rows_bounded : KeyBoundsEnclose → IsValidFold f → is_bounded Other f ≡ true → AreWords (initial_state f) → All (λ (u : Use). AreWords u.row) given → All BoundsHold (map (key_bounds f g given) (keys_used given))
+  rows_bounded : KeyBoundsEnclose → IsValidFold f → is_bounded Other f ≡ true → AreWords (initial_state f)
+      → All (λ (u : Use). AreWords u.row) given → All BoundsHold (map (key_bounds f g given) (keys_used given))
   rows_bounded law valid mono words rows =
       All-map BoundsHold (key_bounds f g given) (keys_used given)
       (λ k d lt. let key = get_or (keys_used given) k d in
       law f g given key valid mono words
-      (All-map AreWords (λ (u : Use). u.row) (filter (is_use_of key) given) (All-filter (is_use_of key) (λ (u : Use). AreWords u.row) given rows))
+      (All-map AreWords (λ (u : Use). u.row) (filter (is_use_of key) given)
+      (All-filter (is_use_of key) (λ (u : Use). AreWords u.row) given rows))
       (some_rows given k d lt))
 
-  one_holds : KeyBoundsEnclose → IsValidFold f → is_bounded (class_of f) f ≡ true → AreWords (initial_state f) → All (λ (u : Use). AreWords u.row) given
+  one_holds : KeyBoundsEnclose → IsValidFold f → is_bounded (class_of f) f ≡ true → AreWords (initial_state f)
+      → All (λ (u : Use). AreWords u.row) given
       → (heading : Heading) (class : Class) → class_of f ≡ class → HoldsOver f given (enclosed_by class heading f g given)
   one_holds law valid bounded words rows heading Linear e = record {
     keys = ap (map (λ (row : Row). row.key)) (whole_rows e (keys_used given)) ∙ keys_whole (keys_used given);
@@ -107,24 +113,29 @@ module _ (q : TypedQuery) (g : Geometry) (packets : List (List ℕ)) (number : �
   abbrev IsShownBy : Enclosed → Type 0
   IsShownBy t = (shape : GroupShape) × (t ≡ enclosed_table (heading_of shape) f g (uses q number packets))
 
-  shown_at : ((j : ℕ) → j < number → (h : TypedFold) × (fold_at q j ≡ Some h)) → (start : ℕ) (shapes : List GroupShape) (n : ℕ) (t : Enclosed) → number ≡ start + n
+  shown_at : ((j : ℕ) → j < number → (h : TypedFold) × (fold_at q j ≡ Some h))
+      → (start : ℕ) (shapes : List GroupShape) (n : ℕ) (t : Enclosed) → number ≡ start + n
       → slice_get (enclosed_from q g packets start shapes) n ≡ Some t → IsShownBy t
   shown_at before start [] n t e found = absurd cc
   shown_at before start (shape ∷ shapes) zero t e found =
       let same : start ≡ number = omega (arith, e) in
-      let here : enclosed_if q g packets start shape (fold_at q start) ≡ enclosed_table (heading_of shape) f g (uses q number packets) ∷ [] =
+      let here : enclosed_if q g packets start shape (fold_at q start) ≡ enclosed_table (heading_of shape) f g (uses q number packets)
+      ∷ [] =
       ap (λ i. enclosed_if q g packets i shape (fold_at q i)) same ∙ ap (enclosed_if q g packets number shape) at in
       (shape, first_is (sym (ap (λ ts. slice_get (ts ++ enclosed_from q g packets (suc start) shapes) 0) here) ∙ found))
   shown_at before start (shape ∷ shapes) (suc n) t e found =
       let h = before start (omega (arith, e)) in
-      let here : enclosed_if q g packets start shape (fold_at q start) ≡ enclosed_table (heading_of shape) h.0 g (uses q start packets) ∷ [] = ap (enclosed_if q g packets start shape) h.1 in
-      shown_at before (suc start) shapes n t (omega (arith, e)) (sym (ap (λ ts. slice_get (ts ++ enclosed_from q g packets (suc start) shapes) (suc n)) here) ∙ found)
+      let here : enclosed_if q g packets start shape (fold_at q start) ≡ enclosed_table (heading_of shape) h.0 g (uses q start packets)
+      ∷ [] = ap (enclosed_if q g packets start shape) h.1 in
+      shown_at before (suc start) shapes n t (omega (arith, e)) (sym (ap
+      (λ ts. slice_get (ts ++ enclosed_from q g packets (suc start) shapes) (suc n)) here) ∙ found)
 
 -- a fold that is there is one of the query's
 within_takings : (q : TypedQuery) (i : ℕ) (f : TypedFold) → fold_at q i ≡ Some f → i < length (takings q.streams)
 within_takings q i f e = by_taking (slice_get (takings q.streams) i) refl e
   where
-    by_taking : (o : Option Taking) → slice_get (takings q.streams) i ≡ o → option_and_then (λ (t : Taking). slice_get q.folds t.fold_number) o ≡ Some f → i < length (takings q.streams)
+    by_taking : (o : Option Taking) → slice_get (takings q.streams) i ≡ o
+        → option_and_then (λ (t : Taking). slice_get q.folds t.fold_number) o ≡ Some f → i < length (takings q.streams)
     by_taking None is e = absurd cc
     by_taking (Some t) is e = slice_get_within (takings q.streams) i t is
 
@@ -133,13 +144,16 @@ one_of P q i f all e = by_taking (slice_get (takings q.streams) i) e
   where
     by_taking : (o : Option Taking) → option_and_then (λ (t : Taking). slice_get q.folds t.fold_number) o ≡ Some f → P f
     by_taking None e = absurd cc
-    by_taking (Some t) e = subst P (get_or_from_slice_get q.folds t.fold_number f f e) (all t.fold_number f (slice_get_within q.folds t.fold_number f e))
+    by_taking (Some t) e = subst P (get_or_from_slice_get q.folds t.fold_number f f e)
+        (all t.fold_number f (slice_get_within q.folds t.fold_number f e))
 
 pub tables_hold : KeyBoundsEnclose → NoFaultMeansBounds → ShownTablesHold
 unfolding enclosed_tables
 tables_hold law no_fault q g packets valid none words packets_words i f t at found =
     let within = within_takings q i f at in
-    let shown = shown_at q g packets i f at (λ j lt. fold_there (length q.names) q.folds [] q.streams valid.streams j (omega (arith, lt, within))) 0 (query_groups q) i t (omega arith) found in
+    let shown = shown_at q g packets i f at (λ j lt. fold_there (length q.names) q.folds [] q.streams valid.streams j
+    (omega (arith, lt, within))) 0 (query_groups q) i t (omega arith) found in
     subst (HoldsOver f (uses q i packets)) (sym shown.1)
-    (one_holds f g (uses q i packets) law (one_of IsValidFold q i f valid.folds at) (no_fault q i f none at) (one_of (λ (h : TypedFold). AreWords (initial_state h)) q i f words at)
+    (one_holds f g (uses q i packets) law (one_of IsValidFold q i f valid.folds at) (no_fault q i f none at)
+    (one_of (λ (h : TypedFold). AreWords (initial_state h)) q i f words at)
     (uses_words q i packets valid packets_words) (heading_of shown.0) (class_of f) refl)

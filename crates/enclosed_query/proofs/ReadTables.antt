@@ -32,20 +32,25 @@ use Rattle.enclosed_query.specs.EnclosedTables.{enclosed_if, enclosed_from, encl
 use Rattle.enclosed_query.specs.Reading.{IsWhole, EnclosedTablesAreRead}
 
 -- the keys of rows of bounds
-pub keys_bounded : (f : TypedFold) (g : Geometry) (given : List Use) (keys : List Key) → map (λ (row : BoundsRow). row.key) (map (key_bounds f g given) keys) ≡ keys
+pub keys_bounded : (f : TypedFold) (g : Geometry) (given : List Use) (keys : List Key)
+    → map (λ (row : BoundsRow). row.key) (map (key_bounds f g given) keys) ≡ keys
 keys_bounded f g given [] = refl
 keys_bounded f g given (key ∷ keys) = ap (λ ks. key ∷ ks) (keys_bounded f g given keys)
 
 module _ (exact : ExactTablesAreRead) (q : TypedQuery) (g : Geometry) (packets : List (List ℕ)) where
-  one_read : (class : Class) (shape : GroupShape) (f : TypedFold) (given : List Use) → IsTable (group_table (heading_of shape) (folding_of f) g given)
+  one_read : (class : Class) (shape : GroupShape) (f : TypedFold) (given : List Use)
+      → IsTable (group_table (heading_of shape) (folding_of f) g given)
       → IsWhole (enclosed_by class (heading_of shape) f g given) → IsTable (table_read (enclosed_by class (heading_of shape) f g given))
   one_read Linear shape f given table whole = table
   one_read Other shape f given table whole =
-      exact (bounds_table (heading_of shape) f g given) whole (subst IsAscending (sym (keys_bounded f g given (keys_used given))) (ascending-ascends (map (λ u. u.key) given)))
+      exact (bounds_table (heading_of shape) f g given) whole (subst IsAscending (sym (keys_bounded f g given (keys_used given)))
+      (ascending-ascends (map (λ u. u.key) given)))
 
   read_if : (o : Option TypedFold) (i : ℕ) (shape : GroupShape) (shapes : List GroupShape)
-      → (All IsTable (tables_from q g packets (suc i) shapes) → All IsWhole (enclosed_from q g packets (suc i) shapes) → All IsTable (map table_read (enclosed_from q g packets (suc i) shapes)))
-      → All IsTable (table_if q g packets i shape o ++ tables_from q g packets (suc i) shapes) → All IsWhole (enclosed_if q g packets i shape o ++ enclosed_from q g packets (suc i) shapes)
+      → (All IsTable (tables_from q g packets (suc i) shapes) → All IsWhole (enclosed_from q g packets (suc i) shapes)
+      → All IsTable (map table_read (enclosed_from q g packets (suc i) shapes)))
+      → All IsTable (table_if q g packets i shape o ++ tables_from q g packets (suc i) shapes)
+      → All IsWhole (enclosed_if q g packets i shape o ++ enclosed_from q g packets (suc i) shapes)
       → All IsTable (map table_read (enclosed_if q g packets i shape o ++ enclosed_from q g packets (suc i) shapes))
   read_if None i shape shapes later tables whole = later tables whole
   read_if (Some f) i shape shapes later tables whole =
@@ -53,33 +58,40 @@ module _ (exact : ExactTablesAreRead) (q : TypedQuery) (g : Geometry) (packets :
       let here = enclosed_by (class_of f) (heading_of shape) f g (uses q i packets) in
       let more = tables_from q g packets (suc i) shapes in
       let rest = enclosed_from q g packets (suc i) shapes in
-      All-cons IsTable (table_read here) (map table_read rest) (one_read (class_of f) shape f (uses q i packets) (All-head IsTable table more tables) (All-head IsWhole here rest whole))
+      All-cons IsTable (table_read here) (map table_read rest) (one_read (class_of f) shape f (uses q i packets)
+      (All-head IsTable table more tables) (All-head IsWhole here rest whole))
       (later (All-tail IsTable table more tables) (All-tail IsWhole here rest whole))
 
-  read_from : (i : ℕ) (shapes : List GroupShape) → All IsTable (tables_from q g packets i shapes) → All IsWhole (enclosed_from q g packets i shapes) → All IsTable (map table_read (enclosed_from q g packets i shapes))
+  read_from : (i : ℕ) (shapes : List GroupShape) → All IsTable (tables_from q g packets i shapes)
+      → All IsWhole (enclosed_from q g packets i shapes) → All IsTable (map table_read (enclosed_from q g packets i shapes))
   read_from i [] tables whole = All-nil IsTable
   read_from i (shape ∷ shapes) tables whole = read_if (fold_at q i) i shape shapes (read_from (suc i) shapes) tables whole
 
 module _ (q : TypedQuery) (g : Geometry) (packets : List (List ℕ)) where
   one_shape : (class : Class) (shape : GroupShape) (f : TypedFold) (given : List Use)
-      → table_shape (table_read (enclosed_by class (heading_of shape) f g given)) ≡ table_shape (group_table (heading_of shape) (folding_of f) g given)
+      → table_shape (table_read (enclosed_by class (heading_of shape) f g given)) ≡ table_shape
+      (group_table (heading_of shape) (folding_of f) g given)
   one_shape Linear shape f given = refl
   one_shape Other shape f given = refl
 
   shapes_if : (o : Option TypedFold) (i : ℕ) (shape : GroupShape) (shapes : List GroupShape)
-      → map table_shape (map table_read (enclosed_from q g packets (suc i) shapes)) ≡ map table_shape (tables_from q g packets (suc i) shapes)
-      → map table_shape (map table_read (enclosed_if q g packets i shape o ++ enclosed_from q g packets (suc i) shapes)) ≡ map table_shape (table_if q g packets i shape o ++ tables_from q g packets (suc i) shapes)
+      → map table_shape (map table_read (enclosed_from q g packets (suc i) shapes)) ≡ map table_shape
+      (tables_from q g packets (suc i) shapes)
+      → map table_shape (map table_read (enclosed_if q g packets i shape o ++ enclosed_from q g packets (suc i) shapes)) ≡ map table_shape
+      (table_if q g packets i shape o ++ tables_from q g packets (suc i) shapes)
   shapes_if None i shape shapes later = later
   shapes_if (Some f) i shape shapes later =
       let rest = map table_shape (map table_read (enclosed_from q g packets (suc i) shapes)) in
       ap (λ s. s ∷ rest) (one_shape (class_of f) shape f (uses q i packets))
       ∙ ap (λ ss. table_shape (group_table (heading_of shape) (folding_of f) g (uses q i packets)) ∷ ss) later
 
-  shapes_from : (i : ℕ) (shapes : List GroupShape) → map table_shape (map table_read (enclosed_from q g packets i shapes)) ≡ map table_shape (tables_from q g packets i shapes)
+  shapes_from : (i : ℕ) (shapes : List GroupShape) → map table_shape (map table_read (enclosed_from q g packets i shapes)) ≡ map table_shape
+      (tables_from q g packets i shapes)
   shapes_from i [] = refl
   shapes_from i (shape ∷ shapes) = shapes_if (fold_at q i) i shape shapes (shapes_from (suc i) shapes)
 
-all_read : QueryTablesAreRead → ExactTablesAreRead → (q : TypedQuery) (g : Geometry) (packets : List (List ℕ)) → IsValidQuery q → All IsWhole (enclosed_tables q g packets)
+all_read : QueryTablesAreRead → ExactTablesAreRead → (q : TypedQuery) (g : Geometry) (packets : List (List ℕ)) → IsValidQuery q
+    → All IsWhole (enclosed_tables q g packets)
     → All IsTable (map table_read (enclosed_tables q g packets))
 unfolding enclosed_tables group_tables
 all_read law exact q g packets valid whole = read_from exact q g packets 0 (query_groups q) (law q g packets valid).0 whole
@@ -102,4 +114,5 @@ one_whole law Final t may = tt
 pub all_whole : TriplesGiveWholeTables → (tables : List Table) → All MayBeShown tables → All IsWhole (map shown tables)
 all_whole law [] may = All-nil IsWhole
 all_whole law (t ∷ tables) may =
-    All-cons IsWhole (shown t) (map shown tables) (one_whole law t.kind t (All-head MayBeShown t tables may)) (all_whole law tables (All-tail MayBeShown t tables may))
+    All-cons IsWhole (shown t) (map shown tables) (one_whole law t.kind t (All-head MayBeShown t tables may))
+    (all_whole law tables (All-tail MayBeShown t tables may))

@@ -1,5 +1,6 @@
 -- The texts of tables in two parts are those of what is shown.
-use Rattle.std.proofs.Common.{◌≡◌, ℕ, zero, suc, List, [], ◌∷◌, ◌++◌, Option, None, Some, length, map, drop, refl, sym, ap, ap₂, ◌∙◌, append-nil, append_assoc}
+use Rattle.std.proofs.Common.{◌≡◌, ℕ, zero, suc, List, [], ◌∷◌, ◌++◌, Option, None, Some, length, map, drop, refl, sym, ap, ap₂, ◌∙◌}
+use Rattle.std.proofs.Common.{append-nil, append_assoc}
 use Rattle.std.specs.Prelude.{option_map, unwrap_or}
 use Rattle.std.specs.List.{All, flat_map, slice_get}
 use Rattle.std.proofs.Math.Seq.{drop-append_seam}
@@ -24,7 +25,8 @@ use Rattle.enclosed_query.specs.Parts.{IsWholeIfThere, bounds_at, bounds_shown, 
 use Rattle.enclosed_query.specs.Reading.{IsWhole}
 
 -- a table that has no bounds
-pub table_text_at : (bounds : List (Option BoundsTable)) (tables : List Table) (n : ℕ) (t : Table) → slice_get tables n ≡ Some t → bounds_at bounds n ≡ None → text_at bounds tables n ≡ table_text t
+pub table_text_at : (bounds : List (Option BoundsTable)) (tables : List Table) (n : ℕ) (t : Table) → slice_get tables n ≡ Some t
+    → bounds_at bounds n ≡ None → text_at bounds tables n ≡ table_text t
 table_text_at bounds tables n t is none = ap₂ (λ b t. unwrap_or (option_map (text_shown b) t) []) none is
 
 -- the text of the table with this number, by what is shown of groupbys and other tables after these
@@ -32,7 +34,8 @@ table_text_at bounds tables n t is none = ap₂ (λ b t. unwrap_or (option_map (
 abbrev text_in : List Enclosed → List Table → ℕ → List ℕ
 text_in groups rest n = unwrap_or (slice_get (map shown_text groups ++ map table_text rest) n) []
 
-parts_at : (groups : List Enclosed) (rest : List Table) (n : ℕ) → text_at (map bounds_shown groups) (map table_read groups ++ rest) n ≡ text_in groups rest n
+parts_at : (groups : List Enclosed) (rest : List Table) (n : ℕ) → text_at (map bounds_shown groups) (map table_read groups ++ rest) n
+    ≡ text_in groups rest n
 parts_at [] rest n = ap (λ o. unwrap_or o []) (sym (slice_get-map table_text rest n))
 parts_at (Linear t ∷ groups) rest zero = refl
 parts_at (Bounds t ∷ groups) rest zero = refl
@@ -40,7 +43,8 @@ parts_at (one ∷ groups) rest (suc n) = parts_at groups rest n
 
 -- finals leave the tables before them unchanged
 
-others_after : (names : List (List ℕ)) (folds : List TypedFold) (tables : List Table) (finals : List TypedFinal) → (rest : List Table) × (with_finals names folds tables finals ≡ tables ++ rest)
+others_after : (names : List (List ℕ)) (folds : List TypedFold) (tables : List Table) (finals : List TypedFinal) → (rest : List Table)
+    × (with_finals names folds tables finals ≡ tables ++ rest)
 others_after names folds tables [] = ([], sym (append-nil tables))
 others_after names folds tables (one ∷ finals) =
     let made = final_table names folds tables one in
@@ -64,36 +68,45 @@ module _ (q : TypedQuery) (groups : List Enclosed) where
       ∙ (parts_at groups (drop (length (map table_read groups)) all_tables) n
       ∙ ap (λ k. unwrap_or (slice_get (map shown_text groups ++ map table_text (drop k all_tables)) n) []) (length-map groups table_read))
 
-  all_prints : (prints : List PrintOf) → flat_map (λ one. text_at (map bounds_shown groups) all_tables (table_number (length (takings q.streams)) one)) prints
+  all_prints : (prints : List PrintOf) → flat_map (λ one. text_at (map bounds_shown groups) all_tables
+      (table_number (length (takings q.streams)) one)) prints
       ≡ flat_map (λ one. unwrap_or (slice_get (all_texts q groups) (table_number (length (takings q.streams)) one)) []) prints
   all_prints [] = refl
   all_prints (one ∷ prints) =
       let number = table_number (length (takings q.streams)) one in
-      ap (λ text. text ++ flat_map (λ (p : PrintOf). text_at (map bounds_shown groups) all_tables (table_number (length (takings q.streams)) p)) prints) (one_text number)
+      ap (λ text. text ++ flat_map (λ (p : PrintOf). text_at (map bounds_shown groups) all_tables
+      (table_number (length (takings q.streams)) p)) prints) (one_text number)
       ∙ ap (λ texts. unwrap_or (slice_get (all_texts q groups) number) [] ++ texts) (all_prints prints)
 
-  prints_are : flat_map (λ one. text_at (map bounds_shown groups) all_tables (table_number (length (takings q.streams)) one)) q.prints ≡ enclosed_print q groups
+  prints_are : flat_map (λ one. text_at (map bounds_shown groups) all_tables (table_number (length (takings q.streams)) one)) q.prints
+      ≡ enclosed_print q groups
   prints_are = all_prints q.prints
 
 -- by the parts of what is shown, and the finals after them
-pub texts_are : (q : TypedQuery) (groups : List Enclosed) (count : ℕ) (bounds : List (Option BoundsTable)) (read tables : List Table) (prints : List PrintOf)
-    → count ≡ length groups → map table_shape (map table_read groups) ≡ map (group_shape q.folds) (takings q.streams) → bounds ≡ map bounds_shown groups → read ≡ map table_read groups
+pub texts_are : (q : TypedQuery) (groups : List Enclosed) (count : ℕ) (bounds : List (Option BoundsTable)) (read tables : List Table)
+    (prints : List PrintOf)
+    → count ≡ length groups → map table_shape (map table_read groups) ≡ map (group_shape q.folds) (takings q.streams)
+    → bounds ≡ map bounds_shown groups → read ≡ map table_read groups
     → tables ≡ with_finals q.names q.folds read q.finals → prints ≡ q.prints
     → flat_map (λ one. text_at bounds tables (table_number count one)) prints ≡ enclosed_print q groups
 texts_are q groups count bounds read tables prints count_is shapes bounds_are read_are tables_are all =
     let taken : count ≡ length (takings q.streams) =
-    count_is ∙ (sym (length-map groups table_read) ∙ (sym (length-map (map table_read groups) table_shape) ∙ (ap (λ ss. length ss) shapes ∙ length-map (takings q.streams) (group_shape q.folds)))) in
+    count_is ∙ (sym (length-map groups table_read) ∙ (sym (length-map (map table_read groups) table_shape)
+    ∙ (ap (λ ss. length ss) shapes ∙ length-map (takings q.streams) (group_shape q.folds)))) in
     ap (λ n. flat_map (λ one. text_at bounds tables (table_number n one)) prints) taken
     ∙ (ap (λ bs. flat_map (λ one. text_at bs tables (table_number (length (takings q.streams)) one)) prints) bounds_are
-    ∙ (ap (λ ts. flat_map (λ one. text_at (map bounds_shown groups) ts (table_number (length (takings q.streams)) one)) prints) (tables_are ∙ ap (λ ts. with_finals q.names q.folds ts q.finals) read_are)
-    ∙ (ap (flat_map (λ one. text_at (map bounds_shown groups) (with_finals q.names q.folds (map table_read groups) q.finals) (table_number (length (takings q.streams)) one))) all
+    ∙ (ap (λ ts. flat_map (λ one. text_at (map bounds_shown groups) ts (table_number (length (takings q.streams)) one)) prints)
+    (tables_are ∙ ap (λ ts. with_finals q.names q.folds ts q.finals) read_are)
+    ∙ (ap (flat_map (λ one. text_at (map bounds_shown groups) (with_finals q.names q.folds (map table_read groups) q.finals)
+    (table_number (length (takings q.streams)) one))) all
     ∙ prints_are q groups)))
 
 -- the bounds that are shown are whole
 pub whole_parts : (groups : List Enclosed) → All IsWhole groups → All IsWholeIfThere (map bounds_shown groups)
 whole_parts [] whole = All-nil IsWholeIfThere
 whole_parts (one ∷ groups) whole =
-    All-cons IsWholeIfThere (bounds_shown one) (map bounds_shown groups) (by_one one (All-head IsWhole one groups whole)) (whole_parts groups (All-tail IsWhole one groups whole))
+    All-cons IsWholeIfThere (bounds_shown one) (map bounds_shown groups) (by_one one (All-head IsWhole one groups whole))
+    (whole_parts groups (All-tail IsWhole one groups whole))
   where
     by_one : (one : Enclosed) → IsWhole one → IsWholeIfThere (bounds_shown one)
     by_one (Linear t) w = tt

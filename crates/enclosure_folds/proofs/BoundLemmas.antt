@@ -1,5 +1,6 @@
 -- The bounds of a key enclose the fold over all of its rows.
-use Rattle.std.proofs.Common.{◌≡◌, ℕ, suc, ◌<◌, true, List, [], ◌∷◌, ◌++◌, All, length, map, refl, sym, ap, ◌∙◌, subst, arith, length-append, if◌then◌else◌}
+use Rattle.std.proofs.Common.{◌≡◌, ℕ, suc, ◌<◌, true, List, [], ◌∷◌, ◌++◌, All, length, map, refl, sym, ap, ◌∙◌, subst, arith}
+use Rattle.std.proofs.Common.{length-append, if◌then◌else◌}
 use Rattle.std.specs.Prelude.{fold, filter}
 use Rattle.std.proofs.Math.Nat.{le_refl}
 use Rattle.std.proofs.lemmas.List.{get_or_append_left, append-nil, append_assoc, length-map, length-replicate}
@@ -57,16 +58,24 @@ module _ (f : TypedFold) (valid : IsValidFold f) (mono : is_monotone f ≡ true)
   long_least rows = length-folded f (least_state f) rows ∙ length-replicate {A = ℕ} n 0
 
   -- one epoch
-  alone : (rows : List ArgRow) → Encloses (first_third n (bounds_after f rows)) (first_third n (bounds_after f rows)) (folded f (initial_state f) (rows ++ []))
+  alone : (rows : List ArgRow) → Encloses (first_third n (bounds_after f rows)) (first_third n (bounds_after f rows))
+      (folded f (initial_state f) (rows ++ []))
   alone rows =
       let state = folded f (initial_state f) rows in
-      let here : first_third n (bounds_after f rows) ≡ state = first_is n state (folded f (least_state f) rows) (folded f (greatest_state f) rows) (long_first rows) in
+      let here : first_third n (bounds_after f rows) ≡ state = first_is n state (folded f (least_state f) rows)
+      (folded f (greatest_state f) rows) (long_first rows) in
       let all : folded f (initial_state f) (rows ++ []) ≡ state = ap (folded f (initial_state f)) (append-nil rows) in
-      let same : Encloses state state state = record { above = at_most_same state; below = at_most_same state; exact = λ e. (refl, refl) } in
+      let same : Encloses state state state = record {
+        above = at_most_same state;
+        below = at_most_same state;
+        exact =
+            λ e. (refl, refl);
+      } in
       subst (λ z. Encloses z z (folded f (initial_state f) (rows ++ []))) (sym here) (subst (Encloses state state) (sym all) same)
 
   -- the last of several
-  by_last : (earlier last : List ArgRow) → All AreWords earlier → Encloses (folded f (least_state f) last) (folded f (greatest_state f) last) (folded f (initial_state f) (earlier ++ last))
+  by_last : (earlier last : List ArgRow) → All AreWords earlier → Encloses (folded f (least_state f) last)
+      (folded f (greatest_state f) last) (folded f (initial_state f) (earlier ++ last))
   by_last earlier last rows = record {
     above = Enclosure.least_below f earlier last valid mono;
     below = Enclosure.greatest_above f earlier last valid mono words rows;
@@ -76,7 +85,8 @@ module _ (f : TypedFold) (valid : IsValidFold f) (mono : is_monotone f ≡ true)
         (sym all, sym same ∙ sym all);
   }
 
-  several : (last : List ArgRow) (triple : List ℕ) (all earlier : List ArgRow) → triple ≡ bounds_after f last → all ≡ earlier ++ last → All AreWords all →
+  several : (last : List ArgRow) (triple : List ℕ) (all earlier : List ArgRow) → triple ≡ bounds_after f last → all ≡ earlier ++ last
+      → All AreWords all →
       Encloses (second_third n triple) (last_third n triple) (folded f (initial_state f) all)
   several last triple all earlier et ea rows =
       let a = folded f (initial_state f) last in
@@ -86,15 +96,18 @@ module _ (f : TypedFold) (valid : IsValidFold f) (mono : is_monotone f ≡ true)
       let high : last_third n triple ≡ c = ap (last_third n) et ∙ last_is n a b c (long_first last) (long_least last) in
       let base = by_last earlier last (all_front earlier last (subst (All AreWords) ea rows)) in
       subst (λ z. Encloses z (last_third n triple) (folded f (initial_state f) all)) (sym low)
-      (subst (λ z. Encloses b z (folded f (initial_state f) all)) (sym high) (subst (λ z. Encloses b c (folded f (initial_state f) z)) (sym ea) base))
+      (subst (λ z. Encloses b z (folded f (initial_state f) all)) (sym high)
+      (subst (λ z. Encloses b c (folded f (initial_state f) z)) (sym ea) base))
 
   pub enclosed : (lists : List (List ArgRow)) → All AreWords (all_rows lists) → 0 < length lists →
-      Encloses (low_bound n (map (bounds_after f) lists)) (high_bound n (map (bounds_after f) lists)) (folded f (initial_state f) (all_rows lists))
+      Encloses (low_bound n (map (bounds_after f) lists)) (high_bound n (map (bounds_after f) lists))
+      (folded f (initial_state f) (all_rows lists))
   enclosed [] rows some = absurd (omega (arith, some))
   enclosed (x ∷ []) rows some = alone x
   enclosed (x ∷ y ∷ ys) rows some =
       let cut = split_last x (y ∷ ys) in
-      several (last_or y ys) (last_or (bounds_after f y) (map (bounds_after f) ys)) (all_rows (x ∷ y ∷ ys)) cut.0 (last_map (bounds_after f) y ys) cut.1 rows
+      several (last_or y ys) (last_or (bounds_after f y) (map (bounds_after f) ys)) (all_rows (x ∷ y ∷ ys)) cut.0
+      (last_map (bounds_after f) y ys) cut.1 rows
 
 -- some rows are in some pieces
 pub some_pieces : (pieces : List (List ArgRow)) (rows : List ArgRow) → all_rows pieces ≡ rows → 0 < length rows → 0 < length pieces
@@ -102,11 +115,14 @@ some_pieces [] rows e some = absurd (omega (arith, ap (λ l. length l) e, some))
 some_pieces (x ∷ xs) rows e some = omega arith
 
 -- the words of an epoch's row are what its rows are folded to
-row_words_are : (folding : Folding) (key : Key) (count number : ℕ) (lists : List (List ArgRow)) → row_words (epoch_rows folding key count number lists) ≡ map (λ rows. fold folding.step folding.initial rows) lists
+row_words_are : (folding : Folding) (key : Key) (count number : ℕ) (lists : List (List ArgRow))
+    → row_words (epoch_rows folding key count number lists) ≡ map (λ rows. fold folding.step folding.initial rows) lists
 row_words_are folding key count number [] = refl
-row_words_are folding key count number (rows ∷ lists) = ap (λ z. fold folding.step folding.initial rows ∷ z) (row_words_are folding key count (suc number) lists)
+row_words_are folding key count number (rows ∷ lists) = ap (λ z. fold folding.step folding.initial rows ∷ z)
+    (row_words_are folding key count (suc number) lists)
 
-module _ (f : TypedFold) (sizes : Sizes) (folding : Folding) (opening absorbing : ℕ) (valid : IsValidFold f) (h : IsBoundsKindOf f sizes folding opening absorbing) (mono : is_monotone f ≡ true) (words : AreWords (initial_state f)) where
+module _ (f : TypedFold) (sizes : Sizes) (folding : Folding) (opening absorbing : ℕ) (valid : IsValidFold f)
+    (h : IsBoundsKindOf f sizes folding opening absorbing) (mono : is_monotone f ≡ true) (words : AreWords (initial_state f)) where
   pub rows_enclosed : (key : Key) (count number : ℕ) (lists : List (List ArgRow)) → All AreWords (all_rows lists) → 0 < length lists →
       RowsEnclose (fold_states f) (epoch_rows folding key count number lists) (folded f (initial_state f) (all_rows lists))
   rows_enclosed key count number lists rows some =
@@ -114,8 +130,10 @@ module _ (f : TypedFold) (sizes : Sizes) (folding : Folding) (opening absorbing 
       (sym (row_words_are folding key count number lists ∙ ap (λ g. map g lists) (fun_ext h.folded)))
       (enclosed f valid mono words lists rows some)
 
-  pub table_enclosed : (g : Geometry) (uses : List Use) (key : Key) → All AreWords (map (λ u. u.row) (filter (is_use_of key) uses)) → 0 < length (filter (is_use_of key) uses) →
-      RowsEnclose (fold_states f) (key_rows folding g uses key) (folded f (initial_state f) (map (λ u. u.row) (filter (is_use_of key) uses)))
+  pub table_enclosed : (g : Geometry) (uses : List Use) (key : Key) → All AreWords (map (λ u. u.row) (filter (is_use_of key) uses))
+      → 0 < length (filter (is_use_of key) uses) →
+      RowsEnclose (fold_states f) (key_rows folding g uses key) (folded f (initial_state f)
+      (map (λ u. u.row) (filter (is_use_of key) uses)))
   table_enclosed g uses key rows some =
       let mine = filter (is_use_of key) uses in
       let given : List ArgRow = map (λ u. u.row) mine in
@@ -123,7 +141,8 @@ module _ (f : TypedFold) (sizes : Sizes) (folding : Folding) (opening absorbing 
       let cut : all_rows pieces ≡ given = (epochs_cut_the_rows_lem g uses key).0 in
       let used : 0 < length given = omega (arith, some, length-map {A = Use} {B = ArgRow} mine (λ u. u.row)) in
       let per_epoch : epoch_rows folding key (length pieces) 1 pieces ≡ key_rows folding g uses key =
-      ap (λ b. if b then epoch_rows folding key (length pieces) 1 pieces else (exact_row folding key (length pieces) given ∷ [])) (sym h.row_per_epoch) in
+      ap (λ b. if b then epoch_rows folding key (length pieces) 1 pieces else (exact_row folding key (length pieces) given ∷ []))
+      (sym h.row_per_epoch) in
       subst (λ z. RowsEnclose (fold_states f) z (folded f (initial_state f) given)) per_epoch
       (subst (λ z. RowsEnclose (fold_states f) (epoch_rows folding key (length pieces) 1 pieces) (folded f (initial_state f) z)) cut
       (rows_enclosed key (length pieces) 1 pieces (subst (All AreWords) (sym cut) rows) (some_pieces pieces given cut used)))

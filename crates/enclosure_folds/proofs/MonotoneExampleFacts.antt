@@ -9,7 +9,8 @@ use Rattle.fold_class.specs.Tables.{all_below}
 use Rattle.fold_class.specs.Kinds.{kinds_after, is_no_other}
 use Rattle.enclosure_folds.specs.Kinds.{role, is_monotone}
 use Rattle.epoch_entry.specs.Bounds.{least_state, greatest_state}
-use Rattle.enclosure_folds.specs.MonotoneExamples.{HasBody, IsFound, AreBounds, decayed_sum, clamped, wrapping_sum, shifted_left, choice_by_argument, choice_by_state, overwritten}
+use Rattle.enclosure_folds.specs.MonotoneExamples.{HasBody, IsFound, AreBounds, decayed_sum, clamped, wrapping_sum, shifted_left}
+use Rattle.enclosure_folds.specs.MonotoneExamples.{choice_by_argument, choice_by_state, overwritten}
 
 abbrev walk : ℕ → Block → Bool
 walk n b = all_below n (λ v. is_no_other (kinds_after role b (λ s. if nat_lt s n then Affine else Pure) v))
@@ -23,7 +24,8 @@ one_row n start b row = after b row (replicate n start)
 from_least : (n : ℕ) (b : Block) (f : TypedFold) (row : List ℕ) → HasBody f n b → folded f (least_state f) (row ∷ []) ≡ one_row n 0 b row
 from_least n b f row h = ap (λ z. one_row z 0 (fold_block f) row) h.0 ∙ ap (λ z. one_row n 0 z row) h.1
 
-from_greatest : (n : ℕ) (b : Block) (f : TypedFold) (row : List ℕ) → HasBody f n b → folded f (greatest_state f) (row ∷ []) ≡ one_row n (2 ^ 64 - 1) b row
+from_greatest : (n : ℕ) (b : Block) (f : TypedFold) (row : List ℕ) → HasBody f n b
+    → folded f (greatest_state f) (row ∷ []) ≡ one_row n (2 ^ 64 - 1) b row
 from_greatest n b f row h = ap (λ z. one_row z (2 ^ 64 - 1) (fold_block f) row) h.0 ∙ ap (λ z. one_row n (2 ^ 64 - 1) z row) h.1
 
 pub decayed_sum_found : IsFound 1 decayed_sum true

@@ -1,5 +1,6 @@
 -- What operators make of ordered operands.
-use Rattle.std.proofs.Common.{◌≡◌, ℕ, zero, suc, ◌+◌, ◌-◌, ◌*◌, ◌/◌, ◌^◌, ◌<◌, ◌≤◌, Bool, true, false, ◌==◌, nat_lt, if◌then◌else◌, refl, ap, arith}
+use Rattle.std.proofs.Common.{◌≡◌, ℕ, zero, suc, ◌+◌, ◌-◌, ◌*◌, ◌/◌, ◌^◌, ◌<◌, ◌≤◌, Bool, true, false, ◌==◌, nat_lt, if◌then◌else◌, refl}
+use Rattle.std.proofs.Common.{ap, arith}
 use Rattle.std.proofs.Math.Nat.{div-zero, div-le_self, div-mul-le_self, add-div_left}
 use Rattle.std.proofs.lemmas.Nat.{le-div, pow_pos}
 use Rattle.query_lang.specs.declared.fold.Op.{Op}

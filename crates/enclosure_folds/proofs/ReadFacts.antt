@@ -41,8 +41,10 @@ order_read (row ∷ rows) order = by_test (row_is_exact row)
 
 pub exact_read : ExactTablesAreRead
 exact_read t is order =
-    let others : length t.state_names ≡ length (t.key_names ++ t.state_names) - length t.key_names = omega (arith, length-append t.key_names t.state_names) in record {
+    let others : length t.state_names ≡ length (t.key_names ++ t.state_names) - length t.key_names =
+    omega (arith, length-append t.key_names t.state_names) in record {
       keys = omega (arith, length-append t.key_names t.state_names);
-      rows = subst (λ n. All (HasColumns (length t.key_names) n) (rows_made t.rows)) others (have_columns (length t.key_names) (length t.state_names) t.rows is.rows);
+      rows = subst (λ n. All (HasColumns (length t.key_names) n) (rows_made t.rows)) others
+          (have_columns (length t.key_names) (length t.state_names) t.rows is.rows);
       order = order_read t.rows order;
     }

@@ -1,5 +1,6 @@
 -- The last row of each key gives its bounds.
-use Rattle.std.proofs.Common.{◌≡◌, ℕ, suc, ◌*◌, ◌<◌, ◌==◌, Bool, true, false, ◌||◌, List, [], ◌∷◌, ◌++◌, length, map, take, drop, refl, sym, ap, ◌∙◌, subst, arith, length-append, if◌then◌else◌}
+use Rattle.std.proofs.Common.{◌≡◌, ℕ, suc, ◌*◌, ◌<◌, ◌==◌, Bool, true, false, ◌||◌, List, [], ◌∷◌, ◌++◌, length, map, take, drop, refl, sym}
+use Rattle.std.proofs.Common.{ap, ◌∙◌, subst, arith, length-append, if◌then◌else◌}
 use Rattle.std.specs.declared.cmp.Ordering.TheVariants.{Less}
 use Rattle.std.specs.List.{All, filter, flat_map}
 use Rattle.std.proofs.lemmas.Bool.Decides.{nat_tests}
@@ -15,7 +16,8 @@ use Rattle.epoch_model.specs.declared.tables.Mark.TheVariants.{Exact, Valid, Inv
 use Rattle.epoch_model.specs.declared.tables.Row.{Row}
 use Rattle.epoch_model.specs.Keys.{Key, ArgRow, key_eq, key_cmp, has, AreAbove, IsAscending}
 use Rattle.epoch_model.specs.Epochs.{Use, Geometry, is_use_of, epochs}
-use Rattle.epoch_model.specs.Tables.{Folding, folded, mark_of, epochs_shown, epoch_rows, exact_row, key_rows, keys_used, group_rows, group_epochs}
+use Rattle.epoch_model.specs.Tables.{Folding, folded, mark_of, epochs_shown, epoch_rows, exact_row, key_rows, keys_used, group_rows}
+use Rattle.epoch_model.specs.Tables.{group_epochs}
 use Rattle.epoch_model.proofs.Cuts.{epochs_cut_the_rows_lem}
 use Rattle.epoch_model.proofs.KeyLists.{by_test, key_eq-true, key_eq-refl}
 use Rattle.epoch_model.proofs.KeyOrder.{ascending-ascends, has-ascending, same_ascending}
@@ -29,7 +31,8 @@ use Rattle.enclosure_folds.specs.declared.table.BoundsRow.{BoundsRow}
 use Rattle.enclosure_folds.specs.declared.table.BoundsTable.{BoundsTable}
 use Rattle.enclosure_folds.specs.Bounds.{last_or, all_rows, Encloses}
 use Rattle.enclosure_folds.specs.BoundsTables.{HasBounds}
-use Rattle.enclosure_folds.specs.KeyBounds.{key_bounds, listed_bounds, table_bounds, goes_on, row_bounds, bounds_in, low_in, high_in, states_in, rows_of, EpochRowsGiveBounds, KeyBoundsEnclose, TriplesGiveWholeTables}
+use Rattle.enclosure_folds.specs.KeyBounds.{key_bounds, listed_bounds, table_bounds, goes_on, row_bounds, bounds_in, low_in, high_in}
+use Rattle.enclosure_folds.specs.KeyBounds.{states_in, rows_of, EpochRowsGiveBounds, KeyBoundsEnclose, TriplesGiveWholeTables}
 use Rattle.enclosure_folds.proofs.BoundLemmas.{last_map, some_pieces, enclosed}
 
 -- each key that is used has an epoch
@@ -40,7 +43,8 @@ or_true false b e = e
 
 pub all_of : (P : Key → Type 0) (keys : List Key) → ((k : Key) → has k keys ≡ true → P k) → All P keys
 all_of P [] h = All-nil P
-all_of P (x ∷ xs) h = All-cons P x xs (h x (ap (λ t. t || has x xs) (key_eq-refl x))) (all_of P xs (λ k e. h k (or_true (key_eq x k) (has k xs) e)))
+all_of P (x ∷ xs) h = All-cons P x xs (h x (ap (λ t. t || has x xs) (key_eq-refl x)))
+    (all_of P xs (λ k e. h k (or_true (key_eq x k) (has k xs) e)))
 
 pub has_use : (key : Key) (uses : List Use) → has key (map (λ u. u.key) uses) ≡ true → 0 < length (filter (is_use_of key) uses)
 has_use key [] e = absurd cc
@@ -51,7 +55,8 @@ has_use key (u ∷ uses) e = by_test (key_eq u.key key)
 has_epoch : (g : Geometry) (uses : List Use) (key : Key) → 0 < length (filter (is_use_of key) uses) → 0 < length (epochs g uses key)
 has_epoch g uses key some =
     let mine = filter (is_use_of key) uses in
-    some_pieces (epochs g uses key) (map (λ u. u.row) mine) (epochs_cut_the_rows_lem g uses key).0 (omega (arith, some, length-map {A = Use} {B = ArgRow} mine (λ u. u.row)))
+    some_pieces (epochs g uses key) (map (λ u. u.row) mine) (epochs_cut_the_rows_lem g uses key).0
+    (omega (arith, some, length-map {A = Use} {B = ArgRow} mine (λ u. u.row)))
 
 all_have_epochs : (g : Geometry) (uses : List Use) → All (λ key. 0 < length (epochs g uses key)) (keys_used uses)
 all_have_epochs g uses =
@@ -78,7 +83,14 @@ less_apart a b e = by_test (key_eq a b)
 
 module _ (n : ℕ) (folding : Folding) (key : Key) (count : ℕ) where
   abbrev bounds_by : List ArgRow → BoundsRow
-  bounds_by rows = row_bounds n (record { key = key; mark = mark_of count; epoch = 0; epochs = epochs_shown count; values = folded folding rows })
+  bounds_by rows = row_bounds n (record {
+    key = key;
+    mark = mark_of count;
+    epoch = 0;
+    epochs = epochs_shown count;
+    values =
+        folded folding rows;
+  })
 
   last_counts : (number : ℕ) (x : List ArgRow) (xs : List (List ArgRow)) (rest : List Row) → goes_on key rest ≡ false →
       bounds_in n (epoch_rows folding key count number (x ∷ xs) ++ rest) ≡ bounds_by (last_or x xs) ∷ bounds_in n rest
@@ -87,38 +99,55 @@ module _ (n : ℕ) (folding : Folding) (key : Key) (count : ℕ) where
 
 -- the rows of keys, by the row lists of each
 
-module _ (f : TypedFold) (sizes : Sizes) (folding : Folding) (opening absorbing : ℕ) (h : IsBoundsKindOf f sizes folding opening absorbing) (lists : Key → List (List ArgRow)) (rows : Key → List Row)
+module _ (f : TypedFold) (sizes : Sizes) (folding : Folding) (opening absorbing : ℕ) (h : IsBoundsKindOf f sizes folding opening absorbing)
+    (lists : Key → List (List ArgRow)) (rows : Key → List Row)
     (rows_are : (key : Key) → rows key ≡ epoch_rows folding key (length (lists key)) 1 (lists key)) where
   abbrev n : ℕ
   n = fold_states f
 
-  by_pieces : (key : Key) (x : List ArgRow) (xs : List (List ArgRow)) → bounds_by n folding key (length (x ∷ xs)) (last_or x xs) ≡ listed_bounds f key (x ∷ xs)
-  by_pieces key x [] = ap (λ state. row_bounds n (record { key = key; mark = Valid; epoch = 0; epochs = epochs_shown 1; values = state })) (h.folded x)
+  by_pieces : (key : Key) (x : List ArgRow) (xs : List (List ArgRow)) → bounds_by n folding key (length (x ∷ xs)) (last_or x xs)
+      ≡ listed_bounds f key (x ∷ xs)
+  by_pieces key x [] = ap (λ state. row_bounds n (record { key = key; mark = Valid; epoch = 0; epochs = epochs_shown 1; values = state }))
+      (h.folded x)
   by_pieces key x (y ∷ ys) =
       let many : (suc (suc (length ys)) == 1) ≡ false = grind (arith, nat_tests) in
       let count = suc (suc (length ys)) in
-      ap (λ b. row_bounds n (record { key = key; mark = if b then Valid else Invalid; epoch = 0; epochs = epochs_shown count; values = folded folding (last_or y ys) })) many
-      ∙ ap (λ state. row_bounds n (record { key = key; mark = Invalid; epoch = 0; epochs = epochs_shown count; values = state })) (h.folded (last_or y ys) ∙ sym (last_map (bounds_after f) y ys))
+      ap (λ b. row_bounds n (record {
+        key = key;
+        mark = if b then Valid else Invalid;
+        epoch = 0;
+        epochs = epochs_shown count;
+        values =
+            folded folding (last_or y ys);
+      })) many
+      ∙ ap (λ state. row_bounds n (record { key = key; mark = Invalid; epoch = 0; epochs = epochs_shown count; values = state }))
+      (h.folded (last_or y ys) ∙ sym (last_map (bounds_after f) y ys))
 
   -- rows of a greater key come next
-  other_next : (key : Key) (keys : List Key) → AreAbove key keys → All (λ k. 0 < length (lists k)) keys → goes_on key (flat_map rows keys) ≡ false
+  other_next : (key : Key) (keys : List Key) → AreAbove key keys → All (λ k. 0 < length (lists k)) keys
+      → goes_on key (flat_map rows keys) ≡ false
   other_next key [] above all = refl
   other_next key (next ∷ keys) above all =
       ap (λ made. goes_on key (made ++ flat_map rows keys)) (rows_are next)
       ∙ go (lists next) (All-head (λ k. 0 < length (lists k)) next keys all)
     where
-      go : (pieces : List (List ArgRow)) → 0 < length pieces → goes_on key (epoch_rows folding next (length pieces) 1 pieces ++ flat_map rows keys) ≡ false
+      go : (pieces : List (List ArgRow)) → 0 < length pieces → goes_on key
+          (epoch_rows folding next (length pieces) 1 pieces ++ flat_map rows keys) ≡ false
       go [] some = absurd (omega (arith, some))
       go (x ∷ xs) some = less_apart key next above.0
 
-  one_key : (key : Key) (rest : List Row) → goes_on key rest ≡ false → 0 < length (lists key) → bounds_in n (rows key ++ rest) ≡ listed_bounds f key (lists key) ∷ bounds_in n rest
+  one_key : (key : Key) (rest : List Row) → goes_on key rest ≡ false → 0 < length (lists key)
+      → bounds_in n (rows key ++ rest) ≡ listed_bounds f key (lists key) ∷ bounds_in n rest
   one_key key rest other some = ap (λ made. bounds_in n (made ++ rest)) (rows_are key) ∙ go (lists key) some
     where
-      go : (pieces : List (List ArgRow)) → 0 < length pieces → bounds_in n (epoch_rows folding key (length pieces) 1 pieces ++ rest) ≡ listed_bounds f key pieces ∷ bounds_in n rest
+      go : (pieces : List (List ArgRow)) → 0 < length pieces → bounds_in n (epoch_rows folding key (length pieces) 1 pieces ++ rest)
+          ≡ listed_bounds f key pieces ∷ bounds_in n rest
       go [] some = absurd (omega (arith, some))
-      go (x ∷ xs) some = last_counts n folding key (length (x ∷ xs)) 1 x xs rest other ∙ ap (λ row. row ∷ bounds_in n rest) (by_pieces key x xs)
+      go (x ∷ xs) some = last_counts n folding key (length (x ∷ xs)) 1 x xs rest other
+          ∙ ap (λ row. row ∷ bounds_in n rest) (by_pieces key x xs)
 
-  pub rows_give : (keys : List Key) → IsAscending keys → All (λ key. 0 < length (lists key)) keys → bounds_in n (flat_map rows keys) ≡ map (λ key. listed_bounds f key (lists key)) keys
+  pub rows_give : (keys : List Key) → IsAscending keys → All (λ key. 0 < length (lists key)) keys
+      → bounds_in n (flat_map rows keys) ≡ map (λ key. listed_bounds f key (lists key)) keys
   rows_give [] order all = refl
   rows_give (key ∷ keys) order all =
       let later = All-tail (λ k. 0 < length (lists k)) key keys all in
@@ -153,7 +182,12 @@ module _ (heading : Heading) (epochs_all : ℕ) (rows : List Row) (made : List B
       let front : take with_rows.keys with_rows.columns ≡ names = take-append_seam names heading.state_names in
       let back : drop with_rows.keys with_rows.columns ≡ heading.state_names = drop-append_seam names heading.state_names in
       let is : bounds_in (states_in with_rows) rows ≡ made = ap (λ k. bounds_in k rows) others ∙ e in
-      ap (λ z. record with_bounds { key_names = z; state_names = drop with_rows.keys with_rows.columns; rows = bounds_in (states_in with_rows) rows }) front
+      ap (λ z. record with_bounds {
+        key_names = z;
+        state_names = drop with_rows.keys with_rows.columns;
+        rows =
+            bounds_in (states_in with_rows) rows;
+      }) front
       ∙ ap (λ z. record with_bounds { state_names = z; rows = bounds_in (states_in with_rows) rows }) back
       ∙ ap (λ z. record with_bounds { rows = z }) is
 
@@ -161,7 +195,8 @@ pub give_bounds : EpochRowsGiveBounds
 give_bounds heading f sizes folding opening absorbing g uses h states =
     gives heading (group_epochs g uses) (group_rows folding g uses) (map (key_bounds f g uses) (keys_used uses)) (fold_states f) states
     (rows_give f sizes folding opening absorbing h (epochs g uses) (key_rows folding g uses)
-    (λ key. ap (λ b. if b then epoch_rows folding key (length (epochs g uses key)) 1 (epochs g uses key) else (exact_row folding key (length (epochs g uses key)) (map (λ u. u.row) (filter (is_use_of key) uses)) ∷ [])) h.row_per_epoch)
+    (λ key. ap (λ b. if b then epoch_rows folding key (length (epochs g uses key)) 1 (epochs g uses key) else
+    (exact_row folding key (length (epochs g uses key)) (map (λ u. u.row) (filter (is_use_of key) uses)) ∷ [])) h.row_per_epoch)
     (keys_used uses) (ascending-ascends (map (λ u. u.key) uses)) (all_have_epochs g uses))
 
 pub keys_enclose : KeyBoundsEnclose
@@ -193,7 +228,9 @@ have_bounds keys n (row ∷ rows) all =
     let later = have_bounds keys n rows (All-tail (HasColumns keys (3 * n)) row rows all) in
     by_test (goes_on row.key rows)
     (λ t. rw t later)
-    (λ t. rw t (All-cons (HasBounds keys n) (row_bounds n row) (bounds_in n rows) (record { key = here.key; low = long_low n row.values here.values row.mark; high = long_high n row.values here.values row.mark }) later))
+    (λ t. rw t (All-cons (HasBounds keys n) (row_bounds n row) (bounds_in n rows)
+    (record { key = here.key; low = long_low n row.values here.values row.mark; high = long_high n row.values here.values row.mark })
+    later))
 
 pub whole_table : TriplesGiveWholeTables
 whole_table t h some most =
@@ -202,5 +239,6 @@ whole_table t h some most =
       some_keys = omega (arith, keys, some);
       most_keys = omega (arith, keys, most);
       rows = subst (λ n. All (HasBounds n (length (drop t.keys t.columns))) (bounds_in (states_in t) t.rows)) (sym keys)
-          (subst (λ n. All (HasBounds t.keys n) (bounds_in (states_in t) t.rows)) (sym states) (have_bounds t.keys (states_in t) t.rows h.rows));
+          (subst (λ n. All (HasBounds t.keys n) (bounds_in (states_in t) t.rows)) (sym states)
+          (have_bounds t.keys (states_in t) t.rows h.rows));
     }

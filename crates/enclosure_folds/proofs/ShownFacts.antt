@@ -35,16 +35,20 @@ long_bounds f valid rows =
     let lc : length c ≡ fold_states f = length-folded f (greatest_state f) rows ∙ length-replicate {A = ℕ} (fold_states f) _ in
     omega (arith, length-append a (b ++ c), length-append b c, la, lb, lc)
 
-module _ (alike : AlikeFoldingsMakeOneTable) (read : GroupTablesAreRead) (heading : Heading) (f : TypedFold) (sizes : Sizes) (folding : Folding) (opening absorbing : ℕ) (g : Geometry) (uses : List Use)
+module _ (alike : AlikeFoldingsMakeOneTable) (read : GroupTablesAreRead) (heading : Heading) (f : TypedFold) (sizes : Sizes)
+    (folding : Folding) (opening absorbing : ℕ) (g : Geometry) (uses : List Use)
     (is : IsHeadingOf f heading) where
   by_class : (c : Class) → IsBoundingKind c f sizes folding opening absorbing
       → shown_by (Group c heading.depth (group_epochs g uses)) (group_table heading folding g uses) ≡ enclosed_by c heading f g uses
-  by_class class.Linear kind = ap enclosed.Linear (alike.by_uses heading folding (folding_of f) g uses (record { row_per_epoch = kind.row_per_epoch; states = λ rows. kind.folded rows }))
+  by_class class.Linear kind = ap enclosed.Linear (alike.by_uses heading folding (folding_of f) g uses
+      (record { row_per_epoch = kind.row_per_epoch; states = λ rows. kind.folded rows }))
   by_class class.Other kind = ap enclosed.Bounds (give_bounds heading f sizes folding opening absorbing g uses kind is.states)
 
   pub shown_is : IsBoundingKind (class_of f) f sizes folding opening absorbing
-      → shown_by (Group heading.class heading.depth (group_epochs g uses)) (group_table heading folding g uses) ≡ enclosed_by (class_of f) heading f g uses
-  shown_is kind = ap (λ c. shown_by (Group c heading.depth (group_epochs g uses)) (group_table heading folding g uses)) is.class ∙ by_class (class_of f) kind
+      → shown_by (Group heading.class heading.depth (group_epochs g uses)) (group_table heading folding g uses) ≡ enclosed_by (class_of f)
+      heading f g uses
+  shown_is kind = ap (λ c. shown_by (Group c heading.depth (group_epochs g uses)) (group_table heading folding g uses)) is.class
+      ∙ by_class (class_of f) kind
 
   module _ (valid : IsValidFold f) (keys : All (λ u. length u.key ≡ length heading.key_names) uses) where
     -- a heading with a name for each word of three states
@@ -54,23 +58,35 @@ module _ (alike : AlikeFoldingsMakeOneTable) (read : GroupTablesAreRead) (headin
     triples : IsBoundsKindOf f sizes folding opening absorbing → HasTriples (group_table heading folding g uses)
     triples kind =
         let names : length wide.state_names ≡ 3 * fold_states f = length-replicate (3 * fold_states f) heading.name in
-        let table = read wide folding g uses keys (λ rows. ap (λ l. length l) (kind.folded rows) ∙ (long_bounds f valid rows ∙ sym names)) in
+        let table = read wide folding g uses keys (λ rows. ap (λ l. length l) (kind.folded rows)
+        ∙ (long_bounds f valid rows ∙ sym names)) in
         let t = group_table heading folding g uses in
         let others : length (heading.key_names ++ wide.state_names) - length heading.key_names ≡ 3 * states_in t =
-        omega (arith, length-append heading.key_names wide.state_names, length-append heading.key_names heading.state_names, names, is.states) in record {
+        omega (
+          arith,
+          length-append heading.key_names wide.state_names,
+          length-append heading.key_names heading.state_names,
+          names,
+          is.states,
+        ) in record {
           keys = omega (arith, length-append heading.key_names heading.state_names);
           rows = subst (λ n. All (HasColumns (length heading.key_names) n) t.rows) others table.rows;
         }
 
-    may_by : (c : Class) → IsBoundingKind c f sizes folding opening absorbing → MayBeShownBy (Group c heading.depth (group_epochs g uses)) (group_table heading folding g uses)
+    may_by : (c : Class) → IsBoundingKind c f sizes folding opening absorbing
+        → MayBeShownBy (Group c heading.depth (group_epochs g uses)) (group_table heading folding g uses)
     may_by class.Linear kind = tt
     may_by class.Other kind = record { triples = triples kind; some_keys = is.some_keys; most_keys = is.most_keys }
 
-    pub may_be : IsBoundingKind (class_of f) f sizes folding opening absorbing → MayBeShownBy (Group heading.class heading.depth (group_epochs g uses)) (group_table heading folding g uses)
-    may_be kind = subst (λ c. MayBeShownBy (Group c heading.depth (group_epochs g uses)) (group_table heading folding g uses)) (sym is.class) (may_by (class_of f) kind)
+    pub may_be : IsBoundingKind (class_of f) f sizes folding opening absorbing
+        → MayBeShownBy (Group heading.class heading.depth (group_epochs g uses)) (group_table heading folding g uses)
+    may_be kind = subst (λ c. MayBeShownBy (Group c heading.depth (group_epochs g uses)) (group_table heading folding g uses))
+        (sym is.class) (may_by (class_of f) kind)
 
 pub give : AlikeFoldingsMakeOneTable → GroupTablesAreRead → TablesGiveBounds
 give alike read = record {
-  shown = λ heading f sizes folding opening absorbing g uses kind is. shown_is alike read heading f sizes folding opening absorbing g uses is kind;
-  may = λ heading f sizes folding opening absorbing g uses kind is valid keys. may_be alike read heading f sizes folding opening absorbing g uses is valid keys kind;
+  shown = λ heading f sizes folding opening absorbing g uses kind is. shown_is alike read heading f sizes folding opening absorbing g uses
+      is kind;
+  may = λ heading f sizes folding opening absorbing g uses kind is valid keys. may_be alike read heading f sizes folding opening absorbing g
+      uses is valid keys kind;
 }

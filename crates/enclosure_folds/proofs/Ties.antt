@@ -46,7 +46,8 @@ greater_right Rising Rising x y h = h
 greater_right Rising Wild x y h = tt
 greater_right Wild l x y h = tt
 
-sum_tied : (g : ℕ → ℕ → ℕ) (k l : Kind) (x y u v : ℕ) → (x ≤ y → u ≤ v → g x u ≤ g y v) → Tied k x y → Tied l u v → Tied (greater k l) (g x u) (g y v)
+sum_tied : (g : ℕ → ℕ → ℕ) (k l : Kind) (x y u v : ℕ) → (x ≤ y → u ≤ v → g x u ≤ g y v) → Tied k x y → Tied l u v
+    → Tied (greater k l) (g x u) (g y v)
 sum_tied g Free Free x y u v m p q = ap (λ z. g z u) p ∙ ap (λ z. g y z) q
 sum_tied g Free Rising x y u v m p q = m (omega (arith, p)) q
 sum_tied g Free Wild x y u v m p q = tt
@@ -55,7 +56,8 @@ sum_tied g Rising Rising x y u v m p q = m p q
 sum_tied g Rising Wild x y u v m p q = tt
 sum_tied g Wild l x y u v m p q = tt
 
-product_tied : (g : ℕ → ℕ → ℕ) (k : Kind) (x y u v : ℕ) → (x ≤ y → g x u ≤ g y u) → u ≡ v → Tied k x y → Tied (product_kind k Free) (g x u) (g y v)
+product_tied : (g : ℕ → ℕ → ℕ) (k : Kind) (x y u v : ℕ) → (x ≤ y → g x u ≤ g y u) → u ≡ v → Tied k x y
+    → Tied (product_kind k Free) (g x u) (g y v)
 product_tied g Free x y u v m e h = ap (λ z. g z u) h ∙ ap (λ z. g y z) e
 product_tied g Rising x y u v m e h = subst (λ z. g x u ≤ g y z) e (m h)
 product_tied g Wild x y u v m e h = tt
@@ -67,7 +69,8 @@ outside_tied g Free Wild x y u v p q = tt
 outside_tied g Rising l x y u v p q = tt
 outside_tied g Wild l x y u v p q = tt
 
-op_tied : (op : Op) (k l : Kind) (x y u v : ℕ) → Tied k x y → Tied l u v → (role op ≡ Product → l ≡ Free) → Tied (role_kind (role op) k l) (op_value op x u) (op_value op y v)
+op_tied : (op : Op) (k l : Kind) (x y u v : ℕ) → Tied k x y → Tied l u v → (role op ≡ Product → l ≡ Free)
+    → Tied (role_kind (role op) k l) (op_value op x u) (op_value op y v)
 op_tied op k l x y u v p q number = by_role (role op) refl
   where
     by_role : (r : Role) → role op ≡ r → Tied (role_kind r k l) (op_value op x u) (op_value op y v)
@@ -79,11 +82,13 @@ op_tied op k l x y u v p q number = by_role (role op) refl
     by_role Outside e = outside_tied (op_value op) k l x y u v p q
 
 -- from tied slots, an expression has tied values
-pub expr_tied : (slots : ℕ) (e : Term) (kinds : ℕ → Kind) (xs ys : List ℕ) → IsValidTerm slots e → Ties kinds xs ys → Tied (expr_kind role e kinds) (term_value e xs) (term_value e ys)
+pub expr_tied : (slots : ℕ) (e : Term) (kinds : ℕ → Kind) (xs ys : List ℕ) → IsValidTerm slots e → Ties kinds xs ys
+    → Tied (expr_kind role e kinds) (term_value e xs) (term_value e ys)
 expr_tied slots (Literal n) kinds xs ys valid h = refl
 expr_tied slots (Read s) kinds xs ys valid h = h s
 expr_tied slots (Negation e) kinds xs ys valid h =
-    outside_tied (λ z w. flag (not (holds w))) Free (expr_kind role e kinds) 0 0 (term_value e xs) (term_value e ys) refl (expr_tied slots e kinds xs ys valid.0 h)
+    outside_tied (λ z w. flag (not (holds w))) Free (expr_kind role e kinds) 0 0 (term_value e xs) (term_value e ys) refl
+    (expr_tied slots e kinds xs ys valid.0 h)
 expr_tied slots (Operation op a b) kinds xs ys valid h =
     op_tied op (expr_kind role a kinds) (expr_kind role b kinds) (term_value a xs) (term_value a ys) (term_value b xs) (term_value b ys)
     (expr_tied slots a kinds xs ys valid.0 h) (expr_tied slots b kinds xs ys valid.1 h) (λ e. number_free op a b kinds e valid.2)

@@ -25,10 +25,12 @@ use Rattle.fold_class.proofs.DepthLemmas.{history_rounds}
 use Rattle.fold_class.proofs.LawLemmas.{depth_is, depth_found_is, maxima_depth}
 use Rattle.fold_class.proofs.PlaceLemmas.{both_sorts}
 use Rattle.epoch_entry.specs.Foldings.{per_epoch, entry_bound, IsKindOf, merge_bound}
-use Rattle.epoch_entry.specs.Entries.{other_sizes, other_folding, other_open, other_absorb, linear_rank, history_words, linear_sizes, linear_folding, linear_open, linear_absorb, other_merge, linear_merge, WritesInto}
+use Rattle.epoch_entry.specs.Entries.{other_sizes, other_folding, other_open, other_absorb, linear_rank, history_words, linear_sizes}
+use Rattle.epoch_entry.specs.Entries.{linear_folding, linear_open, linear_absorb, other_merge, linear_merge, WritesInto}
 use Rattle.epoch_entry.proofs.FoldLemmas.{code_folds}
 
-pub other_kind : (f : TypedFold) (p : FoldProgram) → IsProgramOf f p → p.class ≡ Class.Other → IsKindOf f (other_sizes p) (other_folding p) (other_open p) (other_absorb p)
+pub other_kind : (f : TypedFold) (p : FoldProgram) → IsProgramOf f p → p.class ≡ Class.Other
+    → IsKindOf f (other_sizes p) (other_folding p) (other_open p) (other_absorb p)
 other_kind f p h e =
     let states : length p.layout.initial ≡ fold_states f = ap (λ l. length l) h.layout.initial ∙ h.valid.starts in record {
       args = h.layout.args;
@@ -37,7 +39,8 @@ other_kind f p h e =
       initial = h.layout.initial;
       row_per_epoch = sym (ap per_epoch (sym h.class ∙ e));
       step = h.code.step;
-      folded = λ rows. ap (λ s. fold (code_step p.code) s rows) h.layout.initial ∙ code_folds f p.code h.code (initial_state f) rows h.valid.starts;
+      folded = λ rows. ap (λ s. fold (code_step p.code) s rows) h.layout.initial
+          ∙ code_folds f p.code h.code (initial_state f) rows h.valid.starts;
       «open» = omega (arith, states);
       absorb = omega (arith, h.code.steps, add-mul (fold_states f) 1 (f.nodes + 4 * f.statements + 1));
     }
@@ -59,7 +62,8 @@ map_fits : (a : Algebra) (n d size : ℕ) → size ≡ element_size a → d ≤ 
 map_fits Sums n d size e h = omega (arith, ap (λ s. d * (d + 1) * s) e, square d n h)
 map_fits Maxima n d size e h = omega (arith, ap (λ s. d * (d + 1) * s) e, square d n h)
 
-composed_fit : (a : Algebra) (n d x kf size rows : ℕ) → size ≡ element_size a → d ≤ n → rows ≤ (n + 1) * x + 2 * element_size a * (n + 1) * (n + 1) →
+composed_fit : (a : Algebra) (n d x kf size rows : ℕ) → size ≡ element_size a → d ≤ n → rows ≤ (n + 1) * x + 2 * element_size a * (n + 1)
+    * (n + 1) →
     rows + (d * ((d + 1) * d) + d * (d + 1) * size) ≤ (n + 1) * x + n * n * (n + 1) + 4 * (element_size a * n * (n + 1) + n + kf + 2)
 composed_fit Sums n d x kf size rows e h le = omega (arith, le, cube d n h, map_fits Sums n d size e h)
 composed_fit Maxima n d x kf size rows e h le = omega (arith, le, cube d n h, map_fits Maxima n d size e h)
@@ -69,13 +73,16 @@ run_fit : (a : Algebra) (n d h x kf size code : ℕ) → size ≡ element_size a
 run_fit Sums n d h x kf size code e sorts le = omega (arith, ap (λ s. d * s) e, sorts, le)
 run_fit Maxima n d h x kf size code e sorts le = omega (arith, ap (λ s. d * s) e, sorts, le)
 
-pub linear_kind : (f : TypedFold) (p : FoldProgram) (size : ℕ) → IsProgramOf f p → p.class ≡ Linear → element_size p.rows.algebra ≡ size → IsKindOf f (linear_sizes size p) (linear_folding p) (linear_open size p) (linear_absorb size p)
+pub linear_kind : (f : TypedFold) (p : FoldProgram) (size : ℕ) → IsProgramOf f p → p.class ≡ Linear → element_size p.rows.algebra ≡ size
+    → IsKindOf f (linear_sizes size p) (linear_folding p) (linear_open size p) (linear_absorb size p)
 linear_kind f p size h e sized =
     let states : length p.layout.initial ≡ fold_states f = ap (λ l. length l) h.layout.initial ∙ h.valid.starts in
     let own : size ≡ element_size (algebra_of f) = sym sized ∙ ap element_size h.rows.algebra in
-    let sorts : linear_rank p + history_words p ≡ fold_states f = omega (arith, ap (λ l. length l) h.layout.linear, ap (λ l. length l) h.layout.history, both_sorts (is_history f) (fold_states f)) in
+    let sorts : linear_rank p + history_words p ≡ fold_states f = omega
+    (arith, ap (λ l. length l) h.layout.linear, ap (λ l. length l) h.layout.history, both_sorts (is_history f) (fold_states f)) in
     let few : linear_rank p ≤ fold_states f = omega (arith, sorts) in
-    let log : p.depth * p.layout.args ≡ depth_of f * fold_args f = ap (λ k. k * p.layout.args) (depth_is f p.depth h.depth) ∙ ap (λ a. depth_of f * a) h.layout.args in
+    let log : p.depth * p.layout.args ≡ depth_of f * fold_args f = ap (λ k. k * p.layout.args) (depth_is f p.depth h.depth)
+    ∙ ap (λ a. depth_of f * a) h.layout.args in
     let fits = map_fits (algebra_of f) (fold_states f) (linear_rank p) size own few in record {
       args = h.layout.args;
       state = states;
@@ -83,39 +90,66 @@ linear_kind f p size h e sized =
       initial = h.layout.initial;
       row_per_epoch = sym (ap per_epoch (sym h.class ∙ e));
       step = h.code.step;
-      folded = λ rows. ap (λ s. fold (code_step p.code) s rows) h.layout.initial ∙ code_folds f p.code h.code (initial_state f) rows h.valid.starts;
+      folded = λ rows. ap (λ s. fold (code_step p.code) s rows) h.layout.initial
+          ∙ code_folds f p.code h.code (initial_state f) rows h.valid.starts;
       «open» = omega (arith, log, sorts, fits);
       absorb =
           omega (
             arith,
             log,
-            composed_fit (algebra_of f) (fold_states f) (linear_rank p) (f.nodes + 4 * f.statements + 1) (p.depth * p.layout.args) size (rows_steps p.rows) own few h.rows.steps,
-            run_fit (algebra_of f) (fold_states f) (linear_rank p) (history_words p) (f.nodes + 4 * f.statements + 1) (p.depth * p.layout.args) size (code_steps p.code) own sorts h.code.steps,
+            composed_fit (algebra_of f) (fold_states f) (linear_rank p) (f.nodes + 4 * f.statements + 1) (p.depth * p.layout.args) size
+                (rows_steps p.rows) own few h.rows.steps,
+            run_fit (algebra_of f) (fold_states f) (linear_rank p) (history_words p) (f.nodes + 4 * f.statements + 1)
+                (p.depth * p.layout.args) size (code_steps p.code) own sorts h.code.steps,
           );
     }
 
 pub linear_merged : (f : TypedFold) (p : FoldProgram) → IsProgramOf f p → linear_merge p ≤ merge_bound f
 linear_merged f p h =
-    let sorts : linear_rank p + history_words p ≡ fold_states f = omega (arith, ap (λ l. length l) h.layout.linear, ap (λ l. length l) h.layout.history, both_sorts (is_history f) (fold_states f)) in
+    let sorts : linear_rank p + history_words p ≡ fold_states f = omega
+    (arith, ap (λ l. length l) h.layout.linear, ap (λ l. length l) h.layout.history, both_sorts (is_history f) (fold_states f)) in
     let few : linear_rank p ≤ fold_states f = omega (arith, sorts) in
-    let runs : p.depth * code_steps p.code ≡ depth_of f * code_steps p.code = ap (λ k. k * code_steps p.code) (depth_is f p.depth h.depth) in
-    omega (arith, sorts, runs, mul-le-mul_left (depth_of f) h.code.steps, mul-le-mul_left (linear_rank p) few, mul-le-mul_right (fold_states f) few)
+    let runs : p.depth * code_steps p.code ≡ depth_of f * code_steps p.code =
+    ap (λ k. k * code_steps p.code) (depth_is f p.depth h.depth) in
+    omega (
+      arith,
+      sorts,
+      runs,
+      mul-le-mul_left (depth_of f) h.code.steps,
+      mul-le-mul_left (linear_rank p) few,
+      mul-le-mul_right
+          (fold_states f) few,
+    )
 
 -- the rows of a linear program write elements of its algebra
-writes_algebra : (f : TypedFold) (p : FoldProgram) (a : Algebra) → IsProgramOf f p → p.class ≡ Linear → p.algebra ≡ a → WritesAlgebra a f p.rows
+writes_algebra : (f : TypedFold) (p : FoldProgram) (a : Algebra) → IsProgramOf f p → p.class ≡ Linear → p.algebra ≡ a
+    → WritesAlgebra a f p.rows
 writes_algebra f p a h linear e = subst (λ b. WritesAlgebra b f p.rows) (sym h.algebra ∙ e) (h.rows.writes (sym h.class ∙ linear))
 
 sized_by : (p : FoldProgram) (a : Algebra) → IsProgram p → p.algebra ≡ a → element_size p.rows.algebra ≡ element_size a
 sized_by p a sound e = ∥∥₁_elim sound (ℕ_set _ _) (λ (f, h). ap element_size (h.rows.algebra ∙ sym h.algebra ∙ e))
 
 pub writes_sums : (p : FoldProgram) → IsProgram p → p.class ≡ Linear → p.algebra ≡ Sums → WritesInto sums wrapping_from_words 1 p
-writes_sums p sound linear e = record { algebra = subst (λ a. IsAlgebraOf a sums) (sym e) sums_are; zero_word = refl; sized = sized_by p Sums sound e; writes = λ f h. writes_algebra f p Sums h linear e }
+writes_sums p sound linear e = record {
+  algebra = subst (λ a. IsAlgebraOf a sums) (sym e) sums_are;
+  zero_word = refl;
+  sized =
+      sized_by p Sums sound e;
+  writes = λ f h. writes_algebra f p Sums h linear e;
+}
 
 pub writes_maxima : (p : FoldProgram) → IsProgram p → p.class ≡ Linear → p.algebra ≡ Maxima → WritesInto maxima max_plus_from_words 2 p
-writes_maxima p sound linear e = record { algebra = subst (λ a. IsAlgebraOf a maxima) (sym e) maxima_are; zero_word = refl; sized = sized_by p Maxima sound e; writes = λ f h. writes_algebra f p Maxima h linear e }
+writes_maxima p sound linear e = record {
+  algebra = subst (λ a. IsAlgebraOf a maxima) (sym e) maxima_are;
+  zero_word = refl;
+  sized =
+      sized_by p Maxima sound e;
+  writes = λ f h. writes_algebra f p Maxima h linear e;
+}
 
 -- an entry with its key has few words
-words_fit : (a : Algebra) (n k args key : ℕ) → n ≤ 8 → k ≤ n → args ≤ 16 → (a ≡ Maxima → k < n) → key ≤ 8 → key + (element_size a * n * (n + 1) + n + k * args + 2) ≤ 274
+words_fit : (a : Algebra) (n k args key : ℕ) → n ≤ 8 → k ≤ n → args ≤ 16 → (a ≡ Maxima → k < n) → key ≤ 8 → key
+    + (element_size a * n * (n + 1) + n + k * args + 2) ≤ 274
 words_fit Sums n k args key hn hk ha few hkey =
     let le : k ≤ 8 = omega arith in
     omega (arith, square n 8 hn, mul-le-mul_right args le)
@@ -127,4 +161,5 @@ words_fit Maxima n k args key hn hk ha few hkey =
 pub entry_fits : (f : TypedFold) (key : ℕ) → IsValidFold f → key ≤ 8 → key + entry_bound f ≤ 274
 entry_fits f key valid h =
     let deep : IsDepth f (depth_of f) = depth_found_is f in
-    words_fit (algebra_of f) (fold_states f) (depth_of f) (fold_args f) key valid.states (deep.least (fold_states f) (λ v lt w. history_rounds f v lt w)) valid.args (λ e. maxima_depth f (depth_of f) e deep) h
+    words_fit (algebra_of f) (fold_states f) (depth_of f) (fold_args f) key valid.states
+    (deep.least (fold_states f) (λ v lt w. history_rounds f v lt w)) valid.args (λ e. maxima_depth f (depth_of f) e deep) h

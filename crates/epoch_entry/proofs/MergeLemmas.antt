@@ -1,5 +1,6 @@
 -- The state that an entry is merged into.
-use Rattle.std.proofs.Common.{◌≡◌, ◌≢◌, ℕ, ◌<◌, ◌≤◌, Bool, true, false, not, List, min, length, slice_index, take, refl, sym, ap, ◌∙◌, subst, arith}
+use Rattle.std.proofs.Common.{◌≡◌, ◌≢◌, ℕ, ◌<◌, ◌≤◌, Bool, true, false, not, List, min, length, slice_index, take, refl, sym, ap, ◌∙◌}
+use Rattle.std.proofs.Common.{subst, arith}
 use Rattle.std.specs.Prelude.{fold}
 use Rattle.std.proofs.lemmas.List.{take_all, ext_get_or}
 use Rattle.query_lang.specs.declared.fold.TypedFold.{TypedFold}
@@ -21,9 +22,11 @@ use Rattle.epoch_entry.specs.Absorbing.{IsCarried}
 use Rattle.epoch_entry.proofs.FoldLemmas.{length-folded, code_folds}
 use Rattle.epoch_entry.proofs.EntryLemmas.{dimension_is, logged_count}
 
-module _ {C : Type 0} (k : Elements C) (from_words : List ℕ → C) (size : ℕ) (p : FoldProgram) (count : ℕ) (log history map' : List ℕ) (rows : List ArgRow) (st : PartsStand k from_words size p count log history map' rows)
+module _ {C : Type 0} (k : Elements C) (from_words : List ℕ → C) (size : ℕ) (p : FoldProgram) (count : ℕ) (log history map' : List ℕ)
+    (rows : List ArgRow) (st : PartsStand k from_words size p count log history map' rows)
     (f : TypedFold) (h : IsProgramOf f p) (state : List ℕ) (same_size : length state ≡ length p.layout.initial) (words : AreWords state)
-    (n : ℕ) (least : n ≡ min count p.depth) (replayed : List ℕ) (runs : replayed ≡ fold (code_step p.code) state (logged_rows p.code.args n log)) where
+    (n : ℕ) (least : n ≡ min count p.depth) (replayed : List ℕ) (runs : replayed ≡ fold (code_step p.code) state
+    (logged_rows p.code.args n log)) where
   long : length state ≡ fold_states f
   long = same_size ∙ ap (λ l. length l) h.layout.initial ∙ h.valid.starts
 
@@ -45,7 +48,8 @@ module _ {C : Type 0} (k : Elements C) (from_words : List ℕ → C) (size : ℕ
   pub short_merged : n < p.depth → replayed ≡ fold (code_step p.code) state rows
   short_merged less = front ∙ ap (fold (code_step p.code) state) (take_all p.depth rows (omega (arith, number, all_logged, less)))
 
-  module _ (full : n ≡ p.depth) (merged : List ℕ) (size_kept : length merged ≡ length state) (carried : IsCarried k from_words size p history map' replayed merged) where
+  module _ (full : n ≡ p.depth) (merged : List ℕ) (size_kept : length merged ≡ length state)
+      (carried : IsCarried k from_words size p history map' replayed merged) where
     enough : p.depth ≤ length rows
     enough = omega (arith, number, all_logged, full)
 
@@ -63,7 +67,8 @@ module _ {C : Type 0} (k : Elements C) (from_words : List ℕ → C) (size : ℕ
         let inside : j < length p.layout.history = omega (arith, less, ap (λ l. length l) h.layout.history) in
         ap (slice_index merged) (sym (ap (λ l. slice_index l j) h.layout.history ∙ here))
         ∙ carried.remembered j inside
-        ∙ ap (λ l. slice_index l j) ((st.stands f h).history ∙ forgets f p.depth (initial_state f) state rows h.valid h.depth h.valid.starts long enough)
+        ∙ ap (λ l. slice_index l j) ((st.stands f h).history ∙ forgets f p.depth (initial_state f) state rows h.valid h.depth h.valid.starts
+        long enough)
         ∙ map_at (slice_index (folded f state rows)) (history_places f) j less
         ∙ ap (slice_index (folded f state rows)) here
 
@@ -89,30 +94,38 @@ module _ {C : Type 0} (k : Elements C) (from_words : List ℕ → C) (size : ℕ
 
     pub full_merged : merged ≡ fold (code_step p.code) state rows
     full_merged =
-        ext_get_or 0 merged (folded f state rows) (size_kept ∙ sym (length-folded f state rows)) (λ v lt. each v (omega (arith, lt, size_kept, long)) (is_history f v) refl)
+        ext_get_or 0 merged (folded f state rows) (size_kept ∙ sym (length-folded f state rows))
+        (λ v lt. each v (omega (arith, lt, size_kept, long)) (is_history f v) refl)
         ∙ sym (code_folds f p.code h.code state rows long)
 
 abbrev Written : {C : Type 0} → Elements C → (List ℕ → C) → ℕ → List ℕ → List ℕ → List ℕ → List ℕ → Type 0
 Written k from_words size map' state written places =
     (i : ℕ) → i < length places → slice_index written (slice_index places i)
-    ≡ k.to_word (map_apply k (length places) (table_of from_words size (length places) map') (λ j. k.embed (slice_index (words_at state places) j)) i)
+    ≡ k.to_word (map_apply k (length places) (table_of from_words size (length places) map')
+    (λ j. k.embed (slice_index (words_at state places) j)) i)
 
 -- a state with the linear variables written first, and then the history
-pub carried_of : {C : Type 0} (k : Elements C) (from_words : List ℕ → C) (size : ℕ) (p : FoldProgram) (history map' state first last x y places others : List ℕ) → IsShaped p → places ≡ p.layout.linear → others ≡ p.layout.history →
+pub carried_of : {C : Type 0} (k : Elements C) (from_words : List ℕ → C) (size : ℕ) (p : FoldProgram)
+    (history map' state first last x y places others : List ℕ) → IsShaped p → places ≡ p.layout.linear → others ≡ p.layout.history →
     x ≡ words_at state places →
-    ((i : ℕ) → i < length places → slice_index y i ≡ k.to_word (map_apply k (length places) (table_of from_words size (length places) map') (λ j. k.embed (slice_index x j)) i)) →
+    ((i : ℕ) → i < length places → slice_index y i ≡ k.to_word (map_apply k (length places) (table_of from_words size (length places) map')
+    (λ j. k.embed (slice_index x j)) i)) →
     ((i : ℕ) → i < length places → slice_index first (slice_index places i) ≡ slice_index y i) →
     ((v : ℕ) → ((i : ℕ) → i < length others → slice_index others i ≢ v) → slice_index last v ≡ slice_index first v) →
-    ((i : ℕ) → i < length others → slice_index last (slice_index others i) ≡ slice_index history i) → IsCarried k from_words size p history map' state last
-carried_of k from_words size p history map' state first last x y places others shape ep eo gathered applied written kept remembered = record {
-  linear = λ i h. kept (slice_index p.layout.linear i) (λ j lt. apart j i lt h) ∙ of_linear i h;
-  remembered = subst (λ l. (i : ℕ) → i < length l → slice_index last (slice_index l i) ≡ slice_index history i) eo remembered;
-}
+    ((i : ℕ) → i < length others → slice_index last (slice_index others i) ≡ slice_index history i)
+    → IsCarried k from_words size p history map' state last
+carried_of k from_words size p history map' state first last x y places others shape ep eo gathered applied written kept remembered =
+    record {
+      linear = λ i h. kept (slice_index p.layout.linear i) (λ j lt. apart j i lt h) ∙ of_linear i h;
+      remembered = subst (λ l. (i : ℕ) → i < length l → slice_index last (slice_index l i) ≡ slice_index history i) eo remembered;
+    }
   where
     of_linear : Written k from_words size map' state first p.layout.linear
     of_linear =
         subst (Written k from_words size map' state first) ep
-        (λ i h. written i h ∙ applied i h ∙ ap (λ ws. k.to_word (map_apply k (length places) (table_of from_words size (length places) map') (λ j. k.embed (slice_index ws j)) i)) gathered)
+        (λ i h. written i h ∙ applied i h ∙ ap (λ ws. k.to_word (map_apply k (length places) (table_of from_words size (length places) map')
+        (λ j. k.embed (slice_index ws j)) i)) gathered)
 
     apart : (j i : ℕ) → j < length others → i < length p.layout.linear → slice_index others j ≢ slice_index p.layout.linear i
-    apart = subst (λ l. (j i : ℕ) → j < length l → i < length p.layout.linear → slice_index l j ≢ slice_index p.layout.linear i) (sym eo) shape.apart
+    apart = subst (λ l. (j i : ℕ) → j < length l → i < length p.layout.linear → slice_index l j ≢ slice_index p.layout.linear i) (sym eo)
+        shape.apart

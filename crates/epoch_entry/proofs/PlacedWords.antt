@@ -25,36 +25,47 @@ module _ (f : TypedFold) where
   abbrev linear : ℕ → Bool
   linear v = not (is_history f v)
 
-  at_place : (p : ℕ → Bool) (state : List ℕ) (v : ℕ) → v < n → p v ≡ true → slice_index (words_at state (places p n)) (length (places p v)) ≡ slice_index state v
-  at_place p state v lt e = map_at (slice_index state) (places p n) (length (places p v)) (places_less p v n lt e) ∙ ap (slice_index state) (place_at p v n lt e)
+  at_place : (p : ℕ → Bool) (state : List ℕ) (v : ℕ) → v < n → p v ≡ true
+      → slice_index (words_at state (places p n)) (length (places p v)) ≡ slice_index state v
+  at_place p state v lt e = map_at (slice_index state) (places p n) (length (places p v)) (places_less p v n lt e)
+      ∙ ap (slice_index state) (place_at p v n lt e)
 
   pub history_same : (xs ys : List ℕ) → words_at xs (history_places f) ≡ words_at ys (history_places f) → SameHistory f xs ys
   history_same xs ys e v lt k =
-      sym (at_place (is_history f) xs v lt k) ∙ ap (λ z. slice_index z (length (places (is_history f) v))) e ∙ at_place (is_history f) ys v lt k
+      sym (at_place (is_history f) xs v lt k) ∙ ap (λ z. slice_index z (length (places (is_history f) v))) e
+      ∙ at_place (is_history f) ys v lt k
 
   same_history : (xs ys : List ℕ) → SameHistory f xs ys → words_at xs (history_places f) ≡ words_at ys (history_places f)
   same_history xs ys same =
-      ext_get_or 0 (words_at xs (history_places f)) (words_at ys (history_places f)) (length-map (slice_index xs) (history_places f) ∙ sym (length-map (slice_index ys) (history_places f)))
+      ext_get_or 0 (words_at xs (history_places f)) (words_at ys (history_places f))
+      (length-map (slice_index xs) (history_places f) ∙ sym (length-map (slice_index ys) (history_places f)))
       (λ i lt. one i (omega (arith, lt, length-map (slice_index xs) (history_places f))))
     where
-      one : (i : ℕ) → i < length (history_places f) → slice_index (words_at xs (history_places f)) i ≡ slice_index (words_at ys (history_places f)) i
+      one : (i : ℕ) → i < length (history_places f) → slice_index (words_at xs (history_places f)) i ≡ slice_index
+          (words_at ys (history_places f)) i
       one i h =
           let r = placed (is_history f) n i h in
-          map_at (slice_index xs) (history_places f) i h ∙ same (slice_index (history_places f) i) r.0 r.1 ∙ sym (map_at (slice_index ys) (history_places f) i h)
+          map_at (slice_index xs) (history_places f) i h ∙ same (slice_index (history_places f) i) r.0 r.1
+          ∙ sym (map_at (slice_index ys) (history_places f) i h)
 
   -- the history after a step depends on the history before it alone
-  pub history_after : (args xs ys : List ℕ) → IsValidFold f → length xs ≡ n → length ys ≡ n → words_at xs (history_places f) ≡ words_at ys (history_places f) →
+  pub history_after : (args xs ys : List ℕ) → IsValidFold f → length xs ≡ n → length ys ≡ n
+      → words_at xs (history_places f) ≡ words_at ys (history_places f) →
       words_at (body f xs args) (history_places f) ≡ words_at (body f ys args) (history_places f)
-  history_after args xs ys valid hx hy e = same_history (body f xs args) (body f ys args) (step_history f args xs ys valid hx hy (history_same xs ys e))
+  history_after args xs ys valid hx hy e = same_history (body f xs args) (body f ys args)
+      (step_history f args xs ys valid hx hy (history_same xs ys e))
 
-  pub moved_from : (algebra : Algebra) (base xs ys : List ℕ) → ((i : ℕ) → i < dimension f → linear_words f ys i ≡ moved algebra (linear_words f base i) (linear_words f xs i)) → AreMoved algebra f (slice_index base) xs ys
+  pub moved_from : (algebra : Algebra) (base xs ys : List ℕ) → ((i : ℕ) → i < dimension f
+      → linear_words f ys i ≡ moved algebra (linear_words f base i) (linear_words f xs i)) → AreMoved algebra f (slice_index base) xs ys
   moved_from algebra base xs ys h v lt e =
       let k : linear v ≡ true = ap (λ z. not z) e in
       let i = length (places linear v) in
       sym (at_place linear ys v lt k) ∙ h i (omega (arith, places_less linear v n lt k, rank_size f n))
-      ∙ ap (λ z. moved algebra z (linear_words f xs i)) (at_place linear base v lt k) ∙ ap (moved algebra (slice_index base v)) (at_place linear xs v lt k)
+      ∙ ap (λ z. moved algebra z (linear_words f xs i)) (at_place linear base v lt k)
+      ∙ ap (moved algebra (slice_index base v)) (at_place linear xs v lt k)
 
-  pub moved_back : (algebra : Algebra) (base xs ys : List ℕ) → AreMoved algebra f (slice_index base) xs ys → (i : ℕ) → i < dimension f → linear_words f ys i ≡ moved algebra (linear_words f base i) (linear_words f xs i)
+  pub moved_back : (algebra : Algebra) (base xs ys : List ℕ) → AreMoved algebra f (slice_index base) xs ys → (i : ℕ) → i < dimension f
+      → linear_words f ys i ≡ moved algebra (linear_words f base i) (linear_words f xs i)
   moved_back algebra base xs ys h i lt =
       let less : i < length (linear_places f) = omega (arith, lt, rank_size f n) in
       let r = placed linear n i less in

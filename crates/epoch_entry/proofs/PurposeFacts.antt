@@ -52,11 +52,13 @@ module _ (f : TypedFold) (sizes : Sizes) (folding : Folding) (opening absorbing 
     absorb = omega (arith, h.absorb, cheap_run);
   }
 
-  bounding_suits : (c : Class) → c ≡ class_of f → IsBoundingKind c f sizes folding opening absorbing → SuitsFold 3 f sizes folding opening absorbing
+  bounding_suits : (c : Class) → c ≡ class_of f → IsBoundingKind c f sizes folding opening absorbing
+      → SuitsFold 3 f sizes folding opening absorbing
   bounding_suits Linear e h = own_suits_more h
   bounding_suits Other e h = bounds_suit e h
 
-  pub kind_suits : (entries : Entries) → IsKindFor entries f sizes folding opening absorbing → SuitsFold (runs_of entries) f sizes folding opening absorbing
+  pub kind_suits : (entries : Entries) → IsKindFor entries f sizes folding opening absorbing
+      → SuitsFold (runs_of entries) f sizes folding opening absorbing
   kind_suits Folds h = own_suits h
   kind_suits Bounds h = bounding_suits (class_of f) refl h
 
@@ -66,15 +68,19 @@ module _ (f : TypedFold) (sizes : Sizes) (folding : Folding) (opening absorbing 
   bounds_fit : (key : ℕ) → IsValidFold f → key ≤ 8 → IsBoundsKindOf f sizes folding opening absorbing → key + sizes.entry ≤ 274
   bounds_fit key valid few h = omega (arith, h.entry, valid.states)
 
-  bounding_fits : (key : ℕ) → IsValidFold f → key ≤ 8 → (c : Class) → IsBoundingKind c f sizes folding opening absorbing → key + sizes.entry ≤ 274
+  bounding_fits : (key : ℕ) → IsValidFold f → key ≤ 8 → (c : Class) → IsBoundingKind c f sizes folding opening absorbing → key
+      + sizes.entry ≤ 274
   bounding_fits key valid few Linear h = own_fits key valid few h
   bounding_fits key valid few Other h = bounds_fit key valid few h
 
-  pub kind_fits : (entries : Entries) (key : ℕ) → IsValidFold f → IsKindFor entries f sizes folding opening absorbing → key ≤ 8 → key + sizes.entry ≤ 274
+  pub kind_fits : (entries : Entries) (key : ℕ) → IsValidFold f → IsKindFor entries f sizes folding opening absorbing → key ≤ 8 → key
+      + sizes.entry ≤ 274
   kind_fits Folds key valid h few = own_fits key valid few h
   kind_fits Bounds key valid h few = bounding_fits key valid few (class_of f) h
 
   -- where bounds are asked for, by the class of the program
-  pub for_bounds : (entries : Entries) (p : FoldProgram) (c : Class) → IsProgramOf f p → entries ≡ Bounds → p.class ≡ c → IsBoundingKind c f sizes folding opening absorbing → IsKindFor entries f sizes folding opening absorbing
+  pub for_bounds : (entries : Entries) (p : FoldProgram) (c : Class) → IsProgramOf f p → entries ≡ Bounds → p.class ≡ c
+      → IsBoundingKind c f sizes folding opening absorbing → IsKindFor entries f sizes folding opening absorbing
   for_bounds entries p c is asked e h =
-      subst (λ x. IsKindFor x f sizes folding opening absorbing) (sym asked) (subst (λ k. IsBoundingKind k f sizes folding opening absorbing) (sym e ∙ is.class) h)
+      subst (λ x. IsKindFor x f sizes folding opening absorbing) (sym asked)
+      (subst (λ k. IsBoundingKind k f sizes folding opening absorbing) (sym e ∙ is.class) h)

@@ -1,5 +1,6 @@
 -- The parts of a fold's program fit together.
-use Rattle.std.proofs.Common.{◌≡◌, ◌≢◌, ℕ, zero, suc, ◌<◌, ◌≤◌, Bool, true, false, not, nat_lt, if◌then◌else◌, List, [], ◌∷◌, ◌++◌, length, slice_index, All, refl, sym, ap, ◌∙◌, subst, arith, length-append}
+use Rattle.std.proofs.Common.{◌≡◌, ◌≢◌, ℕ, zero, suc, ◌<◌, ◌≤◌, Bool, true, false, not, nat_lt, if◌then◌else◌, List, [], ◌∷◌, ◌++◌, length}
+use Rattle.std.proofs.Common.{slice_index, All, refl, sym, ap, ◌∙◌, subst, arith, length-append}
 use Rattle.std.proofs.Math.Logic.{∥∥₁_elim}
 use Rattle.std.proofs.Props.{props}
 use Rattle.std.proofs.lemmas.Bool.Decides.{nat_tests}
@@ -27,7 +28,8 @@ places_ascend p (suc n) i j lt h = at (places_ascend p n) (p n) refl h
         last : (l : Bool) → nat_lt j (length (places p n)) ≡ l → slice_index (places p n ++ n ∷ []) i < slice_index (places p n ++ n ∷ []) j
         last true t =
             let lj : j < length (places p n) = grind (arith, nat_tests) in
-            let ei : slice_index (places p n ++ n ∷ []) i ≡ slice_index (places p n) i = get_or_append_left (places p n) (n ∷ []) 0 i (omega arith) in
+            let ei : slice_index (places p n ++ n ∷ []) i ≡ slice_index (places p n) i =
+            get_or_append_left (places p n) (n ∷ []) 0 i (omega arith) in
             let ej : slice_index (places p n ++ n ∷ []) j ≡ slice_index (places p n) j = get_or_append_left (places p n) (n ∷ []) 0 j lj in
             omega (arith, ei, ej, front i j lt lj)
         last false t =
@@ -41,7 +43,8 @@ places_ascend p (suc n) i j lt h = at (places_ascend p n) (p n) refl h
 places_inside : (p : ℕ → Bool) (n m : ℕ) → n ≡ m → All (λ v. v < m) (places p n)
 places_inside p n m e i d h = omega (arith, default_free (places p n) i d h, (placed p n i h).0)
 
-sorts_apart : (q : ℕ → Bool) (n i j : ℕ) → i < length (places q n) → j < length (places (λ v. not (q v)) n) → slice_index (places q n) i ≢ slice_index (places (λ v. not (q v)) n) j
+sorts_apart : (q : ℕ → Bool) (n i j : ℕ) → i < length (places q n) → j < length (places (λ v. not (q v)) n)
+    → slice_index (places q n) i ≢ slice_index (places (λ v. not (q v)) n) j
 sorts_apart q n i j hi hj same =
     let on : q (slice_index (places q n) i) ≡ true = (placed q n i hi).1 in
     let off : not (q (slice_index (places (λ v. not (q v)) n) j)) ≡ true = (placed (λ v. not (q v)) n j hj).1 in
@@ -62,15 +65,25 @@ shape_of f p h =
       rows_args = h.rows.args ∙ sym h.layout.args;
       rows_linear = h.rows.linear ∙ sym h.layout.linear;
       rows_history = h.rows.history ∙ sym h.layout.history;
-      sorts = omega (arith, states, ap (λ l. length l) h.layout.linear, ap (λ l. length l) h.layout.history, both_sorts (is_history f) (fold_states f));
+      sorts = omega (
+        arith,
+        states,
+        ap (λ l. length l) h.layout.linear,
+        ap (λ l. length l) h.layout.history,
+        both_sorts (is_history f)
+            (fold_states f),
+      );
       states = omega (arith, states, h.valid.states);
       args = omega (arith, h.layout.args, h.valid.args);
       depth = omega (arith, h.depth.least (fold_states f) (λ v lt w. history_rounds f v lt w), h.valid.states);
-      linear_inside = subst (λ l. All (λ v. v < length p.layout.initial) l) (sym h.layout.linear) (places_inside (λ v. not (is_history f v)) (fold_states f) (length p.layout.initial) (sym states));
-      history_inside = subst (λ l. All (λ v. v < length p.layout.initial) l) (sym h.layout.history) (places_inside (is_history f) (fold_states f) (length p.layout.initial) (sym states));
+      linear_inside = subst (λ l. All (λ v. v < length p.layout.initial) l) (sym h.layout.linear)
+          (places_inside (λ v. not (is_history f v)) (fold_states f) (length p.layout.initial) (sym states));
+      history_inside = subst (λ l. All (λ v. v < length p.layout.initial) l) (sym h.layout.history)
+          (places_inside (is_history f) (fold_states f) (length p.layout.initial) (sym states));
       linear_ascends = subst IsAscending (sym h.layout.linear) (places_ascend (λ v. not (is_history f v)) (fold_states f));
       history_ascends = subst IsAscending (sym h.layout.history) (places_ascend (is_history f) (fold_states f));
-      apart = subst (λ l. AreApart l p.layout.linear) (sym h.layout.history) (subst (λ l. AreApart (history_places f) l) (sym h.layout.linear) (sorts_apart (is_history f) (fold_states f)));
+      apart = subst (λ l. AreApart l p.layout.linear) (sym h.layout.history)
+          (subst (λ l. AreApart (history_places f) l) (sym h.layout.linear) (sorts_apart (is_history f) (fold_states f)));
     }
 
 pub program_shaped : (p : FoldProgram) → IsProgram p → IsShaped p

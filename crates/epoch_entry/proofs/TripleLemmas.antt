@@ -11,7 +11,8 @@ use Rattle.fold_code.specs.Meaning.{code_step}
 use Rattle.fold_class.specs.declared.program.FoldProgram.{FoldProgram}
 use Rattle.fold_class.specs.Program.{IsProgramOf}
 use Rattle.epoch_entry.specs.Triples.{first_third, second_third, last_third, beside, step_beside, start_beside}
-use Rattle.epoch_entry.specs.Bounds.{least_state, greatest_state, bounds_sizes, bounds_folding, bounds_open, bounds_absorb, bounds_merge, IsBoundsKindOf}
+use Rattle.epoch_entry.specs.Bounds.{least_state, greatest_state, bounds_sizes, bounds_folding, bounds_open, bounds_absorb, bounds_merge}
+use Rattle.epoch_entry.specs.Bounds.{IsBoundsKindOf}
 use Rattle.epoch_entry.specs.Foldings.{merge_bound}
 
 -- the thirds
@@ -30,12 +31,15 @@ module _ (n : ℕ) (a b c : List ℕ) where
   last_is ea eb = ap (drop n) (rest_is ea) ∙ ap (λ k. drop k (b ++ c)) (sym eb) ∙ drop-append_seam b c
 
 -- the states of three runs, each by its own step
-pub steps_same : (g h : List ℕ → List ℕ → List ℕ) (n : ℕ) (a b c row : List ℕ) → ((s : List ℕ) → length s ≡ n → g s row ≡ h s row) → length a ≡ n → length b ≡ n → length c ≡ n →
+pub steps_same : (g h : List ℕ → List ℕ → List ℕ) (n : ℕ) (a b c row : List ℕ) → ((s : List ℕ) → length s ≡ n → g s row ≡ h s row)
+    → length a ≡ n → length b ≡ n → length c ≡ n →
     beside (g a row) (g b row) (g c row) ≡ beside (h a row) (h b row) (h c row)
 steps_same g h n a b c row same ea eb ec =
-    ap (λ z. beside z (g b row) (g c row)) (same a ea) ∙ ap (λ z. beside (h a row) z (g c row)) (same b eb) ∙ ap (λ z. beside (h a row) (h b row) z) (same c ec)
+    ap (λ z. beside z (g b row) (g c row)) (same a ea) ∙ ap (λ z. beside (h a row) z (g c row)) (same b eb)
+    ∙ ap (λ z. beside (h a row) (h b row) z) (same c ec)
 
-step_is : (g : List ℕ → List ℕ → List ℕ) (n : ℕ) (a b c row : List ℕ) → length a ≡ n → length b ≡ n → step_beside g n (beside a b c) row ≡ beside (g a row) (g b row) (g c row)
+step_is : (g : List ℕ → List ℕ → List ℕ) (n : ℕ) (a b c row : List ℕ) → length a ≡ n → length b ≡ n
+    → step_beside g n (beside a b c) row ≡ beside (g a row) (g b row) (g c row)
 step_is g n a b c row ea eb =
     let t = beside a b c in
     ap (λ z. beside (g z row) (g (second_third n t) row) (g (last_third n t) row)) (first_is n a b c ea)
@@ -43,16 +47,19 @@ step_is g n a b c row ea eb =
     ∙ ap (λ z. beside (g a row) (g b row) (g z row)) (last_is n a b c ea eb)
 
 -- a step that is a fold's body, on states side by side, is the fold on each
-pub folds_beside : (f : TypedFold) (g : List ℕ → List ℕ → List ℕ) (a b c : List ℕ) (rows : List ArgRow) → ((s row : List ℕ) → length s ≡ fold_states f → g s row ≡ body f s row) →
+pub folds_beside : (f : TypedFold) (g : List ℕ → List ℕ → List ℕ) (a b c : List ℕ) (rows : List ArgRow)
+    → ((s row : List ℕ) → length s ≡ fold_states f → g s row ≡ body f s row) →
     length a ≡ fold_states f → length b ≡ fold_states f → length c ≡ fold_states f →
     fold (step_beside g (fold_states f)) (beside a b c) rows ≡ beside (folded f a rows) (folded f b rows) (folded f c rows)
 folds_beside f g a b c [] same ea eb ec = refl
 folds_beside f g a b c (row ∷ rows) same ea eb ec =
     let n = fold_states f in
     ap (λ z. fold (step_beside g n) z rows) (step_is g n a b c row ea eb ∙ steps_same g (body f) n a b c row (λ s e. same s row e) ea eb ec)
-    ∙ folds_beside f g (body f a row) (body f b row) (body f c row) rows same (length-body f a row ∙ ea) (length-body f b row ∙ eb) (length-body f c row ∙ ec)
+    ∙ folds_beside f g (body f a row) (body f b row) (body f c row) rows same (length-body f a row ∙ ea) (length-body f b row ∙ eb)
+    (length-body f c row ∙ ec)
 
-pub bounds_kind : (f : TypedFold) (p : FoldProgram) → IsProgramOf f p → IsBoundsKindOf f (bounds_sizes p) (bounds_folding p) (bounds_open p) (bounds_absorb p)
+pub bounds_kind : (f : TypedFold) (p : FoldProgram) → IsProgramOf f p → IsBoundsKindOf f (bounds_sizes p) (bounds_folding p) (bounds_open p)
+    (bounds_absorb p)
 bounds_kind f p h =
     let n = fold_states f in
     let states : length p.layout.initial ≡ n = ap (λ l. length l) h.layout.initial ∙ h.valid.starts in
@@ -63,10 +70,15 @@ bounds_kind f p h =
       entry = omega (arith, states);
       initial = start;
       row_per_epoch = refl;
-      step = λ state row long. ap (λ k. step_beside (code_step p.code) k state row) states ∙ steps_same (code_step p.code) (body f) n (first_third n state) (second_third n state) (last_third n state) row (λ s e. h.code.step s row e)
-          (length-take-le n state (omega (arith, long))) (length-take-le n (drop n state) (omega (arith, long, length-drop n state))) (omega (arith, long, length-drop n state, length-drop n (drop n state)));
-      folded = λ rows. ap (λ k. fold (step_beside (code_step p.code) k) (bounds_folding p).initial rows) states ∙ ap (λ s. fold (step_beside (code_step p.code) n) s rows) start
-          ∙ folds_beside f (code_step p.code) (initial_state f) (least_state f) (greatest_state f) rows h.code.step h.valid.starts (length-replicate {A = ℕ} n 0) (length-replicate {A = ℕ} n (2 ^ 64 - 1));
+      step = λ state row long. ap (λ k. step_beside (code_step p.code) k state row) states
+          ∙ steps_same (code_step p.code) (body f) n (first_third n state) (second_third n state) (last_third n state) row
+          (λ s e. h.code.step s row e)
+          (length-take-le n state (omega (arith, long))) (length-take-le n (drop n state) (omega (arith, long, length-drop n state)))
+          (omega (arith, long, length-drop n state, length-drop n (drop n state)));
+      folded = λ rows. ap (λ k. fold (step_beside (code_step p.code) k) (bounds_folding p).initial rows) states
+          ∙ ap (λ s. fold (step_beside (code_step p.code) n) s rows) start
+          ∙ folds_beside f (code_step p.code) (initial_state f) (least_state f) (greatest_state f) rows h.code.step h.valid.starts
+          (length-replicate {A = ℕ} n 0) (length-replicate {A = ℕ} n (2 ^ 64 - 1));
       «open» = omega (arith, states);
       absorb = omega (arith, h.code.steps);
     }

@@ -1,12 +1,15 @@
 -- Where a key's rows are cut, with the uses in the order of the trace.
-use Rattle.std.proofs.Common.{◌≡◌, ℕ, suc, ◌+◌, Bool, true, false, cond, not, ◌&&◌, ◌||◌, List, [], ◌∷◌, ◌++◌, Some, None, length, map, filter, reverse, refl, sym, ap, ap₂, ◌∙◌, subst, arith, append-nil, append_assoc, length-append}
+use Rattle.std.proofs.Common.{◌≡◌, ℕ, suc, ◌+◌, Bool, true, false, cond, not, ◌&&◌, ◌||◌, List, [], ◌∷◌, ◌++◌, Some, None, length, map}
+use Rattle.std.proofs.Common.{filter, reverse, refl, sym, ap, ap₂, ◌∙◌, subst, arith, append-nil, append_assoc, length-append}
 use Rattle.std.specs.Prelude.{nat_lt}
 use Rattle.std.proofs.lemmas.List.{reverse-append, map-append}
 use Rattle.std.proofs.lemmas.List.Elements.{filter-append}
 use Rattle.epoch_model.specs.Keys.{Key, key_eq, others, distinct, has}
-use Rattle.epoch_model.specs.Epochs.{Use, Geometry, refresh_between, is_rival, rivals, in_one_epoch, is_use_of, last_use, since_last_use, goes_on_after, goes_on, onto_last, epochs_back, epochs}
+use Rattle.epoch_model.specs.Epochs.{Use, Geometry, refresh_between, is_rival, rivals, in_one_epoch, is_use_of, last_use, since_last_use}
+use Rattle.epoch_model.specs.Epochs.{goes_on_after, goes_on, onto_last, epochs_back, epochs}
 use Rattle.epoch_model.specs.Laws.{NotUsed, EpochsAreCutBetweenUses}
-use Rattle.epoch_model.proofs.KeyLists.{by_test, key_eq-true, key_eq-refl, key_eq-sym_false, IsDistinct, others_absent, distinct-distinct, has-distinct}
+use Rattle.epoch_model.proofs.KeyLists.{by_test, key_eq-true, key_eq-refl, key_eq-sym_false, IsDistinct, others_absent, distinct-distinct}
+use Rattle.epoch_model.proofs.KeyLists.{has-distinct}
 
 -- 1 for a key that is there
 abbrev counted : Bool → ℕ
@@ -53,7 +56,8 @@ has-reverse k [] = refl
 has-reverse k (x ∷ xs) =
     ap (has k) (reverse-cons x xs) ∙ (has-append k (reverse xs) (x ∷ [])
     ∙ (ap (λ t. t || (key_eq x k || false)) (has-reverse k xs)
-    ∙ by_test (has k xs) (λ h. by_test (key_eq x k) (λ e. rw (h, e) refl) (λ e. rw (h, e) refl)) (λ h. by_test (key_eq x k) (λ e. rw (h, e) refl) (λ e. rw (h, e) refl))))
+    ∙ by_test (has k xs) (λ h. by_test (key_eq x k) (λ e. rw (h, e) refl) (λ e. rw (h, e) refl))
+    (λ h. by_test (key_eq x k) (λ e. rw (h, e) refl) (λ e. rw (h, e) refl))))
 
 -- how many keys there are doesn't depend on the order
 distinct-reverse : (xs : List Key) → length (distinct (reverse xs)) ≡ length (distinct xs)
@@ -98,31 +102,36 @@ NotUsed-append key (x ∷ xs) ys a b = (a.0, NotUsed-append key xs ys a.1 b)
 
 NotUsed-reverse : (key : Key) (xs : List Use) → NotUsed key xs → NotUsed key (reverse xs)
 NotUsed-reverse key [] a = tt
-NotUsed-reverse key (x ∷ xs) a = subst (NotUsed key) (sym (reverse-cons x xs)) (NotUsed-append key (reverse xs) (x ∷ []) (NotUsed-reverse key xs a.1) (a.0, tt))
+NotUsed-reverse key (x ∷ xs) a = subst (NotUsed key) (sym (reverse-cons x xs))
+    (NotUsed-append key (reverse xs) (x ∷ []) (NotUsed-reverse key xs a.1) (a.0, tt))
 
 last-none : (key : Key) (uses : List Use) → NotUsed key uses → last_use key uses ≡ None
 last-none key [] a = refl
 last-none key (u ∷ uses) a = rw a.0 (last-none key uses a.1)
 
-last-skip : (key : Key) (xs ys : List Use) (one : Use) → NotUsed key xs → is_use_of key one ≡ true → last_use key (xs ++ one ∷ ys) ≡ Some one
+last-skip : (key : Key) (xs ys : List Use) (one : Use) → NotUsed key xs → is_use_of key one ≡ true
+    → last_use key (xs ++ one ∷ ys) ≡ Some one
 last-skip key [] ys one a e = rw e refl
 last-skip key (x ∷ xs) ys one a e = rw a.0 (last-skip key xs ys one a.1 e)
 
-since-skip : (key : Key) (xs ys : List Use) (one : Use) → NotUsed key xs → is_use_of key one ≡ true → since_last_use key (xs ++ one ∷ ys) ≡ xs
+since-skip : (key : Key) (xs ys : List Use) (one : Use) → NotUsed key xs → is_use_of key one ≡ true
+    → since_last_use key (xs ++ one ∷ ys) ≡ xs
 since-skip key [] ys one a e = rw e refl
 since-skip key (x ∷ xs) ys one a e = rw a.0 (ap (λ us. x ∷ us) (since-skip key xs ys one a.1 e))
 
 -- the uses from the latest one back: those after a use, the use, and those before it
 back : (before between : List Use) (one : Use) → reverse (before ++ one ∷ between) ≡ reverse between ++ one ∷ reverse before
 back before between one =
-    reverse-append before (one ∷ between) ∙ (ap (λ us. us ++ reverse before) (reverse-cons one between) ∙ append_assoc (reverse between) (one ∷ []) (reverse before))
+    reverse-append before (one ∷ between) ∙ (ap (λ us. us ++ reverse before) (reverse-cons one between)
+    ∙ append_assoc (reverse between) (one ∷ []) (reverse before))
 
 goes_on-is : (g : Geometry) (before between : List Use) (one two : Use) → is_use_of two.key one ≡ true → NotUsed two.key between
     → goes_on g (reverse (before ++ one ∷ between)) two ≡ in_one_epoch g one between two
 goes_on-is g before between one two e n =
     let n' = NotUsed-reverse two.key between n in
     ap (λ us. goes_on g us two) (back before between one)
-    ∙ (ap₂ (λ last us. goes_on_after g last us two) (last-skip two.key (reverse between) (reverse before) one n' e) (since-skip two.key (reverse between) (reverse before) one n' e)
+    ∙ (ap₂ (λ last us. goes_on_after g last us two) (last-skip two.key (reverse between) (reverse before) one n' e)
+    (since-skip two.key (reverse between) (reverse before) one n' e)
     ∙ ap (λ n. nat_lt n g.ways && not (refresh_between g.refresh one.packet two.packet)) (rivals-reverse g two.key between))
 
 -- the latest use of the trace comes first
@@ -136,12 +145,14 @@ epochs_are_cut_between_uses_lem g = record {
   start = λ key. refl;
   other = λ uses u key e. latest g uses u key ∙ rw e refl;
   first = λ uses u n.
-      let fresh : goes_on g (reverse uses) u ≡ false = ap (λ last. goes_on_after g last (since_last_use u.key (reverse uses)) u) (last-none u.key (reverse uses) (NotUsed-reverse u.key uses n)) in
+      let fresh : goes_on g (reverse uses) u ≡ false = ap (λ last. goes_on_after g last (since_last_use u.key (reverse uses)) u)
+      (last-none u.key (reverse uses) (NotUsed-reverse u.key uses n)) in
       let own : key_eq u.key u.key ≡ true = key_eq-refl u.key in
       latest g uses u u.key ∙ rw (own, fresh) refl;
   next = λ before between one two e n.
       let prior = before ++ one ∷ between in
       let own : key_eq two.key two.key ≡ true = key_eq-refl two.key in
       let on : goes_on g (reverse prior) two ≡ in_one_epoch g one between two = goes_on-is g before between one two e n in
-      latest g prior two two.key ∙ rw own (ap (λ t. cond t (onto_last two.row (epochs g prior two.key)) (epochs g prior two.key ++ (two.row ∷ []) ∷ [])) on);
+      latest g prior two two.key ∙ rw own (ap (λ t. cond t (onto_last two.row (epochs g prior two.key))
+      (epochs g prior two.key ++ (two.row ∷ []) ∷ [])) on);
 }

@@ -1,14 +1,17 @@
 -- What a program needs that makes the events of a trace in sequence.
-use Rattle.std.proofs.Common.{◌≡◌, ◌<◌, ◌≤◌, ◌-◌, ℕ, zero, suc, true, false, List, [], ◌∷◌, length, refl, sym, ap, ap₂, ◌∙◌, subst, arith, length-set, length-take}
+use Rattle.std.proofs.Common.{◌≡◌, ◌<◌, ◌≤◌, ◌-◌, ℕ, zero, suc, true, false, List, [], ◌∷◌, length, refl, sym, ap, ap₂, ◌∙◌, subst, arith}
+use Rattle.std.proofs.Common.{length-set, length-take}
 use Rattle.std.specs.Prelude.{nat_lt, ◌==◌, ◌+◌, Option, Some, None, slice_index_or}
 use Rattle.std.proofs.lemmas.Bool.{ltb-true, ltb-false, lt-ltb, ne_eqb, eq-eqb}
 use Rattle.std.proofs.lemmas.List.{get_or_past, length-replicate}
 use Rattle.epoch_model.specs.Keys.{Key, ArgRow}
 use Rattle.epoch_model.specs.Epochs.{Use, Geometry, is_refresh}
-use Rattle.epoch_model.specs.Machine.{Machine, Event, Packet, Evict, Merge, open_in, evict, packet, merge, run, evict_times, empty_bucket, empty_buckets, merge_times, packets_of, after_packets, end_of}
+use Rattle.epoch_model.specs.Machine.{Machine, Event, Packet, Evict, Merge, open_in, evict, packet, merge, run, evict_times, empty_bucket}
+use Rattle.epoch_model.specs.Machine.{empty_buckets, merge_times, packets_of, after_packets, end_of}
 use Rattle.epoch_model.specs.Timeline.{IsSwept}
 use Rattle.epoch_model.specs.Laws.{StartsFrom, EndsBy, SameEpochs}
-use Rattle.epoch_model.specs.Driving.{EventsKeepAlike, BucketsEmptyByEvictions, PacketsFollowTheTrace, SweepsReachTheEnd, TakenUsesAreInTrace, Taken, uses_taken, event_of, after_packet}
+use Rattle.epoch_model.specs.Driving.{EventsKeepAlike, BucketsEmptyByEvictions, PacketsFollowTheTrace, SweepsReachTheEnd}
+use Rattle.epoch_model.specs.Driving.{TakenUsesAreInTrace, Taken, uses_taken, event_of, after_packet}
 use Rattle.epoch_model.proofs.KeyLists.{by_test}
 use Rattle.epoch_model.proofs.MachineSteps.{evict_empty}
 use Rattle.epoch_model.proofs.PacketSteps.{evict-open_same, packet_cases, own}
@@ -17,18 +20,21 @@ use Rattle.epoch_model.proofs.EndOfTrace.{empty_buckets-empties}
 
 -- alike machines stay alike
 
-evict_times-alike : (times : ℕ) (m n : Machine) (bucket : ℕ) → SameEpochs m n → SameEpochs (evict_times times m bucket) (evict_times times n bucket)
+evict_times-alike : (times : ℕ) (m n : Machine) (bucket : ℕ) → SameEpochs m n
+    → SameEpochs (evict_times times m bucket) (evict_times times n bucket)
 evict_times-alike zero m n bucket s = s
 evict_times-alike (suc times) m n bucket s = evict_times-alike times (evict m bucket) (evict n bucket) bucket (evict-alike m n bucket s)
 
 empty_bucket-alike : (m n : Machine) (bucket : ℕ) → SameEpochs m n → SameEpochs (empty_bucket m bucket) (empty_bucket n bucket)
 empty_bucket-alike m n bucket s =
-    subst (λ times. SameEpochs (evict_times (length (open_in m bucket)) m bucket) (evict_times times n bucket)) (ap (λ r. length (slice_index_or r bucket [])) s.recent)
+    subst (λ times. SameEpochs (evict_times (length (open_in m bucket)) m bucket) (evict_times times n bucket))
+    (ap (λ r. length (slice_index_or r bucket [])) s.recent)
     (evict_times-alike (length (open_in m bucket)) m n bucket s)
 
 empty_buckets-alike : (m n : Machine) (buckets : ℕ) → SameEpochs m n → SameEpochs (empty_buckets buckets m) (empty_buckets buckets n)
 empty_buckets-alike m n zero s = s
-empty_buckets-alike m n (suc bucket) s = empty_bucket-alike (empty_buckets bucket m) (empty_buckets bucket n) bucket (empty_buckets-alike m n bucket s)
+empty_buckets-alike m n (suc bucket) s = empty_bucket-alike (empty_buckets bucket m) (empty_buckets bucket n) bucket
+    (empty_buckets-alike m n bucket s)
 
 pub events_keep_alike_lem : EventsKeepAlike
 events_keep_alike_lem = record {
@@ -67,7 +73,8 @@ evict_times-shape (suc times) m bucket = evict_times-shape times (evict m bucket
 
 empty_buckets-shape : (buckets : ℕ) (m : Machine) → length (empty_buckets buckets m).recent ≡ length m.recent
 empty_buckets-shape zero m = refl
-empty_buckets-shape (suc bucket) m = evict_times-shape (length (open_in (empty_buckets bucket m) bucket)) (empty_buckets bucket m) bucket ∙ empty_buckets-shape bucket m
+empty_buckets-shape (suc bucket) m = evict_times-shape (length (open_in (empty_buckets bucket m) bucket)) (empty_buckets bucket m) bucket
+    ∙ empty_buckets-shape bucket m
 
 sweep-empties : (m : Machine) (buckets : ℕ) → length m.recent ≡ buckets → IsSwept (empty_buckets buckets m)
 sweep-empties m buckets shape bucket = by_test (nat_lt bucket buckets)
@@ -102,19 +109,22 @@ run-shape g (Packet key row ∷ events) m = run-shape g events (packet g m key r
 run-shape g (Evict bucket ∷ events) m = run-shape g events (evict m bucket) ∙ evict-shape m bucket
 run-shape g (Merge ∷ events) m = run-shape g events (merge m) ∙ merge-shape m
 
-after_packet-shape : (g : Geometry) (number : ℕ) (events : List Event) (m : Machine) → length (after_packet g number events m).recent ≡ length m.recent
+after_packet-shape : (g : Geometry) (number : ℕ) (events : List Event) (m : Machine)
+    → length (after_packet g number events m).recent ≡ length m.recent
 after_packet-shape g number events m = by_test (is_refresh g.refresh number)
     (λ r. rw r (empty_buckets-shape g.buckets (run g events m) ∙ run-shape g events m))
     (λ r. rw r (run-shape g events m))
 
-after_packets-next : (g : Geometry) (uses : List Use) (number : ℕ) → after_packets g uses (suc number) ≡ after_packet g (suc number) (packets_of (suc number) uses) (after_packets g uses number)
+after_packets-next : (g : Geometry) (uses : List Use) (number : ℕ) → after_packets g uses (suc number) ≡ after_packet g (suc number)
+    (packets_of (suc number) uses) (after_packets g uses number)
 unfolding after_packets
 after_packets-next g uses number = refl
 
 after_packets-shape : (g : Geometry) (uses : List Use) (number : ℕ) → length (after_packets g uses number).recent ≡ g.buckets
 unfolding after_packets
 after_packets-shape g uses zero = length-replicate g.buckets []
-after_packets-shape g uses (suc number) = after_packet-shape g (suc number) (packets_of (suc number) uses) (after_packets g uses number) ∙ after_packets-shape g uses number
+after_packets-shape g uses (suc number) = after_packet-shape g (suc number) (packets_of (suc number) uses) (after_packets g uses number)
+    ∙ after_packets-shape g uses number
 
 pub packets_follow_the_trace_lem : PacketsFollowTheTrace
 unfolding after_packets
@@ -151,10 +161,12 @@ evict_times-merged (suc times) m bucket = evict_times-merged times (evict m buck
 
 empty_buckets-merged : (buckets : ℕ) (m : Machine) → (empty_buckets buckets m).merged ≡ m.merged
 empty_buckets-merged zero m = refl
-empty_buckets-merged (suc bucket) m = evict_times-merged (length (open_in (empty_buckets bucket m) bucket)) (empty_buckets bucket m) bucket ∙ empty_buckets-merged bucket m
+empty_buckets-merged (suc bucket) m = evict_times-merged (length (open_in (empty_buckets bucket m) bucket)) (empty_buckets bucket m) bucket
+    ∙ empty_buckets-merged bucket m
 
 packet-merged : (g : Geometry) (m : Machine) (key : Key) (row : ArgRow) → (packet g m key row).merged ≡ m.merged
-packet-merged g m key row = packet_cases g m key row (λ x. x.merged ≡ m.merged) (λ h. refl) (λ h l. refl) (λ h l. evict_times-merged 1 m (own g key))
+packet-merged g m key row = packet_cases g m key row (λ x. x.merged ≡ m.merged) (λ h. refl) (λ h l. refl)
+    (λ h l. evict_times-merged 1 m (own g key))
 
 packets-merged : (g : Geometry) (number : ℕ) (uses : List Use) (m : Machine) → (run g (packets_of number uses) m).merged ≡ m.merged
 packets-merged g number [] m = refl
@@ -189,9 +201,11 @@ end-merged g uses packets =
 
 end-swept : (g : Geometry) (uses : List Use) (packets : ℕ) → IsSwept (end_of g uses packets)
 end-swept g uses packets bucket =
-    ap (λ r. slice_index_or r bucket []) (end-alike g uses packets).recent ∙ sweep-empties (after_packets g uses packets) g.buckets (after_packets-shape g uses packets) bucket
+    ap (λ r. slice_index_or r bucket []) (end-alike g uses packets).recent
+    ∙ sweep-empties (after_packets g uses packets) g.buckets (after_packets-shape g uses packets) bucket
 
-whole_end : (g : Geometry) (uses : List Use) (packets : ℕ) (m : Machine) → SameEpochs m (last_swept g uses packets) → m.merged ≡ length m.closed → m ≡ end_of g uses packets
+whole_end : (g : Geometry) (uses : List Use) (packets : ℕ) (m : Machine) → SameEpochs m (last_swept g uses packets)
+    → m.merged ≡ length m.closed → m ≡ end_of g uses packets
 whole_end g uses packets m s all =
     let end = end-alike g uses packets in
     let closed : m.closed ≡ (end_of g uses packets).closed = s.closed ∙ sym end.closed in
@@ -216,8 +230,13 @@ starts-later first number (u ∷ uses) h s = let l = s.0 in (omega arith, s.1)
 
 taken-start : (number : ℕ) (packets : List (Option Taken)) → StartsFrom number (uses_taken number packets)
 taken-start number [] = tt
-taken-start number (None ∷ packets) = starts-later number (suc number) (uses_taken (suc number) packets) (omega arith) (taken-start (suc number) packets)
-taken-start number (Some t ∷ packets) = (omega arith, starts-later number (suc number) (uses_taken (suc number) packets) (omega arith) (taken-start (suc number) packets))
+taken-start number (None ∷ packets) = starts-later number (suc number) (uses_taken (suc number) packets) (omega arith)
+    (taken-start (suc number) packets)
+taken-start number (Some t ∷ packets) = (
+  omega arith,
+  starts-later number (suc number) (uses_taken (suc number) packets) (omega arith)
+      (taken-start (suc number) packets),
+)
 
 taken-end : (number last : ℕ) (packets : List (Option Taken)) → number + length packets ≤ suc last → EndsBy last (uses_taken number packets)
 taken-end number last [] h = tt
@@ -232,7 +251,8 @@ taken-earlier number wanted (Some t ∷ packets) h =
     let other : (number == wanted) ≡ false = ne_eqb number wanted (λ e. omega arith) in
     rw other (taken-earlier (suc number) wanted packets (omega arith))
 
-taken-event : (number i : ℕ) (packets : List (Option Taken)) → i < length packets → packets_of (i + number) (uses_taken number packets) ≡ event_of (slice_index_or packets i None)
+taken-event : (number i : ℕ) (packets : List (Option Taken)) → i < length packets
+    → packets_of (i + number) (uses_taken number packets) ≡ event_of (slice_index_or packets i None)
 taken-event number i [] h = absurd (omega arith)
 taken-event number zero (None ∷ packets) h = taken-earlier (suc number) (0 + number) packets (omega arith)
 taken-event number zero (Some t ∷ packets) h =
@@ -250,5 +270,6 @@ taken-event number (suc i) (Some t ∷ packets) h =
 pub taken_uses_are_in_trace_lem : TakenUsesAreInTrace
 taken_uses_are_in_trace_lem = record {
   order = λ packets. record { order = taken-start 1 packets; within = taken-end 1 (length packets) packets (omega arith) };
-  event = λ packets i h. let number : suc i ≡ i + 1 = omega arith in ap (λ n. packets_of n (uses_taken 1 packets)) number ∙ taken-event 1 i packets h;
+  event = λ packets i h. let number : suc i ≡ i + 1 = omega arith in ap (λ n. packets_of n (uses_taken 1 packets)) number
+      ∙ taken-event 1 i packets h;
 }

@@ -1,5 +1,6 @@
 -- Lists of epochs: the keys that they have, and the row lists of one key.
-use Rattle.std.proofs.Common.{◌≡◌, ℕ, zero, suc, ◌-◌, ◌≤◌, true, false, ◌&&◌, ◌||◌, List, [], ◌∷◌, ◌++◌, length, take, map, filter, refl, sym, ap, ◌∙◌, subst, arith, append-nil, take-append-drop, length-append}
+use Rattle.std.proofs.Common.{◌≡◌, ℕ, zero, suc, ◌-◌, ◌≤◌, true, false, ◌&&◌, ◌||◌, List, [], ◌∷◌, ◌++◌, length, take, map, filter, refl}
+use Rattle.std.proofs.Common.{sym, ap, ◌∙◌, subst, arith, append-nil, take-append-drop, length-append}
 use Rattle.std.specs.Prelude.{nat_lt}
 use Rattle.std.proofs.lemmas.Bool.{false≢true}
 use Rattle.std.proofs.lemmas.List.{map-append}
@@ -24,7 +25,8 @@ keys_of-without k (e ∷ es) = by_test (key_eq e.key k)
     (λ h. rw h (ap (λ ks. e.key ∷ ks) (keys_of-without k es)))
 
 pub lists_of-append : (k : Key) (xs ys : List Epoch) → lists_of k (xs ++ ys) ≡ lists_of k xs ++ lists_of k ys
-lists_of-append k xs ys = ap (map (λ epoch. epoch.rows)) (filter-append (is_of k) xs ys) ∙ map-append (λ epoch. epoch.rows) (filter (is_of k) xs) (filter (is_of k) ys)
+lists_of-append k xs ys = ap (map (λ epoch. epoch.rows)) (filter-append (is_of k) xs ys)
+    ∙ map-append (λ epoch. epoch.rows) (filter (is_of k) xs) (filter (is_of k) ys)
 
 pub lists_of-absent : (k : Key) (epochs : List Epoch) → has k (keys_of epochs) ≡ false → lists_of k epochs ≡ []
 lists_of-absent k [] h = refl
@@ -45,7 +47,8 @@ lists_of-without_other k j (e ∷ es) h = by_test (key_eq e.key k)
     (λ f. rw (i, f) (lists_of-without_other k j es h)))
 
 -- of distinct keys one has one list
-pub lists_of-open : (k : Key) (epochs : List Epoch) → IsDistinct (keys_of epochs) → has k (keys_of epochs) ≡ true → lists_of k epochs ≡ rows_of k epochs ∷ []
+pub lists_of-open : (k : Key) (epochs : List Epoch) → IsDistinct (keys_of epochs) → has k (keys_of epochs) ≡ true
+    → lists_of k epochs ≡ rows_of k epochs ∷ []
 lists_of-open k [] d h = absurd (false≢true h)
 lists_of-open k (e ∷ es) d h = by_test (key_eq e.key k)
     (λ i. rw i (ap (λ ls. e.rows ∷ ls) (lists_of-absent k es (subst (λ j. has j (keys_of es) ≡ false) (key_eq-true e.key k i) d.0))))
@@ -62,15 +65,18 @@ swap_few [] ys h = append-nil ys
 swap_few (x ∷ xs) [] h = sym (append-nil (x ∷ xs))
 swap_few (x ∷ xs) (y ∷ ys) h = absurd (omega (arith, length-append xs (y ∷ ys)))
 
-pub lists_of-closing : (k : Key) (epochs : List Epoch) → IsDistinct (keys_of epochs) → lists_of k (last_alone epochs) ++ lists_of k (all_but_last epochs) ≡ lists_of k epochs
+pub lists_of-closing : (k : Key) (epochs : List Epoch) → IsDistinct (keys_of epochs) → lists_of k (last_alone epochs)
+    ++ lists_of k (all_but_last epochs) ≡ lists_of k epochs
 lists_of-closing k epochs d =
     let whole : lists_of k (all_but_last epochs) ++ lists_of k (last_alone epochs) ≡ lists_of k epochs =
     sym (lists_of-append k (all_but_last epochs) (last_alone epochs)) ∙ ap (lists_of k) (take-append-drop (length epochs - 1) epochs) in
-    swap_few (lists_of k (all_but_last epochs)) (lists_of k (last_alone epochs)) (subst (λ ls. length ls ≤ 1) (sym whole) (lists_of-few k epochs d)) ∙ whole
+    swap_few (lists_of k (all_but_last epochs)) (lists_of k (last_alone epochs))
+    (subst (λ ls. length ls ≤ 1) (sym whole) (lists_of-few k epochs d)) ∙ whole
 
 pub lists_of-last_absent : (k : Key) (epochs : List Epoch) → has k (keys_of epochs) ≡ false → lists_of k (last_alone epochs) ≡ []
 lists_of-last_absent k epochs h = nothing (lists_of k (all_but_last epochs)) (lists_of k (last_alone epochs))
-    (sym (lists_of-append k (all_but_last epochs) (last_alone epochs)) ∙ (ap (lists_of k) (take-append-drop (length epochs - 1) epochs) ∙ lists_of-absent k epochs h))
+    (sym (lists_of-append k (all_but_last epochs) (last_alone epochs))
+    ∙ (ap (lists_of k) (take-append-drop (length epochs - 1) epochs) ∙ lists_of-absent k epochs h))
   where
     nothing : (xs ys : List (List ArgRow)) → xs ++ ys ≡ [] → ys ≡ []
     nothing [] ys e = e
@@ -88,19 +94,24 @@ pub rows_of-absent : (k : Key) (epochs : List Epoch) → has k (keys_of epochs) 
 rows_of-absent k [] h = refl
 rows_of-absent k (e ∷ es) h = let a = absent_head k e.key (keys_of es) h in rw a.0 (rows_of-absent k es a.1)
 
-pub onto_last-append : (row : ArgRow) (xs : List (List ArgRow)) (rows : List ArgRow) → onto_last row (xs ++ rows ∷ []) ≡ xs ++ (rows ++ row ∷ []) ∷ []
+pub onto_last-append : (row : ArgRow) (xs : List (List ArgRow)) (rows : List ArgRow) → onto_last row (xs ++ rows ∷ []) ≡ xs
+    ++ (rows ++ row ∷ []) ∷ []
 onto_last-append row [] rows = refl
 onto_last-append row (x ∷ []) rows = refl
 onto_last-append row (x ∷ y ∷ xs) rows = ap (λ ls. x ∷ ls) (onto_last-append row (y ∷ xs) rows)
 
-pub lists_of-with_row_same : (k : Key) (row : ArgRow) (epochs : List Epoch) → lists_of k (with_row k row epochs) ≡ (rows_of k epochs ++ row ∷ []) ∷ []
+pub lists_of-with_row_same : (k : Key) (row : ArgRow) (epochs : List Epoch)
+    → lists_of k (with_row k row epochs) ≡ (rows_of k epochs ++ row ∷ []) ∷ []
 lists_of-with_row_same k row epochs = rw (key_eq-refl k) (ap (λ ls. (rows_of k epochs ++ row ∷ []) ∷ ls) (lists_of-without_same k epochs))
 
-pub lists_of-with_row_other : (k j : Key) (row : ArgRow) (epochs : List Epoch) → key_eq k j ≡ false → lists_of j (with_row k row epochs) ≡ lists_of j epochs
+pub lists_of-with_row_other : (k j : Key) (row : ArgRow) (epochs : List Epoch) → key_eq k j ≡ false
+    → lists_of j (with_row k row epochs) ≡ lists_of j epochs
 lists_of-with_row_other k j row epochs h = rw h (lists_of-without_other k j epochs h)
 
-pub lists_of-with_new_same : (k : Key) (row : ArgRow) (epochs : List Epoch) → lists_of k (with_new k row epochs) ≡ (row ∷ []) ∷ lists_of k epochs
+pub lists_of-with_new_same : (k : Key) (row : ArgRow) (epochs : List Epoch) → lists_of k (with_new k row epochs) ≡ (row ∷ [])
+    ∷ lists_of k epochs
 lists_of-with_new_same k row epochs = rw (key_eq-refl k) refl
 
-pub lists_of-with_new_other : (k j : Key) (row : ArgRow) (epochs : List Epoch) → key_eq k j ≡ false → lists_of j (with_new k row epochs) ≡ lists_of j epochs
+pub lists_of-with_new_other : (k j : Key) (row : ArgRow) (epochs : List Epoch) → key_eq k j ≡ false
+    → lists_of j (with_new k row epochs) ≡ lists_of j epochs
 lists_of-with_new_other k j row epochs h = rw h refl

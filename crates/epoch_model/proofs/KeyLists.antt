@@ -1,5 +1,6 @@
 -- Lists of keys: which keys they have, each key once, and what comes before a key.
-use Rattle.std.proofs.Common.{◌≡◌, ℕ, zero, suc, Bool, true, false, cond, ◌&&◌, ◌||◌, List, [], ◌∷◌, length, take, ltb, refl, sym, ap, ◌∙◌, subst, arith}
+use Rattle.std.proofs.Common.{◌≡◌, ℕ, zero, suc, Bool, true, false, cond, ◌&&◌, ◌||◌, List, [], ◌∷◌, length, take, ltb, refl, sym, ap, ◌∙◌}
+use Rattle.std.proofs.Common.{subst, arith}
 use Rattle.std.specs.Prelude.{nat_lt}
 use Rattle.std.specs.Cmp.Lexicographic.{bytes_decides}
 use Rattle.std.proofs.lemmas.Bool.{true≢false, false≢true, lt-ltb, le-ltb, ltb-true, ltb-false}
@@ -120,7 +121,8 @@ front_known_at n k x xs h e =
     others_absent k (take n xs) front ∙ ap (take n) (sym (others_absent k xs gone))
 
 -- k is moved to the front of the first n keys
-pub front_known : (n : ℕ) (k : Key) (xs : List Key) → IsDistinct xs → has k (take (suc n) xs) ≡ true → others k (take (suc n) xs) ≡ take n (others k xs)
+pub front_known : (n : ℕ) (k : Key) (xs : List Key) → IsDistinct xs → has k (take (suc n) xs) ≡ true
+    → others k (take (suc n) xs) ≡ take n (others k xs)
 front_known n k [] d h = absurd (false≢true h)
 front_known zero k (x ∷ xs) d h = by_test (key_eq x k)
     (λ e. rw e (front_known_at zero k x xs d.0 e))

@@ -109,10 +109,12 @@ same_ascending (x ∷ xs) (y ∷ ys) s t h = by_order (key_cmp x y)
     (λ e. absurd (true≢false (sym (has_first x xs) ∙ (h x ∙ below-absent x y ys t e))))
     (λ e. let same = key_cmp-equal x y e in
     subst (λ z. x ∷ xs ≡ z ∷ ys) same
-    (ap (λ zs. x ∷ zs) (same_ascending xs ys s.1 t.1 (tails_alike x xs ys s.0 (subst (λ z. AreAbove z ys) (sym same) t.0) (λ k. h k ∙ ap (λ z. key_eq z k || has k ys) (sym same))))))
+    (ap (λ zs. x ∷ zs) (same_ascending xs ys s.1 t.1 (tails_alike x xs ys s.0 (subst (λ z. AreAbove z ys) (sym same) t.0)
+    (λ k. h k ∙ ap (λ z. key_eq z k || has k ys) (sym same))))))
     (λ e. absurd (true≢false (sym (has_first y ys) ∙ (sym (h y) ∙ below-absent y x xs s (key_cmp-greater x y e)))))
   where
-    tails_alike : (x : Key) (xs ys : List Key) → AreAbove x xs → AreAbove x ys → ((k : Key) → has k (x ∷ xs) ≡ has k (x ∷ ys)) → (k : Key) → has k xs ≡ has k ys
+    tails_alike : (x : Key) (xs ys : List Key) → AreAbove x xs → AreAbove x ys → ((k : Key) → has k (x ∷ xs) ≡ has k (x ∷ ys)) → (k : Key)
+        → has k xs ≡ has k ys
     tails_alike x xs ys s t h k = by_test (key_eq x k)
         (λ e. let same = key_eq-true x k e in
         subst (λ z. has z xs ≡ has z ys) same (above-absent x xs s ∙ sym (above-absent x ys t)))

@@ -1,5 +1,6 @@
 -- What each event does to the row lists of a key, and to the keys of a bucket.
-use Rattle.std.proofs.Common.{◌≡◌, ℕ, ◌-◌, ◌<◌, true, false, List, [], ◌++◌, length, take, refl, sym, ap, ◌∙◌, subst, ⊎_elim, arith, append-nil, append_assoc, length-set}
+use Rattle.std.proofs.Common.{◌≡◌, ℕ, ◌-◌, ◌<◌, true, false, List, [], ◌++◌, length, take, refl, sym, ap, ◌∙◌, subst, ⊎_elim, arith}
+use Rattle.std.proofs.Common.{append-nil, append_assoc, length-set}
 use Rattle.std.specs.Prelude.{nat_lt}
 use Rattle.std.proofs.lemmas.Bool.{cases_eq, ltb-true, ltb-false}
 use Rattle.std.proofs.lemmas.List.{take-map, get_or-set_same, get_or-set_other, get_or_past}
@@ -19,22 +20,27 @@ pub bucket_of-lt : (buckets : ℕ) (k : Key) → 0 < buckets → bucket_of bucke
 unfolding bucket_of
 bucket_of-lt buckets k h = omega arith
 
-pub open_in-set_same : (m : Machine) (bucket : ℕ) (epochs : List Epoch) → bucket < length m.recent → open_in (set_open m bucket epochs) bucket ≡ epochs
+pub open_in-set_same : (m : Machine) (bucket : ℕ) (epochs : List Epoch) → bucket < length m.recent
+    → open_in (set_open m bucket epochs) bucket ≡ epochs
 open_in-set_same m bucket epochs h = get_or-set_same m.recent bucket epochs [] h
 
-pub open_in-set_other : (m : Machine) (bucket other : ℕ) (epochs : List Epoch) → (other ≡ bucket → ⊥) → open_in (set_open m bucket epochs) other ≡ open_in m other
+pub open_in-set_other : (m : Machine) (bucket other : ℕ) (epochs : List Epoch) → (other ≡ bucket → ⊥)
+    → open_in (set_open m bucket epochs) other ≡ open_in m other
 open_in-set_other m bucket other epochs h = get_or-set_other m.recent bucket other epochs [] h
 
-pub set-tidy : (g : Geometry) (m : Machine) (bucket : ℕ) (epochs : List Epoch) → IsTidy g m → bucket < length m.recent → IsDistinct (keys_of epochs)
+pub set-tidy : (g : Geometry) (m : Machine) (bucket : ℕ) (epochs : List Epoch) → IsTidy g m → bucket < length m.recent
+    → IsDistinct (keys_of epochs)
     → ((k : Key) → (bucket_of g.buckets k ≡ bucket → ⊥) → has k (keys_of epochs) ≡ false) → IsTidy g (set_open m bucket epochs)
 set-tidy g m bucket epochs t l d h = record {
   shape = length-set m.recent bucket epochs ∙ t.shape;
   distinct = λ b. ⊎_elim
-      (λ (e : b ≡ bucket). subst (λ x. IsDistinct (keys_of (open_in (set_open m bucket epochs) x))) (sym e) (subst (λ es. IsDistinct (keys_of es)) (sym (open_in-set_same m bucket epochs l)) d))
+      (λ (e : b ≡ bucket). subst (λ x. IsDistinct (keys_of (open_in (set_open m bucket epochs) x))) (sym e)
+      (subst (λ es. IsDistinct (keys_of es)) (sym (open_in-set_same m bucket epochs l)) d))
       (λ (n : b ≡ bucket → ⊥). subst (λ es. IsDistinct (keys_of es)) (sym (open_in-set_other m bucket b epochs n)) (t.distinct b))
       (cases_eq b bucket);
   home = λ b k n. ⊎_elim
-      (λ (e : b ≡ bucket). subst (λ x. has k (keys_of (open_in (set_open m bucket epochs) x)) ≡ false) (sym e) (ap (λ es. has k (keys_of es)) (open_in-set_same m bucket epochs l) ∙ h k (λ p. n (p ∙ sym e))))
+      (λ (e : b ≡ bucket). subst (λ x. has k (keys_of (open_in (set_open m bucket epochs) x)) ≡ false) (sym e)
+      (ap (λ es. has k (keys_of es)) (open_in-set_same m bucket epochs l) ∙ h k (λ p. n (p ∙ sym e))))
       (λ (o : b ≡ bucket → ⊥). ap (λ es. has k (keys_of es)) (open_in-set_other m bucket b epochs o) ∙ t.home b k n)
       (cases_eq b bucket);
 }
@@ -48,7 +54,8 @@ row_lists-set_own g m k epochs l = ap (λ es. lists_of k m.closed ++ lists_of k 
 pub row_lists-set_other : (g : Geometry) (m : Machine) (bucket : ℕ) (k : Key) (epochs : List Epoch) → (bucket_of g.buckets k ≡ bucket → ⊥)
     → row_lists g (set_open m bucket epochs) k ≡ row_lists g m k
 unfolding row_lists
-row_lists-set_other g m bucket k epochs n = ap (λ es. lists_of k m.closed ++ lists_of k es) (open_in-set_other m bucket (bucket_of g.buckets k) epochs n)
+row_lists-set_other g m bucket k epochs n = ap (λ es. lists_of k m.closed ++ lists_of k es)
+    (open_in-set_other m bucket (bucket_of g.buckets k) epochs n)
 
 pub row_lists-set_alike : (g : Geometry) (m : Machine) (bucket : ℕ) (k : Key) (epochs : List Epoch) → bucket < length m.recent
     → (bucket_of g.buckets k ≡ bucket → lists_of k epochs ≡ lists_of k (open_in m bucket))
@@ -74,7 +81,8 @@ in_range m bucket h = by_test (nat_lt bucket (length m.recent))
 abbrev pub close_last : Machine → ℕ → Machine
 close_last m bucket = record { recent = m.recent; closed = m.closed ++ last_alone (open_in m bucket); merged = m.merged }
 
-pub evict_is : (m : Machine) (bucket : ℕ) → nat_lt 0 (length (open_in m bucket)) ≡ true → evict m bucket ≡ set_open (close_last m bucket) bucket (all_but_last (open_in m bucket))
+pub evict_is : (m : Machine) (bucket : ℕ) → nat_lt 0 (length (open_in m bucket)) ≡ true
+    → evict m bucket ≡ set_open (close_last m bucket) bucket (all_but_last (open_in m bucket))
 evict_is m bucket h = rw h refl
 
 pub evict_empty : (m : Machine) (bucket : ℕ) → nat_lt 0 (length (open_in m bucket)) ≡ false → evict m bucket ≡ m
@@ -90,8 +98,10 @@ pub evict-tidy : (g : Geometry) (m : Machine) (bucket : ℕ) → IsTidy g m → 
 evict-tidy g m bucket t = by_test (nat_lt 0 (length (open_in m bucket)))
     (λ h. subst (IsTidy g) (sym (evict_is m bucket h))
     (set-tidy g (close_last m bucket) bucket (all_but_last (open_in m bucket)) (close_last-tidy g m bucket t) (in_range m bucket h)
-    (subst IsDistinct (sym (keys_of-all_but_last (open_in m bucket))) (distinct-take (length (open_in m bucket) - 1) (keys_of (open_in m bucket)) (t.distinct bucket)))
-    (λ k n. ap (has k) (keys_of-all_but_last (open_in m bucket)) ∙ has-front (length (open_in m bucket) - 1) k (keys_of (open_in m bucket)) (t.home bucket k n))))
+    (subst IsDistinct (sym (keys_of-all_but_last (open_in m bucket))) (distinct-take (length (open_in m bucket) - 1)
+    (keys_of (open_in m bucket)) (t.distinct bucket)))
+    (λ k n. ap (has k) (keys_of-all_but_last (open_in m bucket)) ∙ has-front (length (open_in m bucket) - 1) k (keys_of (open_in m bucket))
+    (t.home bucket k n))))
     (λ h. subst (IsTidy g) (sym (evict_empty m bucket h)) t)
 
 -- eviction moves a row list and keeps their order
@@ -112,7 +122,8 @@ evict_some-lists g m bucket k t l =
     (λ (n : bucket_of g.buckets k ≡ bucket → ⊥).
     row_lists-set_other g (close_last m bucket) bucket k (all_but_last epochs) n
     ∙ ap (λ ls. ls ++ lists_of k (open_in m (bucket_of g.buckets k)))
-    (lists_of-append k m.closed (last_alone epochs) ∙ (ap (λ ls. lists_of k m.closed ++ ls) (lists_of-last_absent k epochs (t.home bucket k n)) ∙ append-nil (lists_of k m.closed))))
+    (lists_of-append k m.closed (last_alone epochs) ∙ (ap (λ ls. lists_of k m.closed ++ ls)
+    (lists_of-last_absent k epochs (t.home bucket k n)) ∙ append-nil (lists_of k m.closed))))
     (cases_eq (bucket_of g.buckets k) bucket)
 
 pub evict-lists : (g : Geometry) (m : Machine) (bucket : ℕ) (k : Key) → IsTidy g m → row_lists g (evict m bucket) k ≡ row_lists g m k

@@ -20,7 +20,8 @@ same_machine m n s = ap₂ (λ r c. record { recent = r; closed = c; merged = 0 
 evict_kept : (m : Machine) (bucket : ℕ) → with_merged 0 (evict m bucket) ≡ with_merged 0 (evict (with_merged 0 m) bucket)
 evict_kept m bucket = by_test (nat_lt 0 (length (open_in m bucket))) (λ h. rw h refl) (λ h. rw h refl)
 
-packet_kept : (g : Geometry) (m : Machine) (key : Key) (row : ArgRow) → with_merged 0 (packet g m key row) ≡ with_merged 0 (packet g (with_merged 0 m) key row)
+packet_kept : (g : Geometry) (m : Machine) (key : Key) (row : ArgRow) → with_merged 0 (packet g m key row) ≡ with_merged 0
+    (packet g (with_merged 0 m) key row)
 packet_kept g m key row =
     let bucket = bucket_of g.buckets key in
     by_test (is_open key (open_in m bucket))
@@ -29,13 +30,16 @@ packet_kept g m key row =
     (λ l. rw (h, l) refl)
     (λ l. rw (h, l) (ap (λ x. with_merged 0 (set_open x bucket (with_new key row (open_in x bucket)))) (evict_kept m bucket))))
 
-pub packet-alike : (g : Geometry) (m n : Machine) (key : Key) (row : ArgRow) → SameEpochs m n → SameEpochs (packet g m key row) (packet g n key row)
+pub packet-alike : (g : Geometry) (m n : Machine) (key : Key) (row : ArgRow) → SameEpochs m n
+    → SameEpochs (packet g m key row) (packet g n key row)
 packet-alike g m n key row s =
-    same_by (packet g m key row) (packet g n key row) (packet_kept g m key row ∙ (ap (λ x. with_merged 0 (packet g x key row)) (same_machine m n s) ∙ sym (packet_kept g n key row)))
+    same_by (packet g m key row) (packet g n key row) (packet_kept g m key row
+    ∙ (ap (λ x. with_merged 0 (packet g x key row)) (same_machine m n s) ∙ sym (packet_kept g n key row)))
 
 pub evict-alike : (m n : Machine) (bucket : ℕ) → SameEpochs m n → SameEpochs (evict m bucket) (evict n bucket)
 evict-alike m n bucket s =
-    same_by (evict m bucket) (evict n bucket) (evict_kept m bucket ∙ (ap (λ x. with_merged 0 (evict x bucket)) (same_machine m n s) ∙ sym (evict_kept n bucket)))
+    same_by (evict m bucket) (evict n bucket) (evict_kept m bucket ∙ (ap (λ x. with_merged 0 (evict x bucket)) (same_machine m n s)
+    ∙ sym (evict_kept n bucket)))
 
 pub merge-alike : (m n : Machine) → SameEpochs m n → SameEpochs (merge m) n
 merge-alike m n s = by_test (nat_lt m.merged (length m.closed))
@@ -44,6 +48,8 @@ merge-alike m n s = by_test (nat_lt m.merged (length m.closed))
 
 pub merges_decide_nothing_lem : MergesDecideNothing
 merges_decide_nothing_lem g [] m n s = s
-merges_decide_nothing_lem g (Packet key row ∷ events) m n s = merges_decide_nothing_lem g events (packet g m key row) (packet g n key row) (packet-alike g m n key row s)
-merges_decide_nothing_lem g (Evict bucket ∷ events) m n s = merges_decide_nothing_lem g events (evict m bucket) (evict n bucket) (evict-alike m n bucket s)
+merges_decide_nothing_lem g (Packet key row ∷ events) m n s = merges_decide_nothing_lem g events (packet g m key row) (packet g n key row)
+    (packet-alike g m n key row s)
+merges_decide_nothing_lem g (Evict bucket ∷ events) m n s = merges_decide_nothing_lem g events (evict m bucket) (evict n bucket)
+    (evict-alike m n bucket s)
 merges_decide_nothing_lem g (Merge ∷ events) m n s = merges_decide_nothing_lem g events (merge m) n (merge-alike m n s)

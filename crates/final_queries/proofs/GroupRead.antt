@@ -1,5 +1,6 @@
 -- The table of a groupby may be read by finals: of each key at most one row is read.
-use Rattle.std.proofs.Common.{◌≡◌, ℕ, suc, ◌-◌, ◌==◌, false, List, [], ◌∷◌, ◌++◌, ◌⊎◌, inl, inr, length, map, refl, sym, ap, ◌∙◌, subst, arith, length-append}
+use Rattle.std.proofs.Common.{◌≡◌, ℕ, suc, ◌-◌, ◌==◌, false, List, [], ◌∷◌, ◌++◌, ◌⊎◌, inl, inr, length, map, refl, sym, ap, ◌∙◌, subst}
+use Rattle.std.proofs.Common.{arith, length-append}
 use Rattle.std.specs.List.{All, filter, flat_map}
 use Rattle.std.proofs.lemmas.Bool.Decides.{nat_tests}
 use Rattle.std.proofs.lemmas.List.{map-append}
@@ -25,7 +26,8 @@ keys_read rows = map key_of (reads rows)
 abbrev pub HasOneAtMost : Key → List Row → Type 0
 HasOneAtMost key rows = (keys_read rows ≡ []) ⊎ (keys_read rows ≡ key ∷ [])
 
-none_read : (f : Folding) (key : Key) (count number : ℕ) (lists : List (List ArgRow)) → is_read (mark_of count) ≡ false → keys_read (epoch_rows f key count number lists) ≡ []
+none_read : (f : Folding) (key : Key) (count number : ℕ) (lists : List (List ArgRow)) → is_read (mark_of count) ≡ false
+    → keys_read (epoch_rows f key count number lists) ≡ []
 none_read f key count number [] e = refl
 none_read f key count number (rows ∷ lists) e = rw e (none_read f key count (suc number) lists e)
 
@@ -73,13 +75,16 @@ module _ (h : Key → List Row) (one : (key : Key) → HasOneAtMost key (h key))
 
 all_flat : (P : Row → Type 0) (h : Key → List Row) (keys : List Key) → All (λ key. All P (h key)) keys → All P (flat_map h keys)
 all_flat P h [] all = All-nil P
-all_flat P h (key ∷ keys) all = All-append P (h key) (flat_map h keys) (All-head (λ k. All P (h k)) key keys all) (all_flat P h keys (All-tail (λ k. All P (h k)) key keys all))
+all_flat P h (key ∷ keys) all = All-append P (h key) (flat_map h keys) (All-head (λ k. All P (h k)) key keys all)
+    (all_flat P h keys (All-tail (λ k. All P (h k)) key keys all))
 
 module _ (words states : ℕ) (f : Folding) (long : (rows : List ArgRow) → length (folded f rows) ≡ states) where
-  pub epochs_have : (key : Key) (count number : ℕ) (lists : List (List ArgRow)) → length key ≡ words → All (HasColumns words states) (epoch_rows f key count number lists)
+  pub epochs_have : (key : Key) (count number : ℕ) (lists : List (List ArgRow)) → length key ≡ words
+      → All (HasColumns words states) (epoch_rows f key count number lists)
   epochs_have key count number [] e = All-nil (HasColumns words states)
   epochs_have key count number (rows ∷ lists) e =
-      All-cons (HasColumns words states) (record { key = key; mark = mark_of count; epoch = number; epochs = _; values = folded f rows }) (epoch_rows f key count (suc number) lists)
+      All-cons (HasColumns words states) (record { key = key; mark = mark_of count; epoch = number; epochs = _; values = folded f rows })
+      (epoch_rows f key count (suc number) lists)
       (record { key = e; values = long rows }) (epochs_have key count (suc number) lists e)
 
   key_has : (g : Geometry) (uses : List Use) (key : Key) → length key ≡ words → All (HasColumns words states) (key_rows f g uses key)
@@ -88,11 +93,14 @@ module _ (words states : ℕ) (f : Folding) (long : (rows : List ArgRow) → len
       let given = map (λ u. u.row) (filter (is_use_of key) uses) in
       by_test f.row_per_epoch
       (λ t. rw t (epochs_have key (length pieces) 1 pieces e))
-      (λ t. rw t (All-cons (HasColumns words states) (exact_row f key (length pieces) given) [] (record { key = e; values = long given }) (All-nil (HasColumns words states))))
+      (λ t. rw t (All-cons (HasColumns words states) (exact_row f key (length pieces) given) [] (record { key = e; values = long given })
+      (All-nil (HasColumns words states))))
 
-  pub rows_have : (g : Geometry) (uses : List Use) → All (λ u. length u.key ≡ words) uses → All (HasColumns words states) (group_rows f g uses)
+  pub rows_have : (g : Geometry) (uses : List Use) → All (λ u. length u.key ≡ words) uses
+      → All (HasColumns words states) (group_rows f g uses)
   rows_have g uses all =
-      let keys = all_ascending (λ key. length key ≡ words) (map (λ u. u.key) uses) (All-map (λ key. length key ≡ words) (λ u. u.key) uses all) in
+      let keys = all_ascending (λ key. length key ≡ words) (map (λ u. u.key) uses)
+      (All-map (λ key. length key ≡ words) (λ u. u.key) uses all) in
       all_flat (HasColumns words states) (key_rows f g uses) (keys_used uses) (λ k d within. key_has g uses _ (keys k d within))
 
 pub group_read : KeysAscend → GroupTablesAreRead
@@ -102,6 +110,7 @@ group_read ascend heading f g uses keys states =
     let others : length heading.state_names ≡ length (names ++ heading.state_names) - length names = omega arith in
     record {
       keys = omega arith;
-      rows = subst (λ n. All (HasColumns (length names) n) (group_rows f g uses)) others (rows_have (length names) (length heading.state_names) f states g uses keys);
+      rows = subst (λ n. All (HasColumns (length names) n) (group_rows f g uses)) others
+          (rows_have (length names) (length heading.state_names) f states g uses keys);
       order = all_in_order (key_rows f g uses) (key_read f g uses) (keys_used uses) (ascend (map (λ u. u.key) uses)).0;
     }

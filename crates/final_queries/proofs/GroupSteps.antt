@@ -21,7 +21,8 @@ use Rattle.final_queries.specs.Grouped.{whole_folding, row_epoch, row_epochs, pl
 use Rattle.final_queries.specs.Joining.{reads}
 
 -- the rows of a key, joined, are the arguments of the rows with that key
-args_of : (keys args : List ℕ) (rows : List Row) (key : Key) → flat_map (λ rs. rs) (lists_of key (row_epochs keys args rows)) ≡ grouped_args keys args rows key
+args_of : (keys args : List ℕ) (rows : List Row) (key : Key) → flat_map (λ rs. rs) (lists_of key (row_epochs keys args rows)) ≡ grouped_args
+    keys args rows key
 args_of keys args [] key = refl
 args_of keys args (row ∷ rows) key = by_test (key_eq (grouped_key keys row) key)
     (λ t. rw t (ap (λ rs. values_at (columns_of row) args ∷ rs) (args_of keys args rows key)))
@@ -36,27 +37,35 @@ plain_shown [] = refl
 plain_shown (row ∷ rows) = ap (λ rs. plain_of row ∷ rs) (plain_shown rows)
 
 one_each : (f : TypedFold) (keys args : List ℕ) (rows : List Row) (ks : List Key)
-    → map plain_of (flat_map (λ k. exact_row (whole_folding f) k (length (lists_of k (row_epochs keys args rows))) (flat_map (λ rs. rs) (lists_of k (row_epochs keys args rows))) ∷ []) ks)
+    → map plain_of (flat_map (λ k. exact_row (whole_folding f) k (length (lists_of k (row_epochs keys args rows)))
+    (flat_map (λ rs. rs) (lists_of k (row_epochs keys args rows))) ∷ []) ks)
     ≡ map (λ key. plain_row key (folded f (initial_state f) (grouped_args keys args rows key))) ks
 one_each f keys args rows [] = refl
 one_each f keys args rows (k ∷ ks) =
-    ap (λ rs. plain_row k (folded f (initial_state f) (flat_map (λ rs. rs) (lists_of k (row_epochs keys args rows)))) ∷ rs) (one_each f keys args rows ks)
-    ∙ ap (λ given. plain_row k (folded f (initial_state f) given) ∷ map (λ key. plain_row key (folded f (initial_state f) (grouped_args keys args rows key))) ks) (args_of keys args rows k)
+    ap (λ rs. plain_row k (folded f (initial_state f) (flat_map (λ rs. rs) (lists_of k (row_epochs keys args rows)))) ∷ rs)
+    (one_each f keys args rows ks)
+    ∙ ap (λ given. plain_row k (folded f (initial_state f) given) ∷ map
+    (λ key. plain_row key (folded f (initial_state f) (grouped_args keys args rows key))) ks) (args_of keys args rows k)
 
 -- the epochs of the rows that are read, with one more row
 pub epochs_more : (keys args : List ℕ) (rows : List Row) (at : ℕ) (row : Row) → slice_get rows at ≡ Some row
-    → row_epochs keys args (reads (take at rows)) ++ row_epochs keys args (reads (row ∷ [])) ≡ row_epochs keys args (reads (take (at + 1) rows))
+    → row_epochs keys args (reads (take at rows)) ++ row_epochs keys args (reads (row ∷ [])) ≡ row_epochs keys args
+    (reads (take (at + 1) rows))
 epochs_more keys args rows at row here =
     let test : Row → Bool = λ r. is_read r.mark in
-    let one_more = take_more rows at row (slice_get_within rows at row here) ∙ ap (λ r. take at rows ++ r ∷ []) (get_or_from_slice_get rows at row row here) in
-    sym (ap (row_epochs keys args) (ap reads one_more ∙ filter-append test (take at rows) (row ∷ [])) ∙ map-append (row_epoch keys args) (reads (take at rows)) (reads (row ∷ [])))
+    let one_more = take_more rows at row (slice_get_within rows at row here)
+    ∙ ap (λ r. take at rows ++ r ∷ []) (get_or_from_slice_get rows at row row here) in
+    sym (ap (row_epochs keys args) (ap reads one_more ∙ filter-append test (take at rows) (row ∷ []))
+    ∙ map-append (row_epoch keys args) (reads (take at rows)) (reads (row ∷ [])))
 
 -- The rows of the store are those of the grouped table.
-pub rows_grouped : HeldRowsAreTheTables → (f : TypedFold) (keys args : List ℕ) (rows : List Row) (store : Store) → IsStore store → StoreHolds (whole_folding f) store (row_epochs keys args rows)
+pub rows_grouped : HeldRowsAreTheTables → (f : TypedFold) (keys args : List ℕ) (rows : List Row) (store : Store) → IsStore store
+    → StoreHolds (whole_folding f) store (row_epochs keys args rows)
     → map plain_of (sorted_rows store) ≡ grouped_rows keys (Some f) args rows
 rows_grouped law f keys args rows store s h =
     let epochs = row_epochs keys args rows in
     plain_shown (sorted_rows store)
     ∙ (ap (map plain_of) (law.rows (whole_folding f) store epochs s h)
     ∙ (one_each f keys args rows (closed_keys epochs)
-    ∙ ap (λ ks. map (λ key. plain_row key (folded f (initial_state f) (grouped_args keys args rows key))) (ascending ks)) (keys_of keys args rows)))
+    ∙ ap (λ ks. map (λ key. plain_row key (folded f (initial_state f) (grouped_args keys args rows key))) (ascending ks))
+    (keys_of keys args rows)))

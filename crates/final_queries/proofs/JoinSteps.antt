@@ -1,5 +1,6 @@
 -- Two tables in the order of their keys, walked side by side.
-use Rattle.std.proofs.Common.{◌≡◌, ℕ, zero, suc, ◌+◌, true, false, List, [], ◌∷◌, ◌++◌, map, take, drop, refl, sym, ap, ◌∙◌, subst, add-one, append_assoc}
+use Rattle.std.proofs.Common.{◌≡◌, ℕ, zero, suc, ◌+◌, true, false, List, [], ◌∷◌, ◌++◌, map, take, drop, refl, sym, ap, ◌∙◌, subst, add-one}
+use Rattle.std.proofs.Common.{append_assoc}
 use Rattle.std.specs.Prelude.{Option, None, find, option_map}
 use Rattle.std.proofs.lemmas.List.{take-append-drop}
 use Rattle.epoch_model.specs.declared.tables.Row.{Row}
@@ -25,7 +26,8 @@ smaller_more key rows n row rest e h s = rw add-one (by_suc key rows n row rest 
     by_suc : (key : Key) (rows : List Row) (n : ℕ) (row : Row) (rest : List Row) → drop n rows ≡ row ∷ rest
         → (is_read row.mark ≡ true → is_lt (key_cmp row.key key) ≡ true) → AreSmaller key (take n rows) → AreSmaller key (take (suc n) rows)
     by_suc key [] n row rest e h s = tt
-    by_suc key (r ∷ rows) zero row rest e h s = let is = same_row r row rows rest e in (subst (λ x. is_read x.mark ≡ true → is_lt (key_cmp x.key key) ≡ true) (sym is) h, tt)
+    by_suc key (r ∷ rows) zero row rest e h s = let is = same_row r row rows rest e
+        in (subst (λ x. is_read x.mark ≡ true → is_lt (key_cmp x.key key) ≡ true) (sym is) h, tt)
     by_suc key (r ∷ rows) (suc n) row rest e h s = (s.0, by_suc key rows n row rest e h s.1)
 
 -- rows with smaller keys don't have this key
@@ -39,7 +41,8 @@ skipped key other (row ∷ front) rest apart s = by_test (is_read row.mark)
 abbrev joined_one : List Row → Row → Option Row
 joined_one right row = option_map (λ other. plain_row row.key (row.values ++ other.values)) (find (is_of_key row.key) right)
 
-all_skipped : (key : Key) (ls front rest : List Row) → AreAbove key (map key_of ls) → AreSmaller key front → joined_rows ls (reads (front ++ rest)) ≡ joined_rows ls (reads rest)
+all_skipped : (key : Key) (ls front rest : List Row) → AreAbove key (map key_of ls) → AreSmaller key front
+    → joined_rows ls (reads (front ++ rest)) ≡ joined_rows ls (reads rest)
 all_skipped key [] front rest above s = refl
 all_skipped key (row ∷ ls) front rest above s =
     let one = skipped key row.key front rest (λ k e. less_apart k row.key (key_cmp-less k key row.key e above.0)) s in
@@ -50,7 +53,8 @@ none_above : (key : Key) (rows : List Row) → AreAbove key (map key_of rows) �
 none_above key [] above = refl
 none_above key (row ∷ rows) above = rw (key_eq-sym_false key row.key (less_apart key row.key above.0)) (none_above key rows above.1)
 
-next_joined : (row other : Row) (ls rest more : List Row) → IsAscending (map key_of (other ∷ more)) → is_lt (key_cmp other.key row.key) ≡ false
+next_joined : (row other : Row) (ls rest more : List Row) → IsAscending (map key_of (other ∷ more))
+    → is_lt (key_cmp other.key row.key) ≡ false
     → joined_rows (row ∷ ls) (other ∷ more) ≡ joined_first row (other ∷ rest) ++ joined_rows ls (other ∷ more)
 next_joined row other ls rest more order least = by_test (key_eq other.key row.key)
     (λ t. rw t refl)
@@ -67,8 +71,10 @@ first_joined row ls (other ∷ rest) order least =
     (next_joined row other ls rest (reads rest) (subst (λ xs. IsAscending (map key_of xs)) e order) least.1)
 
 -- The rows with smaller keys are passed over, and the row is joined with the first of the others.
-pub joined_on : (row : Row) (ls right front rest : List Row) → right ≡ front ++ rest → IsAscending (map key_of (row ∷ ls)) → IsAscending (map key_of (reads rest))
-    → AreSmaller row.key front → StartsAtLeast row.key rest → joined_rows (row ∷ ls) (reads right) ≡ joined_first row rest ++ joined_rows ls (reads rest)
+pub joined_on : (row : Row) (ls right front rest : List Row) → right ≡ front ++ rest → IsAscending (map key_of (row ∷ ls))
+    → IsAscending (map key_of (reads rest))
+    → AreSmaller row.key front → StartsAtLeast row.key rest → joined_rows (row ∷ ls) (reads right) ≡ joined_first row rest
+    ++ joined_rows ls (reads rest)
 joined_on row ls right front rest e left order s least =
     let one = skipped row.key row.key front rest (λ k h. less_apart k row.key h) s in
     let more = all_skipped row.key ls front rest left.0 s in
@@ -83,12 +89,15 @@ ordered_on (row ∷ front) rest order = by_test (is_read row.mark)
     (λ t. ordered_on front rest (rw t at order))
 
 -- a row that is read: it is joined, and what is left of both gives the rest
-pub joined_turn : (whole made after left right front rest : List Row) (i : ℕ) (row : Row) → drop i left ≡ row ∷ drop (i + 1) left → is_read row.mark ≡ true
-    → IsAscending (map key_of (reads left)) → IsAscending (map key_of (reads right)) → right ≡ front ++ rest → AreSmaller row.key front → StartsAtLeast row.key rest
+pub joined_turn : (whole made after left right front rest : List Row) (i : ℕ) (row : Row) → drop i left ≡ row ∷ drop (i + 1) left
+    → is_read row.mark ≡ true
+    → IsAscending (map key_of (reads left)) → IsAscending (map key_of (reads right)) → right ≡ front ++ rest → AreSmaller row.key front
+    → StartsAtLeast row.key rest
     → after ≡ made ++ joined_first row rest → made ++ joined_rows (reads (drop i left)) (reads right) ≡ whole
     → (after ++ joined_rows (reads (drop (i + 1) left)) (reads rest) ≡ whole) × IsAscending (map key_of (reads rest))
 joined_turn whole made after left right front rest i row next t order right_order e smaller least is so_far =
-    let later : IsAscending (map key_of (reads (drop i left))) = ordered_on (take i left) (drop i left) (subst (λ xs. IsAscending (map key_of (reads xs))) (sym (take-append-drop i left)) order) in
+    let later : IsAscending (map key_of (reads (drop i left))) = ordered_on (take i left) (drop i left)
+    (subst (λ xs. IsAscending (map key_of (reads xs))) (sym (take-append-drop i left)) order) in
     let ls = reads (drop (i + 1) left) in
     let first : reads (drop i left) ≡ row ∷ ls = ap reads next ∙ rw t refl in
     let rest_order = ordered_on front rest (subst (λ xs. IsAscending (map key_of (reads xs))) e right_order) in
@@ -100,7 +109,8 @@ joined_turn whole made after left right front rest i row next t order right_orde
 
 -- a row that isn't read is left out
 pub unread_turn : (whole made left right : List Row) (i : ℕ) (row : Row) → drop i left ≡ row ∷ drop (i + 1) left → is_read row.mark ≡ false
-    → made ++ joined_rows (reads (drop i left)) (reads right) ≡ whole → made ++ joined_rows (reads (drop (i + 1) left)) (reads right) ≡ whole
+    → made ++ joined_rows (reads (drop i left)) (reads right) ≡ whole → made
+    ++ joined_rows (reads (drop (i + 1) left)) (reads right) ≡ whole
 unread_turn whole made left right i row next t so_far =
     let same : reads (drop i left) ≡ reads (drop (i + 1) left) = ap reads next ∙ rw t refl in
     ap (λ xs. made ++ joined_rows xs (reads right)) (sym same) ∙ so_far

@@ -14,4 +14,5 @@ all_with P key (first ∷ keys) p all = by_order (key_cmp key first)
 
 pub all_ascending : (P : Key → Type 0) (keys : List Key) → All P keys → All P (ascending keys)
 all_ascending P [] all = All-nil P
-all_ascending P (key ∷ keys) all = all_with P key (ascending keys) (All-head P key keys all) (all_ascending P keys (All-tail P key keys all))
+all_ascending P (key ∷ keys) all = all_with P key (ascending keys) (All-head P key keys all)
+    (all_ascending P keys (All-tail P key keys all))

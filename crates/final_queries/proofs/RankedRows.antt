@@ -17,14 +17,19 @@ pub rank_out : (column : ℕ) (rows : List Row) (at : ℕ) (row : Row) → slice
 rank_out column rows at row here unread = ap (ranks_from column at) (rows_from rows at row here) ∙ rw (unread, add-one) refl
 
 -- a row that is read is kept where its rank is within the last one
-pub kept_first : (last : Option Rank) (column : ℕ) (rows : List Row) (at : ℕ) (row : Row) → slice_get rows at ≡ Some row → is_read row.mark ≡ true → is_within last (rank_of column at row) ≡ true
+pub kept_first : (last : Option Rank) (column : ℕ) (rows : List Row) (at : ℕ) (row : Row) → slice_get rows at ≡ Some row
+    → is_read row.mark ≡ true → is_within last (rank_of column at row) ≡ true
     → kept_from last column at (drop at rows) ≡ plain_row row.key row.values ∷ [] ++ kept_from last column (at + 1) (drop (at + 1) rows)
-kept_first last column rows at row here read within = ap (kept_from last column at) (rows_from rows at row here) ∙ rw (read, within, add-one) refl
+kept_first last column rows at row here read within = ap (kept_from last column at) (rows_from rows at row here)
+    ∙ rw (read, within, add-one) refl
 
-pub kept_after : (last : Option Rank) (column : ℕ) (rows : List Row) (at : ℕ) (row : Row) → slice_get rows at ≡ Some row → is_read row.mark ≡ true → is_within last (rank_of column at row) ≡ false
+pub kept_after : (last : Option Rank) (column : ℕ) (rows : List Row) (at : ℕ) (row : Row) → slice_get rows at ≡ Some row
+    → is_read row.mark ≡ true → is_within last (rank_of column at row) ≡ false
     → kept_from last column at (drop at rows) ≡ kept_from last column (at + 1) (drop (at + 1) rows)
-kept_after last column rows at row here read later = ap (kept_from last column at) (rows_from rows at row here) ∙ rw (read, later, add-one) refl
+kept_after last column rows at row here read later = ap (kept_from last column at) (rows_from rows at row here)
+    ∙ rw (read, later, add-one) refl
 
-pub kept_out : (last : Option Rank) (column : ℕ) (rows : List Row) (at : ℕ) (row : Row) → slice_get rows at ≡ Some row → is_read row.mark ≡ false
+pub kept_out : (last : Option Rank) (column : ℕ) (rows : List Row) (at : ℕ) (row : Row) → slice_get rows at ≡ Some row
+    → is_read row.mark ≡ false
     → kept_from last column at (drop at rows) ≡ kept_from last column (at + 1) (drop (at + 1) rows)
 kept_out last column rows at row here unread = ap (kept_from last column at) (rows_from rows at row here) ∙ rw (unread, add-one) refl

@@ -7,12 +7,14 @@ use Rattle.query_lang.specs.Folds.{term_value, after, body, folded, fold_block, 
 
 after_length : (b : Block) (args state : List ℕ) → length (after b args state) ≡ length state
 after_length End args state = refl
-after_length (Set v e rest) args state = after_length rest args (set state v (term_value e (state ++ args))) ∙ length-set state v (term_value e (state ++ args))
+after_length (Set v e rest) args state = after_length rest args (set state v (term_value e (state ++ args)))
+    ∙ length-set state v (term_value e (state ++ args))
 after_length (Fork c a b rest) args state =
     after_length rest args (if holds (term_value c (state ++ args)) then after a args state else after b args state)
     ∙ either (holds (term_value c (state ++ args))) (after_length a args state) (after_length b args state)
   where
-    either : (h : Bool) → length (after a args state) ≡ length state → length (after b args state) ≡ length state → length (if h then after a args state else after b args state) ≡ length state
+    either : (h : Bool) → length (after a args state) ≡ length state → length (after b args state) ≡ length state
+        → length (if h then after a args state else after b args state) ≡ length state
     either true p q = p
     either false p q = q
 

@@ -1,5 +1,6 @@
 -- The rows that `top` keeps, by ranks.
-use Rattle.std.proofs.Common.{◌≡◌, ℕ, suc, ◌+◌, ◌-◌, ◌<◌, ◌≤◌, ◌==◌, ◌&&◌, ◌||◌, Bool, true, false, not, cond, List, [], ◌∷◌, ◌++◌, Option, length, map, get_or, refl, sym, ap, ◌∙◌, subst, arith, append_assoc, length-append}
+use Rattle.std.proofs.Common.{◌≡◌, ℕ, suc, ◌+◌, ◌-◌, ◌<◌, ◌≤◌, ◌==◌, ◌&&◌, ◌||◌, Bool, true, false, not, cond, List, [], ◌∷◌, ◌++◌, Option}
+use Rattle.std.proofs.Common.{length, map, get_or, refl, sym, ap, ◌∙◌, subst, arith, append_assoc, length-append}
 use Rattle.std.specs.List.{filter, count_by}
 use Rattle.std.specs.List.Sorted.{IsPermutation}
 use Rattle.std.specs.Prelude.{nat_lt}
@@ -30,19 +31,23 @@ stays_after a t q up h = grind (arith, nat_tests)
 count_first : {X : Type 0} (p : X → Bool) (x : X) (xs : List X) → count_by p (x ∷ xs) ≡ cond (p x) 1 0 + count_by p xs
 count_first p x xs = sum_by-cons (λ y. cond (p y) 1 0) x xs
 
-count_all : {X : Type 0} (p : X → Bool) (xs : List X) → ((k : ℕ) (d : X) → k < length xs → p (get_or xs k d) ≡ true) → count_by p xs ≡ length xs
+count_all : {X : Type 0} (p : X → Bool) (xs : List X) → ((k : ℕ) (d : X) → k < length xs → p (get_or xs k d) ≡ true)
+    → count_by p xs ≡ length xs
 count_all p [] h = refl
-count_all p (x ∷ xs) h = count_first p x xs ∙ (ap (λ b. cond b 1 0 + count_by p xs) (h 0 x (omega arith)) ∙ (let rest = count_all p xs (λ k d within. h (suc k) d (omega arith)) in omega arith))
+count_all p (x ∷ xs) h = count_first p x xs ∙ (ap (λ b. cond b 1 0 + count_by p xs) (h 0 x (omega arith))
+    ∙ (let rest = count_all p xs (λ k d within. h (suc k) d (omega arith)) in omega arith))
 
 count_none : {X : Type 0} (p : X → Bool) (xs : List X) → ((k : ℕ) (d : X) → k < length xs → p (get_or xs k d) ≡ false) → count_by p xs ≡ 0
 count_none p [] h = refl
-count_none p (x ∷ xs) h = count_first p x xs ∙ (ap (λ b. cond b 1 0 + count_by p xs) (h 0 x (omega arith)) ∙ (let rest = count_none p xs (λ k d within. h (suc k) d (omega arith)) in omega arith))
+count_none p (x ∷ xs) h = count_first p x xs ∙ (ap (λ b. cond b 1 0 + count_by p xs) (h 0 x (omega arith))
+    ∙ (let rest = count_none p xs (λ k d within. h (suc k) d (omega arith)) in omega arith))
 
 count_join : {X : Type 0} (p : X → Bool) (xs ys : List X) → count_by p (xs ++ ys) ≡ count_by p xs + count_by p ys
 count_join p [] ys = omega arith
 count_join p (x ∷ xs) ys = count_first p x (xs ++ ys) ∙ (let rest = count_join p xs ys in let one = count_first p x xs in omega arith)
 
-count_split : {X : Type 0} (p : X → Bool) (front back : List X) (t : X) → count_by p (front ++ t ∷ back) ≡ count_by p front + (cond (p t) 1 0 + count_by p back)
+count_split : {X : Type 0} (p : X → Bool) (front back : List X) (t : X) → count_by p (front ++ t ∷ back) ≡ count_by p front
+    + (cond (p t) 1 0 + count_by p back)
 count_split p front back t = count_join p front (t ∷ back) ∙ ap (λ n. count_by p front + n) (count_first p t back)
 
 enough : (count long rest kept : ℕ) → count ≡ long + (1 + rest) → long ≡ kept - 1 → 0 < kept → false ≡ nat_lt count kept
@@ -52,8 +57,10 @@ too_few : (count front long kept : ℕ) → count ≡ front + (0 + 0) → front 
 too_few count front long kept e f l some = let less : count < kept = omega arith in grind (arith, nat_tests)
 
 -- with the last rank that is kept in its place, few enough go before a rank exactly if it isn't after that one
-pub split_count : (ranks front back : List Rank) (t q : Rank) (kept : ℕ) → IsPermutation ranks (front ++ t ∷ back) → length front ≡ kept - 1 → 0 < kept
-    → ((k : ℕ) (d : Rank) → k < length front → is_before t (get_or front k d) ≡ false) → ((k : ℕ) (d : Rank) → k < length back → is_before (get_or back k d) t ≡ false)
+pub split_count : (ranks front back : List Rank) (t q : Rank) (kept : ℕ) → IsPermutation ranks (front ++ t ∷ back) → length front ≡ kept - 1
+    → 0 < kept
+    → ((k : ℕ) (d : Rank) → k < length front → is_before t (get_or front k d) ≡ false)
+    → ((k : ℕ) (d : Rank) → k < length back → is_before (get_or back k d) t ≡ false)
     → not (is_before t q) ≡ nat_lt (count_by (λ o. is_before o q) ranks) kept
 split_count ranks front back t q kept perm long some ahead later = by (λ o. is_before o q) refl
   where
@@ -65,11 +72,13 @@ split_count ranks front back t q kept perm long some ahead later = by (λ o. is_
         by_test (is_before t q)
         (λ h.
         let all = count_all p front (λ k d within. at (get_or front k d) ∙ passes_on (get_or front k d) t q (ahead k d within) h) in
-        let total = same ∙ (ap (λ n. n + (cond (p t) 1 0 + count_by p back)) all ∙ ap (λ b. length front + (cond b 1 0 + count_by p back)) (at t ∙ h)) in
+        let total = same ∙ (ap (λ n. n + (cond (p t) 1 0 + count_by p back)) all
+        ∙ ap (λ b. length front + (cond b 1 0 + count_by p back)) (at t ∙ h)) in
         rw h (enough (count_by p ranks) (length front) (count_by p back) kept total long some))
         (λ h.
         let none = count_none p back (λ k d within. at (get_or back k d) ∙ stays_after (get_or back k d) t q (later k d within) h) in
-        let total = same ∙ (ap (λ n. count_by p front + (cond (p t) 1 0 + n)) none ∙ ap (λ b. count_by p front + (cond b 1 0 + 0)) (at t ∙ h)) in
+        let total = same ∙ (ap (λ n. count_by p front + (cond (p t) 1 0 + n)) none
+        ∙ ap (λ b. count_by p front + (cond b 1 0 + 0)) (at t ∙ h)) in
         rw h (too_few (count_by p ranks) (count_by p front) (length front) kept total (count_by-le-length p front) long some))
 
 pub all_kept : (ranks : List Rank) (q : Rank) (kept : ℕ) → length ranks < kept → true ≡ nat_lt (count_by (λ o. is_before o q) ranks) kept
@@ -84,14 +93,18 @@ key_of row = row.key
 -- the rows, of which the first has this place, have smaller keys than a row exactly if they are before its place
 abbrev AreOrdered : ℕ → List Row → ℕ → Row → Type 0
 AreOrdered at [] place row = Unit {0}
-AreOrdered at (o ∷ rows) place row = (is_read o.mark ≡ true → is_lt (key_cmp o.key row.key) ≡ nat_lt at place) × AreOrdered (suc at) rows place row
+AreOrdered at (o ∷ rows) place row = (is_read o.mark ≡ true → is_lt (key_cmp o.key row.key) ≡ nat_lt at place)
+    × AreOrdered (suc at) rows place row
 
-same_test : (column at place : ℕ) (o row : Row) → is_lt (key_cmp o.key row.key) ≡ nat_lt at place → is_before (rank_of column at o) (rank_of column place row) ≡ goes_before column o row
-same_test column at place o row h = ap (λ b. nat_lt (column_at column row) (column_at column o) || ((column_at column row == column_at column o) && b)) (sym h)
+same_test : (column at place : ℕ) (o row : Row) → is_lt (key_cmp o.key row.key) ≡ nat_lt at place
+    → is_before (rank_of column at o) (rank_of column place row) ≡ goes_before column o row
+same_test column at place o row h = ap (λ b. nat_lt (column_at column row) (column_at column o) ||
+    ((column_at column row == column_at column o) && b)) (sym h)
 
 -- as many ranks go before the row's as rows go before it
 ranks_count : (column at place : ℕ) (rows : List Row) (row : Row) → AreOrdered at rows place row
-    → count_by (λ o. is_before o (rank_of column place row)) (ranks_from column at rows) ≡ count_by (λ o. goes_before column o row) (reads rows)
+    → count_by (λ o. is_before o (rank_of column place row)) (ranks_from column at rows) ≡ count_by (λ o. goes_before column o row)
+    (reads rows)
 ranks_count column at place [] row h = refl
 ranks_count column at place (o ∷ rows) row h =
     let rest = ranks_count column (suc at) place rows row h.1 in
@@ -101,7 +114,8 @@ ranks_count column at place (o ∷ rows) row h =
     let read : reads (o ∷ rows) ≡ o ∷ reads rows = rw t refl in
     ap (count_by (λ x. is_before x (rank_of column place row))) ranks
     ∙ (count_first (λ x. is_before x (rank_of column place row)) (rank_of column at o) (ranks_from column (suc at) rows)
-    ∙ (ap (λ b. cond b 1 0 + count_by (λ x. is_before x (rank_of column place row)) (ranks_from column (suc at) rows)) (same_test column at place o row (h.0 t))
+    ∙ (ap (λ b. cond b 1 0 + count_by (λ x. is_before x (rank_of column place row)) (ranks_from column (suc at) rows))
+    (same_test column at place o row (h.0 t))
     ∙ (ap (λ n. cond (goes_before column o row) 1 0 + n) rest
     ∙ (sym (count_first (λ x. goes_before column x row) o (reads rows)) ∙ ap (count_by (λ x. goes_before column x row)) (sym read))))))
     (λ t.
@@ -115,7 +129,8 @@ lt_true m n h = grind (arith, nat_tests)
 lt_false : (m n : ℕ) → n ≤ m → false ≡ nat_lt m n
 lt_false m n h = grind (arith, nat_tests)
 
-after_place : (at place : ℕ) (rows : List Row) (row : Row) → place < at → AreAbove row.key (map key_of (reads rows)) → AreOrdered at rows place row
+after_place : (at place : ℕ) (rows : List Row) (row : Row) → place < at → AreAbove row.key (map key_of (reads rows))
+    → AreOrdered at rows place row
 after_place at place [] row h above = tt
 after_place at place (o ∷ rows) row h above = by_test (is_read o.mark)
     (λ t.
@@ -123,7 +138,8 @@ after_place at place (o ∷ rows) row h above = by_test (is_read o.mark)
     (λ _. rw (key_cmp-back row.key o.key up.0) (lt_false at place (omega arith)), after_place (suc at) place rows row (omega arith) up.1))
     (λ t. (λ s. absurd (true≢false (sym s ∙ t)), after_place (suc at) place rows row (omega arith) (rw t at above)))
 
-above_in : (key : List ℕ) (front more : List Row) (row : Row) → is_read row.mark ≡ true → AreAbove key (map key_of (reads (front ++ row ∷ more))) → key_cmp key row.key ≡ Less
+above_in : (key : List ℕ) (front more : List Row) (row : Row) → is_read row.mark ≡ true
+    → AreAbove key (map key_of (reads (front ++ row ∷ more))) → key_cmp key row.key ≡ Less
 above_in key [] more row t above = (subst (λ xs. AreAbove key (map key_of xs)) (one t) above).0
   where
     one : is_read row.mark ≡ true → reads (row ∷ more) ≡ row ∷ reads more
@@ -132,7 +148,8 @@ above_in key (o ∷ front) more row t above = by_test (is_read o.mark)
     (λ s. above_in key front more row t (rw s at above).1)
     (λ s. above_in key front more row t (rw s at above))
 
-in_order : (at place : ℕ) (front more : List Row) (row : Row) → place ≡ at + length front → is_read row.mark ≡ true → IsAscending (map key_of (reads (front ++ row ∷ more)))
+in_order : (at place : ℕ) (front more : List Row) (row : Row) → place ≡ at + length front → is_read row.mark ≡ true
+    → IsAscending (map key_of (reads (front ++ row ∷ more)))
     → AreOrdered at (front ++ row ∷ more) place row
 in_order at place [] more row e t order =
     let one : reads (row ∷ more) ≡ row ∷ reads more = rw t refl in
@@ -140,8 +157,11 @@ in_order at place [] more row e t order =
     (λ _. rw (key_cmp-itself row.key) (lt_false at place (omega arith)), after_place (suc at) place more row (omega arith) up.0)
 in_order at place (o ∷ front) more row e t order = by_test (is_read o.mark)
     (λ s.
-    let up : IsAscending (map key_of (o ∷ reads (front ++ row ∷ more))) = rw s at order in
-    (λ _. rw (above_in o.key front more row t up.0) (lt_true at place (omega arith)), in_order (suc at) place front more row (omega arith) t up.1))
+    let up : IsAscending (map key_of (o ∷ reads (front ++ row ∷ more))) = rw s at order in (
+      λ _. rw (above_in o.key front more row t up.0) (lt_true at place (omega arith)),
+      in_order (suc at) place front more row (omega arith) t
+          up.1,
+    ))
     (λ s. (λ h. absurd (true≢false (sym h ∙ s)), in_order (suc at) place front more row (omega arith) t (rw s at order)))
 
 abbrev plain_of : Row → Row
@@ -150,24 +170,28 @@ plain_of row = plain_row row.key row.values
 abbrev is_top : ℕ → ℕ → List Row → Row → Bool
 is_top column kept rows row = nat_lt (count_by (λ o. goes_before column o row) rows) kept
 
-kept_rest : (last : Option Rank) (column kept : ℕ) (all : List Row) → ((rank : Rank) → is_within last rank ≡ nat_lt (count_by (λ o. is_before o rank) (ranks_from column 0 all)) kept)
+kept_rest : (last : Option Rank) (column kept : ℕ) (all : List Row) → ((rank : Rank)
+    → is_within last rank ≡ nat_lt (count_by (λ o. is_before o rank) (ranks_from column 0 all)) kept)
     → IsAscending (map key_of (reads all)) → (front rest : List Row) (place : ℕ) → place ≡ length front → all ≡ front ++ rest
     → kept_from last column place rest ≡ map plain_of (filter (is_top column kept (reads all)) (reads rest))
 kept_rest last column kept all within order front [] place long split = refl
 kept_rest last column kept all within order front (row ∷ rest) place long split =
     let long_on : suc place ≡ length (front ++ row ∷ []) = let l = length-append front (row ∷ []) in omega arith in
-    let next = kept_rest last column kept all within order (front ++ row ∷ []) rest (suc place) long_on (split ∙ sym (append_assoc front (row ∷ []) rest)) in
+    let next = kept_rest last column kept all within order (front ++ row ∷ []) rest (suc place) long_on
+    (split ∙ sym (append_assoc front (row ∷ []) rest)) in
     by_test (is_read row.mark)
     (λ t.
     let ordered = in_order 0 place front rest row (omega arith) t (subst (λ xs. IsAscending (map key_of (reads xs))) split order) in
     let counted = ranks_count column 0 place all row (subst (λ xs. AreOrdered 0 xs place row) (sym split) ordered) in
-    let same : is_within last (rank_of column place row) ≡ is_top column kept (reads all) row = within (rank_of column place row) ∙ ap (λ n. nat_lt n kept) counted in
+    let same : is_within last (rank_of column place row) ≡ is_top column kept (reads all) row = within (rank_of column place row)
+    ∙ ap (λ n. nat_lt n kept) counted in
     by_test (is_top column kept (reads all) row)
     (λ v. rw (t, same ∙ v, v, next) refl)
     (λ v. rw (t, same ∙ v, v, next) refl))
     (λ t. rw (t, next) refl)
 
 -- The rows within the last rank that is kept are the top rows.
-pub kept_top : (last : Option Rank) (column kept : ℕ) (all : List Row) → ((rank : Rank) → is_within last rank ≡ nat_lt (count_by (λ o. is_before o rank) (ranks_from column 0 all)) kept)
+pub kept_top : (last : Option Rank) (column kept : ℕ) (all : List Row)
+    → ((rank : Rank) → is_within last rank ≡ nat_lt (count_by (λ o. is_before o rank) (ranks_from column 0 all)) kept)
     → IsAscending (map key_of (reads all)) → kept_from last column 0 all ≡ top_rows column kept (reads all)
 kept_top last column kept all within order = kept_rest last column kept all within order [] all 0 refl refl

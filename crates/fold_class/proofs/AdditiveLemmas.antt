@@ -1,5 +1,6 @@
 -- An additive fold is linear by sums, and no variable of it has a depth.
-use Rattle.std.proofs.Common.{◌≡◌, ℕ, zero, suc, ◌<◌, ◌≤◌, Bool, true, false, not, ◌&&◌, ◌||◌, ◌==◌, nat_lt, if◌then◌else◌, refl, sym, ap, ◌∙◌, subst, arith, true≢false}
+use Rattle.std.proofs.Common.{◌≡◌, ℕ, zero, suc, ◌<◌, ◌≤◌, Bool, true, false, not, ◌&&◌, ◌||◌, ◌==◌, nat_lt, if◌then◌else◌, refl, sym, ap}
+use Rattle.std.proofs.Common.{◌∙◌, subst, arith, true≢false}
 use Rattle.std.proofs.lemmas.Bool.Decides.{nat_tests}
 use Rattle.query_lang.specs.declared.fold.Op.{Op}
 use Rattle.query_lang.specs.declared.fold.Op.TheVariants.{Add, Sub}
@@ -14,7 +15,8 @@ use Rattle.fold_class.specs.Tables.{update, all_below}
 use Rattle.fold_class.specs.Depth.{assigns, expr_reads, reads_after, reads_first, fold_reads, is_within, is_history}
 use Rattle.fold_code.proofs.BlockLemmas.{argument_is}
 use Rattle.fold_code.specs.Additive.{names_no_state, adds_or_subtracts, is_variable, is_increment, is_additive_block, is_additive}
-use Rattle.fold_class.specs.Kinds.{greater, expr_kind, outside_kind, role, role_kind, marked, chosen_kinds, kinds_after, kinds_first, fold_kinds, is_no_other, is_linear_by}
+use Rattle.fold_class.specs.Kinds.{greater, expr_kind, outside_kind, role, role_kind, marked, chosen_kinds, kinds_after, kinds_first}
+use Rattle.fold_class.specs.Kinds.{fold_kinds, is_no_other, is_linear_by}
 use Rattle.fold_class.proofs.TableLemmas.{and_true_left, and_true_right, or_true_left, implied, below_at}
 use Rattle.fold_class.proofs.HistoryKinds.{role_pure, marked_kept, chosen_kept, kinds_kept}
 
@@ -43,10 +45,14 @@ module _ (states : ℕ) where
   none_assigned End h s = refl
   none_assigned (Set v e rest) h s = cc
   none_assigned (Fork c a b rest) h s =
-      let inner = and_true_left (is_additive_block states false a && is_additive_block states false b) (is_additive_block states false rest) h in
+      let inner = and_true_left (is_additive_block states false a && is_additive_block states false b) (is_additive_block states false rest)
+      h in
       or_both_false (assigns a s || assigns b s) (assigns rest s)
-      (or_both_false (assigns a s) (assigns b s) (none_assigned a (and_true_left (is_additive_block states false a) (is_additive_block states false b) inner) s) (none_assigned b (and_true_right (is_additive_block states false a) (is_additive_block states false b) inner) s))
-      (none_assigned rest (and_true_right (is_additive_block states false a && is_additive_block states false b) (is_additive_block states false rest) h) s)
+      (or_both_false (assigns a s) (assigns b s) (none_assigned a (and_true_left (is_additive_block states false a)
+      (is_additive_block states false b) inner) s) (none_assigned b
+      (and_true_right (is_additive_block states false a) (is_additive_block states false b) inner) s))
+      (none_assigned rest (and_true_right (is_additive_block states false a && is_additive_block states false b)
+      (is_additive_block states false rest) h) s)
 
   -- a valid block assigns to no argument
   args_kept : (nargs : ℕ) (b : Block) → IsValidBlock states nargs b → (s : ℕ) → states ≤ s → assigns b s ≡ false
@@ -56,14 +62,17 @@ module _ (states : ℕ) where
       let off : (s == v) ≡ false = grind (arith, nat_tests) in
       or_both_false (s == v) (assigns rest s) off (args_kept nargs rest valid.3 s h)
   args_kept nargs (Fork c a b rest) valid s h =
-      or_both_false (assigns a s || assigns b s) (assigns rest s) (or_both_false (assigns a s) (assigns b s) (args_kept nargs a valid.2 s h) (args_kept nargs b valid.3 s h)) (args_kept nargs rest valid.4 s h)
+      or_both_false (assigns a s || assigns b s) (assigns rest s) (or_both_false (assigns a s) (assigns b s) (args_kept nargs a valid.2 s h)
+      (args_kept nargs b valid.3 s h)) (args_kept nargs rest valid.4 s h)
 
-  clean_pure : (e : Term) (kinds : ℕ → Kind) → ((s : ℕ) → states ≤ s → kinds s ≡ Pure) → names_no_state states e ≡ true → expr_kind (role Sums) e kinds ≡ Pure
+  clean_pure : (e : Term) (kinds : ℕ → Kind) → ((s : ℕ) → states ≤ s → kinds s ≡ Pure) → names_no_state states e ≡ true
+      → expr_kind (role Sums) e kinds ≡ Pure
   clean_pure (Literal n) kinds p h = refl
   clean_pure (Read s) kinds p h = p s (argument_is states s h)
   clean_pure (Negation e) kinds p h = ap (outside_kind Pure) (clean_pure e kinds p h)
   clean_pure (Operation op a b) kinds p h =
-      ap (λ z. role_kind (role Sums op) z (expr_kind (role Sums) b kinds)) (clean_pure a kinds p (and_true_left (names_no_state states a) (names_no_state states b) h))
+      ap (λ z. role_kind (role Sums op) z (expr_kind (role Sums) b kinds))
+      (clean_pure a kinds p (and_true_left (names_no_state states a) (names_no_state states b) h))
       ∙ ap (role_kind (role Sums op) Pure) (clean_pure b kinds p (and_true_right (names_no_state states a) (names_no_state states b) h))
       ∙ role_pure (role Sums op)
 
@@ -78,20 +87,23 @@ module _ (states : ℕ) where
   variable_kind v (Negation e) kinds h = cc
   variable_kind v (Operation op a b) kinds h = cc
 
-  increment_kind : (v : ℕ) (e : Term) (kinds : ℕ → Kind) → ((s : ℕ) → states ≤ s → kinds s ≡ Pure) → is_increment states v e ≡ true → expr_kind (role Sums) e kinds ≡ kinds v
+  increment_kind : (v : ℕ) (e : Term) (kinds : ℕ → Kind) → ((s : ℕ) → states ≤ s → kinds s ≡ Pure) → is_increment states v e ≡ true
+      → expr_kind (role Sums) e kinds ≡ kinds v
   increment_kind v (Literal n) kinds p h = cc
   increment_kind v (Read s) kinds p h = cc
   increment_kind v (Negation e) kinds p h = cc
   increment_kind v (Operation op a b) kinds p h =
       let right = and_true_right (adds_or_subtracts op) (is_variable v a && names_no_state states b) h in
-      ap (λ z. role_kind (role Sums op) z (expr_kind (role Sums) b kinds)) (variable_kind v a kinds (and_true_left (is_variable v a) (names_no_state states b) right))
+      ap (λ z. role_kind (role Sums op) z (expr_kind (role Sums) b kinds))
+      (variable_kind v a kinds (and_true_left (is_variable v a) (names_no_state states b) right))
       ∙ ap (role_kind (role Sums op) (kinds v)) (clean_pure b kinds p (and_true_right (is_variable v a) (names_no_state states b) right))
       ∙ op_kind op (and_true_left (adds_or_subtracts op) (is_variable v a && names_no_state states b) h) (kinds v)
 
   stays : (free : Bool) (b : Block) → is_additive_block states (free && false) b ≡ true → (s : ℕ) → assigns b s ≡ false
   stays free b h = none_assigned b (subst (λ z. is_additive_block states z b ≡ true) (and_false free) h)
 
-  additive_good : (nargs : ℕ) (b : Block) (free : Bool) (kinds : ℕ → Kind) → IsValidBlock states nargs b → ((s : ℕ) → states ≤ s → kinds s ≡ Pure) → ((s : ℕ) → is_no_other (kinds s) ≡ true) →
+  additive_good : (nargs : ℕ) (b : Block) (free : Bool) (kinds : ℕ → Kind) → IsValidBlock states nargs b
+      → ((s : ℕ) → states ≤ s → kinds s ≡ Pure) → ((s : ℕ) → is_no_other (kinds s) ≡ true) →
       is_additive_block states free b ≡ true → (s : ℕ) → is_no_other (kinds_after (role Sums) b kinds s) ≡ true
   additive_good nargs End free kinds valid p g h = g
   additive_good nargs (Set v e rest) free kinds valid p g h =
@@ -105,30 +117,41 @@ module _ (states : ℕ) where
       apart : (s : ℕ) → states ≤ s → (s == v) ≡ false
       apart s ge = let lt : v < states = valid.0 in grind (arith, nat_tests)
 
-      at_each : (b : Bool) (s : ℕ) → is_no_other (expr_kind (role Sums) e kinds) ≡ true → is_no_other (kinds s) ≡ true → is_no_other (if b then expr_kind (role Sums) e kinds else kinds s) ≡ true
+      at_each : (b : Bool) (s : ℕ) → is_no_other (expr_kind (role Sums) e kinds) ≡ true → is_no_other (kinds s) ≡ true
+          → is_no_other (if b then expr_kind (role Sums) e kinds else kinds s) ≡ true
       at_each true s x y = x
       at_each false s x y = y
   additive_good nargs (Fork c a b rest) free kinds valid p g h =
       let inner = free && names_no_state states c in
-      let front = and_true_left (is_additive_block states inner a && is_additive_block states inner b) (is_additive_block states free rest) h in
-      let more = and_true_right (is_additive_block states inner a && is_additive_block states inner b) (is_additive_block states free rest) h in
+      let front = and_true_left (is_additive_block states inner a && is_additive_block states inner b) (is_additive_block states free rest)
+      h in
+      let more = and_true_right (is_additive_block states inner a && is_additive_block states inner b) (is_additive_block states free rest)
+      h in
       let ha = and_true_left (is_additive_block states inner a) (is_additive_block states inner b) front in
       let hb = and_true_right (is_additive_block states inner a) (is_additive_block states inner b) front in
       let ga = additive_good nargs a inner kinds valid.2 p g ha in
       let gb = additive_good nargs b inner kinds valid.3 p g hb in
-      additive_good nargs rest free (chosen_kinds (expr_kind (role Sums) c kinds) (kinds_after (role Sums) a kinds) (kinds_after (role Sums) b kinds) (marked b (marked a kinds))) valid.4
+      additive_good nargs rest free (chosen_kinds (expr_kind (role Sums) c kinds) (kinds_after (role Sums) a kinds)
+      (kinds_after (role Sums) b kinds) (marked b (marked a kinds))) valid.4
       (λ s ge. kept s (args_kept nargs a valid.2 s ge) (args_kept nargs b valid.3 s ge) ∙ p s ge)
       (λ s. at_each (names_no_state states c) refl ga gb ha hb s) more
     where
-      kept : (s : ℕ) → assigns a s ≡ false → assigns b s ≡ false → chosen_kinds (expr_kind (role Sums) c kinds) (kinds_after (role Sums) a kinds) (kinds_after (role Sums) b kinds) (marked b (marked a kinds)) s ≡ kinds s
-      kept s na nb = chosen_kept (expr_kind (role Sums) c kinds) (kinds_after (role Sums) a kinds) (kinds_after (role Sums) b kinds) (marked b (marked a kinds)) kinds s
+      kept : (s : ℕ) → assigns a s ≡ false → assigns b s ≡ false → chosen_kinds (expr_kind (role Sums) c kinds)
+          (kinds_after (role Sums) a kinds) (kinds_after (role Sums) b kinds) (marked b (marked a kinds)) s ≡ kinds s
+      kept s na nb = chosen_kept (expr_kind (role Sums) c kinds) (kinds_after (role Sums) a kinds) (kinds_after (role Sums) b kinds)
+          (marked b (marked a kinds)) kinds s
           (kinds_kept Sums a kinds s na) (kinds_kept Sums b kinds s nb) (marked_kept b (marked a kinds) s nb ∙ marked_kept a kinds s na)
 
-      at_each : (t : Bool) → names_no_state states c ≡ t → ((s : ℕ) → is_no_other (kinds_after (role Sums) a kinds s) ≡ true) → ((s : ℕ) → is_no_other (kinds_after (role Sums) b kinds s) ≡ true) →
-          is_additive_block states (free && names_no_state states c) a ≡ true → is_additive_block states (free && names_no_state states c) b ≡ true →
-          (s : ℕ) → is_no_other (chosen_kinds (expr_kind (role Sums) c kinds) (kinds_after (role Sums) a kinds) (kinds_after (role Sums) b kinds) (marked b (marked a kinds)) s) ≡ true
+      at_each : (t : Bool) → names_no_state states c ≡ t → ((s : ℕ) → is_no_other (kinds_after (role Sums) a kinds s) ≡ true)
+          → ((s : ℕ) → is_no_other (kinds_after (role Sums) b kinds s) ≡ true) →
+          is_additive_block states (free && names_no_state states c) a ≡ true
+          → is_additive_block states (free && names_no_state states c) b ≡ true →
+          (s : ℕ) → is_no_other (chosen_kinds (expr_kind (role Sums) c kinds) (kinds_after (role Sums) a kinds)
+          (kinds_after (role Sums) b kinds) (marked b (marked a kinds)) s) ≡ true
       at_each true e ga gb ha hb s =
-          ap (λ z. is_no_other (chosen_kinds z (kinds_after (role Sums) a kinds) (kinds_after (role Sums) b kinds) (marked b (marked a kinds)) s)) (clean_pure c kinds p e) ∙ greater_good (kinds_after (role Sums) a kinds s) (kinds_after (role Sums) b kinds s) (ga s) (gb s)
+          ap (λ z. is_no_other (chosen_kinds z (kinds_after (role Sums) a kinds) (kinds_after (role Sums) b kinds)
+          (marked b (marked a kinds)) s)) (clean_pure c kinds p e)
+          ∙ greater_good (kinds_after (role Sums) a kinds s) (kinds_after (role Sums) b kinds s) (ga s) (gb s)
       at_each false e ga gb ha hb s =
           let na = stays free a (subst (λ z. is_additive_block states (free && z) a ≡ true) e ha) s in
           let nb = stays free b (subst (λ z. is_additive_block states (free && z) b ≡ true) e hb) s in
@@ -140,37 +163,47 @@ module _ (states : ℕ) where
   variable_reads v (Negation e) reads h r = cc
   variable_reads v (Operation op a b) reads h r = cc
 
-  increment_reads : (v : ℕ) (e : Term) (reads : ℕ → ℕ → Bool) → is_increment states v e ≡ true → reads v v ≡ true → expr_reads e reads v ≡ true
+  increment_reads : (v : ℕ) (e : Term) (reads : ℕ → ℕ → Bool) → is_increment states v e ≡ true → reads v v ≡ true
+      → expr_reads e reads v ≡ true
   increment_reads v (Literal n) reads h r = cc
   increment_reads v (Read s) reads h r = cc
   increment_reads v (Negation e) reads h r = cc
   increment_reads v (Operation op a b) reads h r =
       or_true_left (expr_reads a reads v) (expr_reads b reads v)
-      (variable_reads v a reads (and_true_left (is_variable v a) (names_no_state states b) (and_true_right (adds_or_subtracts op) (is_variable v a && names_no_state states b) h)) r)
+      (variable_reads v a reads (and_true_left (is_variable v a) (names_no_state states b)
+      (and_true_right (adds_or_subtracts op) (is_variable v a && names_no_state states b) h)) r)
 
   -- each variable still depends on itself
-  reads_self : (b : Block) (free : Bool) (reads : ℕ → ℕ → Bool) → is_additive_block states free b ≡ true → ((v : ℕ) → v < states → reads v v ≡ true) → (s : ℕ) → s < states → reads_after b reads s s ≡ true
+  reads_self : (b : Block) (free : Bool) (reads : ℕ → ℕ → Bool) → is_additive_block states free b ≡ true
+      → ((v : ℕ) → v < states → reads v v ≡ true) → (s : ℕ) → s < states → reads_after b reads s s ≡ true
   reads_self End free reads h r = r
   reads_self (Set v e rest) free reads h r =
       let front = and_true_left (free && is_increment states v e) (is_additive_block states free rest) h in
-      reads_self rest free (update reads v (expr_reads e reads)) (and_true_right (free && is_increment states v e) (is_additive_block states free rest) h)
+      reads_self rest free (update reads v (expr_reads e reads)) (and_true_right (free && is_increment states v e)
+      (is_additive_block states free rest) h)
       (λ s lt. at_each s (s == v) refl lt (and_true_right free (is_increment states v e) front))
     where
-      at_each : (s : ℕ) (b : Bool) → (s == v) ≡ b → s < states → is_increment states v e ≡ true → (if s == v then expr_reads e reads else reads s) s ≡ true
+      at_each : (s : ℕ) (b : Bool) → (s == v) ≡ b → s < states → is_increment states v e ≡ true
+          → (if s == v then expr_reads e reads else reads s) s ≡ true
       at_each s true t lt inc =
           let same : v ≡ s = grind (arith, nat_tests) in
-          ap (λ b. (if b then expr_reads e reads else reads s) s) t ∙ subst (λ z. expr_reads e reads z ≡ true) same (increment_reads v e reads inc (r v (subst (λ z. z < states) (sym same) lt)))
+          ap (λ b. (if b then expr_reads e reads else reads s) s) t ∙ subst (λ z. expr_reads e reads z ≡ true) same
+          (increment_reads v e reads inc (r v (subst (λ z. z < states) (sym same) lt)))
       at_each s false t lt inc = ap (λ b. (if b then expr_reads e reads else reads s) s) t ∙ r s lt
   reads_self (Fork c a b rest) free reads h r =
       let inner = free && names_no_state states c in
-      let front = and_true_left (is_additive_block states inner a && is_additive_block states inner b) (is_additive_block states free rest) h in
+      let front = and_true_left (is_additive_block states inner a && is_additive_block states inner b) (is_additive_block states free rest)
+      h in
       let ia = reads_self a inner reads (and_true_left (is_additive_block states inner a) (is_additive_block states inner b) front) r in
-      reads_self rest free (λ v. if assigns a v || assigns b v then (λ u. (reads_after a reads v u || reads_after b reads v u) || expr_reads c reads u) else reads v)
+      reads_self rest free (λ v. if assigns a v || assigns b v then (λ u. (reads_after a reads v u || reads_after b reads v u) || expr_reads
+      c reads u) else reads v)
       (and_true_right (is_additive_block states inner a && is_additive_block states inner b) (is_additive_block states free rest) h)
       (λ s lt. at_each s (assigns a s || assigns b s) (ia s lt) (r s lt))
     where
-      at_each : (s : ℕ) (t : Bool) → reads_after a reads s s ≡ true → reads s s ≡ true → (if t then (λ u. (reads_after a reads s u || reads_after b reads s u) || expr_reads c reads u) else reads s) s ≡ true
-      at_each s true x y = or_true_left (reads_after a reads s s || reads_after b reads s s) (expr_reads c reads s) (or_true_left (reads_after a reads s s) (reads_after b reads s s) x)
+      at_each : (s : ℕ) (t : Bool) → reads_after a reads s s ≡ true → reads s s ≡ true
+          → (if t then (λ u. (reads_after a reads s u || reads_after b reads s u) || expr_reads c reads u) else reads s) s ≡ true
+      at_each s true x y = or_true_left (reads_after a reads s s || reads_after b reads s s) (expr_reads c reads s)
+          (or_true_left (reads_after a reads s s) (reads_after b reads s s) x)
       at_each s false x y = y
 
 below_all : (n : ℕ) (p : ℕ → Bool) → ((s : ℕ) → p s ≡ true) → all_below n p ≡ true
@@ -182,7 +215,8 @@ pub additive_linear : (f : TypedFold) → IsValidFold f → is_additive f ≡ tr
 additive_linear f valid h =
     below_all (fold_states f) (λ v. is_no_other (fold_kinds Sums f v))
     (additive_good (fold_states f) (fold_args f) (fold_block f) true (kinds_first f) valid.statements
-    (λ s ge. let off : nat_lt s (fold_states f) ≡ false = grind (arith, nat_tests) in ap (λ b. if b then (if is_history f s then Pure else Affine) else Pure) off)
+    (λ s ge. let off : nat_lt s (fold_states f) ≡ false = grind (arith, nat_tests) in ap
+    (λ b. if b then (if is_history f s then Pure else Affine) else Pure) off)
     (λ s. start (nat_lt s (fold_states f)) (is_history f s)) h)
   where
     start : (b t : Bool) → is_no_other (if b then (if t then Pure else Affine) else Pure) ≡ true
@@ -197,10 +231,12 @@ additive_no_depth f h (suc d) v lt = place (additive_no_depth f h d v lt) (is_wi
   where
     self : fold_reads f v v ≡ true
     self = reads_self (fold_states f) (fold_block f) true (reads_first (fold_states f)) h
-        (λ s ls. let a : nat_lt s (fold_states f) ≡ true = grind (arith, nat_tests) in let b : (s == s) ≡ true = grind (arith, nat_tests) in ap (λ z. z && (s == s)) a ∙ b) v lt
+        (λ s ls. let a : nat_lt s (fold_states f) ≡ true = grind (arith, nat_tests) in let b : (s == s) ≡ true =
+        grind (arith, nat_tests) in ap (λ z. z && (s == s)) a ∙ b) v lt
 
     place : is_within f d v ≡ false → (b : Bool) → is_within f (suc d) v ≡ b → is_within f (suc d) v ≡ false
     place shallower false e = e
     place shallower true e =
-        let deeper = implied (fold_reads f v v) (is_within f d v) (below_at (fold_states f) (λ u. not (fold_reads f v u) || is_within f d u) v lt e) self in
+        let deeper = implied (fold_reads f v v) (is_within f d v) (below_at (fold_states f) (λ u. not (fold_reads f v u) || is_within f d u)
+        v lt e) self in
         absurd (true≢false (sym deeper ∙ shallower))

@@ -1,5 +1,6 @@
 -- A column of a run over rows is the run over that column.
-use Rattle.std.proofs.Common.{◌≡◌, ℕ, zero, suc, Bool, true, false, ◌==◌, if◌then◌else◌, List, [], ◌∷◌, ◌++◌, map, get_or, set, slice_index, refl, sym, ap, ◌∙◌}
+use Rattle.std.proofs.Common.{◌≡◌, ℕ, zero, suc, Bool, true, false, ◌==◌, if◌then◌else◌, List, [], ◌∷◌, ◌++◌, map, get_or, set, slice_index}
+use Rattle.std.proofs.Common.{refl, sym, ap, ◌∙◌}
 use Rattle.std.proofs.lemmas.List.{map-append, map-set}
 use Rattle.query_lang.specs.Terms.{Term, Literal, Read, Negation, Operation}
 use Rattle.query_lang.specs.declared.fold.TypedFold.{TypedFold}
@@ -12,7 +13,8 @@ use Rattle.coeff_algebra.specs.Elements.{Elements}
 use Rattle.fold_class.specs.declared.class.Algebra.{Algebra}
 use Rattle.fold_class.specs.Kinds.{Role, Sum, Difference, Product, Outside, role}
 use Rattle.fold_class.specs.Depth.{is_history}
-use Rattle.fold_class.specs.Parts.{Part, Fixed, Share, Lost, parts, part_operation, part_negation, part_test, part_mask, part_choice, row_shares, column_shares}
+use Rattle.fold_class.specs.Parts.{Part, Fixed, Share, Lost, parts, part_operation, part_negation, part_test, part_mask, part_choice}
+use Rattle.fold_class.specs.Parts.{row_shares, column_shares}
 use Rattle.fold_class.specs.Step.{list_of, rank, dimension, first_row, step_rows, first_column, step_column}
 
 abbrev pub column_of : {C : Type 0} → ℕ → Part (ℕ → C) → Part C
@@ -35,7 +37,8 @@ module _ {C : Type 0} (k : Elements C) (n : ℕ) (algebra : Algebra) (c : ℕ) w
   abbrev col : Part (ℕ → C) → Part C
   col = column_of c
 
-  operation_column : (r : Role) (f : ℕ → ℕ → ℕ) (p q : Part (ℕ → C)) → col (part_operation (row_shares k n) r f p q) ≡ part_operation (column_shares k n c) r f (col p) (col q)
+  operation_column : (r : Role) (f : ℕ → ℕ → ℕ) (p q : Part (ℕ → C)) → col (part_operation (row_shares k n) r f p q) ≡ part_operation
+      (column_shares k n c) r f (col p) (col q)
   operation_column r f (Fixed u) (Fixed t) = refl
   operation_column Sum f (Fixed u) (Share e) = refl
   operation_column Sum f (Share d) (Fixed t) = refl
@@ -107,7 +110,8 @@ module _ {C : Type 0} (k : Elements C) (n : ℕ) (algebra : Algebra) (c : ℕ) w
       ∙ ap (λ z. part_operation (column_shares k n c) (role algebra op) (op_value op) z (col (term_in rows b ps))) (expr_column a ps)
       ∙ ap (part_operation (column_shares k n c) (role algebra op) (op_value op) (term_in column a (map col ps))) (expr_column b ps)
 
-  pub after_column : (b : Block) (m : Part (ℕ → C)) (args vars : List (Part (ℕ → C))) → map col (after_in rows m b args vars) ≡ after_in column (col m) b (map col args) (map col vars)
+  pub after_column : (b : Block) (m : Part (ℕ → C)) (args vars : List (Part (ℕ → C)))
+      → map col (after_in rows m b args vars) ≡ after_in column (col m) b (map col args) (map col vars)
   after_column End m args vars = refl
   after_column (Set v e rest) m args vars =
       let p = part_choice m (term_in rows e (vars ++ args)) (at rows vars v) in
@@ -116,7 +120,8 @@ module _ {C : Type 0} (k : Elements C) (n : ℕ) (algebra : Algebra) (c : ℕ) w
       (map-set col vars v p
       ∙ ap (set (map col vars) v)
       (choice_column m (term_in rows e (vars ++ args)) (at rows vars v)
-      ∙ ap (λ z. part_choice (col m) z (col (at rows vars v))) (expr_column e (vars ++ args) ∙ ap (term_in column e) (map-append col vars args))
+      ∙ ap (λ z. part_choice (col m) z (col (at rows vars v))) (expr_column e (vars ++ args)
+      ∙ ap (term_in column e) (map-append col vars args))
       ∙ ap (part_choice (col m) (term_in column e (map col vars ++ map col args))) (get_or-map col vars v (Fixed 0))))
   after_column (Fork x a b rest) m args vars =
       let q = term_in rows x (vars ++ args) in
@@ -125,7 +130,8 @@ module _ {C : Type 0} (k : Elements C) (n : ℕ) (algebra : Algebra) (c : ℕ) w
       let va = after_in rows (part_mask true m q) a args vars in
       let vb = after_in rows (part_mask false m q) b args va in
       let va' = after_in column (part_mask true (col m) q') a (map col args) (map col vars) in
-      let ea : map col va ≡ va' = after_column a (part_mask true m q) args vars ∙ ap (λ z. after_in column z a (map col args) (map col vars)) (mask_column true m q ∙ ap (part_mask true (col m)) same) in
+      let ea : map col va ≡ va' = after_column a (part_mask true m q) args vars
+      ∙ ap (λ z. after_in column z a (map col args) (map col vars)) (mask_column true m q ∙ ap (part_mask true (col m)) same) in
       let eb : map col vb ≡ after_in column (part_mask false (col m) q') b (map col args) va' =
       after_column b (part_mask false m q) args va
       ∙ ap (λ z. after_in column z b (map col args) (map col va)) (mask_column false m q ∙ ap (part_mask false (col m)) same)
@@ -134,19 +140,26 @@ module _ {C : Type 0} (k : Elements C) (n : ℕ) (algebra : Algebra) (c : ℕ) w
 
 map_list_of : {A B : Type 0} (h : A → B) (n : ℕ) (f : ℕ → A) (g : ℕ → B) → ((i : ℕ) → h (f i) ≡ g i) → map h (list_of n f) ≡ list_of n g
 map_list_of h zero f g e = refl
-map_list_of h (suc n) f g e = map-append h (list_of n f) (f n ∷ []) ∙ ap (λ z. z ++ h (f n) ∷ []) (map_list_of h n f g e) ∙ ap (λ z. list_of n g ++ z ∷ []) (e n)
+map_list_of h (suc n) f g e = map-append h (list_of n f) (f n ∷ []) ∙ ap (λ z. z ++ h (f n) ∷ []) (map_list_of h n f g e)
+    ∙ ap (λ z. list_of n g ++ z ∷ []) (e n)
 
 map_fixed : {C : Type 0} (c : ℕ) (args : List ℕ) → map (column_of {C = C} c) (map (λ w. Fixed w) args) ≡ map (λ w. Fixed w) args
 map_fixed c [] = refl
 map_fixed c (w ∷ args) = ap (λ z. Fixed w ∷ z) (map_fixed c args)
 
-pub step_column_is : {C : Type 0} (k : Elements C) (algebra : Algebra) (f : TypedFold) (c : ℕ) (state args : List ℕ) → step_column k algebra f c state args ≡ map (column_of c) (step_rows k algebra f state args)
+pub step_column_is : {C : Type 0} (k : Elements C) (algebra : Algebra) (f : TypedFold) (c : ℕ) (state args : List ℕ)
+    → step_column k algebra f c state args ≡ map (column_of c) (step_rows k algebra f state args)
 step_column_is k algebra f c state args =
-    sym (after_column k (dimension f) algebra c (fold_block f) (Fixed 1) (map (λ w. Fixed w) args) (list_of (fold_states f) (first_row k algebra f state))
-    ∙ ap (λ z. after_in (parts (column_shares k (dimension f) c) algebra) (Fixed 1) (fold_block f) z (map (column_of c) (list_of (fold_states f) (first_row k algebra f state)))) (map_fixed c args)
+    sym (after_column k (dimension f) algebra c (fold_block f) (Fixed 1) (map (λ w. Fixed w) args)
+    (list_of (fold_states f) (first_row k algebra f state))
+    ∙ ap (λ z. after_in (parts (column_shares k (dimension f) c) algebra) (Fixed 1) (fold_block f) z
+    (map (column_of c) (list_of (fold_states f) (first_row k algebra f state)))) (map_fixed c args)
     ∙ ap (after_in (parts (column_shares k (dimension f) c) algebra) (Fixed 1) (fold_block f) (map (λ w. Fixed w) args))
-    (map_list_of (column_of c) (fold_states f) (first_row k algebra f state) (first_column k algebra f c state) (λ v. first v (is_history f v))))
+    (map_list_of (column_of c) (fold_states f) (first_row k algebra f state) (first_column k algebra f c state)
+    (λ v. first v (is_history f v))))
   where
-    first : (v : ℕ) (b : Bool) → column_of c (if b then Fixed (slice_index state v) else Share (λ j. if j == rank f v then k.one else k.zero)) ≡ (if b then Fixed (slice_index state v) else Share (if c == rank f v then k.one else k.zero))
+    first : (v : ℕ) (b : Bool) → column_of c (if b then Fixed (slice_index state v) else Share
+        (λ j. if j == rank f v then k.one else k.zero)) ≡ (if b then Fixed (slice_index state v) else Share
+        (if c == rank f v then k.one else k.zero))
     first v true = refl
     first v false = refl

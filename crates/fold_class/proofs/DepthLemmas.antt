@@ -1,5 +1,6 @@
 -- As many rounds as there are variables find each depth, and the number of the first round that covers the history is the fold's depth.
-use Rattle.std.proofs.Common.{◌≡◌, ℕ, zero, suc, ◌+◌, ◌-◌, ◌<◌, ◌≤◌, Bool, true, false, not, ◌&&◌, ◌||◌, nat_lt, if◌then◌else◌, List, ◌⊎◌, inl, inr, refl, sym, ap, ◌∙◌, subst, arith}
+use Rattle.std.proofs.Common.{◌≡◌, ℕ, zero, suc, ◌+◌, ◌-◌, ◌<◌, ◌≤◌, Bool, true, false, not, ◌&&◌, ◌||◌, nat_lt, if◌then◌else◌, List, ◌⊎◌}
+use Rattle.std.proofs.Common.{inl, inr, refl, sym, ap, ◌∙◌, subst, arith}
 use Rattle.std.proofs.lemmas.Bool.Decides.{nat_tests}
 use Rattle.query_lang.specs.declared.fold.TypedFold.{TypedFold}
 use Rattle.query_lang.specs.Folds.{fold_states}
@@ -24,7 +25,8 @@ pub round_step : (f : TypedFold) (d : ℕ) (old new : List Bool) → ((v : ℕ) 
 round_step f d old new was is v lt =
     let e : suc d ≡ d + 1 = omega arith in
     is v lt
-    ∙ all_same (fold_states f) (λ u. not (fold_reads f v u) || flag_in old u) (λ u. not (fold_reads f v u) || is_within f d u) (λ u lu. ap (λ z. not (fold_reads f v u) || z) (was u lu))
+    ∙ all_same (fold_states f) (λ u. not (fold_reads f v u) || flag_in old u) (λ u. not (fold_reads f v u) || is_within f d u)
+    (λ u lu. ap (λ z. not (fold_reads f v u) || z) (was u lu))
     ∙ ap (λ n. is_within f n v) e
 
 -- how many of the first variables have a depth of d at most
@@ -51,21 +53,35 @@ count_grows : (f : TypedFold) (d n : ℕ) → count f d n ≤ count f (suc d) n
 count_grows f d zero = omega arith
 count_grows f d (suc n) =
     let e : d + 1 ≡ suc d = omega arith in
-    omega (arith, count_grows f d n, one_if (is_within f d n) (is_within f (suc d) n) (λ w. subst (λ m. is_within f m n ≡ true) e (within_more f d 1 n w)))
+    omega (
+      arith,
+      count_grows f d n,
+      one_if (is_within f d n) (is_within f (suc d) n)
+          (λ w. subst (λ m. is_within f m n ≡ true) e (within_more f d 1 n w)),
+    )
 
-count_more : (f : TypedFold) (d n v : ℕ) → v < n → is_within f (suc d) v ≡ true → is_within f d v ≡ false → count f d n + 1 ≤ count f (suc d) n
+count_more : (f : TypedFold) (d n v : ℕ) → v < n → is_within f (suc d) v ≡ true → is_within f d v ≡ false → count f d n
+    + 1 ≤ count f (suc d) n
 count_more f d zero v h grown not_yet = absurd (omega arith)
 count_more f d (suc n) v h grown not_yet = place (λ lt. count_more f d n v lt grown not_yet) (nat_lt v n) refl
   where
-    place : (v < n → count f d n + 1 ≤ count f (suc d) n) → (b : Bool) → nat_lt v n ≡ b → count f d n + (if is_within f d n then 1 else 0) + 1 ≤ count f (suc d) n + (if is_within f (suc d) n then 1 else 0)
+    place : (v < n → count f d n + 1 ≤ count f (suc d) n) → (b : Bool) → nat_lt v n ≡ b → count f d n + (if is_within f d n then 1 else 0)
+        + 1 ≤ count f (suc d) n + (if is_within f (suc d) n then 1 else 0)
     place front true t =
         let lt : v < n = grind (arith, nat_tests) in
         let e : d + 1 ≡ suc d = omega arith in
-        omega (arith, front lt, one_if (is_within f d n) (is_within f (suc d) n) (λ w. subst (λ m. is_within f m n ≡ true) e (within_more f d 1 n w)))
+        omega (
+          arith,
+          front lt,
+          one_if (is_within f d n) (is_within f (suc d) n)
+              (λ w. subst (λ m. is_within f m n ≡ true) e (within_more f d 1 n w)),
+        )
     place front false t =
         let same : v ≡ n = grind (arith, nat_tests) in
-        let a : (if is_within f d n then 1 else 0) ≡ 0 = ap {B = ℕ} (λ z. if z then 1 else 0) (subst (λ m. is_within f d m ≡ false) same not_yet) in
-        let b : (if is_within f (suc d) n then 1 else 0) ≡ 1 = ap {B = ℕ} (λ z. if z then 1 else 0) (subst (λ m. is_within f (suc d) m ≡ true) same grown) in
+        let a : (if is_within f d n then 1 else 0) ≡ 0 = ap {B = ℕ} (λ z. if z then 1 else 0)
+        (subst (λ m. is_within f d m ≡ false) same not_yet) in
+        let b : (if is_within f (suc d) n then 1 else 0) ≡ 1 = ap {B = ℕ} (λ z. if z then 1 else 0)
+        (subst (λ m. is_within f (suc d) m ≡ true) same grown) in
         omega (arith, count_grows f d n, a, b)
 
 -- a round adds no variable, or some variable
@@ -73,7 +89,8 @@ added : (p q : ℕ → Bool) (n : ℕ) → ((v : ℕ) → v < n → p v ≡ true
 added p q zero = inl (λ v h t. absurd (omega arith))
 added p q (suc n) = both (added p q n) (p n) (q n) refl refl
   where
-    both : ((v : ℕ) → v < n → p v ≡ true → q v ≡ true) ⊎ ((v : ℕ) × (v < n) × (p v ≡ true) × (q v ≡ false)) → (b c : Bool) → p n ≡ b → q n ≡ c →
+    both : ((v : ℕ) → v < n → p v ≡ true → q v ≡ true) ⊎ ((v : ℕ) × (v < n) × (p v ≡ true) × (q v ≡ false)) → (b c : Bool) → p n ≡ b
+        → q n ≡ c →
         ((v : ℕ) → v < suc n → p v ≡ true → q v ≡ true) ⊎ ((v : ℕ) × (v < suc n) × (p v ≡ true) × (q v ≡ false))
     both (inr r) b c eb ec = inr (r.0, omega (arith, r.1), r.2, r.3)
     both (inl old) true false eb ec = inr (n, omega arith, eb, ec)
@@ -102,7 +119,8 @@ settles f (suc d) = next (settles f d) (added (is_within f (suc d)) (is_within f
 settled : (f : TypedFold) → (e : ℕ) × (e ≤ fold_states f) × Stable f e
 settled f = pick (settles f (suc (fold_states f)))
   where
-    pick : ((e : ℕ) × (e < suc (fold_states f)) × Stable f e) ⊎ (suc (fold_states f) ≤ count f (suc (fold_states f)) (fold_states f)) → (e : ℕ) × (e ≤ fold_states f) × Stable f e
+    pick : ((e : ℕ) × (e < suc (fold_states f)) × Stable f e) ⊎ (suc (fold_states f) ≤ count f (suc (fold_states f)) (fold_states f))
+        → (e : ℕ) × (e ≤ fold_states f) × Stable f e
     pick (inl r) = (r.0, omega (arith, r.1), r.2)
     pick (inr h) = absurd (omega (arith, h, count_most f (suc (fold_states f)) (fold_states f)))
 
@@ -111,7 +129,8 @@ stable_next f d s v lt w =
     below_more (fold_states f) (λ u. not (fold_reads f v u) || is_within f (suc d) u) (λ u. not (fold_reads f v u) || is_within f d u)
     (λ u lu t. implies_more (fold_reads f v u) (is_within f (suc d) u) (is_within f d u) (λ z. s u lu z) t) w
 
-stays : (f : TypedFold) (e k : ℕ) → Stable f e → Stable f (e + k) × ((v : ℕ) → v < fold_states f → is_within f (e + k) v ≡ true → is_within f e v ≡ true)
+stays : (f : TypedFold) (e k : ℕ) → Stable f e → Stable f (e + k) × ((v : ℕ) → v < fold_states f → is_within f (e + k) v ≡ true
+    → is_within f e v ≡ true)
 stays f e zero s =
     let z : e ≡ e + 0 = omega arith in
     (subst (Stable f) z s, λ v lt w. subst (λ n. is_within f n v ≡ true) (sym z) w)
@@ -125,7 +144,8 @@ pub history_rounds : (f : TypedFold) (v : ℕ) → v < fold_states f → IsHisto
 history_rounds f v lt h = found (settled f)
   where
     up : (n : ℕ) → n ≤ fold_states f → is_within f n v ≡ true → is_history f v ≡ true
-    up n le w = let z : n + (fold_states f - n) ≡ fold_states f = omega arith in subst (λ m. is_within f m v ≡ true) z (within_more f n (fold_states f - n) v w)
+    up n le w = let z : n + (fold_states f - n) ≡ fold_states f = omega arith in subst (λ m. is_within f m v ≡ true) z
+        (within_more f n (fold_states f - n) v w)
 
     found : (e : ℕ) × (e ≤ fold_states f) × Stable f e → is_history f v ≡ true
     found r = place (nat_lt h.0 r.0) refl
@@ -141,26 +161,33 @@ history_rounds f v lt h = found (settled f)
 abbrev pub is_covered : TypedFold → ℕ → Bool
 is_covered f d = all_below (fold_states f) (λ v. not (is_history f v) || is_within f d v)
 
-pub covered_by : (f : TypedFold) (d : ℕ) (history within : List Bool) (n : ℕ) (b : Bool) → n ≡ fold_states f → ((v : ℕ) → v < fold_states f → flag_in history v ≡ is_history f v) → ((v : ℕ) → v < fold_states f → flag_in within v ≡ is_within f d v) →
+pub covered_by : (f : TypedFold) (d : ℕ) (history within : List Bool) (n : ℕ) (b : Bool) → n ≡ fold_states f
+    → ((v : ℕ) → v < fold_states f → flag_in history v ≡ is_history f v)
+    → ((v : ℕ) → v < fold_states f → flag_in within v ≡ is_within f d v) →
     b ≡ all_below n (λ v. not (flag_in history v) || flag_in within v) → is_covered f d ≡ b
 covered_by f d history within n b en eh ew e =
-    sym (e ∙ ap (λ m. all_below m (λ v. not (flag_in history v) || flag_in within v)) en ∙ all_same (fold_states f) (λ v. not (flag_in history v) || flag_in within v) (λ v. not (is_history f v) || is_within f d v) (λ v lt. ap (λ z. not z || flag_in within v) (eh v lt) ∙ ap (λ z. not (is_history f v) || z) (ew v lt)))
+    sym (e ∙ ap (λ m. all_below m (λ v. not (flag_in history v) || flag_in within v)) en
+    ∙ all_same (fold_states f) (λ v. not (flag_in history v) || flag_in within v) (λ v. not (is_history f v) || is_within f d v)
+    (λ v lt. ap (λ z. not z || flag_in within v) (eh v lt) ∙ ap (λ z. not (is_history f v) || z) (ew v lt)))
 
 not_or_self : (b : Bool) → (not b || b) ≡ true
 not_or_self true = refl
 not_or_self false = refl
 
 pub covered_last : (f : TypedFold) → is_covered f (fold_states f) ≡ true
-covered_last f = all_true (fold_states f) (λ v. not (is_history f v) || is_within f (fold_states f) v) (λ v lt. not_or_self (is_history f v))
+covered_last f = all_true (fold_states f) (λ v. not (is_history f v) || is_within f (fold_states f) v)
+    (λ v lt. not_or_self (is_history f v))
 
 -- the first round that covers the history is the fold's depth
 pub depth_found : (f : TypedFold) (d : ℕ) → is_covered f d ≡ true → ((e : ℕ) → e < d → is_covered f e ≡ false) → IsDepth f d
 depth_found f d now before = record {
-  enough = λ v lt h. implied (is_history f v) (is_within f d v) (below_at (fold_states f) (λ v. not (is_history f v) || is_within f d v) v lt now) (history_rounds f v lt h);
+  enough = λ v lt h. implied (is_history f v) (is_within f d v) (below_at (fold_states f) (λ v. not (is_history f v) || is_within f d v) v
+      lt now) (history_rounds f v lt h);
   least = λ e h. place e h (nat_lt e d) refl;
 }
   where
-    within_or : (e v : ℕ) (b : Bool) → is_history f v ≡ b → (is_history f v ≡ true → is_within f e v ≡ true) → (not b || is_within f e v) ≡ true
+    within_or : (e v : ℕ) (b : Bool) → is_history f v ≡ b → (is_history f v ≡ true → is_within f e v ≡ true)
+        → (not b || is_within f e v) ≡ true
     within_or e v true eb h = h eb
     within_or e v false eb h = refl
 
@@ -168,7 +195,8 @@ depth_found f d now before = record {
     place e h false t = grind (arith, nat_tests)
     place e h true t =
         let lt : e < d = grind (arith, nat_tests) in
-        let all : is_covered f e ≡ true = all_true (fold_states f) (λ v. not (is_history f v) || is_within f e v) (λ v lv. within_or e v (is_history f v) refl (λ w. h v lv (fold_states f, w))) in
+        let all : is_covered f e ≡ true = all_true (fold_states f) (λ v. not (is_history f v) || is_within f e v)
+        (λ v lv. within_or e v (is_history f v) refl (λ w. h v lv (fold_states f, w))) in
         let off = before e lt in
         cc
 
@@ -181,7 +209,8 @@ count_less f d (suc n) v h off = place (λ lt. count_less f d n v lt off) (nat_l
     place front true t = let lt : v < n = grind (arith, nat_tests) in omega (arith, front lt, at_most_one (is_within f d n))
     place front false t =
         let same : v ≡ n = grind (arith, nat_tests) in
-        let none : (if is_within f d n then 1 else 0) ≡ 0 = ap {B = ℕ} (λ z. if z then 1 else 0) (subst (λ m. is_within f d m ≡ false) same off) in
+        let none : (if is_within f d n then 1 else 0) ≡ 0 = ap {B = ℕ} (λ z. if z then 1 else 0)
+        (subst (λ m. is_within f d m ≡ false) same off) in
         omega (arith, count_most f d n, none)
 
 -- where some variable has no depth, the fold is less deep than it has variables
@@ -192,5 +221,7 @@ depth_below f d v lt off deep = pick (settles f (fold_states f))
     pick (inr h) = absurd (omega (arith, h, count_less f (fold_states f) (fold_states f) v lt off))
     pick (inl r) =
         let z : r.0 + (fold_states f - r.0) ≡ fold_states f = omega (arith, r.1) in
-        let all : (u : ℕ) → u < fold_states f → IsHistory f u → is_within f r.0 u ≡ true = λ u lu h. (stays f r.0 (fold_states f - r.0) r.2).1 u lu (subst (λ m. is_within f m u ≡ true) (sym z) (history_rounds f u lu h)) in
+        let all : (u : ℕ) → u < fold_states f → IsHistory f u → is_within f r.0 u ≡ true =
+        λ u lu h. (stays f r.0 (fold_states f - r.0) r.2).1 u lu (subst (λ m. is_within f m u ≡ true) (sym z)
+        (history_rounds f u lu h)) in
         omega (arith, deep.least r.0 all, r.1)

@@ -1,5 +1,6 @@
 -- What the walk with kinds says of a run over parts.
-use Rattle.std.proofs.Common.{◌≡◌, ◌≢◌, ℕ, ◌<◌, Bool, true, false, not, ◌==◌, if◌then◌else◌, List, ◌++◌, length, set, refl, sym, ap, ◌∙◌, subst, arith, length-set, length-append, get_or-set_same, get_or-set_other}
+use Rattle.std.proofs.Common.{◌≡◌, ◌≢◌, ℕ, ◌<◌, Bool, true, false, not, ◌==◌, if◌then◌else◌, List, ◌++◌, length, set, refl, sym, ap, ◌∙◌}
+use Rattle.std.proofs.Common.{subst, arith, length-set, length-append, get_or-set_same, get_or-set_other}
 use Rattle.std.proofs.lemmas.Bool.Decides.{nat_tests}
 use Rattle.std.proofs.lemmas.List.{set-get_or, set-append_left}
 use Rattle.query_lang.specs.Terms.{Term, Literal, Read, Negation, Operation}
@@ -12,8 +13,10 @@ use Rattle.fold_code.proofs.Runs.{length-after}
 use Rattle.fold_class.specs.declared.class.Algebra.{Algebra}
 use Rattle.fold_class.specs.declared.class.Kind.{Kind}
 use Rattle.fold_class.specs.declared.class.Kind.TheVariants.{Pure, Affine}
-use Rattle.fold_class.specs.Kinds.{Role, Sum, Difference, Product, Outside, role, greater, product_kind, outside_kind, role_kind, expr_kind, marked, chosen_kinds, kinds_after}
-use Rattle.fold_class.specs.Parts.{Part, Fixed, Share, Lost, Shares, minus_one, parts, part_mask, part_choice, part_negation, part_operation}
+use Rattle.fold_class.specs.Kinds.{Role, Sum, Difference, Product, Outside, role, greater, product_kind, outside_kind, role_kind, expr_kind}
+use Rattle.fold_class.specs.Kinds.{marked, chosen_kinds, kinds_after}
+use Rattle.fold_class.specs.Parts.{Part, Fixed, Share, Lost, Shares, minus_one, parts, part_mask, part_choice, part_negation}
+use Rattle.fold_class.specs.Parts.{part_operation}
 use Rattle.fold_class.specs.Fitting.{Allows}
 use Rattle.fold_class.specs.Tables.{update}
 
@@ -116,7 +119,8 @@ module _ {A : Type 0} (sh : Shares A) (algebra : Algebra) where
   outside_lost_right Affine Kind.Other h = tt
   outside_lost_right Kind.Other Kind.Other h = tt
 
-  operation_allowed : (r : Role) (f : ℕ → ℕ → ℕ) (k l : Kind) (p q : Part A) → Allows k p → Allows l q → Allows (role_kind r k l) (part_operation sh r f p q)
+  operation_allowed : (r : Role) (f : ℕ → ℕ → ℕ) (k l : Kind) (p q : Part A) → Allows k p → Allows l q
+      → Allows (role_kind r k l) (part_operation sh r f p q)
   operation_allowed r f k l (Fixed u) (Fixed t) h i = fixed_allowed (role_kind r k l) (f u t)
   operation_allowed Sum f k l (Fixed u) (Share e) h i = share_right k l e (sh.sum (sh.lift u) e) i
   operation_allowed Sum f k l (Share d) (Fixed t) h i = share_left k l d (sh.sum d (sh.lift t)) h
@@ -165,14 +169,17 @@ module _ {A : Type 0} (sh : Shares A) (algebra : Algebra) where
   abbrev pub AllAllowed : (ℕ → Kind) → List (Part A) → Type 0
   AllAllowed kinds ps = (s : ℕ) → Allows (kinds s) (at pdom ps s)
 
-  expr_allowed : (e : Term) (kinds : ℕ → Kind) (ps : List (Part A)) → AllAllowed kinds ps → Allows (expr_kind (role algebra) e kinds) (term_in pdom e ps)
+  expr_allowed : (e : Term) (kinds : ℕ → Kind) (ps : List (Part A)) → AllAllowed kinds ps
+      → Allows (expr_kind (role algebra) e kinds) (term_in pdom e ps)
   expr_allowed (Literal n) kinds ps h = tt
   expr_allowed (Read s) kinds ps h = h s
   expr_allowed (Negation e) kinds ps h = negation_allowed (expr_kind (role algebra) e kinds) (term_in pdom e ps) (expr_allowed e kinds ps h)
   expr_allowed (Operation op a b) kinds ps h =
-      operation_allowed (role algebra op) (op_value op) (expr_kind (role algebra) a kinds) (expr_kind (role algebra) b kinds) (term_in pdom a ps) (term_in pdom b ps) (expr_allowed a kinds ps h) (expr_allowed b kinds ps h)
+      operation_allowed (role algebra op) (op_value op) (expr_kind (role algebra) a kinds) (expr_kind (role algebra) b kinds)
+      (term_in pdom a ps) (term_in pdom b ps) (expr_allowed a kinds ps h) (expr_allowed b kinds ps h)
 
-  set_allowed : (vars fargs : List (Part A)) (kinds : ℕ → Kind) (v : ℕ) (k : Kind) (p : Part A) → v < length vars → AllAllowed kinds (vars ++ fargs) → Allows k p → AllAllowed (update kinds v k) (set vars v p ++ fargs)
+  set_allowed : (vars fargs : List (Part A)) (kinds : ℕ → Kind) (v : ℕ) (k : Kind) (p : Part A) → v < length vars
+      → AllAllowed kinds (vars ++ fargs) → Allows k p → AllAllowed (update kinds v k) (set vars v p ++ fargs)
   set_allowed vars fargs kinds v k p hv h q =
       subst (AllAllowed (update kinds v k)) (set-append_left vars fargs v p hv) (λ s. at_each s (s == v) refl)
     where
@@ -183,7 +190,8 @@ module _ {A : Type 0} (sh : Shares A) (algebra : Algebra) where
       at_each s true e =
           let same : v ≡ s = grind (arith, nat_tests) in
           subst (λ b. Allows (if b then k else kinds s) (at pdom (set (vars ++ fargs) v p) s)) (sym e)
-          (subst (λ t. Allows k (at pdom (set (vars ++ fargs) v p) t)) same (subst (Allows k) (sym (get_or-set_same (vars ++ fargs) v p (Fixed 0) inside)) q))
+          (subst (λ t. Allows k (at pdom (set (vars ++ fargs) v p) t)) same
+          (subst (Allows k) (sym (get_or-set_same (vars ++ fargs) v p (Fixed 0) inside)) q))
       at_each s false e =
           let other : s ≢ v = grind (arith, nat_tests) in
           subst (λ b. Allows (if b then k else kinds s) (at pdom (set (vars ++ fargs) v p) s)) (sym e)
@@ -199,11 +207,13 @@ module _ {A : Type 0} (sh : Shares A) (algebra : Algebra) where
 
   module _ (states nargs : ℕ) (fargs : List (Part A)) where
     -- whatever the mask is, only the marked variables change
-    marked_allowed : (b : Block) (m : Part A) (kinds : ℕ → Kind) (vars : List (Part A)) → IsValidBlock states nargs b → length vars ≡ states → AllAllowed kinds (vars ++ fargs) → AllAllowed (marked b kinds) (after_in pdom m b fargs vars ++ fargs)
+    marked_allowed : (b : Block) (m : Part A) (kinds : ℕ → Kind) (vars : List (Part A)) → IsValidBlock states nargs b → length vars ≡ states
+        → AllAllowed kinds (vars ++ fargs) → AllAllowed (marked b kinds) (after_in pdom m b fargs vars ++ fargs)
     marked_allowed End m kinds vars valid hs h = h
     marked_allowed (Set v e rest) m kinds vars valid hs h =
         let p = part_choice m (term_in pdom e (vars ++ fargs)) (at pdom vars v) in
-        marked_allowed rest m (update kinds v Kind.Other) (set vars v p) valid.3 (length-set vars v p ∙ hs) (set_allowed vars fargs kinds v Kind.Other p (omega (arith, valid.0)) h tt)
+        marked_allowed rest m (update kinds v Kind.Other) (set vars v p) valid.3 (length-set vars v p ∙ hs)
+        (set_allowed vars fargs kinds v Kind.Other p (omega (arith, valid.0)) h tt)
     marked_allowed (Fork c a b rest) m kinds vars valid hs h =
         let q = term_in pdom c (vars ++ fargs) in
         let m1 = part_mask true m q in
@@ -216,39 +226,52 @@ module _ {A : Type 0} (sh : Shares A) (algebra : Algebra) where
         (marked_allowed b m2 (marked a kinds) va valid.3 la (marked_allowed a m1 kinds vars valid.2 hs h))
 
     -- a choice: by its condition's kind
-    choice_allowed : (a b : Block) (kc : Kind) (q : Part A) (kinds : ℕ → Kind) (vars : List (Part A)) → IsValidBlock states nargs a → IsValidBlock states nargs b → length vars ≡ states →
+    choice_allowed : (a b : Block) (kc : Kind) (q : Part A) (kinds : ℕ → Kind) (vars : List (Part A)) → IsValidBlock states nargs a
+        → IsValidBlock states nargs b → length vars ≡ states →
         Allows kc q → AllAllowed kinds (vars ++ fargs) →
-        AllAllowed (kinds_after (role algebra) a kinds) (after_in pdom (Fixed 1) a fargs vars ++ fargs) → AllAllowed (kinds_after (role algebra) b kinds) (after_in pdom (Fixed 1) b fargs vars ++ fargs) →
+        AllAllowed (kinds_after (role algebra) a kinds) (after_in pdom (Fixed 1) a fargs vars ++ fargs)
+        → AllAllowed (kinds_after (role algebra) b kinds) (after_in pdom (Fixed 1) b fargs vars ++ fargs) →
         AllAllowed (chosen_kinds kc (kinds_after (role algebra) a kinds) (kinds_after (role algebra) b kinds) (marked b (marked a kinds)))
         (after_in pdom (part_mask false (Fixed 1) q) b fargs (after_in pdom (part_mask true (Fixed 1) q) a fargs vars) ++ fargs)
     choice_allowed a b Pure (Fixed w) kinds vars va vb hs hq h ha hb = fixed (holds w)
       where
-        fixed : (t : Bool) → AllAllowed (λ v. greater (kinds_after (role algebra) a kinds v) (kinds_after (role algebra) b kinds v)) (after_in pdom (Fixed (flag (not t))) b fargs (after_in pdom (Fixed (flag t)) a fargs vars) ++ fargs)
-        fixed true = subst (λ z. AllAllowed (λ v. greater (kinds_after (role algebra) a kinds v) (kinds_after (role algebra) b kinds v)) (z ++ fargs)) (sym (dead_parts b fargs (after_in pdom (Fixed 1) a fargs vars)))
-            (λ s. greater_allows_left (kinds_after (role algebra) a kinds s) (kinds_after (role algebra) b kinds s) (at pdom (after_in pdom (Fixed 1) a fargs vars ++ fargs) s) (ha s))
-        fixed false = subst (λ z. AllAllowed (λ v. greater (kinds_after (role algebra) a kinds v) (kinds_after (role algebra) b kinds v)) (after_in pdom (Fixed 1) b fargs z ++ fargs)) (sym (dead_parts a fargs vars))
-            (λ s. greater_allows_right (kinds_after (role algebra) a kinds s) (kinds_after (role algebra) b kinds s) (at pdom (after_in pdom (Fixed 1) b fargs vars ++ fargs) s) (hb s))
+        fixed : (t : Bool) → AllAllowed (λ v. greater (kinds_after (role algebra) a kinds v) (kinds_after (role algebra) b kinds v))
+            (after_in pdom (Fixed (flag (not t))) b fargs (after_in pdom (Fixed (flag t)) a fargs vars) ++ fargs)
+        fixed true = subst (λ z. AllAllowed (λ v. greater (kinds_after (role algebra) a kinds v) (kinds_after (role algebra) b kinds v))
+            (z ++ fargs)) (sym (dead_parts b fargs (after_in pdom (Fixed 1) a fargs vars)))
+            (λ s. greater_allows_left (kinds_after (role algebra) a kinds s) (kinds_after (role algebra) b kinds s)
+            (at pdom (after_in pdom (Fixed 1) a fargs vars ++ fargs) s) (ha s))
+        fixed false = subst (λ z. AllAllowed (λ v. greater (kinds_after (role algebra) a kinds v) (kinds_after (role algebra) b kinds v))
+            (after_in pdom (Fixed 1) b fargs z ++ fargs)) (sym (dead_parts a fargs vars))
+            (λ s. greater_allows_right (kinds_after (role algebra) a kinds s) (kinds_after (role algebra) b kinds s)
+            (at pdom (after_in pdom (Fixed 1) b fargs vars ++ fargs) s) (hb s))
     choice_allowed a b Pure (Share e) kinds vars va vb hs hq h ha hb = absurd hq
     choice_allowed a b Pure Lost kinds vars va vb hs hq h ha hb = absurd hq
     choice_allowed a b Affine q kinds vars va vb hs hq h ha hb =
-        marked_allowed b (part_mask false (Fixed 1) q) (marked a kinds) (after_in pdom (part_mask true (Fixed 1) q) a fargs vars) vb (length-after pdom (part_mask true (Fixed 1) q) a fargs vars ∙ hs)
+        marked_allowed b (part_mask false (Fixed 1) q) (marked a kinds) (after_in pdom (part_mask true (Fixed 1) q) a fargs vars) vb
+        (length-after pdom (part_mask true (Fixed 1) q) a fargs vars ∙ hs)
         (marked_allowed a (part_mask true (Fixed 1) q) kinds vars va hs h)
     choice_allowed a b Kind.Other q kinds vars va vb hs hq h ha hb =
-        marked_allowed b (part_mask false (Fixed 1) q) (marked a kinds) (after_in pdom (part_mask true (Fixed 1) q) a fargs vars) vb (length-after pdom (part_mask true (Fixed 1) q) a fargs vars ∙ hs)
+        marked_allowed b (part_mask false (Fixed 1) q) (marked a kinds) (after_in pdom (part_mask true (Fixed 1) q) a fargs vars) vb
+        (length-after pdom (part_mask true (Fixed 1) q) a fargs vars ∙ hs)
         (marked_allowed a (part_mask true (Fixed 1) q) kinds vars va hs h)
 
-    pub live_allowed : (b : Block) (kinds : ℕ → Kind) (vars : List (Part A)) → IsValidBlock states nargs b → length vars ≡ states → AllAllowed kinds (vars ++ fargs) → AllAllowed (kinds_after (role algebra) b kinds) (after_in pdom (Fixed 1) b fargs vars ++ fargs)
+    pub live_allowed : (b : Block) (kinds : ℕ → Kind) (vars : List (Part A)) → IsValidBlock states nargs b → length vars ≡ states
+        → AllAllowed kinds (vars ++ fargs) → AllAllowed (kinds_after (role algebra) b kinds) (after_in pdom (Fixed 1) b fargs vars ++ fargs)
     live_allowed End kinds vars valid hs h = h
     live_allowed (Set v e rest) kinds vars valid hs h =
         let p = term_in pdom e (vars ++ fargs) in
         let k = expr_kind (role algebra) e kinds in
-        live_allowed rest (update kinds v k) (set vars v p) valid.3 (length-set vars v p ∙ hs) (set_allowed vars fargs kinds v k p (omega (arith, valid.0)) h (expr_allowed e kinds (vars ++ fargs) h))
+        live_allowed rest (update kinds v k) (set vars v p) valid.3 (length-set vars v p ∙ hs)
+        (set_allowed vars fargs kinds v k p (omega (arith, valid.0)) h (expr_allowed e kinds (vars ++ fargs) h))
     live_allowed (Fork c a b rest) kinds vars valid hs h =
         let q = term_in pdom c (vars ++ fargs) in
         let m1 = part_mask true (Fixed 1) q in
         let m2 = part_mask false (Fixed 1) q in
         let va = after_in pdom m1 a fargs vars in
         let vb = after_in pdom m2 b fargs va in
-        live_allowed rest (chosen_kinds (expr_kind (role algebra) c kinds) (kinds_after (role algebra) a kinds) (kinds_after (role algebra) b kinds) (marked b (marked a kinds))) vb valid.4
+        live_allowed rest (chosen_kinds (expr_kind (role algebra) c kinds) (kinds_after (role algebra) a kinds)
+        (kinds_after (role algebra) b kinds) (marked b (marked a kinds))) vb valid.4
         (length-after pdom m2 b fargs va ∙ length-after pdom m1 a fargs vars ∙ hs)
-        (choice_allowed a b (expr_kind (role algebra) c kinds) q kinds vars valid.2 valid.3 hs (expr_allowed c kinds (vars ++ fargs) h) h (live_allowed a kinds vars valid.2 hs h) (live_allowed b kinds vars valid.3 hs h))
+        (choice_allowed a b (expr_kind (role algebra) c kinds) q kinds vars valid.2 valid.3 hs (expr_allowed c kinds (vars ++ fargs) h) h
+        (live_allowed a kinds vars valid.2 hs h) (live_allowed b kinds vars valid.3 hs h))

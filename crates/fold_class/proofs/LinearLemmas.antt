@@ -1,5 +1,6 @@
 -- The walk from the kinds at the start says whether a variable is Other at the end.
-use Rattle.std.proofs.Common.{◌≡◌, ◌≢◌, ℕ, ◌+◌, ◌<◌, Bool, true, false, ◌==◌, nat_lt, if◌then◌else◌, List, length, set, refl, sym, ap, ◌∙◌, subst, arith, get_or-set_same, get_or-set_other}
+use Rattle.std.proofs.Common.{◌≡◌, ◌≢◌, ℕ, ◌+◌, ◌<◌, Bool, true, false, ◌==◌, nat_lt, if◌then◌else◌, List, length, set, refl, sym, ap, ◌∙◌}
+use Rattle.std.proofs.Common.{subst, arith, get_or-set_same, get_or-set_other}
 use Rattle.std.proofs.lemmas.Bool.Decides.{nat_tests}
 use mathlib.Core.Path.{fun_ext}
 use Rattle.query_lang.specs.declared.fold.Op.{Op}
@@ -14,25 +15,33 @@ use Rattle.fold_class.specs.Kinds.{Role, kinds_after, kinds_from, is_no_other, h
 use Rattle.fold_class.specs.Walk.{kinds_in}
 
 -- what is fixed counts for the fold's variables alone
-pub same_fixed : (roles : Op → Role) (f : TypedFold) (fixed other : ℕ → Bool) → ((v : ℕ) → v < fold_states f → fixed v ≡ other v) → has_no_other roles fixed f ≡ has_no_other roles other f
+pub same_fixed : (roles : Op → Role) (f : TypedFold) (fixed other : ℕ → Bool) → ((v : ℕ) → v < fold_states f → fixed v ≡ other v)
+    → has_no_other roles fixed f ≡ has_no_other roles other f
 same_fixed roles f fixed other h =
-    ap (λ (z : ℕ → Kind). all_below (fold_states f) (λ v. is_no_other (kinds_after roles (fold_block f) z v))) (fun_ext (λ s. at s (nat_lt s (fold_states f)) refl))
+    ap (λ (z : ℕ → Kind). all_below (fold_states f) (λ v. is_no_other (kinds_after roles (fold_block f) z v)))
+    (fun_ext (λ s. at s (nat_lt s (fold_states f)) refl))
   where
-    at : (s : ℕ) (b : Bool) → nat_lt s (fold_states f) ≡ b → (if b then (if fixed s then Pure else Affine) else Pure) ≡ (if b then (if other s then Pure else Affine) else Pure)
+    at : (s : ℕ) (b : Bool) → nat_lt s (fold_states f) ≡ b → (if b then (if fixed s then Pure else Affine) else Pure)
+        ≡ (if b then (if other s then Pure else Affine) else Pure)
     at s true e = let lt : s < fold_states f = grind (arith, nat_tests) in ap (λ z. if z then Pure else Affine) (h s lt)
     at s false e = refl
 
-pub kept_from : (roles : Op → Role) (f : TypedFold) (fixed : ℕ → Bool) (n : ℕ) (block : List TypedStmt) (start walked : List Kind) (b : Bool) → n ≡ fold_states f → block ≡ f.body →
-    ((s : ℕ) → kinds_in start s ≡ (if nat_lt s n then (if fixed s then Pure else Affine) else Pure)) → kinds_in walked ≡ kinds_after roles (block_of block) (kinds_in start) →
+pub kept_from : (roles : Op → Role) (f : TypedFold) (fixed : ℕ → Bool) (n : ℕ) (block : List TypedStmt) (start walked : List Kind)
+    (b : Bool) → n ≡ fold_states f → block ≡ f.body →
+    ((s : ℕ) → kinds_in start s ≡ (if nat_lt s n then (if fixed s then Pure else Affine) else Pure))
+    → kinds_in walked ≡ kinds_after roles (block_of block) (kinds_in start) →
     b ≡ all_below n (λ v. is_no_other (kinds_in walked v)) → b ≡ has_no_other roles fixed f
 kept_from roles f fixed n block start walked b en eb es ew e =
-    let first : kinds_in start ≡ kinds_from fixed f = fun_ext (λ s. es s ∙ ap (λ m. if nat_lt s m then (if fixed s then Pure else Affine) else Pure) en) in
+    let first : kinds_in start ≡ kinds_from fixed f = fun_ext (λ s. es s
+    ∙ ap (λ m. if nat_lt s m then (if fixed s then Pure else Affine) else Pure) en) in
     e
     ∙ ap (λ m. all_below m (λ v. is_no_other (kinds_in walked v))) en
-    ∙ ap (λ z. all_below (fold_states f) (λ v. is_no_other (z v))) (ew ∙ ap (λ l. kinds_after roles (block_of l) (kinds_in start)) eb ∙ ap (kinds_after roles (fold_block f)) first)
+    ∙ ap (λ z. all_below (fold_states f) (λ v. is_no_other (z v))) (ew ∙ ap (λ l. kinds_after roles (block_of l) (kinds_in start)) eb
+    ∙ ap (kinds_after roles (fold_block f)) first)
 
 -- one more variable has its kind
-pub kind_step : (kinds : List Kind) (g : ℕ → Kind) (v : ℕ) (k : Kind) → v < length kinds → k ≡ g v → ((s : ℕ) → kinds_in kinds s ≡ (if nat_lt s v then g s else Pure)) →
+pub kind_step : (kinds : List Kind) (g : ℕ → Kind) (v : ℕ) (k : Kind) → v < length kinds → k ≡ g v
+    → ((s : ℕ) → kinds_in kinds s ≡ (if nat_lt s v then g s else Pure)) →
     (s : ℕ) → kinds_in (set kinds v k) s ≡ (if nat_lt s (v + 1) then g s else Pure)
 kind_step kinds g v k h e old s = at (s == v) refl
   where
@@ -40,7 +49,8 @@ kind_step kinds g v k h e old s = at (s == v) refl
     at true t =
         let same : v ≡ s = grind (arith, nat_tests) in
         let in_now : nat_lt s (v + 1) ≡ true = grind (arith, nat_tests) in
-        subst (λ j. kinds_in (set kinds v k) j ≡ g j) same (get_or-set_same kinds v k Pure h ∙ e) ∙ sym (ap (λ b. if b then g s else Pure) in_now)
+        subst (λ j. kinds_in (set kinds v k) j ≡ g j) same (get_or-set_same kinds v k Pure h ∙ e)
+        ∙ sym (ap (λ b. if b then g s else Pure) in_now)
     at false t =
         let off : s ≢ v = grind (arith, nat_tests) in
         get_or-set_other kinds v s k Pure off ∙ old s ∙ ap (λ b. if b then g s else Pure) (same_test (nat_lt s v) refl off)

@@ -1,5 +1,6 @@
 -- What a translation does to two states with the same history.
-use Rattle.std.proofs.Common.{◌≡◌, ℕ, ◌<◌, Bool, true, false, ◌&&◌, ◌||◌, ◌==◌, if◌then◌else◌, List, ◌++◌, length, set, slice_index, refl, sym, ap, ◌∙◌, subst, arith, length-set}
+use Rattle.std.proofs.Common.{◌≡◌, ℕ, ◌<◌, Bool, true, false, ◌&&◌, ◌||◌, ◌==◌, if◌then◌else◌, List, ◌++◌, length, set, slice_index, refl}
+use Rattle.std.proofs.Common.{sym, ap, ◌∙◌, subst, arith, length-set}
 use Rattle.std.proofs.lemmas.Bool.Decides.{nat_tests}
 use Rattle.std.proofs.lemmas.List.{get_or_append_left}
 use Rattle.query_lang.specs.declared.fold.Op.{Op}
@@ -27,36 +28,45 @@ module _ (algebra : Algebra) (states : ℕ) (known : ℕ → Bool) where
       pub same : (s : ℕ) → s < states → known s ≡ true → slice_index xs s ≡ slice_index ys s
       pub related : (s : ℕ) → s < states → known s ≡ false → R s (slice_index xs s) (slice_index ys s)
 
-    known_same : (args xs ys : List ℕ) (e : Term) → length xs ≡ states → length ys ≡ states → Related xs ys → names_known states known e ≡ true → term_value e (xs ++ args) ≡ term_value e (ys ++ args)
+    known_same : (args xs ys : List ℕ) (e : Term) → length xs ≡ states → length ys ≡ states → Related xs ys
+        → names_known states known e ≡ true → term_value e (xs ++ args) ≡ term_value e (ys ++ args)
     known_same args xs ys e hx hy r h = known_value states known args xs ys e hx hy r.same h
 
-    move_keeps : (args xs ys : List ℕ) (v : ℕ) (e : Term) → length xs ≡ states → length ys ≡ states → v < states → known v ≡ false → Related xs ys → is_move algebra states known v e ≡ true →
+    move_keeps : (args xs ys : List ℕ) (v : ℕ) (e : Term) → length xs ≡ states → length ys ≡ states → v < states → known v ≡ false
+        → Related xs ys → is_move algebra states known v e ≡ true →
         R v (term_value e (xs ++ args)) (term_value e (ys ++ args))
     move_keeps args xs ys v (Literal n) hx hy lt k r h = cc
     move_keeps args xs ys v (Negation e) hx hy lt k r h = cc
     move_keeps args xs ys v (Read s) hx hy lt k r h =
         let same : v ≡ s = grind (arith, nat_tests) in
-        let ex : slice_index xs v ≡ slice_index (xs ++ args) s = sym (get_or_append_left xs args 0 v (omega arith)) ∙ ap (slice_index (xs ++ args)) same in
-        let ey : slice_index ys v ≡ slice_index (ys ++ args) s = sym (get_or_append_left ys args 0 v (omega arith)) ∙ ap (slice_index (ys ++ args)) same in
+        let ex : slice_index xs v ≡ slice_index (xs ++ args) s = sym (get_or_append_left xs args 0 v (omega arith))
+        ∙ ap (slice_index (xs ++ args)) same in
+        let ey : slice_index ys v ≡ slice_index (ys ++ args) s = sym (get_or_append_left ys args 0 v (omega arith))
+        ∙ ap (slice_index (ys ++ args)) same in
         subst (R v (slice_index (xs ++ args) s)) ey (subst (λ z. R v z (slice_index ys v)) ex (r.related v lt k))
     move_keeps args xs ys v (Operation op a b) hx hy lt k r h =
         pick (moves_left algebra op && (is_move algebra states known v a && names_known states known b)) refl
         (λ m. move_keeps args xs ys v a hx hy lt k r m) (λ m. move_keeps args xs ys v b hx hy lt k r m)
       where
         pick : (l : Bool) → (moves_left algebra op && (is_move algebra states known v a && names_known states known b)) ≡ l →
-            (is_move algebra states known v a ≡ true → R v (term_value a (xs ++ args)) (term_value a (ys ++ args))) → (is_move algebra states known v b ≡ true → R v (term_value b (xs ++ args)) (term_value b (ys ++ args))) →
-            R v (op_value op (term_value a (xs ++ args)) (term_value b (xs ++ args))) (op_value op (term_value a (ys ++ args)) (term_value b (ys ++ args)))
+            (is_move algebra states known v a ≡ true → R v (term_value a (xs ++ args)) (term_value a (ys ++ args)))
+            → (is_move algebra states known v b ≡ true → R v (term_value b (xs ++ args)) (term_value b (ys ++ args))) →
+            R v (op_value op (term_value a (xs ++ args)) (term_value b (xs ++ args)))
+            (op_value op (term_value a (ys ++ args)) (term_value b (ys ++ args)))
         pick true t ra rb =
             let more = and_true_right (moves_left algebra op) (is_move algebra states known v a && names_known states known b) t in
-            subst (λ z. R v (op_value op (term_value a (xs ++ args)) (term_value b (xs ++ args))) (op_value op (term_value a (ys ++ args)) z))
+            subst (λ z. R v (op_value op (term_value a (xs ++ args)) (term_value b (xs ++ args)))
+            (op_value op (term_value a (ys ++ args)) z))
             (known_same args xs ys b hx hy r (and_true_right (is_move algebra states known v a) (names_known states known b) more))
             (left v op (term_value a (xs ++ args)) (term_value a (ys ++ args)) (term_value b (xs ++ args))
             (and_true_left (moves_left algebra op) (is_move algebra states known v a && names_known states known b) t)
             (ra (and_true_left (is_move algebra states known v a) (names_known states known b) more)))
         pick false t ra rb =
-            let other : (moves_right algebra op && (names_known states known a && is_move algebra states known v b)) ≡ true = second (moves_left algebra op && (is_move algebra states known v a && names_known states known b)) t h in
+            let other : (moves_right algebra op && (names_known states known a && is_move algebra states known v b)) ≡ true =
+            second (moves_left algebra op && (is_move algebra states known v a && names_known states known b)) t h in
             let more = and_true_right (moves_right algebra op) (names_known states known a && is_move algebra states known v b) other in
-            subst (λ z. R v (op_value op (term_value a (xs ++ args)) (term_value b (xs ++ args))) (op_value op z (term_value b (ys ++ args))))
+            subst (λ z. R v (op_value op (term_value a (xs ++ args)) (term_value b (xs ++ args)))
+            (op_value op z (term_value b (ys ++ args))))
             (known_same args xs ys a hx hy r (and_true_left (names_known states known a) (is_move algebra states known v b) more))
             (right v op (term_value b (xs ++ args)) (term_value b (ys ++ args)) (term_value a (xs ++ args))
             (and_true_left (moves_right algebra op) (names_known states known a && is_move algebra states known v b) other)
@@ -66,7 +76,8 @@ module _ (algebra : Algebra) (states : ℕ) (known : ℕ → Bool) where
             second true e p = cc
             second false e p = p
 
-    pub block_keeps : (nargs : ℕ) (b : Block) (free : Bool) (args xs ys : List ℕ) → IsValidBlock states nargs b → length xs ≡ states → length ys ≡ states → is_moving algebra states known free b ≡ true →
+    pub block_keeps : (nargs : ℕ) (b : Block) (free : Bool) (args xs ys : List ℕ) → IsValidBlock states nargs b → length xs ≡ states
+        → length ys ≡ states → is_moving algebra states known free b ≡ true →
         Related xs ys → Related (after b args xs) (after b args ys)
     block_keeps nargs End free args xs ys valid hx hy h r = r
     block_keeps nargs (Set v e rest) free args xs ys valid hx hy h r =
@@ -74,66 +85,89 @@ module _ (algebra : Algebra) (states : ℕ) (known : ℕ → Bool) where
         let y = term_value e (ys ++ args) in
         let given = if known v then names_known states known e else is_move algebra states known v e in
         let front = and_true_right free given (and_true_left (free && given) (is_moving algebra states known free rest) h) in
-        block_keeps nargs rest free args (set xs v x) (set ys v y) valid.3 (length-set xs v x ∙ hx) (length-set ys v y ∙ hy) (and_true_right (free && given) (is_moving algebra states known free rest) h)
+        block_keeps nargs rest free args (set xs v x) (set ys v y) valid.3 (length-set xs v x ∙ hx) (length-set ys v y ∙ hy)
+        (and_true_right (free && given) (is_moving algebra states known free rest) h)
         (record {
-          same = λ s lt k. set_index xs v x s (omega (arith, valid.0)) ∙ same_at front s lt k (s == v) refl ∙ sym (set_index ys v y s (omega (arith, valid.0)));
+          same = λ s lt k. set_index xs v x s (omega (arith, valid.0)) ∙ same_at front s lt k (s == v) refl
+              ∙ sym (set_index ys v y s (omega (arith, valid.0)));
           related = λ s lt k. subst (λ z. R s z (slice_index (set ys v y) s)) (sym (set_index xs v x s (omega (arith, valid.0))))
-              (subst (R s (if s == v then x else slice_index xs s)) (sym (set_index ys v y s (omega (arith, valid.0)))) (related_at front s lt k (s == v) refl));
+              (subst (R s (if s == v then x else slice_index xs s)) (sym (set_index ys v y s (omega (arith, valid.0))))
+              (related_at front s lt k (s == v) refl));
         })
       where
-        same_at : (if known v then names_known states known e else is_move algebra states known v e) ≡ true → (s : ℕ) → s < states → known s ≡ true → (b : Bool) → (s == v) ≡ b →
-            (if s == v then term_value e (xs ++ args) else slice_index xs s) ≡ (if s == v then term_value e (ys ++ args) else slice_index ys s)
+        same_at : (if known v then names_known states known e else is_move algebra states known v e) ≡ true → (s : ℕ) → s < states
+            → known s ≡ true → (b : Bool) → (s == v) ≡ b →
+            (if s == v then term_value e (xs ++ args) else slice_index xs s)
+            ≡ (if s == v then term_value e (ys ++ args) else slice_index ys s)
         same_at g s lt k true t =
             let e1 : s ≡ v = grind (arith, nat_tests) in
             let kv : known v ≡ true = subst (λ z. known z ≡ true) e1 k in
-            let g' : names_known states known e ≡ true = subst (λ (z : Bool). (if z then names_known states known e else is_move algebra states known v e) ≡ true) kv g in
-            ap (λ b. if b then term_value e (xs ++ args) else slice_index xs s) t ∙ known_same args xs ys e hx hy r g' ∙ sym (ap (λ b. if b then term_value e (ys ++ args) else slice_index ys s) t)
-        same_at g s lt k false t = ap (λ b. if b then term_value e (xs ++ args) else slice_index xs s) t ∙ r.same s lt k ∙ sym (ap (λ b. if b then term_value e (ys ++ args) else slice_index ys s) t)
+            let g' : names_known states known e ≡ true = subst (λ (z : Bool).
+            (if z then names_known states known e else is_move algebra states known v e) ≡ true) kv g in
+            ap (λ b. if b then term_value e (xs ++ args) else slice_index xs s) t ∙ known_same args xs ys e hx hy r g'
+            ∙ sym (ap (λ b. if b then term_value e (ys ++ args) else slice_index ys s) t)
+        same_at g s lt k false t = ap (λ b. if b then term_value e (xs ++ args) else slice_index xs s) t ∙ r.same s lt k
+            ∙ sym (ap (λ b. if b then term_value e (ys ++ args) else slice_index ys s) t)
 
-        related_at : (if known v then names_known states known e else is_move algebra states known v e) ≡ true → (s : ℕ) → s < states → known s ≡ false → (b : Bool) → (s == v) ≡ b →
-            R s (if s == v then term_value e (xs ++ args) else slice_index xs s) (if s == v then term_value e (ys ++ args) else slice_index ys s)
+        related_at : (if known v then names_known states known e else is_move algebra states known v e) ≡ true → (s : ℕ) → s < states
+            → known s ≡ false → (b : Bool) → (s == v) ≡ b →
+            R s (if s == v then term_value e (xs ++ args) else slice_index xs s)
+            (if s == v then term_value e (ys ++ args) else slice_index ys s)
         related_at g s lt k true t =
             let e1 : s ≡ v = grind (arith, nat_tests) in
             let e2 : v ≡ s = sym e1 in
             let kv : known v ≡ false = subst (λ z. known z ≡ false) e1 k in
-            let g' : is_move algebra states known v e ≡ true = subst (λ (z : Bool). (if z then names_known states known e else is_move algebra states known v e) ≡ true) kv g in
+            let g' : is_move algebra states known v e ≡ true = subst (λ (z : Bool).
+            (if z then names_known states known e else is_move algebra states known v e) ≡ true) kv g in
             let lv : v < states = valid.0 in
-            subst (λ (z : Bool). R s (if z then term_value e (xs ++ args) else slice_index xs s) (if z then term_value e (ys ++ args) else slice_index ys s)) (sym t)
+            subst (λ (z : Bool). R s (if z then term_value e (xs ++ args) else slice_index xs s)
+            (if z then term_value e (ys ++ args) else slice_index ys s)) (sym t)
             (subst (λ z. R z (term_value e (xs ++ args)) (term_value e (ys ++ args))) e2 (move_keeps args xs ys v e hx hy lv kv r g'))
         related_at g s lt k false t =
-            subst (λ (z : Bool). R s (if z then term_value e (xs ++ args) else slice_index xs s) (if z then term_value e (ys ++ args) else slice_index ys s)) (sym t) (r.related s lt k)
+            subst (λ (z : Bool). R s (if z then term_value e (xs ++ args) else slice_index xs s)
+            (if z then term_value e (ys ++ args) else slice_index ys s)) (sym t) (r.related s lt k)
     block_keeps nargs (Fork c a b rest) free args xs ys valid hx hy h r =
         let inner = free && names_known states known c in
-        let front = and_true_left (is_moving algebra states known inner a && is_moving algebra states known inner b) (is_moving algebra states known free rest) h in
+        let front = and_true_left (is_moving algebra states known inner a && is_moving algebra states known inner b)
+        (is_moving algebra states known free rest) h in
         let ha = and_true_left (is_moving algebra states known inner a) (is_moving algebra states known inner b) front in
         let hb = and_true_right (is_moving algebra states known inner a) (is_moving algebra states known inner b) front in
         let hc = holds (term_value c (xs ++ args)) in
         let kc = holds (term_value c (ys ++ args)) in
-        block_keeps nargs rest free args (if hc then after a args xs else after b args xs) (if kc then after a args ys else after b args ys) valid.4 (size xs hx hc) (size ys hy kc)
-        (and_true_right (is_moving algebra states known inner a && is_moving algebra states known inner b) (is_moving algebra states known free rest) h)
-        (branches (names_known states known c) refl ha hb (block_keeps nargs a inner args xs ys valid.2 hx hy ha r) (block_keeps nargs b inner args xs ys valid.3 hx hy hb r))
+        block_keeps nargs rest free args (if hc then after a args xs else after b args xs) (if kc then after a args ys else after b args ys)
+        valid.4 (size xs hx hc) (size ys hy kc)
+        (and_true_right (is_moving algebra states known inner a && is_moving algebra states known inner b)
+        (is_moving algebra states known free rest) h)
+        (branches (names_known states known c) refl ha hb (block_keeps nargs a inner args xs ys valid.2 hx hy ha r)
+        (block_keeps nargs b inner args xs ys valid.3 hx hy hb r))
       where
         size : (zs : List ℕ) → length zs ≡ states → (k : Bool) → length (if k then after a args zs else after b args zs) ≡ states
         size zs hz true = length-after a args zs ∙ hz
         size zs hz false = length-after b args zs ∙ hz
 
-        either : (k l : Bool) → k ≡ l → Related (after a args xs) (after a args ys) → Related (after b args xs) (after b args ys) → Related (if k then after a args xs else after b args xs) (if l then after a args ys else after b args ys)
+        either : (k l : Bool) → k ≡ l → Related (after a args xs) (after a args ys) → Related (after b args xs) (after b args ys)
+            → Related (if k then after a args xs else after b args xs) (if l then after a args ys else after b args ys)
         either true true e p q = p
         either true false e p q = cc
         either false true e p q = cc
         either false false e p q = q
 
-        stays : (zs : List ℕ) (k : Bool) → is_moving algebra states known false a ≡ true → is_moving algebra states known false b ≡ true → (if k then after a args zs else after b args zs) ≡ zs
+        stays : (zs : List ℕ) (k : Bool) → is_moving algebra states known false a ≡ true → is_moving algebra states known false b ≡ true
+            → (if k then after a args zs else after b args zs) ≡ zs
         stays zs true p q = idle states known (keeps_moves algebra states known) a args zs p
         stays zs false p q = idle states known (keeps_moves algebra states known) b args zs q
 
-        branches : (t : Bool) → names_known states known c ≡ t → is_moving algebra states known (free && names_known states known c) a ≡ true → is_moving algebra states known (free && names_known states known c) b ≡ true →
+        branches : (t : Bool) → names_known states known c ≡ t → is_moving algebra states known (free && names_known states known c) a
+            ≡ true → is_moving algebra states known (free && names_known states known c) b ≡ true →
             Related (after a args xs) (after a args ys) → Related (after b args xs) (after b args ys) →
-            Related (if holds (term_value c (xs ++ args)) then after a args xs else after b args xs) (if holds (term_value c (ys ++ args)) then after a args ys else after b args ys)
-        branches true t ha hb ra rb = either (holds (term_value c (xs ++ args))) (holds (term_value c (ys ++ args))) (ap holds (known_same args xs ys c hx hy r t)) ra rb
+            Related (if holds (term_value c (xs ++ args)) then after a args xs else after b args xs)
+            (if holds (term_value c (ys ++ args)) then after a args ys else after b args ys)
+        branches true t ha hb ra rb = either (holds (term_value c (xs ++ args))) (holds (term_value c (ys ++ args)))
+            (ap holds (known_same args xs ys c hx hy r t)) ra rb
         branches false t ha hb ra rb =
             let off : (free && names_known states known c) ≡ false = ap (λ z. free && z) t ∙ and_false free in
             let pa = subst (λ z. is_moving algebra states known z a ≡ true) off ha in
             let pb = subst (λ z. is_moving algebra states known z b ≡ true) off hb in
-            subst (λ z. Related z (if holds (term_value c (ys ++ args)) then after a args ys else after b args ys)) (sym (stays xs (holds (term_value c (xs ++ args))) pa pb))
+            subst (λ z. Related z (if holds (term_value c (ys ++ args)) then after a args ys else after b args ys))
+            (sym (stays xs (holds (term_value c (xs ++ args))) pa pb))
             (subst (Related xs) (sym (stays ys (holds (term_value c (ys ++ args))) pa pb)) r)

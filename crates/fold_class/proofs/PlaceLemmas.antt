@@ -1,5 +1,6 @@
 -- The places of the variables that pass a test, in the order of declaration.
-use Rattle.std.proofs.Common.{◌≡◌, ℕ, zero, suc, ◌+◌, ◌<◌, ◌≤◌, Bool, true, false, not, nat_lt, if◌then◌else◌, List, [], ◌∷◌, ◌++◌, map, length, slice_index, refl, sym, ap, ◌∙◌, subst, arith, length-append}
+use Rattle.std.proofs.Common.{◌≡◌, ℕ, zero, suc, ◌+◌, ◌<◌, ◌≤◌, Bool, true, false, not, nat_lt, if◌then◌else◌, List, [], ◌∷◌, ◌++◌, map}
+use Rattle.std.proofs.Common.{length, slice_index, refl, sym, ap, ◌∙◌, subst, arith, length-append}
 use Rattle.std.proofs.lemmas.Bool.Decides.{nat_tests}
 use Rattle.std.proofs.lemmas.List.{get_or_append_left, get_or_push}
 use Rattle.query_lang.specs.declared.fold.TypedFold.{TypedFold}
@@ -25,13 +26,15 @@ module _ (p : ℕ → Bool) where
   places_more v zero h = let e : v ≡ 0 = omega arith in omega (arith, ap (λ z. length (places p z)) e)
   places_more v (suc n) h = place (λ le. places_more v n le) (nat_lt v (suc n)) refl
     where
-      place : (v ≤ n → length (places p v) ≤ length (places p n)) → (b : Bool) → nat_lt v (suc n) ≡ b → length (places p v) ≤ length (places p (suc n))
+      place : (v ≤ n → length (places p v) ≤ length (places p n)) → (b : Bool) → nat_lt v (suc n) ≡ b
+          → length (places p v) ≤ length (places p (suc n))
       place front true t = let le : v ≤ n = grind (arith, nat_tests) in omega (arith, front le, size_step (p n) (places p n) n)
       place front false t = let e : v ≡ suc n = grind (arith, nat_tests) in omega (arith, ap (λ z. length (places p z)) e)
 
   pub places_less : (v n : ℕ) → v < n → p v ≡ true → length (places p v) < length (places p n)
   places_less v n h e =
-      let one : length (places p (suc v)) ≡ length (places p v) + 1 = size_step (p v) (places p v) v ∙ ap (λ b. length (places p v) + (if b then 1 else 0)) e in
+      let one : length (places p (suc v)) ≡ length (places p v) + 1 = size_step (p v) (places p v) v
+      ∙ ap (λ b. length (places p v) + (if b then 1 else 0)) e in
       omega (arith, one, places_more (suc v) n (omega arith))
 
   pub places_most : (n : ℕ) → length (places p n) ≤ n
@@ -47,12 +50,16 @@ module _ (p : ℕ → Bool) where
   place_at v zero h e = absurd (omega arith)
   place_at v (suc n) h e = at (λ lt. place_at v n lt e) (λ lt. places_less v n lt e) (nat_lt v n) refl (p n) refl
     where
-      at : (v < n → slice_index (places p n) (length (places p v)) ≡ v) → (v < n → length (places p v) < length (places p n)) → (l : Bool) → nat_lt v n ≡ l → (b : Bool) → p n ≡ b →
+      at : (v < n → slice_index (places p n) (length (places p v)) ≡ v) → (v < n → length (places p v) < length (places p n)) → (l : Bool)
+          → nat_lt v n ≡ l → (b : Bool) → p n ≡ b →
           slice_index (if b then places p n ++ n ∷ [] else places p n) (length (places p v)) ≡ v
-      at front less true t true eb = let lt : v < n = grind (arith, nat_tests) in get_or_append_left (places p n) (n ∷ []) 0 (length (places p v)) (less lt) ∙ front lt
+      at front less true t true eb = let lt : v < n = grind (arith, nat_tests) in get_or_append_left (places p n) (n ∷ []) 0
+          (length (places p v)) (less lt) ∙ front lt
       at front less true t false eb = let lt : v < n = grind (arith, nat_tests) in front lt
-      at front less false t true eb = let same : v ≡ n = grind (arith, nat_tests) in get_or_push (places p n) n 0 (length (places p v)) (ap (λ z. length (places p z)) (sym same)) ∙ sym same
-      at front less false t false eb = let same : v ≡ n = grind (arith, nat_tests) in let e' : p n ≡ true = subst (λ z. p z ≡ true) same e in cc
+      at front less false t true eb = let same : v ≡ n = grind (arith, nat_tests) in get_or_push (places p n) n 0 (length (places p v))
+          (ap (λ z. length (places p z)) (sym same)) ∙ sym same
+      at front less false t false eb = let same : v ≡ n = grind (arith, nat_tests) in let e' : p n ≡ true =
+          subst (λ z. p z ≡ true) same e in cc
 
   -- what stands at a place is a variable that passes
   pub record IsPlaced (n i : ℕ) : Type 0 where
@@ -63,12 +70,15 @@ module _ (p : ℕ → Bool) where
   placed zero i h = absurd (omega arith)
   placed (suc n) i h = at (λ lt. placed n i lt) (p n) refl h
     where
-      at : (i < length (places p n) → (slice_index (places p n) i < n) × (p (slice_index (places p n) i) ≡ true)) → (b : Bool) → p n ≡ b → i < length (if b then places p n ++ n ∷ [] else places p n) →
-          (slice_index (if b then places p n ++ n ∷ [] else places p n) i < suc n) × (p (slice_index (if b then places p n ++ n ∷ [] else places p n) i) ≡ true)
+      at : (i < length (places p n) → (slice_index (places p n) i < n) × (p (slice_index (places p n) i) ≡ true)) → (b : Bool) → p n ≡ b
+          → i < length (if b then places p n ++ n ∷ [] else places p n) →
+          (slice_index (if b then places p n ++ n ∷ [] else places p n) i < suc n)
+          × (p (slice_index (if b then places p n ++ n ∷ [] else places p n) i) ≡ true)
       at front false eb h = let r = front h in (omega (arith, r.0), r.1)
       at front true eb h = last (nat_lt i (length (places p n))) refl
         where
-          last : (l : Bool) → nat_lt i (length (places p n)) ≡ l → (slice_index (places p n ++ n ∷ []) i < suc n) × (p (slice_index (places p n ++ n ∷ []) i) ≡ true)
+          last : (l : Bool) → nat_lt i (length (places p n)) ≡ l → (slice_index (places p n ++ n ∷ []) i < suc n)
+              × (p (slice_index (places p n ++ n ∷ []) i) ≡ true)
           last true t =
               let lt : i < length (places p n) = grind (arith, nat_tests) in
               let e : slice_index (places p n ++ n ∷ []) i ≡ slice_index (places p n) i = get_or_append_left (places p n) (n ∷ []) 0 i lt in
@@ -94,6 +104,7 @@ pub both_sorts : (q : ℕ → Bool) (n : ℕ) → length (places (λ v. not (q v
 both_sorts q zero = refl
 both_sorts q (suc n) = omega (arith, both_sorts q n, step (q n) (places (λ v. not (q v)) n) (places q n))
   where
-    step : (b : Bool) (xs ys : List ℕ) → length (if not b then xs ++ n ∷ [] else xs) + length (if b then ys ++ n ∷ [] else ys) ≡ length xs + length ys + 1
+    step : (b : Bool) (xs ys : List ℕ) → length (if not b then xs ++ n ∷ [] else xs) + length (if b then ys ++ n ∷ [] else ys) ≡ length xs
+        + length ys + 1
     step true xs ys = omega (arith, length-append ys (n ∷ []))
     step false xs ys = omega (arith, length-append xs (n ∷ []))

@@ -1,5 +1,6 @@
 -- The places of the history variables are those of the history variables.
-use Rattle.std.proofs.Common.{◌≡◌, ℕ, zero, suc, Bool, true, false, ◌&&◌, ◌||◌, ◌==◌, nat_lt, if◌then◌else◌, List, [], ◌∷◌, ◌++◌, refl, sym, ap, ◌∙◌, arith}
+use Rattle.std.proofs.Common.{◌≡◌, ℕ, zero, suc, Bool, true, false, ◌&&◌, ◌||◌, ◌==◌, nat_lt, if◌then◌else◌, List, [], ◌∷◌, ◌++◌, refl, sym}
+use Rattle.std.proofs.Common.{ap, ◌∙◌, arith}
 use Rattle.std.proofs.lemmas.Bool.Decides.{nat_tests}
 use mathlib.Core.Path.{fun_ext}
 use Rattle.query_lang.specs.declared.fold.TypedFold.{TypedFold}
@@ -25,8 +26,10 @@ in_places : (p : ℕ → Bool) (n v : ℕ) → is_in (places p n) v ≡ (nat_lt 
 in_places p zero v = let off : nat_lt v 0 ≡ false = grind (arith, nat_tests) in sym (ap (λ b. b && p v) off)
 in_places p (suc n) v = at (in_places p n v) (p n) refl ∙ last (nat_lt v n) refl (v == n) refl
   where
-    at : is_in (places p n) v ≡ (nat_lt v n && p v) → (b : Bool) → p n ≡ b → is_in (if b then places p n ++ n ∷ [] else places p n) v ≡ ((nat_lt v n && p v) || ((v == n) && b))
-    at before true e = in_pushed (places p n) n v ∙ ap (λ z. z || (v == n)) before ∙ ap (λ z. (nat_lt v n && p v) || z) (sym (and_true (v == n)))
+    at : is_in (places p n) v ≡ (nat_lt v n && p v) → (b : Bool) → p n ≡ b
+        → is_in (if b then places p n ++ n ∷ [] else places p n) v ≡ ((nat_lt v n && p v) || ((v == n) && b))
+    at before true e = in_pushed (places p n) n v ∙ ap (λ z. z || (v == n)) before
+        ∙ ap (λ z. (nat_lt v n && p v) || z) (sym (and_true (v == n)))
       where
         and_true : (b : Bool) → (b && true) ≡ b
         and_true true = refl

@@ -1,5 +1,6 @@
 -- The walk where only reads count gives what each variable reads.
-use Rattle.std.proofs.Common.{◌≡◌, ℕ, zero, suc, ◌<◌, ◌≤◌, Bool, true, false, ◌&&◌, ◌||◌, ◌==◌, nat_lt, if◌then◌else◌, List, [], ◌∷◌, set, length, refl, sym, ap, ◌∙◌, arith}
+use Rattle.std.proofs.Common.{◌≡◌, ℕ, zero, suc, ◌<◌, ◌≤◌, Bool, true, false, ◌&&◌, ◌||◌, ◌==◌, nat_lt, if◌then◌else◌, List, [], ◌∷◌, set}
+use Rattle.std.proofs.Common.{length, refl, sym, ap, ◌∙◌, arith}
 use Rattle.std.proofs.lemmas.Bool.Decides.{nat_tests}
 use mathlib.Core.Path.{fun_ext}
 use Rattle.query_lang.specs.Terms.{Term, Literal, Read, Negation, Operation}
@@ -20,7 +21,8 @@ outside_or true b = refl
 outside_or false true = refl
 outside_or false false = refl
 
-expr_shows : (e : Term) (reads : ℕ → ℕ → Bool) (u : ℕ) → expr_kind outside e (λ s. other_where (reads s u)) ≡ other_where (expr_reads e reads u)
+expr_shows : (e : Term) (reads : ℕ → ℕ → Bool) (u : ℕ) → expr_kind outside e (λ s. other_where (reads s u)) ≡ other_where
+    (expr_reads e reads u)
 expr_shows (Literal n) reads u = refl
 expr_shows (Read s) reads u = refl
 expr_shows (Negation e) reads u = ap (outside_kind Pure) (expr_shows e reads u) ∙ outside_or false (expr_reads e reads u)
@@ -40,10 +42,12 @@ marked_is (Set w e rest) kinds v = marked_is rest (update kinds w Kind.Other) v 
     both false q = refl
 marked_is (Fork c x y rest) kinds v =
     marked_is rest (marked y (marked x kinds)) v
-    ∙ ap (λ z. if assigns rest v then Kind.Other else z) (marked_is y (marked x kinds) v ∙ ap (λ z. if assigns y v then Kind.Other else z) (marked_is x kinds v))
+    ∙ ap (λ z. if assigns rest v then Kind.Other else z) (marked_is y (marked x kinds) v
+    ∙ ap (λ z. if assigns y v then Kind.Other else z) (marked_is x kinds v))
     ∙ three (assigns x v) (assigns y v) (assigns rest v)
   where
-    three : (p q r : Bool) → (if r then Kind.Other else (if q then Kind.Other else (if p then Kind.Other else kinds v))) ≡ (if (p || q) || r then Kind.Other else kinds v)
+    three : (p q r : Bool) → (if r then Kind.Other else (if q then Kind.Other else (if p then Kind.Other else kinds v)))
+        ≡ (if (p || q) || r then Kind.Other else kinds v)
     three true true true = refl
     three true true false = refl
     three true false true = refl
@@ -58,8 +62,10 @@ reads_kept (Set w e rest) reads v u h =
     reads_kept rest (update reads w (expr_reads e reads)) v u (or_false_right (v == w) (assigns rest v) h)
     ∙ ap (λ b. (if b then expr_reads e reads else reads v) u) (or_false_left (v == w) (assigns rest v) h)
 reads_kept (Fork c x y rest) reads v u h =
-    reads_kept rest (λ v. if assigns x v || assigns y v then (λ u. (reads_after x reads v u || reads_after y reads v u) || expr_reads c reads u) else reads v) v u (or_false_right (assigns x v || assigns y v) (assigns rest v) h)
-    ∙ ap (λ b. (if b then (λ u. (reads_after x reads v u || reads_after y reads v u) || expr_reads c reads u) else reads v) u) (or_false_left (assigns x v || assigns y v) (assigns rest v) h)
+    reads_kept rest (λ v. if assigns x v || assigns y v then (λ u. (reads_after x reads v u || reads_after y reads v u) || expr_reads c
+    reads u) else reads v) v u (or_false_right (assigns x v || assigns y v) (assigns rest v) h)
+    ∙ ap (λ b. (if b then (λ u. (reads_after x reads v u || reads_after y reads v u) || expr_reads c reads u) else reads v) u)
+    (or_false_left (assigns x v || assigns y v) (assigns rest v) h)
 
 greater_or : (a b : Bool) → greater (other_where a) (other_where b) ≡ other_where (a || b)
 greater_or true b = refl
@@ -77,27 +83,32 @@ or_true : (a : Bool) → (a || true) ≡ true
 or_true true = refl
 or_true false = refl
 
-pub walk_shows : (b : Block) (reads : ℕ → ℕ → Bool) (u : ℕ) → kinds_after outside b (λ s. other_where (reads s u)) ≡ (λ (v : ℕ). other_where (reads_after b reads v u))
+pub walk_shows : (b : Block) (reads : ℕ → ℕ → Bool) (u : ℕ) → kinds_after outside b (λ s. other_where (reads s u))
+    ≡ (λ (v : ℕ). other_where (reads_after b reads v u))
 walk_shows End reads u = refl
 walk_shows (Set w e rest) reads u =
     ap (kinds_after outside rest) (fun_ext (λ s. at s (s == w))) ∙ walk_shows rest (update reads w (expr_reads e reads)) u
   where
-    at : (s : ℕ) (b : Bool) → (if b then expr_kind outside e (λ s. other_where (reads s u)) else other_where (reads s u)) ≡ other_where ((if b then expr_reads e reads else reads s) u)
+    at : (s : ℕ) (b : Bool) → (if b then expr_kind outside e (λ s. other_where (reads s u)) else other_where (reads s u)) ≡ other_where
+        ((if b then expr_reads e reads else reads s) u)
     at s true = expr_shows e reads u
     at s false = refl
 walk_shows (Fork c x y rest) reads u =
     ap (kinds_after outside rest) (fun_ext (λ v. joins v (walk_shows x reads u) (walk_shows y reads u)))
-    ∙ walk_shows rest (λ v. if assigns x v || assigns y v then (λ u. (reads_after x reads v u || reads_after y reads v u) || expr_reads c reads u) else reads v) u
+    ∙ walk_shows rest (λ v. if assigns x v || assigns y v then (λ u. (reads_after x reads v u || reads_after y reads v u) || expr_reads c
+    reads u) else reads v) u
   where
     table : ℕ → Kind
     table s = other_where (reads s u)
 
     -- the joined kind of one variable
     one : (v : ℕ) (k a : Bool) → (assigns x v || assigns y v) ≡ a →
-        chosen_kinds (other_where k) (λ (v : ℕ). other_where (reads_after x reads v u)) (λ (v : ℕ). other_where (reads_after y reads v u)) (marked y (marked x (λ s. other_where (reads s u)))) v
+        chosen_kinds (other_where k) (λ (v : ℕ). other_where (reads_after x reads v u)) (λ (v : ℕ). other_where (reads_after y reads v u))
+        (marked y (marked x (λ s. other_where (reads s u)))) v
         ≡ other_where (if a then (reads_after x reads v u || reads_after y reads v u) || k else reads v u)
     one v true true e =
-        marked_is y (marked x (λ s. other_where (reads s u))) v ∙ ap (λ z. if assigns y v then Kind.Other else z) (marked_is x (λ s. other_where (reads s u)) v)
+        marked_is y (marked x (λ s. other_where (reads s u))) v ∙ ap (λ z. if assigns y v then Kind.Other else z)
+        (marked_is x (λ s. other_where (reads s u)) v)
         ∙ two (assigns x v) (assigns y v) e ∙ sym (ap other_where (or_true (reads_after x reads v u || reads_after y reads v u)))
       where
         two : (p q : Bool) → (p || q) ≡ true → (if q then Kind.Other else (if p then Kind.Other else other_where (reads v u))) ≡ Kind.Other
@@ -106,27 +117,40 @@ walk_shows (Fork c x y rest) reads u =
         two false true h = refl
         two false false h = cc
     one v true false e =
-        marked_is y (marked x (λ s. other_where (reads s u))) v ∙ ap (λ z. if assigns y v then Kind.Other else z) (marked_is x (λ s. other_where (reads s u)) v)
-        ∙ ap (λ z. if z then Kind.Other else (if assigns x v then Kind.Other else other_where (reads v u))) (or_false_right (assigns x v) (assigns y v) e)
+        marked_is y (marked x (λ s. other_where (reads s u))) v ∙ ap (λ z. if assigns y v then Kind.Other else z)
+        (marked_is x (λ s. other_where (reads s u)) v)
+        ∙ ap (λ z. if z then Kind.Other else (if assigns x v then Kind.Other else other_where (reads v u)))
+        (or_false_right (assigns x v) (assigns y v) e)
         ∙ ap (λ z. if z then Kind.Other else other_where (reads v u)) (or_false_left (assigns x v) (assigns y v) e)
-    one v false true e = greater_or (reads_after x reads v u) (reads_after y reads v u) ∙ sym (ap other_where (or_end (reads_after x reads v u || reads_after y reads v u)))
+    one v false true e = greater_or (reads_after x reads v u) (reads_after y reads v u)
+        ∙ sym (ap other_where (or_end (reads_after x reads v u || reads_after y reads v u)))
     one v false false e =
-        ap (λ z. greater (other_where z) (other_where (reads_after y reads v u))) (reads_kept x reads v u (or_false_left (assigns x v) (assigns y v) e))
-        ∙ ap (λ z. greater (other_where (reads v u)) (other_where z)) (reads_kept y reads v u (or_false_right (assigns x v) (assigns y v) e))
+        ap (λ z. greater (other_where z) (other_where (reads_after y reads v u)))
+        (reads_kept x reads v u (or_false_left (assigns x v) (assigns y v) e))
+        ∙ ap (λ z. greater (other_where (reads v u)) (other_where z)) (reads_kept y reads v u
+        (or_false_right (assigns x v) (assigns y v) e))
         ∙ greater_or (reads v u) (reads v u) ∙ ap other_where (or_same (reads v u))
 
-    spread : (v : ℕ) (a : Bool) → other_where (if a then (reads_after x reads v u || reads_after y reads v u) || expr_reads c reads u else reads v u)
+    spread : (v : ℕ) (a : Bool) → other_where (if a then (reads_after x reads v u || reads_after y reads v u) || expr_reads c reads u else
+        reads v u)
         ≡ other_where ((if a then (λ u. (reads_after x reads v u || reads_after y reads v u) || expr_reads c reads u) else reads v) u)
     spread v true = refl
     spread v false = refl
 
-    joins : (v : ℕ) → kinds_after outside x (λ s. other_where (reads s u)) ≡ (λ (v : ℕ). other_where (reads_after x reads v u)) → kinds_after outside y (λ s. other_where (reads s u)) ≡ (λ (v : ℕ). other_where (reads_after y reads v u)) →
-        chosen_kinds (expr_kind outside c (λ s. other_where (reads s u))) (kinds_after outside x (λ s. other_where (reads s u))) (kinds_after outside y (λ s. other_where (reads s u))) (marked y (marked x (λ s. other_where (reads s u)))) v
-        ≡ other_where ((if assigns x v || assigns y v then (λ u. (reads_after x reads v u || reads_after y reads v u) || expr_reads c reads u) else reads v) u)
+    joins : (v : ℕ) → kinds_after outside x (λ s. other_where (reads s u)) ≡ (λ (v : ℕ). other_where (reads_after x reads v u))
+        → kinds_after outside y (λ s. other_where (reads s u)) ≡ (λ (v : ℕ). other_where (reads_after y reads v u)) →
+        chosen_kinds (expr_kind outside c (λ s. other_where (reads s u))) (kinds_after outside x (λ s. other_where (reads s u)))
+        (kinds_after outside y (λ s. other_where (reads s u))) (marked y (marked x (λ s. other_where (reads s u)))) v
+        ≡ other_where ((if assigns x v || assigns y v then (λ u. (reads_after x reads v u || reads_after y reads v u) || expr_reads c reads
+        u) else reads v) u)
     joins v ex ey =
-        ap (λ z. chosen_kinds z (kinds_after outside x (λ s. other_where (reads s u))) (kinds_after outside y (λ s. other_where (reads s u))) (marked y (marked x (λ s. other_where (reads s u)))) v) (expr_shows c reads u)
-        ∙ ap (λ z. chosen_kinds (other_where (expr_reads c reads u)) z (kinds_after outside y (λ s. other_where (reads s u))) (marked y (marked x (λ s. other_where (reads s u)))) v) ex
-        ∙ ap (λ z. chosen_kinds (other_where (expr_reads c reads u)) (λ (v : ℕ). other_where (reads_after x reads v u)) z (marked y (marked x (λ s. other_where (reads s u)))) v) ey
+        ap (λ z. chosen_kinds z (kinds_after outside x (λ s. other_where (reads s u)))
+        (kinds_after outside y (λ s. other_where (reads s u))) (marked y (marked x (λ s. other_where (reads s u)))) v)
+        (expr_shows c reads u)
+        ∙ ap (λ z. chosen_kinds (other_where (expr_reads c reads u)) z (kinds_after outside y (λ s. other_where (reads s u)))
+        (marked y (marked x (λ s. other_where (reads s u)))) v) ex
+        ∙ ap (λ z. chosen_kinds (other_where (expr_reads c reads u)) (λ (v : ℕ). other_where (reads_after x reads v u)) z
+        (marked y (marked x (λ s. other_where (reads s u)))) v) ey
         ∙ one v (expr_reads c reads u) (assigns x v || assigns y v) refl
         ∙ spread v (assigns x v || assigns y v)
 
@@ -134,7 +158,11 @@ walk_shows (Fork c x y rest) reads u =
 pub valid_below : (n states args : ℕ) (b : Block) → states ≤ n → IsValidBlock states args b → AssignsBelow n b
 valid_below n states args End h valid = tt
 valid_below n states args (Set v e rest) h valid = (omega (arith, valid.0), valid_below n states args rest h valid.3)
-valid_below n states args (Fork c a b rest) h valid = (valid_below n states args a h valid.2, valid_below n states args b h valid.3, valid_below n states args rest h valid.4)
+valid_below n states args (Fork c a b rest) h valid = (
+  valid_below n states args a h valid.2,
+  valid_below n states args b h valid.3,
+  valid_below n states args rest h valid.4,
+)
 
 -- a table where all kinds are Pure
 abbrev pub AllPure : List Kind → Type 0
@@ -151,16 +179,22 @@ other_back true = refl
 other_back false = refl
 
 -- what the walk from one variable leaves is what reads it
-pub column_shows : (f : TypedFold) (u : ℕ) (start last : List Kind) → u < fold_states f → kinds_in start ≡ update (λ s. Pure) u Kind.Other → kinds_in last ≡ kinds_after outside (fold_block f) (kinds_in start) →
+pub column_shows : (f : TypedFold) (u : ℕ) (start last : List Kind) → u < fold_states f → kinds_in start ≡ update (λ s. Pure) u Kind.Other
+    → kinds_in last ≡ kinds_after outside (fold_block f) (kinds_in start) →
     (v : ℕ) → is_other (kinds_in last v) ≡ fold_reads f v u
 column_shows f u start last lt es el v =
-    ap (λ z. is_other (z v)) (el ∙ ap (kinds_after outside (fold_block f)) (es ∙ fun_ext (λ s. at s (s == u) refl (nat_lt s (fold_states f)) refl)) ∙ walk_shows (fold_block f) (reads_first (fold_states f)) u)
+    ap (λ z. is_other (z v)) (el ∙ ap (kinds_after outside (fold_block f))
+    (es ∙ fun_ext (λ s. at s (s == u) refl (nat_lt s (fold_states f)) refl))
+    ∙ walk_shows (fold_block f) (reads_first (fold_states f)) u)
     ∙ other_back (fold_reads f v u)
   where
-    at : (s : ℕ) (b : Bool) → (s == u) ≡ b → (l : Bool) → nat_lt s (fold_states f) ≡ l → (if s == u then Kind.Other else Pure) ≡ other_where (nat_lt s (fold_states f) && (s == u))
+    at : (s : ℕ) (b : Bool) → (s == u) ≡ b → (l : Bool) → nat_lt s (fold_states f) ≡ l
+        → (if s == u then Kind.Other else Pure) ≡ other_where (nat_lt s (fold_states f) && (s == u))
     at s true e true el = ap (λ b. if b then Kind.Other else Pure) e ∙ sym (ap (λ b. other_where (b && (s == u))) el ∙ ap other_where e)
-    at s true e false el = let same : s ≡ u = grind (arith, nat_tests) in let ge : fold_states f ≤ s = grind (arith, nat_tests) in absurd (omega arith)
-    at s false e l el = ap (λ b. if b then Kind.Other else Pure) e ∙ sym (ap (λ b. other_where (b && (s == u))) el ∙ ap (λ b. other_where (l && b)) e ∙ ap other_where (end l))
+    at s true e false el = let same : s ≡ u = grind (arith, nat_tests) in let ge : fold_states f ≤ s =
+        grind (arith, nat_tests) in absurd (omega arith)
+    at s false e l el = ap (λ b. if b then Kind.Other else Pure) e ∙ sym
+        (ap (λ b. other_where (b && (s == u))) el ∙ ap (λ b. other_where (l && b)) e ∙ ap other_where (end l))
       where
         end : (l : Bool) → (l && false) ≡ false
         end true = refl

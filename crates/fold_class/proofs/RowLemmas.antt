@@ -1,5 +1,6 @@
 -- Parts stored in words, with one more variable, and entries of a map, with one more row.
-use Rattle.std.proofs.Common.{◌≡◌, ◌≢◌, ℕ, ◌+◌, ◌*◌, ◌<◌, ◌≤◌, Bool, true, false, nat_lt, List, [], ◌∷◌, ◌++◌, map, length, get_or, drop, slice_index, All, refl, sym, ap, ◌∙◌, subst, arith, append_assoc}
+use Rattle.std.proofs.Common.{◌≡◌, ◌≢◌, ℕ, ◌+◌, ◌*◌, ◌<◌, ◌≤◌, Bool, true, false, nat_lt, List, [], ◌∷◌, ◌++◌, map, length, get_or, drop}
+use Rattle.std.proofs.Common.{slice_index, All, refl, sym, ap, ◌∙◌, subst, arith, append_assoc}
 use Rattle.std.proofs.lemmas.Bool.Decides.{nat_tests}
 use Rattle.std.proofs.lemmas.List.{drop_more}
 use Rattle.coeff_algebra.proofs.PlaceLemmas.{one_less}
@@ -13,7 +14,8 @@ use Rattle.fold_class.proofs.StepLemmas.{list_of_at}
 use Rattle.fold_class.proofs.StoredLemmas.{list_more}
 
 -- one more variable has its part
-pub start_more : {A B : Type 0} (g : A → B) (xs : List A) (v : ℕ) (d : A) (P P' : ℕ → B) (x : B) (all : List B) → v < length xs → x ≡ g (get_or xs v d) → ((i : ℕ) → i ≢ v → P' i ≡ P i) → P' v ≡ x →
+pub start_more : {A B : Type 0} (g : A → B) (xs : List A) (v : ℕ) (d : A) (P P' : ℕ → B) (x : B) (all : List B) → v < length xs
+    → x ≡ g (get_or xs v d) → ((i : ℕ) → i ≢ v → P' i ≡ P i) → P' v ≡ x →
     list_of v P ++ map g (drop v xs) ≡ all → list_of (v + 1) P' ++ map g (drop (v + 1) xs) ≡ all
 start_more g xs v d P P' x all h e others here so =
     ap (λ z. z ++ map g (drop (v + 1) xs)) (list_more v P P' x (λ i lt. others i (omega arith)) here)
@@ -44,36 +46,50 @@ same_row n i j c e = place (nat_lt i j) (nat_lt j i) refl refl
 all_at : (P : ℕ → Type 0) (xs : List ℕ) (i : ℕ) → All P xs → i < length xs → P (slice_index xs i)
 all_at P xs i a h = a i 0 h
 
-module _ {C : Type 0} (k : Elements C) (rows : Rows) (history args : List ℕ) (column n : ℕ) (P : ℕ → Part C) (vars : list_of n P ≡ column_after k rows column history args) where
+module _ {C : Type 0} (k : Elements C) (rows : Rows) (history args : List ℕ) (column n : ℕ) (P : ℕ → Part C)
+    (vars : list_of n P ≡ column_after k rows column history args) where
   -- the part of a variable at the end of a column, as it is stored in words
-  part_there : (v : ℕ) → v < n → P v ≡ at (parts (column_shares k (rows_dimension rows) column) rows.algebra) (column_after k rows column history args) v
+  part_there : (v : ℕ) → v < n → P v ≡ at (parts (column_shares k (rows_dimension rows) column) rows.algebra)
+      (column_after k rows column history args) v
   part_there v lt = sym (list_of_at n P v (Fixed 0) lt) ∙ ap (λ z. get_or z v (Fixed 0)) vars
 
   -- the elements of a column, from the parts
   pub entries_from : (words : C → List ℕ) (size : ℕ) (ws linear : List ℕ) → linear ≡ rows.linear → All (λ v. v < n) rows.linear →
-      ((i : ℕ) → i < length linear → stored_entry size (length linear) ws i column ≡ words (share_of (column_shares k (length linear) column) (P (slice_index linear i)))) →
-      (i : ℕ) → i < rows_dimension rows → stored_entry size (rows_dimension rows) ws i column ≡ words (entry_of k rows history args i column)
+      ((i : ℕ) → i < length linear → stored_entry size (length linear) ws i column ≡ words
+      (share_of (column_shares k (length linear) column) (P (slice_index linear i)))) →
+      (i : ℕ) → i < rows_dimension rows → stored_entry size (rows_dimension rows) ws i column ≡ words
+      (entry_of k rows history args i column)
   entries_from words size ws linear e places written i h =
-      let Q : List ℕ → Type 0 = λ l. (i : ℕ) → i < length l → stored_entry size (length l) ws i column ≡ words (share_of (column_shares k (length l) column) (P (slice_index l i))) in
+      let Q : List ℕ → Type 0 = λ l. (i : ℕ) → i < length l → stored_entry size (length l) ws i column ≡ words
+      (share_of (column_shares k (length l) column) (P (slice_index l i))) in
       subst Q e written i h
-      ∙ ap (λ p. words (share_of (column_shares k (rows_dimension rows) column) p)) (part_there (slice_index rows.linear i) (all_at (λ v. v < n) rows.linear i places h))
+      ∙ ap (λ p. words (share_of (column_shares k (rows_dimension rows) column) p))
+      (part_there (slice_index rows.linear i) (all_at (λ v. v < n) rows.linear i places h))
 
   -- the words of the history, from the parts of the last column
-  pub kept_from : (ws places : List ℕ) → places ≡ rows.history → All (λ v. v < n) rows.history → ((i : ℕ) → i < length places → slice_index ws i ≡ fixed_word (P (slice_index places i))) →
-      (i : ℕ) → i < length rows.history → slice_index ws i ≡ fixed_word (at (parts (column_shares k (rows_dimension rows) column) rows.algebra) (column_after k rows column history args) (slice_index rows.history i))
+  pub kept_from : (ws places : List ℕ) → places ≡ rows.history → All (λ v. v < n) rows.history
+      → ((i : ℕ) → i < length places → slice_index ws i ≡ fixed_word (P (slice_index places i))) →
+      (i : ℕ) → i < length rows.history → slice_index ws i ≡ fixed_word
+      (at (parts (column_shares k (rows_dimension rows) column) rows.algebra) (column_after k rows column history args)
+      (slice_index rows.history i))
   kept_from ws places e inside written i h =
       let Q : List ℕ → Type 0 = λ l. (i : ℕ) → i < length l → slice_index ws i ≡ fixed_word (P (slice_index l i)) in
       subst Q e written i h ∙ ap fixed_word (part_there (slice_index rows.history i) (all_at (λ v. v < n) rows.history i inside h))
 
 -- the elements of all columns but the last, and then those of the last
-pub last_column : {C : Type 0} (k : Elements C) (words : C → List ℕ) (size : ℕ) (rows : Rows) (history args before after : List ℕ) (n : ℕ) → n ≡ rows_dimension rows →
-    ((i c : ℕ) → i < rows_dimension rows → c < rows_dimension rows → stored_entry size (rows_dimension rows) before i c ≡ words (entry_of k rows history args i c)) →
-    ((i c : ℕ) → i < rows_dimension rows → c ≤ rows_dimension rows → c ≢ n → stored_entry size (rows_dimension rows) after i c ≡ stored_entry size (rows_dimension rows) before i c) →
+pub last_column : {C : Type 0} (k : Elements C) (words : C → List ℕ) (size : ℕ) (rows : Rows) (history args before after : List ℕ) (n : ℕ)
+    → n ≡ rows_dimension rows →
+    ((i c : ℕ) → i < rows_dimension rows → c < rows_dimension rows → stored_entry size (rows_dimension rows) before i c ≡ words
+    (entry_of k rows history args i c)) →
+    ((i c : ℕ) → i < rows_dimension rows → c ≤ rows_dimension rows → c ≢ n
+    → stored_entry size (rows_dimension rows) after i c ≡ stored_entry size (rows_dimension rows) before i c) →
     ((i : ℕ) → i < rows_dimension rows → stored_entry size (rows_dimension rows) after i n ≡ words (entry_of k rows history args i n)) →
-    (i c : ℕ) → i < rows_dimension rows → c ≤ rows_dimension rows → stored_entry size (rows_dimension rows) after i c ≡ words (entry_of k rows history args i c)
+    (i c : ℕ) → i < rows_dimension rows → c ≤ rows_dimension rows → stored_entry size (rows_dimension rows) after i c ≡ words
+    (entry_of k rows history args i c)
 last_column k words size rows history args before after n e old kept own i c hi hc = place (nat_lt c (rows_dimension rows)) refl
   where
-    place : (b : Bool) → nat_lt c (rows_dimension rows) ≡ b → stored_entry size (rows_dimension rows) after i c ≡ words (entry_of k rows history args i c)
+    place : (b : Bool) → nat_lt c (rows_dimension rows) ≡ b → stored_entry size (rows_dimension rows) after i c ≡ words
+        (entry_of k rows history args i c)
     place true t =
         let lt : c < rows_dimension rows = grind (arith, nat_tests) in
         let off : c ≢ n = omega arith in

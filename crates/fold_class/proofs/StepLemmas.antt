@@ -1,5 +1,6 @@
 -- The rows of a step represent the state after the body.
-use Rattle.std.proofs.Common.{◌≡◌, ◌≢◌, ℕ, zero, suc, ◌+◌, ◌-◌, ◌<◌, ◌≤◌, Bool, true, false, ◌==◌, nat_lt, if◌then◌else◌, List, [], ◌∷◌, ◌++◌, map, length, get_or, slice_index, refl, sym, ap, ◌∙◌, subst, arith, length-append}
+use Rattle.std.proofs.Common.{◌≡◌, ◌≢◌, ℕ, zero, suc, ◌+◌, ◌-◌, ◌<◌, ◌≤◌, Bool, true, false, ◌==◌, nat_lt, if◌then◌else◌, List, [], ◌∷◌}
+use Rattle.std.proofs.Common.{◌++◌, map, length, get_or, slice_index, refl, sym, ap, ◌∙◌, subst, arith, length-append}
 use Rattle.std.proofs.lemmas.Bool.Decides.{nat_tests}
 use Rattle.std.proofs.lemmas.List.{get_or_append_left, get_or-append_right, get_or_push}
 use Rattle.query_lang.specs.declared.fold.TypedFold.{TypedFold}
@@ -49,7 +50,8 @@ rank_more f v (suc n) h = place (λ le. rank_more f v n le) (nat_lt v (suc n)) r
   where
     place : (v ≤ n → rank f v ≤ rank f n) → (b : Bool) → nat_lt v (suc n) ≡ b → rank f v ≤ rank f n + (if is_history f n then 0 else 1)
     place front true t = let le : v ≤ n = grind (arith, nat_tests) in omega (arith, front le)
-    place front false t = let e : suc n ≡ v = grind (arith, nat_tests) in subst (λ w. rank f w ≤ rank f n + (if is_history f n then 0 else 1)) e (omega arith)
+    place front false t = let e : suc n ≡ v = grind (arith, nat_tests) in subst
+        (λ w. rank f w ≤ rank f n + (if is_history f n then 0 else 1)) e (omega arith)
 
 rank_inside : (f : TypedFold) (v : ℕ) → v < fold_states f → is_history f v ≡ false → rank f v < dimension f
 rank_inside f v lt e =
@@ -82,9 +84,11 @@ module _ {C : Type 0} {is_element : C → Type 0} {k : Elements C} (laws : Eleme
       let own : k.mul (if r == r then k.one else k.zero) (k.embed (x r)) ≡ k.embed (x r) =
       ap (λ b. k.mul (if b then k.one else k.zero) (k.embed (x r))) on ∙ s.one_mul (k.embed (x r)) (laws.embed_is (x r) h) in
       let rest : (j : ℕ) → j ≢ r → k.mul (if j == r then k.one else k.zero) (k.embed (x j)) ≡ k.zero =
-      λ j ne. let out : (j == r) ≡ false = grind (arith, nat_tests) in ap (λ b. k.mul (if b then k.one else k.zero) (k.embed (x j))) out ∙ s.zero_mul (k.embed (x j)) in
+      λ j ne. let out : (j == r) ≡ false = grind (arith, nat_tests) in ap (λ b. k.mul (if b then k.one else k.zero) (k.embed (x j))) out
+      ∙ s.zero_mul (k.embed (x j)) in
       ap k.to_word
-      (ap (λ z. k.add z (if n == r then k.one else k.zero)) (sum_single n (λ j. k.mul (if j == r then k.one else k.zero) (k.embed (x j))) r (k.embed (x r)) lt (laws.embed_is (x r) h) own rest)
+      (ap (λ z. k.add z (if n == r then k.one else k.zero)) (sum_single n (λ j. k.mul (if j == r then k.one else k.zero) (k.embed (x j))) r
+      (k.embed (x r)) lt (laws.embed_is (x r) h) own rest)
       ∙ ap (λ b. k.add (k.embed (x r)) (if b then k.one else k.zero)) off
       ∙ add_zero (k.embed (x r)) (laws.embed_is (x r) h))
       ∙ laws.to_word-embed (x r)
@@ -95,7 +99,8 @@ module _ {C : Type 0} {is_element : C → Type 0} {k : Elements C} (laws : Eleme
       let is_one : k.one ≡ (if r == r then k.one else k.zero) = sym (ap (λ b. if b then k.one else k.zero) on) in
       (r, omega arith, subst (IsWordOf k) is_one laws.one_word)
 
-  module _ (algebra : Algebra) (alg : IsAlgebraOf algebra k) (f : TypedFold) (state args : List ℕ) (x : ℕ → ℕ) (fit : Fitting f state args x) where
+  module _ (algebra : Algebra) (alg : IsAlgebraOf algebra k) (f : TypedFold) (state args : List ℕ) (x : ℕ → ℕ)
+      (fit : Fitting f state args x) where
     abbrev n : ℕ
     n = fold_states f
 
@@ -126,7 +131,8 @@ module _ {C : Type 0} {is_element : C → Type 0} {k : Elements C} (laws : Eleme
         get_or_append_left first fargs (Fixed 0) s inside ∙ list_of_at n (first_row k algebra f state) s (Fixed 0) lt
 
     slot_argument : (s : ℕ) → n ≤ s → at dom (first ++ fargs) s ≡ Fixed (slice_index args (s - n))
-    slot_argument s ge = get_or-append_right first fargs n s (Fixed 0) (length-list_of n (first_row k algebra f state)) ge ∙ fixed_at args (s - n)
+    slot_argument s ge = get_or-append_right first fargs n s (Fixed 0) (length-list_of n (first_row k algebra f state)) ge
+        ∙ fixed_at args (s - n)
 
     word_first : (s : ℕ) → s < n → slice_index (state ++ args) s ≡ slice_index state s
     word_first s lt = get_or_append_left state args 0 s (omega (arith, lt, fit.state_long))
@@ -134,7 +140,8 @@ module _ {C : Type 0} {is_element : C → Type 0} {k : Elements C} (laws : Eleme
     word_argument : (s : ℕ) → n ≤ s → slice_index (state ++ args) s ≡ slice_index args (s - n)
     word_argument s ge = get_or-append_right state args n s 0 fit.state_long ge
 
-    row_stands : (s : ℕ) → s < n → (b : Bool) → is_history f s ≡ b → StandsFor k d x (if b then Fixed (slice_index state s) else Share (λ c. if c == rank f s then k.one else k.zero)) (slice_index state s)
+    row_stands : (s : ℕ) → s < n → (b : Bool) → is_history f s ≡ b → StandsFor k d x
+        (if b then Fixed (slice_index state s) else Share (λ c. if c == rank f s then k.one else k.zero)) (slice_index state s)
     row_stands s lt true e = refl
     row_stands s lt false e =
         let inside = rank_inside f s lt e in
@@ -147,7 +154,8 @@ module _ {C : Type 0} {is_element : C → Type 0} {k : Elements C} (laws : Eleme
         each_at : (s : ℕ) (b : Bool) → nat_lt s n ≡ b → StandsFor k d x (at dom (first ++ fargs) s) (slice_index (state ++ args) s)
         each_at s true t =
             let lt : s < n = grind (arith, nat_tests) in
-            subst (λ z. StandsFor k d x z (slice_index (state ++ args) s)) (sym (slot_first s lt)) (subst (StandsFor k d x (first_row k algebra f state s)) (sym (word_first s lt)) (row_stands s lt (is_history f s) refl))
+            subst (λ z. StandsFor k d x z (slice_index (state ++ args) s)) (sym (slot_first s lt))
+            (subst (StandsFor k d x (first_row k algebra f state s)) (sym (word_first s lt)) (row_stands s lt (is_history f s) refl))
         each_at s false t =
             let ge : n ≤ s = grind (arith, nat_tests) in
             subst (λ z. StandsFor k d x z (slice_index (state ++ args) s)) (sym (slot_argument s ge)) (sym (word_argument s ge))
@@ -156,21 +164,24 @@ module _ {C : Type 0} {is_element : C → Type 0} {k : Elements C} (laws : Eleme
         word_at s true t = let lt : s < n = grind (arith, nat_tests) in subst IsWord (sym (word_first s lt)) (fit.state_words s)
         word_at s false t = let ge : n ≤ s = grind (arith, nat_tests) in subst IsWord (sym (word_argument s ge)) (fit.args_words (s - n))
 
-    kind_first : (s : ℕ) → s < n → (b : Bool) → Allows {A = ℕ → C} (if b then Pure else Affine) (if b then Fixed (slice_index state s) else Share (λ c. if c == rank f s then k.one else k.zero))
+    kind_first : (s : ℕ) → s < n → (b : Bool) → Allows {A = ℕ → C} (if b then Pure else Affine)
+        (if b then Fixed (slice_index state s) else Share (λ c. if c == rank f s then k.one else k.zero))
     kind_first s lt true = tt
     kind_first s lt false = tt
 
     start_allowed : AllAllowed (row_shares k d) algebra (kinds_first f) (first ++ fargs)
     start_allowed s = place (nat_lt s n) refl
       where
-        place : (b : Bool) → nat_lt s n ≡ b → Allows (if nat_lt s n then (if is_history f s then Pure else Affine) else Pure) (at dom (first ++ fargs) s)
+        place : (b : Bool) → nat_lt s n ≡ b → Allows (if nat_lt s n then (if is_history f s then Pure else Affine) else Pure)
+            (at dom (first ++ fargs) s)
         place true t =
             let lt : s < n = grind (arith, nat_tests) in
             subst (λ b. Allows (if b then (if is_history f s then Pure else Affine) else Pure) (at dom (first ++ fargs) s)) (sym t)
             (subst (Allows (if is_history f s then Pure else Affine)) (sym (slot_first s lt)) (kind_first s lt (is_history f s)))
         place false t =
             let ge : n ≤ s = grind (arith, nat_tests) in
-            subst (λ b. Allows (if b then (if is_history f s then Pure else Affine) else Pure) (at dom (first ++ fargs) s)) (sym t) (subst (Allows Pure) (sym (slot_argument s ge)) tt)
+            subst (λ b. Allows (if b then (if is_history f s then Pure else Affine) else Pure) (at dom (first ++ fargs) s)) (sym t)
+            (subst (Allows Pure) (sym (slot_argument s ge)) tt)
 
     abbrev last : List (Part (ℕ → C))
     last = step_rows k algebra f state args
@@ -186,14 +197,17 @@ module _ {C : Type 0} {is_element : C → Type 0} {k : Elements C} (laws : Eleme
         let r = live_stands laws d x algebra alg n (fold_args f) fargs args (fold_block f) first state fit.valid.statements
         (record { vars_long = length-list_of n (first_row k algebra f state); state_long = fit.state_long; stand = start_stands }) in
         subst (λ z. StandsFor k d x z (slice_index (body f state args) v)) (last_at v lt)
-        (subst (StandsFor k d x (at dom (last ++ fargs) v)) (get_or_append_left (body f state args) args 0 v (omega (arith, lt, r.state_long))) (r.stand.each v))
+        (subst (StandsFor k d x (at dom (last ++ fargs) v)) (get_or_append_left (body f state args) args 0 v
+        (omega (arith, lt, r.state_long))) (r.stand.each v))
 
     pub part_allowed : (v : ℕ) → v < n → Allows (fold_kinds algebra f v) (at dom last v)
     part_allowed v lt =
         subst (Allows (fold_kinds algebra f v)) (last_at v lt)
-        (live_allowed (row_shares k d) algebra n (fold_args f) fargs (fold_block f) (kinds_first f) first fit.valid.statements (length-list_of n (first_row k algebra f state)) start_allowed v)
+        (live_allowed (row_shares k d) algebra n (fold_args f) fargs (fold_block f) (kinds_first f) first fit.valid.statements
+        (length-list_of n (first_row k algebra f state)) start_allowed v)
 
-    not_lost : (kd : Kind) (p : Part (ℕ → C)) (v : ℕ) → is_no_other kd ≡ true → IsWord v → Allows kd p → StandsFor k d x p v → (row_value k d x (share_of (row_shares k d) p) ≡ v) × HasWord k d (share_of (row_shares k d) p)
+    not_lost : (kd : Kind) (p : Part (ℕ → C)) (v : ℕ) → is_no_other kd ≡ true → IsWord v → Allows kd p → StandsFor k d x p v
+        → (row_value k d x (share_of (row_shares k d) p) ≡ v) × HasWord k d (share_of (row_shares k d) p)
     not_lost kd (Fixed w) v h hv a s = (lift_stands laws d x algebra alg Add w v hv s, lift_has laws d x w)
     not_lost kd (Share e) v h hv a s = s
     not_lost Pure Lost v h hv a s = absurd a
@@ -217,8 +231,11 @@ module _ {C : Type 0} {is_element : C → Type 0} {k : Elements C} (laws : Eleme
     is_step linear = record {
       value = λ v lt. (both v lt).0;
       has_word = λ v lt. (both v lt).1;
-      history = λ v lt h. only_fixed (fold_kinds algebra f v) (at dom last v) (slice_index (body f state args) v) (history_pure algebra f v h) (part_allowed v lt) (part_stands v lt);
+      history = λ v lt h. only_fixed (fold_kinds algebra f v) (at dom last v) (slice_index (body f state args) v)
+          (history_pure algebra f v h) (part_allowed v lt) (part_stands v lt);
     }
       where
-        both : (v : ℕ) → v < n → (row_value k d x (share_of (row_shares k d) (at dom last v)) ≡ slice_index (body f state args) v) × HasWord k d (share_of (row_shares k d) (at dom last v))
-        both v lt = not_lost (fold_kinds algebra f v) (at dom last v) (slice_index (body f state args) v) (below_at n (λ v. is_no_other (fold_kinds algebra f v)) v lt linear) (body_word v lt) (part_allowed v lt) (part_stands v lt)
+        both : (v : ℕ) → v < n → (row_value k d x (share_of (row_shares k d) (at dom last v)) ≡ slice_index (body f state args) v)
+            × HasWord k d (share_of (row_shares k d) (at dom last v))
+        both v lt = not_lost (fold_kinds algebra f v) (at dom last v) (slice_index (body f state args) v)
+            (below_at n (λ v. is_no_other (fold_kinds algebra f v)) v lt linear) (body_word v lt) (part_allowed v lt) (part_stands v lt)

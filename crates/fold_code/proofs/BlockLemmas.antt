@@ -1,5 +1,6 @@
 -- What a block leaves of a state, and what a check that passes says of that.
-use Rattle.std.proofs.Common.{◌≡◌, ℕ, ◌<◌, ◌≤◌, Bool, true, false, not, ◌&&◌, ◌||◌, nat_lt, if◌then◌else◌, List, ◌++◌, length, set, slice_index, refl, sym, ap, ◌∙◌, arith, length-set}
+use Rattle.std.proofs.Common.{◌≡◌, ℕ, ◌<◌, ◌≤◌, Bool, true, false, not, ◌&&◌, ◌||◌, nat_lt, if◌then◌else◌, List, ◌++◌, length, set}
+use Rattle.std.proofs.Common.{slice_index, refl, sym, ap, ◌∙◌, arith, length-set}
 use Rattle.std.proofs.lemmas.Bool.Decides.{nat_tests}
 use Rattle.std.proofs.lemmas.List.{get_or_append_left, get_or-append_right}
 use Rattle.query_lang.specs.Words.{flag, holds, op_value}
@@ -18,17 +19,20 @@ and_true_right false b e = cc
 
 pub length-after : (b : Block) (args state : List ℕ) → length (after b args state) ≡ length state
 length-after End args state = refl
-length-after (Set v e rest) args state = length-after rest args (set state v (term_value e (state ++ args))) ∙ length-set state v (term_value e (state ++ args))
+length-after (Set v e rest) args state = length-after rest args (set state v (term_value e (state ++ args)))
+    ∙ length-set state v (term_value e (state ++ args))
 length-after (Fork c a b rest) args state =
     length-after rest args (if holds (term_value c (state ++ args)) then after a args state else after b args state)
     ∙ either (holds (term_value c (state ++ args))) (length-after a args state) (length-after b args state)
   where
-    either : (h : Bool) → length (after a args state) ≡ length state → length (after b args state) ≡ length state → length (if h then after a args state else after b args state) ≡ length state
+    either : (h : Bool) → length (after a args state) ≡ length state → length (after b args state) ≡ length state
+        → length (if h then after a args state else after b args state) ≡ length state
     either true p q = p
     either false p q = q
 
 module _ (states : ℕ) (known : ℕ → Bool) where
-  slots_same : (args xs ys : List ℕ) (s : ℕ) → length xs ≡ states → length ys ≡ states → ((v : ℕ) → v < states → known v ≡ true → slice_index xs v ≡ slice_index ys v) →
+  slots_same : (args xs ys : List ℕ) (s : ℕ) → length xs ≡ states → length ys ≡ states
+      → ((v : ℕ) → v < states → known v ≡ true → slice_index xs v ≡ slice_index ys v) →
       (not (nat_lt s states) || known s) ≡ true → slice_index (xs ++ args) s ≡ slice_index (ys ++ args) s
   slots_same args xs ys s hx hy same h = at (nat_lt s states) refl h
     where
@@ -38,17 +42,21 @@ module _ (states : ℕ) (known : ℕ → Bool) where
           get_or_append_left xs args 0 s (omega arith) ∙ same s lt k ∙ sym (get_or_append_left ys args 0 s (omega arith))
       at false t k =
           let ge : states ≤ s = grind (arith, nat_tests) in
-          get_or-append_right xs args (length xs) s 0 refl (omega arith) ∙ sym (get_or-append_right ys args (length xs) s 0 (hy ∙ sym hx) (omega arith))
+          get_or-append_right xs args (length xs) s 0 refl (omega arith)
+          ∙ sym (get_or-append_right ys args (length xs) s 0 (hy ∙ sym hx) (omega arith))
 
   -- an expression that names known variables and arguments alone is the same over states with the same known variables
-  pub known_value : (args xs ys : List ℕ) (e : Term) → length xs ≡ states → length ys ≡ states → ((v : ℕ) → v < states → known v ≡ true → slice_index xs v ≡ slice_index ys v) →
+  pub known_value : (args xs ys : List ℕ) (e : Term) → length xs ≡ states → length ys ≡ states
+      → ((v : ℕ) → v < states → known v ≡ true → slice_index xs v ≡ slice_index ys v) →
       names_known states known e ≡ true → term_value e (xs ++ args) ≡ term_value e (ys ++ args)
   known_value args xs ys (Literal n) hx hy same h = refl
   known_value args xs ys (Read s) hx hy same h = slots_same args xs ys s hx hy same h
   known_value args xs ys (Negation e) hx hy same h = ap (λ z. flag (not (holds z))) (known_value args xs ys e hx hy same h)
   known_value args xs ys (Operation op a b) hx hy same h =
-      ap (λ z. op_value op z (term_value b (xs ++ args))) (known_value args xs ys a hx hy same (and_true_left (names_known states known a) (names_known states known b) h))
-      ∙ ap (op_value op (term_value a (ys ++ args))) (known_value args xs ys b hx hy same (and_true_right (names_known states known a) (names_known states known b) h))
+      ap (λ z. op_value op z (term_value b (xs ++ args))) (known_value args xs ys a hx hy same
+      (and_true_left (names_known states known a) (names_known states known b) h))
+      ∙ ap (op_value op (term_value a (ys ++ args))) (known_value args xs ys b hx hy same
+      (and_true_right (names_known states known a) (names_known states known b) h))
 
   module _ (passes : ℕ → Term → Bool) where
     -- where the conditions around a block are not known, it assigns no variable
@@ -56,13 +64,16 @@ module _ (states : ℕ) (known : ℕ → Bool) where
     idle End args state h = refl
     idle (Set v e rest) args state h = cc
     idle (Fork c a b rest) args state h =
-        let front = and_true_left (all_pass states known passes false a && all_pass states known passes false b) (all_pass states known passes false rest) h in
+        let front = and_true_left (all_pass states known passes false a && all_pass states known passes false b)
+        (all_pass states known passes false rest) h in
         let ia = idle a args state (and_true_left (all_pass states known passes false a) (all_pass states known passes false b) front) in
         let ib = idle b args state (and_true_right (all_pass states known passes false a) (all_pass states known passes false b) front) in
         ap (after rest args) (either (holds (term_value c (state ++ args))) ia ib)
-        ∙ idle rest args state (and_true_right (all_pass states known passes false a && all_pass states known passes false b) (all_pass states known passes false rest) h)
+        ∙ idle rest args state (and_true_right (all_pass states known passes false a && all_pass states known passes false b)
+        (all_pass states known passes false rest) h)
       where
-        either : (h : Bool) → after a args state ≡ state → after b args state ≡ state → (if h then after a args state else after b args state) ≡ state
+        either : (h : Bool) → after a args state ≡ state → after b args state ≡ state
+            → (if h then after a args state else after b args state) ≡ state
         either true p q = p
         either false p q = q
 

@@ -1,5 +1,6 @@
 -- Lists that are filtered, and lists from their end back.
-use Rattle.std.proofs.Common.{◌≡◌, ◌≤◌, ℕ, zero, suc, Bool, true, false, List, [], ◌∷◌, ◌++◌, length, take, drop, get_or, filter, flat_map, reverse, refl, sym, ap, ◌∙◌, arith, append-nil, length-drop, take-append-drop}
+use Rattle.std.proofs.Common.{◌≡◌, ◌≤◌, ℕ, zero, suc, Bool, true, false, List, [], ◌∷◌, ◌++◌, length, take, drop, get_or, filter, flat_map}
+use Rattle.std.proofs.Common.{reverse, refl, sym, ap, ◌∙◌, arith, append-nil, length-drop, take-append-drop}
 use Rattle.std.proofs.lemmas.List.{reverse-append}
 use Rattle.std.proofs.lemmas.List.Elements.{filter-append}
 
@@ -16,7 +17,8 @@ filter-reverse p (x ∷ xs) =
     ∙ by_test (p x) (λ e. rw e (sym (reverse-append (x ∷ []) (filter p xs)))) (λ e. rw e (append-nil (reverse (filter p xs))))))
 
 -- no list has anything that passes
-pub none_pass : {X : Type 0} (p : X → Bool) (lists : List (List X)) → ((i : ℕ) → filter p (get_or lists i []) ≡ []) → filter p (flat_map (λ xs. reverse xs) lists) ≡ []
+pub none_pass : {X : Type 0} (p : X → Bool) (lists : List (List X)) → ((i : ℕ) → filter p (get_or lists i []) ≡ [])
+    → filter p (flat_map (λ xs. reverse xs) lists) ≡ []
 none_pass p [] h = refl
 none_pass p (xs ∷ lists) h =
     filter-append p (reverse xs) (flat_map (λ ys. reverse ys) lists)
@@ -25,7 +27,8 @@ none_pass p (xs ∷ lists) h =
 
 -- one list alone has what passes, and that reads alike from both ends
 pub one_passes : {X : Type 0} (p : X → Bool) (at : ℕ) (lists : List (List X)) → ((i : ℕ) → (i ≡ at → ⊥) → filter p (get_or lists i []) ≡ [])
-    → reverse (filter p (get_or lists at [])) ≡ filter p (get_or lists at []) → filter p (flat_map (λ xs. reverse xs) lists) ≡ filter p (get_or lists at [])
+    → reverse (filter p (get_or lists at [])) ≡ filter p (get_or lists at [])
+    → filter p (flat_map (λ xs. reverse xs) lists) ≡ filter p (get_or lists at [])
 one_passes p at [] h r = refl
 one_passes p zero (xs ∷ lists) h r =
     filter-append p (reverse xs) (flat_map (λ ys. reverse ys) lists)
@@ -33,7 +36,8 @@ one_passes p zero (xs ∷ lists) h r =
     ∙ (append-nil (filter p (reverse xs)) ∙ (filter-reverse p xs ∙ r)))
 one_passes p (suc at) (xs ∷ lists) h r =
     filter-append p (reverse xs) (flat_map (λ ys. reverse ys) lists)
-    ∙ (ap (λ ys. ys ++ filter p (flat_map (λ zs. reverse zs) lists)) (filter-reverse p xs ∙ ap (λ ys. reverse ys) (h zero (λ e. absurd (omega arith))))
+    ∙ (ap (λ ys. ys ++ filter p (flat_map (λ zs. reverse zs) lists)) (filter-reverse p xs
+    ∙ ap (λ ys. reverse ys) (h zero (λ e. absurd (omega arith))))
     ∙ one_passes p at lists (λ i d. h (suc i) (λ e. d (omega arith))) r)
 
 pub few_pass : {X : Type 0} (p : X → Bool) (xs : List X) → length (filter p xs) ≤ length xs

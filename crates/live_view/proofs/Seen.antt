@@ -16,7 +16,8 @@ unfolding key_eq
 same_key a b = (bytes_decides a b).0
 
 -- epochs of another bucket's keys aren't the key's
-strangers : (buckets bucket : ℕ) (key : Key) (epochs : List Epoch) → All (λ epoch. bucket_of buckets epoch.key ≡ bucket) epochs → (bucket ≡ bucket_of buckets key → ⊥)
+strangers : (buckets bucket : ℕ) (key : Key) (epochs : List Epoch) → All (λ epoch. bucket_of buckets epoch.key ≡ bucket) epochs
+    → (bucket ≡ bucket_of buckets key → ⊥)
     → filter (is_of key) epochs ≡ []
 strangers buckets bucket key [] home apart = refl
 strangers buckets bucket key (epoch ∷ epochs) home apart =
@@ -27,7 +28,8 @@ strangers buckets bucket key (epoch ∷ epochs) home apart =
 
 few_distinct : (keys : List Key) → length (distinct keys) ≤ length keys
 few_distinct [] = omega arith
-few_distinct (key ∷ keys) = let few = few_pass (λ other. not (key_eq other key)) (distinct keys) in let rest = few_distinct keys in omega arith
+few_distinct (key ∷ keys) = let few = few_pass (λ other. not (key_eq other key)) (distinct keys) in let rest =
+    few_distinct keys in omega arith
 
 -- the first of distinct keys isn't among the others, which are distinct
 first_apart : (key : Key) (keys : List Key) → distinct (key ∷ keys) ≡ key ∷ keys → (distinct keys ≡ keys) × (others key keys ≡ keys)
@@ -40,23 +42,27 @@ first_apart key keys once =
     (same, ap (others key) (sym same) ∙ rest)
 
 -- where no key is this one, no epoch is of it
-none_of : (key : Key) (epochs : List Epoch) → others key (map (λ epoch. epoch.key) epochs) ≡ map (λ epoch. epoch.key) epochs → filter (is_of key) epochs ≡ []
+none_of : (key : Key) (epochs : List Epoch) → others key (map (λ epoch. epoch.key) epochs) ≡ map (λ epoch. epoch.key) epochs
+    → filter (is_of key) epochs ≡ []
 none_of key [] h = refl
 none_of key (epoch ∷ epochs) h = by_test (key_eq epoch.key key)
     (λ e. let shorter : others key (map (λ (x : Epoch). x.key) epochs) ≡ epoch.key ∷ map (λ x. x.key) epochs = rw e at h in
     let few = few_pass (λ other. not (key_eq other key)) (map (λ (x : Epoch). x.key) epochs) in
     let long = ap length shorter in absurd (omega arith))
-    (λ e. let rest : others key (map (λ (x : Epoch). x.key) epochs) ≡ map (λ x. x.key) epochs = let q : epoch.key ∷ others key (map (λ (x : Epoch). x.key) epochs) ≡ epoch.key ∷ map (λ x. x.key) epochs = rw e at h in cc in
+    (λ e. let rest : others key (map (λ (x : Epoch). x.key) epochs) ≡ map (λ x. x.key) epochs = let q : epoch.key
+    ∷ others key (map (λ (x : Epoch). x.key) epochs) ≡ epoch.key ∷ map (λ x. x.key) epochs = rw e at h in cc in
     rw e (none_of key epochs rest))
 
 -- of epochs with distinct keys one at most is of the key
-one_at_most : (key : Key) (epochs : List Epoch) → distinct (map (λ epoch. epoch.key) epochs) ≡ map (λ epoch. epoch.key) epochs → reverse (filter (is_of key) epochs) ≡ filter (is_of key) epochs
+one_at_most : (key : Key) (epochs : List Epoch) → distinct (map (λ epoch. epoch.key) epochs) ≡ map (λ epoch. epoch.key) epochs
+    → reverse (filter (is_of key) epochs) ≡ filter (is_of key) epochs
 one_at_most key [] once = refl
 one_at_most key (epoch ∷ epochs) once =
     let parts = first_apart epoch.key (map (λ (x : Epoch). x.key) epochs) once in
     by_test (is_of key epoch)
     (λ e. let same = same_key epoch.key key e in
-    let none : filter (is_of key) epochs ≡ [] = none_of key epochs (subst (λ k. others k (map (λ (x : Epoch). x.key) epochs) ≡ map (λ x. x.key) epochs) same parts.1) in
+    let none : filter (is_of key) epochs ≡ [] = none_of key epochs (subst
+    (λ k. others k (map (λ (x : Epoch). x.key) epochs) ≡ map (λ x. x.key) epochs) same parts.1) in
     rw (e, none) refl)
     (λ e. rw e (one_at_most key epochs parts.0))
 
@@ -65,6 +71,7 @@ unfolding row_lists
 lists_seen g m key formed =
     let own = bucket_of g.buckets key in
     let only : filter (is_of key) (open_epochs m) ≡ filter (is_of key) (open_in m own) =
-    one_passes (is_of key) own m.recent (λ i apart. strangers g.buckets i key (open_in m i) (formed.home i) apart) (one_at_most key (open_in m own) (formed.once own)) in
+    one_passes (is_of key) own m.recent (λ i apart. strangers g.buckets i key (open_in m i) (formed.home i) apart)
+    (one_at_most key (open_in m own) (formed.once own)) in
     ap (map (λ epoch. epoch.rows)) (filter-append (is_of key) m.closed (open_epochs m) ∙ ap (λ es. filter (is_of key) m.closed ++ es) only)
     ∙ map-append (λ epoch. epoch.rows) (filter (is_of key) m.closed) (filter (is_of key) (open_in m own))

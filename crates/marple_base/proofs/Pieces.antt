@@ -1,5 +1,6 @@
 -- A text that is written in pieces, of which the last bytes wait.
-use Rattle.std.proofs.Common.{◌≡◌, ℕ, ◌+◌, List, [], ◌++◌, length, take, subst, refl, sym, ap, ◌∙◌, Option, Result, Ok, Err, OnErr, arith, append_assoc, append-nil, length-append}
+use Rattle.std.proofs.Common.{◌≡◌, ℕ, ◌+◌, List, [], ◌++◌, length, take, subst, refl, sym, ap, ◌∙◌, Option, Result, Ok, Err, OnErr, arith}
+use Rattle.std.proofs.Common.{append_assoc, append-nil, length-append}
 use Rattle.std.proofs.KnownBytes.{Appends-nil, Appends-trans}
 use Rattle.std.proofs.Math.Seq.{take-append-add}
 use Rattle.std.proofs.lemmas.List.{take-append-le}
@@ -20,7 +21,8 @@ pub none_waits : (old new : Option (List ℕ)) (text : List ℕ) → Appends old
 none_waits old new text all = record { written = text; taken = all; whole = sym (append-nil text) }
 
 -- of what waited, later all but some was taken
-pub then : (old mid new : Option (List ℕ)) (waiting later text : List ℕ) → TakesAllBut old mid waiting text → TakesAllBut mid new later waiting → TakesAllBut old new later text
+pub then : (old mid new : Option (List ℕ)) (waiting later text : List ℕ) → TakesAllBut old mid waiting text
+    → TakesAllBut mid new later waiting → TakesAllBut old new later text
 then old mid new waiting later text first next = record {
   written = first.written ++ next.written;
   taken = Appends-trans old mid new first.written next.written first.taken next.taken;
@@ -28,7 +30,8 @@ then old mid new waiting later text first next = record {
 }
 
 -- the text goes on, and what it goes on with waits
-pub more_waits : (old new : Option (List ℕ)) (waiting text more : List ℕ) → TakesAllBut old new waiting text → TakesAllBut old new (waiting ++ more) (text ++ more)
+pub more_waits : (old new : Option (List ℕ)) (waiting text more : List ℕ) → TakesAllBut old new waiting text
+    → TakesAllBut old new (waiting ++ more) (text ++ more)
 more_waits old new waiting text more taken = record {
   written = taken.written;
   taken = taken.taken;
@@ -36,8 +39,10 @@ more_waits old new waiting text more taken = record {
 }
 
 -- what waited was taken too
-pub rest_taken : (old mid new : Option (List ℕ)) (waiting text : List ℕ) → TakesAllBut old mid waiting text → Appends mid new waiting → Appends old new text
-rest_taken old mid new waiting text first next = subst (Appends old new) (sym first.whole) (Appends-trans old mid new first.written waiting first.taken next)
+pub rest_taken : (old mid new : Option (List ℕ)) (waiting text : List ℕ) → TakesAllBut old mid waiting text → Appends mid new waiting
+    → Appends old new text
+rest_taken old mid new waiting text first next = subst (Appends old new) (sym first.whole)
+    (Appends-trans old mid new first.written waiting first.taken next)
 
 -- the text goes on after a piece of which some first bytes were taken
 pub goes_on : (old new : Option (List ℕ)) (piece rest : List ℕ) → TakesFront old new piece → TakesFront old new (piece ++ rest)
@@ -48,7 +53,8 @@ goes_on old new piece rest front = record {
 }
 
 -- some first bytes were taken of what waited
-pub front_taken : (old mid new : Option (List ℕ)) (waiting text : List ℕ) → TakesAllBut old mid waiting text → TakesFront mid new waiting → TakesFront old new text
+pub front_taken : (old mid new : Option (List ℕ)) (waiting text : List ℕ) → TakesAllBut old mid waiting text → TakesFront mid new waiting
+    → TakesFront old new text
 front_taken old mid new waiting text first next = record {
   count = length first.written + next.count;
   within = omega (arith, next.within, ap length first.whole, length-append first.written waiting);
@@ -68,14 +74,16 @@ on_err (Ok done) P holds = tt
 on_err (Err fault) P holds = holds
 
 -- one part more is made: after it all but some bytes were taken of what waited and the part
-pub part_more : (old mid new : Option (List ℕ)) (waiting later part rest whole : List ℕ) → TakesAllBut old mid (waiting ++ (part ++ rest)) whole → TakesAllBut mid new later (waiting ++ part)
+pub part_more : (old mid new : Option (List ℕ)) (waiting later part rest whole : List ℕ)
+    → TakesAllBut old mid (waiting ++ (part ++ rest)) whole → TakesAllBut mid new later (waiting ++ part)
     → TakesAllBut old new (later ++ rest) whole
 part_more old mid new waiting later part rest whole first next =
     then old mid new (waiting ++ (part ++ rest)) (later ++ rest) whole first
     (subst (TakesAllBut mid new (later ++ rest)) (append_assoc waiting part rest) (more_waits mid new later (waiting ++ part) rest next))
 
 -- it breaks off in one part more: some first bytes were taken of what waited and the part
-pub part_broke : (old mid new : Option (List ℕ)) (waiting part rest whole : List ℕ) → TakesAllBut old mid (waiting ++ (part ++ rest)) whole → TakesFront mid new (waiting ++ part) → TakesFront old new whole
+pub part_broke : (old mid new : Option (List ℕ)) (waiting part rest whole : List ℕ) → TakesAllBut old mid (waiting ++ (part ++ rest)) whole
+    → TakesFront mid new (waiting ++ part) → TakesFront old new whole
 part_broke old mid new waiting part rest whole first next =
     front_taken old mid new (waiting ++ (part ++ rest)) whole first
     (subst (TakesFront mid new) (append_assoc waiting part rest) (goes_on mid new (waiting ++ part) rest next))

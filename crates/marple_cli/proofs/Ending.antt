@@ -1,5 +1,6 @@
 -- How commands end: what each status says, and why it does.
-use Rattle.std.proofs.Common.{◌≡◌, ℕ, true, List, [], Option, None, Some, IfSome, Result, Ok, Err, refl, sym, ap, ap₂, ◌∙◌, subst, if◌then◌else◌}
+use Rattle.std.proofs.Common.{◌≡◌, ℕ, true, List, [], Option, None, Some, IfSome, Result, Ok, Err, refl, sym, ap, ap₂, ◌∙◌, subst}
+use Rattle.std.proofs.Common.{if◌then◌else◌}
 use Rattle.std.specs.Prelude.{is_some}
 use Rattle.std.specs.Result.{IsErrAnd}
 use Rattle.std.specs.Io.KnownBytes.{Appends}
@@ -44,7 +45,8 @@ use Rattle.marple_cli.specs.Driven.{DrivenAfter, Leaves, StandsForEnd}
 use Rattle.command_answers.specs.Phases.{OperandEnds, QueryEnds, ReadEnds, TraceEnds, WriteEnds, status_for}
 use Rattle.marple_cli.specs.Ends.{Ends, QueryTold, status_of}
 use Rattle.command_answers.specs.OwnChecks.{fault_after, fault_with}
-use Rattle.marple_cli.specs.Output.{IsAccepted, IsRead, Source, defined_text, fault_for, output, read_packets, refusal, run_text, stages_text, tables_text, made_packets, takes, trace_refusal}
+use Rattle.marple_cli.specs.Output.{IsAccepted, IsRead, Source, defined_text, fault_for, output, read_packets, refusal, run_text}
+use Rattle.marple_cli.specs.Output.{stages_text, tables_text, made_packets, takes, trace_refusal}
 use Rattle.accepted_query.specs.TrialQuery.{trial_query}
 use Rattle.command_answers.specs.declared.status.Status.{Status}
 use Rattle.command_answers.specs.declared.status.Status.TheVariants as statuses
@@ -58,13 +60,17 @@ status_is (Ok done) status is = absurd is
 status_is (Err found) status is = is
 
 -- the query of a command that refuses what isn't accepted was accepted
-pub query_told : (command : Command) (before : Which → Input) (found : TypedQuery) → ((query : Source) → refusal command query ≡ query_fault query.text)
+pub query_told : (command : Command) (before : Which → Input) (found : TypedQuery)
+    → ((query : Source) → refusal command query ≡ query_fault query.text)
     → IfSome (before Query).left (λ query. accepted query ≡ Ok found) → QueryTold command before (λ query. refusal command query ≡ None)
-query_told command before found by known query takes is read = by query ∙ ap fault_in (told (λ text. accepted text ≡ Ok found) (before Query).left query.text known is)
+query_told command before found by known query takes is read = by query
+    ∙ ap fault_in (told (λ text. accepted text ≡ Ok found) (before Query).left query.text known is)
 
 -- the same for a command with a check of its own, which found no fault in this query
-pub query_fits : (command : Command) (own : TypedQuery → Option QueryFault) (before : Which → Input) (found : TypedQuery) → ((query : Source) → refusal command query ≡ fault_with own query.text)
-    → IfSome (before Query).left (λ query. accepted query ≡ Ok found) → own found ≡ None → QueryTold command before (λ query. refusal command query ≡ None)
+pub query_fits : (command : Command) (own : TypedQuery → Option QueryFault) (before : Which → Input) (found : TypedQuery)
+    → ((query : Source) → refusal command query ≡ fault_with own query.text)
+    → IfSome (before Query).left (λ query. accepted query ≡ Ok found) → own found ≡ None
+    → QueryTold command before (λ query. refusal command query ≡ None)
 query_fits command own before found by known none query takes is read =
     by query ∙ ap (fault_after own) (told (λ text. accepted text ≡ Ok found) (before Query).left query.text known is) ∙ none
 
@@ -73,11 +79,14 @@ abbrev pub IsText : Command → (Which → Input) → List ℕ → Type 0
 IsText command before text = ToldOf command before (λ query trace. IsAccepted command query trace × (text ≡ output command query trace))
 
 -- where the query is accepted, the text is defined by the trace's fault
-defined_is : (command : Command) (query : Source) (trace : List ℕ) (fault : Option TraceFault) (text : List ℕ) → refusal command query ≡ None → trace_refusal command query trace ≡ fault → output command query trace ≡ text
+defined_is : (command : Command) (query : Source) (trace : List ℕ) (fault : Option TraceFault) (text : List ℕ)
+    → refusal command query ≡ None → trace_refusal command query trace ≡ fault → output command query trace ≡ text
     → defined_text command query trace ≡ text_unless fault text
-defined_is command query trace fault text accepts same is = parted (refusal command query) (trace_refusal command query trace) (output command query trace) accepts ∙ ap₂ text_unless same is
+defined_is command query trace fault text accepts same is = parted (refusal command query) (trace_refusal command query trace)
+    (output command query trace) accepts ∙ ap₂ text_unless same is
   where
-    parted : (r : Option QueryFault) (f : Option TraceFault) (t : List ℕ) → r ≡ None → (if is_some r then [] else if is_some f then [] else t) ≡ text_unless f t
+    parted : (r : Option QueryFault) (f : Option TraceFault) (t : List ℕ) → r ≡ None
+        → (if is_some r then [] else if is_some f then [] else t) ≡ text_unless f t
     parted None None t e = refl
     parted None (Some found) t e = refl
     parted (Some found) f t e = absurd (some_none e)
@@ -95,13 +104,19 @@ module _ {O : Type 0} (taken : O → Option (List ℕ)) (faults : O → ℕ) (co
       subst (Ends taken faults command before after out out) (sym (status_is result statuses.Memory is)) (nothing_written out kept)
 
   -- the first operand wasn't read, or it was refused: each such fault of its text is the one for which the command refuses it
-  module _ (Refuses : List ℕ → QueryFault → Type 0) (by : (query : Source) (fault : QueryFault) → IsRead command query → Refuses query.text fault → refusal command query ≡ Some fault)
+  module _ (Refuses : List ℕ → QueryFault → Type 0) (by : (query : Source) (fault : QueryFault) → IsRead command query
+      → Refuses query.text fault → refusal command query ≡ Some fault)
       (out : O) (has : takes command Query ≡ true) (kept : after Trace ≡ before Trace) where
-    by_operand : (status : Status) → OperandEnds Refuses (before Query) (after Query) status → Ends taken faults command before after out out status
+    by_operand : (status : Status) → OperandEnds Refuses (before Query) (after Query) status
+        → Ends taken faults command before after out out status
     by_operand statuses.Memory ended = nothing_written out kept
     by_operand (statuses.InputFault Query) ended = (has, ended, kept, refl)
-    by_operand (statuses.QueryRefused fault) ended =
-        (has, λ query t is read. by query fault read (told (λ text. Refuses text fault) (before Query).left query.text ended is), kept, refl)
+    by_operand (statuses.QueryRefused fault) ended = (
+      has,
+      λ query t is read. by query fault read (told (λ text. Refuses text fault) (before Query).left query.text ended is),
+      kept,
+      refl,
+    )
     by_operand statuses.Ok ended = absurd ended
     by_operand statuses.Usage ended = absurd ended
     by_operand (statuses.InputFault Trace) ended = absurd ended
@@ -114,65 +129,89 @@ module _ {O : Type 0} (taken : O → Option (List ℕ)) (faults : O → ℕ) (co
         subst (Ends taken faults command before after out out) (sym (status_is result status is)) (by_operand status ended)
 
   -- the same for the text of a query with these faults
-  pub query_ends_it : (fault : List ℕ → Option QueryFault) → ((query : Source) → refusal command query ≡ fault query.text) → (out : O) → takes command Query ≡ true → after Trace ≡ before Trace
-      → (result : Result (Unit {0}) Status) (status : Status) → IsErrAnd result (λ found. found ≡ status) → QueryEnds fault (before Query) (after Query) status
+  pub query_ends_it : (fault : List ℕ → Option QueryFault) → ((query : Source) → refusal command query ≡ fault query.text) → (out : O)
+      → takes command Query ≡ true → after Trace ≡ before Trace
+      → (result : Result (Unit {0}) Status) (status : Status) → IsErrAnd result (λ found. found ≡ status)
+      → QueryEnds fault (before Query) (after Query) status
       → Ends taken faults command before after out out (status_of result)
   query_ends_it fault same out has kept result status is ended =
-      operand_ends_it (λ text found. fault text ≡ Some found) (λ query found read refused. same query ∙ refused) out has kept result status is ended
+      operand_ends_it (λ text found. fault text ≡ Some found) (λ query found read refused. same query ∙ refused) out has kept result status
+      is ended
 
   module _ (old new : O) (accepts : QueryTold command before (λ query. refusal command query ≡ None)) where
     -- a command whose text is known before it is written
     module _ (text : List ℕ) (is_text : IsText command before text) where
       pub all_written : Appends (taken old) (taken new) text → Ends taken faults command before after old new statuses.Ok
-      all_written whole =
-          (accepts, λ query trace holds. let is = is_text query trace holds in record { accepted = is.0; whole = subst (Appends (taken old) (taken new)) is.1 whole })
+      all_written whole = (
+        accepts,
+        λ query trace holds. let is = is_text query trace holds in record
+            { accepted = is.0; whole = subst (Appends (taken old) (taken new)) is.1 whole },
+      )
 
       by_writing : (status : Status) → WriteEnds taken faults text old new status → Ends taken faults command before after old new status
       by_writing statuses.Memory ended = (
         λ query trace holds.
             let is = is_text query trace holds in
-            subst (TakesFront (taken old) (taken new)) (sym (defined_is command query trace None text is.0.by_query is.0.by_trace (sym is.1))) ended,
+            subst (TakesFront (taken old) (taken new)) (sym (defined_is command query trace None text is.0.by_query is.0.by_trace
+            (sym is.1))) ended,
         λ query has is read refused. absurd (refused (accepts query has is read)),
       )
-      by_writing statuses.OutputFault ended =
-          (ended.0, accepts, λ query trace holds. let is = is_text query trace holds in record { accepted = is.0; front = subst (TakesFront (taken old) (taken new)) is.1 ended.1 })
+      by_writing statuses.OutputFault ended = (
+        ended.0,
+        accepts,
+        λ query trace holds. let is = is_text query trace holds in record
+            { accepted = is.0; front = subst (TakesFront (taken old) (taken new)) is.1 ended.1 },
+      )
       by_writing statuses.Ok ended = absurd ended
       by_writing statuses.Usage ended = absurd ended
       by_writing (statuses.InputFault which) ended = absurd ended
       by_writing (statuses.QueryRefused fault) ended = absurd ended
       by_writing (statuses.TraceRefused fault) ended = absurd ended
 
-      pub write_ends_it : (result : Result (Unit {0}) Status) (status : Status) → IsErrAnd result (λ found. found ≡ status) → WriteEnds taken faults text old new status
+      pub write_ends_it : (result : Result (Unit {0}) Status) (status : Status) → IsErrAnd result (λ found. found ≡ status)
+          → WriteEnds taken faults text old new status
           → Ends taken faults command before after old new (status_of result)
-      write_ends_it result status is ended = subst (Ends taken faults command before after old new) (sym (status_is result status is)) (by_writing status ended)
+      write_ends_it result status is ended = subst (Ends taken faults command before after old new) (sym (status_is result status is))
+          (by_writing status ended)
 
-      pub cut_off : (result : Result (Unit {0}) Status) → IsErrAnd result (λ found. found ≡ statuses.OutputFault) → Rose (faults old) (faults new) → TakesFront (taken old) (taken new) text
+      pub cut_off : (result : Result (Unit {0}) Status) → IsErrAnd result (λ found. found ≡ statuses.OutputFault)
+          → Rose (faults old) (faults new) → TakesFront (taken old) (taken new) text
           → Ends taken faults command before after old new (status_of result)
       cut_off result is rose front = write_ends_it result statuses.OutputFault is (rose, front)
 
     -- a command with a trace: these are the faults for which it refuses the trace, and the text that it writes for it
-    module _ (fault : List ℕ → Option TraceFault) (text : List ℕ → List ℕ) (has_query : takes command Query ≡ true) (has_trace : takes command Trace ≡ true)
-        (same : ToldOf command before (λ query trace. (trace_refusal command query trace ≡ fault trace) × (output command query trace ≡ text trace))) where
+    module _ (fault : List ℕ → Option TraceFault) (text : List ℕ → List ℕ) (has_query : takes command Query ≡ true)
+        (has_trace : takes command Trace ≡ true)
+        (same : ToldOf command before (λ query trace. (trace_refusal command query trace ≡ fault trace)
+        × (output command query trace ≡ text trace))) where
       told_trace : (P : List ℕ → Type 0) → IfSome (before Trace).left P → ToldOf command before (λ query trace. P trace)
       told_trace P known query trace holds = told P (before Trace).left trace known (holds.of_trace has_trace)
 
       accepted_query : ToldOf command before (λ query trace. refusal command query ≡ None)
       accepted_query query trace holds = accepts query has_query (holds.of_query has_query) holds.read
 
-      pub trace_written : IfSome (before Trace).left (λ trace. fault trace ≡ None) → IfSome (before Trace).left (λ trace. Appends (taken old) (taken new) (text trace))
+      pub trace_written : IfSome (before Trace).left (λ trace. fault trace ≡ None)
+          → IfSome (before Trace).left (λ trace. Appends (taken old) (taken new) (text trace))
           → Ends taken faults command before after old new statuses.Ok
       trace_written sound whole = (
         accepts,
         λ query trace holds. record {
-          accepted = record { by_query = accepted_query query trace holds; by_trace = (same query trace holds).0 ∙ told_trace (λ trace. fault trace ≡ None) sound query trace holds };
-          whole = subst (Appends (taken old) (taken new)) (sym (same query trace holds).1) (told_trace (λ trace. Appends (taken old) (taken new) (text trace)) whole query trace holds);
+          accepted = record {
+            by_query = accepted_query query trace holds;
+            by_trace = (same query trace holds).0
+                ∙ told_trace (λ trace. fault trace ≡ None) sound query trace holds;
+          };
+          whole = subst (Appends (taken old) (taken new)) (sym (same query trace holds).1)
+              (told_trace (λ trace. Appends (taken old) (taken new) (text trace)) whole query trace holds);
         },
       )
 
-      by_trace : (status : Status) → TraceEnds taken faults fault text (before Trace) (after Trace) old new status → Ends taken faults command before after old new status
+      by_trace : (status : Status) → TraceEnds taken faults fault text (before Trace) (after Trace) old new status
+          → Ends taken faults command before after old new status
       by_trace statuses.Memory ended = (
         λ query trace holds.
-            subst (TakesFront (taken old) (taken new)) (sym (defined_is command query trace (fault trace) (text trace) (accepted_query query trace holds) (same query trace holds).0 (same query trace holds).1))
+            subst (TakesFront (taken old) (taken new)) (sym (defined_is command query trace (fault trace) (text trace)
+            (accepted_query query trace holds) (same query trace holds).0 (same query trace holds).1))
             (told_trace (λ trace. TakesFront (taken old) (taken new) (text_unless (fault trace) (text trace))) ended query trace holds),
         λ query has is read refused. absurd (refused (accepts query has is read)),
       )
@@ -180,14 +219,19 @@ module _ {O : Type 0} (taken : O → Option (List ℕ)) (faults : O → ℕ) (co
       by_trace (statuses.TraceRefused found) ended = (
         has_trace,
         accepts,
-        λ query trace holds. (accepted_query query trace holds, (same query trace holds).0 ∙ told_trace (λ trace. fault trace ≡ Some found) ended.0 query trace holds),
+        λ query trace holds. (
+          accepted_query query trace holds,
+          (same query trace holds).0
+              ∙ told_trace (λ trace. fault trace ≡ Some found) ended.0 query trace holds,
+        ),
         ended.1,
       )
       by_trace statuses.OutputFault ended = (
         ended.0,
         accepts,
         λ query trace holds.
-            let cut = told_trace (λ trace. (fault trace ≡ None) × TakesFront (taken old) (taken new) (text trace)) ended.1 query trace holds in
+            let cut = told_trace (λ trace. (fault trace ≡ None) × TakesFront (taken old) (taken new) (text trace)) ended.1 query trace
+            holds in
             record {
               accepted = record { by_query = accepted_query query trace holds; by_trace = (same query trace holds).0 ∙ cut.0 };
               front = subst (TakesFront (taken old) (taken new)) (sym (same query trace holds).1) cut.1;
@@ -198,43 +242,59 @@ module _ {O : Type 0} (taken : O → Option (List ℕ)) (faults : O → ℕ) (co
       by_trace (statuses.InputFault Query) ended = absurd ended
       by_trace (statuses.QueryRefused found) ended = absurd ended
 
-      pub trace_ends_it : (result : Result (Unit {0}) Status) (status : Status) → IsErrAnd result (λ found. found ≡ status) → TraceEnds taken faults fault text (before Trace) (after Trace) old new status
+      pub trace_ends_it : (result : Result (Unit {0}) Status) (status : Status) → IsErrAnd result (λ found. found ≡ status)
+          → TraceEnds taken faults fault text (before Trace) (after Trace) old new status
           → Ends taken faults command before after old new (status_of result)
-      trace_ends_it result status is ended = subst (Ends taken faults command before after old new) (sym (status_is result status is)) (by_trace status ended)
+      trace_ends_it result status is ended = subst (Ends taken faults command before after old new) (sym (status_is result status is))
+          (by_trace status ended)
 
 -- the pipeline of a query's plan, which represents the machines of the plan at the end, represents those of the query
-pub query_stands : (setting : Setting) (found : TypedQuery) (plan : PlanParts) → IsPlanOf found plan → (p : PipelineView) → p.plan ≡ plan → (packets : List (List ℕ)) → AreWhole packets
-    → PipelineStands p (end_machines plan (geometry_of setting) packets) → IsPlanOf found p.plan × PipelineStands p (query_ends found (geometry_of setting) packets)
-query_stands setting found plan of_query p same packets whole stands =
-    (subst (IsPlanOf found) (sym same) of_query, subst (PipelineStands p) (machines_are found plan (geometry_of setting) packets of_query whole) stands)
+pub query_stands : (setting : Setting) (found : TypedQuery) (plan : PlanParts) → IsPlanOf found plan → (p : PipelineView) → p.plan ≡ plan
+    → (packets : List (List ℕ)) → AreWhole packets
+    → PipelineStands p (end_machines plan (geometry_of setting) packets) → IsPlanOf found p.plan
+    × PipelineStands p (query_ends found (geometry_of setting) packets)
+query_stands setting found plan of_query p same packets whole stands = (
+  subst (IsPlanOf found) (sym same) of_query,
+  subst (PipelineStands p)
+      (machines_are found plan (geometry_of setting) packets of_query whole) stands,
+)
 
 -- a run whose query was accepted
-module _ (setting : Setting) (every : ℕ) (before : Which → Input) (found : TypedQuery) (known : IfSome (before Query).left (λ query. accepted query ≡ Ok found)) where
+module _ (setting : Setting) (every : ℕ) (before : Which → Input) (found : TypedQuery)
+    (known : IfSome (before Query).left (λ query. accepted query ≡ Ok found)) where
   read : ToldOf (Run setting every) before (λ query trace. accepted query.text ≡ Ok found)
   read query trace holds = told (λ text. accepted text ≡ Ok found) (before Query).left query.text known (holds.of_query refl)
 
-  pub run_is : (reads : FieldSet) → reads ≡ reads_of found → ToldOf (Run setting every) before (λ query trace. (trace_refusal (Run setting every) query trace ≡ traces.trace_fault trace reads)
-      × (output (Run setting every) query trace ≡ views_text (query_text found (geometry_of setting)) every (words_of (traces.packets trace reads))))
+  pub run_is : (reads : FieldSet) → reads ≡ reads_of found → ToldOf (Run setting every) before
+      (λ query trace. (trace_refusal (Run setting every) query trace ≡ traces.trace_fault trace reads)
+      × (output (Run setting every) query trace ≡ views_text (query_text found (geometry_of setting)) every
+      (words_of (traces.packets trace reads))))
   run_is reads same query trace holds = (
     ap (λ one. fault_for one trace) (read query trace holds) ∙ ap (traces.trace_fault trace) (sym same),
     ap (λ one. run_text setting every one (read_packets trace)) (read query trace holds)
         ∙ ap (λ reads. views_text (query_text found (geometry_of setting)) every (words_of (traces.packets trace reads))) (sym same),
   )
 
-  pub run_leaves : (plan : PlanParts) → IsPlanOf found plan → (old : Option Driven) (driven : Driven) → IsLeftBy setting driven → (pipeline_in driven).plan ≡ plan
-      → IfSome (before Trace).left (λ trace. PipelineStands (pipeline_in driven) (end_machines plan (geometry_of setting) (words_of (traces.packets trace plan.reads))))
+  pub run_leaves : (plan : PlanParts) → IsPlanOf found plan → (old : Option Driven) (driven : Driven) → IsLeftBy setting driven
+      → (pipeline_in driven).plan ≡ plan
+      → IfSome (before Trace).left (λ trace. PipelineStands (pipeline_in driven)
+      (end_machines plan (geometry_of setting) (words_of (traces.packets trace plan.reads))))
       → Leaves (Run setting every) before old (Some driven)
   run_leaves plan of_query old driven left same stands = (
     left,
     λ query trace holds.
         subst (λ one. StandsForEnd setting one (read_packets trace) (pipeline_in driven)) (sym (read query trace holds))
-        (query_stands setting found plan of_query (pipeline_in driven) same (words_of (traces.packets trace (reads_of found))) (read_whole trace (reads_of found))
-        (subst (λ reads. PipelineStands (pipeline_in driven) (end_machines plan (geometry_of setting) (words_of (traces.packets trace reads)))) of_query.reads
-        (told (λ trace. PipelineStands (pipeline_in driven) (end_machines plan (geometry_of setting) (words_of (traces.packets trace plan.reads)))) (before Trace).left trace stands (holds.of_trace refl)))),
+        (query_stands setting found plan of_query (pipeline_in driven) same (words_of (traces.packets trace (reads_of found)))
+        (read_whole trace (reads_of found))
+        (subst (λ reads. PipelineStands (pipeline_in driven) (end_machines plan (geometry_of setting)
+        (words_of (traces.packets trace reads)))) of_query.reads
+        (told (λ trace. PipelineStands (pipeline_in driven) (end_machines plan (geometry_of setting)
+        (words_of (traces.packets trace plan.reads)))) (before Trace).left trace stands (holds.of_trace refl)))),
   )
 
 -- a plan whose query was accepted
-pub stages_are_text : (ways : Ways) (before : Which → Input) (found : TypedQuery) (text : List ℕ) → IfSome (before Query).left (λ query. accepted query ≡ Ok found)
+pub stages_are_text : (ways : Ways) (before : Which → Input) (found : TypedQuery) (text : List ℕ)
+    → IfSome (before Query).left (λ query. accepted query ≡ Ok found)
     → text ≡ plan_text_of (query_shape found) (ways_number ways) → IsText (Plan ways) before text
 stages_are_text ways before found text known is query trace holds =
     let read = told (λ text. accepted text ≡ Ok found) (before Query).left query.text known (holds.of_query refl) in
@@ -245,7 +305,8 @@ stages_are_text ways before found text known is query trace holds =
 abbrev pub NoRefusal : Command → Type 0
 NoRefusal command = (query : Source) (trace : List ℕ) → IsAccepted command query trace
 
-pub nothing_refused : (command : Command) (before : Which → Input) → NoRefusal command → QueryTold command before (λ query. refusal command query ≡ None)
+pub nothing_refused : (command : Command) (before : Which → Input) → NoRefusal command
+    → QueryTold command before (λ query. refusal command query ≡ None)
 nothing_refused command before none query takes is known = (none query []).by_query
 
 pub gen_refuses_nothing : (generation : Generation) → NoRefusal (Gen generation)
@@ -254,13 +315,15 @@ gen_refuses_nothing generation query trace = record { by_query = refl; by_trace 
 pub trial_refuses_nothing : (generation : Generation) (setting : Setting) → NoRefusal (Trial generation setting)
 trial_refuses_nothing generation setting query trace = record { by_query = refl; by_trace = refl }
 
-pub trace_is_text : (generation : Generation) (before : Which → Input) (text : List ℕ) → text ≡ trace_text (made_packets generation) → IsText (Gen generation) before text
+pub trace_is_text : (generation : Generation) (before : Which → Input) (text : List ℕ) → text ≡ trace_text (made_packets generation)
+    → IsText (Gen generation) before text
 trace_is_text generation before text is query trace holds = (gen_refuses_nothing generation query trace, is)
 
 abbrev pub trial_text : Generation → Setting → List ℕ
 trial_text generation setting = tables_text setting (accepted trial_query) (λ q. made_packets generation)
 
-pub trial_is_text : (generation : Generation) (setting : Setting) (before : Which → Input) → IsText (Trial generation setting) before (trial_text generation setting)
+pub trial_is_text : (generation : Generation) (setting : Setting) (before : Which → Input)
+    → IsText (Trial generation setting) before (trial_text generation setting)
 trial_is_text generation setting before query trace holds = (trial_refuses_nothing generation setting query trace, refl)
 
 -- no status but Ok changes the working parts
@@ -274,14 +337,18 @@ module _ (command : Command) (before : Which → Input) (old new : Option Driven
   kept_by (statuses.TraceRefused fault) other = kept
   kept_by statuses.OutputFault other = kept
 
-  pub driven_kept : (result : Result (Unit {0}) Status) (status : Status) → IsErrAnd result (λ found. found ≡ status) → (status ≡ statuses.Ok → ⊥) → DrivenAfter (Some command) before old new (status_of result)
-  driven_kept result status is other = subst (DrivenAfter (Some command) before old new) (sym (status_is result status is)) (kept_by status other)
+  pub driven_kept : (result : Result (Unit {0}) Status) (status : Status) → IsErrAnd result (λ found. found ≡ status)
+      → (status ≡ statuses.Ok → ⊥) → DrivenAfter (Some command) before old new (status_of result)
+  driven_kept result status is other = subst (DrivenAfter (Some command) before old new) (sym (status_is result status is))
+      (kept_by status other)
 
 -- the statuses of these phases aren't Ok
-pub operand_not_ok : (Refuses : List ℕ → QueryFault → Type 0) (before after : Input) (status : Status) → OperandEnds Refuses before after status → status ≡ statuses.Ok → ⊥
+pub operand_not_ok : (Refuses : List ℕ → QueryFault → Type 0) (before after : Input) (status : Status)
+    → OperandEnds Refuses before after status → status ≡ statuses.Ok → ⊥
 operand_not_ok Refuses before after status ended is = subst (OperandEnds Refuses before after) is ended
 
-pub query_not_ok : (fault : List ℕ → Option QueryFault) (before after : Input) (status : Status) → QueryEnds fault before after status → status ≡ statuses.Ok → ⊥
+pub query_not_ok : (fault : List ℕ → Option QueryFault) (before after : Input) (status : Status) → QueryEnds fault before after status
+    → status ≡ statuses.Ok → ⊥
 query_not_ok fault before after status ended is = operand_not_ok (λ query found. fault query ≡ Some found) before after status ended is
 
 pub memory_not_ok : statuses.Memory ≡ statuses.Ok → ⊥
@@ -296,7 +363,8 @@ pub read_not_ok : (before after : Input) (status : Status) → ReadEnds before a
 read_not_ok before after status ended is = subst (ReadEnds before after) is ended
 
 module _ {O : Type 0} (taken : O → Option (List ℕ)) (faults : O → ℕ) (old new : O) where
-  pub trace_not_ok : (fault : List ℕ → Option TraceFault) (text : List ℕ → List ℕ) (before after : Input) (status : Status) → TraceEnds taken faults fault text before after old new status → status ≡ statuses.Ok → ⊥
+  pub trace_not_ok : (fault : List ℕ → Option TraceFault) (text : List ℕ → List ℕ) (before after : Input) (status : Status)
+      → TraceEnds taken faults fault text before after old new status → status ≡ statuses.Ok → ⊥
   trace_not_ok fault text before after status ended is = subst (TraceEnds taken faults fault text before after old new) is ended
 
   pub write_not_ok : (text : List ℕ) (status : Status) → WriteEnds taken faults text old new status → status ≡ statuses.Ok → ⊥

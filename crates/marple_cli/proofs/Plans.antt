@@ -33,7 +33,8 @@ use Rattle.marple_cli.specs.Output.{SaysPlan, Source, of_accepted, output, plan_
 use Rattle.marple_cli.proofs.Ending.{told}
 
 -- a fault is given by its parts
-same_fault : (one other : QueryFault) → one.kind ≡ other.kind → one.span.start ≡ other.span.start → one.span.end ≡ other.span.end → one ≡ other
+same_fault : (one other : QueryFault) → one.kind ≡ other.kind → one.span.start ≡ other.span.start → one.span.end ≡ other.span.end
+    → one ≡ other
 same_fault one other kind start end =
     ap (λ k. record { kind = k; span = one.span }) kind
     ∙ ap (λ n. record { kind = other.kind; span = record { start = n; end = one.span.end } }) start
@@ -45,26 +46,32 @@ says_alone text made (Ok other) says read = ap Ok (says_one makes_one text other
 says_alone text made (Err fault) says refused = absurd (nowhere text made says fault.span.start refused.1)
 
 -- a text that is refused says nothing, and is refused for this fault alone
-pub refused_alone : (text : List ℕ) (fault : QueryFault) (plan : Checked Made) → IsRefused text (Refused fault) → SaysPlan text plan → plan ≡ Err fault
+pub refused_alone : (text : List ℕ) (fault : QueryFault) (plan : Checked Made) → IsRefused text (Refused fault) → SaysPlan text plan
+    → plan ≡ Err fault
 refused_alone text fault (Ok made) refused says = absurd (nowhere text made says fault.span.start refused.1)
 refused_alone text fault (Err other) refused read =
     let start = (only_answer text (Refused fault) refused).1 other.span.start read.1 in
     ap Err (same_fault other fault (read.0 ∙ sym refused.0) start (read.2 ∙ start ∙ sym refused.2))
 
 -- the command refuses a text for this fault
-pub refuses_plan : (setting : Setting) (query : Source) (fault : QueryFault) → SaysPlan query.text query.plan → IsRefused query.text (Refused fault) → refusal (RunPlan setting) query ≡ Some fault
-refuses_plan setting query fault read refused = ap (fault_after (λ (made : Made). None)) (refused_alone query.text fault query.plan refused read)
+pub refuses_plan : (setting : Setting) (query : Source) (fault : QueryFault) → SaysPlan query.text query.plan
+    → IsRefused query.text (Refused fault) → refusal (RunPlan setting) query ≡ Some fault
+refuses_plan setting query fault read refused = ap (fault_after (λ (made : Made). None))
+    (refused_alone query.text fault query.plan refused read)
 
 -- a run of a plan that was read
 module _ (setting : Setting) (before : Which → Input) (loaded : LoadedPlan) (is : IsReadFrom (before Query) loaded) where
   says : (query : Source) → (before Query).left ≡ Some query.text → SaysPlan query.text query.plan → query.plan ≡ Ok is.made
-  says query left read = says_alone query.text is.made query.plan (told (λ text. Says text is.made) (before Query).left query.text is.says left) read
+  says query left read = says_alone query.text is.made query.plan (told (λ text. Says text is.made) (before Query).left query.text is.says
+      left) read
 
   pub plan_accepted : QueryTold (RunPlan setting) before (λ query. refusal (RunPlan setting) query ≡ None)
   plan_accepted query has left read = ap (fault_after (λ (made : Made). None)) (says query left read)
 
-  pub plan_is : ToldOf (RunPlan setting) before (λ query trace. (trace_refusal (RunPlan setting) query trace ≡ (contents trace loaded.plan.reads).fault)
-      × (output (RunPlan setting) query trace ≡ views_text (plan_output is.made (geometry_of setting)) 0 (words_of (contents trace loaded.plan.reads).packets)))
+  pub plan_is : ToldOf (RunPlan setting) before (λ query trace. (trace_refusal (RunPlan setting) query trace
+      ≡ (contents trace loaded.plan.reads).fault)
+      × (output (RunPlan setting) query trace ≡ views_text (plan_output is.made (geometry_of setting)) 0
+      (words_of (contents trace loaded.plan.reads).packets)))
   plan_is query trace holds =
       let plan = says query (holds.of_query refl) holds.read in
       let reads = sym is.from.plan.reads in (
@@ -75,15 +82,20 @@ module _ (setting : Setting) (before : Which → Input) (loaded : LoadedPlan) (i
       )
 
   pub plan_leaves : (old : Option Driven) (driven : Driven) → IsLeftBy setting driven → (pipeline_in driven).plan ≡ loaded.plan
-      → IfSome (before Trace).left (λ trace. PipelineStands (pipeline_in driven) (end_machines loaded.plan (geometry_of setting) (words_of (contents trace loaded.plan.reads).packets)))
+      → IfSome (before Trace).left (λ trace. PipelineStands (pipeline_in driven)
+      (end_machines loaded.plan (geometry_of setting) (words_of (contents trace loaded.plan.reads).packets)))
       → Leaves (RunPlan setting) before old (Some driven)
   plan_leaves old driven left plan stands = (
     left,
     λ query trace holds.
-        let stood = told (λ trace. PipelineStands (pipeline_in driven) (end_machines loaded.plan (geometry_of setting) (words_of (contents trace loaded.plan.reads).packets))) (before Trace).left trace stands (holds.of_trace refl) in
+        let stood = told (λ trace. PipelineStands (pipeline_in driven)
+        (end_machines loaded.plan (geometry_of setting) (words_of (contents trace loaded.plan.reads).packets))) (before Trace).left
+        trace stands (holds.of_trace refl) in
         subst (λ one. StandsForPlan setting one trace (pipeline_in driven)) (sym (says query (holds.of_query refl) holds.read)) (
           subst (IsPlanFrom is.made) (sym plan) is.from.plan,
-          subst (λ one. PipelineStands (pipeline_in driven) (end_machines one (geometry_of setting) (words_of (packets trace (reads_in is.made))))) (sym plan)
-              (subst (λ fields. PipelineStands (pipeline_in driven) (end_machines loaded.plan (geometry_of setting) (words_of (packets trace fields)))) is.from.plan.reads stood),
+          subst (λ one. PipelineStands (pipeline_in driven) (end_machines one (geometry_of setting)
+              (words_of (packets trace (reads_in is.made))))) (sym plan)
+              (subst (λ fields. PipelineStands (pipeline_in driven) (end_machines loaded.plan (geometry_of setting)
+              (words_of (packets trace fields)))) is.from.plan.reads stood),
         ),
   )

@@ -18,7 +18,8 @@ module _ (asked : Option Command) (before after : Which → Input) where
   pub none_lost : ((which : Which) → after which ≡ before which) → LosesWhatIsRead asked before after
   none_lost same which = loses_none (most_read asked which) (before which) (after which) (same which)
 
-  pub query_lost : LosesUpTo (most_read asked Query) (before Query) (after Query) → after Trace ≡ before Trace → LosesWhatIsRead asked before after
+  pub query_lost : LosesUpTo (most_read asked Query) (before Query) (after Query) → after Trace ≡ before Trace
+      → LosesWhatIsRead asked before after
   query_lost lost kept Query = lost
   query_lost lost kept Trace = loses_none (most_read asked Trace) (before Trace) (after Trace) kept
 
@@ -26,4 +27,5 @@ module _ (asked : Option Command) (before after : Which → Input) where
   pub both_lost : (middle : Which → Input) → LosesUpTo (most_read asked Query) (before Query) (middle Query) → middle Trace ≡ before Trace
       → LosesUpTo (most_read asked Trace) (middle Trace) (after Trace) → after Query ≡ middle Query → LosesWhatIsRead asked before after
   both_lost middle lost kept trace_lost query_kept Query = subst (LosesUpTo (most_read asked Query) (before Query)) (sym query_kept) lost
-  both_lost middle lost kept trace_lost query_kept Trace = subst (λ one. LosesUpTo (most_read asked Trace) one (after Trace)) kept trace_lost
+  both_lost middle lost kept trace_lost query_kept Trace = subst (λ one. LosesUpTo (most_read asked Trace) one (after Trace)) kept
+      trace_lost

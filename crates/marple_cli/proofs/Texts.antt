@@ -28,7 +28,8 @@ module _ (before : Which → Input) (found : TypedQuery) (known : IfSome (before
   read query is = told (λ text. accepted text ≡ Ok found) (before Query).left query.text known is
 
   pub net_is : (setting : NetSetting)
-      → ToldOf (Net setting) before (λ query trace. (trace_refusal (Net setting) query trace ≡ net_trace_fault trace found) × (output (Net setting) query trace ≡ network_text setting trace found))
+      → ToldOf (Net setting) before (λ query trace. (trace_refusal (Net setting) query trace ≡ net_trace_fault trace found)
+      × (output (Net setting) query trace ≡ network_text setting trace found))
   net_is setting query trace holds = (
     ap (of_accepted None (net_trace_fault trace)) (read query (holds.of_query refl)),
     ap (of_accepted [] (network_text setting trace)) (read query (holds.of_query refl)),
@@ -36,7 +37,8 @@ module _ (before : Which → Input) (found : TypedQuery) (known : IfSome (before
 
   pub enclose_is : (setting : Setting) (reads : FieldSet) → reads ≡ reads_of found
       → ToldOf (Enclose setting) before (λ query trace. (trace_refusal (Enclose setting) query trace ≡ traces.trace_fault trace reads)
-      × (output (Enclose setting) query trace ≡ views_text (enclose_text found (geometry_of setting)) 0 (words_of (traces.packets trace reads))))
+      × (output (Enclose setting) query trace ≡ views_text (enclose_text found (geometry_of setting)) 0
+      (words_of (traces.packets trace reads))))
   enclose_is setting reads same query trace holds = (
     ap (λ one. fault_for one trace) (read query (holds.of_query refl)) ∙ ap (traces.trace_fault trace) (sym same),
     ap (of_accepted [] (enclosures_text setting trace)) (read query (holds.of_query refl))
@@ -46,5 +48,8 @@ module _ (before : Which → Input) (found : TypedQuery) (known : IfSome (before
 
   pub compiled_is : (text : List ℕ) → final_fault found ≡ None → text ≡ compiled_text found → IsText Compile before text
   compiled_is text none is query trace holds =
-      let accepts = read query (holds.of_query refl) in
-      (record { by_query = ap (fault_after final_fault) accepts ∙ none; by_trace = refl }, is ∙ sym (ap (of_accepted [] compiled_text) accepts))
+      let accepts = read query (holds.of_query refl) in (
+        record { by_query = ap (fault_after final_fault) accepts ∙ none; by_trace = refl },
+        is
+            ∙ sym (ap (of_accepted [] compiled_text) accepts),
+      )

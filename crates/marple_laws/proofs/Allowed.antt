@@ -1,5 +1,6 @@
 -- The operations of a query's plan are allowed in sequence, and its groupbys after them.
-use Rattle.std.proofs.Common.{◌≡◌, ℕ, zero, suc, ◌+◌, ◌-◌, ◌<◌, ◌≤◌, Bool, true, false, List, [], ◌∷◌, ◌++◌, length, take, Some, None, Option, refl, sym, ap, subst, ◌∙◌, inl, inr, arith}
+use Rattle.std.proofs.Common.{◌≡◌, ℕ, zero, suc, ◌+◌, ◌-◌, ◌<◌, ◌≤◌, Bool, true, false, List, [], ◌∷◌, ◌++◌, length, take, Some, None}
+use Rattle.std.proofs.Common.{Option, refl, sym, ap, subst, ◌∙◌, inl, inr, arith}
 use Rattle.std.specs.Prelude.{map, slice_get, option_map, unwrap_or, nat_lt, if◌then◌else◌}
 use Rattle.std.specs.List.{range_with_len}
 use Rattle.std.proofs.lemmas.Bool.Decides.{nat_tests}
@@ -58,13 +59,15 @@ stage_before : (ops : List PlanOp) (i : ℕ) (o : Operand) → IsWithin (14 + i)
 stage_before ops i (Number n) inside = refl
 stage_before ops i (Register r) inside = by (nat_lt r 14) refl
   where
-    by : (b : Bool) → nat_lt r 14 ≡ b → (if b then 0 else stage_at (slice_get (take i ops) (r - 14))) ≡ (if b then 0 else unwrap_or (option_map (λ one. one.stage) (slice_get ops (r - 14))) 0)
+    by : (b : Bool) → nat_lt r 14 ≡ b → (if b then 0 else stage_at (slice_get (take i ops) (r - 14)))
+        ≡ (if b then 0 else unwrap_or (option_map (λ one. one.stage) (slice_get ops (r - 14))) 0)
     by true e = refl
     by false e =
         let late : 14 ≤ r = grind (arith, nat_tests) in
         ap stage_at (front_at ops i (r - 14) (omega (arith, late, inside))) ∙ stage_found (slice_get ops (r - 14))
 
-last_before : (ops : List PlanOp) (i : ℕ) (one : PlanOp) → AreSoundOps ops → slice_get ops i ≡ Some one → last_stage (take i ops) ≤ one.stage
+last_before : (ops : List PlanOp) (i : ℕ) (one : PlanOp) → AreSoundOps ops → slice_get ops i ≡ Some one
+    → last_stage (take i ops) ≤ one.stage
 last_before ops zero one sound e = omega arith
 last_before ops (suc j) one sound e =
     let within : suc j < length ops = slice_get_within ops (suc j) one e in
@@ -72,7 +75,8 @@ last_before ops (suc j) one sound e =
     let at : length (take (suc j) ops) - 1 ≡ j = omega (arith, long) in
     elim ((slice_get_cases ops j).1) [
       | inl found ↦
-          let last : last_stage (take (suc j) ops) ≡ found.0.stage = ap (λ n. stage_at (slice_get (take (suc j) ops) n)) at ∙ ap stage_at (front_at ops (suc j) j (omega arith) ∙ found.2) in
+          let last : last_stage (take (suc j) ops) ≡ found.0.stage = ap (λ n. stage_at (slice_get (take (suc j) ops) n)) at
+          ∙ ap stage_at (front_at ops (suc j) j (omega arith) ∙ found.2) in
           omega (arith, last, sound.ordered j (suc j) found.0 one (omega arith) found.2 e)
       | inr past ↦ (let p = past.0 in absurd (omega (arith, within)))
     ]
@@ -85,184 +89,217 @@ depth_below f (suc tries) d = by (is_enough f d) (depth_below f tries (suc d))
     by true h = omega arith
     by false h = omega (arith, h)
 
-module _ (q : TypedQuery) (p : PlanParts) (valid : IsValidQuery q) (text : HasPlanText q) (plan : IsPlanOf q p) (sound : IsSoundPlan p) where
-  fit : AreFit q.folds
-  fit i f e =
-      let v : IsValidFold f = subst IsValidFold (get_or_from_slice_get q.folds i f f e) (valid.folds i f (slice_get_within q.folds i f e)) in
-      (v, text.initial i f e)
+module _ (q : TypedQuery) (p : PlanParts) (valid : IsValidQuery q) (text : HasPlanText q) (plan : IsPlanOf q p) (sound : IsSoundPlan p)
+  where
+    fit : AreFit q.folds
+    fit i f e =
+        let v : IsValidFold f = subst IsValidFold (get_or_from_slice_get q.folds i f f e)
+        (valid.folds i f (slice_get_within q.folds i f e)) in
+        (v, text.initial i f e)
 
-  good : AllAreGood (reads_of q) (all_sources q) (query_made q)
-  good = query_good q.folds (length q.names) q.streams fit valid.streams
+    good : AllAreGood (reads_of q) (all_sources q) (query_made q)
+    good = query_good q.folds (length q.names) q.streams fit valid.streams
 
-  named : AreNamed (reads_of q) (all_sources q) q.streams
-  named = named_from (reads_of q) (all_sources q) q.streams (λ f i. in_set _ f i)
+    named : AreNamed (reads_of q) (all_sources q) q.streams
+    named = named_from (reads_of q) (all_sources q) q.streams (λ f i. in_set _ f i)
 
-  beyond : AreAfterFields (query_registers q)
-  beyond k r e = go (slice_get (range_with_len 0 (length (query_made q).ops)) k) refl
-    where
-      go : (o : Option ℕ) → slice_get (range_with_len 0 (length (query_made q).ops)) k ≡ o → 14 ≤ r
-      go None h = let none : None ≡ Some r = sym (slice_get-map (register_in (query_order q)) (range_with_len 0 (length (query_made q).ops)) k ∙ ap (option_map (register_in (query_order q))) h) ∙ e in cc
-      go (Some c) h =
-          let same : register_in (query_order q) c ≡ r = same_Some (register_in (query_order q) c) r (sym (slice_get-map (register_in (query_order q)) (range_with_len 0 (length (query_made q).ops)) k ∙ ap (option_map (register_in (query_order q))) h) ∙ e) in
-          omega (arith, same)
+    beyond : AreAfterFields (query_registers q)
+    beyond k r e = go (slice_get (range_with_len 0 (length (query_made q).ops)) k) refl
+      where
+        go : (o : Option ℕ) → slice_get (range_with_len 0 (length (query_made q).ops)) k ≡ o → 14 ≤ r
+        go None h = let none : None ≡ Some r = sym (slice_get-map (register_in (query_order q)) (range_with_len 0 (length (query_made q).ops))
+            k ∙ ap (option_map (register_in (query_order q))) h) ∙ e in cc
+        go (Some c) h =
+            let same : register_in (query_order q) c ≡ r = same_Some (register_in (query_order q) c) r
+            (sym (slice_get-map (register_in (query_order q)) (range_with_len 0 (length (query_made q).ops)) k
+            ∙ ap (option_map (register_in (query_order q))) h) ∙ e) in
+            omega (arith, same)
 
-  sound_ops : AreSoundOps (query_ops q)
-  sound_ops = subst AreSoundOps (ops_are q p plan) sound.ops
+    sound_ops : AreSoundOps (query_ops q)
+    sound_ops = subst AreSoundOps (ops_are q p plan) sound.ops
 
-  pub few_ops : length (query_ops q) ≤ 32768
-  few_ops = sound_ops.most
+    pub few_ops : length (query_ops q) ≤ 32768
+    few_ops = sound_ops.most
 
-  abbrev new_op : ℕ → PlanOp
-  new_op number = moved_op (query_registers q) (op_numbered (query_made q).ops number)
+    abbrev new_op : ℕ → PlanOp
+    new_op number = moved_op (query_registers q) (op_numbered (query_made q).ops number)
 
-  writable : (i : ℕ) (one : PlanOp) → slice_get (query_ops q) i ≡ Some one → IsWritable (reads_of q) one
-  writable i one e = go (slice_get (query_order q) i) refl
-    where
-      at : slice_get (query_ops q) i ≡ option_map new_op (slice_get (query_order q) i)
-      at = slice_get-map new_op (query_order q) i
+    writable : (i : ℕ) (one : PlanOp) → slice_get (query_ops q) i ≡ Some one → IsWritable (reads_of q) one
+    writable i one e = go (slice_get (query_order q) i) refl
+      where
+        at : slice_get (query_ops q) i ≡ option_map new_op (slice_get (query_order q) i)
+        at = slice_get-map new_op (query_order q) i
 
-      go : (o : Option ℕ) → slice_get (query_order q) i ≡ o → IsWritable (reads_of q) one
-      go None h = let none : None ≡ Some one = sym (at ∙ ap (option_map new_op) h) ∙ e in cc
-      go (Some c) h =
-          let o = ordered (query_made q).ops (stages_of (query_made q).ops) i c h in
-          let same : new_op c ≡ one = same_Some (new_op c) one (sym (at ∙ ap (option_map new_op) h) ∙ e) in
-          let is : moved_op (query_registers q) o.one ≡ one = ap (moved_op (query_registers q)) (sym (op_at (query_made q).ops c o.one o.found)) ∙ same in
-          subst (IsWritable (reads_of q)) is (moved_writable (reads_of q) (query_registers q) o.one beyond (writable_at (reads_of q) (query_made q).ops c o.one good.written o.found))
+        go : (o : Option ℕ) → slice_get (query_order q) i ≡ o → IsWritable (reads_of q) one
+        go None h = let none : None ≡ Some one = sym (at ∙ ap (option_map new_op) h) ∙ e in cc
+        go (Some c) h =
+            let o = ordered (query_made q).ops (stages_of (query_made q).ops) i c h in
+            let same : new_op c ≡ one = same_Some (new_op c) one (sym (at ∙ ap (option_map new_op) h) ∙ e) in
+            let is : moved_op (query_registers q) o.one ≡ one = ap (moved_op (query_registers q))
+            (sym (op_at (query_made q).ops c o.one o.found)) ∙ same in
+            subst (IsWritable (reads_of q)) is (moved_writable (reads_of q) (query_registers q) o.one beyond
+            (writable_at (reads_of q) (query_made q).ops c o.one good.written o.found))
 
-  pub op_ok : (i : ℕ) (one : PlanOp) → slice_get (query_ops q) i ≡ Some one → IsOpOk (fields_of (reads_of q)) (take i (query_ops q)) one
-  op_ok i one e = record {
-    allowed = record {
-      left = operand_known (reads_of q) (take i (query_ops q)) one.left w.left (subst (λ n. IsWithin (14 + n) one.left) (sym long) s.left);
-      right = operand_known (reads_of q) (take i (query_ops q)) one.right w.right (subst (λ n. IsWithin (14 + n) one.right) (sym long) s.right);
-      staged = record {
-        room = omega (arith, long, within, few_ops);
-        least = omega (arith, s.stage);
-        most = s.most;
-        order = last_before (query_ops q) i one sound_ops e;
-        stage = omega (arith, s.stage, stage_before (query_ops q) i one.left s.left, stage_before (query_ops q) i one.right s.right);
-        constant = w.constant;
+    pub op_ok : (i : ℕ) (one : PlanOp) → slice_get (query_ops q) i ≡ Some one → IsOpOk (fields_of (reads_of q)) (take i (query_ops q)) one
+    op_ok i one e = record {
+      allowed = record {
+        left = operand_known (reads_of q) (take i (query_ops q)) one.left w.left (subst (λ n. IsWithin (14 + n) one.left) (sym long) s.left);
+        right = operand_known (reads_of q) (take i (query_ops q)) one.right w.right
+            (subst (λ n. IsWithin (14 + n) one.right) (sym long) s.right);
+        staged = record {
+          room = omega (arith, long, within, few_ops);
+          least = omega (arith, s.stage);
+          most = s.most;
+          order = last_before (query_ops q) i one sound_ops e;
+          stage = omega (arith, s.stage, stage_before (query_ops q) i one.left s.left, stage_before (query_ops q) i one.right s.right);
+          constant = w.constant;
+        };
       };
-    };
-    stage = omega (arith, s.most);
-    left = operand_fits (reads_of q) (14 + i) one.left w.left s.left (omega (arith, within, few_ops));
-    right = operand_fits (reads_of q) (14 + i) one.right w.right s.right (omega (arith, within, few_ops));
-    single = w.single;
-  }
-    where
-      w : IsWritable (reads_of q) one
-      w = writable i one e
+      stage = omega (arith, s.most);
+      left = operand_fits (reads_of q) (14 + i) one.left w.left s.left (omega (arith, within, few_ops));
+      right = operand_fits (reads_of q) (14 + i) one.right w.right s.right (omega (arith, within, few_ops));
+      single = w.single;
+    }
+      where
+        w : IsWritable (reads_of q) one
+        w = writable i one e
 
-      s : IsSoundOp (query_ops q) i one
-      s = sound_ops.each i one e
+        s : IsSoundOp (query_ops q) i one
+        s = sound_ops.each i one e
 
-      within : i < length (query_ops q)
-      within = slice_get_within (query_ops q) i one e
+        within : i < length (query_ops q)
+        within = slice_get_within (query_ops q) i one e
 
-      long : length (take i (query_ops q)) ≡ i
-      long = length-take-le i (query_ops q) (omega (arith, within))
+        long : length (take i (query_ops q)) ≡ i
+        long = length-take-le i (query_ops q) (omega (arith, within))
 
-  -- what the groupbys take
+    -- what the groupbys take
 
-  named_taking : (sources : List (List Source)) (streams : List TypedStream) → AreNamed (reads_of q) sources streams → (i : ℕ) (t : Taking) → slice_get (takings streams) i ≡ Some t → AreRead (reads_of q) (sources_at sources t.input) (t.keys ++ t.args)
-  named_taking sources [] n i t e = absurd (no e)
-    where
-      no : None ≡ Some t → ⊥
-      no f = cc
-  named_taking sources (one ∷ streams) n i t e = by one.op n.0 (named_taking sources streams n.1) i e
-    where
-      by : (o : TypedOp) → AreRead (reads_of q) (sources_at sources (named_input o)) (named_slots o) → ((i : ℕ) (t : Taking) → slice_get (takings streams) i ≡ Some t → AreRead (reads_of q) (sources_at sources t.input) (t.keys ++ t.args)) →
-          (i : ℕ) → slice_get (takings (record one { op = o } ∷ streams)) i ≡ Some t → AreRead (reads_of q) (sources_at sources t.input) (t.keys ++ t.args)
-      by (op.Filter input condition) r rest i e = rest i t e
-      by (op.Map input values) r rest i e = rest i t e
-      by (op.Zip left right slots) r rest i e = rest i t e
-      by (op.Group input keys f args) r rest zero e =
-          let same : record { input = input; keys = keys; fold_number = f; args = args } ≡ t = same_Some _ t e in
-          subst (λ (t : Taking). AreRead (reads_of q) (sources_at sources t.input) (t.keys ++ t.args)) same r
-      by (op.Group input keys f args) r rest (suc i) e = rest i t e
+    named_taking : (sources : List (List Source)) (streams : List TypedStream) → AreNamed (reads_of q) sources streams → (i : ℕ) (t : Taking)
+        → slice_get (takings streams) i ≡ Some t → AreRead (reads_of q) (sources_at sources t.input) (t.keys ++ t.args)
+    named_taking sources [] n i t e = absurd (no e)
+      where
+        no : None ≡ Some t → ⊥
+        no f = cc
+    named_taking sources (one ∷ streams) n i t e = by one.op n.0 (named_taking sources streams n.1) i e
+      where
+        by : (o : TypedOp) → AreRead (reads_of q) (sources_at sources (named_input o)) (named_slots o)
+            → ((i : ℕ) (t : Taking) → slice_get (takings streams) i ≡ Some t
+            → AreRead (reads_of q) (sources_at sources t.input) (t.keys ++ t.args)) →
+            (i : ℕ) → slice_get (takings (record one { op = o } ∷ streams)) i ≡ Some t
+            → AreRead (reads_of q) (sources_at sources t.input) (t.keys ++ t.args)
+        by (op.Filter input condition) r rest i e = rest i t e
+        by (op.Map input values) r rest i e = rest i t e
+        by (op.Zip left right slots) r rest i e = rest i t e
+        by (op.Group input keys f args) r rest zero e =
+            let same : record { input = input; keys = keys; fold_number = f; args = args } ≡ t = same_Some _ t e in
+            subst (λ (t : Taking). AreRead (reads_of q) (sources_at sources t.input) (t.keys ++ t.args)) same r
+        by (op.Group input keys f args) r rest (suc i) e = rest i t e
 
-  picked_good : (sources : List Source) (columns : List Operand) (slots : List ℕ) → AreFrom (reads_of q) sources columns → AreRead (reads_of q) sources slots →
-      AllGood (reads_of q) (map (λ slot. moved (query_registers q) (operand_at columns slot)) slots)
-  picked_good sources columns [] from r = tt
-  picked_good sources columns (slot ∷ slots) from r =
-      (moved_good (reads_of q) (query_registers q) (operand_at columns slot) beyond (column_good (reads_of q) sources columns slot from r.0), picked_good sources columns slots from r.1)
+    picked_good : (sources : List Source) (columns : List Operand) (slots : List ℕ) → AreFrom (reads_of q) sources columns
+        → AreRead (reads_of q) sources slots →
+        AllGood (reads_of q) (map (λ slot. moved (query_registers q) (operand_at columns slot)) slots)
+    picked_good sources columns [] from r = tt
+    picked_good sources columns (slot ∷ slots) from r = (
+      moved_good (reads_of q) (query_registers q) (operand_at columns slot) beyond
+          (column_good (reads_of q) sources columns slot from r.0),
+      picked_good sources columns slots from r.1,
+    )
 
-  shapes_are : map group_shape p.groups ≡ query_groups q
-  shapes_are = ap (λ s. s.groups) plan.shape
+    shapes_are : map group_shape p.groups ≡ query_groups q
+    shapes_are = ap (λ s. s.groups) plan.shape
 
-  pub shapes_long : length (query_groups q) ≡ length (takings q.streams)
-  shapes_long = ap length (sym shapes_are) ∙ length-map p.groups group_shape ∙ plan.groups
+    pub shapes_long : length (query_groups q) ≡ length (takings q.streams)
+    shapes_long = ap length (sym shapes_are) ∙ length-map p.groups group_shape ∙ plan.groups
 
-  -- the groupby of a shape
-  has_group : (i : ℕ) (group : GroupPlan) (t : Taking) (f : TypedFold) → slice_get p.groups i ≡ Some group → slice_get (takings q.streams) i ≡ Some t → fold_at q i ≡ Some f →
-      slice_get q.folds t.fold_number ≡ Some f → IsNamedWell (group_shape group) → HasGroup (fields_of (reads_of q)) (query_ops q) (group_shape group) (query_wiring q) (fold_at q) i
-  has_group i group t f g e at fold_is well = record {
-    wiring = wiring_of (query_registers q) (query_made q).streams t;
-    wired = wired_here;
-    fold = f;
-    folds_are = at;
-    ok = record {
-      named = well.named;
-      no_stream = well.no_stream;
-      present = operand_readable (reads_of q) (query_ops q) (wiring_of (query_registers q) (query_made q).streams t).present (moved_good (reads_of q) (query_registers q) (wires_at (query_made q).streams t.input).present beyond (good.streams t.input).present) s.present few_ops;
-      key_names = well.key_names;
-      keys_differ = well.keys_differ;
-      all_keys = sym s.keys;
-      some_keys = omega (arith, s.keys, s.some_keys);
-      most_keys = omega (arith, s.keys, s.most_keys);
-      keys = operands_readable (reads_of q) (query_ops q) (wiring_of (query_registers q) (query_made q).streams t).keys (picked_good (sources_at (all_sources q) t.input) (wires_at (query_made q).streams t.input).columns t.keys (good.streams t.input).columns (read_left (reads_of q) (sources_at (all_sources q) t.input) t.keys t.args read)) s.key_registers few_ops;
-      most_args = s.most_args;
-      args = operands_readable (reads_of q) (query_ops q) (wiring_of (query_registers q) (query_made q).streams t).args (picked_good (sources_at (all_sources q) t.input) (wires_at (query_made q).streams t.input).columns t.args (good.streams t.input).columns (read_right (reads_of q) (sources_at (all_sources q) t.input) t.keys t.args read)) s.arg_registers few_ops;
-      state_names = well.state_names;
-      states_differ = well.states_differ;
-      states_apart = well.states_apart;
-      all_states = s.states ∙ ap length program.layout.initial;
-      initial = text.initial t.fold_number f fold_is;
-      valid = program.valid;
-      all_args = sym (s.args ∙ program.layout.args);
-      class = program.class;
-      depth = program.depth;
-      shallow = omega (arith, depth_is f group.program.depth program.depth, depth_below f (fold_states f) 0, program.valid.states);
-      nodes = program.layout.nodes;
-      statements = program.layout.statements;
-    };
-  }
-    where
-      wired_here : slice_get (query_wiring q) i ≡ Some (wiring_of (query_registers q) (query_made q).streams t)
-      wired_here = slice_get-map (wiring_of (query_registers q) (query_made q).streams) (takings q.streams) i ∙ ap (option_map (wiring_of (query_registers q) (query_made q).streams)) e
+    -- the groupby of a shape
+    has_group : (i : ℕ) (group : GroupPlan) (t : Taking) (f : TypedFold) → slice_get p.groups i ≡ Some group
+        → slice_get (takings q.streams) i ≡ Some t → fold_at q i ≡ Some f →
+        slice_get q.folds t.fold_number ≡ Some f → IsNamedWell (group_shape group)
+        → HasGroup (fields_of (reads_of q)) (query_ops q) (group_shape group) (query_wiring q) (fold_at q) i
+    has_group i group t f g e at fold_is well = record {
+      wiring = wiring_of (query_registers q) (query_made q).streams t;
+      wired = wired_here;
+      fold = f;
+      folds_are = at;
+      ok = record {
+        named = well.named;
+        no_stream = well.no_stream;
+        present = operand_readable (reads_of q) (query_ops q) (wiring_of (query_registers q) (query_made q).streams t).present
+            (moved_good (reads_of q) (query_registers q) (wires_at (query_made q).streams t.input).present beyond
+            (good.streams t.input).present) s.present few_ops;
+        key_names = well.key_names;
+        keys_differ = well.keys_differ;
+        all_keys = sym s.keys;
+        some_keys = omega (arith, s.keys, s.some_keys);
+        most_keys = omega (arith, s.keys, s.most_keys);
+        keys = operands_readable (reads_of q) (query_ops q) (wiring_of (query_registers q) (query_made q).streams t).keys
+            (picked_good (sources_at (all_sources q) t.input) (wires_at (query_made q).streams t.input).columns t.keys
+            (good.streams t.input).columns (read_left (reads_of q) (sources_at (all_sources q) t.input) t.keys t.args read)) s.key_registers
+            few_ops;
+        most_args = s.most_args;
+        args = operands_readable (reads_of q) (query_ops q) (wiring_of (query_registers q) (query_made q).streams t).args
+            (picked_good (sources_at (all_sources q) t.input) (wires_at (query_made q).streams t.input).columns t.args
+            (good.streams t.input).columns (read_right (reads_of q) (sources_at (all_sources q) t.input) t.keys t.args read)) s.arg_registers
+            few_ops;
+        state_names = well.state_names;
+        states_differ = well.states_differ;
+        states_apart = well.states_apart;
+        all_states = s.states ∙ ap length program.layout.initial;
+        initial = text.initial t.fold_number f fold_is;
+        valid = program.valid;
+        all_args = sym (s.args ∙ program.layout.args);
+        class = program.class;
+        depth = program.depth;
+        shallow = omega (arith, depth_is f group.program.depth program.depth, depth_below f (fold_states f) 0, program.valid.states);
+        nodes = program.layout.nodes;
+        statements = program.layout.statements;
+      };
+    }
+      where
+        wired_here : slice_get (query_wiring q) i ≡ Some (wiring_of (query_registers q) (query_made q).streams t)
+        wired_here = slice_get-map (wiring_of (query_registers q) (query_made q).streams) (takings q.streams) i
+            ∙ ap (option_map (wiring_of (query_registers q) (query_made q).streams)) e
 
-      s : IsSoundGroup (14 + length (query_ops q)) group (wiring_of (query_registers q) (query_made q).streams t)
-      s = subst (λ ops. IsSoundGroup (14 + length ops) group (wiring_of (query_registers q) (query_made q).streams t)) (ops_are q p plan)
-          (sound.each i group (wiring_of (query_registers q) (query_made q).streams t) g (ap (λ l. slice_get l i) (wiring_is q p plan) ∙ wired_here))
+        s : IsSoundGroup (14 + length (query_ops q)) group (wiring_of (query_registers q) (query_made q).streams t)
+        s = subst (λ ops. IsSoundGroup (14 + length ops) group (wiring_of (query_registers q) (query_made q).streams t)) (ops_are q p plan)
+            (sound.each i group (wiring_of (query_registers q) (query_made q).streams t) g
+            (ap (λ l. slice_get l i) (wiring_is q p plan) ∙ wired_here))
 
-      program : IsProgramOf f group.program
-      program = plan.programs i f group at g
+        program : IsProgramOf f group.program
+        program = plan.programs i f group at g
 
-      read : AreRead (reads_of q) (sources_at (all_sources q) t.input) (t.keys ++ t.args)
-      read = named_taking (all_sources q) q.streams named i t e
+        read : AreRead (reads_of q) (sources_at (all_sources q) t.input) (t.keys ++ t.args)
+        read = named_taking (all_sources q) q.streams named i t e
 
-  pub group_ok : (i : ℕ) (shape : GroupShape) → slice_get (query_groups q) i ≡ Some shape → HasGroup (fields_of (reads_of q)) (query_ops q) shape (query_wiring q) (fold_at q) i
-  group_ok i shape e = go (slice_get p.groups i) refl
-    where
-      at : slice_get (query_groups q) i ≡ option_map group_shape (slice_get p.groups i)
-      at = ap (λ l. slice_get l i) (sym shapes_are) ∙ slice_get-map group_shape p.groups i
+    pub group_ok : (i : ℕ) (shape : GroupShape) → slice_get (query_groups q) i ≡ Some shape
+        → HasGroup (fields_of (reads_of q)) (query_ops q) shape (query_wiring q) (fold_at q) i
+    group_ok i shape e = go (slice_get p.groups i) refl
+      where
+        at : slice_get (query_groups q) i ≡ option_map group_shape (slice_get p.groups i)
+        at = ap (λ l. slice_get l i) (sym shapes_are) ∙ slice_get-map group_shape p.groups i
 
-      go : (o : Option GroupPlan) → slice_get p.groups i ≡ o → HasGroup (fields_of (reads_of q)) (query_ops q) shape (query_wiring q) (fold_at q) i
-      go None h = let none : None ≡ Some shape = sym (at ∙ ap (option_map group_shape) h) ∙ e in absurd (no none)
-        where
-          no : None ≡ Some shape → ⊥
-          no z = cc
-      go (Some group) h =
-          let same : group_shape group ≡ shape = same_Some (group_shape group) shape (sym (at ∙ ap (option_map group_shape) h) ∙ e) in
-          let inside : i < length (takings q.streams) = (let l = slice_get_within p.groups i group h in omega (arith, l, plan.groups)) in
-          elim ((slice_get_cases (takings q.streams) i).1) [
-            | inl found ↦
-                let t : Taking = found.0 in
-                let number = fold_found q (map (λ t. t.fold_number) (takings q.streams)) i t.fold_number valid refl (slice_get-map (λ (t : Taking). t.fold_number) (takings q.streams) i ∙ ap (option_map (λ (t : Taking). t.fold_number)) found.2) in
-                elim ((slice_get_cases q.folds t.fold_number).1) [
-                  | inl fold ↦
-                      subst (λ s. HasGroup (fields_of (reads_of q)) (query_ops q) s (query_wiring q) (fold_at q) i) same
-                      (has_group i group t fold.0 h found.2 (number.fold fold.0 fold.2) fold.2 (subst IsNamedWell (sym same) (text.groups i shape e)))
-                  | inr past ↦ absurd (omega (arith, past.0, number.within))
-                ]
-            | inr past ↦ absurd (omega (arith, past.0, inside))
-          ]
+        go : (o : Option GroupPlan) → slice_get p.groups i ≡ o → HasGroup (fields_of (reads_of q)) (query_ops q) shape (query_wiring q)
+            (fold_at q) i
+        go None h = let none : None ≡ Some shape = sym (at ∙ ap (option_map group_shape) h) ∙ e in absurd (no none)
+          where
+            no : None ≡ Some shape → ⊥
+            no z = cc
+        go (Some group) h =
+            let same : group_shape group ≡ shape = same_Some (group_shape group) shape (sym (at ∙ ap (option_map group_shape) h) ∙ e) in
+            let inside : i < length (takings q.streams) = (let l = slice_get_within p.groups i group h in omega (arith, l, plan.groups)) in
+            elim ((slice_get_cases (takings q.streams) i).1) [
+              | inl found ↦
+                  let t : Taking = found.0 in
+                  let number = fold_found q (map (λ t. t.fold_number) (takings q.streams)) i t.fold_number valid refl
+                  (slice_get-map (λ (t : Taking). t.fold_number) (takings q.streams) i
+                  ∙ ap (option_map (λ (t : Taking). t.fold_number)) found.2) in
+                  elim ((slice_get_cases q.folds t.fold_number).1) [
+                    | inl fold ↦
+                        subst (λ s. HasGroup (fields_of (reads_of q)) (query_ops q) s (query_wiring q) (fold_at q) i) same
+                        (has_group i group t fold.0 h found.2 (number.fold fold.0 fold.2) fold.2
+                        (subst IsNamedWell (sym same) (text.groups i shape e)))
+                    | inr past ↦ absurd (omega (arith, past.0, number.within))
+                  ]
+              | inr past ↦ absurd (omega (arith, past.0, inside))
+            ]

@@ -1,5 +1,6 @@
 -- The words of a body are read as the tokens that write it.
-use Rattle.std.proofs.Common.{◌≡◌, ℕ, ◌+◌, ◌-◌, ◌^◌, ◌<◌, ◌≤◌, Bool, true, false, eqb, List, [], ◌∷◌, ◌++◌, Some, None, refl, ap, ◌∙◌, arith}
+use Rattle.std.proofs.Common.{◌≡◌, ℕ, ◌+◌, ◌-◌, ◌^◌, ◌<◌, ◌≤◌, Bool, true, false, eqb, List, [], ◌∷◌, ◌++◌, Some, None, refl, ap, ◌∙◌}
+use Rattle.std.proofs.Common.{arith}
 use Rattle.std.specs.Prelude.{decimal, codes, map, nat_lt, if◌then◌else◌}
 use Rattle.std.proofs.lemmas.Bool.Decides.{nat_tests}
 use Rattle.std.proofs.lemmas.Fmt.{decimal_is_IsNumeral}
@@ -107,7 +108,13 @@ state_digits [] v d e = cc
 state_digits (c ∷ ds) v d e =
     let k = digit_from_value c d.0 in
     let low : c ≤ 57 = k.1 in
-    rw (other_byte c 101 low (omega arith), other_byte c 117 low (omega arith), other_byte c 104 low (omega arith), other_byte c 97 low (omega arith))
+    rw (
+      other_byte c 101 low (omega arith),
+      other_byte c 117 low (omega arith),
+      other_byte c 104 low (omega arith),
+      other_byte c 97 low
+          (omega arith),
+    )
     (ap (λ o. lexeme_among None None o None) e)
 
 argument_digits : (ds : List ℕ) (v : ℕ) → AllDigits 10 ds → number ds ≡ Some v → lexeme_of (97 ∷ ds) ≡ word.Argument v
@@ -128,9 +135,11 @@ slot_read states s small = by (nat_lt s states)
     less : s - states < 2 ^ 64
     less = omega arith
 
-    by : (b : Bool) → lexeme_of (if b then state_word s else 97 ∷ decimal (s - states)) ≡ (if b then word.State s else word.Argument (s - states))
+    by : (b : Bool) → lexeme_of (if b then state_word s else 97 ∷ decimal (s - states))
+        ≡ (if b then word.State s else word.Argument (s - states))
     by true = state_lexeme s small
-    by false = argument_digits (decimal (s - states)) (s - states) (decimal_is_IsNumeral (s - states) less).0.1 (number_decimal (s - states) less)
+    by false = argument_digits (decimal (s - states)) (s - states) (decimal_is_IsNumeral (s - states) less).0.1
+        (number_decimal (s - states) less)
 
 set_lexeme : lexeme_of (codes "set") ≡ word.Set
 unfolding lexeme_of
@@ -167,7 +176,8 @@ term_read states slots (Operation op a b) few v =
     ∙ ap (λ l. l ++ map lexeme_of (term_words states b)) (term_read states slots a few v.0)
     ∙ ap (λ l. written states a ++ l) (term_read states slots b few v.1))
 
-pub block_read : (states args : ℕ) (body : Block) → AreFew (states + args) → IsValidBlock states args body → map lexeme_of (block_words states body) ≡ written_block states body
+pub block_read : (states args : ℕ) (body : Block) → AreFew (states + args) → IsValidBlock states args body
+    → map lexeme_of (block_words states body) ≡ written_block states body
 block_read states args End few v = refl
 block_read states args (Set s e next) few v =
     let small : s < 2 ^ 64 = omega (arith, v.0, few) in
@@ -189,7 +199,8 @@ block_read states args (Fork c a b next) few v =
   where
     pieces : (i o e : List ℕ) (x y z n : List (List ℕ)) →
         map lexeme_of (i ∷ (x ++ (o ∷ (y ++ (e ∷ o ∷ (z ++ (e ∷ n)))))))
-        ≡ lexeme_of i ∷ (map lexeme_of x ++ (lexeme_of o ∷ (map lexeme_of y ++ (lexeme_of e ∷ lexeme_of o ∷ (map lexeme_of z ++ (lexeme_of e ∷ map lexeme_of n))))))
+        ≡ lexeme_of i ∷ (map lexeme_of x ++ (lexeme_of o ∷ (map lexeme_of y
+        ++ (lexeme_of e ∷ lexeme_of o ∷ (map lexeme_of z ++ (lexeme_of e ∷ map lexeme_of n))))))
     pieces i o e x y z n = simp (map-append)
 
 -- each choice is a statement, so there are no more braces open at once than statements
@@ -215,16 +226,21 @@ tokens_term : (states slots : ℕ) (e : Term) → AreFew slots → IsValidTerm s
 tokens_term states slots (Literal n) few v = (token_marked 35 n refl v, tt)
 tokens_term states slots (Read s) few v = (token_slot states s (omega (arith, few, v)), tt)
 tokens_term states slots (Negation e) few v = (refl, tokens_term states slots e few v.0)
-tokens_term states slots (Operation op a b) few v =
-    (token_function op, tokens_append (term_words states a) (term_words states b) (tokens_term states slots a few v.0) (tokens_term states slots b few v.1))
+tokens_term states slots (Operation op a b) few v = (
+  token_function op,
+  tokens_append (term_words states a) (term_words states b) (tokens_term states slots a few v.0)
+      (tokens_term states slots b few v.1),
+)
 
-pub tokens_block : (states args : ℕ) (body : Block) → AreFew (states + args) → IsValidBlock states args body → AreTokens (block_words states body)
+pub tokens_block : (states args : ℕ) (body : Block) → AreFew (states + args) → IsValidBlock states args body
+    → AreTokens (block_words states body)
 tokens_block states args End few v = tt
 tokens_block states args (Set s e next) few v = (
   refl,
   (
     token_marked 115 s refl (omega (arith, v.0, few)),
-    tokens_append (term_words states e) (block_words states next) (tokens_term states (states + args) e few v.1) (tokens_block states args next few v.3),
+    tokens_append (term_words states e) (block_words states next) (tokens_term states (states + args) e few v.1)
+        (tokens_block states args next few v.3),
   ),
 )
 tokens_block states args (Fork c a b next) few v = (
@@ -243,5 +259,11 @@ tokens_block states args (Fork c a b next) few v = (
 )
 
 -- the words write the body
-pub body_written : (states args : ℕ) (body : Block) → AreFew (states + args) → IsValidBlock states args body → block_count body ≤ 64 → IsBody states args (map lexeme_of (block_words states body)) body
-body_written states args body few v least = record { statements = block_read states args body few v; typed = v; nesting = omega (arith, few_braces body, least) }
+pub body_written : (states args : ℕ) (body : Block) → AreFew (states + args) → IsValidBlock states args body → block_count body ≤ 64
+    → IsBody states args (map lexeme_of (block_words states body)) body
+body_written states args body few v least = record {
+  statements = block_read states args body few v;
+  typed = v;
+  nesting =
+      omega (arith, few_braces body, least);
+}

@@ -40,7 +40,8 @@ number_of ops.Sadd = 20
 number_of ops.Decay = 21
 
 abbrev all_ops : List Op
-all_ops = ops.Mul ∷ ops.Div ∷ ops.Rem ∷ ops.Add ∷ ops.Sub ∷ ops.Shl ∷ ops.Shr ∷ ops.And ∷ ops.Xor ∷ ops.Or ∷ ops.Eq ∷ ops.Ne ∷ ops.Lt ∷ ops.Le ∷ ops.Gt ∷ ops.Ge ∷ ops.Both ∷ ops.Either ∷ ops.Max ∷ ops.Min ∷ ops.Sadd ∷ ops.Decay ∷ []
+all_ops = ops.Mul ∷ ops.Div ∷ ops.Rem ∷ ops.Add ∷ ops.Sub ∷ ops.Shl ∷ ops.Shr ∷ ops.And ∷ ops.Xor ∷ ops.Or ∷ ops.Eq ∷ ops.Ne ∷ ops.Lt
+    ∷ ops.Le ∷ ops.Gt ∷ ops.Ge ∷ ops.Both ∷ ops.Either ∷ ops.Max ∷ ops.Min ∷ ops.Sadd ∷ ops.Decay ∷ []
 
 op_again : (op : Op) → get_or all_ops (number_of op) ops.Mul ≡ op
 op_again ops.Mul = refl
@@ -175,7 +176,8 @@ valid_block states args (Set v e rest) =
     (both (both (less v states) (valid_term (states + args) e)) (both (is_false (is_condition e)) (valid_block states args rest)))
 valid_block states args (Fork c a b rest) =
     by_both (λ p. (p.0.0, p.0.1, p.1.0, p.1.1.0, p.1.1.1)) (λ p. ((p.0, p.1), (p.2, (p.3, p.4))))
-    (both (both (valid_term (states + args) c) (is_true (is_condition c))) (both (valid_block states args a) (both (valid_block states args b) (valid_block states args rest))))
+    (both (both (valid_term (states + args) c) (is_true (is_condition c)))
+    (both (valid_block states args a) (both (valid_block states args b) (valid_block states args rest))))
 
 -- the body that tokens write is the only one that they can be
 pub is_body : (states args : ℕ) (words : List Lexeme) → Decided ((body : Block) × IsBody states args words body)

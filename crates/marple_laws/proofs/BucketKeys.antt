@@ -15,7 +15,8 @@ module _ (stands : Standing) (cache : Cache) where
   abbrev Stand : List Pair → List Epoch → Type 0
   Stand pairs epochs = PairsStand (PairStands stands cache) pairs epochs
 
-  keys_same : (pairs : List Pair) (epochs : List Epoch) → Stand pairs epochs → map (λ pair. pair.key) pairs ≡ map (λ epoch. epoch.key) epochs
+  keys_same : (pairs : List Pair) (epochs : List Epoch) → Stand pairs epochs
+      → map (λ pair. pair.key) pairs ≡ map (λ epoch. epoch.key) epochs
   keys_same [] [] s = refl
   keys_same [] (e ∷ epochs) s = absurd s
   keys_same (p ∷ pairs) [] s = absurd s
@@ -30,7 +31,8 @@ distinct_once : (pairs : List Pair) → IsDistinct (map (λ pair. pair.key) pair
 distinct_once [] d = tt
 distinct_once (p ∷ pairs) d = (has_same p.key pairs ∙ d.0, distinct_once pairs d.1)
 
-same_long : (pairs : List Pair) (epochs : List Epoch) → map (λ pair. pair.key) pairs ≡ map (λ epoch. epoch.key) epochs → length pairs ≡ length epochs
+same_long : (pairs : List Pair) (epochs : List Epoch) → map (λ pair. pair.key) pairs ≡ map (λ epoch. epoch.key) epochs
+    → length pairs ≡ length epochs
 same_long pairs epochs e = sym (length-map pairs (λ pair. pair.key)) ∙ ap length e ∙ length-map epochs (λ epoch. epoch.key)
 
 all_keys : (Q : Key → Type 0) (pairs : List Pair) (epochs : List Epoch) → map (λ pair. pair.key) pairs ≡ map (λ epoch. epoch.key) epochs
@@ -39,17 +41,20 @@ all_keys Q pairs epochs e all = λ k d lt.
     let pairs_at : get_or (map (λ pair. pair.key) pairs) k [] ≡ (get_or pairs k d).key = get_or-map (λ pair. pair.key) pairs k d [] lt in
     let within : k < length epochs = omega (arith, lt, same_long pairs epochs e) in
     let other : Epoch = record { key = d.key; rows = [] } in
-    let epochs_at : get_or (map (λ epoch. epoch.key) epochs) k [] ≡ (get_or epochs k other).key = get_or-map (λ epoch. epoch.key) epochs k other [] within in
+    let epochs_at : get_or (map (λ epoch. epoch.key) epochs) k [] ≡ (get_or epochs k other).key =
+    get_or-map (λ epoch. epoch.key) epochs k other [] within in
     subst Q (sym epochs_at ∙ ap (λ keys. get_or keys k []) (sym e) ∙ pairs_at) (all k other within)
 
 -- a cache that represents a machine has the keys of the machine's buckets
-pub keys_in_buckets : (stands : Standing) (ways : ℕ) (cache : Cache) (m : Machine) → CacheStands stands cache m → IsWellFormed (geometry ways cache) m
+pub keys_in_buckets : (stands : Standing) (ways : ℕ) (cache : Cache) (m : Machine) → CacheStands stands cache m
+    → IsWellFormed (geometry ways cache) m
     → HasKeysInBuckets ways cache
 keys_in_buckets stands ways cache m s w = record {
   few = λ bucket. subst (λ n. n ≤ ways) (sym (same_long (list_at cache bucket) (open_in m bucket) (same bucket))) (w.few bucket);
   once = λ bucket. distinct_once (list_at cache bucket)
       (subst IsDistinct (w.once bucket ∙ sym (same bucket)) (distinct-distinct (map (λ epoch. epoch.key) (open_in m bucket))));
-  home = λ bucket. all_keys (λ key. bucket_of (length cache.lists) key ≡ bucket) (list_at cache bucket) (open_in m bucket) (same bucket) (w.home bucket);
+  home = λ bucket. all_keys (λ key. bucket_of (length cache.lists) key ≡ bucket) (list_at cache bucket) (open_in m bucket) (same bucket)
+      (w.home bucket);
 }
   where
     same : (bucket : ℕ) → map (λ pair. pair.key) (list_at cache bucket) ≡ map (λ epoch. epoch.key) (open_in m bucket)

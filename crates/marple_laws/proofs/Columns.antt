@@ -1,5 +1,6 @@
 -- The columns of folds and groupbys that were checked differ.
-use Rattle.std.proofs.Common.{◌≡◌, ℕ, zero, suc, ◌+◌, Bool, true, false, ◌||◌, List, [], ◌∷◌, ◌++◌, length, Some, None, Option, Ok, refl, sym, ap, subst, ◌∙◌, inl, inr, arith, nat_eq, nat_lt}
+use Rattle.std.proofs.Common.{◌≡◌, ℕ, zero, suc, ◌+◌, Bool, true, false, ◌||◌, List, [], ◌∷◌, ◌++◌, length, Some, None, Option, Ok, refl}
+use Rattle.std.proofs.Common.{sym, ap, subst, ◌∙◌, inl, inr, arith, nat_eq, nat_lt}
 use Rattle.std.specs.Prelude.{map, slice_get, if◌then◌else◌}
 use Rattle.std.specs.List.{list_any, cons_option}
 use Rattle.std.proofs.lemmas.Bool.Decides.{nat_tests}
@@ -26,7 +27,8 @@ use Rattle.marple_laws.proofs.Differ.{AreApart}
 states_new : (found : List ℕ) (states : List StateVar) (all : List ℕ) → AreNew [] found → states_from found states ≡ Ok all → AreNew [] all
 states_new found [] all new e = subst (AreNew []) (same_ok found all e) new
 states_new found (s ∷ states) all new e =
-    let a = must_not_ok (is_among s.name.id found) NameTaken s.name.span (must (nat_lt (length found) 8) (OverLimit States) s.name.span (states_from (found ++ s.name.id ∷ []) states)) all e in
+    let a = must_not_ok (is_among s.name.id found) NameTaken s.name.span
+    (must (nat_lt (length found) 8) (OverLimit States) s.name.span (states_from (found ++ s.name.id ∷ []) states)) all e in
     let b = must_ok (nat_lt (length found) 8) (OverLimit States) s.name.span (states_from (found ++ s.name.id ∷ []) states) all a.1 in
     states_new (found ++ s.name.id ∷ []) states all (new_push [] found s.name.id new (not_in found s.name.id a.0)) b.1
 
@@ -39,12 +41,14 @@ fold_new d f e =
 
 -- the keys of a groupby
 
-place_found : (at : ℕ) (names : List ℕ) (id slot : ℕ) → place_from at names id ≡ Some slot → (k : ℕ) × (slot ≡ at + k) × (slice_get names k ≡ Some id)
+place_found : (at : ℕ) (names : List ℕ) (id slot : ℕ) → place_from at names id ≡ Some slot → (k : ℕ) × (slot ≡ at + k)
+    × (slice_get names k ≡ Some id)
 place_found at [] id slot e = cc
 place_found at (name ∷ names) id slot e = by (nat_eq name id) refl e (place_found (at + 1) names id slot)
   where
     by : (b : Bool) → nat_eq name id ≡ b → (if b then Some at else place_from (at + 1) names id) ≡ Some slot →
-        (place_from (at + 1) names id ≡ Some slot → (k : ℕ) × (slot ≡ at + 1 + k) × (slice_get names k ≡ Some id)) → (k : ℕ) × (slot ≡ at + k) × (slice_get (name ∷ names) k ≡ Some id)
+        (place_from (at + 1) names id ≡ Some slot → (k : ℕ) × (slot ≡ at + 1 + k) × (slice_get names k ≡ Some id)) → (k : ℕ)
+        × (slot ≡ at + k) × (slice_get (name ∷ names) k ≡ Some id)
     by true t e rest = let s : at ≡ slot = cc in let n : name ≡ id = grind (arith, nat_tests) in (0, omega (arith, s), ap Some n)
     by false t e rest = let r = rest e in (suc r.0, omega (arith, r.1), r.2)
 
@@ -66,7 +70,8 @@ ArePicked columns [] [] = Unit {0}
 ArePicked columns (slot ∷ slots) (name ∷ names) = (slice_get columns slot ≡ Some name) × ArePicked columns slots names
 ArePicked columns _ _ = ⊥
 
-picked_push : (columns slots names : List ℕ) (slot name : ℕ) → ArePicked columns slots names → slice_get columns slot ≡ Some name → ArePicked columns (slots ++ slot ∷ []) (names ++ name ∷ [])
+picked_push : (columns slots names : List ℕ) (slot name : ℕ) → ArePicked columns slots names → slice_get columns slot ≡ Some name
+    → ArePicked columns (slots ++ slot ∷ []) (names ++ name ∷ [])
 picked_push columns [] [] slot name p e = (e, tt)
 picked_push columns (s ∷ slots) (n ∷ names) slot name p e = (p.0, picked_push columns slots names slot name p.1 e)
 picked_push columns [] (n ∷ names) slot name p e = absurd p
@@ -76,22 +81,29 @@ record AreKeys (columns : List ℕ) (picked : Picked) : Type 0 where
   new : AreNew [] picked.names
   are : ArePicked columns picked.slots picked.names
 
-keys_new : (columns hidden : List ℕ) (found : Picked) (keys : List Name) (all : Picked) → AreKeys columns found → keys_from columns hidden found keys ≡ Ok all → AreKeys columns all
+keys_new : (columns hidden : List ℕ) (found : Picked) (keys : List Name) (all : Picked) → AreKeys columns found
+    → keys_from columns hidden found keys ≡ Ok all → AreKeys columns all
 keys_new columns hidden found [] all k e = subst (AreKeys columns) (same_ok found all e) k
 keys_new columns hidden found (key ∷ keys) all k e =
     let s = found_first (slot_of columns hidden key) _ all e in
     let a = must_not_ok (is_among key.id found.names) NameTaken key.span _ all s.2 in
     let b = must_ok (nat_lt (length found.names) 8) (OverLimit Keys) key.span _ all a.1 in
     keys_new columns hidden (record { names = found.names ++ key.id ∷ []; slots = found.slots ++ s.0 ∷ [] }) keys all
-    (record { new = new_push [] found.names key.id k.new (not_in found.names key.id a.0); are = picked_push columns found.slots found.names s.0 key.id k.are (slot_found columns hidden key s.0 s.1) }) b.1
+    (record {
+      new = new_push [] found.names key.id k.new (not_in found.names key.id a.0);
+      are =
+          picked_push columns found.slots found.names s.0 key.id k.are (slot_found columns hidden key s.0 s.1);
+    }) b.1
 
 -- the columns at the slots have the names of the keys
-named_at : (columns : List StreamColumn) (slot name : ℕ) → slice_get (column_names columns) slot ≡ Some name → (c : StreamColumn) × (slice_get columns slot ≡ Some c) × (c.name ≡ name)
+named_at : (columns : List StreamColumn) (slot name : ℕ) → slice_get (column_names columns) slot ≡ Some name → (c : StreamColumn)
+    × (slice_get columns slot ≡ Some c) × (c.name ≡ name)
 named_at [] slot name e = cc
 named_at (c ∷ columns) zero name e = let n : c.name ≡ name = cc in (c, refl, n)
 named_at (c ∷ columns) (suc slot) name e = named_at columns slot name e
 
-picked_names : (columns : List StreamColumn) (slots names : List ℕ) → ArePicked (column_names columns) slots names → column_names (columns_at columns slots) ≡ names
+picked_names : (columns : List StreamColumn) (slots names : List ℕ) → ArePicked (column_names columns) slots names
+    → column_names (columns_at columns slots) ≡ names
 picked_names columns [] [] p = refl
 picked_names columns (slot ∷ slots) (name ∷ names) p =
     let c = named_at columns slot name p.0 in
@@ -101,17 +113,20 @@ picked_names columns (slot ∷ slots) (name ∷ names) p =
 picked_names columns [] (name ∷ names) p = absurd p
 picked_names columns (slot ∷ slots) [] p = absurd p
 
-none_among : (keys states : List ℕ) → list_any (λ state. is_among state keys) states ≡ false → (s : ℕ) → IsIn s states → is_among s keys ≡ false
+none_among : (keys states : List ℕ) → list_any (λ state. is_among state keys) states ≡ false → (s : ℕ) → IsIn s states
+    → is_among s keys ≡ false
 none_among keys (t ∷ states) e s h = by (is_among t keys) refl e h (none_among keys states)
   where
     by : (b : Bool) → is_among t keys ≡ b → (b || list_any (λ state. is_among state keys) states) ≡ false → IsIn s (t ∷ states) →
-        (list_any (λ state. is_among state keys) states ≡ false → (s : ℕ) → IsIn s states → is_among s keys ≡ false) → is_among s keys ≡ false
+        (list_any (λ state. is_among state keys) states ≡ false → (s : ℕ) → IsIn s states → is_among s keys ≡ false)
+        → is_among s keys ≡ false
     by true p e h rest = cc
     by false p e (inl same) rest = ap (λ n. is_among n keys) same ∙ p
     by false p e (inr i) rest = rest e s i
 none_among keys [] e s h = absurd h
 
-pub states_apart : (columns hidden keys : List ℕ) (f : FoldView) (span : Span) (slots : List ℕ) → arguments_of columns hidden keys f span ≡ Ok slots → AreApart keys f.states
+pub states_apart : (columns hidden keys : List ℕ) (f : FoldView) (span : Span) (slots : List ℕ)
+    → arguments_of columns hidden keys f span ≡ Ok slots → AreApart keys f.states
 states_apart columns hidden keys f span slots e =
     let s = found_first (collected [] (map (λ id. slot_of columns hidden (record { id = id; span = span })) f.args)) _ slots e in
     let a = must_not_ok (list_any (λ state. is_among state keys) f.states) NameTaken span _ slots s.2 in
@@ -122,7 +137,8 @@ pub record AreKeyColumns (columns : List StreamColumn) (picked : Picked) : Type 
   pub new : AreNew [] (column_names (columns_at columns picked.slots))
   pub names : column_names (columns_at columns picked.slots) ≡ picked.names
 
-pub key_columns_are : (columns : List StreamColumn) (hidden : List ℕ) (keys : List Name) (picked : Picked) → keys_from (column_names columns) hidden (record { names = []; slots = [] }) keys ≡ Ok picked → AreKeyColumns columns picked
+pub key_columns_are : (columns : List StreamColumn) (hidden : List ℕ) (keys : List Name) (picked : Picked)
+    → keys_from (column_names columns) hidden (record { names = []; slots = [] }) keys ≡ Ok picked → AreKeyColumns columns picked
 key_columns_are columns hidden keys picked e =
     let k = keys_new (column_names columns) hidden (record { names = []; slots = [] }) keys picked (record { new = tt; are = tt }) e in
     let n = picked_names columns picked.slots picked.names k.are in

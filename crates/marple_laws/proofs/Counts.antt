@@ -14,7 +14,8 @@ use Rattle.query_lang.specs.Folds.{IsValidEmit, IsValidFold, fold_args, fold_sta
 use Rattle.query_lang.specs.Streams.{values_at}
 use Rattle.query_lang.specs.Terms.{Term, Literal, Read, Negation, Operation, term_of}
 use Rattle.query_lang.specs.TypedQueries.{AreValidStreams, IsValidOp, IsValidQuery}
-use Rattle.stage_plan.specs.Depths.{StreamDepths, depths_at, depths_made, emit_depths, group_depths, joined_depths, packet_depths, query_depths, stage_fault, term_depth, term_depths}
+use Rattle.stage_plan.specs.Depths.{StreamDepths, depths_at, depths_made, emit_depths, group_depths, joined_depths, packet_depths}
+use Rattle.stage_plan.specs.Depths.{query_depths, stage_fault, term_depth, term_depths}
 use Rattle.stage_plan.specs.Planned.{query_made}
 use Rattle.stage_plan.specs.Registers.{stages_of}
 use Rattle.stage_plan.specs.declared.op.PlanOp.{PlanOp}
@@ -52,7 +53,8 @@ values_few columns (e ∷ values) =
     let k = values_few columns values in
     omega (arith, n, s, h, k)
 
-joined_few : (over : List ℕ) (c : Term) (present : ℕ) (columns : List ℕ) → length (joined_depths over c present columns).operations ≤ term_nodes c + 1
+joined_few : (over : List ℕ) (c : Term) (present : ℕ) (columns : List ℕ)
+    → length (joined_depths over c present columns).operations ≤ term_nodes c + 1
 joined_few over c present columns =
     let n = length-append (term_depths over c) ((1 + max present (term_depth over c)) ∷ []) in
     let h = term_few over c in
@@ -69,12 +71,15 @@ emit_few (Some c) states args initial over present columns h =
 group_few : (o : Option TypedFold) (input : StreamDepths) (keys args : List ℕ) → ((f : TypedFold) → o ≡ Some f → IsValidFold f)
     → length (group_depths o input keys args).operations ≤ 641
 group_few None input keys args valid = omega arith
-group_few (Some f) input keys args valid = emit_few f.emit (fold_states f) (fold_args f) (length f.initial) (values_at input.columns args) input.present (values_at input.columns keys) (valid f refl).emits
+group_few (Some f) input keys args valid = emit_few f.emit (fold_states f) (fold_args f) (length f.initial) (values_at input.columns args)
+    input.present (values_at input.columns keys) (valid f refl).emits
 
-made_few : (folds : List TypedFold) → All IsValidFold folds → (before : List TypedStream) (width : ℕ) (op : TypedOp) → IsValidOp folds before width op
+made_few : (folds : List TypedFold) → All IsValidFold folds → (before : List TypedStream) (width : ℕ) (op : TypedOp)
+    → IsValidOp folds before width op
     → (streams : List StreamDepths) → length (depths_made folds streams op).operations ≤ 641
 made_few folds valid before width (typed.Filter input condition) v streams =
-    let j = joined_few (depths_at streams input).columns (term_of condition) (depths_at streams input).present (depths_at streams input).columns in
+    let j = joined_few (depths_at streams input).columns (term_of condition) (depths_at streams input).present
+    (depths_at streams input).columns in
     let n : term_nodes (term_of condition) ≤ 512 = v.1.0.1 in
     omega (arith, j, n)
 made_few folds valid before width (typed.Map input values) v streams =
@@ -88,15 +93,18 @@ made_few folds valid before width (typed.Group input keys f args) v streams =
 abbrev operations_of : List StreamDepths → ℕ
 operations_of depths = length (flat_map (λ d. d.operations) depths)
 
-counted : (folds : List TypedFold) → All IsValidFold folds → (names : ℕ) (before list : List TypedStream) → AreValidStreams names folds before list → (depths : List StreamDepths)
-    → operations_of (fold (λ streams one. streams ++ depths_made folds streams one.op ∷ []) depths list) ≤ operations_of depths + 641 * length list
+counted : (folds : List TypedFold) → All IsValidFold folds → (names : ℕ) (before list : List TypedStream)
+    → AreValidStreams names folds before list → (depths : List StreamDepths)
+    → operations_of (fold (λ streams one. streams ++ depths_made folds streams one.op ∷ []) depths list) ≤ operations_of depths + 641
+    * length list
 counted folds valid names before [] v depths = omega arith
 counted folds valid names before (one ∷ list) v depths =
     let made : StreamDepths = depths_made folds depths one.op in
     let rest = counted folds valid names (before ++ one ∷ []) list v.1 (depths ++ made ∷ []) in
     let few = made_few folds valid before (length one.columns) one.op v.0.operator depths in
     let n = ap length (flat_map-append (λ (d : StreamDepths). d.operations) depths (made ∷ [])) in
-    let m = length-append (flat_map (λ (d : StreamDepths). d.operations) depths) (flat_map (λ (d : StreamDepths). d.operations) (made ∷ [])) in
+    let m = length-append (flat_map (λ (d : StreamDepths). d.operations) depths)
+    (flat_map (λ (d : StreamDepths). d.operations) (made ∷ [])) in
     let o = length-append made.operations [] in
     omega (arith, rest, few, n, m, o)
 
@@ -111,7 +119,8 @@ made_of_query q none = faults.query_made q (query_made q).ops (query_made q).str
 
 pub few_made : (q : TypedQuery) → IsValidQuery q → stage_fault q ≡ None → length (query_made q).ops ≤ 20512
 few_made q v none =
-    let stages : length (map (λ (one : PlanOp). one.stage) (query_made q).ops) ≡ length (query_depths q) = ap length (made_of_query q none).stages_are in
+    let stages : length (map (λ (one : PlanOp). one.stage) (query_made q).ops) ≡ length (query_depths q) =
+    ap length (made_of_query q none).stages_are in
     let same = length-map (query_made q).ops (λ (one : PlanOp). one.stage) in
     let few = few_depths q v in
     omega (arith, stages, same, few)

@@ -21,10 +21,12 @@ abbrev among : ℕ → List Field → ℕ
 among i [] = 0
 among i (f ∷ fields) = max (bit_at (2 ^ number_of f) i) (among i fields)
 
-bits_are : (fields : List Field) (set : FieldSet) (i : ℕ) → bit_at (fold with_field set fields).bits i ≡ max (bit_at set.bits i) (among i fields)
+bits_are : (fields : List Field) (set : FieldSet) (i : ℕ) → bit_at (fold with_field set fields).bits i ≡ max (bit_at set.bits i)
+    (among i fields)
 bits_are [] set i = omega arith
 bits_are (f ∷ fields) set i =
-    let h : bit_at (fold with_field (with_field set f) fields).bits i ≡ max (bit_at (bit_or set.bits (2 ^ number_of f)) i) (among i fields) = bits_are fields (with_field set f) i in
+    let h : bit_at (fold with_field (with_field set f) fields).bits i ≡ max (bit_at (bit_or set.bits (2 ^ number_of f)) i)
+    (among i fields) = bits_are fields (with_field set f) i in
     let o = bit_at_or set.bits (2 ^ number_of f) i in
     omega (arith, h, o)
 
@@ -34,7 +36,8 @@ at_most_one (f ∷ fields) i = omega (arith, bit_at-lt (2 ^ number_of f) i, at_m
 
 among_in : (fields : List Field) (f : Field) (i : ℕ) → number_of f ≡ i → IsIn f fields → among i fields ≡ 1
 among_in (g ∷ fields) f i e (inl same) =
-    let one : bit_at (2 ^ number_of g) i ≡ 1 = ap (λ h. bit_at (2 ^ number_of h) i) (sym same) ∙ ap (λ k. bit_at (2 ^ number_of f) k) (sym e) ∙ bit_at-pow_same (number_of f) in
+    let one : bit_at (2 ^ number_of g) i ≡ 1 = ap (λ h. bit_at (2 ^ number_of h) i) (sym same)
+    ∙ ap (λ k. bit_at (2 ^ number_of f) k) (sym e) ∙ bit_at-pow_same (number_of f) in
     omega (arith, one, at_most_one fields i)
 among_in (g ∷ fields) f i e (inr h) = omega (arith, among_in fields f i e h, bit_at-lt (2 ^ number_of g) i)
 among_in [] f i e h = absurd h
@@ -58,14 +61,16 @@ some_named (f ∷ fields) i e = elim (cases_eq i (number_of f)) [
 has_from : (fields : List Field) (f : Field) → HasField (field_set fields) f → among (number_of f) fields ≡ 1
 has_from fields f h =
     let bit : bit_at (field_set fields).bits (number_of f) ≡ 1 = grind (arith, nat_tests) in
-    let all : bit_at (field_set fields).bits (number_of f) ≡ max (bit_at 0 (number_of f)) (among (number_of f) fields) = bits_are fields no_fields (number_of f) in
+    let all : bit_at (field_set fields).bits (number_of f) ≡ max (bit_at 0 (number_of f)) (among (number_of f) fields) =
+    bits_are fields no_fields (number_of f) in
     omega (arith, bit, all, bit_at-zero (number_of f))
 
 same_among : (fields : List Field) (i : ℕ) → among i (fields_of (field_set fields)) ≡ among i fields
 same_among fields i = elim (cases_eq (among i fields) 1) [
   | inl one ↦
       let n = some_named fields i one in
-      among_in (fields_of (field_set fields)) n.field i n.number (in_filter (has_field (field_set fields)) n.field all_fields (in_set fields n.field n.is_in) (all_in n.field)) ∙ sym one
+      among_in (fields_of (field_set fields)) n.field i n.number (in_filter (has_field (field_set fields)) n.field all_fields
+      (in_set fields n.field n.is_in) (all_in n.field)) ∙ sym one
   | inr other ↦ elim (cases_eq (among i (fields_of (field_set fields))) 1) [
     | inl one ↦
         let n = some_named (fields_of (field_set fields)) i one in
@@ -80,7 +85,8 @@ same_bits one other e = let set : ℕ → FieldSet = λ b. record { bits = b } i
 
 same_set : (fields : List Field) → field_set (fields_of (field_set fields)) ≡ field_set fields
 same_set fields = same_bits (field_set (fields_of (field_set fields))) (field_set fields) (same_from_bits _ _ (λ i.
-    let again : bit_at (field_set (fields_of (field_set fields))).bits i ≡ max (bit_at 0 i) (among i (fields_of (field_set fields))) = bits_are (fields_of (field_set fields)) no_fields i in
+    let again : bit_at (field_set (fields_of (field_set fields))).bits i ≡ max (bit_at 0 i) (among i (fields_of (field_set fields))) =
+    bits_are (fields_of (field_set fields)) no_fields i in
     let once : bit_at (field_set fields).bits i ≡ max (bit_at 0 i) (among i fields) = bits_are fields no_fields i in
     omega (arith, again, once, same_among fields i)))
 

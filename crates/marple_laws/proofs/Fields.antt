@@ -1,10 +1,12 @@
 -- The fields of a set in their order, and which registers the lines of a plan know.
-use Rattle.std.proofs.Common.{◌≡◌, ℕ, suc, ◌+◌, ◌^◌, ◌<◌, ◌≤◌, Bool, true, false, cond, List, [], ◌∷◌, length, refl, sym, ap, subst, ◌∙◌, inl, inr, arith, Contains}
+use Rattle.std.proofs.Common.{◌≡◌, ℕ, suc, ◌+◌, ◌^◌, ◌<◌, ◌≤◌, Bool, true, false, cond, List, [], ◌∷◌, length, refl, sym, ap, subst, ◌∙◌}
+use Rattle.std.proofs.Common.{inl, inr, arith, Contains}
 use Rattle.std.specs.Prelude.{All, map, filter, codes}
 use Rattle.std.proofs.lemmas.Bool.{cases_lt}
 use Rattle.std.proofs.lemmas.List.Elements.{All-head, All-tail}
 use Rattle.marple_base.specs.declared.field.Field.{Field}
-use Rattle.marple_base.specs.declared.field.Field.TheVariants.{Switch, Qid, Uid, SrcIp, DstIp, SrcPort, DstPort, Proto, PktLen, PayloadLen, TcpSeq, Tin, Tout, QSize}
+use Rattle.marple_base.specs.declared.field.Field.TheVariants.{Switch, Qid, Uid, SrcIp, DstIp, SrcPort, DstPort, Proto, PktLen, PayloadLen}
+use Rattle.marple_base.specs.declared.field.Field.TheVariants.{TcpSeq, Tin, Tout, QSize}
 use Rattle.marple_base.specs.declared.field.FieldSet.{FieldSet}
 use Rattle.marple_base.specs.Field.{number_of, field_name, all_fields, has_field}
 use Rattle.stage_plan.specs.declared.op.Operand.{Operand}
@@ -41,7 +43,8 @@ pub out_of_filter : (test : Field → Bool) (f : Field) (fields : List Field) �
 out_of_filter test f [] h = absurd h
 out_of_filter test f (g ∷ fields) h = by (test g) refl h (out_of_filter test f fields)
   where
-    by : (b : Bool) → test g ≡ b → IsIn f (cond b (g ∷ filter test fields) (filter test fields)) → (IsIn f (filter test fields) → test f ≡ true) → test f ≡ true
+    by : (b : Bool) → test g ≡ b → IsIn f (cond b (g ∷ filter test fields) (filter test fields))
+        → (IsIn f (filter test fields) → test f ≡ true) → test f ≡ true
     by true e (inl same) rest = ap test same ∙ e
     by true e (inr k) rest = rest k
     by false e k rest = rest k
@@ -82,7 +85,37 @@ from_filter test (f ∷ fields) least h = by (test f) (from_filter test fields (
     by false rest = from_less (filter test fields) least (number_of f + 1) (omega (arith, h.0)) rest
 
 all_ordered : AreFrom 0 all_fields
-all_ordered = (omega arith, (omega arith, (omega arith, (omega arith, (omega arith, (omega arith, (omega arith, (omega arith, (omega arith, (omega arith, (omega arith, (omega arith, (omega arith, (omega arith, tt))))))))))))))
+all_ordered = (
+  omega arith,
+  (
+    omega arith,
+    (
+      omega arith,
+      (
+        omega arith,
+        (
+          omega arith,
+          (
+            omega arith,
+            (
+              omega arith,
+              (
+                omega arith,
+                (
+                  omega arith,
+                  (
+                    omega arith,
+                    (omega arith, (omega arith, (omega arith, (omega arith, tt)))),
+                  ),
+                ),
+              ),
+            ),
+          ),
+        ),
+      ),
+    ),
+  ),
+)
 
 token_field : (f : Field) → is_token (field_name f) ≡ true
 token_field Switch = refl
@@ -134,10 +167,12 @@ reads_written reads =
     })
 
 -- an operand that is allowed is known after the operations before it
-pub operand_known : (reads : FieldSet) (ops : List PlanOp) (o : Operand) → IsGood reads o → IsWithin (14 + length ops) o → IsKnown (fields_of reads) ops o
+pub operand_known : (reads : FieldSet) (ops : List PlanOp) (o : Operand) → IsGood reads o → IsWithin (14 + length ops) o
+    → IsKnown (fields_of reads) ops o
 operand_known reads ops (Number n) good inside = tt
 operand_known reads ops (Register r) good inside = elim (cases_lt r 14) [
-  | inl early ↦ (let g = good early in inl (subst (Contains (map number_of (fields_of reads))) g.1 (number_there g.0 (fields_of reads) (in_filter (has_field reads) g.0 all_fields g.2 (all_in g.0)))))
+  | inl early ↦ (let g = good early in inl (subst (Contains (map number_of (fields_of reads))) g.1
+      (number_there g.0 (fields_of reads) (in_filter (has_field reads) g.0 all_fields g.2 (all_in g.0)))))
   | inr late ↦ inr (late, inside)
 ]
 
@@ -145,10 +180,19 @@ pub operand_fits : (reads : FieldSet) (n : ℕ) (o : Operand) → IsGood reads o
 operand_fits reads n (Number m) good inside small = good
 operand_fits reads n (Register r) good inside small = omega (arith, inside, small)
 
-pub operand_readable : (reads : FieldSet) (ops : List PlanOp) (o : Operand) → IsGood reads o → IsWithin (14 + length ops) o → length ops ≤ 32768 → IsReadable (fields_of reads) ops o
-operand_readable reads ops o good inside few = record { known = operand_known reads ops o good inside; fits = operand_fits reads (14 + length ops) o good inside (omega (arith, few)) }
+pub operand_readable : (reads : FieldSet) (ops : List PlanOp) (o : Operand) → IsGood reads o → IsWithin (14 + length ops) o
+    → length ops ≤ 32768 → IsReadable (fields_of reads) ops o
+operand_readable reads ops o good inside few = record {
+  known = operand_known reads ops o good inside;
+  fits =
+      operand_fits reads (14 + length ops) o good inside (omega (arith, few));
+}
 
-pub operands_readable : (reads : FieldSet) (ops : List PlanOp) (operands : List Operand) → AllGood reads operands → All (IsWithin (14 + length ops)) operands → length ops ≤ 32768 → AreReadable (fields_of reads) ops operands
+pub operands_readable : (reads : FieldSet) (ops : List PlanOp) (operands : List Operand) → AllGood reads operands
+    → All (IsWithin (14 + length ops)) operands → length ops ≤ 32768 → AreReadable (fields_of reads) ops operands
 operands_readable reads ops [] good inside few = tt
-operands_readable reads ops (o ∷ operands) good inside few =
-    (operand_readable reads ops o good.0 (All-head (IsWithin (14 + length ops)) o operands inside) few, operands_readable reads ops operands good.1 (All-tail (IsWithin (14 + length ops)) o operands inside) few)
+operands_readable reads ops (o ∷ operands) good inside few = (
+  operand_readable reads ops o good.0 (All-head (IsWithin (14 + length ops)) o operands inside) few,
+  operands_readable reads ops operands
+      good.1 (All-tail (IsWithin (14 + length ops)) o operands inside) few,
+)

@@ -31,10 +31,12 @@ use Rattle.plan_loader.specs.Reading.{block_written}
 use Rattle.plan_loader.proofs.BodyReading.{bodies, stmts_same}
 use Rattle.plan_loader.proofs.Folds.{blocks, classes, depths}
 use Rattle.marple_laws.proofs.BodyDecisions.{is_body}
-use Rattle.marple_laws.proofs.Decisions.{Decided, both, by_both, contains, is_empty, is_none, less, most, neither, none_some, same_number, same_text, some_same, value_of}
+use Rattle.marple_laws.proofs.Decisions.{Decided, both, by_both, contains, is_empty, is_none, less, most, neither, none_some, same_number}
+use Rattle.marple_laws.proofs.Decisions.{same_text, some_same, value_of}
 use Rattle.marple_laws.proofs.PartDecisions.{named_number, named_operand, one_operand}
 
-operand_name : (fs gs : List Field) (o : List PlanOp) (w line n m : List ℕ) (u v : Operand) → IsNamedOperand fs o w line n u → IsNamedOperand gs o w line m v → n ≡ m
+operand_name : (fs gs : List Field) (o : List PlanOp) (w line n m : List ℕ) (u v : Operand) → IsNamedOperand fs o w line n u
+    → IsNamedOperand gs o w line m v → n ≡ m
 operand_name fs gs o w line n m u v p q =
     let words : w ∷ n ∷ p.token ∷ [] ≡ w ∷ m ∷ q.token ∷ [] = sym p.words ∙ q.words in
     cc
@@ -44,7 +46,8 @@ number_name w line n m u v p q =
     let words : w ∷ n ∷ p.token ∷ [] ≡ w ∷ m ∷ q.token ∷ [] = sym p.words ∙ q.words in
     cc
 
-pub group_line : (fs : List Field) (ops : List PlanOp) (groups : List Folded) (line : List ℕ) → Decided ((after : Group) × IsGroupLine fs ops groups line after)
+pub group_line : (fs : List Field) (ops : List PlanOp) (groups : List Folded) (line : List ℕ)
+    → Decided ((after : Group) × IsGroupLine fs ops groups line after)
 group_line fs ops groups line = by (named_operand fs ops (codes "group") line)
   where
     by : Decided ((name : List ℕ) × (v : Operand) × IsNamedOperand fs ops (codes "group") line name v) → Decided ((after : Group) × IsGroupLine fs ops groups line after)
@@ -62,7 +65,8 @@ new_in group name =
     by_both (λ p. record { no_key = p.0; no_state = p.1 }) (λ r. (r.no_key, r.no_state))
     (both (neither (contains same_text group.key_names name)) (neither (contains same_text group.state_names name)))
 
-key_line : (fs : List Field) (ops : List PlanOp) (before : Group) (line : List ℕ) → Decided ((after : Group) × IsKeyLine fs ops before line after)
+key_line : (fs : List Field) (ops : List PlanOp) (before : Group) (line : List ℕ)
+    → Decided ((after : Group) × IsKeyLine fs ops before line after)
 key_line fs ops before line = by (named_operand fs ops (codes "key") line)
   where
     by : Decided ((name : List ℕ) × (v : Operand) × IsNamedOperand fs ops (codes "key") line name v) → Decided ((after : Group) × IsKeyLine fs ops before line after)
@@ -71,23 +75,49 @@ key_line fs ops before line = by (named_operand fs ops (codes "key") line)
         by_both
         (λ q. (
           record before { key_names = before.key_names ++ n ∷ []; keys = before.keys ++ v ∷ [] },
-          record { args = q.0.0; states = q.0.1; body = q.1.0; room = q.1.1.0; name = n; value = v; valid = valid; new = q.1.1.1; made = refl },
+          record {
+            args = q.0.0;
+            states = q.0.1;
+            body = q.1.0;
+            room = q.1.1.0;
+            name = n;
+            value = v;
+            valid = valid;
+            new = q.1.1.1;
+            made =
+                refl;
+          },
         ))
         (λ p.
         let same : p.1.name ≡ n = operand_name fs fs ops (codes "key") line p.1.name n p.1.value v p.1.valid valid in
         ((p.1.args, p.1.states), (p.1.body, (p.1.room, subst (IsNewIn before) same p.1.new))))
-        (both (both (is_empty before.args) (is_empty before.state_names)) (both (is_none before.body) (both (less (length before.keys) 8) (new_in before n))))
+        (both (both (is_empty before.args) (is_empty before.state_names))
+        (both (is_none before.body) (both (less (length before.keys) 8) (new_in before n))))
 
-arg_line : (fs : List Field) (ops : List PlanOp) (before : Group) (line : List ℕ) → Decided ((after : Group) × IsArgLine fs ops before line after)
+arg_line : (fs : List Field) (ops : List PlanOp) (before : Group) (line : List ℕ)
+    → Decided ((after : Group) × IsArgLine fs ops before line after)
 arg_line fs ops before line = by (one_operand fs ops (codes "arg") line)
   where
     by : Decided ((v : Operand) × IsOneOperand fs ops (codes "arg") line v) → Decided ((after : Group) × IsArgLine fs ops before line after)
     by (inr none) = inr (λ p. none (p.1.value, p.1.valid))
     by (inl (v, valid)) =
         by_both
-        (λ q. (record before { args = before.args ++ v ∷ [] }, record { keys = q.0.0; states = q.0.1; body = q.1.0; room = q.1.1; value = v; valid = valid; made = refl }))
+        (λ q. (
+          record before { args = before.args ++ v ∷ [] },
+          record {
+            keys = q.0.0;
+            states = q.0.1;
+            body = q.1.0;
+            room = q.1.1;
+            value =
+                v;
+            valid = valid;
+            made = refl;
+          },
+        ))
         (λ p. ((p.1.keys, p.1.states), (p.1.body, p.1.room)))
-        (both (both (less 0 (length before.keys)) (is_empty before.state_names)) (both (is_none before.body) (less (length before.args) 16)))
+        (both (both (less 0 (length before.keys)) (is_empty before.state_names))
+        (both (is_none before.body) (less (length before.args) 16)))
 
 state_line : (before : Group) (line : List ℕ) → Decided ((after : Group) × IsStateLine before line after)
 state_line before line = by (named_number (codes "state") line)
@@ -127,7 +157,8 @@ body_line before line =
     (λ p. (p.1.keys, (p.1.once, (p.1.words, p.1.valid))))
     (both (less 0 (length before.keys)) (both (is_none before.body) (body_words (length before.initial) (length before.args) line)))
 
-pub in_group : (word : LineWord) (fs : List Field) (ops : List PlanOp) (before : Group) (line : List ℕ) → Decided ((after : Group) × IsInGroup word fs ops before line after)
+pub in_group : (word : LineWord) (fs : List Field) (ops : List PlanOp) (before : Group) (line : List ℕ)
+    → Decided ((after : Group) × IsInGroup word fs ops before line after)
 in_group words.Key fs ops before line = key_line fs ops before line
 in_group words.Arg fs ops before line = arg_line fs ops before line
 in_group words.State fs ops before line = state_line before line
@@ -149,7 +180,8 @@ class_named token = by (same_text token (class_word Linear)) (same_text token (c
     neither_one a b Linear e = a e
     neither_one a b Class.Other e = b e
 
-    by : Decided (token ≡ class_word Linear) → Decided (token ≡ class_word Class.Other) → Decided ((class : Class) × (token ≡ class_word class))
+    by : Decided (token ≡ class_word Linear) → Decided (token ≡ class_word Class.Other)
+        → Decided ((class : Class) × (token ≡ class_word class))
     by (inl e) other = inl (Linear, e)
     by (inr linear) (inl e) = inl (Class.Other, e)
     by (inr linear) (inr other) = inr (λ p. neither_one linear other p.0 p.1)
@@ -205,7 +237,13 @@ fold_words line = by (tokens line) refl
         let nodes : n ≡ p.4.nodes_token = cc in
         let statements : s ≡ p.4.statements_token = cc in (
           (first, (p.0, class)),
-          ((p.1, ap number depth ∙ p.4.depth_is), ((p.2, ap number nodes ∙ p.4.nodes_are), (p.3, ap number statements ∙ p.4.statements_are))),
+          (
+            (p.1, ap number depth ∙ p.4.depth_is),
+            (
+              (p.2, ap number nodes ∙ p.4.nodes_are),
+              (p.3, ap number statements ∙ p.4.statements_are),
+            ),
+          ),
         ))
         (both (both (same_text a (codes "fold")) (class_named c)) (both (number_of d) (both (number_of n) (number_of s))))
 
@@ -213,10 +251,12 @@ bounds : (f : TypedFold) (nodes statements : ℕ) → Decided (AreBounds f nodes
 bounds f nodes statements =
     by_both (λ p. record { enough_nodes = p.0.0; most_nodes = p.0.1; enough_statements = p.1.0; most_statements = p.1.1 })
     (λ b. ((b.enough_nodes, b.most_nodes), (b.enough_statements, b.most_statements)))
-    (both (both (most (block_nodes (fold_block f)) nodes) (most nodes 512)) (both (most (block_count (fold_block f)) statements) (most statements 64)))
+    (both (both (most (block_nodes (fold_block f)) nodes) (most nodes 512))
+    (both (most (block_count (fold_block f)) statements) (most statements 64)))
 
 -- the fold that a `fold` line of these words ends
-fold_is : (one : Folded) (ws : List Lexeme) (b : Block) → one.group.body ≡ Some ws → IsBody (length one.group.initial) (length one.group.args) ws b → IsFoldOf one.group (fold_in one)
+fold_is : (one : Folded) (ws : List Lexeme) (b : Block) → one.group.body ≡ Some ws
+    → IsBody (length one.group.initial) (length one.group.args) ws b → IsFoldOf one.group (fold_in one)
 fold_is one ws b has is =
     let group = one.group in
     let same : b ≡ fold_block (fold_in one) =
@@ -233,14 +273,27 @@ fold_is one ws b has is =
       emit = refl;
     }
 
-ended : (before : Group) (line : List ℕ) (class : Class) (depth nodes statements : ℕ) → IsFoldWords line class depth nodes statements → (ws : List Lexeme) (b : Block) → before.body ≡ Some ws
+ended : (before : Group) (line : List ℕ) (class : Class) (depth nodes statements : ℕ) → IsFoldWords line class depth nodes statements
+    → (ws : List Lexeme) (b : Block) → before.body ≡ Some ws
     → IsBody (length before.initial) (length before.args) ws b → Decided ((after : Folded) × IsFoldLine before line after)
 ended before line class depth nodes statements valid ws b has is =
     let after : Folded = record { group = before; class = class; depth = depth; nodes = nodes; statements = statements } in
     let f = fold_in after in
     let of = fold_is after ws b has is in
     by_both
-    (λ q. (after, record { valid = valid; fold = f; is_fold = of; class = q.0; depth = subst (IsDepth f) (sym q.1.0) (depth_found_is f); bounds = q.1.1; made = refl }))
+    (λ q. (
+      after,
+      record {
+        valid = valid;
+        fold = f;
+        is_fold = of;
+        class = q.0;
+        depth =
+            subst (IsDepth f) (sym q.1.0) (depth_found_is f);
+        bounds = q.1.1;
+        made = refl;
+      },
+    ))
     (λ p.
     let g = p.1.fold in
     let once = words_once line p.0.class class p.0.depth depth p.0.nodes nodes p.0.statements statements p.1.valid valid in
@@ -251,9 +304,11 @@ ended before line class depth nodes statements valid ws b has is =
       (
         depth_is,
         record {
-          enough_nodes = subst (λ n. block_nodes (fold_block f) ≤ n) once.2 (subst (λ x. block_nodes x ≤ p.0.nodes) same p.1.bounds.enough_nodes);
+          enough_nodes = subst (λ n. block_nodes (fold_block f) ≤ n) once.2
+              (subst (λ x. block_nodes x ≤ p.0.nodes) same p.1.bounds.enough_nodes);
           most_nodes = subst (λ n. n ≤ 512) once.2 p.1.bounds.most_nodes;
-          enough_statements = subst (λ n. block_count (fold_block f) ≤ n) once.3 (subst (λ x. block_count x ≤ p.0.statements) same p.1.bounds.enough_statements);
+          enough_statements = subst (λ n. block_count (fold_block f) ≤ n) once.3
+              (subst (λ x. block_count x ≤ p.0.statements) same p.1.bounds.enough_statements);
           most_statements = subst (λ n. n ≤ 64) once.3 p.1.bounds.most_statements;
         },
       ),
@@ -263,15 +318,19 @@ ended before line class depth nodes statements valid ws b has is =
 pub fold_line : (before : Group) (line : List ℕ) → Decided ((after : Folded) × IsFoldLine before line after)
 fold_line before line = by (fold_words line) (value_of before.body)
   where
-    with_body : FoldWords line → (ws : List Lexeme) → before.body ≡ Some ws → Decided ((b : Block) × IsBody (length before.initial) (length before.args) ws b)
+    with_body : FoldWords line → (ws : List Lexeme) → before.body ≡ Some ws
+        → Decided ((b : Block) × IsBody (length before.initial) (length before.args) ws b)
         → Decided ((after : Folded) × IsFoldLine before line after)
-    with_body (class, depth, nodes, statements, valid) ws has (inl (b, is)) = ended before line class depth nodes statements valid ws b has is
+    with_body (class, depth, nodes, statements, valid) ws has (inl (b, is)) =
+        ended before line class depth nodes statements valid ws b has is
     with_body said ws has (inr none) = inr (λ p. none (
       fold_block p.1.fold,
-      subst (λ w. IsBody (length before.initial) (length before.args) w (fold_block p.1.fold)) (some_same before.body p.1.is_fold.words ws p.1.is_fold.has_body has) p.1.is_fold.body,
+      subst (λ w. IsBody (length before.initial) (length before.args) w (fold_block p.1.fold))
+          (some_same before.body p.1.is_fold.words ws p.1.is_fold.has_body has) p.1.is_fold.body,
     ))
 
-    by : Decided (FoldWords line) → ((ws : List Lexeme) × (before.body ≡ Some ws)) ⊎ (before.body ≡ None) → Decided ((after : Folded) × IsFoldLine before line after)
+    by : Decided (FoldWords line) → ((ws : List Lexeme) × (before.body ≡ Some ws)) ⊎ (before.body ≡ None)
+        → Decided ((after : Folded) × IsFoldLine before line after)
     by (inr none) body = inr (λ p. none (p.0.class, p.0.depth, p.0.nodes, p.0.statements, p.1.valid))
     by (inl said) (inr none) = inr (λ p. none_some before.body p.1.is_fold.words none p.1.is_fold.has_body)
     by (inl said) (inl (ws, has)) = with_body said ws has (is_body (length before.initial) (length before.args) ws)

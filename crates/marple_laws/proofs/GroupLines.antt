@@ -1,5 +1,6 @@
 -- The lines of a groupby are valid in sequence.
-use Rattle.std.proofs.Common.{◌≡◌, ℕ, ◌+◌, ◌<◌, ◌≤◌, true, List, [], ◌∷◌, ◌++◌, length, Some, None, Option, refl, subst, arith, append_assoc, append-nil, Contains}
+use Rattle.std.proofs.Common.{◌≡◌, ℕ, ◌+◌, ◌<◌, ◌≤◌, true, List, [], ◌∷◌, ◌++◌, length, Some, None, Option, refl, subst, arith}
+use Rattle.std.proofs.Common.{append_assoc, append-nil, Contains}
 use Rattle.std.specs.Prelude.{flat_map, map, codes, decimal}
 use Rattle.std.proofs.lemmas.List.{length_push}
 use Rattle.marple_base.specs.declared.field.Field.{Field}
@@ -44,7 +45,17 @@ module _ (fields : List Field) (ops : List PlanOp) (groups : List Folded) (name 
   -- a group with these keys, arguments and state variables
   abbrev pub group_so_far : List (List ℕ) → List Operand → List Operand → List (List ℕ) → List ℕ → Option (List Lexeme) → Group
   group_so_far key_names keys args state_names initial body =
-      record { name = name; present = present; key_names = key_names; keys = keys; args = args; state_names = state_names; initial = initial; body = body }
+      record {
+        name = name;
+        present = present;
+        key_names = key_names;
+        keys = keys;
+        args = args;
+        state_names = state_names;
+        initial =
+            initial;
+        body = body;
+      }
 
   abbrev pub with_keys : List (List ℕ) → List Operand → Made
   with_keys names values = within fields ops groups (group_so_far names values [] [] [] None)
@@ -53,9 +64,12 @@ module _ (fields : List Field) (ops : List PlanOp) (groups : List Folded) (name 
   unfolding word_named
   key_word = refl
 
-  pub keys_written : (before_names : List (List ℕ)) (before : List Operand) (names : List (List ℕ)) (values : List Operand) → length names ≡ length values → length before + length values ≤ 8 → AreNames names → AreNew before_names names → AreReadable fields ops values →
+  pub keys_written : (before_names : List (List ℕ)) (before : List Operand) (names : List (List ℕ)) (values : List Operand)
+      → length names ≡ length values → length before + length values ≤ 8 → AreNames names → AreNew before_names names
+      → AreReadable fields ops values →
       IsWritten (named_lines (codes "key") names (map operand_word values)) (with_keys before_names before) (with_keys (before_names ++ names) (before ++ values))
-  keys_written bn b [] [] long few named new ok = nothing_written (with_keys bn b) (with_keys (bn ++ []) (b ++ [])) (λ k. with_keys (append-nil bn k) (append-nil b k))
+  keys_written bn b [] [] long few named new ok = nothing_written (with_keys bn b) (with_keys (bn ++ []) (b ++ []))
+      (λ k. with_keys (append-nil bn k) (append-nil b k))
   keys_written bn b (n ∷ names) (v ∷ values) long few named new ok =
       written_then (line (codes "key") (n ∷ operand_word v ∷ [])) (named_lines (codes "key") names (map operand_word values)) (with_keys bn b) (with_keys (bn ++ n ∷ []) (b ++ v ∷ [])) (with_keys (bn ++ n ∷ names) (b ++ v ∷ values))
       (line_written lead.Key (codes "key") (n ∷ operand_word v ∷ []) (with_keys bn b) (with_keys (bn ++ n ∷ []) (b ++ v ∷ [])) refl (token_name n named.0, (token_operand v ok.0.fits, tt)) key_word
@@ -79,7 +93,8 @@ module _ (fields : List Field) (ops : List PlanOp) (groups : List Folded) (name 
         made = refl;
       }))
       (subst (λ m. IsWritten (named_lines (codes "key") names (map operand_word values)) (with_keys (bn ++ n ∷ []) (b ++ v ∷ [])) m) (λ k. with_keys (append_assoc bn (n ∷ []) names k) (append_assoc b (v ∷ []) values k))
-      (keys_written (bn ++ n ∷ []) (b ++ v ∷ []) names values (omega (arith, long)) (omega (arith, few, length_push b v)) named.1 new.1 ok.1))
+      (keys_written (bn ++ n ∷ []) (b ++ v ∷ []) names values (omega (arith, long)) (omega (arith, few, length_push b v)) named.1 new.1
+      ok.1))
   keys_written bn b [] (v ∷ values) long few named new ok = absurd (omega (arith, long))
   keys_written bn b (n ∷ names) [] long few named new ok = absurd (omega (arith, long))
 
@@ -125,9 +140,12 @@ module _ (fields : List Field) (ops : List PlanOp) (groups : List Folded) (name 
       unfolding word_named
       state_lead = refl
 
-      pub states_written : (before_names : List (List ℕ)) (before : List ℕ) (names : List (List ℕ)) (values : List ℕ) → length names ≡ length values → length before + length values ≤ 8 → AreNames names → AreNew before_names names → AreNoKeys key_names names → AllWords values →
+      pub states_written : (before_names : List (List ℕ)) (before : List ℕ) (names : List (List ℕ)) (values : List ℕ)
+          → length names ≡ length values → length before + length values ≤ 8 → AreNames names → AreNew before_names names
+          → AreNoKeys key_names names → AllWords values →
           IsWritten (named_lines (codes "state") names (map decimal values)) (with_states before_names before) (with_states (before_names ++ names) (before ++ values))
-      states_written bn b [] [] long few named new apart ok = nothing_written (with_states bn b) (with_states (bn ++ []) (b ++ [])) (λ k. with_states (append-nil bn k) (append-nil b k))
+      states_written bn b [] [] long few named new apart ok = nothing_written (with_states bn b) (with_states (bn ++ []) (b ++ []))
+          (λ k. with_states (append-nil bn k) (append-nil b k))
       states_written bn b (n ∷ names) (v ∷ values) long few named new apart ok =
           written_then (line (codes "state") (n ∷ decimal v ∷ [])) (named_lines (codes "state") names (map decimal values)) (with_states bn b) (with_states (bn ++ n ∷ []) (b ++ v ∷ [])) (with_states (bn ++ n ∷ names) (b ++ v ∷ values))
           (line_written lead.State (codes "state") (n ∷ decimal v ∷ []) (with_states bn b) (with_states (bn ++ n ∷ []) (b ++ v ∷ [])) refl (token_name n named.0, (token_decimal v ok.0, tt)) state_lead
@@ -150,6 +168,7 @@ module _ (fields : List Field) (ops : List PlanOp) (groups : List Folded) (name 
             made = refl;
           }))
           (subst (λ m. IsWritten (named_lines (codes "state") names (map decimal values)) (with_states (bn ++ n ∷ []) (b ++ v ∷ [])) m) (λ k. with_states (append_assoc bn (n ∷ []) names k) (append_assoc b (v ∷ []) values k))
-          (states_written (bn ++ n ∷ []) (b ++ v ∷ []) names values (omega (arith, long)) (omega (arith, few, length_push b v)) named.1 new.1 apart.1 ok.1))
+          (states_written (bn ++ n ∷ []) (b ++ v ∷ []) names values (omega (arith, long)) (omega (arith, few, length_push b v)) named.1
+          new.1 apart.1 ok.1))
       states_written bn b [] (v ∷ values) long few named new apart ok = absurd (omega (arith, long))
       states_written bn b (n ∷ names) [] long few named new apart ok = absurd (omega (arith, long))

@@ -1,5 +1,6 @@
 -- The greatest length of the lines of a plan's groupbys.
-use Rattle.std.proofs.Common.{◌≡◌, ℕ, zero, suc, ◌+◌, ◌*◌, ◌≤◌, Bool, true, false, List, [], ◌∷◌, ◌++◌, length, Option, Some, None, refl, subst, arith}
+use Rattle.std.proofs.Common.{◌≡◌, ℕ, zero, suc, ◌+◌, ◌*◌, ◌≤◌, Bool, true, false, List, [], ◌∷◌, ◌++◌, length, Option, Some, None, refl}
+use Rattle.std.proofs.Common.{subst, arith}
 use Rattle.std.specs.Prelude.{All, codes, decimal, flat_map, map, option_map, slice_get, if◌then◌else◌}
 use Rattle.std.specs.List.{cons_option, range_with_len}
 use Rattle.std.proofs.lemmas.List.{length-append}
@@ -137,7 +138,8 @@ group_size shape wiring f l =
     let b = length-append state_lines (body_line ++ fold_line) in
     let c = length-append arg_lines (state_lines ++ (body_line ++ fold_line)) in
     let d = length-append key_lines (arg_lines ++ (state_lines ++ (body_line ++ fold_line))) in
-    let e : length (group_lines shape wiring f) ≡ length head_line + length (key_lines ++ (arg_lines ++ (state_lines ++ (body_line ++ fold_line)))) =
+    let e : length (group_lines shape wiring f) ≡ length head_line + length
+    (key_lines ++ (arg_lines ++ (state_lines ++ (body_line ++ fold_line)))) =
     length-append head_line (key_lines ++ (arg_lines ++ (state_lines ++ (body_line ++ fold_line)))) in
     let mk = l.most_keys in
     let ma = l.most_args in
@@ -173,7 +175,8 @@ args_few folds number n valid e = by (slice_get folds number) refl e
         let few = (all_at IsValidFold folds number f valid h).args in
         omega (arith, same, few)
 
-pub taking_few : (names : ℕ) (folds : List TypedFold) → All IsValidFold folds → (before streams : List TypedStream) → AreValidStreams names folds before streams
+pub taking_few : (names : ℕ) (folds : List TypedFold) → All IsValidFold folds → (before streams : List TypedStream)
+    → AreValidStreams names folds before streams
     → (i : ℕ) (t : Taking) → slice_get (takings streams) i ≡ Some t → length t.args ≤ 16
 taking_few names folds valid before [] v i t e = absurd (no e)
   where
@@ -201,7 +204,8 @@ pub groups_size : (f : ℕ → List ℕ) (shapes : List GroupShape) (k n : ℕ)
 groups_size f shapes k zero each none = omega arith
 groups_size f [] k (suc n) each none =
     let first : length (f k) ≡ 0 = subst (λ m. length (f m) ≡ 0) (omega arith) (none 0 refl) in
-    let rest = groups_size f [] (k + 1) n (λ i shape e. absurd (nothing i shape e)) (λ i e. subst (λ m. length (f m) ≡ 0) (omega arith) (none (suc i) refl)) in
+    let rest = groups_size f [] (k + 1) n (λ i shape e. absurd (nothing i shape e))
+    (λ i e. subst (λ m. length (f m) ≡ 0) (omega arith) (none (suc i) refl)) in
     let a = length-append (f k) (flat_map f (range_with_len (k + 1) n)) in
     omega (arith, first, rest, a)
   where
@@ -209,7 +213,8 @@ groups_size f [] k (suc n) each none =
     nothing i shape e = cc
 groups_size f (s ∷ shapes) k (suc n) each none =
     let first : length (f k) ≤ 79690 + length s.name = subst (λ m. length (f m) ≤ 79690 + length s.name) (omega arith) (each 0 s refl) in
-    let rest = groups_size f shapes (k + 1) n (λ i shape e. subst (λ m. length (f m) ≤ 79690 + length shape.name) (omega arith) (each (suc i) shape e))
+    let rest = groups_size f shapes (k + 1) n (λ i shape e. subst (λ m. length (f m) ≤ 79690 + length shape.name) (omega arith)
+    (each (suc i) shape e))
     (λ i e. subst (λ m. length (f m) ≡ 0) (omega arith) (none (suc i) e)) in
     let a = length-append (f k) (flat_map f (range_with_len (k + 1) n)) in
     omega (arith, first, rest, a)

@@ -1,5 +1,6 @@
 -- All lines of a groupby, and of all groupbys.
-use Rattle.std.proofs.Common.{◌≡◌, ℕ, suc, ◌+◌, ◌^◌, ◌<◌, ◌≤◌, true, List, [], ◌∷◌, ◌++◌, length, Some, None, Option, refl, sym, ap, subst, ◌∙◌, arith, append_assoc, append-nil, Contains}
+use Rattle.std.proofs.Common.{◌≡◌, ℕ, suc, ◌+◌, ◌^◌, ◌<◌, ◌≤◌, true, List, [], ◌∷◌, ◌++◌, length, Some, None, Option, refl, sym, ap, subst}
+use Rattle.std.proofs.Common.{◌∙◌, arith, append_assoc, append-nil, Contains}
 use Rattle.std.specs.Prelude.{flat_map, map, codes, decimal, slice_get}
 use Rattle.std.specs.List.{range_with_len}
 use Rattle.std.proofs.lemmas.List.{length_push}
@@ -26,7 +27,8 @@ use Rattle.plan_writer.specs.PlanText.{group_lines, group_lines_of}
 use Rattle.stage_plan.specs.Shape.{GroupShape, class_word}
 use Rattle.plan_writer.specs.Words.{line, operand_word, block_words}
 use Rattle.marple_laws.proofs.Bodies.{tokens_block, block_read, few_braces}
-use Rattle.marple_laws.proofs.GroupLines.{IsReadable, AreReadable, within, outside, group_so_far, keys_written, args_written, states_written}
+use Rattle.marple_laws.proofs.GroupLines.{IsReadable, AreReadable, within, outside, group_so_far, keys_written, args_written}
+use Rattle.marple_laws.proofs.GroupLines.{states_written}
 use Rattle.marple_laws.specs.WellNamed.{AreNames, AreNew, AreNoKeys, AllWords}
 use Rattle.marple_laws.proofs.Names.{token_name}
 use Rattle.marple_laws.proofs.Numbers.{number_decimal, token_decimal}
@@ -77,9 +79,11 @@ fold_lead : word_named (codes "fold") ≡ lead.Fold
 unfolding word_named
 fold_lead = refl
 
-module _ (fields : List Field) (ops : List PlanOp) (groups : List Folded) (shape : GroupShape) (wiring : GroupWiring) (f : TypedFold) (ok : IsGroupOk fields ops shape wiring f) (room : length groups < 8) (new : Contains (names_of groups) shape.name → ⊥) where
+module _ (fields : List Field) (ops : List PlanOp) (groups : List Folded) (shape : GroupShape) (wiring : GroupWiring) (f : TypedFold)
+    (ok : IsGroupOk fields ops shape wiring f) (room : length groups < 8) (new : Contains (names_of groups) shape.name → ⊥) where
   abbrev so_far : List (List ℕ) → List Operand → List Operand → List (List ℕ) → List ℕ → Option (List Lexeme) → Made
-  so_far key_names keys args state_names initial body = within fields ops groups (group_so_far fields ops groups shape.name wiring.present key_names keys args state_names initial body)
+  so_far key_names keys args state_names initial body = within fields ops groups
+      (group_so_far fields ops groups shape.name wiring.present key_names keys args state_names initial body)
 
   name_written : IsWritten (line (codes "group") (shape.name ∷ operand_word wiring.present ∷ [])) (outside fields ops groups) (so_far [] [] [] [] [] None)
   name_written =
@@ -93,7 +97,14 @@ module _ (fields : List Field) (ops : List PlanOp) (groups : List Folded) (shape
         group = group_so_far fields ops groups shape.name wiring.present [] [] [] [] [] None;
         valid = record {
           room = room;
-          valid = record { token = operand_word wiring.present; words = cut; named = ok.named; reads = operand_read wiring.present ok.present.fits; known = ok.present.known };
+          valid = record {
+            token = operand_word wiring.present;
+            words = cut;
+            named = ok.named;
+            reads =
+                operand_read wiring.present ok.present.fits;
+            known = ok.present.known;
+          };
           no_stream = ok.no_stream;
           new = new;
           made = refl;
@@ -111,20 +122,28 @@ module _ (fields : List Field) (ops : List PlanOp) (groups : List Folded) (shape
   is_body =
       subst (λ a. IsBody (length f.initial) a (written_block (fold_states f) (fold_block f)) (fold_block f)) ok.all_args
       (subst (λ s. IsBody s (fold_args f) (written_block (fold_states f) (fold_block f)) (fold_block f)) (sym ok.valid.starts)
-      (record { statements = refl; typed = ok.valid.statements; nesting = omega (arith, few_braces (fold_block f), ok.valid.enough_statements, ok.valid.most_statements) }))
+      (record {
+        statements = refl;
+        typed = ok.valid.statements;
+        nesting =
+            omega (arith, few_braces (fold_block f), ok.valid.enough_statements, ok.valid.most_statements);
+      }))
 
   body_written : IsWritten (line (codes "body") (block_words (fold_states f) (fold_block f))) (so_far shape.key_names wiring.keys wiring.args shape.state_names f.initial None)
       (so_far shape.key_names wiring.keys wiring.args shape.state_names f.initial (Some (written_block (fold_states f) (fold_block f))))
   body_written =
       line_written lead.Body (codes "body") (block_words (fold_states f) (fold_block f)) (so_far shape.key_names wiring.keys wiring.args shape.state_names f.initial None)
-      (so_far shape.key_names wiring.keys wiring.args shape.state_names f.initial (Some (written_block (fold_states f) (fold_block f)))) refl
+      (so_far shape.key_names wiring.keys wiring.args shape.state_names f.initial (Some (written_block (fold_states f) (fold_block f))))
+      refl
       (tokens_block (fold_states f) (fold_args f) (fold_block f) few ok.valid.statements) body_lead
       (λ cut. record {
         fields = fields;
         reads = refl;
-        group = group_so_far fields ops groups shape.name wiring.present shape.key_names wiring.keys wiring.args shape.state_names f.initial None;
+        group = group_so_far fields ops groups shape.name wiring.present shape.key_names wiring.keys wiring.args shape.state_names f.initial
+            None;
         current = refl;
-        next = group_so_far fields ops groups shape.name wiring.present shape.key_names wiring.keys wiring.args shape.state_names f.initial (Some (written_block (fold_states f) (fold_block f)));
+        next = group_so_far fields ops groups shape.name wiring.present shape.key_names wiring.keys wiring.args shape.state_names f.initial
+            (Some (written_block (fold_states f) (fold_block f)));
         valid = record {
           keys = ok.some_keys;
           once = refl;
@@ -146,14 +165,22 @@ module _ (fields : List Field) (ops : List PlanOp) (groups : List Folded) (shape
   quiet = record f { emit = None }
 
   bounds_written : IsWritten (line (codes "fold") (class_word shape.class ∷ decimal shape.depth ∷ decimal shape.nodes ∷ decimal shape.statements ∷ []))
-      (so_far shape.key_names wiring.keys wiring.args shape.state_names f.initial (Some (written_block (fold_states f) (fold_block f)))) (outside fields ops (groups ++ folded_with shape wiring f ∷ []))
+      (so_far shape.key_names wiring.keys wiring.args shape.state_names f.initial (Some (written_block (fold_states f) (fold_block f))))
+      (outside fields ops (groups ++ folded_with shape wiring f ∷ []))
   unfolding quiet
   bounds_written =
       line_written lead.Fold (codes "fold") (class_word shape.class ∷ decimal shape.depth ∷ decimal shape.nodes ∷ decimal shape.statements ∷ [])
-      (so_far shape.key_names wiring.keys wiring.args shape.state_names f.initial (Some (written_block (fold_states f) (fold_block f)))) (outside fields ops (groups ++ folded_with shape wiring f ∷ [])) refl
-      (class_token shape.class, (token_decimal shape.depth ok.shallow, (token_decimal shape.nodes nodes, (token_decimal shape.statements statements, tt)))) fold_lead
+      (so_far shape.key_names wiring.keys wiring.args shape.state_names f.initial (Some (written_block (fold_states f) (fold_block f))))
+      (outside fields ops (groups ++ folded_with shape wiring f ∷ [])) refl (
+        class_token shape.class,
+        (
+          token_decimal shape.depth ok.shallow,
+          (token_decimal shape.nodes nodes, (token_decimal shape.statements statements, tt)),
+        ),
+      ) fold_lead
       (λ cut. record {
-        group = group_so_far fields ops groups shape.name wiring.present shape.key_names wiring.keys wiring.args shape.state_names f.initial (Some (written_block (fold_states f) (fold_block f)));
+        group = group_so_far fields ops groups shape.name wiring.present shape.key_names wiring.keys wiring.args shape.state_names f.initial
+            (Some (written_block (fold_states f) (fold_block f)));
         current = refl;
         folded = folded_with shape wiring f;
         valid = record {
@@ -195,16 +222,28 @@ module _ (fields : List Field) (ops : List PlanOp) (groups : List Folded) (shape
       statements : shape.statements < 2 ^ 64
       statements = omega (arith, ok.statements, ok.valid.most_statements)
 
-  pub group_written : IsWritten (group_lines shape wiring f) (outside fields ops groups) (outside fields ops (groups ++ folded_with shape wiring f ∷ []))
+  pub group_written : IsWritten (group_lines shape wiring f) (outside fields ops groups)
+      (outside fields ops (groups ++ folded_with shape wiring f ∷ []))
   group_written =
-      written_then _ _ (outside fields ops groups) (so_far [] [] [] [] [] None) (outside fields ops (groups ++ folded_with shape wiring f ∷ [])) name_written
-      (written_then _ _ (so_far [] [] [] [] [] None) (so_far shape.key_names wiring.keys [] [] [] None) (outside fields ops (groups ++ folded_with shape wiring f ∷ []))
-      (keys_written fields ops groups shape.name wiring.present [] [] shape.key_names wiring.keys ok.all_keys (omega (arith, ok.most_keys)) ok.key_names ok.keys_differ ok.keys)
-      (written_then _ _ (so_far shape.key_names wiring.keys [] [] [] None) (so_far shape.key_names wiring.keys wiring.args [] [] None) (outside fields ops (groups ++ folded_with shape wiring f ∷ []))
-      (args_written fields ops groups shape.name wiring.present shape.key_names wiring.keys ok.some_keys [] wiring.args (omega (arith, ok.most_args)) ok.args)
-      (written_then _ _ (so_far shape.key_names wiring.keys wiring.args [] [] None) (so_far shape.key_names wiring.keys wiring.args shape.state_names f.initial None) (outside fields ops (groups ++ folded_with shape wiring f ∷ []))
-      (states_written fields ops groups shape.name wiring.present shape.key_names wiring.keys ok.some_keys wiring.args [] [] shape.state_names f.initial ok.all_states (omega (arith, ok.valid.states, ok.valid.starts)) ok.state_names ok.states_differ ok.states_apart ok.initial)
-      (written_then _ _ (so_far shape.key_names wiring.keys wiring.args shape.state_names f.initial None) (so_far shape.key_names wiring.keys wiring.args shape.state_names f.initial (Some (written_block (fold_states f) (fold_block f)))) (outside fields ops (groups ++ folded_with shape wiring f ∷ []))
+      written_then _ _ (outside fields ops groups) (so_far [] [] [] [] [] None)
+      (outside fields ops (groups ++ folded_with shape wiring f ∷ [])) name_written
+      (written_then _ _ (so_far [] [] [] [] [] None) (so_far shape.key_names wiring.keys [] [] [] None)
+      (outside fields ops (groups ++ folded_with shape wiring f ∷ []))
+      (keys_written fields ops groups shape.name wiring.present [] [] shape.key_names wiring.keys ok.all_keys (omega (arith, ok.most_keys))
+      ok.key_names ok.keys_differ ok.keys)
+      (written_then _ _ (so_far shape.key_names wiring.keys [] [] [] None) (so_far shape.key_names wiring.keys wiring.args [] [] None)
+      (outside fields ops (groups ++ folded_with shape wiring f ∷ []))
+      (args_written fields ops groups shape.name wiring.present shape.key_names wiring.keys ok.some_keys [] wiring.args
+      (omega (arith, ok.most_args)) ok.args)
+      (written_then _ _ (so_far shape.key_names wiring.keys wiring.args [] [] None)
+      (so_far shape.key_names wiring.keys wiring.args shape.state_names f.initial None)
+      (outside fields ops (groups ++ folded_with shape wiring f ∷ []))
+      (states_written fields ops groups shape.name wiring.present shape.key_names wiring.keys ok.some_keys wiring.args [] []
+      shape.state_names f.initial ok.all_states (omega (arith, ok.valid.states, ok.valid.starts)) ok.state_names ok.states_differ
+      ok.states_apart ok.initial)
+      (written_then _ _ (so_far shape.key_names wiring.keys wiring.args shape.state_names f.initial None)
+      (so_far shape.key_names wiring.keys wiring.args shape.state_names f.initial (Some (written_block (fold_states f) (fold_block f))))
+      (outside fields ops (groups ++ folded_with shape wiring f ∷ []))
       body_written bounds_written))))
 
 names_push : (groups : List Folded) (one : Folded) → names_of (groups ++ one ∷ []) ≡ names_of groups ++ one.group.name ∷ []
@@ -212,7 +251,8 @@ names_push [] one = refl
 names_push (g ∷ groups) one = ap (λ l. g.group.name ∷ l) (names_push groups one)
 
 -- a groupby with its parts
-pub record HasGroup (fields : List Field) (ops : List PlanOp) (shape : GroupShape) (wirings : List GroupWiring) (folds : ℕ → Option TypedFold) (i : ℕ) : Type 0 where
+pub record HasGroup (fields : List Field) (ops : List PlanOp) (shape : GroupShape) (wirings : List GroupWiring)
+    (folds : ℕ → Option TypedFold) (i : ℕ) : Type 0 where
   pub wiring : GroupWiring
   pub wired : slice_get wirings i ≡ Some wiring
   pub fold : TypedFold
@@ -220,24 +260,39 @@ pub record HasGroup (fields : List Field) (ops : List PlanOp) (shape : GroupShap
   pub ok : IsGroupOk fields ops shape wiring fold
 
 -- the lines of all groupbys
-pub groups_written : (fields : List Field) (ops : List PlanOp) (shapes : List GroupShape) (wirings : List GroupWiring) (folds : ℕ → Option TypedFold) → length shapes ≤ 8 →
+pub groups_written : (fields : List Field) (ops : List PlanOp) (shapes : List GroupShape) (wirings : List GroupWiring)
+    (folds : ℕ → Option TypedFold) → length shapes ≤ 8 →
     ((i : ℕ) (shape : GroupShape) → slice_get shapes i ≡ Some shape → HasGroup fields ops shape wirings folds i) →
-    (rest : List GroupShape) (i : ℕ) (groups : List Folded) → i + length rest ≡ length shapes → length groups ≡ i → ((k : ℕ) → slice_get shapes (i + k) ≡ slice_get rest k) → AreNew (names_of groups) (map (λ s. s.name) rest) →
-    IsWritten (flat_map (λ i. group_lines_of (slice_get shapes i) (slice_get wirings i) (folds i)) (range_with_len i (length rest))) (outside fields ops groups)
-    (outside fields ops (groups ++ flat_map (λ i. folded_of (slice_get shapes i) (slice_get wirings i) (folds i)) (range_with_len i (length rest))))
-groups_written fields ops shapes wirings folds most each [] i groups whole long are new = nothing_written (outside fields ops groups) (outside fields ops (groups ++ [])) (ap (outside fields ops) (append-nil groups))
+    (rest : List GroupShape) (i : ℕ) (groups : List Folded) → i + length rest ≡ length shapes → length groups ≡ i
+    → ((k : ℕ) → slice_get shapes (i + k) ≡ slice_get rest k) → AreNew (names_of groups) (map (λ s. s.name) rest) →
+    IsWritten (flat_map (λ i. group_lines_of (slice_get shapes i) (slice_get wirings i) (folds i)) (range_with_len i (length rest)))
+    (outside fields ops groups)
+    (outside fields ops (groups ++ flat_map (λ i. folded_of (slice_get shapes i) (slice_get wirings i) (folds i))
+    (range_with_len i (length rest))))
+groups_written fields ops shapes wirings folds most each [] i groups whole long are new =
+    nothing_written (outside fields ops groups) (outside fields ops (groups ++ [])) (ap (outside fields ops) (append-nil groups))
 groups_written fields ops shapes wirings folds most each (shape ∷ rest) i groups whole long are new =
     let here : slice_get shapes i ≡ Some shape = (let z : i ≡ i + 0 = omega arith in ap (slice_get shapes) z ∙ are 0) in
     let h = each i shape here in
     let one : Folded = folded_with shape h.wiring h.fold in
-    let texts = flat_map (λ i. group_lines_of (slice_get shapes i) (slice_get wirings i) (folds i)) (range_with_len (i + 1) (length rest)) in
+    let texts = flat_map (λ i. group_lines_of (slice_get shapes i) (slice_get wirings i) (folds i))
+    (range_with_len (i + 1) (length rest)) in
     let made = flat_map (λ i. folded_of (slice_get shapes i) (slice_get wirings i) (folds i)) (range_with_len (i + 1) (length rest)) in
-    let text_is : group_lines shape h.wiring h.fold ≡ group_lines_of (slice_get shapes i) (slice_get wirings i) (folds i) = sym (λ k. group_lines_of (here k) (h.wired k) (h.folds_are k)) in
-    let made_is : one ∷ [] ≡ folded_of (slice_get shapes i) (slice_get wirings i) (folds i) = sym (λ k. folded_of (here k) (h.wired k) (h.folds_are k)) in
-    let more = groups_written fields ops shapes wirings folds most each rest (i + 1) (groups ++ one ∷ []) (omega (arith, whole)) (omega (arith, long, length_push groups one))
-    (λ k. (let z : i + 1 + k ≡ i + suc k = omega arith in ap (slice_get shapes) z ∙ are (suc k))) (subst (λ l. AreNew l (map (λ s. s.name) rest)) (sym (names_push groups one)) new.1) in
-    subst (λ t. IsWritten (t ++ texts) (outside fields ops groups) (outside fields ops (groups ++ flat_map (λ i. folded_of (slice_get shapes i) (slice_get wirings i) (folds i)) (range_with_len i (suc (length rest)))))) text_is
-    (subst (λ m. IsWritten (group_lines shape h.wiring h.fold ++ texts) (outside fields ops groups) (outside fields ops (groups ++ (m ++ made)))) made_is
-    (written_then (group_lines shape h.wiring h.fold) texts (outside fields ops groups) (outside fields ops (groups ++ one ∷ [])) (outside fields ops (groups ++ one ∷ made))
+    let text_is : group_lines shape h.wiring h.fold ≡ group_lines_of (slice_get shapes i) (slice_get wirings i) (folds i) =
+    sym (λ k. group_lines_of (here k) (h.wired k) (h.folds_are k)) in
+    let made_is : one ∷ [] ≡ folded_of (slice_get shapes i) (slice_get wirings i) (folds i) =
+    sym (λ k. folded_of (here k) (h.wired k) (h.folds_are k)) in
+    let more = groups_written fields ops shapes wirings folds most each rest (i + 1) (groups ++ one ∷ []) (omega (arith, whole))
+    (omega (arith, long, length_push groups one))
+    (λ k. (let z : i + 1 + k ≡ i + suc k = omega arith in ap (slice_get shapes) z ∙ are (suc k)))
+    (subst (λ l. AreNew l (map (λ s. s.name) rest)) (sym (names_push groups one)) new.1) in
+    subst (λ t. IsWritten (t ++ texts) (outside fields ops groups) (outside fields ops
+    (groups ++ flat_map (λ i. folded_of (slice_get shapes i) (slice_get wirings i) (folds i)) (range_with_len i (suc (length rest))))))
+    text_is
+    (subst (λ m. IsWritten (group_lines shape h.wiring h.fold ++ texts) (outside fields ops groups)
+    (outside fields ops (groups ++ (m ++ made)))) made_is
+    (written_then (group_lines shape h.wiring h.fold) texts (outside fields ops groups) (outside fields ops (groups ++ one ∷ []))
+    (outside fields ops (groups ++ one ∷ made))
     (group_written fields ops groups shape h.wiring h.fold h.ok (omega (arith, most, whole, long)) new.0)
-    (subst (λ l. IsWritten texts (outside fields ops (groups ++ one ∷ [])) (outside fields ops l)) (append_assoc groups (one ∷ []) made) more)))
+    (subst (λ l. IsWritten texts (outside fields ops (groups ++ one ∷ [])) (outside fields ops l)) (append_assoc groups (one ∷ []) made)
+    more)))

@@ -25,7 +25,8 @@ use Rattle.marple_laws.proofs.Prints.{only_groups, as_many, numbers_new, starts}
 
 -- the names of a text's query
 names_good : (text : List ℕ) (query : Query) → IsQueryOf text query → AreGood query.names
-names_good text query h = cut_good (length text) 0 [] text (h.tokens, query.names) (record { once = λ i j t a b. cc; lexical = λ i t a. cc }) h.cut
+names_good text query h = cut_good (length text) 0 [] text (h.tokens, query.names)
+    (record { once = λ i j t a b. cc; lexical = λ i t a. cc }) h.cut
 
 names_short : (text : List ℕ) (query : Query) → IsQueryOf text query → total (typed_names query.names) ≤ 65690
 names_short text query h =

@@ -1,5 +1,6 @@
 -- Items that are new after others, and checks in sequence.
-use Rattle.std.proofs.Common.{◌≡◌, ℕ, zero, suc, Bool, true, false, ◌||◌, List, [], ◌∷◌, ◌++◌, Some, Ok, Err, refl, sym, ap, subst, ◌∙◌, inl, inr, ◌⊎◌, arith, nat_eq, append_assoc, append-nil, Contains}
+use Rattle.std.proofs.Common.{◌≡◌, ℕ, zero, suc, Bool, true, false, ◌||◌, List, [], ◌∷◌, ◌++◌, Some, Ok, Err, refl, sym, ap, subst, ◌∙◌}
+use Rattle.std.proofs.Common.{inl, inr, ◌⊎◌, arith, nat_eq, append_assoc, append-nil, Contains}
 use Rattle.std.specs.Prelude.{slice_get}
 use Rattle.std.proofs.lemmas.Bool.Decides.{nat_tests}
 use Rattle.query_lang.specs.declared.fault.FaultKind.{FaultKind}
@@ -8,15 +9,18 @@ use Rattle.query_lang.specs.Checks.{Checked, and_then, must, must_not, is_among}
 use Rattle.marple_laws.specs.WellNamed.{AreNew}
 use Rattle.marple_laws.proofs.Differ.{AreApart}
 
-pub must_ok : {A : Type 0} (test : Bool) (kind : FaultKind) (span : Span) (next : Checked A) (x : A) → must test kind span next ≡ Ok x → (test ≡ true) × (next ≡ Ok x)
+pub must_ok : {A : Type 0} (test : Bool) (kind : FaultKind) (span : Span) (next : Checked A) (x : A) → must test kind span next ≡ Ok x
+    → (test ≡ true) × (next ≡ Ok x)
 must_ok true kind span next x e = (refl, e)
 must_ok false kind span next x e = cc
 
-pub must_not_ok : {A : Type 0} (test : Bool) (kind : FaultKind) (span : Span) (next : Checked A) (x : A) → must_not test kind span next ≡ Ok x → (test ≡ false) × (next ≡ Ok x)
+pub must_not_ok : {A : Type 0} (test : Bool) (kind : FaultKind) (span : Span) (next : Checked A) (x : A)
+    → must_not test kind span next ≡ Ok x → (test ≡ false) × (next ≡ Ok x)
 must_not_ok false kind span next x e = (refl, e)
 must_not_ok true kind span next x e = cc
 
-pub found_first : {A B : Type 0} (first : Checked A) (next : A → Checked B) (y : B) → and_then first next ≡ Ok y → (x : A) × (first ≡ Ok x) × (next x ≡ Ok y)
+pub found_first : {A B : Type 0} (first : Checked A) (next : A → Checked B) (y : B) → and_then first next ≡ Ok y → (x : A) × (first ≡ Ok x)
+    × (next x ≡ Ok y)
 found_first (Ok x) next y e = (x, refl, e)
 found_first (Err fault) next y e = cc
 
@@ -63,9 +67,14 @@ pub not_in : (names : List ℕ) (id : ℕ) → is_among id names ≡ false → I
 not_in names id none c = let t = among_in names id c in cc
 
 -- one more item after others
-pub new_push : {A : Type 0} (before items : List A) (item : A) → AreNew before items → (IsIn item (before ++ items) → ⊥) → AreNew before (items ++ item ∷ [])
+pub new_push : {A : Type 0} (before items : List A) (item : A) → AreNew before items → (IsIn item (before ++ items) → ⊥)
+    → AreNew before (items ++ item ∷ [])
 new_push before [] item new none = (λ c. none (subst (IsIn item) (sym (append-nil before)) (contains_in before item c)), tt)
-new_push before (one ∷ items) item new none = (new.0, new_push (before ++ one ∷ []) items item new.1 (λ h. none (subst (IsIn item) (append_assoc before (one ∷ []) items) h)))
+new_push before (one ∷ items) item new none = (
+  new.0,
+  new_push (before ++ one ∷ []) items item new.1
+      (λ h. none (subst (IsIn item) (append_assoc before (one ∷ []) items) h)),
+)
 
 pub apart_from : (keys states : List ℕ) → ((s : ℕ) → IsIn s states → is_among s keys ≡ false) → AreApart keys states
 apart_from keys [] h = tt

@@ -39,11 +39,13 @@ abbrev pub AreWritable : FieldSet → List PlanOp → Type 0
 AreWritable reads [] = Unit {0}
 AreWritable reads (one ∷ ops) = IsWritable reads one × AreWritable reads ops
 
-writable_push : (reads : FieldSet) (ops : List PlanOp) (one : PlanOp) → AreWritable reads ops → IsWritable reads one → AreWritable reads (ops ++ one ∷ [])
+writable_push : (reads : FieldSet) (ops : List PlanOp) (one : PlanOp) → AreWritable reads ops → IsWritable reads one
+    → AreWritable reads (ops ++ one ∷ [])
 writable_push reads [] one a b = (b, tt)
 writable_push reads (x ∷ ops) one a b = (a.0, writable_push reads ops one a.1 b)
 
-pub writable_at : (reads : FieldSet) (ops : List PlanOp) (i : ℕ) (one : PlanOp) → AreWritable reads ops → slice_get ops i ≡ Some one → IsWritable reads one
+pub writable_at : (reads : FieldSet) (ops : List PlanOp) (i : ℕ) (one : PlanOp) → AreWritable reads ops → slice_get ops i ≡ Some one
+    → IsWritable reads one
 writable_at reads [] i one a e = absurd (no e)
   where
     no : None ≡ Some one → ⊥
@@ -77,7 +79,8 @@ read_right reads sources (x ∷ xs) ys h = read_right reads sources xs ys h.1
 pub below_two : (n : ℕ) → n ≡ 0 → n < 2 ^ 64
 below_two n e = omega arith
 
-pub from_at : (reads : FieldSet) (sources : List Source) (columns : List Operand) (slot : ℕ) → AreFrom reads sources columns → IsFrom reads (source_at sources slot) (operand_at columns slot)
+pub from_at : (reads : FieldSet) (sources : List Source) (columns : List Operand) (slot : ℕ) → AreFrom reads sources columns
+    → IsFrom reads (source_at sources slot) (operand_at columns slot)
 from_at reads [] [] slot h = below_two 0 refl
 from_at reads (s ∷ sources) (o ∷ columns) zero h = h.0
 from_at reads (s ∷ sources) (o ∷ columns) (suc slot) h = from_at reads sources columns slot h.1
@@ -85,20 +88,28 @@ from_at reads [] (o ∷ columns) slot h = absurd h
 from_at reads (s ∷ sources) [] slot h = absurd h
 
 -- a column whose field is read
-good_from : (reads : FieldSet) (s : Source) (o : Operand) → IsFrom reads s o → ((f : Field) → s ≡ Some f → HasField reads f) → IsGood reads o
+good_from : (reads : FieldSet) (s : Source) (o : Operand) → IsFrom reads s o → ((f : Field) → s ≡ Some f → HasField reads f)
+    → IsGood reads o
 good_from reads None o h named = h
 good_from reads (Some f) o h named = subst (IsGood reads) (sym h) (λ _. (f, refl, named f refl))
 
-pub column_good : (reads : FieldSet) (sources : List Source) (columns : List Operand) (slot : ℕ) → AreFrom reads sources columns → ((f : Field) → source_at sources slot ≡ Some f → HasField reads f) → IsGood reads (operand_at columns slot)
-column_good reads sources columns slot h named = good_from reads (source_at sources slot) (operand_at columns slot) (from_at reads sources columns slot h) named
+pub column_good : (reads : FieldSet) (sources : List Source) (columns : List Operand) (slot : ℕ) → AreFrom reads sources columns
+    → ((f : Field) → source_at sources slot ≡ Some f → HasField reads f) → IsGood reads (operand_at columns slot)
+column_good reads sources columns slot h named = good_from reads (source_at sources slot) (operand_at columns slot)
+    (from_at reads sources columns slot h) named
 
 abbrev pub AllGood : FieldSet → List Operand → Type 0
 AllGood reads [] = Unit {0}
 AllGood reads (o ∷ columns) = IsGood reads o × AllGood reads columns
 
-pub columns_good : (reads : FieldSet) (sources : List Source) (columns : List Operand) (slots : List ℕ) → AreFrom reads sources columns → AreRead reads sources slots → AllGood reads (map (operand_at columns) slots)
+pub columns_good : (reads : FieldSet) (sources : List Source) (columns : List Operand) (slots : List ℕ) → AreFrom reads sources columns
+    → AreRead reads sources slots → AllGood reads (map (operand_at columns) slots)
 columns_good reads sources columns [] h named = tt
-columns_good reads sources columns (slot ∷ slots) h named = (column_good reads sources columns slot h named.0, columns_good reads sources columns slots h named.1)
+columns_good reads sources columns (slot ∷ slots) h named = (
+  column_good reads sources columns slot h named.0,
+  columns_good reads sources
+      columns slots h named.1,
+)
 
 pub good_append : (reads : FieldSet) (xs ys : List Operand) → AllGood reads xs → AllGood reads ys → AllGood reads (xs ++ ys)
 good_append reads [] ys a b = b
@@ -114,7 +125,8 @@ pub record AreCompiled (reads : FieldSet) (c : Compiled) : Type 0 where
   pub written : AreWritable reads c.ops
   pub value : IsGood reads c.value
 
-pub with_one : (reads : FieldSet) (op : operation.Operation) (ops : List PlanOp) (left right : Operand) → AreWritable reads ops → IsGood reads left → IsGood reads right → is_right_of op right ≡ true → IsSingle op right →
+pub with_one : (reads : FieldSet) (op : operation.Operation) (ops : List PlanOp) (left right : Operand) → AreWritable reads ops
+    → IsGood reads left → IsGood reads right → is_right_of op right ≡ true → IsSingle op right →
     AreCompiled reads (with_op op ops left right)
 with_one reads op ops left right w l r c s = record {
   written = writable_push reads ops (op_on ops op left right) w (record { left = l; right = r; constant = c; single = s });
@@ -122,7 +134,8 @@ with_one reads op ops left right w l r c s = record {
 }
 
 -- an operator that takes what isn't a constant
-others : (op : Op) (a b : Term) (value : Operand) → TakesOperands op a b → (IsConstant (λ n. 0 < n) b → ⊥) → (IsConstant (λ n. n < 64) b → ⊥) → takes_right op value ≡ true
+others : (op : Op) (a b : Term) (value : Operand) → TakesOperands op a b → (IsConstant (λ n. 0 < n) b → ⊥)
+    → (IsConstant (λ n. n < 64) b → ⊥) → takes_right op value ≡ true
 others two.Div a b value t p q = absurd (p t.1)
 others two.Rem a b value t p q = absurd (p t.1)
 others two.Shl a b value t p q = absurd (q t.1)
@@ -147,7 +160,8 @@ others two.Min a b value t p q = refl
 others two.Sadd a b value t p q = refl
 
 -- the right operand of an operator is compiled to a number where it has to be one
-right_is : (op : Op) (columns : List Operand) (a b : Term) (ops : List PlanOp) → TakesOperands op a b → takes_right op (compiled columns b ops).value ≡ true
+right_is : (op : Op) (columns : List Operand) (a b : Term) (ops : List PlanOp) → TakesOperands op a b
+    → takes_right op (compiled columns b ops).value ≡ true
 right_is op columns a (Literal n) ops t = by op t
   where
     by : (op : Op) → TakesOperands op a (Literal n) → takes_right op (Number n) ≡ true
@@ -175,10 +189,12 @@ right_is op columns a (Literal n) ops t = by op t
     by two.Sadd t = refl
 right_is op columns a (Read s) ops t = others op a (Read s) (operand_at columns s) t (λ h. h) (λ h. h)
 right_is op columns a (Negation e) ops t = others op a (Negation e) (compiled columns (Negation e) ops).value t (λ h. h) (λ h. h)
-right_is op columns a (Operation o x y) ops t = others op a (Operation o x y) (compiled columns (Operation o x y) ops).value t (λ h. h) (λ h. h)
+right_is op columns a (Operation o x y) ops t = others op a (Operation o x y) (compiled columns (Operation o x y) ops).value t (λ h. h)
+    (λ h. h)
 
 -- an expression over columns whose slots are good
-pub compiled_good : (reads : FieldSet) (columns : List Operand) (slots : ℕ) (e : Term) (ops : List PlanOp) → ((s : ℕ) → IsIn' s (term_slots e) → IsGood reads (operand_at columns s)) → IsValidTerm slots e → AreWritable reads ops →
+pub compiled_good : (reads : FieldSet) (columns : List Operand) (slots : ℕ) (e : Term) (ops : List PlanOp)
+    → ((s : ℕ) → IsIn' s (term_slots e) → IsGood reads (operand_at columns s)) → IsValidTerm slots e → AreWritable reads ops →
     AreCompiled reads (compiled columns e ops)
 compiled_good reads columns slots (Literal n) ops good v w = record { written = w; value = v }
 compiled_good reads columns slots (Read s) ops good v w = record { written = w; value = good s (inl refl) }
@@ -187,6 +203,8 @@ compiled_good reads columns slots (Negation e) ops good v w =
     with_one reads Not (compiled columns e ops).ops (compiled columns e ops).value (Number 0) c.written c.value (below_two 0 refl) refl refl
 compiled_good reads columns slots (Operation op a b) ops good v w =
     let c = compiled_good reads columns slots a ops (λ s h. good s (in_left' s (term_slots a) (term_slots b) h)) v.0 w in
-    let d = compiled_good reads columns slots b (compiled columns a ops).ops (λ s h. good s (in_right' s (term_slots a) (term_slots b) h)) v.1 c.written in
-    with_one reads (Two op) (compiled columns b (compiled columns a ops).ops).ops (compiled columns a ops).value (compiled columns b (compiled columns a ops).ops).value d.written c.value d.value
+    let d = compiled_good reads columns slots b (compiled columns a ops).ops (λ s h. good s (in_right' s (term_slots a) (term_slots b) h))
+    v.1 c.written in
+    with_one reads (Two op) (compiled columns b (compiled columns a ops).ops).ops (compiled columns a ops).value
+    (compiled columns b (compiled columns a ops).ops).value d.written c.value d.value
     (right_is op columns a b (compiled columns a ops).ops v.2) tt

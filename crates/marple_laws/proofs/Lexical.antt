@@ -1,5 +1,6 @@
 -- The names of a text are names by the rule of names, and no two of them are the same.
-use Rattle.std.proofs.Common.{◌≡◌, ℕ, zero, suc, ◌+◌, Bool, true, false, cond, ◌||◌, List, [], ◌∷◌, ◌++◌, length, take, drop, slice_get, Option, Some, None, Ok, Err, refl, sym, ap, subst, ◌∙◌, arith, inl, inr, ◌⊎◌, add-one, add_comm}
+use Rattle.std.proofs.Common.{◌≡◌, ℕ, zero, suc, ◌+◌, Bool, true, false, cond, ◌||◌, List, [], ◌∷◌, ◌++◌, length, take, drop, slice_get}
+use Rattle.std.proofs.Common.{Option, Some, None, Ok, Err, refl, sym, ap, subst, ◌∙◌, arith, inl, inr, ◌⊎◌, add-one, add_comm}
 use Rattle.std.specs.Prelude.{nat_eq, codes, not, ◌&&◌, is_none}
 use Rattle.std.specs.List.{list_any, list_all, prefix_len}
 use Rattle.std.specs.Str.{bytes_eq}
@@ -9,7 +10,8 @@ use Rattle.std.proofs.lemmas.List.Folds.{length-prefix_len}
 use Rattle.std.proofs.lemmas.Option.{same_Some}
 use Rattle.std.proofs.lemmas.Slice.Eq.{bytes_eq-Decides}
 use Rattle.marple_base.specs.declared.field.Field.{Field}
-use Rattle.marple_base.specs.declared.field.Field.TheVariants.{Switch, Qid, Uid, SrcIp, DstIp, SrcPort, DstPort, Proto, PktLen, PayloadLen, TcpSeq, Tin, Tout, QSize}
+use Rattle.marple_base.specs.declared.field.Field.TheVariants.{Switch, Qid, Uid, SrcIp, DstIp, SrcPort, DstPort, Proto, PktLen, PayloadLen}
+use Rattle.marple_base.specs.declared.field.Field.TheVariants.{TcpSeq, Tin, Tout, QSize}
 use Rattle.marple_base.specs.Field.{all_fields, field_name}
 use Rattle.query_lang.proofs.NameFacts.{has_number}
 use Rattle.query_lang.specs.declared.token.Mark.{Mark}
@@ -18,7 +20,8 @@ use Rattle.query_lang.specs.declared.token.Piece.TheVariants as pieces
 use Rattle.query_lang.specs.declared.token.Token.{Token}
 use Rattle.query_lang.specs.declared.token.TokenKind.TheVariants as kinds
 use Rattle.query_lang.specs.declared.token.Word.{Word}
-use Rattle.query_lang.specs.Lexis.{Cut, below_limit, cut, cut_piece, is_blank, is_digit, is_word_byte, mark_at, name_piece, number_piece, one_mark, piece, piece_of_mark, reserved, token_at, two_mark, with_front, word_piece}
+use Rattle.query_lang.specs.Lexis.{Cut, below_limit, cut, cut_piece, is_blank, is_digit, is_word_byte, mark_at, name_piece, number_piece}
+use Rattle.query_lang.specs.Lexis.{one_mark, piece, piece_of_mark, reserved, token_at, two_mark, with_front, word_piece}
 use Rattle.query_lang.specs.Names.{AreOnce, number_in, with_name}
 use Rattle.query_lang.specs.Typing.{typed_names, with_fields}
 use Rattle.plan_file.specs.Lexis.{is_name}
@@ -81,7 +84,8 @@ with_good names text good lexical = go (list_any (bytes_eq text) names) refl
 pub number_at : (names : List (List ℕ)) (i : ℕ) (text : List ℕ) → AreOnce names → slice_get names i ≡ Some text → number_in names text ≡ i
 number_at names i text once h = once (number_in names text) i text (there (list_any (bytes_eq text) names) refl (has_number names text)) h
   where
-    there : (b : Bool) → list_any (bytes_eq text) names ≡ b → slice_get (cond b names (names ++ text ∷ [])) (number_in names text) ≡ Some text
+    there : (b : Bool) → list_any (bytes_eq text) names ≡ b → slice_get (cond b names (names ++ text ∷ [])) (number_in names text) ≡ Some
+        text
         → slice_get names (number_in names text) ≡ Some text
     there true e k = k
     there false e k = absurd (absent names text i e h)
@@ -107,7 +111,8 @@ field_lexical QSize = refl
 
 fields_good : (fields : List Field) (names : List (List ℕ)) → AreGood names → AreGood (with_fields names fields)
 fields_good [] names good = good
-fields_good (f ∷ fields) names good = fields_good fields (with_name names (field_name f)) (with_good names (field_name f) good (field_lexical f))
+fields_good (f ∷ fields) names good = fields_good fields (with_name names (field_name f))
+    (with_good names (field_name f) good (field_lexical f))
 
 pub typed_good : (names : List (List ℕ)) → AreGood names → AreGood (typed_names names)
 typed_good names good = fields_good all_fields names good
@@ -121,7 +126,8 @@ IsNamePiece bytes (pieces.Name n) = is_name (take n bytes) ≡ true
 IsNamePiece bytes (pieces.Token kind n) = Unit {0}
 IsNamePiece bytes (pieces.Fault kind n) = Unit {0}
 
-of_either : (bytes : List ℕ) (b : Bool) (p q : Piece) → (b ≡ true → IsNamePiece bytes p) → (b ≡ false → IsNamePiece bytes q) → IsNamePiece bytes (cond b p q)
+of_either : (bytes : List ℕ) (b : Bool) (p q : Piece) → (b ≡ true → IsNamePiece bytes p) → (b ≡ false → IsNamePiece bytes q)
+    → IsNamePiece bytes (cond b p q)
 of_either bytes true p q f g = f refl
 of_either bytes false p q f g = g refl
 
@@ -129,7 +135,8 @@ of_number : (bytes : List ℕ) (o : Option ℕ) (len : ℕ) → IsNamePiece byte
 of_number bytes None len = tt
 of_number bytes (Some n) len = tt
 
-of_name : (bytes : List ℕ) (o : Option Word) (len : ℕ) → (is_none o ≡ true → is_name (take len bytes) ≡ true) → IsNamePiece bytes (name_piece o len)
+of_name : (bytes : List ℕ) (o : Option Word) (len : ℕ) → (is_none o ≡ true → is_name (take len bytes) ≡ true)
+    → IsNamePiece bytes (name_piece o len)
 of_name bytes None len f = f refl
 of_name bytes (Some w) len f = tt
 
@@ -149,7 +156,8 @@ word_bytes (b ∷ bytes) = go (is_word_byte b) refl (word_bytes bytes)
     go : (t : Bool) → is_word_byte b ≡ t → list_all is_word_byte (take (prefix_len is_word_byte bytes) bytes) ≡ true
         → list_all is_word_byte (take (cond t (1 + prefix_len is_word_byte bytes) 0) (b ∷ bytes)) ≡ true
     go true e h =
-        ap (λ n. list_all is_word_byte (take n (b ∷ bytes))) (add_comm 1 (prefix_len is_word_byte bytes) ∙ add-one (prefix_len is_word_byte bytes))
+        ap (λ n. list_all is_word_byte (take n (b ∷ bytes))) (add_comm 1 (prefix_len is_word_byte bytes)
+        ∙ add-one (prefix_len is_word_byte bytes))
         ∙ both_are (is_word_byte b) (list_all is_word_byte (take (prefix_len is_word_byte bytes) bytes)) e h
     go false e h = refl
 
@@ -184,7 +192,8 @@ of_word b bytes e =
     (λ t. of_either (b ∷ bytes) (bytes_eq word (codes "5tuple")) _ _ (λ t. tt)
     (λ t. of_either (b ∷ bytes) (nat_eq digits 0) _ _
     (λ t. of_name (b ∷ bytes) (reserved word) (length word)
-    (λ free. subst (λ w. is_name w ≡ true) (sym whole) (name_word b bytes word (first_byte b bytes e) (word_bytes (b ∷ bytes)) (no_digit b bytes t) free)))
+    (λ free. subst (λ w. is_name w ≡ true) (sym whole) (name_word b bytes word (first_byte b bytes e) (word_bytes (b ∷ bytes))
+    (no_digit b bytes t) free)))
     (λ t. tt)))
 
 of_piece : (b : ℕ) (bytes : List ℕ) → IsNamePiece (b ∷ bytes) (piece (b ∷ bytes))
@@ -212,13 +221,16 @@ of_cut_piece (pieces.Token kind n) at known bytes next found good is h e =
     of_front (token_at kind at (at + n)) (next n known) found (λ got. h n known got good) e
 of_cut_piece (pieces.Fault kind n) at known bytes next found good is h e = absurd cc
 
-of_end : (at : ℕ) (known : List (List ℕ)) (found : Pair) → AreGood known → ◌≡◌ {A = Cut} (Ok (token_at kinds.End at at ∷ [], known)) (Ok found) → AreGood found.1
+of_end : (at : ℕ) (known : List (List ℕ)) (found : Pair) → AreGood known
+    → ◌≡◌ {A = Cut} (Ok (token_at kinds.End at at ∷ [], known)) (Ok found) → AreGood found.1
 of_end at known found good e = subst (λ (p : Pair). AreGood p.1) (same_found (token_at kinds.End at at ∷ [], known) found e) good
 
-pub cut_good : (n at : ℕ) (known : List (List ℕ)) (bytes : List ℕ) (found : Pair) → AreGood known → cut n at known bytes ≡ Ok found → AreGood found.1
+pub cut_good : (n at : ℕ) (known : List (List ℕ)) (bytes : List ℕ) (found : Pair) → AreGood known → cut n at known bytes ≡ Ok found
+    → AreGood found.1
 unfolding cut
 cut_good zero at known bytes found good e = of_end at known found good e
 cut_good (suc n) at known [] found good e = of_end at known found good e
 cut_good (suc n) at known (b ∷ bytes) found good e =
-    of_cut_piece (piece (b ∷ bytes)) at known (b ∷ bytes) (λ k later. cut n (at + k) later (drop k (b ∷ bytes))) found good (of_piece b bytes)
+    of_cut_piece (piece (b ∷ bytes)) at known (b ∷ bytes) (λ k later. cut n (at + k) later (drop k (b ∷ bytes))) found good
+    (of_piece b bytes)
     (λ k later got g h. cut_good n (at + k) later (drop k (b ∷ bytes)) got g h) e

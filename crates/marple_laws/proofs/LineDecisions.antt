@@ -13,7 +13,8 @@ use Rattle.plan_file.specs.Lines.{IsFirst, IsFold, IsGroup, IsLineOf, IsOp, IsPa
 use Rattle.plan_file.specs.LineWords.{line_word}
 use Rattle.plan_file.specs.Named.{IsOneNumber}
 use Rattle.plan_file.specs.Operations.{IsOpLine}
-use Rattle.marple_laws.proofs.Decisions.{Decided, both, by_both, contains, is_empty, is_false, is_none, is_true, less, neither, none_some, same_number, same_texts, some_same, value_of}
+use Rattle.marple_laws.proofs.Decisions.{Decided, both, by_both, contains, is_empty, is_false, is_none, is_true, less, neither, none_some}
+use Rattle.marple_laws.proofs.Decisions.{same_number, same_texts, some_same, value_of}
 use Rattle.marple_laws.proofs.GroupDecisions.{fold_line, group_line, in_group}
 use Rattle.marple_laws.proofs.PartDecisions.{one_number, op_line, reads_line}
 
@@ -24,7 +25,17 @@ first before line =
 
 reads : (before : Made) (line : List ℕ) → Decided ((after : Made) × IsReads before line after)
 reads before line =
-    by_both (λ q. (record before { reads = Some q.1.1.0 }, record { begun = q.0; second = q.1.0; fields = q.1.1.0; valid = q.1.1.1; made = refl }))
+    by_both (λ q. (
+      record before { reads = Some q.1.1.0 },
+      record {
+        begun = q.0;
+        second = q.1.0;
+        fields = q.1.1.0;
+        valid = q.1.1.1;
+        made =
+            refl;
+      },
+    ))
     (λ p. (p.1.begun, (p.1.second, (p.1.fields, p.1.valid))))
     (both (is_true before.begun) (both (is_none before.reads) (reads_line line)))
 
@@ -35,8 +46,22 @@ op before line = by (value_of before.reads)
     by (inr none) = inr (λ p. none_some before.reads p.1.fields none p.1.reads)
     by (inl (fs, is)) =
         by_both
-        (λ q. (record before { ops = before.ops ++ q.1.1.0 ∷ [] }, record { fields = fs; reads = is; groups = q.0; current = q.1.0; op = q.1.1.0; valid = q.1.1.1; made = refl }))
-        (λ p. (p.1.groups, (p.1.current, (p.1.op, subst (λ f. IsOpLine f before.ops line p.1.op) (some_same before.reads p.1.fields fs p.1.reads is) p.1.valid))))
+        (λ q. (
+          record before { ops = before.ops ++ q.1.1.0 ∷ [] },
+          record
+              { fields = fs; reads = is; groups = q.0; current = q.1.0; op = q.1.1.0; valid = q.1.1.1; made = refl },
+        ))
+        (λ p. (
+          p.1.groups,
+          (
+            p.1.current,
+            (
+              p.1.op,
+              subst (λ f. IsOpLine f before.ops line p.1.op)
+                  (some_same before.reads p.1.fields fs p.1.reads is) p.1.valid,
+            ),
+          ),
+        ))
         (both (is_empty before.groups) (both (is_none before.current) (op_line fs before.ops line)))
 
 group : (before : Made) (line : List ℕ) → Decided ((after : Made) × IsGroup before line after)
@@ -46,23 +71,59 @@ group before line = by (value_of before.reads)
     by (inr none) = inr (λ p. none_some before.reads p.1.fields none p.1.reads)
     by (inl (fs, is)) =
         by_both
-        (λ q. (record before { current = Some q.1.1.0 }, record { fields = fs; reads = is; current = q.0; prints = q.1.0; group = q.1.1.0; valid = q.1.1.1; made = refl }))
-        (λ p. (p.1.current, (p.1.prints, (p.1.group, subst (λ f. IsGroupLine f before.ops before.groups line p.1.group) (some_same before.reads p.1.fields fs p.1.reads is) p.1.valid))))
+        (λ q. (
+          record before { current = Some q.1.1.0 },
+          record {
+            fields = fs;
+            reads = is;
+            current = q.0;
+            prints = q.1.0;
+            group =
+                q.1.1.0;
+            valid = q.1.1.1;
+            made = refl;
+          },
+        ))
+        (λ p. (
+          p.1.current,
+          (
+            p.1.prints,
+            (
+              p.1.group,
+              subst (λ f. IsGroupLine f before.ops before.groups line p.1.group)
+                  (some_same before.reads p.1.fields fs p.1.reads is) p.1.valid,
+            ),
+          ),
+        ))
         (both (is_none before.current) (both (is_empty before.prints) (group_line fs before.ops before.groups line)))
 
 part : (word : LineWord) (before : Made) (line : List ℕ) → Decided ((after : Made) × IsPart word before line after)
 part word before line = by (value_of before.reads) (value_of before.current)
   where
-    by : ((fs : List Field) × (before.reads ≡ Some fs)) ⊎ (before.reads ≡ None) → ((g : Group) × (before.current ≡ Some g)) ⊎ (before.current ≡ None) → Decided ((after : Made) × IsPart word before line after)
+    by : ((fs : List Field) × (before.reads ≡ Some fs)) ⊎ (before.reads ≡ None)
+        → ((g : Group) × (before.current ≡ Some g)) ⊎ (before.current ≡ None) → Decided ((after : Made) × IsPart word before line after)
     by (inr none) current = inr (λ p. none_some before.reads p.1.fields none p.1.reads)
     by (inl read) (inr none) = inr (λ p. none_some before.current p.1.group none p.1.current)
     by (inl (fs, is)) (inl (g, has)) =
         by_both
-        (λ q. (record before { current = Some q.0 }, record { fields = fs; reads = is; group = g; current = has; next = q.0; valid = q.1; made = refl }))
+        (λ q. (
+          record before { current = Some q.0 },
+          record {
+            fields = fs;
+            reads = is;
+            group = g;
+            current = has;
+            next = q.0;
+            valid =
+                q.1;
+            made = refl;
+          },
+        ))
         (λ p. (
           p.1.next,
           subst (λ f. IsInGroup word f before.ops g line p.1.next) (some_same before.reads p.1.fields fs p.1.reads is)
-              (subst (λ x. IsInGroup word p.1.fields before.ops x line p.1.next) (some_same before.current p.1.group g p.1.current has) p.1.valid),
+              (subst (λ x. IsInGroup word p.1.fields before.ops x line p.1.next) (some_same before.current p.1.group g p.1.current has)
+              p.1.valid),
         ))
         (in_group word fs before.ops g line)
 
@@ -73,7 +134,11 @@ fold before line = by (value_of before.current)
     by (inr none) = inr (λ p. none_some before.current p.1.group none p.1.current)
     by (inl (g, has)) =
         by_both
-        (λ q. (record before { groups = before.groups ++ q.0 ∷ []; current = None }, record { group = g; current = has; folded = q.0; valid = q.1; made = refl }))
+        (λ q. (
+          record before { groups = before.groups ++ q.0 ∷ []; current = None },
+          record
+              { group = g; current = has; folded = q.0; valid = q.1; made = refl },
+        ))
         (λ p. (p.1.folded, subst (λ x. IsFoldLine x line p.1.folded) (some_same before.current p.1.group g p.1.current has) p.1.valid))
         (fold_line g line)
 
@@ -90,10 +155,20 @@ print before line = by (one_number (codes "print") line)
     by (inr none) = inr (λ p. none (p.1.group, p.1.valid))
     by (inl (n, valid)) =
         by_both
-        (λ q. (record before { prints = before.prints ++ n ∷ [] }, record { current = q.0; group = n; valid = valid; there = q.1.0; new = q.1.1; made = refl }))
+        (λ q. (
+          record before { prints = before.prints ++ n ∷ [] },
+          record
+              { current = q.0; group = n; valid = valid; there = q.1.0; new = q.1.1; made = refl },
+        ))
         (λ p.
-        let same = number_same p.1.group n p.1.valid valid in
-        (p.1.current, (subst (λ i. i < length before.groups) same p.1.there, λ there. p.1.new (subst (Contains before.prints) (sym same) there))))
+        let same = number_same p.1.group n p.1.valid valid in (
+          p.1.current,
+          (
+            subst (λ i. i < length before.groups) same p.1.there,
+            λ there. p.1.new
+                (subst (Contains before.prints) (sym same) there),
+          ),
+        ))
         (both (is_none before.current) (both (less n (length before.groups)) (neither (contains same_number before.prints n))))
 
 of_word : (word : LineWord) (before : Made) (line : List ℕ) → Decided ((after : Made) × IsLineOf word before line after)

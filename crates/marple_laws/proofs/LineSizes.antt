@@ -15,7 +15,8 @@ use Rattle.stage_plan.specs.declared.op.Operation as operation
 use Rattle.stage_plan.specs.declared.op.Operation.TheVariants.{Not, Two}
 use Rattle.stage_plan.specs.declared.op.PlanOp.{PlanOp}
 use Rattle.plan_writer.specs.PlanText.{op_line}
-use Rattle.plan_writer.specs.Words.{spaced, block_words, function_word, line, number_word, operand_word, operation_words, slot_word, state_word, term_words}
+use Rattle.plan_writer.specs.Words.{spaced, block_words, function_word, line, number_word, operand_word, operation_words, slot_word}
+use Rattle.plan_writer.specs.Words.{state_word, term_words}
 use Rattle.marple_laws.proofs.OpLines.{Fits}
 
 pub after_size : (word : List ℕ) (words : List (List ℕ)) → length (spaced (word ∷ words)) ≡ length word + length (spaced words) + 1
@@ -64,7 +65,8 @@ function_size ops.Min = omega arith
 function_size ops.Sadd = omega arith
 function_size ops.Decay = omega arith
 
-operation_size : (op : operation.Operation) (left right : Operand) → Fits left → Fits right → length (spaced (operation_words op left right)) ≤ 51
+operation_size : (op : operation.Operation) (left right : Operand) → Fits left → Fits right
+    → length (spaced (operation_words op left right)) ≤ 51
 operation_size Not left right l r =
     let a = after_size (codes "not") (operand_word left ∷ []) in
     let b = after_size (operand_word left) [] in
@@ -99,7 +101,8 @@ slot_size states s small = go (nat_lt s states)
     go true = state_size s small
     go false = let d = decimal_size (s - states) (omega (arith, small)) in omega (arith, d)
 
-term_size : (slots states : ℕ) → slots < 2 ^ 64 → (t : Term) → IsValidTerm slots t → length (spaced (term_words states t)) ≤ 22 * term_nodes t
+term_size : (slots states : ℕ) → slots < 2 ^ 64 → (t : Term) → IsValidTerm slots t → length (spaced (term_words states t)) ≤ 22
+    * term_nodes t
 term_size slots states small (Literal n) v =
     let a = after_size (number_word n) [] in
     let d = decimal_size n v in

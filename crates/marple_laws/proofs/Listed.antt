@@ -40,13 +40,16 @@ in_right f (x ∷ xs) ys h = inr (in_right f xs ys h)
 kept_bit : (fields : List Field) (set : FieldSet) (i : ℕ) → bit_at set.bits i ≡ 1 → bit_at (fold with_field set fields).bits i ≡ 1
 kept_bit [] set i e = e
 kept_bit (f ∷ fields) set i e =
-    let kept : bit_at (bit_or set.bits (2 ^ number_of f)) i ≡ 1 = omega (arith, bit_at_or set.bits (2 ^ number_of f) i, e, bit_at-lt (2 ^ number_of f) i) in
+    let kept : bit_at (bit_or set.bits (2 ^ number_of f)) i ≡ 1 = omega
+    (arith, bit_at_or set.bits (2 ^ number_of f) i, e, bit_at-lt (2 ^ number_of f) i) in
     kept_bit fields (with_field set f) i kept
 
 has_bit : (fields : List Field) (set : FieldSet) (f : Field) → IsIn f fields → bit_at (fold with_field set fields).bits (number_of f) ≡ 1
 has_bit (g ∷ fields) set f (inl e) =
-    let same : bit_at (2 ^ number_of g) (number_of f) ≡ 1 = ap (λ h. bit_at (2 ^ number_of g) (number_of h)) e ∙ bit_at-pow_same (number_of g) in
-    let there : bit_at (bit_or set.bits (2 ^ number_of g)) (number_of f) ≡ 1 = omega (arith, bit_at_or set.bits (2 ^ number_of g) (number_of f), same, bit_at-lt set.bits (number_of f)) in
+    let same : bit_at (2 ^ number_of g) (number_of f) ≡ 1 = ap (λ h. bit_at (2 ^ number_of g) (number_of h)) e
+    ∙ bit_at-pow_same (number_of g) in
+    let there : bit_at (bit_or set.bits (2 ^ number_of g)) (number_of f) ≡ 1 =
+    omega (arith, bit_at_or set.bits (2 ^ number_of g) (number_of f), same, bit_at-lt set.bits (number_of f)) in
     kept_bit fields (with_field set g) (number_of f) there
 has_bit (g ∷ fields) set f (inr h) = has_bit fields (with_field set g) f h
 has_bit [] set f h = absurd h

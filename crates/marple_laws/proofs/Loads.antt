@@ -14,11 +14,13 @@ use Rattle.marple_laws.proofs.FieldSets.{one_reading}
 use Rattle.marple_laws.proofs.Runs.{one_output}
 use Rattle.marple_laws.proofs.Says.{text_says}
 
-pub loads : (q : TypedQuery) (p : PlanParts) → IsValidQuery q → HasPlanText q → IsPlanOf q p → IsSoundPlan p → final_fault q ≡ None → LoadsAsTheQuery q
+pub loads : (q : TypedQuery) (p : PlanParts) → IsValidQuery q → HasPlanText q → IsPlanOf q p → IsSoundPlan p → final_fault q ≡ None
+    → LoadsAsTheQuery q
 loads q p valid text plan sound none = record {
   valid = text_says q p valid text plan sound;
-  only = λ made says. subst (IsAsTheQuery q) (says_one makes_one (compiled_text q) (made_of q) made (text_says q p valid text plan sound) says) (record {
-    reads = one_reading q;
-    prints = λ g packets whole. one_output q p valid plan sound g packets whole none;
-  });
+  only = λ made says. subst (IsAsTheQuery q) (says_one makes_one (compiled_text q) (made_of q) made (text_says q p valid text plan sound)
+      says) (record {
+        reads = one_reading q;
+        prints = λ g packets whole. one_output q p valid plan sound g packets whole none;
+      });
 }

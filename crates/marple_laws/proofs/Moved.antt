@@ -19,7 +19,8 @@ use Rattle.marple_laws.proofs.Known.{IsGood, IsSingle, IsWritable, below_two}
 abbrev pub AreAfterFields : List ℕ → Type 0
 AreAfterFields registers = (k r : ℕ) → slice_get registers k ≡ Some r → 14 ≤ r
 
-pub moved_good : (reads : FieldSet) (registers : List ℕ) (o : Operand) → AreAfterFields registers → IsGood reads o → IsGood reads (moved registers o)
+pub moved_good : (reads : FieldSet) (registers : List ℕ) (o : Operand) → AreAfterFields registers → IsGood reads o
+    → IsGood reads (moved registers o)
 moved_good reads registers (Number n) beyond g = g
 moved_good reads registers (Register r) beyond g = by (nat_lt r 14) refl
   where
@@ -31,7 +32,8 @@ moved_good reads registers (Register r) beyond g = by (nat_lt r 14) refl
     by true e = g
     by false e = new (slice_get registers (r - 14)) refl
 
-moved_right : (registers : List ℕ) (op : operation.Operation) (right : Operand) → is_right_of op right ≡ true → is_right_of op (moved registers right) ≡ true
+moved_right : (registers : List ℕ) (op : operation.Operation) (right : Operand) → is_right_of op right ≡ true
+    → is_right_of op (moved registers right) ≡ true
 moved_right registers op (Number n) e = e
 moved_right registers Not (Register r) e = refl
 moved_right registers (Two f) (Register r) e = by f e
@@ -64,7 +66,8 @@ moved_single : (registers : List ℕ) (op : operation.Operation) (right : Operan
 moved_single registers Not right e = ap (moved registers) e
 moved_single registers (Two f) right e = tt
 
-pub moved_writable : (reads : FieldSet) (registers : List ℕ) (one : PlanOp) → AreAfterFields registers → IsWritable reads one → IsWritable reads (moved_op registers one)
+pub moved_writable : (reads : FieldSet) (registers : List ℕ) (one : PlanOp) → AreAfterFields registers → IsWritable reads one
+    → IsWritable reads (moved_op registers one)
 moved_writable reads registers one beyond w = record {
   left = moved_good reads registers one.left beyond w.left;
   right = moved_good reads registers one.right beyond w.right;

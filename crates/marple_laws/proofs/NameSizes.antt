@@ -1,11 +1,13 @@
 -- The total length of the names of a text.
-use Rattle.std.proofs.Common.{◌≡◌, ℕ, zero, suc, ◌+◌, ◌*◌, ◌<◌, ◌≤◌, Bool, true, false, cond, List, [], ◌∷◌, ◌++◌, length, take, drop, Option, Some, None, Ok, Err, refl, sym, ap, subst, ◌∙◌, inl, inr, arith}
+use Rattle.std.proofs.Common.{◌≡◌, ℕ, zero, suc, ◌+◌, ◌*◌, ◌<◌, ◌≤◌, Bool, true, false, cond, List, [], ◌∷◌, ◌++◌, length, take, drop}
+use Rattle.std.proofs.Common.{Option, Some, None, Ok, Err, refl, sym, ap, subst, ◌∙◌, inl, inr, arith}
 use Rattle.std.specs.Prelude.{All, map, slice_get}
 use Rattle.std.specs.List.{cons_option, list_any}
 use Rattle.std.specs.Str.{bytes_eq}
 use Rattle.std.proofs.lemmas.List.{length-drop, length-take}
 use Rattle.marple_base.specs.declared.field.Field.{Field}
-use Rattle.marple_base.specs.declared.field.Field.TheVariants.{Switch, Qid, Uid, SrcIp, DstIp, SrcPort, DstPort, Proto, PktLen, PayloadLen, TcpSeq, Tin, Tout, QSize}
+use Rattle.marple_base.specs.declared.field.Field.TheVariants.{Switch, Qid, Uid, SrcIp, DstIp, SrcPort, DstPort, Proto, PktLen, PayloadLen}
+use Rattle.marple_base.specs.declared.field.Field.TheVariants.{TcpSeq, Tin, Tout, QSize}
 use Rattle.marple_base.specs.Field.{all_fields, field_name}
 use Rattle.query_lang.specs.declared.fold.TypedFold.{TypedFold}
 use Rattle.query_lang.specs.declared.token.Piece.{Piece}
@@ -72,7 +74,8 @@ taken f [] ys before new inside = record { left = ys; sum = omega arith; keeps =
 taken f (x ∷ xs) ys before new inside =
     let w = without f ys x (inside x (inl refl)) in
     let r = taken f xs w.left (before ++ x ∷ []) new.1
-    (λ z i. w.keeps z (inside z (inr i)) (λ e. new_apart (before ++ x ∷ []) xs z new.1 (subst (λ u. IsIn u (before ++ x ∷ [])) (sym e) (in_last before x)) i)) in
+    (λ z i. w.keeps z (inside z (inr i)) (λ e. new_apart (before ++ x ∷ []) xs z new.1
+    (subst (λ u. IsIn u (before ++ x ∷ [])) (sym e) (in_last before x)) i)) in
     let s = w.sum in
     let t = r.sum in
     record {
@@ -88,7 +91,8 @@ no_key keys [] x apart i j = i
 no_key keys (s ∷ states) x apart (inl e) j = apart.0 (in_contains keys s (subst (λ u. IsIn u keys) e j))
 no_key keys (s ∷ states) x apart (inr i) j = no_key keys states x apart.1 i j
 
-pub columns_total : (names : List (List ℕ)) (shape : GroupShape) → IsNamedWell shape → ((t : List ℕ) → IsIn t shape.key_names → IsIn t names)
+pub columns_total : (names : List (List ℕ)) (shape : GroupShape) → IsNamedWell shape
+    → ((t : List ℕ) → IsIn t shape.key_names → IsIn t names)
     → ((t : List ℕ) → IsIn t shape.state_names → IsIn t names) → total shape.key_names + total shape.state_names ≤ total names
 columns_total names shape well keys states =
     let k = taken length shape.key_names names [] well.keys_differ keys in
@@ -98,27 +102,34 @@ columns_total names shape well keys states =
     let b = s.sum in
     omega (arith, a, b)
 
-pub texts_in : (names : List (List ℕ)) (ids : List ℕ) → All (λ id. id < length names) ids → (t : List ℕ) → IsIn t (map (text_at names) ids) → IsIn t names
+pub texts_in : (names : List (List ℕ)) (ids : List ℕ) → All (λ id. id < length names) ids → (t : List ℕ) → IsIn t (map (text_at names) ids)
+    → IsIn t names
 texts_in names ids all t i = let k = covers_all names ids all t i in in_at names k.0 t k.2
 
-group_names_in : (names : List (List ℕ)) (folds : List TypedFold) (streams earlier : List TypedStream) → AreValidStreams (length names) folds earlier streams
+group_names_in : (names : List (List ℕ)) (folds : List TypedFold) (streams earlier : List TypedStream)
+    → AreValidStreams (length names) folds earlier streams
     → (t : List ℕ) → IsIn t (map (λ shape. shape.name) (groups_of names folds streams)) → IsIn t names
 group_names_in names folds [] earlier v t i = absurd i
 group_names_in names folds (one ∷ rest) earlier v t i =
     by (shape_made names folds one one.op) refl i (group_names_in names folds rest (earlier ++ one ∷ []) v.1 t)
   where
-    by : (o : Option GroupShape) → shape_made names folds one one.op ≡ o → IsIn t (map (λ shape. shape.name) (cons_option o (groups_of names folds rest)))
+    by : (o : Option GroupShape) → shape_made names folds one one.op ≡ o
+        → IsIn t (map (λ shape. shape.name) (cons_option o (groups_of names folds rest)))
         → (IsIn t (map (λ shape. shape.name) (groups_of names folds rest)) → IsIn t names) → IsIn t names
     by None e i more = more i
     by (Some s) e (inl h) more =
-        let there : slice_get names one.name.id ≡ Some t = text_there names one.name.id v.0.name ∙ ap Some (sym (name_of names folds one one.op s e) ∙ sym h) in
+        let there : slice_get names one.name.id ≡ Some t = text_there names one.name.id v.0.name
+        ∙ ap Some (sym (name_of names folds one one.op s e) ∙ sym h) in
         in_at names one.name.id t there
     by (Some s) e (inr h) more = more h
 
-pub group_names_total : (names : List (List ℕ)) (folds : List TypedFold) (streams : List TypedStream) → AreValidStreams (length names) folds [] streams
-    → AreNew [] (map (λ shape. shape.name) (groups_of names folds streams)) → total (map (λ shape. shape.name) (groups_of names folds streams)) ≤ total names
+pub group_names_total : (names : List (List ℕ)) (folds : List TypedFold) (streams : List TypedStream)
+    → AreValidStreams (length names) folds [] streams
+    → AreNew [] (map (λ shape. shape.name) (groups_of names folds streams))
+    → total (map (λ shape. shape.name) (groups_of names folds streams)) ≤ total names
 group_names_total names folds streams v new =
-    let t = taken length (map (λ (shape : GroupShape). shape.name) (groups_of names folds streams)) names [] new (group_names_in names folds streams [] v) in
+    let t = taken length (map (λ (shape : GroupShape). shape.name) (groups_of names folds streams)) names [] new
+    (group_names_in names folds streams [] v) in
     let s = t.sum in
     omega (arith, s)
 
@@ -174,7 +185,8 @@ cut_apart n bytes =
     let d = length-drop n bytes in
     omega (arith, t, d)
 
-of_front : (t : Token) (o : Cut) (found : Pair) (most : ℕ) → ((got : Pair) → o ≡ Ok got → total got.1 ≤ most) → with_front t o ≡ Ok found → total found.1 ≤ most
+of_front : (t : Token) (o : Cut) (found : Pair) (most : ℕ) → ((got : Pair) → o ≡ Ok got → total got.1 ≤ most) → with_front t o ≡ Ok found
+    → total found.1 ≤ most
 of_front t (Ok got) found most h e = subst (λ (p : Pair). total p.1 ≤ most) (same_found (t ∷ got.0, got.1) found e) (h got refl)
 of_front t (Err fault) found most h e = absurd cc
 
@@ -186,7 +198,8 @@ of_cut_piece (pieces.Blank n) at known bytes next found h e =
     let a = cut_apart n bytes in
     omega (arith, r, a)
 of_cut_piece (pieces.Name n) at known bytes next found h e =
-    of_front (token_at (kinds.Name (number_in known (take n bytes))) at (at + n)) (next n (with_name known (take n bytes))) found (total known + length bytes)
+    of_front (token_at (kinds.Name (number_in known (take n bytes))) at (at + n)) (next n (with_name known (take n bytes))) found
+    (total known + length bytes)
     (λ got g. (let r = h n (with_name known (take n bytes)) got g in
     let w = with_total known (take n bytes) in
     let a = cut_apart n bytes in
@@ -198,12 +211,14 @@ of_cut_piece (pieces.Token kind n) at known bytes next found h e =
     omega (arith, r, a))) e
 of_cut_piece (pieces.Fault kind n) at known bytes next found h e = absurd cc
 
-of_end : (at : ℕ) (known : List (List ℕ)) (bytes : List ℕ) (found : Pair) → ◌≡◌ {A = Cut} (Ok (token_at kinds.End at at ∷ [], known)) (Ok found)
+of_end : (at : ℕ) (known : List (List ℕ)) (bytes : List ℕ) (found : Pair)
+    → ◌≡◌ {A = Cut} (Ok (token_at kinds.End at at ∷ [], known)) (Ok found)
     → total found.1 ≤ total known + length bytes
 of_end at known bytes found e =
     subst (λ (p : Pair). total p.1 ≤ total known + length bytes) (same_found (token_at kinds.End at at ∷ [], known) found e) (omega arith)
 
-pub cut_total : (n at : ℕ) (known : List (List ℕ)) (bytes : List ℕ) (found : Pair) → cut n at known bytes ≡ Ok found → total found.1 ≤ total known + length bytes
+pub cut_total : (n at : ℕ) (known : List (List ℕ)) (bytes : List ℕ) (found : Pair) → cut n at known bytes ≡ Ok found
+    → total found.1 ≤ total known + length bytes
 unfolding cut
 cut_total zero at known bytes found e = of_end at known bytes found e
 cut_total (suc n) at known [] found e = of_end at known [] found e

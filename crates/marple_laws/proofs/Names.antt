@@ -26,4 +26,5 @@ plain_bytes (b ∷ word) e =
 pub token_name : (name : List ℕ) → is_name name ≡ true → is_token name ≡ true
 token_name [] e = refl
 token_name (first ∷ rest) e =
-    plain_bytes (first ∷ rest) (both_true (list_all is_word_byte (first ∷ rest)) (not (is_digit first) && is_none (reserved (first ∷ rest))) e).0
+    plain_bytes (first ∷ rest) (both_true (list_all is_word_byte (first ∷ rest)) (not (is_digit first) && is_none (reserved (first ∷ rest)))
+    e).0

@@ -1,5 +1,6 @@
 -- Numbers that are written are read again.
-use Rattle.std.proofs.Common.{◌≡◌, ℕ, ◌^◌, ◌<◌, ◌≤◌, Bool, true, false, List, [], ◌∷◌, length, get_or, Some, None, refl, ap, ◌∙◌, inl, inr, arith}
+use Rattle.std.proofs.Common.{◌≡◌, ℕ, ◌^◌, ◌<◌, ◌≤◌, Bool, true, false, List, [], ◌∷◌, length, get_or, Some, None, refl, ap, ◌∙◌, inl, inr}
+use Rattle.std.proofs.Common.{arith}
 use Rattle.std.specs.Prelude.{decimal, not, nat_lt, if◌then◌else◌, ◌==◌}
 use Rattle.std.specs.List.{list_all}
 use Rattle.std.specs.Str.Parse.{AllDigits, digits_value}
@@ -26,7 +27,8 @@ plain_digit c low =
 
 digits_are : (ds : List ℕ) → AllDigits 10 ds → list_all is_digit ds ≡ true
 digits_are [] d = refl
-digits_are (c ∷ ds) d = let k = digit_from_value c d.0 in both_are (is_digit c) (list_all is_digit ds) (digit_in c k.0 k.1) (digits_are ds d.1)
+digits_are (c ∷ ds) d = let k = digit_from_value c d.0 in both_are (is_digit c) (list_all is_digit ds) (digit_in c k.0 k.1)
+    (digits_are ds d.1)
 
 plain_digits : (ds : List ℕ) → AllDigits 10 ds → is_token ds ≡ true
 plain_digits [] d = refl
@@ -39,10 +41,12 @@ token_decimal n small = plain_digits (decimal n) (decimal_is_IsNumeral n small).
 pub token_marked : (mark n : ℕ) → is_plain mark ≡ true → n < 2 ^ 64 → is_token (mark ∷ decimal n) ≡ true
 token_marked mark n plain small = both_are (is_plain mark) (is_token (decimal n)) plain (token_decimal n small)
 
-one_digit : (ds : List ℕ) → AllDigits 10 ds → 0 < length ds → (get_or ds 0 0 ≡ 48 → length ds ≡ 1) → digits_value 10 ds < 2 ^ 64 → number ds ≡ Some (digits_value 10 ds)
+one_digit : (ds : List ℕ) → AllDigits 10 ds → 0 < length ds → (get_or ds 0 0 ≡ 48 → length ds ≡ 1) → digits_value 10 ds < 2 ^ 64
+    → number ds ≡ Some (digits_value 10 ds)
 one_digit [] d some first small = absurd (omega arith)
 one_digit (c ∷ ds) d some first small =
-    ap (λ t. if t then below_limit (digits_value 10 (c ∷ ds)) else None) (both_are (list_all is_digit (c ∷ ds)) (is_first_digit c ds) (digits_are (c ∷ ds) d) (leads ds first))
+    ap (λ t. if t then below_limit (digits_value 10 (c ∷ ds)) else None)
+    (both_are (list_all is_digit (c ∷ ds)) (is_first_digit c ds) (digits_are (c ∷ ds) d) (leads ds first))
     ∙ ap (λ t. if t then Some (digits_value 10 (c ∷ ds)) else None) below
   where
     below : nat_lt (digits_value 10 (c ∷ ds)) (2 ^ 64) ≡ true

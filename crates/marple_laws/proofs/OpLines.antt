@@ -1,5 +1,6 @@
 -- The lines of operations are valid in sequence.
-use Rattle.std.proofs.Common.{◌≡◌, ℕ, ◌^◌, ◌<◌, true, List, [], ◌∷◌, ◌++◌, length, take, Some, None, refl, sym, ap, subst, ◌∙◌, append_assoc, append-nil}
+use Rattle.std.proofs.Common.{◌≡◌, ℕ, ◌^◌, ◌<◌, true, List, [], ◌∷◌, ◌++◌, length, take, Some, None, refl, sym, ap, subst, ◌∙◌}
+use Rattle.std.proofs.Common.{append_assoc, append-nil}
 use Rattle.std.specs.Prelude.{flat_map, codes, decimal, slice_get}
 use Rattle.std.proofs.lemmas.List.{take_at}
 use Rattle.marple_base.specs.declared.field.Field.{Field}
@@ -49,12 +50,14 @@ op_read stage Not left right s l r single =
     ∙ ap (not_of (Some stage)) (operand_read left l)
     ∙ ap (λ b. Some (record { stage = stage; op = Not; left = left; right = b })) (sym single)
 op_read stage (Two f) left right s l r single =
-    ap (λ n. two_of n (function_named (function_word f)) (operand (operand_word left)) (operand (operand_word right))) (number_decimal stage s)
+    ap (λ n. two_of n (function_named (function_word f)) (operand (operand_word left)) (operand (operand_word right)))
+    (number_decimal stage s)
     ∙ ap (λ g. two_of (Some stage) g (operand (operand_word left)) (operand (operand_word right))) (function_read f)
     ∙ ap (λ a. two_of (Some stage) (Some f) a (operand (operand_word right))) (operand_read left l)
     ∙ ap (λ b. two_of (Some stage) (Some f) (Some left) b) (operand_read right r)
 
-op_tokens : (stage : ℕ) (op : operation.Operation) (left right : Operand) → stage < 2 ^ 64 → Fits left → Fits right → AreTokens (decimal stage ∷ operation_words op left right)
+op_tokens : (stage : ℕ) (op : operation.Operation) (left right : Operand) → stage < 2 ^ 64 → Fits left → Fits right
+    → AreTokens (decimal stage ∷ operation_words op left right)
 op_tokens stage Not left right s l r = (token_decimal stage s, (refl, (token_operand left l, tt)))
 op_tokens stage (Two f) left right s l r = (token_decimal stage s, (token_function f, (token_operand left l, (token_operand right r, tt))))
 
@@ -66,7 +69,8 @@ op_word = refl
 abbrev pub with_ops : List Field → List PlanOp → Made
 with_ops fields ops = record { begun = true; reads = Some fields; ops = ops; groups = []; current = None; prints = [] }
 
-op_written : (fields : List Field) (before : List PlanOp) (one : PlanOp) → IsOpOk fields before one → IsWritten (op_line one) (with_ops fields before) (with_ops fields (before ++ one ∷ []))
+op_written : (fields : List Field) (before : List PlanOp) (one : PlanOp) → IsOpOk fields before one
+    → IsWritten (op_line one) (with_ops fields before) (with_ops fields (before ++ one ∷ []))
 op_written fields before one ok =
     line_written lead.Op (codes "op") (decimal one.stage ∷ operation_words one.op one.left one.right) (with_ops fields before) (with_ops fields (before ++ one ∷ [])) refl
     (op_tokens one.stage one.op one.left one.right ok.stage ok.left ok.right) op_word
@@ -76,7 +80,11 @@ op_written fields before one ok =
       groups = refl;
       current = refl;
       op = one;
-      valid = record { words = ap op_words cut ∙ op_read one.stage one.op one.left one.right ok.stage ok.left ok.right ok.single; allowed = ok.allowed };
+      valid = record {
+        words = ap op_words cut ∙ op_read one.stage one.op one.left one.right ok.stage ok.left ok.right ok.single;
+        allowed =
+            ok.allowed;
+      };
       made = refl;
     })
 
@@ -85,12 +93,15 @@ middle [] y ys = refl
 middle (x ∷ xs) y ys = middle xs y ys
 
 -- operations after others
-pub ops_written : (fields : List Field) (all : List PlanOp) → ((i : ℕ) (one : PlanOp) → slice_get all i ≡ Some one → IsOpOk fields (take i all) one) → (before rest : List PlanOp) → before ++ rest ≡ all →
+pub ops_written : (fields : List Field) (all : List PlanOp) → ((i : ℕ) (one : PlanOp) → slice_get all i ≡ Some one
+    → IsOpOk fields (take i all) one) → (before rest : List PlanOp) → before ++ rest ≡ all →
     IsWritten (flat_map op_line rest) (with_ops fields before) (with_ops fields all)
-ops_written fields all ok before [] e = nothing_written (with_ops fields before) (with_ops fields all) (ap (with_ops fields) (sym e ∙ append-nil before))
+ops_written fields all ok before [] e = nothing_written (with_ops fields before) (with_ops fields all)
+    (ap (with_ops fields) (sym e ∙ append-nil before))
 ops_written fields all ok before (one ∷ rest) e =
     written_then (op_line one) (flat_map op_line rest) (with_ops fields before) (with_ops fields (before ++ one ∷ [])) (with_ops fields all)
-    (op_written fields before one (subst (λ l. IsOpOk fields l one) front (ok (length before) one (ap (λ l. slice_get l (length before)) (sym e) ∙ middle before one rest))))
+    (op_written fields before one (subst (λ l. IsOpOk fields l one) front
+    (ok (length before) one (ap (λ l. slice_get l (length before)) (sym e) ∙ middle before one rest))))
     (ops_written fields all ok (before ++ one ∷ []) rest (append_assoc before (one ∷ []) rest ∙ e))
   where
     front : take (length before) all ≡ before

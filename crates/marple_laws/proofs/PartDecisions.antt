@@ -9,9 +9,11 @@ use Rattle.stage_plan.specs.declared.op.Operand.TheVariants.{Register, Number}
 use Rattle.stage_plan.specs.declared.op.PlanOp.{PlanOp}
 use Rattle.plan_file.specs.Lexis.{is_name, number, tokens}
 use Rattle.plan_file.specs.Named.{IsNamedNumber, IsNamedOperand, IsOneNumber, IsOneOperand}
-use Rattle.plan_file.specs.Operations.{AreFrom, IsAllowed, IsKnown, IsOpLine, IsReadsLine, IsStaged, is_right_of, last_stage, op_words, operand, stage_of}
+use Rattle.plan_file.specs.Operations.{AreFrom, IsAllowed, IsKnown, IsOpLine, IsReadsLine, IsStaged, is_right_of, last_stage, op_words}
+use Rattle.plan_file.specs.Operations.{operand, stage_of}
 use Rattle.plan_file.proofs.ReadsFacts.{same_name}
-use Rattle.marple_laws.proofs.Decisions.{Decided, both, by_both, contains, either, is_true, less, most, none_some, same_number, same_text, some_same, three_tokens, two_tokens, value_of}
+use Rattle.marple_laws.proofs.Decisions.{Decided, both, by_both, contains, either, is_true, less, most, none_some, same_number, same_text}
+use Rattle.marple_laws.proofs.Decisions.{some_same, three_tokens, two_tokens, value_of}
 
 -- the line `reads`
 
@@ -23,7 +25,8 @@ search_field : (t : List ℕ) (fs : List Field) → ((f : Field) × (t ≡ field
 search_field t [] = inr tt
 search_field t (f ∷ fs) = by (same_text t (field_name f)) (search_field t fs)
   where
-    by : Decided (t ≡ field_name f) → ((g : Field) × (t ≡ field_name g)) ⊎ Avoids t fs → ((g : Field) × (t ≡ field_name g)) ⊎ Avoids t (f ∷ fs)
+    by : Decided (t ≡ field_name f) → ((g : Field) × (t ≡ field_name g)) ⊎ Avoids t fs
+        → ((g : Field) × (t ≡ field_name g)) ⊎ Avoids t (f ∷ fs)
     by (inl e) rest = inl (f, e)
     by (inr other) (inl found) = inl found
     by (inr other) (inr others) = inr (other, others)
@@ -62,7 +65,8 @@ reads_from least (t ∷ ts) = by (λ k. reads_from k ts) (field_named t)
     unnamed none [] e = cc
     unnamed none (g ∷ gs) e = (let head : t ≡ field_name g = cc in none (g, head))
 
-    back : (f : Field) → t ≡ field_name f → (fs : List Field) → t ∷ ts ≡ map field_name fs → AreFrom least fs → (least ≤ number_of f) × ReadsFrom (number_of f + 1) ts
+    back : (f : Field) → t ≡ field_name f → (fs : List Field) → t ∷ ts ≡ map field_name fs → AreFrom least fs → (least ≤ number_of f)
+        × ReadsFrom (number_of f + 1) ts
     back f named [] e from = absurd (let no : t ∷ ts ≡ [] = e in cc)
     back f named (g ∷ gs) e from =
         let head : t ≡ field_name g = cc in
@@ -70,7 +74,8 @@ reads_from least (t ∷ ts) = by (λ k. reads_from k ts) (field_named t)
         let same : g ≡ f = same_name g f (sym head ∙ named) in
         (subst (λ x. least ≤ number_of x) same from.0, (gs, rest, subst (λ x. AreFrom (number_of x + 1) gs) same from.1))
 
-    with_field : (f : Field) → t ≡ field_name f → Decided ((least ≤ number_of f) × ReadsFrom (number_of f + 1) ts) → Decided (ReadsFrom least (t ∷ ts))
+    with_field : (f : Field) → t ≡ field_name f → Decided ((least ≤ number_of f) × ReadsFrom (number_of f + 1) ts)
+        → Decided (ReadsFrom least (t ∷ ts))
     with_field f named (inl p) = inl (f ∷ p.1.0, ap₂ (λ x xs. x ∷ xs) named p.1.1, (p.0, p.1.2))
     with_field f named (inr none) = inr (λ p. none (back f named p.0 p.1 p.2))
 
@@ -116,7 +121,8 @@ allowed fs ops op =
 pub op_line : (fs : List Field) (ops : List PlanOp) (line : List ℕ) → Decided ((op : PlanOp) × IsOpLine fs ops line op)
 op_line fs ops line = by (value_of (op_words (tokens line)))
   where
-    by : ((op : PlanOp) × (op_words (tokens line) ≡ Some op)) ⊎ (op_words (tokens line) ≡ None) → Decided ((op : PlanOp) × IsOpLine fs ops line op)
+    by : ((op : PlanOp) × (op_words (tokens line) ≡ Some op)) ⊎ (op_words (tokens line) ≡ None)
+        → Decided ((op : PlanOp) × IsOpLine fs ops line op)
     by (inl (op, e)) =
         by_both (λ a. (op, record { words = e; allowed = a }))
         (λ p. subst (IsAllowed fs ops) (some_same (op_words (tokens line)) p.0 op p.1.words e) p.1.allowed) (allowed fs ops op)
@@ -124,7 +130,8 @@ op_line fs ops line = by (value_of (op_words (tokens line)))
 
 -- lines of a word, a name and an operand or a number
 
-pub named_operand : (fs : List Field) (ops : List PlanOp) (word line : List ℕ) → Decided ((name : List ℕ) × (v : Operand) × IsNamedOperand fs ops word line name v)
+pub named_operand : (fs : List Field) (ops : List PlanOp) (word line : List ℕ)
+    → Decided ((name : List ℕ) × (v : Operand) × IsNamedOperand fs ops word line name v)
 named_operand fs ops word line = by (three_tokens (tokens line))
   where
     with_value : (a n t : List ℕ) → tokens line ≡ a ∷ n ∷ t ∷ [] → ((v : Operand) × (operand t ≡ Some v)) ⊎ (operand t ≡ None)
@@ -140,18 +147,26 @@ named_operand fs ops word line = by (three_tokens (tokens line))
         let words : a ∷ n ∷ t ∷ [] ≡ word ∷ p.0 ∷ p.2.token ∷ [] = sym e ∙ p.2.words in
         let first : a ≡ word = cc in
         let name : n ≡ p.0 = cc in
-        let same : t ≡ p.2.token = cc in
-        (first, (ap is_name name ∙ p.2.named, subst (IsKnown fs ops) (some_same (operand t) p.1 v (ap operand same ∙ p.2.reads) r) p.2.known)))
+        let same : t ≡ p.2.token = cc in (
+          first,
+          (
+            ap is_name name ∙ p.2.named,
+            subst (IsKnown fs ops) (some_same (operand t) p.1 v (ap operand same ∙ p.2.reads) r)
+                p.2.known,
+          ),
+        ))
         (both (same_text a word) (both (is_true (is_name n)) (known fs ops v)))
 
-    by : Decided ((a : List ℕ) × (n : List ℕ) × (t : List ℕ) × (tokens line ≡ a ∷ n ∷ t ∷ [])) → Decided ((name : List ℕ) × (v : Operand) × IsNamedOperand fs ops word line name v)
+    by : Decided ((a : List ℕ) × (n : List ℕ) × (t : List ℕ) × (tokens line ≡ a ∷ n ∷ t ∷ []))
+        → Decided ((name : List ℕ) × (v : Operand) × IsNamedOperand fs ops word line name v)
     by (inr none) = inr (λ p. none (word, p.0, p.2.token, p.2.words))
     by (inl (a, n, t, e)) = with_value a n t e (value_of (operand t))
 
 pub one_operand : (fs : List Field) (ops : List PlanOp) (word line : List ℕ) → Decided ((v : Operand) × IsOneOperand fs ops word line v)
 one_operand fs ops word line = by (two_tokens (tokens line))
   where
-    with_value : (a t : List ℕ) → tokens line ≡ a ∷ t ∷ [] → ((v : Operand) × (operand t ≡ Some v)) ⊎ (operand t ≡ None) → Decided ((v : Operand) × IsOneOperand fs ops word line v)
+    with_value : (a t : List ℕ) → tokens line ≡ a ∷ t ∷ [] → ((v : Operand) × (operand t ≡ Some v)) ⊎ (operand t ≡ None)
+        → Decided ((v : Operand) × IsOneOperand fs ops word line v)
     with_value a t e (inr none) = inr (λ p.
         let words : a ∷ t ∷ [] ≡ word ∷ p.1.token ∷ [] = sym e ∙ p.1.words in
         let same : t ≡ p.1.token = cc in
@@ -173,7 +188,8 @@ one_operand fs ops word line = by (two_tokens (tokens line))
 pub named_number : (word line : List ℕ) → Decided ((name : List ℕ) × (v : ℕ) × IsNamedNumber word line name v)
 named_number word line = by (three_tokens (tokens line))
   where
-    with_value : (a n t : List ℕ) → tokens line ≡ a ∷ n ∷ t ∷ [] → ((v : ℕ) × (number t ≡ Some v)) ⊎ (number t ≡ None) → Decided ((name : List ℕ) × (v : ℕ) × IsNamedNumber word line name v)
+    with_value : (a n t : List ℕ) → tokens line ≡ a ∷ n ∷ t ∷ [] → ((v : ℕ) × (number t ≡ Some v)) ⊎ (number t ≡ None)
+        → Decided ((name : List ℕ) × (v : ℕ) × IsNamedNumber word line name v)
     with_value a n t e (inr none) = inr (λ p.
         let words : a ∷ n ∷ t ∷ [] ≡ word ∷ p.0 ∷ p.2.token ∷ [] = sym e ∙ p.2.words in
         let same : t ≡ p.2.token = cc in
@@ -188,14 +204,16 @@ named_number word line = by (three_tokens (tokens line))
         (first, ap is_name name ∙ p.2.named))
         (both (same_text a word) (is_true (is_name n)))
 
-    by : Decided ((a : List ℕ) × (n : List ℕ) × (t : List ℕ) × (tokens line ≡ a ∷ n ∷ t ∷ [])) → Decided ((name : List ℕ) × (v : ℕ) × IsNamedNumber word line name v)
+    by : Decided ((a : List ℕ) × (n : List ℕ) × (t : List ℕ) × (tokens line ≡ a ∷ n ∷ t ∷ []))
+        → Decided ((name : List ℕ) × (v : ℕ) × IsNamedNumber word line name v)
     by (inr none) = inr (λ p. none (word, p.0, p.2.token, p.2.words))
     by (inl (a, n, t, e)) = with_value a n t e (value_of (number t))
 
 pub one_number : (word line : List ℕ) → Decided ((v : ℕ) × IsOneNumber word line v)
 one_number word line = by (two_tokens (tokens line))
   where
-    with_value : (a t : List ℕ) → tokens line ≡ a ∷ t ∷ [] → ((v : ℕ) × (number t ≡ Some v)) ⊎ (number t ≡ None) → Decided ((v : ℕ) × IsOneNumber word line v)
+    with_value : (a t : List ℕ) → tokens line ≡ a ∷ t ∷ [] → ((v : ℕ) × (number t ≡ Some v)) ⊎ (number t ≡ None)
+        → Decided ((v : ℕ) × IsOneNumber word line v)
     with_value a t e (inr none) = inr (λ p.
         let words : a ∷ t ∷ [] ≡ word ∷ p.1.token ∷ [] = sym e ∙ p.1.words in
         let same : t ≡ p.1.token = cc in

@@ -1,5 +1,6 @@
 -- What holds of the names and tables of the items before some place.
-use Rattle.std.proofs.Common.{◌≡◌, ℕ, zero, suc, ◌+◌, ◌<◌, ◌≤◌, Bool, true, false, List, [], ◌∷◌, ◌++◌, length, Some, None, Option, Ok, refl, sym, ap, subst, ◌∙◌, inl, inr, ◌⊎◌, arith, nat_eq, nat_lt, is_some}
+use Rattle.std.proofs.Common.{◌≡◌, ℕ, zero, suc, ◌+◌, ◌<◌, ◌≤◌, Bool, true, false, List, [], ◌∷◌, ◌++◌, length, Some, None, Option, Ok}
+use Rattle.std.proofs.Common.{refl, sym, ap, subst, ◌∙◌, inl, inr, ◌⊎◌, arith, nat_eq, nat_lt, is_some}
 use Rattle.std.specs.Prelude.{map, flat_map, slice_get, option_map, if◌then◌else◌}
 use Rattle.std.proofs.lemmas.Bool.Decides.{nat_tests}
 use Rattle.std.proofs.lemmas.List.{map-append}
@@ -25,7 +26,9 @@ use Rattle.query_lang.specs.declared.typing.Meaning.{Meaning}
 use Rattle.query_lang.specs.declared.typing.Meaning.TheVariants as meaning
 use Rattle.query_lang.specs.declared.typing.TableView.{TableView}
 use Rattle.query_lang.specs.TypedFolds.{fold_checked}
-use Rattle.query_lang.specs.TypedStreams.{meaning_of, begun, as_fold, stream_named, fold_named, column_names, columns_at, new_columns, no_new_columns, keys_checked, key_names, arguments_of, clash, grouped, made_stream, with_stream, stream_checked, next_stream}
+use Rattle.query_lang.specs.TypedStreams.{meaning_of, begun, as_fold, stream_named, fold_named, column_names, columns_at, new_columns}
+use Rattle.query_lang.specs.TypedStreams.{no_new_columns, keys_checked, key_names, arguments_of, clash, grouped, made_stream, with_stream}
+use Rattle.query_lang.specs.TypedStreams.{stream_checked, next_stream}
 use Rattle.query_lang.specs.TypedExprs.{condition_of}
 use Rattle.query_lang.specs.Typing.{with_fold, fold_added}
 use Rattle.marple_laws.proofs.Items.{must_ok, must_not_ok, found_first, same_ok, IsIn, in_push, new_push}
@@ -67,10 +70,12 @@ pub record Good (packets : ℕ) (e : Earlier) : Type 0 where
 
 -- one more name
 
-pub meaning_cases : (known : List Known) (entry : Known) (id : ℕ) (m : Meaning) → meaning_of (known ++ entry ∷ []) id ≡ Some m → (meaning_of known id ≡ Some m) ⊎ ((id ≡ entry.name) × (entry.meaning ≡ m))
+pub meaning_cases : (known : List Known) (entry : Known) (id : ℕ) (m : Meaning) → meaning_of (known ++ entry ∷ []) id ≡ Some m
+    → (meaning_of known id ≡ Some m) ⊎ ((id ≡ entry.name) × (entry.meaning ≡ m))
 meaning_cases [] entry id m e = by (nat_eq entry.name id) refl e
   where
-    by : (b : Bool) → nat_eq entry.name id ≡ b → (if b then Some entry.meaning else None) ≡ Some m → (None ≡ Some m) ⊎ ((id ≡ entry.name) × (entry.meaning ≡ m))
+    by : (b : Bool) → nat_eq entry.name id ≡ b → (if b then Some entry.meaning else None) ≡ Some m
+        → (None ≡ Some m) ⊎ ((id ≡ entry.name) × (entry.meaning ≡ m))
     by true t e = let same : entry.name ≡ id = grind (arith, nat_tests) in inr (sym same, (let s : entry.meaning ≡ m = cc in s))
     by false t e = inl e
 meaning_cases (k ∷ known) entry id m e = by (nat_eq k.name id) e (meaning_cases known entry id m)
@@ -81,43 +86,52 @@ meaning_cases (k ∷ known) entry id m e = by (nat_eq k.name id) e (meaning_case
     by true e rest = inl e
     by false e rest = rest e
 
-meaning_kept : (known : List Known) (entry : Known) (id : ℕ) (m : Meaning) → meaning_of known id ≡ Some m → meaning_of (known ++ entry ∷ []) id ≡ Some m
+meaning_kept : (known : List Known) (entry : Known) (id : ℕ) (m : Meaning) → meaning_of known id ≡ Some m
+    → meaning_of (known ++ entry ∷ []) id ≡ Some m
 meaning_kept [] entry id m e = cc
 meaning_kept (k ∷ known) entry id m e = by (nat_eq k.name id) e (meaning_kept known entry id m)
   where
-    by : (b : Bool) → (if b then Some k.meaning else meaning_of known id) ≡ Some m → (meaning_of known id ≡ Some m → meaning_of (known ++ entry ∷ []) id ≡ Some m) →
+    by : (b : Bool) → (if b then Some k.meaning else meaning_of known id) ≡ Some m
+        → (meaning_of known id ≡ Some m → meaning_of (known ++ entry ∷ []) id ≡ Some m) →
         (if b then Some k.meaning else meaning_of (known ++ entry ∷ []) id) ≡ Some m
     by true e rest = e
     by false e rest = rest e
 
-some_kept : (known : List Known) (entry : Known) (id : ℕ) → is_some (meaning_of known id) ≡ true → is_some (meaning_of (known ++ entry ∷ []) id) ≡ true
+some_kept : (known : List Known) (entry : Known) (id : ℕ) → is_some (meaning_of known id) ≡ true
+    → is_some (meaning_of (known ++ entry ∷ []) id) ≡ true
 some_kept [] entry id e = cc
 some_kept (k ∷ known) entry id e = by (nat_eq k.name id) e (some_kept known entry id)
   where
-    by : (b : Bool) → is_some (if b then Some k.meaning else meaning_of known id) ≡ true → (is_some (meaning_of known id) ≡ true → is_some (meaning_of (known ++ entry ∷ []) id) ≡ true) →
+    by : (b : Bool) → is_some (if b then Some k.meaning else meaning_of known id) ≡ true
+        → (is_some (meaning_of known id) ≡ true → is_some (meaning_of (known ++ entry ∷ []) id) ≡ true) →
         is_some (if b then Some k.meaning else meaning_of (known ++ entry ∷ []) id) ≡ true
     by true e rest = refl
     by false e rest = rest e
 
 some_new : (known : List Known) (entry : Known) → is_some (meaning_of (known ++ entry ∷ []) entry.name) ≡ true
-some_new [] entry = let t : nat_eq entry.name entry.name ≡ true = grind (arith, nat_tests) in ap (λ b. is_some (if b then Some entry.meaning else None)) t
+some_new [] entry = let t : nat_eq entry.name entry.name ≡ true = grind (arith, nat_tests) in ap
+    (λ b. is_some (if b then Some entry.meaning else None)) t
 some_new (k ∷ known) entry = by (nat_eq k.name entry.name) (some_new known entry)
   where
-    by : (b : Bool) → is_some (meaning_of (known ++ entry ∷ []) entry.name) ≡ true → is_some (if b then Some k.meaning else meaning_of (known ++ entry ∷ []) entry.name) ≡ true
+    by : (b : Bool) → is_some (meaning_of (known ++ entry ∷ []) entry.name) ≡ true
+        → is_some (if b then Some k.meaning else meaning_of (known ++ entry ∷ []) entry.name) ≡ true
     by true rest = refl
     by false rest = rest
 
-place_cases : (known : List Known) (entry : Known) (id : ℕ) (p : PrintOf) → place_at (known ++ entry ∷ []) id ≡ Some p → (place_at known id ≡ Some p) ⊎ ((id ≡ entry.name) × (place_in (Some entry.meaning) ≡ Some p))
+place_cases : (known : List Known) (entry : Known) (id : ℕ) (p : PrintOf) → place_at (known ++ entry ∷ []) id ≡ Some p
+    → (place_at known id ≡ Some p) ⊎ ((id ≡ entry.name) × (place_in (Some entry.meaning) ≡ Some p))
 place_cases known entry id p e = by (meaning_of (known ++ entry ∷ []) id) refl e
   where
-    by : (o : Option Meaning) → meaning_of (known ++ entry ∷ []) id ≡ o → place_in o ≡ Some p → (place_at known id ≡ Some p) ⊎ ((id ≡ entry.name) × (place_in (Some entry.meaning) ≡ Some p))
+    by : (o : Option Meaning) → meaning_of (known ++ entry ∷ []) id ≡ o → place_in o ≡ Some p
+        → (place_at known id ≡ Some p) ⊎ ((id ≡ entry.name) × (place_in (Some entry.meaning) ≡ Some p))
     by None h e = cc
     by (Some m) h e = elim (meaning_cases known entry id m h) [
       | inl old ↦ inl (ap place_in old ∙ e)
       | inr new ↦ inr (new.0, ap (λ m. place_in (Some m)) new.1 ∙ e)
     ]
 
-place_kept : (known : List Known) (entry : Known) (id : ℕ) (p : PrintOf) → place_at known id ≡ Some p → place_at (known ++ entry ∷ []) id ≡ Some p
+place_kept : (known : List Known) (entry : Known) (id : ℕ) (p : PrintOf) → place_at known id ≡ Some p
+    → place_at (known ++ entry ∷ []) id ≡ Some p
 place_kept known entry id p e = by (meaning_of known id) refl e
   where
     by : (o : Option Meaning) → meaning_of known id ≡ o → place_in o ≡ Some p → place_at (known ++ entry ∷ []) id ≡ Some p
@@ -135,8 +149,10 @@ pub record Grown (packets : ℕ) (e : Earlier) (entry : Known) (groups finals : 
   pub prints_known : (p : PrintOf) → IsIn p e.prints → (id : ℕ) × IsIn id e.printed × (place_at (e.known ++ entry ∷ []) id ≡ Some p)
   pub streams_known : (id : ℕ) → IsIn id (packets ∷ stream_ids e.streams) → is_some (meaning_of (e.known ++ entry ∷ []) id) ≡ true
 
-pub grown : (packets : ℕ) (e : Earlier) (entry : Known) (groups finals : ℕ) → Good packets e → e.groups ≤ groups → length e.finals ≤ finals →
-    ((p : PrintOf) → place_in (Some entry.meaning) ≡ Some p → IsBelow e.groups (length e.finals) p → ⊥) → ((p : PrintOf) → place_in (Some entry.meaning) ≡ Some p → IsBelow groups finals p) →
+pub grown : (packets : ℕ) (e : Earlier) (entry : Known) (groups finals : ℕ) → Good packets e → e.groups ≤ groups → length e.finals ≤ finals
+    →
+    ((p : PrintOf) → place_in (Some entry.meaning) ≡ Some p → IsBelow e.groups (length e.finals) p → ⊥)
+    → ((p : PrintOf) → place_in (Some entry.meaning) ≡ Some p → IsBelow groups finals p) →
     Grown packets e entry groups finals
 grown packets e entry groups finals good more_groups more_finals fresh below = record {
   places = λ a b p ea eb. elim (place_cases e.known entry a p ea) [
@@ -166,7 +182,8 @@ last_at : {A : Type 0} (xs : List A) (x : A) → slice_get (xs ++ x ∷ []) (len
 last_at [] x = refl
 last_at (y ∷ xs) x = last_at xs x
 
-more_folds : (folds : List TypedFold) (f : TypedFold) (columns : List ℕ) (op : TypedOp) → HasOwnColumns folds columns op → HasOwnColumns (folds ++ f ∷ []) columns op
+more_folds : (folds : List TypedFold) (f : TypedFold) (columns : List ℕ) (op : TypedOp) → HasOwnColumns folds columns op
+    → HasOwnColumns (folds ++ f ∷ []) columns op
 more_folds folds f columns (typed.Group input keys number args) h = (h.0, (h.1.0, left_at folds (f ∷ []) number h.1.0 h.1.1, h.1.2))
 more_folds folds f columns (typed.Filter input e) h = tt
 more_folds folds f columns (typed.Map input values) h = tt
@@ -181,7 +198,11 @@ fold_good packets e after d good ok =
   where
     added : (f : TypedFold) → AreNew [] f.state_names → Good packets (with_fold e f)
     added f new =
-        let entry : Known = record { name = f.name.id; meaning = meaning.Fold (record { number = length e.folds; states = f.state_names; args = f.arg_names; emits = is_some f.emit }) } in
+        let entry : Known = record {
+          name = f.name.id;
+          meaning = meaning.Fold
+              (record { number = length e.folds; states = f.state_names; args = f.arg_names; emits = is_some f.emit });
+        } in
         let g = grown packets e entry e.groups (length e.finals) good (omega arith) (omega arith) (λ p h. cc) (λ p h. cc) in
         record {
           places = g.places;
@@ -193,8 +214,13 @@ fold_good packets e after d good ok =
           folds_known = λ id v h. elim (meaning_cases e.known entry id (meaning.Fold v) h) [
             | inl old ↦ (let k = good.folds_known id v old in (k.0, left_at e.folds (f ∷ []) v.number k.0 k.1, k.2))
             | inr fresh ↦
-                let same : record { number = length e.folds; states = f.state_names; args = f.arg_names; emits = is_some f.emit } ≡ v = cc in
-                (f, ap (slice_get (e.folds ++ f ∷ [])) (ap (λ (w : FoldView). w.number) (sym same)) ∙ last_at e.folds f, ap (λ (w : FoldView). w.states) (sym same))
+                let same : record { number = length e.folds; states = f.state_names; args = f.arg_names; emits = is_some f.emit } ≡ v =
+                cc in (
+                  f,
+                  ap (slice_get (e.folds ++ f ∷ [])) (ap (λ (w : FoldView). w.number) (sym same))
+                      ∙ last_at e.folds f,
+                  ap (λ (w : FoldView). w.states) (sym same),
+                )
           ];
           folds = λ g i. elim (in_push e.folds f g i) [
             | inl old ↦ good.folds g old
@@ -208,7 +234,8 @@ record IsMade (e : Earlier) (made : MadeStream) : Type 0 where
   table : (made.table ≡ None) ⊎ ((t : TableView) × (made.table ≡ Some t) × (t.place ≡ place.Group e.groups))
   columns : HasOwnColumns e.folds (column_names made.columns) made.op
 
-fold_there : (e : Earlier) (packets : ℕ) → Good packets e → (name : Name) (v : FoldView) → fold_named e.known name ≡ Ok v → HasFold e.folds v
+fold_there : (e : Earlier) (packets : ℕ) → Good packets e → (name : Name) (v : FoldView) → fold_named e.known name ≡ Ok v
+    → HasFold e.folds v
 fold_there e packets good name v ok = by (meaning_of e.known name.id) refl ok
   where
     by : (o : Option Meaning) → meaning_of e.known name.id ≡ o → as_fold o name.span ≡ Ok v → HasFold e.folds v
@@ -217,22 +244,28 @@ fold_there e packets good name v ok = by (meaning_of e.known name.id) refl ok
     by (Some (meaning.Stream s)) h ok = cc
     by (Some (meaning.Final t)) h ok = cc
 
-grouped_made : (packets : ℕ) (five : List ℕ) (e : Earlier) (input : Name) (keys : List Key) (fold_name : Name) (made : MadeStream) → Good packets e → grouped five e input keys fold_name ≡ Ok made → IsMade e made
+grouped_made : (packets : ℕ) (five : List ℕ) (e : Earlier) (input : Name) (keys : List Key) (fold_name : Name) (made : MadeStream)
+    → Good packets e → grouped five e input keys fold_name ≡ Ok made → IsMade e made
 grouped_made packets five e input keys fold_name made good ok =
     let source = found_first (stream_named e.known input) _ made ok in
     let picked = found_first (keys_checked five (column_names source.0.columns) source.0.hidden keys) _ made source.2 in
     let f = found_first (fold_named e.known fold_name) _ made picked.2 in
-    let arguments = found_first (arguments_of (column_names source.0.columns) source.0.hidden picked.0.names f.0 fold_name.span) _ made f.2 in
-    let k : AreKeyColumns source.0.columns picked.0 = key_columns_are source.0.columns source.0.hidden (flat_map (key_names five) keys) picked.0 picked.1 in
+    let arguments = found_first (arguments_of (column_names source.0.columns) source.0.hidden picked.0.names f.0 fold_name.span) _ made
+    f.2 in
+    let k : AreKeyColumns source.0.columns picked.0 = key_columns_are source.0.columns source.0.hidden (flat_map (key_names five) keys)
+    picked.0 picked.1 in
     let has = fold_there e packets good fold_name f.0 f.1 in
-    let apart : AreApart picked.0.names f.0.states = states_apart (column_names source.0.columns) source.0.hidden picked.0.names f.0 fold_name.span arguments.0 arguments.1 in
-    let apart_columns : AreApart (column_names (columns_at source.0.columns picked.0.slots)) has.0.state_names = subst (λ l. AreApart l has.0.state_names) (sym k.names) (subst (AreApart picked.0.names) has.2 apart) in
+    let apart : AreApart picked.0.names f.0.states = states_apart (column_names source.0.columns) source.0.hidden picked.0.names f.0
+    fold_name.span arguments.0 arguments.1 in
+    let apart_columns : AreApart (column_names (columns_at source.0.columns picked.0.slots)) has.0.state_names =
+    subst (λ l. AreApart l has.0.state_names) (sym k.names) (subst (AreApart picked.0.names) has.2 apart) in
     subst (IsMade e) (same_ok _ made arguments.2) (record {
       table = inr (_, refl, refl);
       columns = (k.new, (has.0, has.1, apart_columns));
     })
 
-stream_made : (packets : ℕ) (five : List ℕ) (e : Earlier) (name : Name) (op : StreamOp) (made : MadeStream) → Good packets e → made_stream five e name op ≡ Ok made → IsMade e made
+stream_made : (packets : ℕ) (five : List ℕ) (e : Earlier) (name : Name) (op : StreamOp) (made : MadeStream) → Good packets e
+    → made_stream five e name op ≡ Ok made → IsMade e made
 stream_made packets five e name (ops.Filter input x) made good ok =
     let source = found_first (stream_named e.known input) _ made ok in
     let condition = found_first (condition_of (column_names source.0.columns) source.0.hidden x) _ made source.2 in
@@ -247,12 +280,18 @@ stream_made packets five e name (ops.Zip first second) made good ok =
     let none = must_not_ok (clash left.0.columns right.0.columns) NameTaken second.span _ made right.2 in
     subst (IsMade e) (same_ok _ made none.1) (record { table = inl refl; columns = tt })
 stream_made packets five e name (ops.Group input keys fold_name) made good ok =
-    grouped_made packets five e input keys fold_name made good (must_ok (nat_lt e.groups 8) (OverLimit Groupbys) name.span (grouped five e input keys fold_name) made ok).1
+    grouped_made packets five e input keys fold_name made good (must_ok (nat_lt e.groups 8) (OverLimit Groupbys) name.span
+    (grouped five e input keys fold_name) made ok).1
 
 -- one more stream
-with_stream_good : (packets : ℕ) (e : Earlier) (name : Name) (made : MadeStream) → Good packets e → is_some (meaning_of e.known name.id) ≡ false → IsMade e made → Good packets (with_stream e name made)
+with_stream_good : (packets : ℕ) (e : Earlier) (name : Name) (made : MadeStream) → Good packets e
+    → is_some (meaning_of e.known name.id) ≡ false → IsMade e made → Good packets (with_stream e name made)
 with_stream_good packets e name made good free is =
-    let entry : Known = record { name = name.id; meaning = meaning.Stream (record { number = next_stream e; columns = made.columns; hidden = made.hidden; table = made.table }) } in
+    let entry : Known = record {
+      name = name.id;
+      meaning = meaning.Stream
+          (record { number = next_stream e; columns = made.columns; hidden = made.hidden; table = made.table });
+    } in
     let groups : ℕ = e.groups + (if is_some made.table then 1 else 0) in
     let g = grown packets e entry groups (length e.finals) good (omega arith) (omega arith) fresh below in
     record {
@@ -261,7 +300,8 @@ with_stream_good packets e name made good free is =
       prints_known = g.prints_known;
       prints = good.prints;
       streams_known = λ id i. known id (subst (λ l. IsIn id (packets ∷ l)) ids i) g.streams_known;
-      streams = subst (AreNew (packets ∷ [])) (sym ids) (new_push (packets ∷ []) (stream_ids e.streams) name.id good.streams (λ i. (let k = good.streams_known name.id i in cc)));
+      streams = subst (AreNew (packets ∷ [])) (sym ids) (new_push (packets ∷ []) (stream_ids e.streams) name.id good.streams
+          (λ i. (let k = good.streams_known name.id i in cc)));
       folds_known = λ id v h. elim (meaning_cases e.known entry id (meaning.Fold v) h) [
         | inl old ↦ good.folds_known id v old
         | inr new ↦ absurd (no v new.1)
@@ -273,19 +313,47 @@ with_stream_good packets e name made good free is =
       ];
     }
   where
-    ids : stream_ids (e.streams ++ record { name = name; columns = column_names made.columns; op = made.op } ∷ []) ≡ stream_ids e.streams ++ name.id ∷ []
-    ids = map-append (λ (one : TypedStream). one.name.id) e.streams (record { name = name; columns = column_names made.columns; op = made.op } ∷ [])
+    ids : stream_ids (e.streams ++ record { name = name; columns = column_names made.columns; op = made.op } ∷ []) ≡ stream_ids e.streams
+        ++ name.id ∷ []
+    ids = map-append (λ (one : TypedStream). one.name.id) e.streams (record
+        { name = name; columns = column_names made.columns; op = made.op } ∷ [])
 
-    no : (v : FoldView) → meaning.Stream (record { number = next_stream e; columns = made.columns; hidden = made.hidden; table = made.table }) ≡ meaning.Fold v → ⊥
+    no : (v : FoldView) → meaning.Stream (record {
+      number = next_stream e;
+      columns = made.columns;
+      hidden = made.hidden;
+      table =
+          made.table;
+    }) ≡ meaning.Fold v → ⊥
     no v h = cc
 
     known : (id : ℕ) → IsIn id (packets ∷ (stream_ids e.streams ++ name.id ∷ [])) →
-        ((id : ℕ) → IsIn id (packets ∷ stream_ids e.streams) → is_some (meaning_of (e.known ++ record { name = name.id; meaning = meaning.Stream (record { number = next_stream e; columns = made.columns; hidden = made.hidden; table = made.table }) } ∷ []) id) ≡ true) →
-        is_some (meaning_of (e.known ++ record { name = name.id; meaning = meaning.Stream (record { number = next_stream e; columns = made.columns; hidden = made.hidden; table = made.table }) } ∷ []) id) ≡ true
+        ((id : ℕ) → IsIn id (packets ∷ stream_ids e.streams) → is_some
+        (meaning_of (e.known ++ record {
+          name = name.id;
+          meaning =
+              meaning.Stream (record { number = next_stream e; columns = made.columns; hidden = made.hidden; table = made.table });
+        } ∷ []) id)
+        ≡ true) →
+        is_some (meaning_of (e.known ++ record {
+          name = name.id;
+          meaning =
+              meaning.Stream (record { number = next_stream e; columns = made.columns; hidden = made.hidden; table = made.table });
+        } ∷ []) id)
+        ≡ true
     known id i old = elim (in_push (packets ∷ stream_ids e.streams) name.id id i) [
       | inl h ↦ old id h
-      | inr same ↦ subst (λ n. is_some (meaning_of (e.known ++ record { name = name.id; meaning = meaning.Stream (record { number = next_stream e; columns = made.columns; hidden = made.hidden; table = made.table }) } ∷ []) n) ≡ true) (sym same)
-          (some_new e.known (record { name = name.id; meaning = meaning.Stream (record { number = next_stream e; columns = made.columns; hidden = made.hidden; table = made.table }) }))
+      | inr same ↦ subst (λ n. is_some (meaning_of (e.known ++ record {
+        name = name.id;
+        meaning =
+            meaning.Stream (record { number = next_stream e; columns = made.columns; hidden = made.hidden; table = made.table });
+      } ∷ []) n)
+          ≡ true) (sym same)
+          (some_new e.known (record {
+            name = name.id;
+            meaning = meaning.Stream
+                (record { number = next_stream e; columns = made.columns; hidden = made.hidden; table = made.table });
+          }))
     ]
 
     fresh : (p : PrintOf) → option_map (λ (t : TableView). t.place) made.table ≡ Some p → IsBelow e.groups (length e.finals) p → ⊥
@@ -298,21 +366,25 @@ with_stream_good packets e name made good free is =
           omega (arith, low)
     ]
 
-    below : (p : PrintOf) → option_map (λ (t : TableView). t.place) made.table ≡ Some p → IsBelow (e.groups + (if is_some made.table then 1 else 0)) (length e.finals) p
+    below : (p : PrintOf) → option_map (λ (t : TableView). t.place) made.table ≡ Some p
+        → IsBelow (e.groups + (if is_some made.table then 1 else 0)) (length e.finals) p
     below p h = elim is.table [
       | inl none ↦ (let z : None ≡ Some p = sym (ap (option_map (λ (t : TableView). t.place)) none) ∙ h in cc)
       | inr some ↦
           let z : Some some.0.place ≡ Some p = sym (ap (option_map (λ (t : TableView). t.place)) some.1) ∙ h in
           let is_p : place.Group e.groups ≡ p = cc in
-          let one : e.groups + (if is_some made.table then 1 else 0) ≡ e.groups + 1 = ap (λ o. e.groups + (if is_some o then 1 else 0)) some.1 in
+          let one : e.groups + (if is_some made.table then 1 else 0) ≡ e.groups + 1 =
+          ap (λ o. e.groups + (if is_some o then 1 else 0)) some.1 in
           subst (IsBelow (e.groups + (if is_some made.table then 1 else 0)) (length e.finals)) is_p (omega (arith, one))
     ]
 
 begun_free : (e : Earlier) (name : Name) (u : Unit {0}) → begun e name ≡ Ok u → is_some (meaning_of e.known name.id) ≡ false
 begun_free e name u ok = (must_not_ok (is_some (meaning_of e.known name.id)) NameTaken name.span _ u ok).0
 
-pub stream_good : (packets : ℕ) (five : List ℕ) (e after : Earlier) (d : StreamDef) → Good packets e → stream_checked five e d ≡ Ok after → Good packets after
+pub stream_good : (packets : ℕ) (five : List ℕ) (e after : Earlier) (d : StreamDef) → Good packets e → stream_checked five e d ≡ Ok after
+    → Good packets after
 stream_good packets five e after d good ok =
     let b = found_first (begun e d.name) _ after ok in
     let m = found_first (made_stream five e d.name d.op) _ after b.2 in
-    subst (Good packets) (same_ok (with_stream e d.name m.0) after m.2) (with_stream_good packets e d.name m.0 good (begun_free e d.name b.0 b.1) (stream_made packets five e d.name d.op m.0 good m.1))
+    subst (Good packets) (same_ok (with_stream e d.name m.0) after m.2)
+    (with_stream_good packets e d.name m.0 good (begun_free e d.name b.0 b.1) (stream_made packets five e d.name d.op m.0 good m.1))

@@ -67,14 +67,16 @@ module _ (q : TypedQuery) (valid : IsValidQuery q) where
   one_shape one (typed.Group input keys number args) fits = by (slice_get q.folds number) refl
     where
       by : (o : Option TypedFold) → slice_get q.folds number ≡ o
-          → option_map group_shape (option_map (group_with q.names one) o) ≡ option_map (shape_with q.names one.name.id one.columns (length args)) o
+          → option_map group_shape (option_map (group_with q.names one) o) ≡ option_map
+          (shape_with q.names one.name.id one.columns (length args)) o
       by None e = refl
       by (Some f) e =
           let count : length f.arg_names ≡ length args = args_are q.folds number (length args) f e fits.all_args in
           ap Some (shape_is q.names one (length args) f (group_with q.names one f) (program_at number f e) refl refl refl count)
 
   -- and it is one of its fold
-  one_sound : (one : TypedStream) (op : TypedOp) → FitsGroup q one op → IsGroupOf q.folds (taking_of op) (group_planned q.names q.folds one op)
+  one_sound : (one : TypedStream) (op : TypedOp) → FitsGroup q one op → IsGroupOf q.folds (taking_of op)
+      (group_planned q.names q.folds one op)
   one_sound one (typed.Filter input condition) fits = tt
   one_sound one (typed.Map input values) fits = tt
   one_sound one (typed.Zip left right slots) fits = tt
@@ -82,8 +84,10 @@ module _ (q : TypedQuery) (valid : IsValidQuery q) where
     | inl found ↦
         let f : TypedFold = found.0 in
         let count : length f.arg_names ≡ length args = args_are q.folds number (length args) f found.2 fits.all_args in
-        subst (λ o. IsGroupOf q.folds (taking_of (typed.Group input keys number args)) (option_map (group_with q.names one) o)) (sym found.2)
-        (fitting_sound q.folds q.names number (length keys) (length args) one.columns f (group_with q.names one f) found.2 (program_at number f found.2) refl refl
+        subst (λ o. IsGroupOf q.folds (taking_of (typed.Group input keys number args)) (option_map (group_with q.names one) o))
+        (sym found.2)
+        (fitting_sound q.folds q.names number (length keys) (length args) one.columns f (group_with q.names one f) found.2
+        (program_at number f found.2) refl refl
         fits.some_keys fits.most_keys fits.all_keys count)
     | inr past ↦ absurd (omega (arith, past.0, fits.is_fold))
   ]
@@ -97,7 +101,8 @@ module _ (q : TypedQuery) (valid : IsValidQuery q) where
     sound : AreGroupsOf q.folds all groups
     count : length groups ≡ length all
 
-  one_more : (t : Option Taking) (group : Option GroupPlan) (all : List Taking) (groups : List GroupPlan) (shapes : List GroupShape) → IsGroupOf q.folds t group
+  one_more : (t : Option Taking) (group : Option GroupPlan) (all : List Taking) (groups : List GroupPlan) (shapes : List GroupShape)
+      → IsGroupOf q.folds t group
       → AreOf all groups shapes → AreOf (cons_option t all) (cons_option group groups) (cons_option (option_map group_shape group) shapes)
   one_more None None all groups shapes h rest = rest
   one_more None (Some group) all groups shapes h rest = absurd h
@@ -123,15 +128,18 @@ module _ (q : TypedQuery) (valid : IsValidQuery q) where
       let rest = groups_are streams (All-tail (λ (one : TypedStream). FitsGroup q one one.op) one streams fits) in
       let planned = groups_planned q.names q.folds streams in
       let shapes = filter_map (λ (one : TypedStream). shape_made q.names q.folds one one.op) streams in
-      subst (λ shape. AreOf (cons_option (taking_of one.op) (takings streams)) (cons_option (group_planned q.names q.folds one one.op) planned) (cons_option shape shapes))
+      subst (λ shape. AreOf (cons_option (taking_of one.op) (takings streams))
+      (cons_option (group_planned q.names q.folds one one.op) planned) (cons_option shape shapes))
       (one_shape one one.op first)
-      (one_more (taking_of one.op) (group_planned q.names q.folds one one.op) (takings streams) planned shapes (one_sound one one.op first) rest)
+      (one_more (taking_of one.op) (group_planned q.names q.folds one one.op) (takings streams) planned shapes (one_sound one one.op first)
+      rest)
 
   pub plan_put : stage_fault q ≡ None → IsPut q (plan_of q)
   plan_put none =
       let groups = groups_are q.streams (all_fit q valid) in
       let few = few_made q valid none in
-      put q (query_made q).ops (query_made q).streams (query_order q) (query_registers q) (query_ops q) (query_wiring q) (groups_planned q.names q.folds q.streams) (reads_of q) (record {
+      put q (query_made q).ops (query_made q).streams (query_order q) (query_registers q) (query_ops q) (query_wiring q)
+      (groups_planned q.names q.folds q.streams) (reads_of q) (record {
         made = record { valid = valid; ops_are = refl; streams_are = refl; fits = query_fault q ∙ none; few = omega (arith, few) };
         order_is = refl;
         placed = registers_placed (query_made q).ops (stages_of (query_made q).ops);

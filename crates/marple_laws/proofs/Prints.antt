@@ -39,7 +39,8 @@ as_many [] are = refl
 as_many (place.Group i ∷ prints) are = let rest = as_many prints are in omega (arith, rest)
 as_many (place.Final i ∷ prints) are = absurd are
 
-pub numbers_new : (prints before : List PrintOf) (numbers : List ℕ) → ((i : ℕ) → IsIn i numbers → IsIn (place.Group i) before) → AreGroups prints → AreNew before prints
+pub numbers_new : (prints before : List PrintOf) (numbers : List ℕ) → ((i : ℕ) → IsIn i numbers → IsIn (place.Group i) before)
+    → AreGroups prints → AreNew before prints
     → AreNew numbers (flat_map printed_group prints)
 numbers_new [] before numbers cover are new = tt
 numbers_new (place.Group i ∷ prints) before numbers cover are new = (
@@ -58,5 +59,6 @@ all_words : (numbers : List ℕ) → All IsWord numbers → AllWords numbers
 all_words [] all = tt
 all_words (n ∷ numbers) all = (All-head IsWord n numbers all, all_words numbers (All-tail IsWord n numbers all))
 
-pub starts : (folds : List TypedFold) → All (λ f. AreWords f.initial) folds → (i : ℕ) (f : TypedFold) → slice_get folds i ≡ Some f → AllWords f.initial
+pub starts : (folds : List TypedFold) → All (λ f. AreWords f.initial) folds → (i : ℕ) (f : TypedFold) → slice_get folds i ≡ Some f
+    → AllWords f.initial
 starts folds all i f e = all_words f.initial (all_at (λ (g : TypedFold). AreWords g.initial) folds i f all e)

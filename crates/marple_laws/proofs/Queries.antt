@@ -1,5 +1,6 @@
 -- The names of each query that was checked differ.
-use Rattle.std.proofs.Common.{◌≡◌, ℕ, ◌+◌, ◌<◌, Bool, true, false, List, [], ◌∷◌, ◌++◌, length, Some, None, Option, Ok, refl, sym, ap, subst, ◌∙◌, inl, inr, arith, nat_eq, nat_lt, is_some}
+use Rattle.std.proofs.Common.{◌≡◌, ℕ, ◌+◌, ◌<◌, Bool, true, false, List, [], ◌∷◌, ◌++◌, length, Some, None, Option, Ok, refl, sym, ap}
+use Rattle.std.proofs.Common.{subst, ◌∙◌, inl, inr, arith, nat_eq, nat_lt, is_some}
 use Rattle.std.specs.Prelude.{codes, map, option_map, if◌then◌else◌}
 use Rattle.std.proofs.lemmas.Bool.Decides.{nat_tests}
 use Rattle.std.proofs.lemmas.List.{length_push}
@@ -33,7 +34,11 @@ use Rattle.marple_laws.proofs.Differ.{NamesDiffer}
 -- one more final
 with_final_good : (packets : ℕ) (e : Earlier) (name : Name) (made : MadeFinal) → Good packets e → Good packets (with_final e name made)
 with_final_good packets e name made good =
-    let entry : Known = record { name = name.id; meaning = meaning.Final (record { place = place.Final (length e.finals); columns = made.columns; keys = made.keys }) } in
+    let entry : Known = record {
+      name = name.id;
+      meaning = meaning.Final
+          (record { place = place.Final (length e.finals); columns = made.columns; keys = made.keys });
+    } in
     let g = grown packets e entry e.groups (length (with_final e name made).finals) good (omega arith) (omega (arith, more)) fresh below in
     record {
       places = g.places;
@@ -53,7 +58,8 @@ with_final_good packets e name made good =
     more : length (with_final e name made).finals ≡ length e.finals + 1
     more = length_push e.finals _
 
-    no : (v : FoldView) → meaning.Final (record { place = place.Final (length e.finals); columns = made.columns; keys = made.keys }) ≡ meaning.Fold v → ⊥
+    no : (v : FoldView) → meaning.Final (record { place = place.Final (length e.finals); columns = made.columns; keys = made.keys })
+        ≡ meaning.Fold v → ⊥
     no v h = cc
 
     fresh : (p : PrintOf) → Some (place.Final (length e.finals)) ≡ Some p → IsBelow e.groups (length e.finals) p → ⊥
@@ -67,7 +73,8 @@ with_final_good packets e name made good =
         let is_p : place.Final (length e.finals) ≡ p = cc in
         subst (IsBelow e.groups (length (with_final e name made).finals)) is_p (omega (arith, more))
 
-final_good : (packets : ℕ) (given : Given) (e after : Earlier) (d : FinalDef) → Good packets e → final_checked given e d ≡ Ok after → Good packets after
+final_good : (packets : ℕ) (given : Given) (e after : Earlier) (d : FinalDef) → Good packets e → final_checked given e d ≡ Ok after
+    → Good packets after
 final_good packets given e after d good ok =
     let b = found_first (begun e d.name) _ after ok in
     let m = found_first (made_final given e d.op) _ after b.2 in
@@ -102,7 +109,8 @@ print_good packets e after name good ok =
     let t = found_first (table_named e.known name) _ after ok in
     let free = must_not_ok (is_among name.id e.printed) NameTaken name.span _ after t.2 in
     let at = place_of_table e.known name t.0 t.1 in
-    subst (Good packets) (same_ok (record e { prints = e.prints ++ t.0.place ∷ []; printed = e.printed ++ name.id ∷ [] }) after free.1) (record {
+    subst (Good packets) (same_ok (record e { prints = e.prints ++ t.0.place ∷ []; printed = e.printed ++ name.id ∷ [] }) after free.1)
+    (record {
       places = good.places;
       bounds = good.bounds;
       prints_known = λ p i. elim (in_push e.prints t.0.place p i) [
@@ -110,7 +118,8 @@ print_good packets e after name good ok =
         | inr same ↦ (name.id, in_last e.printed name.id, at ∙ ap Some (sym same))
       ];
       prints = new_push [] e.prints t.0.place good.prints (λ i. (let k = good.prints_known t.0.place i in
-          let same : k.0 ≡ name.id = good.places k.0 name.id t.0.place k.2 at in not_in e.printed name.id free.0 (subst (λ n. IsIn n e.printed) same k.1)));
+          let same : k.0 ≡ name.id = good.places k.0 name.id t.0.place k.2 at in not_in e.printed name.id free.0
+          (subst (λ n. IsIn n e.printed) same k.1)));
       streams_known = good.streams_known;
       streams = good.streams;
       folds_known = good.folds_known;
@@ -118,13 +127,15 @@ print_good packets e after name good ok =
       columns = good.columns;
     })
 
-item_good : (packets : ℕ) (given : Given) (e after : Earlier) (one : Item) → Good packets e → item_checked given e one ≡ Ok after → Good packets after
+item_good : (packets : ℕ) (given : Given) (e after : Earlier) (one : Item) → Good packets e → item_checked given e one ≡ Ok after
+    → Good packets after
 item_good packets given e after (item.Fold d) good ok = fold_good packets e after d good ok
 item_good packets given e after (item.Stream d) good ok = stream_good packets (five_fields given.fields) e after d good ok
 item_good packets given e after (item.Final d) good ok = final_good packets given e after d good ok
 item_good packets given e after (item.Print name) good ok = print_good packets e after name good ok
 
-items_good : (packets : ℕ) (given : Given) (items : List Item) (e after : Earlier) → Good packets e → items_checked given e items ≡ Ok after → Good packets after
+items_good : (packets : ℕ) (given : Given) (items : List Item) (e after : Earlier) → Good packets e → items_checked given e items ≡ Ok after
+    → Good packets after
 items_good packets given [] e after good ok = subst (Good packets) (same_ok e after ok) good
 items_good packets given (one ∷ items) e after good ok =
     let f = found_first (item_checked given e one) _ after ok in
@@ -147,21 +158,40 @@ start_good names = record {
     no : (a : ℕ) (p : PrintOf) → place_at (start_of names).known a ≡ Some p → ⊥
     no a p e = by (nat_eq (number_in names (codes "pktstream")) a) e
       where
-        by : (b : Bool) → place_in (if b then Some (meaning.Stream (record { number = 0; columns = map (λ id. record { name = id; origin = origin.Field }) (field_numbers names); hidden = []; table = None })) else None) ≡ Some p → ⊥
+        by : (b : Bool) → place_in (if b then Some (meaning.Stream (record {
+          number = 0;
+          columns = map (λ id. record { name = id; origin = origin.Field }) (field_numbers names);
+          hidden = [];
+          table =
+              None;
+        })) else None) ≡ Some p → ⊥
         by true e = cc
         by false e = cc
 
     none : (id : ℕ) (v : FoldView) → meaning_of (start_of names).known id ≡ Some (meaning.Fold v) → ⊥
     none id v e = by (nat_eq (number_in names (codes "pktstream")) id) e
       where
-        by : (b : Bool) → (if b then Some (meaning.Stream (record { number = 0; columns = map (λ id. record { name = id; origin = origin.Field }) (field_numbers names); hidden = []; table = None })) else None) ≡ Some (meaning.Fold v) → ⊥
+        by : (b : Bool) → (if b then Some (meaning.Stream (record {
+          number = 0;
+          columns =
+              map (λ id. record { name = id; origin = origin.Field }) (field_numbers names);
+          hidden = [];
+          table = None;
+        })) else None) ≡ Some
+            (meaning.Fold v) → ⊥
         by true e = cc
         by false e = cc
 
     known : (id : ℕ) → IsIn id (number_in names (codes "pktstream") ∷ []) → is_some (meaning_of (start_of names).known id) ≡ true
     known id (inl e) =
         let t : nat_eq (number_in names (codes "pktstream")) id ≡ true = grind (arith, nat_tests) in
-        ap (λ b. is_some (if b then Some (meaning.Stream (record { number = 0; columns = map (λ id. record { name = id; origin = origin.Field }) (field_numbers names); hidden = []; table = None })) else None)) t
+        ap (λ b. is_some (if b then Some (meaning.Stream (record {
+          number = 0;
+          columns =
+              map (λ id. record { name = id; origin = origin.Field }) (field_numbers names);
+          hidden = [];
+          table = None;
+        })) else None)) t
     known id (inr h) = absurd h
 
 pub checked_differ : (parsed : Query) (q : TypedQuery) → checked parsed ≡ Ok q → NamesDiffer (number_in (typed_names parsed.names) (codes "pktstream")) q

@@ -68,7 +68,12 @@ module _ (shape : GroupShape) (w : GroupWiring) (f : TypedFold) (valid : IsValid
   is_body =
       subst (λ a. IsBody (length f.initial) a (written_block (fold_states f) (fold_block f)) (fold_block f)) args
       (subst (λ s. IsBody s (fold_args f) (written_block (fold_states f) (fold_block f)) (fold_block f)) (sym valid.starts)
-      (record { statements = refl; typed = valid.statements; nesting = omega (arith, few_braces (fold_block f), valid.enough_statements, valid.most_statements) }))
+      (record {
+        statements = refl;
+        typed = valid.statements;
+        nesting =
+            omega (arith, few_braces (fold_block f), valid.enough_statements, valid.most_statements);
+      }))
 
   of_group : IsFoldOf one.group quiet
   of_group = record {
@@ -91,7 +96,8 @@ module _ (q : TypedQuery) (p : PlanParts) (valid : IsValidQuery q) (plan : IsPla
   shapes_long : length (query_groups q) ≡ length p.groups
   shapes_long = ap (λ s. length s.groups) (sym plan.shape) ∙ length-map p.groups group_shape
 
-  parts_of : (i : ℕ) (group : GroupPlan) (t : Taking) (f : TypedFold) → slice_get p.groups i ≡ Some group → slice_get (takings q.streams) i ≡ Some t → fold_at q i ≡ Some f → HasParts q i
+  parts_of : (i : ℕ) (group : GroupPlan) (t : Taking) (f : TypedFold) → slice_get p.groups i ≡ Some group
+      → slice_get (takings q.streams) i ≡ Some t → fold_at q i ≡ Some f → HasParts q i
   parts_of i group t f g e at = record {
     wiring = wiring_of (query_registers q) (query_made q).streams t;
     wired = wired;
@@ -102,10 +108,12 @@ module _ (q : TypedQuery) (p : PlanParts) (valid : IsValidQuery q) (plan : IsPla
   }
     where
       wired : slice_get (query_wiring q) i ≡ Some (wiring_of (query_registers q) (query_made q).streams t)
-      wired = slice_get-map (wiring_of (query_registers q) (query_made q).streams) (takings q.streams) i ∙ ap (option_map (wiring_of (query_registers q) (query_made q).streams)) e
+      wired = slice_get-map (wiring_of (query_registers q) (query_made q).streams) (takings q.streams) i
+          ∙ ap (option_map (wiring_of (query_registers q) (query_made q).streams)) e
 
       s : IsSoundGroup (14 + length p.ops) group (wiring_of (query_registers q) (query_made q).streams t)
-      s = sound.each i group (wiring_of (query_registers q) (query_made q).streams t) g (ap (λ l. slice_get l i) (wiring_is q p plan) ∙ wired)
+      s = sound.each i group (wiring_of (query_registers q) (query_made q).streams t) g
+          (ap (λ l. slice_get l i) (wiring_is q p plan) ∙ wired)
 
       program : IsProgramOf f group.program
       program = plan.programs i f group at g
@@ -115,7 +123,9 @@ module _ (q : TypedQuery) (p : PlanParts) (valid : IsValidQuery q) (plan : IsPla
     | inl group ↦ elim ((slice_get_cases (takings q.streams) i).1) [
       | inl found ↦
           let t : Taking = found.0 in
-          let number = fold_found q (map (λ t. t.fold_number) (takings q.streams)) i t.fold_number valid refl (slice_get-map (λ (t : Taking). t.fold_number) (takings q.streams) i ∙ ap (option_map (λ (t : Taking). t.fold_number)) found.2) in
+          let number = fold_found q (map (λ t. t.fold_number) (takings q.streams)) i t.fold_number valid refl
+          (slice_get-map (λ (t : Taking). t.fold_number) (takings q.streams) i
+          ∙ ap (option_map (λ (t : Taking). t.fold_number)) found.2) in
           elim ((slice_get_cases q.folds t.fold_number).1) [
             | inl fold ↦ parts_of i group.0 t fold.0 group.2 found.2 (number.fold fold.0 fold.2)
             | inr past ↦ absurd (omega (arith, past.0, number.within))
@@ -126,41 +136,52 @@ module _ (q : TypedQuery) (p : PlanParts) (valid : IsValidQuery q) (plan : IsPla
   ]
 
   module _ (g : Geometry) (packets : List (List ℕ)) (whole : All (λ words. length words ≡ 14) packets) where
-    same_uses : (i : ℕ) (shape : GroupShape) (h : HasParts q i) → i < length p.groups → uses_in (made_of q) (folded_with shape h.wiring h.fold) packets ≡ uses q i packets
+    same_uses : (i : ℕ) (shape : GroupShape) (h : HasParts q i) → i < length p.groups
+        → uses_in (made_of q) (folded_with shape h.wiring h.fold) packets ≡ uses q i packets
     same_uses i shape h lt = sym (
         plan.takes i packets lt whole
         ∙ ap (λ w. uses_taken 1 (map (λ words. taken_at w (after p.ops words (stages_of p.ops))) packets)) wiring
         ∙ ap (λ ops. uses_taken 1 (map (λ words. taken_at h.wiring (after ops words (stages_of ops))) packets)) (ops_are q p plan))
       where
         wiring : wiring_at p i ≡ h.wiring
-        wiring = ap (λ o. unwrap_or o (record { present = Number 0; keys = []; args = [] })) (ap (λ l. slice_get l i) (wiring_is q p plan) ∙ h.wired)
+        wiring = ap (λ o. unwrap_or o (record { present = Number 0; keys = []; args = [] }))
+            (ap (λ l. slice_get l i) (wiring_is q p plan) ∙ h.wired)
 
-    same_table : (i : ℕ) (shape : GroupShape) (h : HasParts q i) → i < length p.groups → table_in (made_of q) g packets (folded_with shape h.wiring h.fold) ≡ query_table q g packets i shape h.fold
+    same_table : (i : ℕ) (shape : GroupShape) (h : HasParts q i) → i < length p.groups
+        → table_in (made_of q) g packets (folded_with shape h.wiring h.fold) ≡ query_table q g packets i shape h.fold
     same_table i shape h lt =
-        ap (λ f. group_table (heading_of shape) f g (uses_in (made_of q) (folded_with shape h.wiring h.fold) packets)) (one_folding shape h.wiring h.fold h.valid h.args)
+        ap (λ f. group_table (heading_of shape) f g (uses_in (made_of q) (folded_with shape h.wiring h.fold) packets))
+        (one_folding shape h.wiring h.fold h.valid h.args)
         ∙ ap (group_table (heading_of shape) (folding_of h.fold) g) (same_uses i shape h lt)
 
-    same_tables : (rest : List GroupShape) (i : ℕ) → i + length rest ≡ length p.groups → ((k : ℕ) → slice_get (query_groups q) (i + k) ≡ slice_get rest k) →
+    same_tables : (rest : List GroupShape) (i : ℕ) → i + length rest ≡ length p.groups
+        → ((k : ℕ) → slice_get (query_groups q) (i + k) ≡ slice_get rest k) →
         map (table_in (made_of q) g packets) (flat_map (group_made q) (range_with_len i (length rest))) ≡ tables_from q g packets i rest
     same_tables [] i long are = refl
     same_tables (shape ∷ rest) i long are =
-        let here : slice_get (query_groups q) i ≡ Some shape = (let z : i ≡ i + 0 = omega arith in ap (slice_get (query_groups q)) z ∙ are 0) in
+        let here : slice_get (query_groups q) i ≡ Some shape = (let z : i ≡ i + 0 = omega arith in ap (slice_get (query_groups q)) z
+        ∙ are 0) in
         let h = parts_at i shape here in
         let next : i + 1 ≡ suc i = omega arith in
         let later = flat_map (group_made q) (range_with_len (i + 1) (length rest)) in
         let made_is : group_made q i ≡ folded_with shape h.wiring h.fold ∷ [] = (λ k. folded_of (here k) (h.wired k) (h.fold_is k)) in
-        let more = same_tables rest (suc i) (omega (arith, long)) (λ k. (let z : suc i + k ≡ i + suc k = omega arith in ap (slice_get (query_groups q)) z ∙ are (suc k))) in
+        let more = same_tables rest (suc i) (omega (arith, long)) (λ k.
+        (let z : suc i + k ≡ i + suc k = omega arith in ap (slice_get (query_groups q)) z ∙ are (suc k))) in
         ap (λ l. map (table_in (made_of q) g packets) (l ++ later)) made_is
         ∙ ap (λ t. t ∷ map (table_in (made_of q) g packets) later) (same_table i shape h (omega (arith, long)))
-        ∙ ap (λ n. query_table q g packets i shape h.fold ∷ map (table_in (made_of q) g packets) (flat_map (group_made q) (range_with_len n (length rest)))) next
+        ∙ ap (λ n. query_table q g packets i shape h.fold ∷ map (table_in (made_of q) g packets)
+        (flat_map (group_made q) (range_with_len n (length rest)))) next
         ∙ ap (λ l. query_table q g packets i shape h.fold ∷ l) more
         ∙ ap (λ o. table_if q g packets i shape o ++ tables_from q g packets (suc i) rest) (sym h.fold_is)
 
     printed_same : (tables : List Table) (prints : List PrintOf) → q.finals ≡ [] → All (IsTable q) prints →
-        flat_map (text_at tables) (flat_map printed_group prints) ≡ flat_map (λ one. text_at tables (table_number (length (takings q.streams)) one)) prints
+        flat_map (text_at tables) (flat_map printed_group prints) ≡ flat_map
+        (λ one. text_at tables (table_number (length (takings q.streams)) one)) prints
     printed_same tables [] none all = refl
-    printed_same tables (printed.Group i ∷ prints) none all = ap (λ l. text_at tables i ++ l) (printed_same tables prints none (All-tail (IsTable q) (printed.Group i) prints all))
-    printed_same tables (printed.Final i ∷ prints) none all = absurd (let lt = All-head (IsTable q) (printed.Final i) prints all in omega (arith, lt, ap length none))
+    printed_same tables (printed.Group i ∷ prints) none all = ap (λ l. text_at tables i ++ l)
+        (printed_same tables prints none (All-tail (IsTable q) (printed.Group i) prints all))
+    printed_same tables (printed.Final i ∷ prints) none all = absurd (let lt =
+        All-head (IsTable q) (printed.Final i) prints all in omega (arith, lt, ap length none))
 
     pub one_output : final_fault q ≡ None → plan_output (made_of q) g packets ≡ query_text q g packets
     unfolding plan_output plan_tables query_text group_tables
@@ -169,8 +190,10 @@ module _ (q : TypedQuery) (p : PlanParts) (valid : IsValidQuery q) (plan : IsPla
         let n : length (takings q.streams) ≡ length (query_groups q) = omega (arith, shapes_long, plan.groups) in
         let tables : plan_tables (made_of q) g packets ≡ group_tables q g packets =
         ap (λ n. map (table_in (made_of q) g packets) (flat_map (group_made q) (range_with_len 0 n))) n
-        ∙ same_tables (query_groups q) 0 (omega (arith, shapes_long)) (λ k. (let z : 0 + k ≡ k = omega arith in ap (slice_get (query_groups q)) z))
+        ∙ same_tables (query_groups q) 0 (omega (arith, shapes_long)) (λ k.
+        (let z : 0 + k ≡ k = omega arith in ap (slice_get (query_groups q)) z))
         in
         ap (λ l. flat_map (text_at l) (flat_map printed_group q.prints)) tables
         ∙ printed_same (group_tables q g packets) q.prints none valid.prints
-        ∙ ap (λ finals. flat_map (λ one. text_at (with_finals q.names q.folds (group_tables q g packets) finals) (table_number (length (takings q.streams)) one)) q.prints) (sym none)
+        ∙ ap (λ finals. flat_map (λ one. text_at (with_finals q.names q.folds (group_tables q g packets) finals)
+        (table_number (length (takings q.streams)) one)) q.prints) (sym none)

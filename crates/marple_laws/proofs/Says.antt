@@ -1,5 +1,6 @@
 -- The text of a query's plan is valid, and makes the query's plan.
-use Rattle.std.proofs.Common.{◌≡◌, ℕ, suc, ◌+◌, ◌^◌, ◌<◌, ◌≤◌, true, List, [], ◌∷◌, ◌++◌, length, Some, None, Option, refl, sym, ap, subst, ◌∙◌, arith, append_assoc, append-nil}
+use Rattle.std.proofs.Common.{◌≡◌, ℕ, suc, ◌+◌, ◌^◌, ◌<◌, ◌≤◌, true, List, [], ◌∷◌, ◌++◌, length, Some, None, Option, refl, sym, ap, subst}
+use Rattle.std.proofs.Common.{◌∙◌, arith, append_assoc, append-nil}
 use Rattle.std.specs.Prelude.{All, flat_map, codes, decimal, slice_get}
 use Rattle.std.specs.List.{range_with_len}
 use Rattle.std.proofs.lemmas.List.Elements.{All-head, All-tail}
@@ -38,7 +39,8 @@ use Rattle.marple_laws.proofs.Tokens.{lines_of, nothing_after}
 use Rattle.marple_laws.proofs.Written.{IsWritten, nothing_written, written_then, line_written}
 
 -- as many groups are made as there are groupbys
-groups_long : (fields : List Field) (ops : List PlanOp) (shapes : List GroupShape) (wirings : List GroupWiring) (folds : ℕ → Option TypedFold) →
+groups_long : (fields : List Field) (ops : List PlanOp) (shapes : List GroupShape) (wirings : List GroupWiring)
+    (folds : ℕ → Option TypedFold) →
     ((i : ℕ) (shape : GroupShape) → slice_get shapes i ≡ Some shape → HasGroup fields ops shape wirings folds i) →
     (rest : List GroupShape) (i : ℕ) → ((k : ℕ) → slice_get shapes (i + k) ≡ slice_get rest k) →
     length (flat_map (λ i. folded_of (slice_get shapes i) (slice_get wirings i) (folds i)) (range_with_len i (length rest))) ≡ length rest
@@ -46,9 +48,12 @@ groups_long fields ops shapes wirings folds each [] i are = refl
 groups_long fields ops shapes wirings folds each (shape ∷ rest) i are =
     let here : slice_get shapes i ≡ Some shape = (let z : i ≡ i + 0 = omega arith in ap (slice_get shapes) z ∙ are 0) in
     let h = each i shape here in
-    let made_is : folded_of (slice_get shapes i) (slice_get wirings i) (folds i) ≡ folded_with shape h.wiring h.fold ∷ [] = (λ k. folded_of (here k) (h.wired k) (h.folds_are k)) in
-    let more = groups_long fields ops shapes wirings folds each rest (i + 1) (λ k. (let z : i + 1 + k ≡ i + suc k = omega arith in ap (slice_get shapes) z ∙ are (suc k))) in
-    ap (λ l. length (l ++ flat_map (λ i. folded_of (slice_get shapes i) (slice_get wirings i) (folds i)) (range_with_len (i + 1) (length rest)))) made_is ∙ ap suc more
+    let made_is : folded_of (slice_get shapes i) (slice_get wirings i) (folds i) ≡ folded_with shape h.wiring h.fold ∷ [] =
+    (λ k. folded_of (here k) (h.wired k) (h.folds_are k)) in
+    let more = groups_long fields ops shapes wirings folds each rest (i + 1)
+    (λ k. (let z : i + 1 + k ≡ i + suc k = omega arith in ap (slice_get shapes) z ∙ are (suc k))) in
+    ap (λ l. length (l ++ flat_map (λ i. folded_of (slice_get shapes i) (slice_get wirings i) (folds i))
+    (range_with_len (i + 1) (length rest)))) made_is ∙ ap suc more
 
 -- the prints
 
@@ -58,7 +63,15 @@ print_lead = refl
 
 -- what is made after all groups
 abbrev printing : List Field → List PlanOp → List Folded → List ℕ → Made
-printing fields ops groups prints = record { begun = true; reads = Some fields; ops = ops; groups = groups; current = None; prints = prints }
+printing fields ops groups prints = record {
+  begun = true;
+  reads = Some fields;
+  ops = ops;
+  groups = groups;
+  current = None;
+  prints =
+      prints;
+}
 
 -- each printed groupby exists
 abbrev AreThere : ℕ → List PrintOf → Type 0
@@ -66,10 +79,14 @@ AreThere groups [] = Unit {0}
 AreThere groups (printed.Group i ∷ prints) = (i < groups) × AreThere groups prints
 AreThere groups (printed.Final i ∷ prints) = AreThere groups prints
 
-prints_written : (fields : List Field) (ops : List PlanOp) (groups : List Folded) → length groups ≤ 8 → (prints : List PrintOf) (before : List ℕ) → AreThere (length groups) prints → AreNew before (flat_map printed_group prints) →
-    IsWritten (flat_map print_line prints) (printing fields ops groups before) (printing fields ops groups (before ++ flat_map printed_group prints))
-prints_written fields ops groups few [] before there new = nothing_written (printing fields ops groups before) (printing fields ops groups (before ++ [])) (ap (printing fields ops groups) (append-nil before))
-prints_written fields ops groups few (printed.Final i ∷ prints) before there new = prints_written fields ops groups few prints before there new
+prints_written : (fields : List Field) (ops : List PlanOp) (groups : List Folded) → length groups ≤ 8
+    → (prints : List PrintOf) (before : List ℕ) → AreThere (length groups) prints → AreNew before (flat_map printed_group prints) →
+    IsWritten (flat_map print_line prints) (printing fields ops groups before)
+    (printing fields ops groups (before ++ flat_map printed_group prints))
+prints_written fields ops groups few [] before there new = nothing_written (printing fields ops groups before)
+    (printing fields ops groups (before ++ [])) (ap (printing fields ops groups) (append-nil before))
+prints_written fields ops groups few (printed.Final i ∷ prints) before there new =
+    prints_written fields ops groups few prints before there new
 prints_written fields ops groups few (printed.Group i ∷ prints) before there new =
     written_then (line (codes "print") (decimal i ∷ [])) (flat_map print_line prints) (printing fields ops groups before) (printing fields ops groups (before ++ i ∷ [])) (printing fields ops groups (before ++ i ∷ flat_map printed_group prints))
     (line_written lead.Print (codes "print") (decimal i ∷ []) (printing fields ops groups before) (printing fields ops groups (before ++ i ∷ [])) refl (token_decimal i small, tt) print_lead
@@ -81,7 +98,8 @@ prints_written fields ops groups few (printed.Group i ∷ prints) before there n
       new = new.0;
       made = refl;
     }))
-    (subst (λ l. IsWritten (flat_map print_line prints) (printing fields ops groups (before ++ i ∷ [])) (printing fields ops groups l)) (append_assoc before (i ∷ []) (flat_map printed_group prints))
+    (subst (λ l. IsWritten (flat_map print_line prints) (printing fields ops groups (before ++ i ∷ [])) (printing fields ops groups l))
+    (append_assoc before (i ∷ []) (flat_map printed_group prints))
     (prints_written fields ops groups few prints (before ++ i ∷ []) there.1 new.1))
   where
     small : i < 2 ^ 64
@@ -89,49 +107,64 @@ prints_written fields ops groups few (printed.Group i ∷ prints) before there n
 
 tables_there : (q : TypedQuery) (prints : List PrintOf) → All (IsTable q) prints → AreThere (length (takings q.streams)) prints
 tables_there q [] h = tt
-tables_there q (printed.Group i ∷ prints) h = (All-head (IsTable q) (printed.Group i) prints h, tables_there q prints (All-tail (IsTable q) (printed.Group i) prints h))
+tables_there q (printed.Group i ∷ prints) h = (
+  All-head (IsTable q) (printed.Group i) prints h,
+  tables_there q prints
+      (All-tail (IsTable q) (printed.Group i) prints h),
+)
 tables_there q (printed.Final i ∷ prints) h = tables_there q prints (All-tail (IsTable q) (printed.Final i) prints h)
 
-module _ (q : TypedQuery) (p : PlanParts) (valid : IsValidQuery q) (text : HasPlanText q) (plan : IsPlanOf q p) (sound : IsSoundPlan p) where
-  abbrev fields : List Field
-  fields = fields_of (reads_of q)
+module _ (q : TypedQuery) (p : PlanParts) (valid : IsValidQuery q) (text : HasPlanText q) (plan : IsPlanOf q p) (sound : IsSoundPlan p)
+  where
+    abbrev fields : List Field
+    fields = fields_of (reads_of q)
 
-  abbrev groups : List Folded
-  groups = flat_map (group_made q) (range_with_len 0 (length (takings q.streams)))
+    abbrev groups : List Folded
+    groups = flat_map (group_made q) (range_with_len 0 (length (takings q.streams)))
 
-  long : length groups ≡ length (takings q.streams)
-  long =
-      ap (λ n. length (flat_map (group_made q) (range_with_len 0 n))) (sym (shapes_long q p valid text plan sound))
-      ∙ groups_long fields (query_ops q) (query_groups q) (query_wiring q) (fold_at q) (group_ok q p valid text plan sound) (query_groups q) 0 (λ k. (let z : 0 + k ≡ k = omega arith in ap (slice_get (query_groups q)) z))
-      ∙ shapes_long q p valid text plan sound
+    long : length groups ≡ length (takings q.streams)
+    long =
+        ap (λ n. length (flat_map (group_made q) (range_with_len 0 n))) (sym (shapes_long q p valid text plan sound))
+        ∙ groups_long fields (query_ops q) (query_groups q) (query_wiring q) (fold_at q) (group_ok q p valid text plan sound) (query_groups q)
+        0 (λ k. (let z : 0 + k ≡ k = omega arith in ap (slice_get (query_groups q)) z))
+        ∙ shapes_long q p valid text plan sound
 
-  groups_here : IsWritten (flat_map (group_text q) (range_with_len 0 (length (takings q.streams)))) (outside fields (query_ops q) []) (outside fields (query_ops q) groups)
-  groups_here =
-      subst (λ n. IsWritten (flat_map (group_text q) (range_with_len 0 n)) (outside fields (query_ops q) []) (outside fields (query_ops q) (flat_map (group_made q) (range_with_len 0 n)))) (shapes_long q p valid text plan sound)
-      (groups_written fields (query_ops q) (query_groups q) (query_wiring q) (fold_at q) (omega (arith, shapes_long q p valid text plan sound, valid.most_groupbys)) (group_ok q p valid text plan sound)
-      (query_groups q) 0 [] (omega arith) refl (λ k. (let z : 0 + k ≡ k = omega arith in ap (slice_get (query_groups q)) z)) text.names_differ)
+    groups_here : IsWritten (flat_map (group_text q) (range_with_len 0 (length (takings q.streams)))) (outside fields (query_ops q) [])
+        (outside fields (query_ops q) groups)
+    groups_here =
+        subst (λ n. IsWritten (flat_map (group_text q) (range_with_len 0 n)) (outside fields (query_ops q) [])
+        (outside fields (query_ops q) (flat_map (group_made q) (range_with_len 0 n)))) (shapes_long q p valid text plan sound)
+        (groups_written fields (query_ops q) (query_groups q) (query_wiring q) (fold_at q)
+        (omega (arith, shapes_long q p valid text plan sound, valid.most_groupbys)) (group_ok q p valid text plan sound)
+        (query_groups q) 0 [] (omega arith) refl (λ k. (let z : 0 + k ≡ k = omega arith in ap (slice_get (query_groups q)) z))
+        text.names_differ)
 
-  -- all lines of the text
-  text_written : IsWritten (compiled_text q) nothing (made_of q)
-  unfolding compiled_text
-  text_written =
-      written_then (line (codes "marple-plan") (codes "1" ∷ []))
-      (reads_line (reads_of q) ++ (flat_map op_line (query_ops q) ++ (flat_map (group_text q) (range_with_len 0 (length (takings q.streams))) ++ flat_map print_line q.prints))) nothing begun (made_of q) first_written
-      (written_then (reads_line (reads_of q)) (flat_map op_line (query_ops q) ++ (flat_map (group_text q) (range_with_len 0 (length (takings q.streams))) ++ flat_map print_line q.prints)) begun (with_ops fields []) (made_of q)
-      (reads_written (reads_of q))
-      (written_then (flat_map op_line (query_ops q)) (flat_map (group_text q) (range_with_len 0 (length (takings q.streams))) ++ flat_map print_line q.prints) (with_ops fields []) (with_ops fields (query_ops q)) (made_of q)
-      (ops_written fields (query_ops q) (op_ok q p valid text plan sound) [] (query_ops q) refl)
-      (written_then (flat_map (group_text q) (range_with_len 0 (length (takings q.streams)))) (flat_map print_line q.prints) (with_ops fields (query_ops q)) (outside fields (query_ops q) groups) (made_of q)
-      groups_here
-      (prints_written fields (query_ops q) groups (omega (arith, long, valid.most_groupbys)) q.prints []
-      (subst (λ n. AreThere n q.prints) (sym long) (tables_there q q.prints valid.prints)) text.prints_differ))))
+    -- all lines of the text
+    text_written : IsWritten (compiled_text q) nothing (made_of q)
+    unfolding compiled_text
+    text_written =
+        written_then (line (codes "marple-plan") (codes "1" ∷ []))
+        (reads_line (reads_of q) ++ (flat_map op_line (query_ops q) ++ (flat_map (group_text q)
+        (range_with_len 0 (length (takings q.streams))) ++ flat_map print_line q.prints))) nothing begun (made_of q) first_written
+        (written_then (reads_line (reads_of q)) (flat_map op_line (query_ops q)
+        ++ (flat_map (group_text q) (range_with_len 0 (length (takings q.streams))) ++ flat_map print_line q.prints)) begun
+        (with_ops fields []) (made_of q)
+        (reads_written (reads_of q))
+        (written_then (flat_map op_line (query_ops q)) (flat_map (group_text q) (range_with_len 0 (length (takings q.streams)))
+        ++ flat_map print_line q.prints) (with_ops fields []) (with_ops fields (query_ops q)) (made_of q)
+        (ops_written fields (query_ops q) (op_ok q p valid text plan sound) [] (query_ops q) refl)
+        (written_then (flat_map (group_text q) (range_with_len 0 (length (takings q.streams)))) (flat_map print_line q.prints)
+        (with_ops fields (query_ops q)) (outside fields (query_ops q) groups) (made_of q)
+        groups_here
+        (prints_written fields (query_ops q) groups (omega (arith, long, valid.most_groupbys)) q.prints []
+        (subst (λ n. AreThere n q.prints) (sym long) (tables_there q q.prints valid.prints)) text.prints_differ))))
 
-  pub text_says : Says (compiled_text q) (made_of q)
-  text_says =
-      let w = text_written in
-      record {
-        size = text.short;
-        valid = subst (λ l. Make l nothing (made_of q)) (sym (ap lines w.text_is ∙ lines_of w.all w.each)) w.make;
-        ended = ap bytes_after_lines w.text_is ∙ nothing_after w.all w.each;
-        printed = text.printed;
-      }
+    pub text_says : Says (compiled_text q) (made_of q)
+    text_says =
+        let w = text_written in
+        record {
+          size = text.short;
+          valid = subst (λ l. Make l nothing (made_of q)) (sym (ap lines w.text_is ∙ lines_of w.all w.each)) w.make;
+          ended = ap bytes_after_lines w.text_is ∙ nothing_after w.all w.each;
+          printed = text.printed;
+        }

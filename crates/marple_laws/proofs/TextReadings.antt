@@ -29,7 +29,17 @@ reached (line ∷ ls) first = by (λ next. reached ls next) (valid_after first l
   where
     beyond : (next : Made) → IsLine first line next → Reached ls next → Reached (line ∷ ls) first
     beyond next valid (inl (after, rest)) = inl (after, (next, valid, rest))
-    beyond next valid (inr (i, b)) = inr (suc i, record { before = b.before; valid_before = (next, valid, b.valid_before); line = b.line; is = b.is; bad = b.bad })
+    beyond next valid (inr (i, b)) = inr (
+      suc i,
+      record {
+        before = b.before;
+        valid_before = (next, valid, b.valid_before);
+        line =
+            b.line;
+        is = b.is;
+        bad = b.bad;
+      },
+    )
 
     by : ((next : Made) → Reached ls next) → Decided (IsValidAfter first line) → Reached (line ∷ ls) first
     by rest (inl (next, valid)) = beyond next valid (rest next)
@@ -45,10 +55,22 @@ every_text text = by_size (most (length text) most_bytes)
     refuse : (place : ℕ) → IsBadAt text place → (found : Checked Made) × IsReadingOf text found
     refuse place bad = (Err (record { kind = BadPlan; span = record { start = place; end = place } }), (refl, bad, refl))
 
-    ends : (plan : Made) → length text ≤ most_bytes → Make (lines text) nothing plan → Decided (bytes_after_lines text ≡ []) → Decided (plan.prints ≡ []) → (found : Checked Made) × IsReadingOf text found
-    ends plan size valid (inr more) printed = refuse (length text) (inr (size, inr (record { plan = plan; valid = valid; bad = inl (some_items (bytes_after_lines text) more) }, refl)))
-    ends plan size valid (inl whole) (inl none) = refuse (length text) (inr (size, inr (record { plan = plan; valid = valid; bad = inr none }, refl)))
-    ends plan size valid (inl whole) (inr some) = (Ok plan, record { size = size; valid = valid; ended = whole; printed = some_items plan.prints some })
+    ends : (plan : Made) → length text ≤ most_bytes → Make (lines text) nothing plan → Decided (bytes_after_lines text ≡ [])
+        → Decided (plan.prints ≡ []) → (found : Checked Made) × IsReadingOf text found
+    ends plan size valid (inr more) printed = refuse (length text) (inr
+        (size, inr (record { plan = plan; valid = valid; bad = inl (some_items (bytes_after_lines text) more) }, refl)))
+    ends plan size valid (inl whole) (inl none) = refuse (length text)
+        (inr (size, inr (record { plan = plan; valid = valid; bad = inr none }, refl)))
+    ends plan size valid (inl whole) (inr some) = (
+      Ok plan,
+      record {
+        size = size;
+        valid = valid;
+        ended = whole;
+        printed =
+            some_items plan.prints some;
+      },
+    )
 
     by_lines : length text ≤ most_bytes → Reached (lines text) nothing → (found : Checked Made) × IsReadingOf text found
     by_lines size (inl (plan, valid)) = ends plan size valid (is_empty (bytes_after_lines text)) (is_empty plan.prints)

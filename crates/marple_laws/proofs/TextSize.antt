@@ -1,6 +1,8 @@
 -- The text of a query's plan is not too long.
-use Rattle.std.proofs.Common.{◌≡◌, ℕ, zero, suc, ◌+◌, ◌-◌, ◌*◌, ◌^◌, ◌<◌, ◌≤◌, Bool, true, false, cond, List, [], ◌∷◌, ◌++◌, length, Option, Some, None, refl, sym, ap, subst, ◌∙◌, inl, inr, arith}
-use Rattle.std.specs.Prelude.{All, codes, decimal, filter, flat_map, map, nat_eq, nat_lt, not, option_and_then, option_map, slice_get, ◌==◌, if◌then◌else◌}
+use Rattle.std.proofs.Common.{◌≡◌, ℕ, zero, suc, ◌+◌, ◌-◌, ◌*◌, ◌^◌, ◌<◌, ◌≤◌, Bool, true, false, cond, List, [], ◌∷◌, ◌++◌, length, Option}
+use Rattle.std.proofs.Common.{Some, None, refl, sym, ap, subst, ◌∙◌, inl, inr, arith}
+use Rattle.std.specs.Prelude.{All, codes, decimal, filter, flat_map, map, nat_eq, nat_lt, not, option_and_then, option_map, slice_get, ◌==◌}
+use Rattle.std.specs.Prelude.{if◌then◌else◌}
 use Rattle.std.specs.List.{range_with_len}
 use Rattle.std.proofs.lemmas.Bool.{eqb-false}
 use Rattle.std.proofs.lemmas.Bool.Decides.{nat_tests}
@@ -52,12 +54,14 @@ use Rattle.marple_laws.proofs.GroupSizes.{AllFit, IsLimited, group_size, groups_
 
 -- ---- the fields and the prints
 
-fields_size : (reads : FieldSet) (fields : List Field) → length (spaced (map field_name (filter (has_field reads) fields))) ≤ 12 * length fields
+fields_size : (reads : FieldSet) (fields : List Field) → length (spaced (map field_name (filter (has_field reads) fields))) ≤ 12
+    * length fields
 fields_size reads [] = omega arith
 fields_size reads (f ∷ fields) = go (has_field reads f) (fields_size reads fields)
   where
     go : (b : Bool) → length (spaced (map field_name (filter (has_field reads) fields))) ≤ 12 * length fields
-        → length (spaced (map field_name (cond b (f ∷ filter (has_field reads) fields) (filter (has_field reads) fields)))) ≤ 12 * length (f ∷ fields)
+        → length (spaced (map field_name (cond b (f ∷ filter (has_field reads) fields) (filter (has_field reads) fields)))) ≤ 12
+        * length (f ∷ fields)
     go true h =
         let a = after_size (field_name f) (map field_name (filter (has_field reads) fields)) in
         let s = field_size f in
@@ -70,7 +74,8 @@ reads_size reads =
     let h = fields_size reads all_fields in
     omega (arith, n, h)
 
-prints_size : (q : TypedQuery) → length (takings q.streams) ≤ 8 → (prints : List PrintOf) → All (IsTable q) prints → length (flat_map print_line prints) ≤ 27 * length prints
+prints_size : (q : TypedQuery) → length (takings q.streams) ≤ 8 → (prints : List PrintOf) → All (IsTable q) prints
+    → length (flat_map print_line prints) ≤ 27 * length prints
 prints_size q few [] all = omega arith
 prints_size q few (place.Group i ∷ prints) all =
     let lt : i < length (takings q.streams) = All-head (IsTable q) (place.Group i) prints all in
@@ -104,10 +109,12 @@ in_up i (suc n) lt = go (nat_eq i n) refl (in_up i n)
     go true e more = let same : i ≡ n = grind (arith, nat_tests) in inl (ap place.Group same)
     go false e more = let other = eqb-false i n e in inr (more (omega (arith, lt, other)))
 
-prints_in : (q : TypedQuery) (prints : List PrintOf) → All (IsTable q) prints → AreGroups prints → (p : PrintOf) → IsIn p prints → IsIn p (up (length (takings q.streams)))
+prints_in : (q : TypedQuery) (prints : List PrintOf) → All (IsTable q) prints → AreGroups prints → (p : PrintOf) → IsIn p prints
+    → IsIn p (up (length (takings q.streams)))
 prints_in q [] all are p i = absurd i
 prints_in q (place.Group n ∷ prints) all are p (inl e) =
-    subst (λ x. IsIn x (up (length (takings q.streams)))) (sym e) (in_up n (length (takings q.streams)) (All-head (IsTable q) (place.Group n) prints all))
+    subst (λ x. IsIn x (up (length (takings q.streams)))) (sym e) (in_up n (length (takings q.streams))
+    (All-head (IsTable q) (place.Group n) prints all))
 prints_in q (place.Group n ∷ prints) all are p (inr i) = prints_in q prints (All-tail (IsTable q) (place.Group n) prints all) are p i
 prints_in q (place.Final n ∷ prints) all are p i = absurd are
 
@@ -134,7 +141,8 @@ from_fits : (reads : FieldSet) (s : Source) (o : Operand) → IsFrom reads s o �
 from_fits reads None o h = good_fits reads o h
 from_fits reads (Some f) o h = subst NumFits (sym h) tt
 
-column_fits : (reads : FieldSet) (sources : List Source) (columns : List Operand) (slot : ℕ) → AreFrom reads sources columns → NumFits (operand_at columns slot)
+column_fits : (reads : FieldSet) (sources : List Source) (columns : List Operand) (slot : ℕ) → AreFrom reads sources columns
+    → NumFits (operand_at columns slot)
 column_fits reads [] [] slot h = omega arith
 column_fits reads (s ∷ sources) (o ∷ columns) zero h = from_fits reads s o h.0
 column_fits reads (s ∷ sources) (o ∷ columns) (suc slot) h = column_fits reads sources columns slot h.1
@@ -156,13 +164,18 @@ moved_fits registers small (Register r) g = by (nat_lt r 14) refl
     by true e = let lt : r < 14 = grind (arith, nat_tests) in omega (arith, lt)
     by false e = new (slice_get registers (r - 14)) refl
 
-slots_fit : (registers : List ℕ) → AreSmall registers → (reads : FieldSet) (sources : List Source) (columns : List Operand) → AreFrom reads sources columns → (slots : List ℕ)
+slots_fit : (registers : List ℕ) → AreSmall registers → (reads : FieldSet) (sources : List Source) (columns : List Operand)
+    → AreFrom reads sources columns → (slots : List ℕ)
     → AllFit (map (λ slot. moved registers (operand_at columns slot)) slots)
 slots_fit registers small reads sources columns from [] = tt
-slots_fit registers small reads sources columns from (slot ∷ slots) =
-    (moved_fits registers small (operand_at columns slot) (column_fits reads sources columns slot from), slots_fit registers small reads sources columns from slots)
+slots_fit registers small reads sources columns from (slot ∷ slots) = (
+  moved_fits registers small (operand_at columns slot) (column_fits reads sources columns slot from),
+  slots_fit registers small reads
+      sources columns from slots,
+)
 
-ops_size : (ops : List PlanOp) → ((i : ℕ) (one : PlanOp) → slice_get ops i ≡ Some one → length (op_line one) ≤ 57) → length (flat_map op_line ops) ≤ 57 * length ops
+ops_size : (ops : List PlanOp) → ((i : ℕ) (one : PlanOp) → slice_get ops i ≡ Some one → length (op_line one) ≤ 57)
+    → length (flat_map op_line ops) ≤ 57 * length ops
 ops_size [] each = omega arith
 ops_size (one ∷ ops) each =
     let a = length-append (op_line one) (flat_map op_line ops) in
@@ -172,7 +185,8 @@ ops_size (one ∷ ops) each =
 
 -- ---- how many key columns a groupby has
 
-keys_few : (folds : List TypedFold) (before : List TypedStream) (names : List (List ℕ)) (one : TypedStream) (width : ℕ) (op : TypedOp) (shape : GroupShape)
+keys_few : (folds : List TypedFold) (before : List TypedStream) (names : List (List ℕ)) (one : TypedStream) (width : ℕ) (op : TypedOp)
+    (shape : GroupShape)
     → IsValidOp folds before width op → shape_made names folds one op ≡ Some shape → width ≤ 8
 keys_few folds before names one width (typed.Filter input condition) shape w e = cc
 keys_few folds before names one width (typed.Map input values) shape w e = cc
@@ -182,171 +196,196 @@ keys_few folds before names one width (typed.Group input keys f args) shape w e 
     let few = w.1.most_keys in
     omega (arith, same, few)
 
-columns_few : (count : ℕ) (names : List (List ℕ)) (folds : List TypedFold) (before streams : List TypedStream) → AreValidStreams count folds before streams
-    → (j : ℕ) (one : TypedStream) (shape : GroupShape) → slice_get streams j ≡ Some one → shape_made names folds one one.op ≡ Some shape → length one.columns ≤ 8
+columns_few : (count : ℕ) (names : List (List ℕ)) (folds : List TypedFold) (before streams : List TypedStream)
+    → AreValidStreams count folds before streams
+    → (j : ℕ) (one : TypedStream) (shape : GroupShape) → slice_get streams j ≡ Some one → shape_made names folds one one.op ≡ Some shape
+    → length one.columns ≤ 8
 columns_few count names folds before [] v j one shape e made = cc
 columns_few count names folds before (s ∷ streams) v zero one shape e made =
     let same : s ≡ one = same_Some s one e in
-    keys_few folds before names one (length one.columns) one.op shape (subst (λ (t : TypedStream). IsValidOp folds before (length t.columns) t.op) same v.0.operator) made
-columns_few count names folds before (s ∷ streams) v (suc j) one shape e made = columns_few count names folds (before ++ s ∷ []) streams v.1 j one shape e made
+    keys_few folds before names one (length one.columns) one.op shape (subst
+    (λ (t : TypedStream). IsValidOp folds before (length t.columns) t.op) same v.0.operator) made
+columns_few count names folds before (s ∷ streams) v (suc j) one shape e made =
+    columns_few count names folds (before ++ s ∷ []) streams v.1 j one shape e made
 
-module _ (q : TypedQuery) (v : IsValidQuery q) (staged : stage_fault q ≡ None) (initial : (i : ℕ) (f : TypedFold) → slice_get q.folds i ≡ Some f → AllWords f.initial)
+module _ (q : TypedQuery) (v : IsValidQuery q) (staged : stage_fault q ≡ None)
+    (initial : (i : ℕ) (f : TypedFold) → slice_get q.folds i ≡ Some f → AllWords f.initial)
     (own : (i : ℕ) (one : TypedStream) → slice_get q.streams i ≡ Some one → HasOwnColumns q.folds one.columns one.op)
-    (well : (i : ℕ) (shape : GroupShape) → slice_get (query_groups q) i ≡ Some shape → IsNamedWell shape) (short : total q.names ≤ 65690) where
-  fit : AreFit q.folds
-  fit i f e = (all_at IsValidFold q.folds i f v.folds e, initial i f e)
+    (well : (i : ℕ) (shape : GroupShape) → slice_get (query_groups q) i ≡ Some shape → IsNamedWell shape) (short : total q.names ≤ 65690)
+  where
+    fit : AreFit q.folds
+    fit i f e = (all_at IsValidFold q.folds i f v.folds e, initial i f e)
 
-  good : AllAreGood (reads_of q) (all_sources q) (query_made q)
-  good = query_good q.folds (length q.names) q.streams fit v.streams
+    good : AllAreGood (reads_of q) (all_sources q) (query_made q)
+    good = query_good q.folds (length q.names) q.streams fit v.streams
 
-  order_few : length (query_order q) ≤ 20512
-  order_few =
-      let n = few_ops q v staged in
-      let m = length-map (query_order q) (λ number. moved_op (query_registers q) (op_numbered (query_made q).ops number)) in
-      omega (arith, n, m)
+    order_few : length (query_order q) ≤ 20512
+    order_few =
+        let n = few_ops q v staged in
+        let m = length-map (query_order q) (λ number. moved_op (query_registers q) (op_numbered (query_made q).ops number)) in
+        omega (arith, n, m)
 
-  register_small : (c : ℕ) → register_in (query_order q) c < 2 ^ 64
-  register_small c =
-      let p = prefix_len-le-length (λ other. not (other == c)) (query_order q) in
-      let f = order_few in
-      omega (arith, p, f)
+    register_small : (c : ℕ) → register_in (query_order q) c < 2 ^ 64
+    register_small c =
+        let p = prefix_len-le-length (λ other. not (other == c)) (query_order q) in
+        let f = order_few in
+        omega (arith, p, f)
 
-  small : AreSmall (query_registers q)
-  small k r e = go (slice_get (range_with_len 0 (length (query_made q).ops)) k) refl
-    where
-      at : slice_get (query_registers q) k ≡ option_map (register_in (query_order q)) (slice_get (range_with_len 0 (length (query_made q).ops)) k)
-      at = slice_get-map (register_in (query_order q)) (range_with_len 0 (length (query_made q).ops)) k
+    small : AreSmall (query_registers q)
+    small k r e = go (slice_get (range_with_len 0 (length (query_made q).ops)) k) refl
+      where
+        at : slice_get (query_registers q) k ≡ option_map (register_in (query_order q))
+            (slice_get (range_with_len 0 (length (query_made q).ops)) k)
+        at = slice_get-map (register_in (query_order q)) (range_with_len 0 (length (query_made q).ops)) k
 
-      go : (o : Option ℕ) → slice_get (range_with_len 0 (length (query_made q).ops)) k ≡ o → r < 2 ^ 64
-      go None h = let none : None ≡ Some r = sym (at ∙ ap (option_map (register_in (query_order q))) h) ∙ e in absurd (no none)
-        where
-          no : None ≡ Some r → ⊥
-          no z = cc
-      go (Some c) h =
-          let same : register_in (query_order q) c ≡ r = same_Some (register_in (query_order q) c) r (sym (at ∙ ap (option_map (register_in (query_order q))) h) ∙ e) in
-          subst (λ x. x < 2 ^ 64) same (register_small c)
+        go : (o : Option ℕ) → slice_get (range_with_len 0 (length (query_made q).ops)) k ≡ o → r < 2 ^ 64
+        go None h = let none : None ≡ Some r = sym (at ∙ ap (option_map (register_in (query_order q))) h) ∙ e in absurd (no none)
+          where
+            no : None ≡ Some r → ⊥
+            no z = cc
+        go (Some c) h =
+            let same : register_in (query_order q) c ≡ r = same_Some (register_in (query_order q) c) r
+            (sym (at ∙ ap (option_map (register_in (query_order q))) h) ∙ e) in
+            subst (λ x. x < 2 ^ 64) same (register_small c)
 
-  abbrev new_op : ℕ → PlanOp
-  new_op number = moved_op (query_registers q) (op_numbered (query_made q).ops number)
+    abbrev new_op : ℕ → PlanOp
+    new_op number = moved_op (query_registers q) (op_numbered (query_made q).ops number)
 
-  each_op : (i : ℕ) (one : PlanOp) → slice_get (query_ops q) i ≡ Some one → length (op_line one) ≤ 57
-  each_op i one e = go (slice_get (query_order q) i) refl
-    where
-      at : slice_get (query_ops q) i ≡ option_map new_op (slice_get (query_order q) i)
-      at = slice_get-map new_op (query_order q) i
+    each_op : (i : ℕ) (one : PlanOp) → slice_get (query_ops q) i ≡ Some one → length (op_line one) ≤ 57
+    each_op i one e = go (slice_get (query_order q) i) refl
+      where
+        at : slice_get (query_ops q) i ≡ option_map new_op (slice_get (query_order q) i)
+        at = slice_get-map new_op (query_order q) i
 
-      go : (o : Option ℕ) → slice_get (query_order q) i ≡ o → length (op_line one) ≤ 57
-      go None h = let none : None ≡ Some one = sym (at ∙ ap (option_map new_op) h) ∙ e in absurd (no none)
-        where
-          no : None ≡ Some one → ⊥
-          no z = cc
-      go (Some c) h =
-          let o = ordered (query_made q).ops (stages_of (query_made q).ops) i c h in
-          let same : new_op c ≡ one = same_Some (new_op c) one (sym (at ∙ ap (option_map new_op) h) ∙ e) in
-          let is : moved_op (query_registers q) o.one ≡ one = ap (moved_op (query_registers q)) (sym (op_at (query_made q).ops c o.one o.found)) ∙ same in
-          let w : IsWritable (reads_of q) o.one = writable_at (reads_of q) (query_made q).ops c o.one good.written o.found in
-          let s = ((made_of_query q staged).made.each c o.one o.found).stage in
-          subst (λ x. length (op_line x) ≤ 57) is
-          (op_size (moved_op (query_registers q) o.one) (omega (arith, s)) (moved_fits (query_registers q) small o.one.left (good_fits (reads_of q) o.one.left w.left))
-          (moved_fits (query_registers q) small o.one.right (good_fits (reads_of q) o.one.right w.right)))
+        go : (o : Option ℕ) → slice_get (query_order q) i ≡ o → length (op_line one) ≤ 57
+        go None h = let none : None ≡ Some one = sym (at ∙ ap (option_map new_op) h) ∙ e in absurd (no none)
+          where
+            no : None ≡ Some one → ⊥
+            no z = cc
+        go (Some c) h =
+            let o = ordered (query_made q).ops (stages_of (query_made q).ops) i c h in
+            let same : new_op c ≡ one = same_Some (new_op c) one (sym (at ∙ ap (option_map new_op) h) ∙ e) in
+            let is : moved_op (query_registers q) o.one ≡ one = ap (moved_op (query_registers q))
+            (sym (op_at (query_made q).ops c o.one o.found)) ∙ same in
+            let w : IsWritable (reads_of q) o.one = writable_at (reads_of q) (query_made q).ops c o.one good.written o.found in
+            let s = ((made_of_query q staged).made.each c o.one o.found).stage in
+            subst (λ x. length (op_line x) ≤ 57) is
+            (op_size (moved_op (query_registers q) o.one) (omega (arith, s))
+            (moved_fits (query_registers q) small o.one.left (good_fits (reads_of q) o.one.left w.left))
+            (moved_fits (query_registers q) small o.one.right (good_fits (reads_of q) o.one.right w.right)))
 
-  limited : (shape : GroupShape) (j : ℕ) (one : TypedStream) (t : Taking) (i : ℕ) (f : TypedFold) (number : ℕ) → slice_get q.streams j ≡ Some one
-      → shape_made q.names q.folds one one.op ≡ Some shape → slice_get (takings q.streams) i ≡ Some t → slice_get q.folds number ≡ Some f
-      → IsMadeBy q.names q.folds one shape → IsLimited shape (wiring_of (query_registers q) (query_made q).streams t) f
-  limited shape j one t i f number here shaped there fold made = record {
-    present = moved_fits (query_registers q) small (wires_at (query_made q).streams t.input).present (good_fits (reads_of q) (wires_at (query_made q).streams t.input).present (good.streams t.input).present);
-    keys = slots_fit (query_registers q) small (reads_of q) (sources_at (all_sources q) t.input) (wires_at (query_made q).streams t.input).columns (good.streams t.input).columns t.keys;
-    args = slots_fit (query_registers q) small (reads_of q) (sources_at (all_sources q) t.input) (wires_at (query_made q).streams t.input).columns (good.streams t.input).columns t.args;
-    initial = initial number f fold;
-    most_keys = (let n : length shape.key_names ≡ length (map (text_at q.names) one.columns) = ap (λ (s : GroupShape). length s.key_names) made.is in
-        let m = length-map one.columns (text_at q.names) in
-        let c = columns_few (length q.names) q.names q.folds [] q.streams v.streams j one shape here shaped in
-        omega (arith, n, m, c));
-    most_args = (let n = length-map t.args (λ slot. moved (query_registers q) (operand_at (wires_at (query_made q).streams t.input).columns slot)) in
-        let c = taking_few (length q.names) q.folds v.folds [] q.streams v.streams i t there in
-        omega (arith, n, c));
-    most_states = (let n : length shape.state_names ≡ length (map (text_at q.names) made.f.state_names) = ap (λ (s : GroupShape). length s.state_names) made.is in
-        let m = length-map made.f.state_names (text_at q.names) in
-        let c = shape_fold.states in
-        omega (arith, n, m, c));
-    valid = all_at IsValidFold q.folds number f v.folds fold;
-    depth = (let n : shape.depth ≡ depth_of made.f = ap (λ (s : GroupShape). s.depth) made.is in
-        let c = shallow made.f shape_fold in
-        omega (arith, n, c));
-    nodes = (let n : shape.nodes ≡ made.f.nodes = ap (λ (s : GroupShape). s.nodes) made.is in
-        let c = shape_fold.most_nodes in
-        omega (arith, n, c));
-    statements = (let n : shape.statements ≡ made.f.statements = ap (λ (s : GroupShape). s.statements) made.is in
-        let c = shape_fold.most_statements in
-        omega (arith, n, c));
-  }
-    where
-      shape_fold : IsValidFold made.f
-      shape_fold = all_at IsValidFold q.folds made.number made.f v.folds made.at
+    limited : (shape : GroupShape) (j : ℕ) (one : TypedStream) (t : Taking) (i : ℕ) (f : TypedFold) (number : ℕ)
+        → slice_get q.streams j ≡ Some one
+        → shape_made q.names q.folds one one.op ≡ Some shape → slice_get (takings q.streams) i ≡ Some t → slice_get q.folds number ≡ Some f
+        → IsMadeBy q.names q.folds one shape → IsLimited shape (wiring_of (query_registers q) (query_made q).streams t) f
+    limited shape j one t i f number here shaped there fold made = record {
+      present = moved_fits (query_registers q) small (wires_at (query_made q).streams t.input).present
+          (good_fits (reads_of q) (wires_at (query_made q).streams t.input).present (good.streams t.input).present);
+      keys = slots_fit (query_registers q) small (reads_of q) (sources_at (all_sources q) t.input)
+          (wires_at (query_made q).streams t.input).columns (good.streams t.input).columns t.keys;
+      args = slots_fit (query_registers q) small (reads_of q) (sources_at (all_sources q) t.input)
+          (wires_at (query_made q).streams t.input).columns (good.streams t.input).columns t.args;
+      initial = initial number f fold;
+      most_keys = (let n : length shape.key_names ≡ length (map (text_at q.names) one.columns) =
+          ap (λ (s : GroupShape). length s.key_names) made.is in
+          let m = length-map one.columns (text_at q.names) in
+          let c = columns_few (length q.names) q.names q.folds [] q.streams v.streams j one shape here shaped in
+          omega (arith, n, m, c));
+      most_args = (let n = length-map t.args (λ slot. moved (query_registers q)
+          (operand_at (wires_at (query_made q).streams t.input).columns slot)) in
+          let c = taking_few (length q.names) q.folds v.folds [] q.streams v.streams i t there in
+          omega (arith, n, c));
+      most_states = (let n : length shape.state_names ≡ length (map (text_at q.names) made.f.state_names) =
+          ap (λ (s : GroupShape). length s.state_names) made.is in
+          let m = length-map made.f.state_names (text_at q.names) in
+          let c = shape_fold.states in
+          omega (arith, n, m, c));
+      valid = all_at IsValidFold q.folds number f v.folds fold;
+      depth = (let n : shape.depth ≡ depth_of made.f = ap (λ (s : GroupShape). s.depth) made.is in
+          let c = shallow made.f shape_fold in
+          omega (arith, n, c));
+      nodes = (let n : shape.nodes ≡ made.f.nodes = ap (λ (s : GroupShape). s.nodes) made.is in
+          let c = shape_fold.most_nodes in
+          omega (arith, n, c));
+      statements = (let n : shape.statements ≡ made.f.statements = ap (λ (s : GroupShape). s.statements) made.is in
+          let c = shape_fold.most_statements in
+          omega (arith, n, c));
+    }
+      where
+        shape_fold : IsValidFold made.f
+        shape_fold = all_at IsValidFold q.folds made.number made.f v.folds made.at
 
-  columns_short : (i : ℕ) (shape : GroupShape) (j : ℕ) (one : TypedStream) → slice_get (query_groups q) i ≡ Some shape → slice_get q.streams j ≡ Some one
-      → IsMadeBy q.names q.folds one shape → total shape.key_names + total shape.state_names ≤ 65690
-  columns_short i shape j one e here made =
-      let below = stream_below (length q.names) q.folds [] q.streams j one v.streams here in
-      let states = (all_at (HasNames (length q.names)) q.folds made.number made.f v.fold_names made.at).states in
-      let n = columns_total q.names shape (well i shape e)
-      (λ t k. texts_in q.names one.columns below.1 t (subst (λ (s : GroupShape). IsIn t s.key_names) made.is k))
-      (λ t k. texts_in q.names made.f.state_names states t (subst (λ (s : GroupShape). IsIn t s.state_names) made.is k)) in
-      omega (arith, n, short)
+    columns_short : (i : ℕ) (shape : GroupShape) (j : ℕ) (one : TypedStream) → slice_get (query_groups q) i ≡ Some shape
+        → slice_get q.streams j ≡ Some one
+        → IsMadeBy q.names q.folds one shape → total shape.key_names + total shape.state_names ≤ 65690
+    columns_short i shape j one e here made =
+        let below = stream_below (length q.names) q.folds [] q.streams j one v.streams here in
+        let states = (all_at (HasNames (length q.names)) q.folds made.number made.f v.fold_names made.at).states in
+        let n = columns_total q.names shape (well i shape e)
+        (λ t k. texts_in q.names one.columns below.1 t (subst (λ (s : GroupShape). IsIn t s.key_names) made.is k))
+        (λ t k. texts_in q.names made.f.state_names states t (subst (λ (s : GroupShape). IsIn t s.state_names) made.is k)) in
+        omega (arith, n, short)
 
-  each_group : (i : ℕ) (shape : GroupShape) → slice_get (query_groups q) i ≡ Some shape → length (group_text q i) ≤ 79690 + length shape.name
-  each_group i shape e =
-      subst (λ o. length (group_lines_of o (slice_get (query_wiring q) i) (fold_at q i)) ≤ 79690 + length shape.name) (sym e)
-      (subst (λ o. length (group_lines_of (Some shape) o (fold_at q i)) ≤ 79690 + length shape.name) (sym wiring_at)
-      (go (slice_get (takings q.streams) i) refl))
-    where
-      wiring_at : slice_get (query_wiring q) i ≡ option_map (wiring_of (query_registers q) (query_made q).streams) (slice_get (takings q.streams) i)
-      wiring_at = slice_get-map (wiring_of (query_registers q) (query_made q).streams) (takings q.streams) i
+    each_group : (i : ℕ) (shape : GroupShape) → slice_get (query_groups q) i ≡ Some shape → length (group_text q i) ≤ 79690
+        + length shape.name
+    each_group i shape e =
+        subst (λ o. length (group_lines_of o (slice_get (query_wiring q) i) (fold_at q i)) ≤ 79690 + length shape.name) (sym e)
+        (subst (λ o. length (group_lines_of (Some shape) o (fold_at q i)) ≤ 79690 + length shape.name) (sym wiring_at)
+        (go (slice_get (takings q.streams) i) refl))
+      where
+        wiring_at : slice_get (query_wiring q) i ≡ option_map (wiring_of (query_registers q) (query_made q).streams)
+            (slice_get (takings q.streams) i)
+        wiring_at = slice_get-map (wiring_of (query_registers q) (query_made q).streams) (takings q.streams) i
 
-      go : (o : Option Taking) → slice_get (takings q.streams) i ≡ o
-          → length (group_lines_of (Some shape) (option_map (wiring_of (query_registers q) (query_made q).streams) o) (option_and_then (λ t. slice_get q.folds t.fold_number) o)) ≤ 79690 + length shape.name
-      go None h = omega arith
-      go (Some t) h = by (slice_get q.folds t.fold_number) refl
-        where
-          from : (j : ℕ) × (one : TypedStream) × (slice_get q.streams j ≡ Some one) × (shape_made q.names q.folds one one.op ≡ Some shape)
-          from = group_from q.names q.folds q.streams i shape e
+        go : (o : Option Taking) → slice_get (takings q.streams) i ≡ o
+            → length (group_lines_of (Some shape) (option_map (wiring_of (query_registers q) (query_made q).streams) o)
+            (option_and_then (λ t. slice_get q.folds t.fold_number) o)) ≤ 79690 + length shape.name
+        go None h = omega arith
+        go (Some t) h = by (slice_get q.folds t.fold_number) refl
+          where
+            from : (j : ℕ) × (one : TypedStream) × (slice_get q.streams j ≡ Some one) × (shape_made q.names q.folds one one.op ≡ Some shape)
+            from = group_from q.names q.folds q.streams i shape e
 
-          made : IsMadeBy q.names q.folds from.1 shape
-          made = made_by q.names q.folds from.1 from.1.op shape from.3 (own from.0 from.1 from.2)
+            made : IsMadeBy q.names q.folds from.1 shape
+            made = made_by q.names q.folds from.1 from.1.op shape from.3 (own from.0 from.1 from.2)
 
-          by : (o : Option TypedFold) → slice_get q.folds t.fold_number ≡ o
-              → length (group_lines_of (Some shape) (Some (wiring_of (query_registers q) (query_made q).streams t)) o) ≤ 79690 + length shape.name
-          by None k = omega arith
-          by (Some f) k =
-              let n = group_size shape (wiring_of (query_registers q) (query_made q).streams t) f (limited shape from.0 from.1 t i f t.fold_number from.2 from.3 h k made) in
-              let c = columns_short i shape from.0 from.1 e from.2 made in
-              omega (arith, n, c)
+            by : (o : Option TypedFold) → slice_get q.folds t.fold_number ≡ o
+                → length (group_lines_of (Some shape) (Some (wiring_of (query_registers q) (query_made q).streams t)) o) ≤ 79690
+                + length shape.name
+            by None k = omega arith
+            by (Some f) k =
+                let n = group_size shape (wiring_of (query_registers q) (query_made q).streams t) f
+                (limited shape from.0 from.1 t i f t.fold_number from.2 from.3 h k made) in
+                let c = columns_short i shape from.0 from.1 e from.2 made in
+                omega (arith, n, c)
 
-  no_group : (i : ℕ) → slice_get (query_groups q) i ≡ None → length (group_text q i) ≡ 0
-  no_group i e = ap (λ o. length (group_lines_of o (slice_get (query_wiring q) i) (fold_at q i))) e
+    no_group : (i : ℕ) → slice_get (query_groups q) i ≡ None → length (group_text q i) ≡ 0
+    no_group i e = ap (λ o. length (group_lines_of o (slice_get (query_wiring q) i) (fold_at q i))) e
 
-  pub text_size : AreNew [] (map (λ shape. shape.name) (query_groups q)) → AreGroups q.prints → AreNew [] q.prints → length (compiled_text q) ≤ most_bytes
-  unfolding compiled_text
-  text_size names are new =
-      let first : length (line (codes "marple-plan") (codes "1" ∷ [])) ≤ 14 =
-      (let n = line_size (codes "marple-plan") (codes "1" ∷ []) in let b = after_size (codes "1") [] in omega (arith, n, b)) in
-      let reads = reads_size (reads_of q) in
-      let ops = ops_size (query_ops q) each_op in
-      let groups = groups_size (group_text q) (query_groups q) 0 (length (takings q.streams))
-      (λ i shape e. subst (λ m. length (group_text q m) ≤ 79690 + length shape.name) (omega arith) (each_group i shape e))
-      (λ i e. subst (λ m. length (group_text q m) ≡ 0) (omega arith) (no_group i e)) in
-      let prints = prints_size q v.most_groupbys q.prints v.prints in
-      let first_line : List ℕ = line (codes "marple-plan") (codes "1" ∷ []) in
-      let op_lines : List ℕ = flat_map op_line (query_ops q) in
-      let group_texts : List ℕ = flat_map (group_text q) (range_with_len 0 (length (takings q.streams))) in
-      let print_lines : List ℕ = flat_map print_line q.prints in
-      let a = length-append group_texts print_lines in
-      let b = length-append op_lines (group_texts ++ print_lines) in
-      let c = length-append (reads_line (reads_of q)) (op_lines ++ (group_texts ++ print_lines)) in
-      let d : length (compiled_text q) ≡ length first_line + length (reads_line (reads_of q) ++ (op_lines ++ (group_texts ++ print_lines))) =
-      length-append first_line (reads_line (reads_of q) ++ (op_lines ++ (group_texts ++ print_lines))) in
-      let few = few_ops q v staged in
-      let most = v.most_groupbys in
-      let printed = few_prints q v are new in
-      let together = group_names_total q.names q.folds q.streams v.streams names in
-      omega (arith, first, reads, ops, groups, prints, a, b, c, d, few, most, printed, together, short)
+    pub text_size : AreNew [] (map (λ shape. shape.name) (query_groups q)) → AreGroups q.prints → AreNew [] q.prints
+        → length (compiled_text q) ≤ most_bytes
+    unfolding compiled_text
+    text_size names are new =
+        let first : length (line (codes "marple-plan") (codes "1" ∷ [])) ≤ 14 =
+        (let n = line_size (codes "marple-plan") (codes "1" ∷ []) in let b = after_size (codes "1") [] in omega (arith, n, b)) in
+        let reads = reads_size (reads_of q) in
+        let ops = ops_size (query_ops q) each_op in
+        let groups = groups_size (group_text q) (query_groups q) 0 (length (takings q.streams))
+        (λ i shape e. subst (λ m. length (group_text q m) ≤ 79690 + length shape.name) (omega arith) (each_group i shape e))
+        (λ i e. subst (λ m. length (group_text q m) ≡ 0) (omega arith) (no_group i e)) in
+        let prints = prints_size q v.most_groupbys q.prints v.prints in
+        let first_line : List ℕ = line (codes "marple-plan") (codes "1" ∷ []) in
+        let op_lines : List ℕ = flat_map op_line (query_ops q) in
+        let group_texts : List ℕ = flat_map (group_text q) (range_with_len 0 (length (takings q.streams))) in
+        let print_lines : List ℕ = flat_map print_line q.prints in
+        let a = length-append group_texts print_lines in
+        let b = length-append op_lines (group_texts ++ print_lines) in
+        let c = length-append (reads_line (reads_of q)) (op_lines ++ (group_texts ++ print_lines)) in
+        let d : length (compiled_text q) ≡ length first_line + length (reads_line (reads_of q)
+        ++ (op_lines ++ (group_texts ++ print_lines))) =
+        length-append first_line (reads_line (reads_of q) ++ (op_lines ++ (group_texts ++ print_lines))) in
+        let few = few_ops q v staged in
+        let most = v.most_groupbys in
+        let printed = few_prints q v are new in
+        let together = group_names_total q.names q.folds q.streams v.streams names in
+        omega (arith, first, reads, ops, groups, prints, a, b, c, d, few, most, printed, together, short)

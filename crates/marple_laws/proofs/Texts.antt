@@ -1,5 +1,6 @@
 -- Names whose numbers differ have texts that differ.
-use Rattle.std.proofs.Common.{◌≡◌, ℕ, zero, suc, ◌<◌, List, [], ◌∷◌, ◌++◌, length, Option, Some, None, refl, sym, ap, subst, ◌∙◌, inl, inr, arith, Contains}
+use Rattle.std.proofs.Common.{◌≡◌, ℕ, zero, suc, ◌<◌, List, [], ◌∷◌, ◌++◌, length, Option, Some, None, refl, sym, ap, subst, ◌∙◌, inl, inr}
+use Rattle.std.proofs.Common.{arith, Contains}
 use Rattle.std.specs.Prelude.{All, map, filter_map, slice_get, codes, option_map}
 use Rattle.std.specs.List.{cons_option}
 use Rattle.std.proofs.lemmas.List.Elements.{All-head, All-tail}
@@ -48,24 +49,32 @@ text_there (n ∷ names) (suc id) lt = text_there names id (omega (arith, lt))
 abbrev pub Cover : List (List ℕ) → List ℕ → List (List ℕ) → Type 0
 Cover names before texts = (t : List ℕ) → IsIn t texts → (id : ℕ) × IsIn id before × (slice_get names id ≡ Some t)
 
-covers_more : (names : List (List ℕ)) (before : List ℕ) (texts : List (List ℕ)) (id : ℕ) (text : List ℕ) → Cover names before texts → slice_get names id ≡ Some text
+covers_more : (names : List (List ℕ)) (before : List ℕ) (texts : List (List ℕ)) (id : ℕ) (text : List ℕ) → Cover names before texts
+    → slice_get names id ≡ Some text
     → Cover names (before ++ id ∷ []) (texts ++ text ∷ [])
 covers_more names before texts id text cover e t h = elim (in_push texts text t h) [
   | inl old ↦ (let k = cover t old in (k.0, in_left k.0 before (id ∷ []) k.1, k.2))
   | inr same ↦ (id, in_last before id, e ∙ ap Some (sym same))
 ]
 
-covers_still : (names : List (List ℕ)) (before : List ℕ) (texts : List (List ℕ)) (id : ℕ) → Cover names before texts → Cover names (before ++ id ∷ []) texts
+covers_still : (names : List (List ℕ)) (before : List ℕ) (texts : List (List ℕ)) (id : ℕ) → Cover names before texts
+    → Cover names (before ++ id ∷ []) texts
 covers_still names before texts id cover t h = let k = cover t h in (k.0, in_left k.0 before (id ∷ []) k.1, k.2)
 
 pub covers_all : (names : List (List ℕ)) (ids : List ℕ) → All (λ id. id < length names) ids → Cover names ids (map (text_at names) ids)
 covers_all names [] all t h = absurd h
-covers_all names (id ∷ ids) all t (inl e) = (id, inl refl, text_there names id (All-head (λ id. id < length names) id ids all) ∙ ap Some (sym e))
+covers_all names (id ∷ ids) all t (inl e) = (
+  id,
+  inl refl,
+  text_there names id (All-head (λ id. id < length names) id ids all)
+      ∙ ap Some (sym e),
+)
 covers_all names (id ∷ ids) all t (inr h) =
     let k = covers_all names ids (All-tail (λ id. id < length names) id ids all) t h in
     (k.0, inr k.1, k.2)
 
-new_text : (names : List (List ℕ)) → AreOnce names → (before : List ℕ) (texts : List (List ℕ)) (id : ℕ) (text : List ℕ) → Cover names before texts
+new_text : (names : List (List ℕ)) → AreOnce names → (before : List ℕ) (texts : List (List ℕ)) (id : ℕ) (text : List ℕ)
+    → Cover names before texts
     → (Contains before id → ⊥) → slice_get names id ≡ Some text → Contains texts text → ⊥
 new_text names once before texts id text cover new e c =
     let k = cover text (contains_in texts text c) in
@@ -78,11 +87,13 @@ new_texts names once [] before texts cover all new = tt
 new_texts names once (id ∷ ids) before texts cover all new =
     let there : slice_get names id ≡ Some (text_at names id) = text_there names id (All-head (λ id. id < length names) id ids all) in (
       new_text names once before texts id (text_at names id) cover new.0 there,
-      new_texts names once ids (before ++ id ∷ []) (texts ++ text_at names id ∷ []) (covers_more names before texts id (text_at names id) cover there)
+      new_texts names once ids (before ++ id ∷ []) (texts ++ text_at names id ∷ [])
+          (covers_more names before texts id (text_at names id) cover there)
           (All-tail (λ id. id < length names) id ids all) new.1,
     )
 
-apart_texts : (names : List (List ℕ)) → AreOnce names → (keys states : List ℕ) → All (λ id. id < length names) keys → All (λ id. id < length names) states
+apart_texts : (names : List (List ℕ)) → AreOnce names → (keys states : List ℕ) → All (λ id. id < length names) keys
+    → All (λ id. id < length names) states
     → AreApart keys states → AreNoKeys (map (text_at names) keys) (map (text_at names) states)
 apart_texts names once keys [] below all apart = tt
 apart_texts names once keys (s ∷ states) below all apart = (
@@ -91,7 +102,8 @@ apart_texts names once keys (s ∷ states) below all apart = (
   apart_texts names once keys states below (All-tail (λ id. id < length names) s states all) apart.1,
 )
 
-names_are : (names : List (List ℕ)) → AreGood names → (ids : List ℕ) → All (λ id. id < length names) ids → AreNames (map (text_at names) ids)
+names_are : (names : List (List ℕ)) → AreGood names → (ids : List ℕ) → All (λ id. id < length names) ids
+    → AreNames (map (text_at names) ids)
 names_are names good [] all = tt
 names_are names good (id ∷ ids) all = (
   good.lexical id (text_at names id) (text_there names id (All-head (λ id. id < length names) id ids all)),
@@ -110,11 +122,13 @@ pub record IsMadeBy (names : List (List ℕ)) (folds : List TypedFold) (one : Ty
   pub new : AreNew [] one.columns
   pub apart : AreApart one.columns f.state_names
 
-pub made_by : (names : List (List ℕ)) (folds : List TypedFold) (one : TypedStream) (op : TypedOp) (shape : GroupShape) → shape_made names folds one op ≡ Some shape
+pub made_by : (names : List (List ℕ)) (folds : List TypedFold) (one : TypedStream) (op : TypedOp) (shape : GroupShape)
+    → shape_made names folds one op ≡ Some shape
     → HasOwnColumns folds one.columns op → IsMadeBy names folds one shape
 made_by names folds one (typed.Group input keys number args) shape e own = by (slice_get folds number) refl e
   where
-    by : (o : Option TypedFold) → slice_get folds number ≡ o → option_map (shape_with names one.name.id one.columns (length args)) o ≡ Some shape
+    by : (o : Option TypedFold) → slice_get folds number ≡ o → option_map (shape_with names one.name.id one.columns (length args)) o ≡ Some
+        shape
         → IsMadeBy names folds one shape
     by None h e = cc
     by (Some f) h e =
@@ -132,11 +146,13 @@ made_by names folds one (typed.Filter input e) shape is own = cc
 made_by names folds one (typed.Map input values) shape is own = cc
 made_by names folds one (typed.Zip left right slots) shape is own = cc
 
-pub name_of : (names : List (List ℕ)) (folds : List TypedFold) (one : TypedStream) (op : TypedOp) (shape : GroupShape) → shape_made names folds one op ≡ Some shape
+pub name_of : (names : List (List ℕ)) (folds : List TypedFold) (one : TypedStream) (op : TypedOp) (shape : GroupShape)
+    → shape_made names folds one op ≡ Some shape
     → shape.name ≡ text_at names one.name.id
 name_of names folds one (typed.Group input keys number args) shape e = by (slice_get folds number) e
   where
-    by : (o : Option TypedFold) → option_map (shape_with names one.name.id one.columns (length args)) o ≡ Some shape → shape.name ≡ text_at names one.name.id
+    by : (o : Option TypedFold) → option_map (shape_with names one.name.id one.columns (length args)) o ≡ Some shape
+        → shape.name ≡ text_at names one.name.id
     by None e = cc
     by (Some f) e = ap (λ (s : GroupShape). s.name) (sym (same_Some (shape_with names one.name.id one.columns (length args) f) shape e))
 name_of names folds one (typed.Filter input e) shape is = cc
@@ -146,12 +162,14 @@ name_of names folds one (typed.Zip left right slots) shape is = cc
 abbrev pub groups_of : List (List ℕ) → List TypedFold → List TypedStream → List GroupShape
 groups_of names folds streams = filter_map (λ one. shape_made names folds one one.op) streams
 
-pub group_from : (names : List (List ℕ)) (folds : List TypedFold) (streams : List TypedStream) (i : ℕ) (shape : GroupShape) → slice_get (groups_of names folds streams) i ≡ Some shape
+pub group_from : (names : List (List ℕ)) (folds : List TypedFold) (streams : List TypedStream) (i : ℕ) (shape : GroupShape)
+    → slice_get (groups_of names folds streams) i ≡ Some shape
     → (j : ℕ) × (one : TypedStream) × (slice_get streams j ≡ Some one) × (shape_made names folds one one.op ≡ Some shape)
 group_from names folds [] i shape h = cc
 group_from names folds (one ∷ rest) i shape h = by (shape_made names folds one one.op) refl i h (λ k. group_from names folds rest k shape)
   where
-    by : (o : Option GroupShape) → shape_made names folds one one.op ≡ o → (i : ℕ) → slice_get (cons_option o (groups_of names folds rest)) i ≡ Some shape
+    by : (o : Option GroupShape) → shape_made names folds one one.op ≡ o → (i : ℕ)
+        → slice_get (cons_option o (groups_of names folds rest)) i ≡ Some shape
         → ((k : ℕ) → slice_get (groups_of names folds rest) k ≡ Some shape
         → (j : ℕ) × (two : TypedStream) × (slice_get rest j ≡ Some two) × (shape_made names folds two two.op ≡ Some shape))
         → (j : ℕ) × (two : TypedStream) × (slice_get (one ∷ rest) j ≡ Some two) × (shape_made names folds two two.op ≡ Some shape)
@@ -160,7 +178,8 @@ group_from names folds (one ∷ rest) i shape h = by (shape_made names folds one
     by (Some s) e (suc i) h more = let r = more i h in (suc r.0, r.1, r.2, r.3)
 
 -- the numbers of a stream's name and columns are below that of the names
-pub stream_below : (names : ℕ) (folds : List TypedFold) (before streams : List TypedStream) (j : ℕ) (one : TypedStream) → AreValidStreams names folds before streams
+pub stream_below : (names : ℕ) (folds : List TypedFold) (before streams : List TypedStream) (j : ℕ) (one : TypedStream)
+    → AreValidStreams names folds before streams
     → slice_get streams j ≡ Some one → (one.name.id < names) × valid.AreNames names one.columns
 stream_below names folds before [] j one v h = cc
 stream_below names folds before (s ∷ rest) zero one v h =
@@ -168,7 +187,8 @@ stream_below names folds before (s ∷ rest) zero one v h =
 stream_below names folds before (s ∷ rest) (suc j) one v h = stream_below names folds (before ++ s ∷ []) rest j one v.1 h
 
 -- the names of groupbys differ
-names_new : (names : List (List ℕ)) → AreOnce names → (folds : List TypedFold) (streams earlier : List TypedStream) → AreValidStreams (length names) folds earlier streams
+names_new : (names : List (List ℕ)) → AreOnce names → (folds : List TypedFold) (streams earlier : List TypedStream)
+    → AreValidStreams (length names) folds earlier streams
     → (before : List ℕ) (texts : List (List ℕ)) → Cover names before texts → AreNew before (map (λ one. one.name.id) streams)
     → AreNew texts (map (λ shape. shape.name) (groups_of names folds streams))
 names_new names once folds [] earlier v before texts cover new = tt
@@ -176,26 +196,31 @@ names_new names once folds (one ∷ rest) earlier v before texts cover new = by 
     (λ more covered. names_new names once folds rest (earlier ++ one ∷ []) v.1 (before ++ one.name.id ∷ []) more covered new.1)
   where
     by : (o : Option GroupShape) → shape_made names folds one one.op ≡ o
-        → ((more : List (List ℕ)) → Cover names (before ++ one.name.id ∷ []) more → AreNew more (map (λ shape. shape.name) (groups_of names folds rest)))
+        → ((more : List (List ℕ)) → Cover names (before ++ one.name.id ∷ []) more
+        → AreNew more (map (λ shape. shape.name) (groups_of names folds rest)))
         → AreNew texts (map (λ shape. shape.name) (cons_option o (groups_of names folds rest)))
     by None e again = again texts (covers_still names before texts one.name.id cover)
     by (Some s) e again =
-        let there : slice_get names one.name.id ≡ Some s.name = text_there names one.name.id v.0.name ∙ ap Some (sym (name_of names folds one one.op s e)) in (
+        let there : slice_get names one.name.id ≡ Some s.name = text_there names one.name.id v.0.name
+        ∙ ap Some (sym (name_of names folds one one.op s e)) in (
           new_text names once before texts one.name.id s.name cover new.0 there,
           again (texts ++ s.name ∷ []) (covers_more names before texts one.name.id s.name cover there),
         )
 
 pub names_differ : (q : TypedQuery) (packets : ℕ) → IsValidQuery q → AreGood q.names → NamesDiffer packets q
     → AreNew [] (map (λ shape. shape.name) (query_groups q))
-names_differ q packets v good differ = names_new q.names good.once q.folds q.streams [] v.streams (packets ∷ []) [] (λ t h. absurd h) differ.streams
+names_differ q packets v good differ = names_new q.names good.once q.folds q.streams [] v.streams (packets ∷ []) [] (λ t h. absurd h)
+    differ.streams
 
-id_in : (streams : List TypedStream) (j : ℕ) (one : TypedStream) → slice_get streams j ≡ Some one → IsIn one.name.id (map (λ (s : TypedStream). s.name.id) streams)
+id_in : (streams : List TypedStream) (j : ℕ) (one : TypedStream) → slice_get streams j ≡ Some one
+    → IsIn one.name.id (map (λ (s : TypedStream). s.name.id) streams)
 id_in [] j one h = cc
 id_in (s ∷ streams) zero one h = inl (ap (λ (t : TypedStream). t.name.id) (sym (same_Some s one h)))
 id_in (s ∷ streams) (suc j) one h = inr (id_in streams j one h)
 
 shape_named : (q : TypedQuery) (packets : ℕ) → packets ≡ number_in q.names (codes "pktstream") → IsValidQuery q → AreGood q.names → NamesDiffer packets q
-    → (j : ℕ) (one : TypedStream) (args number : ℕ) (f : TypedFold) → slice_get q.streams j ≡ Some one → slice_get q.folds number ≡ Some f → AreNew [] one.columns
+    → (j : ℕ) (one : TypedStream) (args number : ℕ) (f : TypedFold) → slice_get q.streams j ≡ Some one → slice_get q.folds number ≡ Some f
+    → AreNew [] one.columns
     → AreApart one.columns f.state_names → IsNamedWell (shape_with q.names one.name.id one.columns args f)
 shape_named q packets is v good differ j one args number f here fold new apart =
     let below = stream_below (length q.names) q.folds [] q.streams j one v.streams here in
@@ -205,7 +230,8 @@ shape_named q packets is v good differ j one args number f here fold new apart =
       named = good.lexical one.name.id (text_at q.names one.name.id) there;
       no_stream = λ e.
           (let same : number_in q.names (codes "pktstream") ≡ one.name.id = number_at q.names one.name.id (codes "pktstream") good.once (there ∙ ap Some e) in
-          new_apart (packets ∷ []) (map (λ (s : TypedStream). s.name.id) q.streams) one.name.id differ.streams (inl (sym (is ∙ same))) (id_in q.streams j one here));
+          new_apart (packets ∷ []) (map (λ (s : TypedStream). s.name.id) q.streams) one.name.id differ.streams (inl (sym (is ∙ same)))
+          (id_in q.streams j one here));
       key_names = names_are q.names good one.columns below.1;
       keys_differ = new_texts q.names good.once one.columns [] [] (λ t h. absurd h) below.1 new;
       state_names = names_are q.names good f.state_names states;

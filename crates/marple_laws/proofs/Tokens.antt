@@ -56,7 +56,8 @@ no_line_feed (b ∷ word) e =
     both_are (not (is_line_feed b)) (has_none is_line_feed word) q.1 (no_line_feed word p.1)
 
 -- the tokens of words with a space between each two
-pub tokens_of : (first : List ℕ) (words : List (List ℕ)) → is_token first ≡ true → AreTokens words → tokens (first ++ spaced words) ≡ first ∷ words
+pub tokens_of : (first : List ℕ) (words : List (List ℕ)) → is_token first ≡ true → AreTokens words → tokens (first ++ spaced words) ≡ first
+    ∷ words
 tokens_of first [] e are = ap tokens (append-nil first) ∙ slice_split_none is_space first (none_pass is_space first (no_space first e))
 tokens_of first (word ∷ words) e are =
     slice_split_at is_space first 32 (word ++ spaced words) (none_pass is_space first (no_space first e)) refl
@@ -68,7 +69,8 @@ none_after (word ∷ words) are =
     list_all-append (λ b. not (is_line_feed b)) word (spaced words)
     ∙ both_are (has_none is_line_feed word) (has_none is_line_feed (spaced words)) (no_line_feed word are.0) (none_after words are.1)
 
-pub none_in_line : (first : List ℕ) (words : List (List ℕ)) → is_token first ≡ true → AreTokens words → has_none is_line_feed (first ++ spaced words) ≡ true
+pub none_in_line : (first : List ℕ) (words : List (List ℕ)) → is_token first ≡ true → AreTokens words
+    → has_none is_line_feed (first ++ spaced words) ≡ true
 none_in_line first words e are =
     list_all-append (λ b. not (is_line_feed b)) first (spaced words)
     ∙ both_are (has_none is_line_feed first) (has_none is_line_feed (spaced words)) (no_line_feed first e) (none_after words are)

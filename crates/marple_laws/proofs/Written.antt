@@ -24,7 +24,8 @@ pub record IsWritten (text : List ℕ) (before after : Made) : Type 0 where
 pub nothing_written : (before after : Made) → after ≡ before → IsWritten [] before after
 nothing_written before after e = record { all = []; each = tt; text_is = refl; make = e }
 
-pub written_then : (a b : List ℕ) (before mid after : Made) → IsWritten a before mid → IsWritten b mid after → IsWritten (a ++ b) before after
+pub written_then : (a b : List ℕ) (before mid after : Made) → IsWritten a before mid → IsWritten b mid after
+    → IsWritten (a ++ b) before after
 written_then a b before mid after p q = record {
   all = p.all ++ q.all;
   each = lines_append p.all q.all p.each q.each;
@@ -33,13 +34,20 @@ written_then a b before mid after p q = record {
 }
 
 -- one line of these words
-pub line_written : (word : LineWord) (first : List ℕ) (words : List (List ℕ)) (before after : Made) → is_token first ≡ true → AreTokens words → word_named first ≡ word →
-    (tokens (first ++ spaced words) ≡ first ∷ words → IsLineOf word before (first ++ spaced words) after) → IsWritten (line first words) before after
+pub line_written : (word : LineWord) (first : List ℕ) (words : List (List ℕ)) (before after : Made) → is_token first ≡ true
+    → AreTokens words → word_named first ≡ word →
+    (tokens (first ++ spaced words) ≡ first ∷ words → IsLineOf word before (first ++ spaced words) after)
+    → IsWritten (line first words) before after
 line_written word first words before after t are named valid = record {
   all = (first ++ spaced words) ∷ [];
   each = (none_in_line first words t are, tt);
   text_is = sym (append_assoc first (spaced words) (10 ∷ [])) ∙ sym (append-nil ((first ++ spaced words) ++ 10 ∷ []));
-  make = (after, subst (λ w. IsLineOf w before (first ++ spaced words) after) (sym (first_is ∙ named)) (valid (tokens_of first words t are)), refl);
+  make = (
+    after,
+    subst (λ w. IsLineOf w before (first ++ spaced words) after) (sym (first_is ∙ named))
+        (valid (tokens_of first words t are)),
+    refl,
+  );
 }
   where
     first_is : line_word (first ++ spaced words) ≡ word_named first

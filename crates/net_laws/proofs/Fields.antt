@@ -1,5 +1,6 @@
 -- The keys of a typed query that have a field's name are the packet's words of it.
-use Rattle.std.proofs.Common.{◌≡◌, ℕ, ◌+◌, Bool, true, false, ◌||◌, List, [], ◌∷◌, ◌++◌, length, slice_index, Some, None, refl, sym, subst, arith}
+use Rattle.std.proofs.Common.{◌≡◌, ℕ, ◌+◌, Bool, true, false, ◌||◌, List, [], ◌∷◌, ◌++◌, length, slice_index, Some, None, refl, sym, subst}
+use Rattle.std.proofs.Common.{arith}
 use Rattle.std.specs.Prelude.{All}
 use Rattle.std.specs.List.{list_any}
 use Rattle.std.proofs.lemmas.List.{length_push}
@@ -86,7 +87,8 @@ none_before test (y ∷ xs) x e = go (test y) (λ k. none_before test xs x k) e
     go true more k = cc k
     go false more k = more k
 
-module _ (field : Field) (names : List (List ℕ)) (folds : List TypedFold) (five : List ℕ) (known : AreKnown names all_fields) (words : List ℕ)
+module _ (field : Field) (names : List (List ℕ)) (folds : List TypedFold) (five : List ℕ) (known : AreKnown names all_fields)
+    (words : List ℕ)
     (size : length words ≡ 14) where
   abbrev rows : List Entry → List Row
   rows items = rows_from folds (Some words ∷ []) (streams_in items)
@@ -153,7 +155,8 @@ module _ (field : Field) (names : List (List ℕ)) (folds : List TypedFold) (fiv
       let h = rows_tell items made.1 apart.0 in
       let t = stream_tells field names (word_of field words) folds (rows items) five (known_in names items) (length (streams_in items) + 1)
       (groups_in items) made.0.0 m h.known made.0.1 apart.1 in
-      subst (RowsTell field names (word_of field words) (AStream name m ∷ items)) (sym (rows_last folds (Some words ∷ []) (streams_in items) one))
+      subst (RowsTell field names (word_of field words) (AStream name m ∷ items))
+      (sym (rows_last folds (Some words ∷ []) (streams_in items) one))
       (stream_more name m items h t)
 
 -- what the rows of each whole packet say of an operator
@@ -169,7 +172,8 @@ always_tells query q field h none =
     let given = given_of names query.items in
     let made : AreMade (five_fields given.fields) names h.items = all_made given names [] query.items h.items h.typed tt in
     let t : TypedQuery = query_with names h.items in
-    let K : TypedQuery → Type 0 = λ z. makes_field field z.names z.streams ≡ false → All (λ one. AlwaysTells z field one.columns one.op) z.streams in
+    let K : TypedQuery → Type 0 = λ z. makes_field field z.names z.streams ≡ false
+    → All (λ one. AlwaysTells z field one.columns one.op) z.streams in
     let tells : K t = λ unmade k d lt words size.
     (rows_tell field names t.folds (five_fields given.fields) (all_known query.names) words size h.items made unmade).keys k d lt in
     subst K (sym h.is) tells none

@@ -1,5 +1,6 @@
 -- Each stream that the rules make of streams that give a packet's word of one field gives it.
-use Rattle.std.proofs.Common.{◌≡◌, ℕ, zero, suc, ◌-◌, ◌<◌, true, false, List, [], ◌∷◌, ◌++◌, length, drop, map, slice_index, None, refl, sym, ap, subst, ◌∙◌, inl, inr, arith}
+use Rattle.std.proofs.Common.{◌≡◌, ℕ, zero, suc, ◌-◌, ◌<◌, true, false, List, [], ◌∷◌, ◌++◌, length, drop, map, slice_index, None, refl}
+use Rattle.std.proofs.Common.{sym, ap, subst, ◌∙◌, inl, inr, arith}
 use Rattle.std.specs.Prelude.{slice_get}
 use Rattle.std.proofs.lemmas.List.{length-append, length-map, get_or-map}
 use Rattle.marple_base.specs.declared.field.Field.{Field}
@@ -83,7 +84,8 @@ module _ (field : Field) (names : List (List ℕ)) (value : ℕ) where
   all_last rows [] one h k = (k, tt)
   all_last rows (first ∷ known) one h k = (h.0, all_last rows known one h.1 k)
 
-  meaning_more : (rows : List Row) (r : Row) (m : Meaning) → MeaningTells field names value rows m → MeaningTells field names value (rows ++ r ∷ []) m
+  meaning_more : (rows : List Row) (r : Row) (m : Meaning) → MeaningTells field names value rows m
+      → MeaningTells field names value (rows ++ r ∷ []) m
   meaning_more rows r (meaning.Stream s) h = (
     omega (arith, h.0, length-append rows (r ∷ [])),
     subst (RowTells field names value (column_names s.columns)) (sym (at_earlier rows r None s.number h.0)) h.1,
@@ -175,7 +177,8 @@ module _ (field : Field) (names : List (List ℕ)) (value : ℕ) where
         let within : AreBelow (length others) slots = subst (λ n. AreBelow n slots) (sym (names_long h.right.columns)) below in
         subst MadeTells (sym (zip_is first second made h)) (
           subst (λ l. RowTells field names value l (row_made folds rows (typed.Zip h.left.number h.right.number slots))) (sym same)
-              (zip_tells field names value slots before others (row_at rows h.left.number) (row_at rows h.right.number) within left.1 right.1),
+              (zip_tells field names value slots before others (row_at rows h.left.number) (row_at rows h.right.number) within left.1
+              right.1),
           tt,
         )
 
@@ -191,11 +194,13 @@ module _ (field : Field) (names : List (List ℕ)) (value : ℕ) where
         let same : column_names (columns_at h.source.columns h.slots) ≡ values_at before h.slots =
         picked_names h.source.columns h.slots below in
         subst MadeTells (sym (group_is input keys fold_name made h)) (
-          subst (λ l. RowTells field names value l (row_made folds rows (typed.Group h.source.number h.slots h.f.number h.arguments))) (sym same)
+          subst (λ l. RowTells field names value l (row_made folds rows (typed.Group h.source.number h.slots h.f.number h.arguments)))
+              (sym same)
               (group_tells field names value (slice_get folds h.f.number) h.slots h.arguments before row within source.1),
           (
             source.0,
-            λ j lt is. slot_tells field names value before row (slice_index h.slots j) source.1 (below_at (length before) h.slots j within lt)
+            λ j lt is. slot_tells field names value before row (slice_index h.slots j) source.1
+                (below_at (length before) h.slots j within lt)
                 (ap (is_named field names) (sym (get_or-map (λ slot. slice_index before slot) h.slots j 0 0 lt))
                 ∙ ap (λ l. is_named field names (slice_index l j)) (sym same) ∙ is),
             ap length same ∙ length-map h.slots (λ slot. slice_index before slot),

@@ -1,5 +1,6 @@
 -- What operators make of rows that give a packet's word of one field.
-use Rattle.std.proofs.Common.{◌≡◌, ℕ, ◌<◌, Bool, true, false, cond, List, [], ◌∷◌, ◌++◌, length, map, slice_index, Option, Some, None, refl, sym, ◌∙◌}
+use Rattle.std.proofs.Common.{◌≡◌, ℕ, ◌<◌, Bool, true, false, cond, List, [], ◌∷◌, ◌++◌, length, map, slice_index, Option, Some, None, refl}
+use Rattle.std.proofs.Common.{sym, ◌∙◌}
 use Rattle.std.proofs.lemmas.List.{length-map}
 use Rattle.marple_base.specs.declared.field.Field.{Field}
 use Rattle.query_lang.specs.declared.fold.TypedExpr.{TypedExpr}
@@ -44,7 +45,8 @@ module _ (field : Field) (names : List (List ℕ)) (value : ℕ) where
   map_tells values columns more None none size h = tt
   map_tells values columns more (Some row) none size h =
       both_tell field names value columns row more (map (λ e. expr_value e row) values) h
-      (others_tell field names value more (map (λ e. expr_value e row) values) none (size ∙ sym (length-map values (λ e. expr_value e row))))
+      (others_tell field names value more (map (λ e. expr_value e row) values) none
+      (size ∙ sym (length-map values (λ e. expr_value e row))))
 
   pub zip_tells : (slots columns others : List ℕ) (l r : Row) → AreBelow (length others) slots → RowTells field names value columns l
       → RowTells field names value others r

@@ -1,9 +1,11 @@
 -- Which words of a row are a packet's word of one field, by the names of its columns.
-use Rattle.std.proofs.Common.{◌≡◌, ℕ, zero, suc, ◌+◌, ◌<◌, Bool, true, false, not, ◌&&◌, ◌||◌, ◌==◌, List, [], ◌∷◌, ◌++◌, length, map, slice_index, refl, sym, ap, ◌∙◌, arith}
+use Rattle.std.proofs.Common.{◌≡◌, ℕ, zero, suc, ◌+◌, ◌<◌, Bool, true, false, not, ◌&&◌, ◌||◌, ◌==◌, List, [], ◌∷◌, ◌++◌, length, map}
+use Rattle.std.proofs.Common.{slice_index, refl, sym, ap, ◌∙◌, arith}
 use Rattle.std.specs.Prelude.{unwrap_or}
 use Rattle.std.specs.Str.{bytes_eq}
 use Rattle.marple_base.specs.declared.field.Field.{Field}
-use Rattle.marple_base.specs.declared.field.Field.TheVariants.{Switch, Qid, Uid, SrcIp, DstIp, SrcPort, DstPort, Proto, PktLen, PayloadLen, TcpSeq, Tin, Tout, QSize}
+use Rattle.marple_base.specs.declared.field.Field.TheVariants.{Switch, Qid, Uid, SrcIp, DstIp, SrcPort, DstPort, Proto, PktLen, PayloadLen}
+use Rattle.marple_base.specs.declared.field.Field.TheVariants.{TcpSeq, Tin, Tout, QSize}
 use Rattle.marple_base.specs.Field.{all_fields, field_name, number_of}
 use Rattle.query_lang.specs.Names.{number_in}
 use Rattle.query_lang.specs.Streams.{values_at}
@@ -20,7 +22,8 @@ Tells field names value [] (w ∷ row) = ⊥
 Tells field names value (id ∷ columns) [] = ⊥
 Tells field names value (id ∷ columns) (w ∷ row) = (is_named field names id ≡ true → w ≡ value) × Tells field names value columns row
 
-pub both_tell : (field : Field) (names : List (List ℕ)) (value : ℕ) (a r b s : List ℕ) → Tells field names value a r → Tells field names value b s
+pub both_tell : (field : Field) (names : List (List ℕ)) (value : ℕ) (a r b s : List ℕ) → Tells field names value a r
+    → Tells field names value b s
     → Tells field names value (a ++ b) (r ++ s)
 both_tell field names value [] [] b s h k = k
 both_tell field names value [] (w ∷ r) b s h k = absurd h
@@ -48,7 +51,8 @@ pub tells_at : (field : Field) (names : List (List ℕ)) (value : ℕ) (columns 
 tells_at field names value [] row slot h lt e = absurd (omega (arith, lt))
 tells_at field names value (id ∷ columns) [] slot h lt e = absurd h
 tells_at field names value (id ∷ columns) (w ∷ row) zero h lt e = h.0 e
-tells_at field names value (id ∷ columns) (w ∷ row) (suc slot) h lt e = tells_at field names value columns row slot h.1 (omega (arith, lt)) e
+tells_at field names value (id ∷ columns) (w ∷ row) (suc slot) h lt e =
+    tells_at field names value columns row slot h.1 (omega (arith, lt)) e
 
 pub picked_tell : (field : Field) (names : List (List ℕ)) (value : ℕ) (columns row slots : List ℕ) → Tells field names value columns row
     → AreBelow (length columns) slots
@@ -68,7 +72,8 @@ same_number a b e = grind (arith, nat_tests)
 -- of these fields, from this number on, just the one at the field's own number has its name
 abbrev stands_once : Field → ℕ → List Field → Bool
 stands_once field n [] = true
-stands_once field n (f ∷ fields) = (not (bytes_eq (field_name field) (field_name f)) || (n == number_of field)) && stands_once field (n + 1) fields
+stands_once field n (f ∷ fields) = (not (bytes_eq (field_name field) (field_name f)) || (n == number_of field)) && stands_once field (n + 1)
+    fields
 
 all_once : (field : Field) → stands_once field 0 all_fields ≡ true
 all_once Switch = refl
@@ -104,8 +109,10 @@ module _ (field : Field) (names : List (List ℕ)) (all : List ℕ) where
   fields_tell n (f ∷ fields) (w ∷ words) known size same once =
       let b = both (not (bytes_eq (field_name field) (field_name f)) || (n == number_of field)) (stands_once field (n + 1) fields) once in (
         λ e.
-            let is : bytes_eq (field_name field) (field_name f) ≡ true = ap (λ o. bytes_eq (field_name field) (unwrap_or o [])) (sym known.0) ∙ e in
-            let here : n ≡ number_of field = same_number n (number_of field) (follows (bytes_eq (field_name field) (field_name f)) (n == number_of field) b.0 is) in
+            let is : bytes_eq (field_name field) (field_name f) ≡ true =
+            ap (λ o. bytes_eq (field_name field) (unwrap_or o [])) (sym known.0) ∙ e in
+            let here : n ≡ number_of field = same_number n (number_of field)
+            (follows (bytes_eq (field_name field) (field_name f)) (n == number_of field) b.0 is) in
             same 0 ∙ ap (slice_index all) (let z : n + 0 ≡ n = omega arith in z ∙ here),
         fields_tell (n + 1) fields words known.1 (omega (arith, size))
             (λ j. same (suc j) ∙ ap (slice_index all) (let z : n + suc j ≡ n + 1 + j = omega arith in z)) b.1,

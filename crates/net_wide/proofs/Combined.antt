@@ -1,5 +1,6 @@
 -- In a query whose groupbys all combine each groupby has an additive fold or the switch among its keys.
-use Rattle.std.proofs.Common.{◌≡◌, ℕ, zero, suc, ◌<◌, Bool, true, false, not, ◌&&◌, ◌||◌, cond, List, [], ◌∷◌, ◌++◌, length, slice_index, Option, Some, None, refl, sym, ap, subst, ◌∙◌, ◌⊎◌, inl, inr, arith}
+use Rattle.std.proofs.Common.{◌≡◌, ℕ, zero, suc, ◌<◌, Bool, true, false, not, ◌&&◌, ◌||◌, cond, List, [], ◌∷◌, ◌++◌, length, slice_index}
+use Rattle.std.proofs.Common.{Option, Some, None, refl, sym, ap, subst, ◌∙◌, ◌⊎◌, inl, inr, arith}
 use Rattle.std.specs.Prelude.{slice_get, if◌then◌else◌}
 use Rattle.std.specs.List.{All, list_any, cons_option}
 use Rattle.std.proofs.lemmas.List.Elements.{All-head, All-tail}
@@ -36,7 +37,8 @@ found : (test : ℕ → Bool) (xs : List ℕ) → list_any test xs ≡ true → 
 found test [] e = cc
 found test (x ∷ xs) e = by_test (test x)
     (λ h. record { at = 0; within = omega arith; holds = h })
-    (λ h. let more = found test xs (ap (λ b. b || list_any test xs) (sym h) ∙ e) in record { at = suc more.at; within = (let w = more.within in omega arith); holds = more.holds })
+    (λ h. let more = found test xs (ap (λ b. b || list_any test xs) (sym h) ∙ e) in record
+    { at = suc more.at; within = (let w = more.within in omega arith); holds = more.holds })
 
 both_true : (a b : Bool) → (a && b) ≡ true → (a ≡ true) × (b ≡ true)
 both_true true b e = (refl, e)
@@ -57,12 +59,18 @@ module _ (q : TypedQuery) where
       let both = both_true (names_switch q.names columns) (not (makes_switch q.names q.streams)) named in
       let key = found (is_switch q.names) columns both.0 in
       let within : key.at < length keys = subst (λ n. key.at < n) wide key.within in
-      inr (record { at = key.at; within = within; slot = tells key.at within key.holds (is_false (makes_switch q.names q.streams) both.1) }))
+      inr (record {
+        at = key.at;
+        within = within;
+        slot = tells key.at within key.holds (is_false (makes_switch q.names q.streams) both.1);
+      }))
 
   abbrev AllCombine : List TypedStream → Type 0
-  AllCombine streams = (i : ℕ) (t : Taking) (f : TypedFold) → slice_get (takings streams) i ≡ Some t → slice_get q.folds t.fold_number ≡ Some f → Combines q t f
+  AllCombine streams = (i : ℕ) (t : Taking) (f : TypedFold) → slice_get (takings streams) i ≡ Some t
+      → slice_get q.folds t.fold_number ≡ Some f → Combines q t f
 
-  pub all_combine : (before streams : List TypedStream) → first_apart q streams ≡ None → AreValidStreams (length q.names) q.folds before streams
+  pub all_combine : (before streams : List TypedStream) → first_apart q streams ≡ None
+      → AreValidStreams (length q.names) q.folds before streams
       → All (λ one. SwitchKeysAreSwitches q one.columns one.op) streams → AllCombine streams
   all_combine before [] e valid tells = none
     where
@@ -70,14 +78,18 @@ module _ (q : TypedQuery) where
       none i t f at is = cc
   all_combine before (one ∷ streams) e valid tells =
       go one.op e valid.0.operator (All-head (λ s. SwitchKeysAreSwitches q s.columns s.op) one streams tells)
-      (λ none. all_combine (before ++ one ∷ []) streams none valid.1 (All-tail (λ s. SwitchKeysAreSwitches q s.columns s.op) one streams tells))
+      (λ none. all_combine (before ++ one ∷ []) streams none valid.1 (All-tail (λ s. SwitchKeysAreSwitches q s.columns s.op) one streams
+      tells))
     where
       fault : Option QueryFault
       fault = Some (record { kind = NotAdditive; span = one.name.span })
 
-      go : (op : TypedOp) → (if may_stand q one.columns op then first_apart q streams else Some (record { kind = NotAdditive; span = one.name.span })) ≡ None
-          → IsValidOp q.folds before (length one.columns) op → SwitchKeysAreSwitches q one.columns op → (first_apart q streams ≡ None → AllCombine streams)
-          → (i : ℕ) (t : Taking) (f : TypedFold) → slice_get (cons_option (taking_of op) (takings streams)) i ≡ Some t → slice_get q.folds t.fold_number ≡ Some f → Combines q t f
+      go : (op : TypedOp) → (if may_stand q one.columns op then first_apart q streams else Some
+          (record { kind = NotAdditive; span = one.name.span })) ≡ None
+          → IsValidOp q.folds before (length one.columns) op → SwitchKeysAreSwitches q one.columns op
+          → (first_apart q streams ≡ None → AllCombine streams)
+          → (i : ℕ) (t : Taking) (f : TypedFold) → slice_get (cons_option (taking_of op) (takings streams)) i ≡ Some t
+          → slice_get q.folds t.fold_number ≡ Some f → Combines q t f
       go (Filter input condition) e v k rest i t f at is = rest e i t f at is
       go (Map input values) e v k rest i t f at is = rest e i t f at is
       go (Zip left right slots) e v k rest i t f at is = rest e i t f at is

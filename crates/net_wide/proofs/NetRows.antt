@@ -1,5 +1,6 @@
 -- The merged epochs of all switches give the rows of the definition.
-use Rattle.std.proofs.Common.{◌≡◌, ◌≢◌, ℕ, suc, ◌+◌, ◌<◌, true, false, Bool, ◌||◌, ◌==◌, List, [], ◌∷◌, ◌++◌, length, map, flat_map, fold, slice_index, Option, Some, None, refl, sym, ap, ◌∙◌, subst, inl, inr}
+use Rattle.std.proofs.Common.{◌≡◌, ◌≢◌, ℕ, suc, ◌+◌, ◌<◌, true, false, Bool, ◌||◌, ◌==◌, List, [], ◌∷◌, ◌++◌, length, map, flat_map, fold}
+use Rattle.std.proofs.Common.{slice_index, Option, Some, None, refl, sym, ap, ◌∙◌, subst, inl, inr}
 use Rattle.std.specs.Prelude.{slice_get, option_map, option_and_then, if◌then◌else◌}
 use Rattle.std.specs.List.{list_any}
 use Rattle.std.proofs.lemmas.List.Elements.{All-nil, All-cons, All-head, All-tail, All-filter}
@@ -19,7 +20,8 @@ use Rattle.epoch_model.specs.Epochs.{Use, Geometry, epochs}
 use Rattle.epoch_model.specs.Machine.{lists_of}
 use Rattle.epoch_model.specs.Laws.{HasRoom, rows_given}
 use Rattle.epoch_model.specs.Driving.{Taken, use_at, uses_taken}
-use Rattle.epoch_model.specs.Tables.{Folding, exact_row, epoch_rows, epochs_shown, keys_used, closed_key_rows, closed_keys, closed_rows, closed_epochs}
+use Rattle.epoch_model.specs.Tables.{Folding, exact_row, epoch_rows, epochs_shown, keys_used, closed_key_rows, closed_keys, closed_rows}
+use Rattle.epoch_model.specs.Tables.{closed_epochs}
 use Rattle.epoch_model.proofs.KeyLists.{by_test}
 use Rattle.epoch_model.proofs.Rows.{no_row_is_lost_lem}
 use Rattle.epoch_model.proofs.TableRows.{closed-lists, flat_map-single}
@@ -41,7 +43,8 @@ use Rattle.additive_laws.specs.TraceLaws.{rows_used, AreSwitchesOf}
 use Rattle.additive_laws.proofs.OwnEpochs.{own}
 use Rattle.additive_laws.proofs.Givens.{gives, keys_are}
 use Rattle.additive_laws.proofs.Counts.{added, of_one_switch, of_one, same_number, own_number, not_number}
-use Rattle.net_wide.specs.NetTables.{switch_in, packets_at, switches, caches_of, uses_at, key_args, net_key_rows, net_rows, net_count, net_table}
+use Rattle.net_wide.specs.NetTables.{switch_in, packets_at, switches, caches_of, uses_at, key_args, net_key_rows, net_rows, net_count}
+use Rattle.net_wide.specs.NetTables.{net_table}
 use Rattle.net_wide.proofs.Combined.{HasSwitchKey, Combines, all_combine}
 use Rattle.net_wide.proofs.OneSwitch.{none_closed}
 use Rattle.net_wide.proofs.SameTexts.{flat_maps_alike, sums_alike, tells_switch, at_place}
@@ -79,7 +82,8 @@ seen_first words packets = ap (λ b. b || list_any (λ ws. switch_in ws == switc
 
 module _ (number : ℕ → ℕ) (take : List ℕ → Option Taken) (all : List (List ℕ)) where
   -- a number that no switch has gives nothing
-  none_taken : (k : ℕ) → ((s : ℕ) → IsSeen s all → (number s == k) ≡ false) → (packets : List (List ℕ)) → ((s : ℕ) → IsSeen s packets → IsSeen s all)
+  none_taken : (k : ℕ) → ((s : ℕ) → IsSeen s all → (number s == k) ≡ false) → (packets : List (List ℕ))
+      → ((s : ℕ) → IsSeen s packets → IsSeen s all)
       → taken_of k (steps_of number take packets) ≡ []
   none_taken k none [] sub = refl
   none_taken k none (words ∷ packets) sub =
@@ -93,15 +97,18 @@ module _ (number : ℕ → ℕ) (take : List ℕ → Option Taken) (all : List (
   taken_own numbered s seen (words ∷ packets) sub =
       let rest = taken_own numbered s seen packets (λ a some. sub a (seen_more words packets a some)) in
       by_test (switch_in words == s)
-      (λ t. let u : (number (switch_in words) == number s) ≡ true = ap (λ n. number n == number s) (same_number (switch_in words) s t) ∙ own_number (number s) in
+      (λ t. let u : (number (switch_in words) == number s) ≡ true = ap (λ n. number n == number s) (same_number (switch_in words) s t)
+      ∙ own_number (number s) in
       rw (t, u) (ap (λ ts. take words ∷ ts) rest))
       (λ t. let u : (number (switch_in words) == number s) ≡ false = by_test (number (switch_in words) == number s)
-      (λ v. absurd (not_number (switch_in words) s t (numbered (switch_in words) s (sub (switch_in words) (seen_first words packets)) seen (same_number (number (switch_in words)) (number s) v))))
+      (λ v. absurd (not_number (switch_in words) s t (numbered (switch_in words) s (sub (switch_in words) (seen_first words packets)) seen
+      (same_number (number (switch_in words)) (number s) v))))
       (λ v. v) in
       rw (t, u) rest)
 
   -- what a key takes of one number alone, where each packet that gives it has that number
-  module _ (key : Key) (one : ℕ) (only : (words : List ℕ) (t : Taken) → length words ≡ 14 → take words ≡ Some t → key_eq t.key key ≡ true → number (switch_in words) ≡ one) where
+  module _ (key : Key) (one : ℕ) (only : (words : List ℕ) (t : Taken) → length words ≡ 14 → take words ≡ Some t → key_eq t.key key ≡ true
+      → number (switch_in words) ≡ one) where
     rows_of_one : (n m : ℕ) (packets : List (List ℕ)) → AreWhole packets
         → rows_used key (uses_taken n (taken_of one (steps_of number take packets))) ≡ rows_used key (uses_taken m (map take packets))
     rows_of_one n m [] whole = refl
@@ -110,20 +117,26 @@ module _ (number : ℕ → ℕ) (take : List ℕ → Option Taken) (all : List (
         (λ t. rw t (here (take words) (rows_of_one (suc n) (suc m) packets (All-tail (λ w. length w ≡ 14) words packets whole))))
         (λ t. rw t (there t (take words) refl (rows_of_one n (suc m) packets (All-tail (λ w. length w ≡ 14) words packets whole))))
       where
-        here : (o : Option Taken) → rows_used key (uses_taken (suc n) (taken_of one (steps_of number take packets))) ≡ rows_used key (uses_taken (suc m) (map take packets))
-            → rows_used key (use_at n o ++ uses_taken (suc n) (taken_of one (steps_of number take packets))) ≡ rows_used key (use_at m o ++ uses_taken (suc m) (map take packets))
+        here : (o : Option Taken) → rows_used key (uses_taken (suc n) (taken_of one (steps_of number take packets))) ≡ rows_used key
+            (uses_taken (suc m) (map take packets))
+            → rows_used key (use_at n o ++ uses_taken (suc n) (taken_of one (steps_of number take packets))) ≡ rows_used key
+            (use_at m o ++ uses_taken (suc m) (map take packets))
         here None h = h
         here (Some x) h = by_test (key_eq x.key key) (λ k. rw k (ap (λ rs. x.row ∷ rs) h)) (λ k. rw k h)
 
         there : (number (switch_in words) == one) ≡ false → (o : Option Taken) → take words ≡ o
-            → rows_used key (uses_taken n (taken_of one (steps_of number take packets))) ≡ rows_used key (uses_taken (suc m) (map take packets))
-            → rows_used key (uses_taken n (taken_of one (steps_of number take packets))) ≡ rows_used key (use_at m o ++ uses_taken (suc m) (map take packets))
+            → rows_used key (uses_taken n (taken_of one (steps_of number take packets))) ≡ rows_used key
+            (uses_taken (suc m) (map take packets))
+            → rows_used key (uses_taken n (taken_of one (steps_of number take packets))) ≡ rows_used key
+            (use_at m o ++ uses_taken (suc m) (map take packets))
         there t None is h = h
         there t (Some x) is h = by_test (key_eq x.key key)
-            (λ k. absurd (not_number (number (switch_in words)) one t (only words x (All-head (λ w. length w ≡ 14) words packets whole) is k)))
+            (λ k. absurd (not_number (number (switch_in words)) one t (only words x (All-head (λ w. length w ≡ 14) words packets whole) is
+            k)))
             (λ k. rw k h)
 
-    rows_of_other : (k n : ℕ) → k ≢ one → (packets : List (List ℕ)) → AreWhole packets → rows_used key (uses_taken n (taken_of k (steps_of number take packets))) ≡ []
+    rows_of_other : (k n : ℕ) → k ≢ one → (packets : List (List ℕ)) → AreWhole packets
+        → rows_used key (uses_taken n (taken_of k (steps_of number take packets))) ≡ []
     rows_of_other k n d [] whole = refl
     rows_of_other k n d (words ∷ packets) whole =
         by_test (number (switch_in words) == k)
@@ -135,16 +148,20 @@ module _ (number : ℕ → ℕ) (take : List ℕ → Option Taken) (all : List (
             → rows_used key (use_at n o ++ uses_taken (suc n) (taken_of k (steps_of number take packets))) ≡ []
         here t None is h = h
         here t (Some x) is h = by_test (key_eq x.key key)
-            (λ e. absurd (d (sym (same_number (number (switch_in words)) k t) ∙ only words x (All-head (λ w. length w ≡ 14) words packets whole) is e)))
+            (λ e. absurd (d (sym (same_number (number (switch_in words)) k t)
+            ∙ only words x (All-head (λ w. length w ≡ 14) words packets whole) is e)))
             (λ e. rw e h)
 
-whole_taken : (number : ℕ → ℕ) (take : List ℕ → Option Taken) (packets : List (List ℕ)) → map (λ one. one.taken) (steps_of number take packets) ≡ map take packets
+whole_taken : (number : ℕ → ℕ) (take : List ℕ → Option Taken) (packets : List (List ℕ))
+    → map (λ one. one.taken) (steps_of number take packets) ≡ map take packets
 whole_taken number take [] = refl
 whole_taken number take (words ∷ packets) = ap (λ ts. take words ∷ ts) (whole_taken number take packets)
 
 module _ (q : TypedQuery) (plan : PlanParts) (buckets ways : ℕ) (packets : List (List ℕ)) (number : ℕ → ℕ) (p : IsPlanOf q plan)
-    (room : HasRoom (caches_of buckets ways)) (whole : AreWhole packets) (numbered : AreNumbered number packets) (i : ℕ) (within : i < length plan.groups)
-    (events : List SwitchEvent) (merged : List SwitchEpoch) (has : HasPackets (steps_of number (taken plan i) packets) events) (all : AllMerged (caches_of buckets ways) events merged) where
+    (room : HasRoom (caches_of buckets ways)) (whole : AreWhole packets) (numbered : AreNumbered number packets) (i : ℕ)
+    (within : i < length plan.groups)
+    (events : List SwitchEvent) (merged : List SwitchEpoch) (has : HasPackets (steps_of number (taken plan i) packets) events)
+    (all : AllMerged (caches_of buckets ways) events merged) where
   abbrev g : Geometry
   g = caches_of buckets ways
 
@@ -169,14 +186,16 @@ module _ (q : TypedQuery) (plan : PlanParts) (buckets ways : ℕ) (packets : Lis
     apart = all_apart packets number numbered;
     others = λ k none.
         no_lists key k
-        (ap (λ ts. rows_used key (uses_taken 1 ts)) (none_taken number take packets k (λ s seen. no_number packets number k s seen none) packets (λ s seen. seen)));
+        (ap (λ ts. rows_used key (uses_taken 1 ts)) (none_taken number take packets k (λ s seen. no_number packets number k s seen none)
+        packets (λ s seen. seen)));
   }
 
   abbrev pieces : Key → List (List ArgRow)
   pieces key = closed_pieces number g events packets key
 
   pieces_from : (key : Key) (numbers : List ℕ)
-      → flat_map (λ k. lists_of key (epochs_at k merged)) (map number numbers) ≡ flat_map (λ s. lists_of key (machine_at g (number s) events).closed) numbers
+      → flat_map (λ k. lists_of key (epochs_at k merged)) (map number numbers) ≡ flat_map
+      (λ s. lists_of key (machine_at g (number s) events).closed) numbers
   pieces_from key [] = refl
   pieces_from key (s ∷ numbers) =
       ap (λ ls. ls ++ flat_map (λ k. lists_of key (epochs_at k merged)) (map number numbers)) (own_lists key (number s))
@@ -193,7 +212,8 @@ module _ (q : TypedQuery) (plan : PlanParts) (buckets ways : ℕ) (packets : Lis
 
   epochs_same : closed_epochs (all_epochs merged) ≡ net_count q i packets pieces
   epochs_same = ap epochs_shown
-      (sums_alike (λ key. length (lists_of key (all_epochs merged))) (λ key. length (pieces key)) 0 (closed_keys (all_epochs merged)) counts_are
+      (sums_alike (λ key. length (lists_of key (all_epochs merged))) (λ key. length (pieces key)) 0 (closed_keys (all_epochs merged))
+      counts_are
       ∙ ap (fold (λ a key. a + length (pieces key)) 0) keys_same)
 
   abbrev net_row : Folding → Key → List Row
@@ -204,7 +224,8 @@ module _ (q : TypedQuery) (plan : PlanParts) (buckets ways : ℕ) (packets : Lis
 
   exact_is : (f : Folding) → f.row_per_epoch ≡ false → (key : Key) → exact f key ∷ [] ≡ net_row f key
   exact_is f one key =
-      let rows : rows_given key (all_events events) ≡ key_args key (uses q i packets) = (gives steps events has).rows key ∙ ap (rows_used key) uses_are in
+      let rows : rows_given key (all_events events) ≡ key_args key (uses q i packets) = (gives steps events has).rows key
+      ∙ ap (rows_used key) uses_are in
       rw one (ap (λ n. exact_row f key n (rows_given key (all_events events)) ∷ []) (counts_are key)
       ∙ ap (λ rs. exact_row f key (length (pieces key)) rs ∷ []) rows)
 
@@ -212,9 +233,12 @@ module _ (q : TypedQuery) (plan : PlanParts) (buckets ways : ℕ) (packets : Lis
   additive_rows : (f : TypedFold) → per_epoch (class_of f) ≡ false → IsValidFold f → is_additive f ≡ true → AreWords f.initial
       → closed_rows (folding_of f) (all_epochs merged) ≡ net_rows q i packets pieces (folding_of f)
   additive_rows f linear valid additive words =
-      store_table f (folding_of f) g events merged refl linear (record { valid = valid; additive = additive; size = valid.starts; words = words }) room all
-      ∙ (sym (flat_map-single (λ key. exact (folding_of f) key ∷ []) (exact (folding_of f)) (ascending (keys_given (all_events events))) (λ key. refl))
-      ∙ (flat_maps_alike (λ key. exact (folding_of f) key ∷ []) (net_row (folding_of f)) (ascending (keys_given (all_events events))) (exact_is (folding_of f) linear)
+      store_table f (folding_of f) g events merged refl linear (record
+      { valid = valid; additive = additive; size = valid.starts; words = words }) room all
+      ∙ (sym (flat_map-single (λ key. exact (folding_of f) key ∷ []) (exact (folding_of f)) (ascending (keys_given (all_events events)))
+      (λ key. refl))
+      ∙ (flat_maps_alike (λ key. exact (folding_of f) key ∷ []) (net_row (folding_of f)) (ascending (keys_given (all_events events)))
+      (exact_is (folding_of f) linear)
       ∙ ap (λ keys. flat_map (net_row (folding_of f)) (ascending keys)) ((gives steps events has).keys ∙ ap (map (λ u. u.key)) uses_are)))
 
   -- a key that gives the switch
@@ -230,10 +254,12 @@ module _ (q : TypedQuery) (plan : PlanParts) (buckets ways : ℕ) (packets : Lis
 
     take_is : (words : List ℕ) → length words ≡ 14 → take words ≡ read words
     take_is words size = same_taken (take words) (read words)
-        (sym (p.takes i (words ∷ []) within (alone words size)) ∙ packetwise.uses_are q i t read at (λ ws long. refl) (words ∷ []) (alone words size))
+        (sym (p.takes i (words ∷ []) within (alone words size)) ∙ packetwise.uses_are q i t read at (λ ws long. refl) (words ∷ [])
+        (alone words size))
 
     only : (words : List ℕ) (x : Taken) → length words ≡ 14 → take words ≡ Some x → key_eq x.key key ≡ true → number (switch_in words) ≡ one
-    only words x size is e = ap number (tells_switch q i t at packets packets whole whole (λ s. refl) k key words x size (sym (take_is words size) ∙ is) e)
+    only words x size is e = ap number (tells_switch q i t at packets packets whole whole (λ s. refl) k key words x size
+        (sym (take_is words size) ∙ is) e)
 
     others : (s : ℕ) → s ≢ one → lists_of key (epochs_at s merged) ≡ []
     others s d = no_lists key s (rows_of_other number take packets key one only s 1 d packets whole)
@@ -252,15 +278,19 @@ module _ (q : TypedQuery) (plan : PlanParts) (buckets ways : ℕ) (packets : Lis
 
     key_rows_are : (f : Folding) → closed_key_rows f (all_epochs merged) key ≡ net_row f key
     key_rows_are f =
-        ap (λ (rs : List ArgRow). if f.row_per_epoch then epoch_rows f key (length (lists_of key (all_epochs merged))) 1 (lists_of key (all_epochs merged)) else (exact_row f key (length (lists_of key (all_epochs merged))) rs ∷ [])) args
+        ap (λ (rs : List ArgRow). if f.row_per_epoch then epoch_rows f key (length (lists_of key (all_epochs merged))) 1
+        (lists_of key (all_epochs merged)) else (exact_row f key (length (lists_of key (all_epochs merged))) rs ∷ [])) args
         ∙ ap (λ ls. net_key_rows f ls (key_args key (uses q i packets)) key) lists
 
-  switch_rows : (f : Folding) (t : Taking) → slice_get (takings q.streams) i ≡ Some t → HasSwitchKey q t → closed_rows f (all_epochs merged) ≡ net_rows q i packets pieces f
+  switch_rows : (f : Folding) (t : Taking) → slice_get (takings q.streams) i ≡ Some t → HasSwitchKey q t
+      → closed_rows f (all_epochs merged) ≡ net_rows q i packets pieces f
   switch_rows f t at k =
-      flat_maps_alike (closed_key_rows f (all_epochs merged)) (net_row f) (closed_keys (all_epochs merged)) (λ key. key_rows_are t at k key f)
+      flat_maps_alike (closed_key_rows f (all_epochs merged)) (net_row f) (closed_keys (all_epochs merged))
+      (λ key. key_rows_are t at k key f)
       ∙ ap (flat_map (net_row f)) keys_same
 
-  table_is : (shape : GroupShape) (f : TypedFold) → closed_rows (folding_of f) (all_epochs merged) ≡ net_rows q i packets pieces (folding_of f)
+  table_is : (shape : GroupShape) (f : TypedFold) → closed_rows (folding_of f) (all_epochs merged) ≡ net_rows q i packets pieces
+      (folding_of f)
       → closed_table (heading_of shape) (folding_of f) (all_epochs merged) ≡ net_table q packets pieces i shape f
   table_is shape f rows =
       ap (λ n. made n (closed_rows (folding_of f) (all_epochs merged))) epochs_same ∙ ap (made (net_count q i packets pieces)) rows
@@ -276,7 +306,8 @@ module _ (q : TypedQuery) (plan : PlanParts) (buckets ways : ℕ) (packets : Lis
 
 pub make_the_table : ((f : TypedFold) → IsValidFold f → is_additive f ≡ true → class_of f ≡ Linear) → MergedMakeTheTable
 make_the_table linear q plan buckets ways packets number valid none tells p room whole numbered i shape f events merged within at has all =
-    table_is q plan buckets ways packets number p room whole numbered i within events merged has all shape f (go (slice_get (takings q.streams) i) refl at)
+    table_is q plan buckets ways packets number p room whole numbered i within events merged has all shape f
+    (go (slice_get (takings q.streams) i) refl at)
   where
     cut : Key → List (List ArgRow)
     cut key = closed_pieces number (caches_of buckets ways) events packets key
@@ -285,9 +316,11 @@ make_the_table linear q plan buckets ways packets number valid none tells p room
         → closed_rows (folding_of f) (all_epochs merged) ≡ net_rows q i packets cut (folding_of f)
     rows_by t e is (inl additive) =
         let sound = at_place IsValidFold q.folds t.fold_number f valid.folds is in
-        additive_rows q plan buckets ways packets number p room whole numbered i within events merged has all f (ap per_epoch (linear f sound additive)) sound additive
+        additive_rows q plan buckets ways packets number p room whole numbered i within events merged has all f
+        (ap per_epoch (linear f sound additive)) sound additive
         (at_place (λ f. AreWords f.initial) q.folds t.fold_number f tells.words is)
-    rows_by t e is (inr k) = switch_rows q plan buckets ways packets number p room whole numbered i within events merged has all (folding_of f) t e k
+    rows_by t e is (inr k) = switch_rows q plan buckets ways packets number p room whole numbered i within events merged has all
+        (folding_of f) t e k
 
     go : (o : Option Taking) → slice_get (takings q.streams) i ≡ o → option_and_then (λ t. slice_get q.folds t.fold_number) o ≡ Some f
         → closed_rows (folding_of f) (all_epochs merged) ≡ net_rows q i packets cut (folding_of f)
@@ -296,23 +329,28 @@ make_the_table linear q plan buckets ways packets number valid none tells p room
 
 -- where no eviction comes before the end
 module _ (q : TypedQuery) (plan : PlanParts) (buckets ways : ℕ) (packets : List (List ℕ)) (number : ℕ → ℕ) (p : IsPlanOf q plan)
-    (room : HasRoom (caches_of buckets ways)) (whole : AreWhole packets) (numbered : AreNumbered number packets) (i : ℕ) (within : i < length plan.groups)
-    (events : List SwitchEvent) (merged : List SwitchEpoch) (ran : IsRun (steps_of number (taken plan i) packets) events) (all : AllMerged (caches_of buckets ways) events merged) (key : Key) where
+    (room : HasRoom (caches_of buckets ways)) (whole : AreWhole packets) (numbered : AreNumbered number packets) (i : ℕ)
+    (within : i < length plan.groups)
+    (events : List SwitchEvent) (merged : List SwitchEpoch) (ran : IsRun (steps_of number (taken plan i) packets) events)
+    (all : AllMerged (caches_of buckets ways) events merged) (key : Key) where
   abbrev cuts : Geometry
   cuts = caches_of buckets ways
 
   uses_of : (s : ℕ) → IsSeen s packets → own_uses (number s) (steps_of number (taken plan i) packets) ≡ uses_at q i packets s
   uses_of s seen =
       ap (uses_taken 1) (taken_own number (taken plan i) packets numbered s seen packets (λ a some. some))
-      ∙ sym (p.takes i (packets_at s packets) within (All-filter (λ words. switch_in words == s) (λ words. length words ≡ 14) packets whole))
+      ∙ sym (p.takes i (packets_at s packets) within (All-filter (λ words. switch_in words == s) (λ words. length words ≡ 14) packets
+      whole))
 
   epochs_of : (s : ℕ) → IsSeen s packets → lists_of key (machine_at cuts (number s) events).closed ≡ epochs cuts (uses_at q i packets s) key
   epochs_of s seen =
       ap (lists_of key) (sym (all.epochs (number s)))
-      ∙ (own buckets ways (steps_of number (taken plan i) packets) events merged key (number s) room ran all ∙ ap (λ us. epochs cuts us key) (uses_of s seen))
+      ∙ (own buckets ways (steps_of number (taken plan i) packets) events merged key (number s) room ran all
+      ∙ ap (λ us. epochs cuts us key) (uses_of s seen))
 
   epochs_from : (keys : List Key) → AreOnes packets keys
-      → flat_map (λ s. lists_of key (machine_at cuts (number s) events).closed) (map first keys) ≡ flat_map (λ s. epochs cuts (uses_at q i packets s) key) (map first keys)
+      → flat_map (λ s. lists_of key (machine_at cuts (number s) events).closed) (map first keys) ≡ flat_map
+      (λ s. epochs cuts (uses_at q i packets s) key) (map first keys)
   epochs_from [] o = refl
   epochs_from (k ∷ keys) o =
       let one = one_first packets k keys o in

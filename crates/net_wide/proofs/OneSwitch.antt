@@ -23,7 +23,8 @@ no_pieces ((row ∷ rows) ∷ lists) a e = cc
 
 module _ (key : Key) (s : ℕ) where
   -- the lists of all epochs are those of the switch, where no other switch has one
-  of_one : (merged : List SwitchEpoch) → ((k : ℕ) → k ≢ s → lists_of key (epochs_at k merged) ≡ []) → lists_of key (all_epochs merged) ≡ lists_of key (epochs_at s merged)
+  of_one : (merged : List SwitchEpoch) → ((k : ℕ) → k ≢ s → lists_of key (epochs_at k merged) ≡ [])
+      → lists_of key (all_epochs merged) ≡ lists_of key (epochs_at s merged)
   of_one [] h = refl
   of_one (e ∷ merged) h = by_test (e.switch == s)
       (λ u. by_test (is_of key e.epoch)
@@ -38,7 +39,8 @@ module _ (key : Key) (s : ℕ) where
 
       other : (e.switch == s) ≡ false → is_of key e.epoch ≡ true → ⊥
       other u t =
-          let apart : e.switch ≢ s = λ same. (let yes : (e.switch == s) ≡ true = grind (arith, nat_tests) in let wrong : true ≡ false = sym yes ∙ u in cc) in
+          let apart : e.switch ≢ s = λ same. (let yes : (e.switch == s) ≡ true = grind (arith, nat_tests) in let wrong : true ≡ false =
+          sym yes ∙ u in cc) in
           let some = rw t at (rw own at (h e.switch apart)) in cc
 
       rest : (k : ℕ) → k ≢ s → lists_of key (epochs_at k merged) ≡ []
@@ -52,13 +54,16 @@ module _ (key : Key) (s : ℕ) where
     none_closed k none =
         no_pieces (lists_of key (machine_at g k events).closed)
         (subst (AllByRecursion IsPiece) (sym (closed-lists g (machine_at g k events) key (all.swept k)))
-        (pieces_kept g (events_at k events) (empty_machine g) key room (starts-tidy g) (subst (AllByRecursion IsPiece) (sym (starts-lists g key)) tt)))
+        (pieces_kept g (events_at k events) (empty_machine g) key room (starts-tidy g)
+        (subst (AllByRecursion IsPiece) (sym (starts-lists g key)) tt)))
         (ap joined (closed-lists g (machine_at g k events) key (all.swept k)) ∙ (no_row_is_lost_lem g (events_at k events) key room ∙ none))
 
-    lists_are : ((k : ℕ) → k ≢ s → rows_given key (events_at k events) ≡ []) → lists_of key (all_epochs merged) ≡ lists_of key (machine_at g s events).closed
+    lists_are : ((k : ℕ) → k ≢ s → rows_given key (events_at k events) ≡ [])
+        → lists_of key (all_epochs merged) ≡ lists_of key (machine_at g s events).closed
     lists_are none =
         of_one merged (λ k d. ap (lists_of key) (all.epochs k) ∙ none_closed k (none k d)) ∙ ap (lists_of key) (all.epochs s)
 
 pub one_switch : KeysOfOneSwitch
 one_switch f g events merged key s room all none =
-    ap (λ (ls : List (List ArgRow)). if f.row_per_epoch then epoch_rows f key (length ls) 1 ls else (exact_row f key (length ls) (flat_map (λ rows. rows) ls) ∷ [])) (lists_are key s g events merged room all none)
+    ap (λ (ls : List (List ArgRow)). if f.row_per_epoch then epoch_rows f key (length ls) 1 ls else
+    (exact_row f key (length ls) (flat_map (λ rows. rows) ls) ∷ [])) (lists_are key s g events merged room all none)

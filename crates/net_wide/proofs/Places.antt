@@ -3,7 +3,8 @@ use Rattle.std.proofs.Common.{◌≡◌, ℕ, zero, suc, List, [], ◌∷◌, So
 use Rattle.std.specs.Prelude.{slice_get}
 
 -- the item at a place is the first of those from there on
-pub first_at : {A : Type 0} (xs : List A) (i : ℕ) (x : A) (rest : List A) → drop i xs ≡ x ∷ rest → (slice_get xs i ≡ Some x) × (drop (suc i) xs ≡ rest)
+pub first_at : {A : Type 0} (xs : List A) (i : ℕ) (x : A) (rest : List A) → drop i xs ≡ x ∷ rest → (slice_get xs i ≡ Some x)
+    × (drop (suc i) xs ≡ rest)
 first_at {A = A} [] i x rest e = absurd (nothing i e)
   where
     nothing : (i : ℕ) → drop {A = A} i [] ≡ x ∷ rest → ⊥

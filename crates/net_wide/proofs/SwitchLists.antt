@@ -65,7 +65,8 @@ keyed_ones all (words ∷ packets) sub key h = by_test (key_eq (single (switch_i
       is = sym (key_eq-true (single (switch_in words)) key t);
       seen = sub (switch_in words) (ap (λ b. b || list_any (λ ws. switch_in ws == switch_in words) packets) (own_number (switch_in words)));
     })
-    (λ t. keyed_ones all packets (λ s seen. sub s (or_right (switch_in words == s) (list_any (λ ws. switch_in ws == s) packets) seen)) key (sym (ap (λ b. b || has key (keyed packets)) t) ∙ h))
+    (λ t. keyed_ones all packets (λ s seen. sub s (or_right (switch_in words == s) (list_any (λ ws. switch_in ws == s) packets) seen)) key
+    (sym (ap (λ b. b || has key (keyed packets)) t) ∙ h))
   where
     or_right : (a b : Bool) → b ≡ true → (a || b) ≡ true
     or_right true b e = refl
@@ -97,21 +98,25 @@ module _ (packets : List (List ℕ)) (number : ℕ → ℕ) where
       let head : first key ≡ one.switch = ap first one.is in
       either (number (first key) == number s) (has_number (number s) (map number (map first keys)))
       (by_test (number (first key) == number s)
-      (λ t. let same : one.switch ≡ s = numbered one.switch s one.seen seen (ap number (sym head) ∙ same_number (number (first key)) (number s) t) in
+      (λ t. let same : one.switch ≡ s = numbered one.switch s one.seen seen
+      (ap number (sym head) ∙ same_number (number (first key)) (number s) t) in
       absurd (true≢false (sym (key_eq-refl (single s)) ∙ (ap (λ k. key_eq k (single s)) (sym (one.is ∙ ap single same)) ∙ both.0))))
       (λ t. t))
       (not_in numbered s seen keys (ones_rest packets key keys o) both.1)
 
-  pub apart : AreNumbered number packets → (keys : List Key) → IsAscending keys → AreOnes packets keys → AreApart (map number (map first keys))
+  pub apart : AreNumbered number packets → (keys : List Key) → IsAscending keys → AreOnes packets keys
+      → AreApart (map number (map first keys))
   apart numbered [] ascends o = tt
   apart numbered (key ∷ keys) ascends o =
       let one = one_first packets key keys o in (
         subst (λ s. has_number (number s) (map number (map first keys)) ≡ false) (sym (ap first one.is))
-            (not_in numbered one.switch one.seen keys (ones_rest packets key keys o) (subst (λ k. has k keys ≡ false) one.is (not_above key keys ascends.0))),
+            (not_in numbered one.switch one.seen keys (ones_rest packets key keys o)
+            (subst (λ k. has k keys ≡ false) one.is (not_above key keys ascends.0))),
         apart numbered keys ascends.1 (ones_rest packets key keys o),
       )
 
-  in_keys : (k s : ℕ) (keys : List Key) → has (single s) keys ≡ true → has_number k (map number (map first keys)) ≡ false → (number s == k) ≡ false
+  in_keys : (k s : ℕ) (keys : List Key) → has (single s) keys ≡ true → has_number k (map number (map first keys)) ≡ false
+      → (number s == k) ≡ false
   in_keys k s [] h none = absurd (true≢false (sym h))
   in_keys k s (key ∷ keys) h none =
       let both = both_fail (number (first key) == k) (has_number k (map number (map first keys))) none in

@@ -1,5 +1,6 @@
 -- What is taken of the packets, switch by switch: the same keys, and the same rows of each key but for their order.
-use Rattle.std.proofs.Common.{◌≡◌, ℕ, suc, true, false, ◌==◌, List, [], ◌∷◌, ◌++◌, length, map, slice_index, Option, Some, None, refl, sym, ap, ◌∙◌, arith, if◌then◌else◌}
+use Rattle.std.proofs.Common.{◌≡◌, ℕ, suc, true, false, ◌==◌, List, [], ◌∷◌, ◌++◌, length, map, slice_index, Option, Some, None, refl, sym}
+use Rattle.std.proofs.Common.{ap, ◌∙◌, arith, if◌then◌else◌}
 use Rattle.std.specs.List.{flat_map}
 use Rattle.std.proofs.lemmas.Bool.Decides.{nat_tests}
 use Rattle.std.proofs.lemmas.List.Elements.{All-head, All-tail}
@@ -36,12 +37,14 @@ module _ (take : List ℕ → Option Taken) (key : Key) where
       go None h = h
       go (Some t) h = by_test (key_eq t.key key) (λ e. rw e (ap (λ rs. t.row ∷ rs) h)) (λ e. rw e h)
 
-  keys_some : (n : ℕ) (packets : List (List ℕ)) → has key (map (λ u. u.key) (uses_taken n (map take packets))) ≡ some (all_rows (given packets))
+  keys_some : (n : ℕ) (packets : List (List ℕ)) → has key (map (λ u. u.key) (uses_taken n (map take packets))) ≡ some
+      (all_rows (given packets))
   keys_some n [] = refl
   keys_some n (words ∷ packets) = go (take words) (keys_some (suc n) packets)
     where
       go : (o : Option Taken) → has key (map (λ u. u.key) (uses_taken (suc n) (map take packets))) ≡ some (all_rows (given packets))
-          → has key (map (λ (u : Use). u.key) (use_at n o ++ uses_taken (suc n) (map take packets))) ≡ some (all_rows (given_of (switch_in words) o ++ given packets))
+          → has key (map (λ (u : Use). u.key) (use_at n o ++ uses_taken (suc n) (map take packets))) ≡ some
+          (all_rows (given_of (switch_in words) o ++ given packets))
       go None h = h
       go (Some t) h = by_test (key_eq t.key key) (λ e. rw e refl) (λ e. rw e h)
 
@@ -52,15 +55,18 @@ module _ (take : List ℕ → Option Taken) (key : Key) where
       (λ e. rw e (other e (take words) ∙ given_from s packets))
     where
       own : (switch_in words == s) ≡ true → (o : Option Taken) → rows_from s (given packets) ≡ all_rows (given (packets_at s packets))
-          → rows_from s (given_of (switch_in words) o ++ given packets) ≡ all_rows (given_of (switch_in words) o ++ given (packets_at s packets))
+          → rows_from s (given_of (switch_in words) o ++ given packets) ≡ all_rows
+          (given_of (switch_in words) o ++ given (packets_at s packets))
       own e None h = h
       own e (Some t) h = by_test (key_eq t.key key) (λ k. rw k (rw e (ap (λ rs. t.row ∷ rs) h))) (λ k. rw k h)
 
-      other : (switch_in words == s) ≡ false → (o : Option Taken) → rows_from s (given_of (switch_in words) o ++ given packets) ≡ rows_from s (given packets)
+      other : (switch_in words == s) ≡ false → (o : Option Taken) → rows_from s (given_of (switch_in words) o ++ given packets) ≡ rows_from
+          s (given packets)
       other e None = refl
       other e (Some t) = by_test (key_eq t.key key) (λ k. rw k (rw e refl)) (λ k. rw k refl)
 
-  pub same_of_each : (packets other : List (List ℕ)) → SameOfEachSwitch packets other → (s : ℕ) → rows_from s (given packets) ≡ rows_from s (given other)
+  pub same_of_each : (packets other : List (List ℕ)) → SameOfEachSwitch packets other → (s : ℕ)
+      → rows_from s (given packets) ≡ rows_from s (given other)
   same_of_each packets other h s = given_from s packets ∙ (ap (λ ps. all_rows (given ps)) (h s) ∙ sym (given_from s other))
 
   pub same_has : (packets other : List (List ℕ)) → SameOfEachSwitch packets other
@@ -68,11 +74,13 @@ module _ (take : List ℕ → Option Taken) (key : Key) where
   same_has packets other h =
       keys_some 1 packets
       ∙ (same_some (all_rows (given packets)) (all_rows (given other))
-      (sym (length_permutation (all_rows (given packets)) (all_rows (given other)) (same_rows (given packets) (given other) (same_of_each packets other h))))
+      (sym (length_permutation (all_rows (given packets)) (all_rows (given other))
+      (same_rows (given packets) (given other) (same_of_each packets other h))))
       ∙ sym (keys_some 1 other))
 
   -- where the key gives the switch, all its rows are of that switch
-  pub alone : (s : ℕ) → ((words : List ℕ) (t : Taken) → length words ≡ 14 → take words ≡ Some t → key_eq t.key key ≡ true → switch_in words ≡ s)
+  pub alone : (s : ℕ) → ((words : List ℕ) (t : Taken) → length words ≡ 14 → take words ≡ Some t → key_eq t.key key ≡ true
+      → switch_in words ≡ s)
       → (packets : List (List ℕ)) → AreWhole packets → all_rows (given packets) ≡ rows_from s (given packets)
   alone s tells [] whole = refl
   alone s tells (words ∷ packets) whole =
@@ -100,7 +108,8 @@ same_keys_used take packets other h =
 abbrev switch_taken : List ℕ → Option Taken
 switch_taken words = Some (record { key = switch_in words ∷ []; row = [] })
 
-switch_keys : (n : ℕ) (packets : List (List ℕ)) → map (λ u. u.key) (uses_taken n (map switch_taken packets)) ≡ map (λ words. switch_in words ∷ []) packets
+switch_keys : (n : ℕ) (packets : List (List ℕ)) → map (λ u. u.key) (uses_taken n (map switch_taken packets)) ≡ map
+    (λ words. switch_in words ∷ []) packets
 switch_keys n [] = refl
 switch_keys n (words ∷ packets) = ap (λ ks. (switch_in words ∷ []) ∷ ks) (switch_keys (suc n) packets)
 

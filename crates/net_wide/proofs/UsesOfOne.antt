@@ -1,5 +1,6 @@
 -- What is taken of the packets of one switch is what is taken of all packets, where the packet is of that switch.
-use Rattle.std.proofs.Common.{◌≡◌, ℕ, suc, ◌+◌, ◌-◌, ◌<◌, Bool, true, false, ◌==◌, List, [], ◌∷◌, ◌++◌, length, map, filter, get_or, Option, Some, None, refl, sym, ap, ◌∙◌, arith}
+use Rattle.std.proofs.Common.{◌≡◌, ℕ, suc, ◌+◌, ◌-◌, ◌<◌, Bool, true, false, ◌==◌, List, [], ◌∷◌, ◌++◌, length, map, filter, get_or, Option}
+use Rattle.std.proofs.Common.{Some, None, refl, sym, ap, ◌∙◌, arith}
 use Rattle.std.specs.Prelude.{slice_get, option_map}
 use Rattle.std.proofs.lemmas.List.Elements.{All-filter}
 use Rattle.epoch_model.specs.Epochs.{Use}
@@ -17,11 +18,14 @@ module _ (take : List ℕ → Option Taken) (s : ℕ) (all : List (List ℕ)) wh
 
   -- the packets from this place on, of which the first has the next number
   kept : (n k : ℕ) (packets : List (List ℕ)) → ((j : ℕ) → j < length packets → get_or all (k + j) [] ≡ get_or packets j [])
-      → map taken_in (uses_taken n (map take (packets_at s packets))) ≡ map taken_in (filter is_here (uses_taken (suc k) (map take packets)))
+      → map taken_in (uses_taken n (map take (packets_at s packets))) ≡ map taken_in
+      (filter is_here (uses_taken (suc k) (map take packets)))
   kept n k [] h = refl
   kept n k (words ∷ packets) h = by_test (switch_in words == s)
-      (λ e. let t : (switch_of all (suc k) == s) ≡ true = ap (λ x. x == s) here ∙ e in rw e (own t (take words) (kept (suc n) (suc k) packets later)))
-      (λ e. let t : (switch_of all (suc k) == s) ≡ false = ap (λ x. x == s) here ∙ e in rw e (other t (take words) (kept n (suc k) packets later)))
+      (λ e. let t : (switch_of all (suc k) == s) ≡ true = ap (λ x. x == s) here
+      ∙ e in rw e (own t (take words) (kept (suc n) (suc k) packets later)))
+      (λ e. let t : (switch_of all (suc k) == s) ≡ false = ap (λ x. x == s) here
+      ∙ e in rw e (other t (take words) (kept n (suc k) packets later)))
     where
       here : switch_of all (suc k) ≡ switch_in words
       here = ap (λ j. switch_in (get_or all j [])) (let same : suc k - 1 ≡ k + 0 = omega arith in same) ∙ ap switch_in (h 0 (omega arith))
@@ -30,14 +34,18 @@ module _ (take : List ℕ → Option Taken) (s : ℕ) (all : List (List ℕ)) wh
       later j lt = ap (λ z. get_or all z []) (let same : suc k + j ≡ k + suc j = omega arith in same) ∙ h (suc j) (omega arith)
 
       own : (switch_of all (suc k) == s) ≡ true → (o : Option Taken)
-          → map taken_in (uses_taken (suc n) (map take (packets_at s packets))) ≡ map taken_in (filter is_here (uses_taken (suc (suc k)) (map take packets)))
-          → map taken_in (use_at n o ++ uses_taken (suc n) (map take (packets_at s packets))) ≡ map taken_in (filter is_here (use_at (suc k) o ++ uses_taken (suc (suc k)) (map take packets)))
+          → map taken_in (uses_taken (suc n) (map take (packets_at s packets))) ≡ map taken_in
+          (filter is_here (uses_taken (suc (suc k)) (map take packets)))
+          → map taken_in (use_at n o ++ uses_taken (suc n) (map take (packets_at s packets))) ≡ map taken_in
+          (filter is_here (use_at (suc k) o ++ uses_taken (suc (suc k)) (map take packets)))
       own e None h = h
       own e (Some t) h = rw e (ap (λ ts. record { key = t.key; row = t.row } ∷ ts) h)
 
       other : (switch_of all (suc k) == s) ≡ false → (o : Option Taken)
-          → map taken_in (uses_taken n (map take (packets_at s packets))) ≡ map taken_in (filter is_here (uses_taken (suc (suc k)) (map take packets)))
-          → map taken_in (uses_taken n (map take (packets_at s packets))) ≡ map taken_in (filter is_here (use_at (suc k) o ++ uses_taken (suc (suc k)) (map take packets)))
+          → map taken_in (uses_taken n (map take (packets_at s packets))) ≡ map taken_in
+          (filter is_here (uses_taken (suc (suc k)) (map take packets)))
+          → map taken_in (uses_taken n (map take (packets_at s packets))) ≡ map taken_in
+          (filter is_here (use_at (suc k) o ++ uses_taken (suc (suc k)) (map take packets)))
       other e None h = h
       other e (Some t) h = rw e h
 
@@ -50,7 +58,10 @@ uses_of_one q i packets s whole = go (slice_get (takings q.streams) i) refl
         ap (λ o. map taken_in (taken_by q (packets_at s packets) o)) e
         ∙ ap (λ o. map taken_in (filter (λ u. switch_of packets u.packet == s) (taken_by q packets o))) (sym e)
     go (Some t) e =
-        let take : List ℕ → Option Taken = λ words. option_map (packetwise.row_taken t) (packetwise.row_at (packetwise.all_rows q words) t.input) in
-        ap (map taken_in) (packetwise.uses_are q i t take e (λ words size. refl) (packets_at s packets) (All-filter (λ words. switch_in words == s) (λ words. length words ≡ 14) packets whole))
+        let take : List ℕ → Option Taken = λ words. option_map (packetwise.row_taken t)
+        (packetwise.row_at (packetwise.all_rows q words) t.input) in
+        ap (map taken_in) (packetwise.uses_are q i t take e (λ words size. refl) (packets_at s packets)
+        (All-filter (λ words. switch_in words == s) (λ words. length words ≡ 14) packets whole))
         ∙ (kept take s packets 1 0 packets (λ j lt. ap (λ z. get_or packets z []) (let same : 0 + j ≡ j = omega arith in same))
-        ∙ ap (λ us. map taken_in (filter (λ u. switch_of packets u.packet == s) us)) (sym (packetwise.uses_are q i t take e (λ words size. refl) packets whole)))
+        ∙ ap (λ us. map taken_in (filter (λ u. switch_of packets u.packet == s) us))
+        (sym (packetwise.uses_are q i t take e (λ words size. refl) packets whole)))

@@ -1,5 +1,6 @@
 -- What the steps of one switch's lanes come to.
-use Rattle.std.proofs.Common.{◌≡◌, ℕ, zero, suc, ◌+◌, ◌*◌, ◌<◌, ◌≤◌, List, [], ◌∷◌, Option, Some, None, length, refl, sym, ap, ◌∙◌, subst, arith}
+use Rattle.std.proofs.Common.{◌≡◌, ℕ, zero, suc, ◌+◌, ◌*◌, ◌<◌, ◌≤◌, List, [], ◌∷◌, Option, Some, None, length, refl, sym, ap, ◌∙◌, subst}
+use Rattle.std.proofs.Common.{arith}
 use Rattle.std.specs.Prelude.{slice_get, sum_by}
 use Rattle.std.proofs.lemmas.List.Sums.{sum_by-cons}
 use Rattle.epoch_entry.specs.declared.any.AnyEpochs.{AnyEpochs}
@@ -22,7 +23,8 @@ use Rattle.network.specs.Groups.{AllWide, AreGroups, AreWide, GroupKept, GroupVi
 use Rattle.network.specs.Costs.{AtLaneIn, front_cost, front_merge_cost, group_cost, group_merge_cost, lane_in}
 
 -- steps within those of the switch's lane are within those of the groupby
-pub group_within : (ways at start end : ℕ) (group : GroupView) → at < length group.fronts → AtLaneIn (λ lane. end ≤ start + lane_cost ways lane) group at → end ≤ start + group_cost ways at group
+pub group_within : (ways at start end : ℕ) (group : GroupView) → at < length group.fronts
+    → AtLaneIn (λ lane. end ≤ start + lane_cost ways lane) group at → end ≤ start + group_cost ways at group
 group_within ways at start end group within cost =
     let here = got_some group.fronts at within in
     subst (λ n. end ≤ start + n) (sym (ap (front_cost ways group) here.1)) (cost here.0 here.1)
@@ -32,14 +34,17 @@ pub within_next : (start before end sum more next : ℕ) → next ≡ sum + more
 within_next start before end sum more next s b e = omega arith
 
 -- steps of a merge at a front whose entries have as many words as their kind says
-pub merge_within : (at start end : ℕ) (group : GroupView) (front : FrontOf AnyEpochs) → slice_get group.fronts at ≡ Some front → front.cache.entry_words ≡ (ghosts.sizes front.kind).entry
+pub merge_within : (at start end : ℕ) (group : GroupView) (front : FrontOf AnyEpochs) → slice_get group.fronts at ≡ Some front
+    → front.cache.entry_words ≡ (ghosts.sizes front.kind).entry
     → end ≤ start + lane_merge_cost (lane_in group front) → end ≤ start + group_merge_cost at group
 merge_within at start end group front here words cost =
-    subst (λ n. end ≤ start + n) (ap (λ w. merge_cost front.cache.key_words w (ghosts.merge_bound front.kind)) words ∙ sym (ap front_merge_cost here)) cost
+    subst (λ n. end ≤ start + n) (ap (λ w. merge_cost front.cache.key_words w (ghosts.merge_bound front.kind)) words
+    ∙ sym (ap front_merge_cost here)) cost
 
 -- what is kept of fronts and of groupbys keeps their costs
 
-kept_at : (F G : Option (FrontOf AnyEpochs) → ℕ) → G None ≡ F None → ((a b : FrontOf AnyEpochs) → FrontKept a b → G (Some b) ≡ F (Some a)) → (k at : ℕ) (olds news : List (FrontOf AnyEpochs))
+kept_at : (F G : Option (FrontOf AnyEpochs) → ℕ) → G None ≡ F None → ((a b : FrontOf AnyEpochs) → FrontKept a b → G (Some b) ≡ F (Some a))
+    → (k at : ℕ) (olds news : List (FrontOf AnyEpochs))
     → EachFrom (λ n. FrontKept) k olds news → G (slice_get news at) ≡ F (slice_get olds at)
 kept_at F G none some k at [] [] e = none
 kept_at F G none some k at [] (y ∷ news) e = absurd e
@@ -49,34 +54,45 @@ kept_at F G none some k (suc at) (x ∷ olds) (y ∷ news) e = kept_at F G none 
 
 cost_kept : (ways at : ℕ) (old new : GroupView) → GroupKept old new → group_cost ways at new ≡ group_cost ways at old
 cost_kept ways at old new kept =
-    let by : ℕ → AnyEpochs → ℕ = λ w k. (w + (ghosts.sizes k).args) + (w + 2 * ways * (w + 1) + (w + (ghosts.sizes k).entry) + ghosts.open_bound k + ghosts.absorb_bound k) in
-    kept_at (front_cost ways old) (front_cost ways new) refl (λ a b one. ap (λ w. by w b.kind) one.key_words ∙ ap (by a.cache.key_words) one.kind) 0 at old.fronts new.fronts kept.fronts
+    let by : ℕ → AnyEpochs → ℕ = λ w k. (w + (ghosts.sizes k).args) + (w + 2 * ways * (w + 1) + (w + (ghosts.sizes k).entry)
+    + ghosts.open_bound k + ghosts.absorb_bound k) in
+    kept_at (front_cost ways old) (front_cost ways new) refl (λ a b one. ap (λ w. by w b.kind) one.key_words
+    ∙ ap (by a.cache.key_words) one.kind) 0 at old.fronts new.fronts kept.fronts
 
 merge_kept : (at : ℕ) (old new : GroupView) → GroupKept old new → group_merge_cost at new ≡ group_merge_cost at old
 merge_kept at old new kept =
     let by : ℕ → AnyEpochs → ℕ = λ w k. merge_cost w (ghosts.sizes k).entry (ghosts.merge_bound k) in
-    kept_at front_merge_cost front_merge_cost refl (λ a b one. ap (λ w. by w b.kind) one.key_words ∙ ap (by a.cache.key_words) one.kind) 0 at old.fronts new.fronts kept.fronts
+    kept_at front_merge_cost front_merge_cost refl (λ a b one. ap (λ w. by w b.kind) one.key_words ∙ ap (by a.cache.key_words) one.kind) 0
+    at old.fronts new.fronts kept.fronts
 
-sum_same : (f : GroupView → ℕ) (k : ℕ) (olds news : List GroupView) → EachFrom (λ n a b. f b ≡ f a) k olds news → sum_by f news ≡ sum_by f olds
+sum_same : (f : GroupView → ℕ) (k : ℕ) (olds news : List GroupView) → EachFrom (λ n a b. f b ≡ f a) k olds news
+    → sum_by f news ≡ sum_by f olds
 sum_same f k [] [] e = refl
 sum_same f k [] (b ∷ news) e = absurd e
 sum_same f k (a ∷ olds) [] e = absurd e
 sum_same f k (a ∷ olds) (b ∷ news) e =
-    sum_by-cons f b news ∙ (ap (λ n. n + sum_by f news) e.0 ∙ (ap (λ n. f a + n) (sum_same f (suc k) olds news e.1) ∙ sym (sum_by-cons f a olds)))
+    sum_by-cons f b news ∙ (ap (λ n. n + sum_by f news) e.0 ∙ (ap (λ n. f a + n) (sum_same f (suc k) olds news e.1)
+    ∙ sym (sum_by-cons f a olds)))
 
-pub costs_kept : (ways at : ℕ) (olds news : List GroupView) → Each GroupKept olds news → sum_by (group_cost ways at) news ≡ sum_by (group_cost ways at) olds
+pub costs_kept : (ways at : ℕ) (olds news : List GroupView) → Each GroupKept olds news
+    → sum_by (group_cost ways at) news ≡ sum_by (group_cost ways at) olds
 costs_kept ways at olds news kept =
     sum_same (group_cost ways at) 0 olds news
-    (each_map (λ n. GroupKept) (λ n a b. group_cost ways at b ≡ group_cost ways at a) 0 olds news (λ j n a b q x y r. cost_kept ways at a b r) kept)
+    (each_map (λ n. GroupKept) (λ n a b. group_cost ways at b ≡ group_cost ways at a) 0 olds news
+    (λ j n a b q x y r. cost_kept ways at a b r) kept)
 
-pub merges_kept : (at : ℕ) (olds news : List GroupView) → Each GroupKept olds news → sum_by (group_merge_cost at) news ≡ sum_by (group_merge_cost at) olds
+pub merges_kept : (at : ℕ) (olds news : List GroupView) → Each GroupKept olds news
+    → sum_by (group_merge_cost at) news ≡ sum_by (group_merge_cost at) olds
 merges_kept at olds news kept =
     sum_same (group_merge_cost at) 0 olds news
-    (each_map (λ n. GroupKept) (λ n a b. group_merge_cost at b ≡ group_merge_cost at a) 0 olds news (λ j n a b q x y r. merge_kept at a b r) kept)
+    (each_map (λ n. GroupKept) (λ n a b. group_merge_cost at b ≡ group_merge_cost at a) 0 olds news (λ j n a b q x y r. merge_kept at a b r)
+    kept)
 
 -- The lane of a switch is the one that the plan's groupby has in a pipeline.
-lane_is : (switches at buckets : ℕ) (part : GroupPlan) (wiring : GroupWiring) (group : GroupView) (front : FrontOf AnyEpochs) → slice_get group.fronts at ≡ Some front → AreWide buckets group → IsGroup switches part wiring group
-    → IsLaneOf Folds buckets front.cache (ghosts.sizes front.kind) (ghosts.folding front.kind) (ghosts.open_bound front.kind) (ghosts.absorb_bound front.kind) part wiring
+lane_is : (switches at buckets : ℕ) (part : GroupPlan) (wiring : GroupWiring) (group : GroupView) (front : FrontOf AnyEpochs)
+    → slice_get group.fronts at ≡ Some front → AreWide buckets group → IsGroup switches part wiring group
+    → IsLaneOf Folds buckets front.cache (ghosts.sizes front.kind) (ghosts.folding front.kind) (ghosts.open_bound front.kind)
+    (ghosts.absorb_bound front.kind) part wiring
 lane_is switches at buckets part wiring group front here wide is =
     let share = is.shares at front here in
     record {
@@ -94,7 +110,8 @@ record LanesAt (ways at buckets k : ℕ) (plan : PlanParts) (groups : List Group
       (ghosts.open_bound lane.kind) (ghosts.absorb_bound lane.kind) part (wiring_at plan n)) k lanes parts
   cost : sum_by (group_cost ways at) groups ≡ sum_by (lane_cost ways) lanes
 
-lanes_at : (ways at switches buckets k : ℕ) (plan : PlanParts) (groups : List GroupView) (parts : List GroupPlan) → at < switches → AllWide buckets groups
+lanes_at : (ways at switches buckets k : ℕ) (plan : PlanParts) (groups : List GroupView) (parts : List GroupPlan) → at < switches
+    → AllWide buckets groups
     → EachFrom (λ n group part. IsGroup switches part (wiring_at plan n) group) k groups parts → LanesAt ways at buckets k plan groups parts
 lanes_at ways at switches buckets k plan [] [] within wide is = record { lanes = []; are = tt; cost = refl }
 lanes_at ways at switches buckets k plan [] (part ∷ parts) within wide is = absurd is
@@ -115,9 +132,11 @@ as_one : (registers cost lanes bound : ℕ) → cost ≡ lanes → registers + l
 as_one registers cost lanes bound same within = omega arith
 
 -- A packet's steps are within the plan's bound: the lanes of its switch are those of a pipeline of the plan.
-pub groups_within : (ways at switches buckets : ℕ) (plan : PlanParts) (groups : List GroupView) → HasOneDepth → EntriesSuitFolds → IsSoundPlan plan → at < switches → AllWide buckets groups → AreGroups plan switches groups
+pub groups_within : (ways at switches buckets : ℕ) (plan : PlanParts) (groups : List GroupView) → HasOneDepth → EntriesSuitFolds
+    → IsSoundPlan plan → at < switches → AllWide buckets groups → AreGroups plan switches groups
     → registers_of plan + sum_by (group_cost ways at) groups ≤ plan_bound plan ways
 groups_within ways at switches buckets plan groups one suit sound within wide are =
     let found = lanes_at ways at switches buckets 0 plan groups plan.groups within wide are in
     let view : PipelineView = record { plan = plan; entries = Folds; buckets = buckets; lanes = found.lanes } in
-    as_one (registers_of plan) (sum_by (group_cost ways at) groups) (sum_by (lane_cost ways) found.lanes) (plan_bound plan ways) found.cost (packet_within one suit ways view sound found.are)
+    as_one (registers_of plan) (sum_by (group_cost ways at) groups) (sum_by (lane_cost ways) found.lanes) (plan_bound plan ways) found.cost
+    (packet_within one suit ways view sound found.are)

@@ -1,5 +1,6 @@
 -- The tables of a network that is drained.
-use Rattle.std.proofs.Common.{◌≡◌, ℕ, zero, suc, ◌+◌, ◌<◌, ◌==◌, true, List, [], ◌∷◌, ◌++◌, Option, Some, None, length, map, drop, refl, sym, ap, ◌∙◌, subst, arith, append-nil}
+use Rattle.std.proofs.Common.{◌≡◌, ℕ, zero, suc, ◌+◌, ◌<◌, ◌==◌, true, List, [], ◌∷◌, ◌++◌, Option, Some, None, length, map, drop, refl}
+use Rattle.std.proofs.Common.{sym, ap, ◌∙◌, subst, arith, append-nil}
 use Rattle.std.specs.Prelude.{slice_get}
 use Rattle.std.specs.List.{All, list_all}
 use Rattle.std.proofs.lemmas.List.Elements.{All-nil, All-cons}
@@ -47,32 +48,40 @@ use Rattle.network.proofs.Representing.{given_on}
 -- ---- what a groupby is given of the events
 
 module _ (plan : PlanParts) (n : ℕ) where
-  packets_more : (at : ℕ) (t : Option Taken) (more : List SwitchEvent) → packets_among (from_switch at (event_of t) ++ more) ≡ from_switch at (event_of t) ++ packets_among more
+  packets_more : (at : ℕ) (t : Option Taken) (more : List SwitchEvent)
+      → packets_among (from_switch at (event_of t) ++ more) ≡ from_switch at (event_of t) ++ packets_among more
   packets_more at None more = refl
   packets_more at (Some t) more = refl
 
-  unmerged_more : (at : ℕ) (t : Option Taken) (more : List SwitchEvent) → without_merges (from_switch at (event_of t) ++ more) ≡ from_switch at (event_of t) ++ without_merges more
+  unmerged_more : (at : ℕ) (t : Option Taken) (more : List SwitchEvent)
+      → without_merges (from_switch at (event_of t) ++ more) ≡ from_switch at (event_of t) ++ without_merges more
   unmerged_more at None more = refl
   unmerged_more at (Some t) more = refl
 
-  no_packet_more : (at lane bucket : ℕ) (more : List SwitchEvent) → packets_among (from_switch at (event_at lane (Evict bucket) n) ++ more) ≡ packets_among more
+  no_packet_more : (at lane bucket : ℕ) (more : List SwitchEvent) → packets_among (from_switch at (event_at lane (Evict bucket) n) ++ more)
+      ≡ packets_among more
   no_packet_more at lane bucket more = by_test (n == lane) (λ t. rw t refl) (λ t. rw t refl)
 
-  no_packet_merged : (at lane : ℕ) (more : List SwitchEvent) → packets_among (from_switch at (event_at lane Merge n) ++ more) ≡ packets_among more
+  no_packet_merged : (at lane : ℕ) (more : List SwitchEvent) → packets_among (from_switch at (event_at lane Merge n) ++ more)
+      ≡ packets_among more
   no_packet_merged at lane more = by_test (n == lane) (λ t. rw t refl) (λ t. rw t refl)
 
-  merged_more : (at lane : ℕ) (more : List SwitchEvent) → without_merges (from_switch at (event_at lane Merge n) ++ more) ≡ without_merges more
+  merged_more : (at lane : ℕ) (more : List SwitchEvent) → without_merges (from_switch at (event_at lane Merge n) ++ more) ≡ without_merges
+      more
   merged_more at lane more = by_test (n == lane) (λ t. rw t refl) (λ t. rw t refl)
 
-  pub has_packets : (number : ℕ → ℕ) (events : List NetworkEvent) → AreAtTheirSwitches number events → HasPackets (steps_of number (taken plan n) (packets_taken events)) (all_given plan n events)
+  pub has_packets : (number : ℕ → ℕ) (events : List NetworkEvent) → AreAtTheirSwitches number events
+      → HasPackets (steps_of number (taken plan n) (packets_taken events)) (all_given plan n events)
   has_packets number [] at = refl
   has_packets number (Takes switch words ∷ events) at =
       let t = taken plan n words in
       packets_more switch t (all_given plan n events)
       ∙ (ap (λ es. from_switch switch (event_of t) ++ es) (has_packets number events at.1)
       ∙ ap (λ k. from_switch k (event_of t) ++ given (steps_of number (taken plan n) (packets_taken events))) at.0)
-  has_packets number (Evicts switch lane bucket ∷ events) at = no_packet_more switch lane bucket (all_given plan n events) ∙ has_packets number events at
-  has_packets number (Merges switch lane ∷ events) at = no_packet_merged switch lane (all_given plan n events) ∙ has_packets number events at
+  has_packets number (Evicts switch lane bucket ∷ events) at = no_packet_more switch lane bucket (all_given plan n events)
+      ∙ has_packets number events at
+  has_packets number (Merges switch lane ∷ events) at = no_packet_merged switch lane (all_given plan n events)
+      ∙ has_packets number events at
 
   first_given : (number : ℕ → ℕ) (events : List NetworkEvent) → NoEviction events → AreAtTheirSwitches number events
       → without_merges (all_given plan n events) ≡ given (steps_of number (taken plan n) (packets_taken events))
@@ -83,25 +92,30 @@ module _ (plan : PlanParts) (n : ℕ) where
       ∙ (ap (λ es. from_switch switch (event_of t) ++ es) (first_given number events none at.1)
       ∙ ap (λ k. from_switch k (event_of t) ++ given (steps_of number (taken plan n) (packets_taken events))) at.0)
   first_given number (Evicts switch lane bucket ∷ events) none at = absurd none
-  first_given number (Merges switch lane ∷ events) none at = merged_more switch lane (all_given plan n events) ∙ first_given number events none at
+  first_given number (Merges switch lane ∷ events) none at = merged_more switch lane (all_given plan n events)
+      ∙ first_given number events none at
 
   rest_given : (events : List NetworkEvent) → packets_taken events ≡ [] → NoPacket (all_events (all_given plan n events))
   rest_given [] none = tt
   rest_given (Takes switch words ∷ events) none = cc
-  rest_given (Evicts switch lane bucket ∷ events) none = by_test (n == lane) (λ t. rw t (rest_given events none)) (λ t. rw t (rest_given events none))
-  rest_given (Merges switch lane ∷ events) none = by_test (n == lane) (λ t. rw t (rest_given events none)) (λ t. rw t (rest_given events none))
+  rest_given (Evicts switch lane bucket ∷ events) none = by_test (n == lane) (λ t. rw t (rest_given events none))
+      (λ t. rw t (rest_given events none))
+  rest_given (Merges switch lane ∷ events) none = by_test (n == lane) (λ t. rw t (rest_given events none))
+      (λ t. rw t (rest_given events none))
 
 is_run : (plan : PlanParts) (n : ℕ) (number : ℕ → ℕ) (events : List NetworkEvent) → EvictsLast events → AreAtTheirSwitches number events
     → IsRun (steps_of number (taken plan n) (packets_taken events)) (all_given plan n events)
 is_run plan n number events last at =
     let all : packets_taken events ≡ packets_taken last.first =
-    ap packets_taken last.parts ∙ (taken_on last.first last.rest ∙ (ap (λ ps. packets_taken last.first ++ ps) last.after ∙ append-nil (packets_taken last.first))) in
+    ap packets_taken last.parts ∙ (taken_on last.first last.rest ∙ (ap (λ ps. packets_taken last.first ++ ps) last.after
+    ∙ append-nil (packets_taken last.first))) in
     record {
       first = all_given plan n last.first;
       rest = all_given plan n last.rest;
       parts = ap (all_given plan n) last.parts ∙ given_on plan n last.first last.rest;
       packets =
-          first_given plan n number last.first last.before (first_theirs number last.first last.rest (subst (AreAtTheirSwitches number) last.parts at))
+          first_given plan n number last.first last.before (first_theirs number last.first last.rest
+          (subst (AreAtTheirSwitches number) last.parts at))
           ∙ ap (λ ps. given (steps_of number (taken plan n) ps)) (sym all);
       ending = rest_given plan n last.rest last.after;
     }
@@ -111,15 +125,19 @@ is_run plan n number events last at =
 abbrev HasFold : List TypedFold → Taking → Type 0
 HasFold folds t = t.fold_number < length folds
 
-folds_there : (names : ℕ) (folds : List TypedFold) (before streams : List TypedStream) → AreValidStreams names folds before streams → All (HasFold folds) (takings streams)
+folds_there : (names : ℕ) (folds : List TypedFold) (before streams : List TypedStream) → AreValidStreams names folds before streams
+    → All (HasFold folds) (takings streams)
 folds_there names folds before [] valid = All-nil (HasFold folds)
-folds_there names folds before (one ∷ streams) valid = by_op one.op valid.0.operator (folds_there names folds (before ++ one ∷ []) streams valid.1)
+folds_there names folds before (one ∷ streams) valid = by_op one.op valid.0.operator
+    (folds_there names folds (before ++ one ∷ []) streams valid.1)
   where
-    by_op : (o : TypedOp) → IsValidOp folds before (length one.columns) o → All (HasFold folds) (takings streams) → All (HasFold folds) (takings (record one { op = o } ∷ streams))
+    by_op : (o : TypedOp) → IsValidOp folds before (length one.columns) o → All (HasFold folds) (takings streams)
+        → All (HasFold folds) (takings (record one { op = o } ∷ streams))
     by_op (op.Filter input condition) v rest = rest
     by_op (op.Map input values) v rest = rest
     by_op (op.Zip left right slots) v rest = rest
-    by_op (op.Group input keys f args) v rest = All-cons (HasFold folds) (record { input = input; keys = keys; fold_number = f; args = args }) (takings streams) v.1.is_fold rest
+    by_op (op.Group input keys f args) v rest = All-cons (HasFold folds)
+        (record { input = input; keys = keys; fold_number = f; args = args }) (takings streams) v.1.is_fold rest
 
 got_at : {A : Type 0} (xs : List A) (i : ℕ) → i < length xs → (x : A) × (slice_get xs i ≡ Some x)
 got_at [] i h = absurd (omega arith)
@@ -140,13 +158,16 @@ fold_there q i valid within =
 
 -- ---- the tables from one groupby on, of the epochs that the stores hold
 
-record TablesFrom (q : TypedQuery) (packets : List (List ℕ)) (pieces : ℕ → Key → List (List ArgRow)) (i : ℕ) (parts : List GroupPlan) (groups : List GroupView) : Type 0 where
+record TablesFrom (q : TypedQuery) (packets : List (List ℕ)) (pieces : ℕ → Key → List (List ArgRow)) (i : ℕ) (parts : List GroupPlan)
+    (groups : List GroupView) : Type 0 where
   epochs : List (List Epoch)
   hold : EachFrom (λ n group. StoreHolds (folding_in group) group.store) i groups epochs
   same : shared_tables parts groups epochs ≡ net_tables_from q packets pieces i (map group_shape parts)
 
-module _ (law : AlikeFoldingsMakeOneTable) (make : MergedMakeTheTable) (ways : ℕ) (net : NetworkView) (q : TypedQuery) (number : ℕ → ℕ) (events : List NetworkEvent) (is : IsNetwork ways net)
-    (over : CombineOver q net.plan number events) (stands : NetworkStands ways net events) (drained : list_all group_is_drained net.groups ≡ true) where
+module _ (law : AlikeFoldingsMakeOneTable) (make : MergedMakeTheTable) (ways : ℕ) (net : NetworkView) (q : TypedQuery) (number : ℕ → ℕ)
+    (events : List NetworkEvent) (is : IsNetwork ways net)
+    (over : CombineOver q net.plan number events) (stands : NetworkStands ways net events)
+    (drained : list_all group_is_drained net.groups ≡ true) where
   abbrev packets : List (List ℕ)
   packets = packets_taken events
 
@@ -159,21 +180,31 @@ module _ (law : AlikeFoldingsMakeOneTable) (make : MergedMakeTheTable) (ways : �
   abbrev merged : ℕ → List SwitchEpoch
   merged i = merged_after ways net.buckets [] (all_given net.plan i events)
 
-  pub is_merged : (i : ℕ) (group : GroupView) → slice_get net.groups i ≡ Some group → AllMerged (caches_of net.buckets ways) (all_given net.plan i events) (merged i)
+  pub is_merged : (i : ℕ) (group : GroupView) → slice_get net.groups i ≡ Some group
+      → AllMerged (caches_of net.buckets ways) (all_given net.plan i events) (merged i)
   is_merged i group here =
-      all_merged ways group (all_at group_is_drained net.groups i group drained here) net.buckets (all_given net.plan i events) (merged i) (stands i group here)
+      all_merged ways group (all_at group_is_drained net.groups i group drained here) net.buckets (all_given net.plan i events) (merged i)
+      (stands i group here)
 
-  one_table : (i : ℕ) (part : GroupPlan) (group : GroupView) (f : TypedFold) → slice_get net.groups i ≡ Some group → IsGroup net.switches part (wiring_at net.plan i) group
+  one_table : (i : ℕ) (part : GroupPlan) (group : GroupView) (f : TypedFold) → slice_get net.groups i ≡ Some group
+      → IsGroup net.switches part (wiring_at net.plan i) group
       → slice_get net.plan.groups i ≡ Some part → fold_at q i ≡ Some f
       → closed_table (heading_of part) (folding_in group) (all_epochs (merged i)) ≡ net_table q packets (pieces i) i (group_shape part) f
   one_table i part group f here own at has =
       let kind = own.kind f (over.planned.programs i f part has at) in
-      let alike : AreAlike (folding_in group) (folding_of f) = record { row_per_epoch = kind.row_per_epoch; states = λ rows. kind.folded rows } in
+      let alike : AreAlike (folding_in group) (folding_of f) = record {
+        row_per_epoch = kind.row_per_epoch;
+        states =
+            λ rows. kind.folded rows;
+      } in
       law.by_closed (heading_of part) (folding_in group) (folding_of f) (all_epochs (merged i)) alike
-      ∙ make q net.plan net.buckets ways packets number over.valid over.combine over.tells over.planned room over.whole over.numbered i (group_shape part) f
-      (all_given net.plan i events) (merged i) (got_in net.plan.groups i part at) has (has_packets net.plan i number events over.switches) (is_merged i group here)
+      ∙ make q net.plan net.buckets ways packets number over.valid over.combine over.tells over.planned room over.whole over.numbered i
+      (group_shape part) f
+      (all_given net.plan i events) (merged i) (got_in net.plan.groups i part at) has (has_packets net.plan i number events over.switches)
+      (is_merged i group here)
 
-  tables_from : (i : ℕ) (parts : List GroupPlan) (groups : List GroupView) → drop i net.plan.groups ≡ parts → EachFrom (λ n group part. IsGroup net.switches part (wiring_at net.plan n) group) i groups parts
+  tables_from : (i : ℕ) (parts : List GroupPlan) (groups : List GroupView) → drop i net.plan.groups ≡ parts
+      → EachFrom (λ n group part. IsGroup net.switches part (wiring_at net.plan n) group) i groups parts
       → ((j n : ℕ) (group : GroupView) → n ≡ i + j → slice_get groups j ≡ Some group → slice_get net.groups n ≡ Some group)
       → TablesFrom q packets pieces i parts groups
   tables_from i [] [] e are there = record { epochs = []; hold = tt; same = refl }
@@ -186,7 +217,8 @@ module _ (law : AlikeFoldingsMakeOneTable) (make : MergedMakeTheTable) (ways : �
       let here = there 0 i group (omega arith) refl in
       let one = one_table i part group f.0 here are.0 at.0 f.1 in
       let more = tables_from (suc i) parts groups at.1 are.1 (λ j n x s g. there (suc j) n x (omega arith) g) in
-      let has : net_table_if q packets (pieces i) i (group_shape part) (fold_at q i) ≡ net_table q packets (pieces i) i (group_shape part) f.0 ∷ [] =
+      let has : net_table_if q packets (pieces i) i (group_shape part) (fold_at q i) ≡ net_table q packets (pieces i) i (group_shape part)
+      f.0 ∷ [] =
       ap (net_table_if q packets (pieces i) i (group_shape part)) f.1 in
       record {
         epochs = all_epochs (merged i) ∷ more.epochs;
@@ -197,16 +229,20 @@ module _ (law : AlikeFoldingsMakeOneTable) (make : MergedMakeTheTable) (ways : �
             ∙ ap (λ ts. ts ++ net_tables_from q packets pieces (suc i) (map group_shape parts)) (sym has));
       }
 
-  pub tables_closed : (tables : List Table) → ((epochs : List (List Epoch)) → StoresHold net.groups epochs → tables ≡ shared_tables net.plan.groups net.groups epochs)
+  pub tables_closed : (tables : List Table) → ((epochs : List (List Epoch)) → StoresHold net.groups epochs
+      → tables ≡ shared_tables net.plan.groups net.groups epochs)
       → tables ≡ tables_of_pieces q packets pieces
   unfolding tables_of_pieces
   tables_closed tables closed =
-      let from = tables_from 0 net.plan.groups net.groups refl is.groups (λ j n x s e. (let same : n ≡ j = omega arith in ap (slice_get net.groups) same ∙ e)) in
+      let from = tables_from 0 net.plan.groups net.groups refl is.groups
+      (λ j n x s e. (let same : n ≡ j = omega arith in ap (slice_get net.groups) same ∙ e)) in
       closed from.epochs from.hold ∙ (from.same ∙ ap (net_tables_from q packets pieces 0) (ap (λ shape. shape.groups) over.planned.shape))
 
-  pub tables_defined : PiecesAreTheEpochs → EvictsLast events → (tables : List Table) → tables ≡ tables_of_pieces q packets pieces → tables ≡ net_tables q (caches_of net.buckets ways) packets
+  pub tables_defined : PiecesAreTheEpochs → EvictsLast events → (tables : List Table) → tables ≡ tables_of_pieces q packets pieces
+      → tables ≡ net_tables q (caches_of net.buckets ways) packets
   tables_defined epochs last tables same =
       same ∙ pieces_same q packets net.plan pieces (net_pieces q (caches_of net.buckets ways) packets) over.planned (λ i key less.
       let group = got_at net.groups i (subst (λ n. i < n) (sym (each_long _ 0 net.groups net.plan.groups is.groups)) less) in
-      epochs q net.plan net.buckets ways packets number over.planned room over.whole over.numbered i (all_given net.plan i events) (merged i) key less
+      epochs q net.plan net.buckets ways packets number over.planned room over.whole over.numbered i (all_given net.plan i events)
+      (merged i) key less
       (is_run net.plan i number events last over.switches) (is_merged i group.0 group.1))

@@ -6,7 +6,8 @@ use Rattle.network.specs.Ends.{AreAtTheirSwitches, NoEviction, packets_taken}
 use Rattle.network.specs.Events.{is_ready_at}
 use Rattle.network.specs.Groups.{GroupView}
 use Rattle.network.specs.Networks.{NetworkView}
-use Rattle.network.specs.Running.{Evicts, Merges, NetworkEvent, Takes, all_evictions, bucket_evictions, cache_evictions, front_at, joined_below, merges_for_room, merges_of_each, open_in, room_events, switch_evictions, without_merges}
+use Rattle.network.specs.Running.{Evicts, Merges, NetworkEvent, Takes, all_evictions, bucket_evictions, cache_evictions, front_at}
+use Rattle.network.specs.Running.{joined_below, merges_for_room, merges_of_each, open_in, room_events, switch_evictions, without_merges}
 use Rattle.network.proofs.Runs.{without_on}
 
 -- ---- some events and then others
@@ -17,7 +18,8 @@ taken_on (Takes switch words ∷ xs) ys = ap (λ ps. words ∷ ps) (taken_on xs 
 taken_on (Evicts switch lane bucket ∷ xs) ys = taken_on xs ys
 taken_on (Merges switch lane ∷ xs) ys = taken_on xs ys
 
-pub theirs_on : (number : ℕ → ℕ) (xs ys : List NetworkEvent) → AreAtTheirSwitches number xs → AreAtTheirSwitches number ys → AreAtTheirSwitches number (xs ++ ys)
+pub theirs_on : (number : ℕ → ℕ) (xs ys : List NetworkEvent) → AreAtTheirSwitches number xs → AreAtTheirSwitches number ys
+    → AreAtTheirSwitches number (xs ++ ys)
 theirs_on number [] ys a b = b
 theirs_on number (Takes switch words ∷ xs) ys a b = (a.0, theirs_on number xs ys a.1 b)
 theirs_on number (Evicts switch lane bucket ∷ xs) ys a b = theirs_on number xs ys a b
@@ -49,7 +51,8 @@ theirs_none number (Takes switch words ∷ xs) none = cc
 theirs_none number (Evicts switch lane bucket ∷ xs) none = theirs_none number xs none
 theirs_none number (Merges switch lane ∷ xs) none = theirs_none number xs none
 
-none_below : (lists : ℕ → List NetworkEvent) → ((i : ℕ) → packets_taken (lists i) ≡ []) → (n : ℕ) → packets_taken (joined_below n lists) ≡ []
+none_below : (lists : ℕ → List NetworkEvent) → ((i : ℕ) → packets_taken (lists i) ≡ []) → (n : ℕ)
+    → packets_taken (joined_below n lists) ≡ []
 none_below lists none zero = refl
 none_below lists none (suc n) =
     taken_on (joined_below n lists) (lists n) ∙ (ap (λ ps. ps ++ packets_taken (lists n)) (none_below lists none n) ∙ none n)
@@ -62,12 +65,14 @@ bucket_none at lane bucket (suc n) = bucket_none at lane bucket n
 pub evictions_take_none : (net : NetworkView) → packets_taken (all_evictions net) ≡ []
 evictions_take_none net = none_below (switch_evictions net) (λ at.
     none_below (λ lane. cache_evictions net.buckets at lane (front_at net lane at)) (λ lane.
-    none_below (λ bucket. bucket_evictions at lane bucket (open_in bucket (front_at net lane at))) (λ bucket. bucket_none at lane bucket (suc (open_in bucket (front_at net lane at))))
+    none_below (λ bucket. bucket_evictions at lane bucket (open_in bucket (front_at net lane at)))
+    (λ bucket. bucket_none at lane bucket (suc (open_in bucket (front_at net lane at))))
     net.buckets) (length net.groups)) net.switches
 
 -- ---- merges alone
 
-without_below : (lists : ℕ → List NetworkEvent) → ((i : ℕ) → without_merges (lists i) ≡ []) → (n : ℕ) → without_merges (joined_below n lists) ≡ []
+without_below : (lists : ℕ → List NetworkEvent) → ((i : ℕ) → without_merges (lists i) ≡ []) → (n : ℕ)
+    → without_merges (joined_below n lists) ≡ []
 without_below lists none zero = refl
 without_below lists none (suc n) =
     without_on (joined_below n lists) (lists n) ∙ (ap (λ es. es ++ without_merges (lists n)) (without_below lists none n) ∙ none n)
@@ -77,7 +82,8 @@ room_alone at lane None = refl
 room_alone at lane (Some group) = by_test (is_ready_at at group) (λ t. rw t refl) (λ t. rw t refl)
 
 pub room_is_merges : (at : ℕ) (net : NetworkView) → without_merges (merges_for_room at net) ≡ []
-room_is_merges at net = without_below (λ lane. room_events at lane (slice_get net.groups lane)) (λ lane. room_alone at lane (slice_get net.groups lane)) (length net.groups)
+room_is_merges at net = without_below (λ lane. room_events at lane (slice_get net.groups lane))
+    (λ lane. room_alone at lane (slice_get net.groups lane)) (length net.groups)
 
 pub each_is_merges : (at lanes : ℕ) → without_merges (merges_of_each at lanes) ≡ []
 each_is_merges at lanes = without_below (λ lane. Merges at lane ∷ []) (λ lane. refl) lanes

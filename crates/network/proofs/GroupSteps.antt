@@ -1,5 +1,6 @@
 -- Groupbys side by side.
-use Rattle.std.proofs.Common.{◌≡◌, ℕ, zero, suc, ◌+◌, ◌<◌, ◌≤◌, nat_lt, List, [], ◌∷◌, ◌++◌, ◌⊎◌, inl, inr, Some, length, take, refl, sym, ap, ◌∙◌, subst, arith, length-append}
+use Rattle.std.proofs.Common.{◌≡◌, ℕ, zero, suc, ◌+◌, ◌<◌, ◌≤◌, nat_lt, List, [], ◌∷◌, ◌++◌, ◌⊎◌, inl, inr, Some, length, take, refl, sym}
+use Rattle.std.proofs.Common.{ap, ◌∙◌, subst, arith, length-append}
 use Rattle.std.proofs.Math.Logic.{∥∥₁_elim}
 use Rattle.std.proofs.Props.{props}
 use Rattle.std.proofs.Math.Seq.{take-append_seam, take-length}
@@ -24,12 +25,14 @@ use Rattle.switch_core.specs.Pipelines.{heading_of}
 use Rattle.switch_core.specs.Rows.{Each, EachFrom}
 use Rattle.switch_core.proofs.LanesMade.{group_sound}
 use Rattle.switch_core.proofs.SideBySide.{same_some, each_at, each_long, each_map, got_below}
-use Rattle.network.specs.Groups.{AllHavePlaces, AllWide, AreWide, HavePlaces, GroupGrows, GroupKept, GroupView, IsGroup, IsKindOfProgram, AreGroups, folding_in, shared_tables, with_first}
+use Rattle.network.specs.Groups.{AllHavePlaces, AllWide, AreWide, HavePlaces, GroupGrows, GroupKept, GroupView, IsGroup, IsKindOfProgram}
+use Rattle.network.specs.Groups.{AreGroups, folding_in, shared_tables, with_first}
 use Rattle.network.specs.Shared.{AllShare, FrontKept, MayShare}
 use Rattle.network.proofs.SharedSteps.{each_back, still_share}
 
 -- what is said of items and parts, and what is made of each item, says something of the new items and the parts
-pub each_made : {A B : Type 0} (R : ℕ → A → B → Type 0) (S : ℕ → A → A → Type 0) (T : ℕ → A → B → Type 0) (k : ℕ) (olds news : List A) (parts : List B)
+pub each_made : {A B : Type 0} (R : ℕ → A → B → Type 0) (S : ℕ → A → A → Type 0) (T : ℕ → A → B → Type 0) (k : ℕ) (olds news : List A)
+    (parts : List B)
     → ((n : ℕ) (a b : A) (p : B) → R n a p → S n a b → T n b p) → EachFrom R k olds parts → EachFrom S k olds news → EachFrom T k news parts
 each_made R S T k [] [] [] h r s = tt
 each_made R S T k [] [] (p ∷ parts) h r s = absurd r
@@ -50,13 +53,15 @@ pub record HasPart (plan : PlanParts) (switches n : ℕ) (group : GroupView) : T
   pub few_keys : length (wiring_at plan n).keys ≤ 8
   pub few_args : length (wiring_at plan n).args ≤ 16
 
-pub part_of : (plan : PlanParts) (switches n : ℕ) (groups : List GroupView) (group : GroupView) → IsSoundPlan plan → AreGroups plan switches groups → slice_get groups n ≡ Some group
+pub part_of : (plan : PlanParts) (switches n : ℕ) (groups : List GroupView) (group : GroupView) → IsSoundPlan plan
+    → AreGroups plan switches groups → slice_get groups n ≡ Some group
     → HasPart plan switches n group
 part_of plan switches n groups group sound are here =
     let found = each_at (λ i g part. IsGroup switches part (wiring_at plan i) g) 0 n groups plan.groups group are here in
     let own = found.2 n (omega arith) in
     let wired = group_sound plan n found.0 sound found.1 in
-    let good : IsSoundGroup (14 + length plan.ops) found.0 (wiring_at plan n) = subst (IsSoundGroup (14 + length plan.ops) found.0) (sym wired.1) wired.2 in
+    let good : IsSoundGroup (14 + length plan.ops) found.0 (wiring_at plan n) =
+    subst (IsSoundGroup (14 + length plan.ops) found.0) (sym wired.1) wired.2 in
     record {
       part = found.0;
       there = found.1;
@@ -76,25 +81,32 @@ still_group switches part plan n old new kept is = record {
   keys = kept.store.key_words ∙ is.keys;
   states = kept.store.state_words ∙ (is.states ∙ ap (λ k. (ghosts.sizes k).state) (sym kept.kind));
   class = ap (λ k. (ghosts.folding k).row_per_epoch) kept.kind ∙ is.class;
-  kind = λ f program. subst (λ k. IsKindOf f (ghosts.sizes k) (ghosts.folding k) (ghosts.open_bound k) (ghosts.absorb_bound k)) (sym kept.kind) (is.kind f program);
+  kind = λ f program. subst (λ k. IsKindOf f (ghosts.sizes k) (ghosts.folding k) (ghosts.open_bound k) (ghosts.absorb_bound k))
+      (sym kept.kind) (is.kind f program);
   kinds = λ s front e.
       let was = each_back (λ n. FrontKept) 0 old.fronts new.fronts s front kept.fronts e in
       subst (IsKindOfProgram part.program) (sym (was.2 s (omega arith)).kind) (is.kinds s was.0 was.1);
   count = sym (each_long _ 0 old.fronts new.fronts kept.fronts) ∙ is.count;
-  shares = subst (λ k. AllShare ghosts.sizes ghosts.folding (ghosts.folding k) (length (wiring_at plan n).args) new.fronts new.store) (sym kept.kind)
-      (still_share ghosts.sizes ghosts.folding (folding_in old) (length (wiring_at plan n).args) old.fronts new.fronts old.store new.store kept.fronts kept.store is.shares);
+  shares = subst (λ k. AllShare ghosts.sizes ghosts.folding (ghosts.folding k) (length (wiring_at plan n).args) new.fronts new.store)
+      (sym kept.kind)
+      (still_share ghosts.sizes ghosts.folding (folding_in old) (length (wiring_at plan n).args) old.fronts new.fronts old.store new.store
+      kept.fronts kept.store is.shares);
 }
 
-pub still_groups : (switches : ℕ) (plan : PlanParts) (olds news : List GroupView) → Each GroupKept olds news → AreGroups plan switches olds → AreGroups plan switches news
+pub still_groups : (switches : ℕ) (plan : PlanParts) (olds news : List GroupView) → Each GroupKept olds news → AreGroups plan switches olds
+    → AreGroups plan switches news
 still_groups switches plan olds news kept is =
-    each_made (λ n group part. IsGroup switches part (wiring_at plan n) group) (λ n. GroupKept) (λ n group part. IsGroup switches part (wiring_at plan n) group) 0 olds news plan.groups
+    each_made (λ n group part. IsGroup switches part (wiring_at plan n) group) (λ n. GroupKept)
+    (λ n group part. IsGroup switches part (wiring_at plan n) group) 0 olds news plan.groups
     (λ n a b p r s. still_group switches p plan n a b s r) is kept
 
 -- tables in sequence
 
-tables_next_at : (parts : List GroupPlan) (groups : List GroupView) (epochs : List (List Epoch)) (i : ℕ) (part : GroupPlan) (group : GroupView) (es : List Epoch)
+tables_next_at : (parts : List GroupPlan) (groups : List GroupView) (epochs : List (List Epoch)) (i : ℕ) (part : GroupPlan)
+    (group : GroupView) (es : List Epoch)
     → slice_get parts i ≡ Some part → slice_get groups i ≡ Some group → slice_get epochs i ≡ Some es
-    → take (suc i) (shared_tables parts groups epochs) ≡ take i (shared_tables parts groups epochs) ++ closed_table (heading_of part) (folding_in group) es ∷ []
+    → take (suc i) (shared_tables parts groups epochs) ≡ take i (shared_tables parts groups epochs)
+    ++ closed_table (heading_of part) (folding_in group) es ∷ []
 tables_next_at [] groups epochs i part group es a b e = cc
 tables_next_at (p ∷ parts) [] epochs i part group es a b e = cc
 tables_next_at (p ∷ parts) (g ∷ groups) [] i part group es a b e = cc
@@ -103,13 +115,17 @@ tables_next_at (p ∷ parts) (g ∷ groups) (n ∷ epochs) zero part group es a 
 tables_next_at (p ∷ parts) (g ∷ groups) (n ∷ epochs) (suc i) part group es a b e =
     ap (λ ts. closed_table (heading_of p) (folding_in g) n ∷ ts) (tables_next_at parts groups epochs i part group es a b e)
 
-pub tables_next : (parts : List GroupPlan) (groups : List GroupView) (epochs : List (List Epoch)) (i : ℕ) (part : GroupPlan) (group : GroupView) (es : List Epoch)
+pub tables_next : (parts : List GroupPlan) (groups : List GroupView) (epochs : List (List Epoch)) (i : ℕ) (part : GroupPlan)
+    (group : GroupView) (es : List Epoch)
     → slice_get parts i ≡ Some part → slice_get groups i ≡ Some group → slice_get epochs i ≡ Some es
-    → take (i + 1) (shared_tables parts groups epochs) ≡ take i (shared_tables parts groups epochs) ++ closed_table (heading_of part) (folding_in group) es ∷ []
+    → take (i + 1) (shared_tables parts groups epochs) ≡ take i (shared_tables parts groups epochs)
+    ++ closed_table (heading_of part) (folding_in group) es ∷ []
 tables_next parts groups epochs i part group es a b e =
-    ap (λ n. take n (shared_tables parts groups epochs)) (let q : i + 1 ≡ suc i = omega arith in q) ∙ tables_next_at parts groups epochs i part group es a b e
+    ap (λ n. take n (shared_tables parts groups epochs)) (let q : i + 1 ≡ suc i = omega arith in q)
+    ∙ tables_next_at parts groups epochs i part group es a b e
 
-pub tables_whole : (parts : List GroupPlan) (groups : List GroupView) (epochs : List (List Epoch)) (i : ℕ) → length groups ≤ i → take i (shared_tables parts groups epochs) ≡ shared_tables parts groups epochs
+pub tables_whole : (parts : List GroupPlan) (groups : List GroupView) (epochs : List (List Epoch)) (i : ℕ) → length groups ≤ i
+    → take i (shared_tables parts groups epochs) ≡ shared_tables parts groups epochs
 tables_whole [] groups epochs zero h = refl
 tables_whole [] groups epochs (suc i) h = refl
 tables_whole (p ∷ parts) [] epochs zero h = refl
@@ -117,17 +133,22 @@ tables_whole (p ∷ parts) [] epochs (suc i) h = refl
 tables_whole (p ∷ parts) (g ∷ groups) [] zero h = refl
 tables_whole (p ∷ parts) (g ∷ groups) [] (suc i) h = refl
 tables_whole (p ∷ parts) (g ∷ groups) (n ∷ epochs) zero h = absurd (omega arith)
-tables_whole (p ∷ parts) (g ∷ groups) (n ∷ epochs) (suc i) h = ap (λ ts. closed_table (heading_of p) (folding_in g) n ∷ ts) (tables_whole parts groups epochs i (omega arith))
+tables_whole (p ∷ parts) (g ∷ groups) (n ∷ epochs) (suc i) h = ap (λ ts. closed_table (heading_of p) (folding_in g) n ∷ ts)
+    (tables_whole parts groups epochs i (omega arith))
 
 -- a groupby has a front more
 abbrev pub Grown : PlanParts → ℕ → GroupView → GroupView → Type 0
-Grown plan n old new = (switches : ℕ) (part : GroupPlan) → slice_get plan.groups n ≡ Some part → IsGroup switches part (wiring_at plan n) old → IsGroup (switches + 1) part (wiring_at plan n) new
+Grown plan n old new = (switches : ℕ) (part : GroupPlan) → slice_get plan.groups n ≡ Some part
+    → IsGroup switches part (wiring_at plan n) old → IsGroup (switches + 1) part (wiring_at plan n) new
 
-pub all_grown : (plan : PlanParts) (switches : ℕ) (olds news : List GroupView) → AreGroups plan switches olds → EachFrom (Grown plan) 0 olds news → AreGroups plan (switches + 1) news
+pub all_grown : (plan : PlanParts) (switches : ℕ) (olds news : List GroupView) → AreGroups plan switches olds
+    → EachFrom (Grown plan) 0 olds news → AreGroups plan (switches + 1) news
 all_grown plan switches olds news are grown =
-    each_made (λ n group part. (slice_get plan.groups n ≡ Some part) × IsGroup switches part (wiring_at plan n) group) (Grown plan) (λ n group part. IsGroup (switches + 1) part (wiring_at plan n) group)
+    each_made (λ n group part. (slice_get plan.groups n ≡ Some part) × IsGroup switches part (wiring_at plan n) group) (Grown plan)
+    (λ n group part. IsGroup (switches + 1) part (wiring_at plan n) group)
     0 olds news plan.groups (λ n a b p r s. s switches p r.0 r.1)
-    (each_map (λ n group part. IsGroup switches part (wiring_at plan n) group) (λ n group part. (slice_get plan.groups n ≡ Some part) × IsGroup switches part (wiring_at plan n) group) 0 olds plan.groups
+    (each_map (λ n group part. IsGroup switches part (wiring_at plan n) group)
+    (λ n group part. (slice_get plan.groups n ≡ Some part) × IsGroup switches part (wiring_at plan n) group) 0 olds plan.groups
     (λ j n a p q f e r. (let same : n ≡ j = omega arith in ap (slice_get plan.groups) same ∙ e, r)) are) grown
 
 got_push : {X : Type 0} (xs : List X) (x y : X) (s : ℕ) → slice_get (xs ++ x ∷ []) s ≡ Some y → (slice_get xs s ≡ Some y) ⊎ (x ≡ y)
@@ -136,10 +157,13 @@ got_push [] x y (suc s) e = cc
 got_push (z ∷ xs) x y zero e = inl e
 got_push (z ∷ xs) x y (suc s) e = got_push xs x y s e
 
-module _ (view : GroupView) (part : GroupPlan) (wiring : GroupWiring) (registers switches : ℕ) (kind : AnyEpochs) (buckets key_words places : ℕ) (news : List (FrontOf AnyEpochs))
+module _ (view : GroupView) (part : GroupPlan) (wiring : GroupWiring) (registers switches : ℕ) (kind : AnyEpochs)
+    (buckets key_words places : ℕ) (news : List (FrontOf AnyEpochs))
     (adds : AddsFront kind buckets key_words places view.fronts news)
-    (of_kind : (f : TypedFold) → IsProgramOf f part.program → IsKindOf f (ghosts.sizes kind) (ghosts.folding kind) (ghosts.open_bound kind) (ghosts.absorb_bound kind))
-    (program : IsProgram part.program) (words : key_words ≡ length part.key_names) (sound : IsSoundGroup registers part wiring) (is : IsGroup switches part wiring view) where
+    (of_kind : (f : TypedFold) → IsProgramOf f part.program → IsKindOf f (ghosts.sizes kind) (ghosts.folding kind) (ghosts.open_bound kind)
+    (ghosts.absorb_bound kind))
+    (program : IsProgram part.program) (words : key_words ≡ length part.key_names) (sound : IsSoundGroup registers part wiring)
+    (is : IsGroup switches part wiring view) where
   alike : AreAlike (ghosts.folding kind) (folding_in view)
   alike = ∥∥₁_elim program (hlevel props) (λ h.
       let a = of_kind h.0 h.1 in
@@ -170,7 +194,8 @@ module _ (view : GroupView) (part : GroupPlan) (wiring : GroupWiring) (registers
     kind = is.kind;
     kinds = λ s front e. elim (got_push view.fronts adds.front front s (ap (λ xs. slice_get xs s) (sym adds.added) ∙ e)) [
       | inl there ↦ is.kinds s front there
-      | inr new ↦ subst (λ (x : FrontOf AnyEpochs). IsKindOfProgram part.program x.kind) new (subst (IsKindOfProgram part.program) (sym adds.has_kind) of_kind)
+      | inr new ↦ subst (λ (x : FrontOf AnyEpochs). IsKindOfProgram part.program x.kind) new
+          (subst (IsKindOfProgram part.program) (sym adds.has_kind) of_kind)
     ];
     count = ap length adds.added ∙ (length-append view.fronts (adds.front ∷ []) ∙ ap (λ n. n + 1) is.count);
     shares = λ s front e. elim (got_push view.fronts adds.front front s (ap (λ xs. slice_get xs s) (sym adds.added) ∙ e)) [
@@ -179,21 +204,26 @@ module _ (view : GroupView) (part : GroupPlan) (wiring : GroupWiring) (registers
     ];
   }
 
-pub wide_push : {kind : AnyEpochs} (buckets key_words places : ℕ) (view after : GroupView) → AddsFront kind buckets key_words places view.fronts after.fronts
+pub wide_push : {kind : AnyEpochs} (buckets key_words places : ℕ) (view after : GroupView)
+    → AddsFront kind buckets key_words places view.fronts after.fronts
     → AreWide buckets view → AreWide buckets after
-wide_push buckets key_words places view after adds wide s front e = elim (got_push view.fronts adds.front front s (ap (λ xs. slice_get xs s) (sym adds.added) ∙ e)) [
-  | inl there ↦ wide s front there
-  | inr new ↦ ap (λ (x : FrontOf AnyEpochs). length x.cache.lists) (sym new) ∙ adds.has_buckets
-]
+wide_push buckets key_words places view after adds wide s front e = elim
+    (got_push view.fronts adds.front front s (ap (λ xs. slice_get xs s) (sym adds.added) ∙ e)) [
+      | inl there ↦ wide s front there
+      | inr new ↦ ap (λ (x : FrontOf AnyEpochs). length x.cache.lists) (sym new) ∙ adds.has_buckets
+    ]
 
-pub places_push : {kind : AnyEpochs} (buckets key_words places : ℕ) (view after : GroupView) → AddsFront kind buckets key_words places view.fronts after.fronts
+pub places_push : {kind : AnyEpochs} (buckets key_words places : ℕ) (view after : GroupView)
+    → AddsFront kind buckets key_words places view.fronts after.fronts
     → HavePlaces places view → HavePlaces places after
-places_push buckets key_words places view after adds have s front e = elim (got_push view.fronts adds.front front s (ap (λ xs. slice_get xs s) (sym adds.added) ∙ e)) [
-  | inl there ↦ have s front there
-  | inr new ↦ ap (λ (x : FrontOf AnyEpochs). x.pipe.places) (sym new) ∙ adds.has_places
-]
+places_push buckets key_words places view after adds have s front e = elim
+    (got_push view.fronts adds.front front s (ap (λ xs. slice_get xs s) (sym adds.added) ∙ e)) [
+      | inl there ↦ have s front there
+      | inr new ↦ ap (λ (x : FrontOf AnyEpochs). x.pipe.places) (sym new) ∙ adds.has_places
+    ]
 
-pub others_push : {kind : AnyEpochs} (buckets key_words places : ℕ) (view after : GroupView) → AddsFront kind buckets key_words places view.fronts after.fronts
+pub others_push : {kind : AnyEpochs} (buckets key_words places : ℕ) (view after : GroupView)
+    → AddsFront kind buckets key_words places view.fronts after.fronts
     → after.kind ≡ view.kind → after.store ≡ view.store → with_first (length view.fronts) after ≡ view
 others_push buckets key_words places view after adds kind store =
     ap (λ k. record { kind = k; fronts = take (length view.fronts) after.fronts; store = after.store }) kind
@@ -205,8 +235,10 @@ pub all_first : (group : GroupView) → with_first (length group.fronts) group �
 all_first group = ap (λ xs. record group { fronts = xs }) (take-length group.fronts)
 
 -- the groupbys so far have their fronts and perhaps one more, and the others are unchanged
-pub others_so_far : (i k : ℕ) (olds news : List GroupView) → EachFrom (λ n (a b : GroupView). n < i → with_first (length a.fronts) b ≡ a) k olds news
-    → EachFrom (λ n (a b : GroupView). i ≤ n → b ≡ a) k olds news → EachFrom (λ n (a b : GroupView). with_first (length a.fronts) b ≡ a) k olds news
+pub others_so_far : (i k : ℕ) (olds news : List GroupView) → EachFrom (λ n (a b : GroupView). n < i → with_first (length a.fronts) b ≡ a) k
+    olds news
+    → EachFrom (λ n (a b : GroupView). i ≤ n → b ≡ a) k olds news → EachFrom (λ n (a b : GroupView). with_first (length a.fronts) b ≡ a) k
+    olds news
 others_so_far i k [] [] done same = tt
 others_so_far i k [] (b ∷ news) done same = absurd done
 others_so_far i k (a ∷ olds) [] done same = absurd done
@@ -220,7 +252,8 @@ others_so_far i k (a ∷ olds) (b ∷ news) done same = (
 -- groupbys whose last front goes again are the old ones
 pub kept_back : (plan : PlanParts) (switches k : ℕ) (olds mids news : List GroupView) (parts : List GroupPlan)
     → EachFrom (λ n group part. IsGroup switches part (wiring_at plan n) group) k olds parts
-    → EachFrom (λ n (a b : GroupView). with_first (length a.fronts) b ≡ a) k olds mids → EachFrom (λ n (a b : GroupView). b ≡ with_first switches a) k mids news → news ≡ olds
+    → EachFrom (λ n (a b : GroupView). with_first (length a.fronts) b ≡ a) k olds mids
+    → EachFrom (λ n (a b : GroupView). b ≡ with_first switches a) k mids news → news ≡ olds
 kept_back plan switches k [] [] [] parts are others kept = refl
 kept_back plan switches k [] [] (c ∷ news) parts are others kept = absurd kept
 kept_back plan switches k [] (b ∷ mids) news parts are others kept = absurd others
@@ -238,19 +271,22 @@ wide_kept buckets olds news kept wide n now e s front f =
     let was = each_back (λ k. FrontKept) 0 group.0.fronts now.fronts s front (group.2 n (omega arith)).fronts f in
     (was.2 s (omega arith)).buckets ∙ wide n group.0 group.1 s was.0 was.1
 
-pub wide_grown : (ways buckets places : ℕ) (olds news : List GroupView) → Each (GroupGrows ways buckets places) olds news → AllWide buckets olds → AllWide buckets news
+pub wide_grown : (ways buckets places : ℕ) (olds news : List GroupView) → Each (GroupGrows ways buckets places) olds news
+    → AllWide buckets olds → AllWide buckets news
 wide_grown ways buckets places olds news grown wide n now e =
     let group = each_back (λ k. GroupGrows ways buckets places) 0 olds news n now grown e in
     (group.2 n (omega arith)).wide (wide n group.0 group.1)
 
 -- pipes have the places that they had
-pub places_kept : (places : ℕ) (olds news : List GroupView) → Each GroupKept olds news → AllHavePlaces places olds → AllHavePlaces places news
+pub places_kept : (places : ℕ) (olds news : List GroupView) → Each GroupKept olds news → AllHavePlaces places olds
+    → AllHavePlaces places news
 places_kept places olds news kept have n now e s front f =
     let group = each_back (λ k. GroupKept) 0 olds news n now kept e in
     let was = each_back (λ k. FrontKept) 0 group.0.fronts now.fronts s front (group.2 n (omega arith)).fronts f in
     (was.2 s (omega arith)).places ∙ have n group.0 group.1 s was.0 was.1
 
-pub places_grown : (ways buckets places : ℕ) (olds news : List GroupView) → Each (GroupGrows ways buckets places) olds news → AllHavePlaces places olds → AllHavePlaces places news
+pub places_grown : (ways buckets places : ℕ) (olds news : List GroupView) → Each (GroupGrows ways buckets places) olds news
+    → AllHavePlaces places olds → AllHavePlaces places news
 places_grown ways buckets places olds news grown have n now e =
     let group = each_back (λ k. GroupGrows ways buckets places) 0 olds news n now grown e in
     (group.2 n (omega arith)).pipes (have n group.0 group.1)

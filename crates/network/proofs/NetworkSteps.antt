@@ -11,10 +11,18 @@ use Rattle.network.proofs.MakeSteps.{groups_kept}
 
 -- a network with other groupbys
 abbrev pub with_groups : NetworkView → List GroupView → NetworkView
-with_groups net groups = record { plan = net.plan; buckets = net.buckets; pipe_records = net.pipe_records; switches = net.switches; groups = groups }
+with_groups net groups = record {
+  plan = net.plan;
+  buckets = net.buckets;
+  pipe_records = net.pipe_records;
+  switches = net.switches;
+  groups =
+      groups;
+}
 
 -- A network whose groupbys kept kinds and sizes is one as before.
-pub kept_network : (ways : ℕ) (old : NetworkView) (news : List GroupView) → Each GroupKept old.groups news → IsNetwork ways old → IsNetwork ways (with_groups old news)
+pub kept_network : (ways : ℕ) (old : NetworkView) (news : List GroupView) → Each GroupKept old.groups news → IsNetwork ways old
+    → IsNetwork ways (with_groups old news)
 kept_network ways old news kept is = record {
   few = is.few;
   groups = still_groups old.switches old.plan old.groups news kept is.groups;
@@ -28,18 +36,27 @@ kept_network ways old news kept is = record {
 }
 
 -- so is one that made events of a switch
-pub made_network : (ways at : ℕ) (events : ℕ → List Event) (old : NetworkView) (news : List GroupView) → GroupsMake ways at events old.groups news
+pub made_network : (ways at : ℕ) (events : ℕ → List Event) (old : NetworkView) (news : List GroupView)
+    → GroupsMake ways at events old.groups news
     → IsNetwork ways old → IsNetwork ways (with_groups old news)
 made_network ways at events old news made is = kept_network ways old news (groups_kept ways at events old.groups news made) is
 
 -- and one in which nothing happened
-pub same_network : (ways : ℕ) (old : NetworkView) (news : List GroupView) → news ≡ old.groups → IsNetwork ways old → IsNetwork ways (with_groups old news)
+pub same_network : (ways : ℕ) (old : NetworkView) (news : List GroupView) → news ≡ old.groups → IsNetwork ways old
+    → IsNetwork ways (with_groups old news)
 same_network ways old news same is = subst (λ groups. IsNetwork ways (with_groups old groups)) (sym same) is
 
 -- a network with a switch more
 pub grown_network : (ways : ℕ) (old : NetworkView) (news : List GroupView) → old.switches < 64 → AreGroups old.plan (old.switches + 1) news
     → Each (GroupGrows ways old.buckets old.pipe_records) old.groups news → IsNetwork ways old
-    → IsNetwork ways (record { plan = old.plan; buckets = old.buckets; pipe_records = old.pipe_records; switches = old.switches + 1; groups = news })
+    → IsNetwork ways (record {
+      plan = old.plan;
+      buckets = old.buckets;
+      pipe_records = old.pipe_records;
+      switches = old.switches
+          + 1;
+      groups = news;
+    })
 grown_network ways old news few are grown is = record {
   few = omega arith;
   groups = are;
@@ -53,7 +70,8 @@ grown_network ways old news few are grown is = record {
 }
 
 -- groupbys that were written over the whole of a list
-pub ran_whole : (R : List GroupView → List GroupView → Type 0) (olds before news : List GroupView) (many : ℕ) → before ≡ olds → length news ≡ many → R before news
+pub ran_whole : (R : List GroupView → List GroupView → Type 0) (olds before news : List GroupView) (many : ℕ) → before ≡ olds
+    → length news ≡ many → R before news
     → R olds (take many (news ++ drop (length news) olds))
 ran_whole R olds before news many was long ran =
     subst (R olds) (sym (whole_written news (drop (length news) olds) many long)) (subst (λ xs. R xs news) was ran)

@@ -1,5 +1,6 @@
 -- Runs of a network, in sequence.
-use Rattle.std.proofs.Common.{◌≡◌, ℕ, zero, suc, ◌+◌, ◌<◌, ◌≤◌, nat_lt, true, false, List, [], ◌∷◌, ◌++◌, length, Some, refl, sym, ap, subst, ◌∙◌, arith, append-nil, append_assoc}
+use Rattle.std.proofs.Common.{◌≡◌, ℕ, zero, suc, ◌+◌, ◌<◌, ◌≤◌, nat_lt, true, false, List, [], ◌∷◌, ◌++◌, length, Some, refl, sym, ap}
+use Rattle.std.proofs.Common.{subst, ◌∙◌, arith, append-nil, append_assoc}
 use Rattle.std.specs.Prelude.{slice_get, sum_by}
 use Rattle.std.proofs.lemmas.Bool.Decides.{nat_tests}
 use Rattle.epoch_model.proofs.KeyLists.{by_test}
@@ -11,7 +12,8 @@ use Rattle.network.specs.Groups.{GroupKept, GroupView}
 use Rattle.network.specs.Events.{is_ready_at}
 use Rattle.network.specs.Costs.{group_cost}
 use Rattle.network.specs.Networks.{IsNetwork, Keeps, NetworkView, merges_cost, network_cost}
-use Rattle.network.specs.Running.{AreFirst, Evicts, Merges, MergingBreaksOff, NetworkEvent, NetworkMakes, NetworkRuns, RunBreaksOff, RunsWithMerges, Takes, gives, joined_below, room_events, switch_of, without_merges}
+use Rattle.network.specs.Running.{AreFirst, Evicts, Merges, MergingBreaksOff, NetworkEvent, NetworkMakes, NetworkRuns, RunBreaksOff}
+use Rattle.network.specs.Running.{RunsWithMerges, Takes, gives, joined_below, room_events, switch_of, without_merges}
 use Rattle.network.proofs.CostSteps.{costs_kept, merges_kept}
 use Rattle.network.proofs.MakeSteps.{groups_kept, kept_after, none_kept}
 use Rattle.network.proofs.NetworkSteps.{made_network, with_groups}
@@ -33,9 +35,11 @@ first_all xs = ([], append-nil xs)
 pub first_below : (lists : ℕ → List NetworkEvent) (i n : ℕ) → i ≤ n → AreFirst (joined_below i lists) (joined_below n lists)
 first_below lists i zero h = let none : i ≡ 0 = omega arith in subst (λ k. AreFirst (joined_below k lists) []) (sym none) (first_all [])
 first_below lists i (suc n) h = by_test (nat_lt n i)
-    (λ t. let last : suc n ≡ i = grind (arith, nat_tests) in subst (λ k. AreFirst (joined_below k lists) (joined_below (suc n) lists)) last (first_all (joined_below (suc n) lists)))
+    (λ t. let last : suc n ≡ i = grind (arith, nat_tests) in subst (λ k. AreFirst (joined_below k lists) (joined_below (suc n) lists)) last
+    (first_all (joined_below (suc n) lists)))
     (λ t. let less : i ≤ n = grind (arith, nat_tests) in
-    first_in (joined_below i lists) (joined_below n lists) (joined_below (suc n) lists) (first_below lists i n less) (first_of (joined_below n lists) (lists n)))
+    first_in (joined_below i lists) (joined_below n lists) (joined_below (suc n) lists) (first_below lists i n less)
+    (first_of (joined_below n lists) (lists n)))
 
 pub below_next : (lists : ℕ → List NetworkEvent) (n : ℕ) → joined_below (n + 1) lists ≡ joined_below n lists ++ lists n
 below_next lists n = ap (λ k. joined_below k lists) (let q : n + 1 ≡ suc n = omega arith in q)
@@ -46,21 +50,31 @@ without_on (Takes at words ∷ xs) ys = ap (λ es. Takes at words ∷ es) (witho
 without_on (Evicts at lane bucket ∷ xs) ys = ap (λ es. Evicts at lane bucket ∷ es) (without_on xs ys)
 without_on (Merges at lane ∷ xs) ys = without_on xs ys
 
-pub room_none : (at lane : ℕ) (groups : List GroupView) (group : GroupView) → slice_get groups lane ≡ Some group → is_ready_at at group ≡ true → room_events at lane (slice_get groups lane) ≡ []
+pub room_none : (at lane : ℕ) (groups : List GroupView) (group : GroupView) → slice_get groups lane ≡ Some group
+    → is_ready_at at group ≡ true → room_events at lane (slice_get groups lane) ≡ []
 room_none at lane groups group here ready = ap (room_events at lane) here ∙ rw ready refl
 
-pub room_one : (at lane : ℕ) (groups : List GroupView) (group : GroupView) → slice_get groups lane ≡ Some group → is_ready_at at group ≡ false → room_events at lane (slice_get groups lane) ≡ Merges at lane ∷ []
+pub room_one : (at lane : ℕ) (groups : List GroupView) (group : GroupView) → slice_get groups lane ≡ Some group
+    → is_ready_at at group ≡ false → room_events at lane (slice_get groups lane) ≡ Merges at lane ∷ []
 room_one at lane groups group here full = ap (room_events at lane) here ∙ rw full refl
 
 -- lists that are the same number by number
 pub below_same : (f h : ℕ → List NetworkEvent) (n : ℕ) → ((i : ℕ) → i < n → f i ≡ h i) → joined_below n f ≡ joined_below n h
 below_same f h zero same = refl
-below_same f h (suc n) same = ap (λ es. es ++ f n) (below_same f h n (λ i less. same i (omega arith))) ∙ ap (λ es. joined_below n h ++ es) (same n (omega arith))
+below_same f h (suc n) same = ap (λ es. es ++ f n) (below_same f h n (λ i less. same i (omega arith)))
+    ∙ ap (λ es. joined_below n h ++ es) (same n (omega arith))
 
 -- ---- what events keep
 
 abbrev net_of : PlanParts → ℕ → ℕ → ℕ → List GroupView → NetworkView
-net_of plan buckets records switches groups = record { plan = plan; buckets = buckets; pipe_records = records; switches = switches; groups = groups }
+net_of plan buckets records switches groups = record {
+  plan = plan;
+  buckets = buckets;
+  pipe_records = records;
+  switches = switches;
+  groups =
+      groups;
+}
 
 as_made : (ways : ℕ) (e : NetworkEvent) (a b : NetworkView) → NetworkMakes ways e a b → b ≡ with_groups a b.groups
 as_made ways e a b made =
@@ -70,9 +84,11 @@ as_made ways e a b made =
     ∙ ap (λ n. net_of a.plan a.buckets a.pipe_records n b.groups) made.switches))
 
 made_is : (ways : ℕ) (e : NetworkEvent) (a b : NetworkView) → NetworkMakes ways e a b → IsNetwork ways a → IsNetwork ways b
-made_is ways e a b made is = subst (IsNetwork ways) (sym (as_made ways e a b made)) (made_network ways (switch_of e) (gives a.plan e) a b.groups made.groups is)
+made_is ways e a b made is = subst (IsNetwork ways) (sym (as_made ways e a b made))
+    (made_network ways (switch_of e) (gives a.plan e) a b.groups made.groups is)
 
-pub runs_is : (ways : ℕ) (events : List NetworkEvent) (a b : NetworkView) → NetworkRuns ways events a b → IsNetwork ways a → IsNetwork ways b
+pub runs_is : (ways : ℕ) (events : List NetworkEvent) (a b : NetworkView) → NetworkRuns ways events a b → IsNetwork ways a
+    → IsNetwork ways b
 runs_is ways [] a b same is = subst (IsNetwork ways) (sym same) is
 runs_is ways (e ∷ events) a b ran is = runs_is ways events ran.0 b ran.2 (made_is ways e a ran.0 ran.1 is)
 
@@ -84,7 +100,12 @@ pub record NetworkKept (a b : NetworkView) : Type 0 where
 
 pub runs_kept : (ways : ℕ) (events : List NetworkEvent) (a b : NetworkView) → NetworkRuns ways events a b → NetworkKept a b
 runs_kept ways [] a b same =
-    subst (NetworkKept a) (sym same) (record { keeps = record { plan = refl; buckets = refl; pipe_records = refl }; switches = refl; groups = none_kept 0 a.groups })
+    subst (NetworkKept a) (sym same) (record {
+      keeps = record { plan = refl; buckets = refl; pipe_records = refl };
+      switches =
+          refl;
+      groups = none_kept 0 a.groups;
+    })
 runs_kept ways (e ∷ events) a b ran =
     let first = ran.1 in
     let rest = runs_kept ways events ran.0 b ran.2 in
@@ -95,7 +116,8 @@ runs_kept ways (e ∷ events) a b ran =
         pipe_records = rest.keeps.pipe_records ∙ first.keeps.pipe_records;
       };
       switches = rest.switches ∙ first.switches;
-      groups = kept_after a.groups (ran.0).groups b.groups (groups_kept ways (switch_of e) (gives a.plan e) a.groups (ran.0).groups first.groups) rest.groups;
+      groups = kept_after a.groups (ran.0).groups b.groups (groups_kept ways (switch_of e) (gives a.plan e) a.groups (ran.0).groups
+          first.groups) rest.groups;
     }
 
 pub kept_long : (a b : NetworkView) → NetworkKept a b → length b.groups ≡ length a.groups
@@ -114,19 +136,29 @@ merges_cost_kept at a b kept = merges_kept at a.groups b.groups kept.groups
 pub runs_one : (ways : ℕ) (e : NetworkEvent) (a b : NetworkView) → NetworkMakes ways e a b → NetworkRuns ways (e ∷ []) a b
 runs_one ways e a b made = (b, made, refl)
 
-pub runs_on : (ways : ℕ) (xs ys : List NetworkEvent) (a b c : NetworkView) → NetworkRuns ways xs a b → NetworkRuns ways ys b c → NetworkRuns ways (xs ++ ys) a c
+pub runs_on : (ways : ℕ) (xs ys : List NetworkEvent) (a b c : NetworkView) → NetworkRuns ways xs a b → NetworkRuns ways ys b c
+    → NetworkRuns ways (xs ++ ys) a c
 runs_on ways [] ys a b c same two = subst (λ x. NetworkRuns ways ys x c) same two
 runs_on ways (e ∷ xs) ys a b c one two = (one.0, one.1, runs_on ways xs ys one.0 b c one.2 two)
 
-pub runs_next : (ways : ℕ) (lists : ℕ → List NetworkEvent) (i : ℕ) (a b c : NetworkView) → NetworkRuns ways (joined_below i lists) a b → NetworkRuns ways (lists i) b c
+pub runs_next : (ways : ℕ) (lists : ℕ → List NetworkEvent) (i : ℕ) (a b c : NetworkView) → NetworkRuns ways (joined_below i lists) a b
+    → NetworkRuns ways (lists i) b c
     → NetworkRuns ways (joined_below (i + 1) lists) a c
-runs_next ways lists i a b c one two = subst (λ es. NetworkRuns ways es a c) (sym (below_next lists i)) (runs_on ways (joined_below i lists) (lists i) a b c one two)
+runs_next ways lists i a b c one two = subst (λ es. NetworkRuns ways es a c) (sym (below_next lists i))
+    (runs_on ways (joined_below i lists) (lists i) a b c one two)
 
-pub run_breaks : (ways : ℕ) (lists : ℕ → List NetworkEvent) (i n : ℕ) (a b c : NetworkView) → i ≤ n → NetworkRuns ways (joined_below i lists) a b → c ≡ b
+pub run_breaks : (ways : ℕ) (lists : ℕ → List NetworkEvent) (i n : ℕ) (a b c : NetworkView) → i ≤ n
+    → NetworkRuns ways (joined_below i lists) a b → c ≡ b
     → RunBreaksOff ways (joined_below n lists) a c
-run_breaks ways lists i n a b c within ran same = (joined_below i lists, first_below lists i n within, subst (NetworkRuns ways (joined_below i lists) a) (sym same) ran)
+run_breaks ways lists i n a b c within ran same = (
+  joined_below i lists,
+  first_below lists i n within,
+  subst
+      (NetworkRuns ways (joined_below i lists) a) (sym same) ran,
+)
 
-pub run_breaks_on : (ways : ℕ) (xs ys : List NetworkEvent) (a b c : NetworkView) → NetworkRuns ways xs a b → RunBreaksOff ways ys b c → RunBreaksOff ways (xs ++ ys) a c
+pub run_breaks_on : (ways : ℕ) (xs ys : List NetworkEvent) (a b c : NetworkView) → NetworkRuns ways xs a b → RunBreaksOff ways ys b c
+    → RunBreaksOff ways (xs ++ ys) a c
 run_breaks_on ways xs ys a b c one two = (xs ++ two.0, first_on xs two.0 ys two.1, runs_on ways xs two.0 a b c one two.2)
 
 pub run_breaks_in : (ways : ℕ) (xs ys : List NetworkEvent) (a b : NetworkView) → RunBreaksOff ways xs a b → RunBreaksOff ways (xs ++ ys) a b
@@ -140,10 +172,12 @@ merging_none ways a = ([], refl, refl)
 pub merging_merge : (ways at lane : ℕ) (a b : NetworkView) → NetworkMakes ways (Merges at lane) a b → RunsWithMerges ways [] a b
 merging_merge ways at lane a b made = (Merges at lane ∷ [], refl, runs_one ways (Merges at lane) a b made)
 
-pub merging_evict : (ways at lane bucket : ℕ) (a b : NetworkView) → NetworkMakes ways (Evicts at lane bucket) a b → RunsWithMerges ways (Evicts at lane bucket ∷ []) a b
+pub merging_evict : (ways at lane bucket : ℕ) (a b : NetworkView) → NetworkMakes ways (Evicts at lane bucket) a b
+    → RunsWithMerges ways (Evicts at lane bucket ∷ []) a b
 merging_evict ways at lane bucket a b made = (Evicts at lane bucket ∷ [], refl, runs_one ways (Evicts at lane bucket) a b made)
 
-pub merging_on : (ways : ℕ) (xs ys : List NetworkEvent) (a b c : NetworkView) → RunsWithMerges ways xs a b → RunsWithMerges ways ys b c → RunsWithMerges ways (xs ++ ys) a c
+pub merging_on : (ways : ℕ) (xs ys : List NetworkEvent) (a b c : NetworkView) → RunsWithMerges ways xs a b → RunsWithMerges ways ys b c
+    → RunsWithMerges ways (xs ++ ys) a c
 merging_on ways xs ys a b c one two = (
   one.0 ++ two.0,
   without_on one.0 two.0 ∙ (ap (λ es. es ++ without_merges two.0) one.1 ∙ ap (λ es. xs ++ es) two.1),
@@ -151,31 +185,39 @@ merging_on ways xs ys a b c one two = (
 )
 
 -- merges after the events change none of them
-pub merging_after : (ways : ℕ) (xs : List NetworkEvent) (a b c : NetworkView) → RunsWithMerges ways xs a b → RunsWithMerges ways [] b c → RunsWithMerges ways xs a c
+pub merging_after : (ways : ℕ) (xs : List NetworkEvent) (a b c : NetworkView) → RunsWithMerges ways xs a b → RunsWithMerges ways [] b c
+    → RunsWithMerges ways xs a c
 merging_after ways xs a b c one two = subst (λ es. RunsWithMerges ways es a c) (append-nil xs) (merging_on ways xs [] a b c one two)
 
-pub merging_next : (ways : ℕ) (lists : ℕ → List NetworkEvent) (i : ℕ) (a b c : NetworkView) → RunsWithMerges ways (joined_below i lists) a b → RunsWithMerges ways (lists i) b c
+pub merging_next : (ways : ℕ) (lists : ℕ → List NetworkEvent) (i : ℕ) (a b c : NetworkView) → RunsWithMerges ways (joined_below i lists) a b
+    → RunsWithMerges ways (lists i) b c
     → RunsWithMerges ways (joined_below (i + 1) lists) a c
-merging_next ways lists i a b c one two = subst (λ es. RunsWithMerges ways es a c) (sym (below_next lists i)) (merging_on ways (joined_below i lists) (lists i) a b c one two)
+merging_next ways lists i a b c one two = subst (λ es. RunsWithMerges ways es a c) (sym (below_next lists i))
+    (merging_on ways (joined_below i lists) (lists i) a b c one two)
 
-pub merging_breaks_on : (ways : ℕ) (xs ys : List NetworkEvent) (a b c : NetworkView) → RunsWithMerges ways xs a b → MergingBreaksOff ways ys b c → MergingBreaksOff ways (xs ++ ys) a c
+pub merging_breaks_on : (ways : ℕ) (xs ys : List NetworkEvent) (a b c : NetworkView) → RunsWithMerges ways xs a b
+    → MergingBreaksOff ways ys b c → MergingBreaksOff ways (xs ++ ys) a c
 merging_breaks_on ways xs ys a b c one two = (xs ++ two.0, first_on xs two.0 ys two.1, merging_on ways xs two.0 a b c one two.2)
 
-pub merging_breaks : (ways : ℕ) (lists : ℕ → List NetworkEvent) (i n : ℕ) (a b c : NetworkView) → i < n → RunsWithMerges ways (joined_below i lists) a b → MergingBreaksOff ways (lists i) b c
+pub merging_breaks : (ways : ℕ) (lists : ℕ → List NetworkEvent) (i n : ℕ) (a b c : NetworkView) → i < n
+    → RunsWithMerges ways (joined_below i lists) a b → MergingBreaksOff ways (lists i) b c
     → MergingBreaksOff ways (joined_below n lists) a c
 merging_breaks ways lists i n a b c within one two =
     let on = merging_breaks_on ways (joined_below i lists) (lists i) a b c one two in
     (on.0, first_in on.0 (joined_below (suc i) lists) (joined_below n lists) on.1 (first_below lists (suc i) n (omega arith)), on.2)
 
 -- nothing but merges happened
-pub merging_breaks_first : (ways : ℕ) (xs : List NetworkEvent) (a b : NetworkView) → RunsWithMerges ways [] a b → MergingBreaksOff ways xs a b
+pub merging_breaks_first : (ways : ℕ) (xs : List NetworkEvent) (a b : NetworkView) → RunsWithMerges ways [] a b
+    → MergingBreaksOff ways xs a b
 merging_breaks_first ways xs a b ran = ([], (xs, refl), ran)
 
 -- all of the events happened, and then merges
-pub merging_breaks_last : (ways : ℕ) (xs : List NetworkEvent) (a b : NetworkView) → RunsWithMerges ways xs a b → MergingBreaksOff ways xs a b
+pub merging_breaks_last : (ways : ℕ) (xs : List NetworkEvent) (a b : NetworkView) → RunsWithMerges ways xs a b
+    → MergingBreaksOff ways xs a b
 merging_breaks_last ways xs a b ran = (xs, first_all xs, ran)
 
-pub merging_is : (ways : ℕ) (events : List NetworkEvent) (a b : NetworkView) → RunsWithMerges ways events a b → IsNetwork ways a → IsNetwork ways b
+pub merging_is : (ways : ℕ) (events : List NetworkEvent) (a b : NetworkView) → RunsWithMerges ways events a b → IsNetwork ways a
+    → IsNetwork ways b
 merging_is ways events a b ran is = runs_is ways ran.0 a b ran.2 is
 
 pub merging_kept : (ways : ℕ) (events : List NetworkEvent) (a b : NetworkView) → RunsWithMerges ways events a b → NetworkKept a b

@@ -1,5 +1,6 @@
 -- Fronts side by side, and the store that they share.
-use Rattle.std.proofs.Common.{◌≡◌, ◌≢◌, ℕ, zero, suc, ◌+◌, ◌<◌, Bool, true, false, List, [], ◌∷◌, length, map, set, Some, refl, sym, ap, subst, ◌∙◌, arith}
+use Rattle.std.proofs.Common.{◌≡◌, ◌≢◌, ℕ, zero, suc, ◌+◌, ◌<◌, Bool, true, false, List, [], ◌∷◌, length, map, set, Some, refl, sym, ap}
+use Rattle.std.proofs.Common.{subst, ◌∙◌, arith}
 use Rattle.std.specs.Prelude.{slice_get, flat_map}
 use Rattle.std.specs.List.{list_all}
 use Rattle.epoch_model.specs.Keys.{ArgRow}
@@ -25,11 +26,13 @@ stored_alike f h a lists = by_test f.row_per_epoch
     each [] = refl
     each (rows ∷ lists) = ap (λ s. s ∷ map (folded f) lists) (a.states rows) ∙ ap (λ ss. folded h rows ∷ ss) (each lists)
 
-    whole : (lists : List (List ArgRow)) → stored (record f { row_per_epoch = false }) lists ≡ stored (record h { row_per_epoch = false }) lists
+    whole : (lists : List (List ArgRow)) → stored (record f { row_per_epoch = false }) lists ≡ stored (record h { row_per_epoch = false })
+        lists
     whole [] = refl
     whole (rows ∷ lists) = ap (λ s. s ∷ []) (a.states (flat_map (λ rs. rs) (rows ∷ lists)))
 
-pub holds_alike : (f h : Folding) (store : Store) (epochs : List Epoch) → AreAlike f h → StoreHolds f store epochs → StoreHolds h store epochs
+pub holds_alike : (f h : Folding) (store : Store) (epochs : List Epoch) → AreAlike f h → StoreHolds f store epochs
+    → StoreHolds h store epochs
 holds_alike f h store epochs a s = record { count = s.count; rows = λ key. s.rows key ∙ stored_alike f h a _ }
 
 pub alike_back : (f h : Folding) → AreAlike f h → AreAlike h f
@@ -38,14 +41,25 @@ alike_back f h a = record { row_per_epoch = sym a.row_per_epoch; states = λ row
 -- what keeps its kind and sizes
 
 pub kept_on : {K : Type 0} (a b c : FrontOf K) → FrontKept a b → FrontKept b c → FrontKept a c
-kept_on a b c k l = record { kind = l.kind ∙ k.kind; buckets = l.buckets ∙ k.buckets; key_words = l.key_words ∙ k.key_words; places = l.places ∙ k.places }
+kept_on a b c k l = record {
+  kind = l.kind ∙ k.kind;
+  buckets = l.buckets ∙ k.buckets;
+  key_words = l.key_words ∙ k.key_words;
+  places =
+      l.places ∙ k.places;
+}
 
 pub store_on : (a b c : Store) → StoreKept a b → StoreKept b c → StoreKept a c
 store_on a b c k l = record { key_words = l.key_words ∙ k.key_words; state_words = l.state_words ∙ k.state_words }
 
 -- a store still fits a front
-pub fits_on : {K : Type 0} (sizes : K → Sizes) (a b : FrontOf K) (s t : Store) → FrontKept a b → StoreKept s t → FitsStore (sizes a.kind) a.cache s → FitsStore (sizes b.kind) b.cache t
-fits_on sizes a b s t k l fits = record { key = l.key_words ∙ (fits.key ∙ sym k.key_words); state = l.state_words ∙ (fits.state ∙ ap (λ x. (sizes x).state) (sym k.kind)) }
+pub fits_on : {K : Type 0} (sizes : K → Sizes) (a b : FrontOf K) (s t : Store) → FrontKept a b → StoreKept s t
+    → FitsStore (sizes a.kind) a.cache s → FitsStore (sizes b.kind) b.cache t
+fits_on sizes a b s t k l fits = record {
+  key = l.key_words ∙ (fits.key ∙ sym k.key_words);
+  state = l.state_words
+      ∙ (fits.state ∙ ap (λ x. (sizes x).state) (sym k.kind));
+}
 
 pub fronts_same : {K : Type 0} (k : ℕ) (fronts : List (FrontOf K)) → EachFrom (λ n. FrontKept) k fronts fronts
 fronts_same k [] = tt
@@ -76,17 +90,22 @@ each_on R S T k (x ∷ xs) (y ∷ ys) [] h p q = absurd q
 each_on R S T k (x ∷ xs) (y ∷ ys) (z ∷ zs) h p q = (h k x y z p.0 q.0, each_on R S T (suc k) xs ys zs h p.1 q.1)
 
 -- the item before, of which this one was made
-pub each_back : {A B : Type 0} (R : ℕ → A → B → Type 0) (k : ℕ) (olds : List A) (news : List B) (s : ℕ) (now : B) → EachFrom R k olds news → slice_get news s ≡ Some now
+pub each_back : {A B : Type 0} (R : ℕ → A → B → Type 0) (k : ℕ) (olds : List A) (news : List B) (s : ℕ) (now : B) → EachFrom R k olds news
+    → slice_get news s ≡ Some now
     → (was : A) × (slice_get olds s ≡ Some was) × ((n : ℕ) → n ≡ k + s → R n was now)
 each_back R k [] [] s now p e = cc
 each_back R k [] (y ∷ news) s now p e = absurd p
 each_back R k (x ∷ olds) [] s now p e = absurd p
-each_back R k (x ∷ olds) (y ∷ news) zero now p e = let same : y ≡ now = cc in (x, refl, λ n q. let is : k ≡ n = omega arith in subst (λ m. R m x now) is (subst (R k x) same p.0))
-each_back R k (x ∷ olds) (y ∷ news) (suc s) now p e = let rest = each_back R (suc k) olds news s now p.1 e in (rest.0, rest.1, λ n q. rest.2 n (omega arith))
+each_back R k (x ∷ olds) (y ∷ news) zero now p e = let same : y ≡ now =
+    cc in (x, refl, λ n q. let is : k ≡ n = omega arith in subst (λ m. R m x now) is (subst (R k x) same p.0))
+each_back R k (x ∷ olds) (y ∷ news) (suc s) now p e = let rest = each_back R (suc k) olds news s now p.1 e
+    in (rest.0, rest.1, λ n q. rest.2 n (omega arith))
 
 -- fronts that kept their kinds and sizes can still share
-pub still_share : {K : Type 0} (sizes : K → Sizes) (folding : K → Folding) (f : Folding) (args : ℕ) (olds news : List (FrontOf K)) (before after : Store)
-    → Each FrontKept olds news → StoreKept before after → AllShare sizes folding f args olds before → AllShare sizes folding f args news after
+pub still_share : {K : Type 0} (sizes : K → Sizes) (folding : K → Folding) (f : Folding) (args : ℕ) (olds news : List (FrontOf K))
+    (before after : Store)
+    → Each FrontKept olds news → StoreKept before after → AllShare sizes folding f args olds before
+    → AllShare sizes folding f args news after
 still_share {K = K} sizes folding f args olds news before after kept store share s now e =
     let was = each_back (λ n. FrontKept) 0 olds news s now kept e in
     let one = was.2 s (omega arith) in

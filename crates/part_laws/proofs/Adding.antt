@@ -1,5 +1,6 @@
 -- What parts add to the state of an additive fold.
-use Rattle.std.proofs.Common.{◌≡◌, ℕ, zero, suc, ◌+◌, ◌-◌, ◌%◌, ◌^◌, ◌<◌, List, [], ◌∷◌, length, map, fold, slice_index, replicate, refl, sym, ap, ◌∙◌, subst, arith}
+use Rattle.std.proofs.Common.{◌≡◌, ℕ, zero, suc, ◌+◌, ◌-◌, ◌%◌, ◌^◌, ◌<◌, List, [], ◌∷◌, length, map, fold, slice_index, replicate, refl}
+use Rattle.std.proofs.Common.{sym, ap, ◌∙◌, subst, arith}
 use Rattle.std.specs.List.{sum_by}
 use Rattle.std.proofs.lemmas.List.{ext_get_or, length-replicate}
 use Rattle.std.proofs.lemmas.List.Elements.{All-get_or, All-replicate}
@@ -16,7 +17,8 @@ use Rattle.additive_laws.proofs.Sums.{length-folded, state_is_a_sum}
 use Rattle.additive_laws.specs.TraceLaws.{rows_used}
 use Rattle.query_types.specs.Uses.{uses}
 use Rattle.part_laws.specs.Parts.{Partition, part_at, AreTheParts, whole_rows, part_rows}
-use Rattle.part_laws.specs.PartLaws.{added, but_for_epochs, row_of_state, AdditivePartsAdd, StatesFromZerosAdd, PartWordsAdd, AdditiveTablesJoin}
+use Rattle.part_laws.specs.PartLaws.{added, but_for_epochs, row_of_state, AdditivePartsAdd, StatesFromZerosAdd, PartWordsAdd}
+use Rattle.part_laws.specs.PartLaws.{AdditiveTablesJoin}
 use Rattle.part_laws.proofs.Tables.{keys_of_all_parts, map_joined}
 use Rattle.epoch_model.specs.declared.tables.Row.{Row}
 use Rattle.epoch_model.specs.Tables.{key_rows, keys_used}
@@ -24,13 +26,15 @@ use Rattle.epoch_model.proofs.TableRows.{flat_map-single}
 use Rattle.part_laws.proofs.Packetwise.{rows_of_one, rows_packetwise}
 use Rattle.part_laws.proofs.Sums.{same_sums, sum_of_parts, sum_joined}
 
-module _ (f : TypedFold) (partition : Partition) (q : TypedQuery) (i : ℕ) (packets : List (List ℕ)) (parts : List ℕ) (key : Key) (the : AreTheParts partition packets parts) (v : ℕ) where
+module _ (f : TypedFold) (partition : Partition) (q : TypedQuery) (i : ℕ) (packets : List (List ℕ)) (parts : List ℕ) (key : Key)
+    (the : AreTheParts partition packets parts) (v : ℕ) where
   -- what one packet adds
   abbrev adds : List ℕ → ℕ
   adds words = added f v (rows_of_one q i key words)
 
   added_along : (list : List (List ℕ)) → added f v (rows_used key (uses q i list)) ≡ sum_by adds list
-  added_along list = ap (added f v) (rows_packetwise q i key list) ∙ sum_joined (λ row. slice_index (amount f row) v) (rows_of_one q i key) list
+  added_along list = ap (added f v) (rows_packetwise q i key list) ∙ sum_joined (λ row. slice_index (amount f row) v) (rows_of_one q i key)
+      list
 
   added_by_parts : added f v (whole_rows q i key packets) ≡ sum_by (λ n. added f v (part_rows partition q i key packets n)) parts
   added_by_parts =
@@ -50,7 +54,8 @@ carry : (s z a rest : ℕ) → z ≡ a % 2 ^ 64 → ((s + z) % 2 ^ 64 + rest) % 
 carry s z a rest e = omega (arith, e)
 
 -- states that are added in sequence
-plus_along : (z : ℕ → List ℕ) (a : ℕ → ℕ) (v size : ℕ) → ((n : ℕ) → length (z n) ≡ size) → ((n : ℕ) → slice_index (z n) v ≡ a n % 2 ^ 64) → v < size
+plus_along : (z : ℕ → List ℕ) (a : ℕ → ℕ) (v size : ℕ) → ((n : ℕ) → length (z n) ≡ size) → ((n : ℕ) → slice_index (z n) v ≡ a n % 2 ^ 64)
+    → v < size
     → (state : List ℕ) → length state ≡ size → AreWords state → (parts : List ℕ)
     → slice_index (fold plus state (map z parts)) v ≡ (slice_index state v + sum_by a parts) % 2 ^ 64
 plus_along z a v size long is lt state same words [] =
@@ -88,7 +93,8 @@ states_add f state partition q i packets parts key h the =
     z : ℕ → List ℕ
     z n = folded f (zeros f) (part_rows partition q i key packets n)
 
-    at : (v : ℕ) → v < fold_states f → slice_index (folded f state (whole_rows q i key packets)) v ≡ slice_index (fold plus state (map z parts)) v
+    at : (v : ℕ) → v < fold_states f → slice_index (folded f state (whole_rows q i key packets)) v ≡ slice_index
+        (fold plus state (map z parts)) v
     at v lt =
         parts_add f state partition q i packets parts key h the v lt
         ∙ sym (plus_along z (λ n. added f v (part_rows partition q i key packets n)) v (fold_states f)
@@ -138,4 +144,5 @@ additive_tables f folding g partition q i packets parts step one h the =
 
     each : (key : Key) → map but_for_epochs (key_rows folding g (uses q i packets) key) ≡ own key ∷ []
     each key = rw one (ap (λ state. row_of_state key state ∷ [])
-        (ap (λ st. fold st folding.initial (rows_used key (uses q i packets))) step ∙ states_add f folding.initial partition q i packets parts key h the))
+        (ap (λ st. fold st folding.initial (rows_used key (uses q i packets))) step
+        ∙ states_add f folding.initial partition q i packets parts key h the))

@@ -1,12 +1,14 @@
 -- A key has no more epochs in its part than in the whole trace, where no refresh cuts.
-use Rattle.std.proofs.Common.{◌≡◌, ℕ, zero, suc, ◌<◌, ◌≤◌, max, Bool, true, false, not, ◌&&◌, ◌||◌, ◌==◌, List, [], ◌∷◌, ◌++◌, length, map, filter, Option, Some, None, refl, sym, ap, ◌∙◌, subst, arith, length-append}
+use Rattle.std.proofs.Common.{◌≡◌, ℕ, zero, suc, ◌<◌, ◌≤◌, max, Bool, true, false, not, ◌&&◌, ◌||◌, ◌==◌, List, [], ◌∷◌, ◌++◌, length, map}
+use Rattle.std.proofs.Common.{filter, Option, Some, None, refl, sym, ap, ◌∙◌, subst, arith, length-append}
 use Rattle.std.specs.Prelude.{nat_lt, nat_le, slice_get, reverse}
 use mathlib.Core.List.{reverse_aux}
 use Rattle.std.specs.Prelude.{All}
 use Rattle.std.proofs.lemmas.List.Elements.{All-head, All-tail}
 use Rattle.std.proofs.lemmas.Bool.{true≢false, false≢true, lt-ltb, ltb-true}
 use Rattle.epoch_model.specs.Keys.{Key, ArgRow, key_eq, others, distinct, has}
-use Rattle.epoch_model.specs.Epochs.{Use, Geometry, is_refresh, refresh_between, is_rival, rivals, in_one_epoch, is_use_of, last_use, since_last_use, goes_on, goes_on_after, onto_last, epochs_back, epochs}
+use Rattle.epoch_model.specs.Epochs.{Use, Geometry, is_refresh, refresh_between, is_rival, rivals, in_one_epoch, is_use_of, last_use}
+use Rattle.epoch_model.specs.Epochs.{since_last_use, goes_on, goes_on_after, onto_last, epochs_back, epochs}
 use Rattle.epoch_model.proofs.KeyLists.{by_test, key_eq-true, key_eq-refl, IsDistinct, distinct-distinct, has-distinct, has-others_other}
 use Rattle.query_lang.specs.declared.typed.TypedQuery.{TypedQuery}
 use Rattle.query_lang.specs.Streams.{Taking, takings, stream, values_at}
@@ -86,7 +88,8 @@ since key _ _ (of_both u p us ps e t) k h = by_test (is_use_of key u)
 since key _ _ (of_first u us ps n t) k h = rw n (by_test (key_eq u.key k) (λ z. rw z refl) (λ z. rw z (since key us ps t k h)))
 
 -- the latest use of the key is in both or in none
-latest : (key : Key) (us ps : List Use) → Thinned key us ps → (one : Use) → last_use key us ≡ Some one → (other : Use) × (last_use key ps ≡ Some other)
+latest : (key : Key) (us ps : List Use) → Thinned key us ps → (one : Use) → last_use key us ≡ Some one → (other : Use)
+    × (last_use key ps ≡ Some other)
 latest key _ _ of_none one e = cc e
 latest key _ _ (of_both u p us ps e t) one h = by_test (is_use_of key u)
     (λ y. let yes : is_use_of key p ≡ true = same_test key u p e ∙ y in (p, rw yes refl))
@@ -105,7 +108,8 @@ both_true true b e = refl
 both_true false b e = e
 
 module _ (g : Geometry) (none : g.refresh ≡ 0) (key : Key) where
-  fewer_rivals : (between others : List Use) → ((k : Key) → has k (map (λ u. u.key) others) ≡ true → has k (map (λ u. u.key) between) ≡ true)
+  fewer_rivals : (between others : List Use) → ((k : Key) → has k (map (λ u. u.key) others) ≡ true
+      → has k (map (λ u. u.key) between) ≡ true)
       → length (rivals g key others) ≤ length (rivals g key between)
   fewer_rivals between others h =
       let xs : List Key = filter (is_rival g key) (map (λ u. u.key) others) in
@@ -129,10 +133,12 @@ module _ (g : Geometry) (none : g.refresh ≡ 0) (key : Key) where
       let lt = ltb-true (length (rivals g key between)) g.ways few in
       let le = fewer_rivals between others h in
       ap (λ k. nat_lt (length (rivals g k others)) g.ways && not (refresh_between g.refresh other.packet p.packet)) ep
-      ∙ (ap (λ b. b && not (refresh_between g.refresh other.packet p.packet)) (lt-ltb (length (rivals g key others)) g.ways (omega (arith, lt, le)))
+      ∙ (ap (λ b. b && not (refresh_between g.refresh other.packet p.packet))
+      (lt-ltb (length (rivals g key others)) g.ways (omega (arith, lt, le)))
       ∙ ap not (never g.refresh other.packet p.packet none))
 
-  still_on : (us ps : List Use) → Thinned key us ps → (u p : Use) → u.key ≡ key → p.key ≡ key → goes_on g us u ≡ true → goes_on g ps p ≡ true
+  still_on : (us ps : List Use) → Thinned key us ps → (u p : Use) → u.key ≡ key → p.key ≡ key → goes_on g us u ≡ true
+      → goes_on g ps p ≡ true
   still_on us ps t u p eu ep e = go (last_use key us) refl (ap (λ k. goes_on_after g (last_use k us) (since_last_use k us) u) (sym eu) ∙ e)
     where
       go : (o : Option Use) → last_use key us ≡ o → goes_on_after g o (since_last_use key us) u ≡ true → goes_on g ps p ≡ true
@@ -163,12 +169,14 @@ module _ (g : Geometry) (none : g.refresh ≡ 0) (key : Key) where
       rw (y, yes, on, still) (omega (arith, rest, last, other)))
       (λ cut. by_test (goes_on g ps p)
       (λ on. rw (y, yes, cut, on) (omega (arith, rest, other, more)))
-      (λ not_on. let also = length-append (epochs_back g ps key) ((p.row ∷ []) ∷ []) in rw (y, yes, cut, not_on) (omega (arith, rest, more, also)))))
+      (λ not_on. let also = length-append (epochs_back g ps key) ((p.row ∷ []) ∷ []) in rw (y, yes, cut, not_on)
+      (omega (arith, rest, more, also)))))
       (λ y. let n : is_use_of key p ≡ false = same_test key u p e ∙ y in rw (y, n) rest)
 
 -- ---- the uses of a part
 
-module _ (partition : Partition) (q : TypedQuery) (i : ℕ) (kept : KeepsKeys partition q i) (key : Key) (t : Taking) (found : slice_get (takings q.streams) i ≡ Some t) where
+module _ (partition : Partition) (q : TypedQuery) (i : ℕ) (kept : KeepsKeys partition q i) (key : Key) (t : Taking)
+    (found : slice_get (takings q.streams) i ≡ Some t) where
   abbrev row_of : List ℕ → Row
   row_of words = row_at (all_rows q words) t.input
 
@@ -179,11 +187,13 @@ module _ (partition : Partition) (q : TypedQuery) (i : ℕ) (kept : KeepsKeys pa
   not_here : (words row : List ℕ) → length words ≡ 14 → (partition words == kept.part_of key) ≡ false → row_of words ≡ Some row
       → key_eq (values_at row t.keys) key ≡ false
   not_here words row size apart is = by_test (key_eq (values_at row t.keys) key)
-      (λ e. absurd (not_number (partition words) (kept.part_of key) apart (same ∙ ap kept.part_of (key_eq-true (values_at row t.keys) key e))))
+      (λ e. absurd (not_number (partition words) (kept.part_of key) apart
+      (same ∙ ap kept.part_of (key_eq-true (values_at row t.keys) key e))))
       (λ e. e)
     where
       uses_are : uses q i (words ∷ []) ≡ use_with 1 row ∷ []
-      uses_are = ap (taken_by q (words ∷ [])) found ∙ (ap (map (use_of t)) (stream_rows q t.input (words ∷ [])) ∙ ap (λ o. map (use_of t) (tuple_of 1 o ++ [])) is)
+      uses_are = ap (taken_by q (words ∷ [])) found ∙ (ap (map (use_of t)) (stream_rows q t.input (words ∷ []))
+          ∙ ap (λ o. map (use_of t) (tuple_of 1 o ++ [])) is)
 
       same : partition words ≡ kept.part_of (values_at row t.keys)
       same = All-head (λ (u : Use). partition words ≡ kept.part_of u.key) (use_with 1 row) []
@@ -199,7 +209,8 @@ module _ (partition : Partition) (q : TypedQuery) (i : ℕ) (kept : KeepsKeys pa
   abbrev IsThin : List (List ℕ) → Type 0
   IsThin packets = (n m : ℕ) (us ps : List Use) → Thinned key us ps → Thinned key (back n packets us) (back m (own packets) ps)
 
-  thin : (packets : List (List ℕ)) → AreWhole packets → (n m : ℕ) (us ps : List Use) → Thinned key us ps → Thinned key (back n packets us) (back m (own packets) ps)
+  thin : (packets : List (List ℕ)) → AreWhole packets → (n m : ℕ) (us ps : List Use) → Thinned key us ps
+      → Thinned key (back n packets us) (back m (own packets) ps)
   thin [] whole n m us ps h = h
   thin (words ∷ packets) whole n m us ps h =
       let more = thin packets (All-tail (λ ws. length ws ≡ 14) words packets whole) in
@@ -211,7 +222,8 @@ module _ (partition : Partition) (q : TypedQuery) (i : ℕ) (kept : KeepsKeys pa
           → Thinned key (reverse_aux (map (use_of t) (tuple_of n o ++ tuples row_of (suc n) packets)) us)
           (reverse_aux (map (use_of t) (tuple_of m o ++ tuples row_of (suc m) (own packets))) ps)
       here more None = more (suc n) (suc m) us ps h
-      here more (Some row) = more (suc n) (suc m) (use_with n row ∷ us) (use_with m row ∷ ps) (of_both (use_with n row) (use_with m row) us ps refl h)
+      here more (Some row) = more (suc n) (suc m) (use_with n row ∷ us) (use_with m row ∷ ps)
+          (of_both (use_with n row) (use_with m row) us ps refl h)
 
       there : IsThin packets → (partition words == kept.part_of key) ≡ false → (o : Row) → row_of words ≡ o
           → Thinned key (reverse_aux (map (use_of t) (tuple_of n o ++ tuples row_of (suc n) packets)) us) (back m (own packets) ps)
@@ -232,9 +244,11 @@ cut_no_more partition q i kept packets key whole g none = go (slice_get (takings
     go None is = omega arith
     go (Some t) is =
         let f : List ℕ → Row = λ words. row_at (all_rows q words) t.input in
-        subst (λ s. length (epochs_back g (reverse (map (use_of t) s)) key) ≤ length (epochs_back g (reverse (map (use_of t) (stream q t.input packets))) key))
+        subst (λ s. length (epochs_back g (reverse (map (use_of t) s)) key) ≤ length
+        (epochs_back g (reverse (map (use_of t) (stream q t.input packets))) key))
         (sym (stream_rows q t.input part))
-        (subst (λ s. length (epochs_back g (reverse (map (use_of t) (tuples f 1 part))) key) ≤ length (epochs_back g (reverse (map (use_of t) s)) key))
+        (subst (λ s. length (epochs_back g (reverse (map (use_of t) (tuples f 1 part))) key) ≤ length
+        (epochs_back g (reverse (map (use_of t) s)) key))
         (sym (stream_rows q t.input packets))
         (no_more g none key (reverse (map (use_of t) (tuples f 1 packets))) (reverse (map (use_of t) (tuples f 1 part)))
         (thin partition q i kept key t is packets whole 1 1 [] [] of_none)))

@@ -1,5 +1,6 @@
 -- The keys of a typed query that have a field's name are the packet's words of it.
-use Rattle.std.proofs.Common.{◌≡◌, ℕ, zero, suc, ◌<◌, true, cond, List, [], ◌∷◌, ◌++◌, length, map, filter, slice_index, Option, Some, None, refl, sym, ap, ◌∙◌, subst, arith}
+use Rattle.std.proofs.Common.{◌≡◌, ℕ, zero, suc, ◌<◌, true, cond, List, [], ◌∷◌, ◌++◌, length, map, filter, slice_index, Option, Some, None}
+use Rattle.std.proofs.Common.{refl, sym, ap, ◌∙◌, subst, arith}
 use Rattle.std.specs.Prelude.{All, is_some, slice_get, slice_index_or}
 use Rattle.std.specs.List.{cons_option}
 use Rattle.std.proofs.lemmas.List.{get_or-map}
@@ -27,7 +28,8 @@ use Rattle.part_laws.specs.PartLaws.{FieldsKeepKeys, FieldListsKeepKeys, FieldLi
 
 -- the first column that has the field's name is there
 named_at : (field : Field) (names : List (List ℕ)) (columns : List ℕ) → names_field field names columns ≡ true
-    → (first_named field names columns < length columns) × (is_named field names (slice_index columns (first_named field names columns)) ≡ true)
+    → (first_named field names columns < length columns) × (is_named field names (slice_index columns (first_named field names columns))
+    ≡ true)
 named_at field names [] e = cc e
 named_at field names (id ∷ columns) e = by_test (is_named field names id)
     (λ t. rw t (omega arith, t))
@@ -45,7 +47,8 @@ groupby_at P (s ∷ streams) i one all e = go (λ k at. groupby_at P streams k o
   where
     go : ((k : ℕ) → slice_get (filter (λ s. is_some (taking_of s.op)) streams) k ≡ Some one → IsAt P streams k one)
         → (o : Option Taking) → taking_of s.op ≡ o → (k : ℕ)
-        → slice_get (cond (is_some o) (s ∷ filter (λ s. is_some (taking_of s.op)) streams) (filter (λ s. is_some (taking_of s.op)) streams)) k ≡ Some one
+        → slice_get (cond (is_some o) (s ∷ filter (λ s. is_some (taking_of s.op)) streams) (filter (λ s. is_some (taking_of s.op)) streams))
+        k ≡ Some one
         → P one × (slice_get (cons_option o (takings streams)) k ≡ taking_of one.op) × (is_some (taking_of one.op) ≡ true)
     go more None is k e = more k e
     go more (Some t) is zero e =
@@ -90,7 +93,8 @@ gives_words q i field columns (typed.Group input keys f args) at is named tells 
 field_gives : (query : Query) (q : TypedQuery) (i : ℕ) (field : Field) → IsTyped query q → (has : HasFieldKey q i field)
     → GivesWords q i field has.one.columns
 field_gives query q i field h key =
-    let at = groupby_at (λ one. AlwaysTells q field one.columns one.op) q.streams i key.one (always_tells query q field h key.unmade) key.groupby in
+    let at = groupby_at (λ one. AlwaysTells q field one.columns one.op) q.streams i key.one (always_tells query q field h key.unmade)
+    key.groupby in
     gives_words q i field key.one.columns key.one.op at.1 at.2 key.key at.0
 
 pub fields_keep : FieldsKeepKeys
@@ -112,7 +116,8 @@ all_give query q i h one at (field ∷ fields) all words size k d lt =
     let u : Use = slice_index_or (uses q i (words ∷ [])) k d in
     let rest = all_give query q i h one at fields (All-tail (HasFieldKey q i) field fields all) words size k d lt in
     ap (λ word. word ∷ map (λ f. word_of f words) fields)
-    (field_gives query q i field h has words size k d lt ∙ ap (λ (s : TypedStream). slice_index u.key (first_named field q.names s.columns)) same)
+    (field_gives query q i field h has words size k d lt ∙ ap (λ (s : TypedStream). slice_index u.key (first_named field q.names s.columns))
+    same)
     ∙ ap (λ list. slice_index u.key (first_named field q.names one.columns) ∷ list) rest
 
 pub field_lists_give : FieldListsGiveTheParts

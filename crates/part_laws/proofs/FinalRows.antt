@@ -1,5 +1,6 @@
 -- What finals make of rows in the order of their keys, part by part.
-use Rattle.std.proofs.Common.{◌≡◌, ◌≢◌, All, ℕ, Bool, true, false, cond, ◌||◌, ◌==◌, List, [], ◌∷◌, ◌++◌, filter, flat_map, Option, Some, None, refl, sym, ap, ◌∙◌, subst, append-nil, length, arith}
+use Rattle.std.proofs.Common.{◌≡◌, ◌≢◌, All, ℕ, Bool, true, false, cond, ◌||◌, ◌==◌, List, [], ◌∷◌, ◌++◌, filter, flat_map, Option, Some}
+use Rattle.std.proofs.Common.{None, refl, sym, ap, ◌∙◌, subst, append-nil, length, arith}
 use Rattle.std.specs.Prelude.{find, option_map, slice_index}
 use Rattle.std.specs.List.{cons_option}
 use Rattle.std.proofs.lemmas.Bool.{true≢false, false≢true}
@@ -13,7 +14,8 @@ use Rattle.query_lang.specs.Streams.{expr_value}
 use Rattle.final_queries.specs.Finals.{columns_of, plain_row, is_of_key, filtered_rows, mapped_row, mapped_rows, joined_rows}
 use Rattle.additive_laws.specs.TraceLaws.{AreApart, has_number}
 use Rattle.additive_laws.proofs.Counts.{same_number, not_number, own_number}
-use Rattle.part_laws.specs.FinalParts.{by_key, rows_of_all, AreInTheirParts, FiltersAreOfParts, MapsAreOfParts, JoinsAreOfParts, GroupbysAreNotOfParts}
+use Rattle.part_laws.specs.FinalParts.{by_key, rows_of_all, AreInTheirParts, FiltersAreOfParts, MapsAreOfParts, JoinsAreOfParts}
+use Rattle.part_laws.specs.FinalParts.{GroupbysAreNotOfParts}
 use Rattle.part_laws.proofs.Packetwise.{same_each}
 use Rattle.part_laws.proofs.Ordered.{flat_joined, filter_joined, KeepsKey, made_by_key, of_key_in_order}
 
@@ -43,7 +45,8 @@ filtered_keeps condition row k = go (holds (expr_value condition (columns_of row
     none true = refl
     none false = refl
 
-    go : (b : Bool) → filter (is_of_key k) (cond b (plain_row row.key row.values ∷ []) []) ≡ cond (key_eq row.key k) (cond b (plain_row row.key row.values ∷ []) []) []
+    go : (b : Bool) → filter (is_of_key k) (cond b (plain_row row.key row.values ∷ []) []) ≡ cond (key_eq row.key k)
+        (cond b (plain_row row.key row.values ∷ []) []) []
     go true = refl
     go false = none (key_eq row.key k)
 
@@ -51,7 +54,8 @@ pub filters_of_parts : FiltersAreOfParts
 filters_of_parts condition rows parts =
     filtered_each condition (rows_of_all rows parts)
     ∙ (of_parts (one_filtered condition) (filtered_keeps condition) rows parts
-    ∙ ap by_key (same_each (λ n. flat_map (one_filtered condition) (rows n)) (λ n. filtered_rows condition (rows n)) parts (λ n. sym (filtered_each condition (rows n)))))
+    ∙ ap by_key (same_each (λ n. flat_map (one_filtered condition) (rows n)) (λ n. filtered_rows condition (rows n)) parts
+    (λ n. sym (filtered_each condition (rows n)))))
 
 abbrev one_mapped : List TypedExpr → Row → List Row
 one_mapped values row = mapped_row values row ∷ []
@@ -68,7 +72,8 @@ pub maps_of_parts : MapsAreOfParts
 maps_of_parts values rows parts =
     mapped_each values (rows_of_all rows parts)
     ∙ (of_parts (one_mapped values) (mapped_keeps values) rows parts
-    ∙ ap by_key (same_each (λ n. flat_map (one_mapped values) (rows n)) (λ n. mapped_rows values (rows n)) parts (λ n. sym (mapped_each values (rows n)))))
+    ∙ ap by_key (same_each (λ n. flat_map (one_mapped values) (rows n)) (λ n. mapped_rows values (rows n)) parts
+    (λ n. sym (mapped_each values (rows n)))))
 
 -- ---- `join`
 
@@ -90,7 +95,8 @@ joined_each right [] = refl
 joined_each right (row ∷ left) =
     more_found row (find (is_of_key row.key) right) (joined_rows left right) (flat_map (one_joined right) left) (joined_each right left)
 
-found_keeps : (row : Row) (k : Key) (o : Option Row) → filter (is_of_key k) (with_found row o) ≡ cond (key_eq row.key k) (with_found row o) []
+found_keeps : (row : Row) (k : Key) (o : Option Row) → filter (is_of_key k) (with_found row o) ≡ cond (key_eq row.key k) (with_found row o)
+    []
 found_keeps row k None = none (key_eq row.key k)
   where
     none : (b : Bool) → let empty : List Row = [] in empty ≡ cond b empty empty
@@ -110,13 +116,15 @@ find_first p [] = refl
 find_first p (row ∷ rows) = by_test (p row) (λ e. rw e refl) (λ e. rw e (find_first p rows))
 
 -- of parts that are apart, one gives what all give together, where the others give nothing
-no_part : {A : Type 0} (f : ℕ → List A) (n : ℕ) (parts : List ℕ) → has_number n parts ≡ false → ((m : ℕ) → m ≢ n → f m ≡ []) → flat_map f parts ≡ []
+no_part : {A : Type 0} (f : ℕ → List A) (n : ℕ) (parts : List ℕ) → has_number n parts ≡ false → ((m : ℕ) → m ≢ n → f m ≡ [])
+    → flat_map f parts ≡ []
 no_part f n [] e none = refl
 no_part f n (k ∷ parts) e none = by_test (k == n)
     (λ t. absurd (true≢false (rw t at e)))
     (λ t. ap (λ xs. xs ++ flat_map f parts) (none k (not_number k n t)) ∙ no_part f n parts (rw t at e) none)
 
-pub only_part : {A : Type 0} (f : ℕ → List A) (n : ℕ) (parts : List ℕ) → AreApart parts → has_number n parts ≡ true → ((m : ℕ) → m ≢ n → f m ≡ [])
+pub only_part : {A : Type 0} (f : ℕ → List A) (n : ℕ) (parts : List ℕ) → AreApart parts → has_number n parts ≡ true
+    → ((m : ℕ) → m ≢ n → f m ≡ [])
     → flat_map f parts ≡ f n
 only_part f n [] apart e none = absurd (false≢true e)
 only_part f n (k ∷ parts) apart e none = by_test (k == n)
@@ -124,7 +132,8 @@ only_part f n (k ∷ parts) apart e none = by_test (k == n)
     ap (λ xs. f k ++ xs) (no_part f n parts (subst (λ x. has_number x parts ≡ false) same apart.0) none) ∙ (append-nil (f k) ∙ ap f same))
     (λ t. ap (λ xs. xs ++ flat_map f parts) (none k (not_number k n t)) ∙ only_part f n parts apart.1 (rw t at e) none)
 
-pub same_members : {A : Type 0} (f h : ℕ → List A) (parts : List ℕ) → ((n : ℕ) → has_number n parts ≡ true → f n ≡ h n) → flat_map f parts ≡ flat_map h parts
+pub same_members : {A : Type 0} (f h : ℕ → List A) (parts : List ℕ) → ((n : ℕ) → has_number n parts ≡ true → f n ≡ h n)
+    → flat_map f parts ≡ flat_map h parts
 same_members f h [] e = refl
 same_members f h (k ∷ parts) e =
     ap (λ xs. xs ++ flat_map f parts) (e k (ap (λ b. b || has_number k parts) (own_number k)))
@@ -163,7 +172,8 @@ module _ (part_of : Key → ℕ) (right : ℕ → List Row) (parts : List ℕ) (
       → flat_map (one_joined (rows_of_all right parts)) left ≡ flat_map (one_joined (right n)) left
   same_joined n has [] all = refl
   same_joined n has (row ∷ left) all =
-      ap (λ o. with_found row o ++ flat_map (one_joined (rows_of_all right parts)) left) (same_found n has row (All-head (λ (r : Row). part_of r.key ≡ n) row left all))
+      ap (λ o. with_found row o ++ flat_map (one_joined (rows_of_all right parts)) left)
+      (same_found n has row (All-head (λ (r : Row). part_of r.key ≡ n) row left all))
       ∙ ap (λ xs. one_joined (right n) row ++ xs) (same_joined n has left (All-tail (λ (r : Row). part_of r.key ≡ n) row left all))
 
 pub joins_of_parts : JoinsAreOfParts

@@ -1,5 +1,6 @@
 -- Whole tables have the rows of the parts' tables in the order of keys.
-use Rattle.std.proofs.Common.{◌≡◌, All, ℕ, Bool, true, false, cond, ◌||◌, ◌==◌, List, [], ◌∷◌, ◌++◌, map, filter, flat_map, refl, sym, ap, ◌∙◌, subst}
+use Rattle.std.proofs.Common.{◌≡◌, All, ℕ, Bool, true, false, cond, ◌||◌, ◌==◌, List, [], ◌∷◌, ◌++◌, map, filter, flat_map, refl, sym, ap}
+use Rattle.std.proofs.Common.{◌∙◌, subst}
 use Rattle.std.proofs.lemmas.Bool.{false≢true}
 use Rattle.std.proofs.lemmas.List.Elements.{All-nil, All-cons, All-head, All-tail}
 use Rattle.epoch_model.specs.declared.tables.Row.{Row}
@@ -47,7 +48,8 @@ module _ (h : Key → Row) (own : (key : Key) → (h key).key ≡ key) where
 abbrev bare_row : Folding → List Use → Key → Row
 bare_row f us key = but_for_epochs (exact_row f key 0 (rows_used key us))
 
-one_row : (f : Folding) (g : Geometry) (us : List Use) (key : Key) → f.row_per_epoch ≡ false → map but_for_epochs (key_rows f g us key) ≡ bare_row f us key ∷ []
+one_row : (f : Folding) (g : Geometry) (us : List Use) (key : Key) → f.row_per_epoch ≡ false
+    → map but_for_epochs (key_rows f g us key) ≡ bare_row f us key ∷ []
 one_row f g us key one = rw one refl
 
 bare_table : (f : Folding) (g : Geometry) (us : List Use) → f.row_per_epoch ≡ false
@@ -64,18 +66,24 @@ all_has P (key ∷ keys) h =
     All-cons P key keys (h key (ap (λ b. b || has key keys) (key_eq-refl key)))
     (all_has P keys (λ k e. h k (ap (λ b. key_eq key k || b) e ∙ or_true (key_eq key k))))
 
-all_of_map : (P : Key → Type 0) (h : Key → Row) (own : (key : Key) → (h key).key ≡ key) (keys : List Key) → All P keys → All (λ row. P row.key) (map h keys)
+all_of_map : (P : Key → Type 0) (h : Key → Row) (own : (key : Key) → (h key).key ≡ key) (keys : List Key) → All P keys
+    → All (λ row. P row.key) (map h keys)
 all_of_map P h own [] all = All-nil (λ (row : Row). P row.key)
 all_of_map P h own (key ∷ keys) all =
-    All-cons (λ (row : Row). P row.key) (h key) (map h keys) (subst P (sym (own key)) (All-head P key keys all)) (all_of_map P h own keys (All-tail P key keys all))
+    All-cons (λ (row : Row). P row.key) (h key) (map h keys) (subst P (sym (own key)) (All-head P key keys all))
+    (all_of_map P h own keys (All-tail P key keys all))
 
 has_in : (key : Key) (keys : ℕ → List Key) (n : ℕ) (parts : List ℕ) → ((m : ℕ) → has key (keys m) ≡ true → m ≡ n)
     → has key (flat_map keys parts) ≡ true → (has_number n parts ≡ true) × (has key (keys n) ≡ true)
 has_in key keys n [] only e = absurd (false≢true e)
 has_in key keys n (m ∷ parts) only e = by_test (has key (keys m))
-    (λ t. let same : m ≡ n = only m t in
-    (ap (λ x. (x == n) || has_number n parts) same ∙ ap (λ b. b || has_number n parts) (own_number n), ap (λ x. has key (keys x)) (sym same) ∙ t))
-    (λ t. let more = has_in key keys n parts only (sym (has_joined key (keys m) (flat_map keys parts) ∙ ap (λ b. b || has key (flat_map keys parts)) t) ∙ e) in
+    (λ t. let same : m ≡ n = only m t in (
+      ap (λ x. (x == n) || has_number n parts) same ∙ ap (λ b. b || has_number n parts) (own_number n),
+      ap (λ x. has key (keys x)) (sym same)
+          ∙ t,
+    ))
+    (λ t. let more = has_in key keys n parts only (sym (has_joined key (keys m) (flat_map keys parts)
+    ∙ ap (λ b. b || has key (flat_map keys parts)) t) ∙ e) in
     (ap (λ b. (m == n) || b) more.0 ∙ or_true (m == n), more.1))
 
 same_keys : (f h : Key → List Row) (keys : List Key) → ((k : Key) → has k keys ≡ true → f k ≡ h k) → flat_map f keys ≡ flat_map h keys
@@ -85,7 +93,8 @@ same_keys f h (key ∷ keys) e =
     ∙ ap (λ rows. h key ++ rows) (same_keys f h keys (λ k t. e k (ap (λ b. key_eq key k || b) t ∙ or_true (key_eq key k))))
 
 module _ (partition : Partition) (q : TypedQuery) (i : ℕ) (kept : KeepsKeys partition q i) (packets : List (List ℕ)) (parts : List ℕ)
-    (whole : AreWhole packets) (the : AreTheParts partition packets parts) (f : Folding) (caches : ℕ → Geometry) (one : f.row_per_epoch ≡ false) where
+    (whole : AreWhole packets) (the : AreTheParts partition packets parts) (f : Folding) (caches : ℕ → Geometry)
+    (one : f.row_per_epoch ≡ false) where
   abbrev own_part : ℕ → List Use
   own_part n = part_uses partition q i packets n
 
@@ -108,11 +117,13 @@ module _ (partition : Partition) (q : TypedQuery) (i : ℕ) (kept : KeepsKeys pa
   keys_of_tables =
       map_joined (λ row. row.key) tables parts
       ∙ same_each (λ n. keys_of (tables n)) (λ n. keys_used (own_part n)) parts
-      (λ n. ap keys_of (bare_table f (caches n) (own_part n) one) ∙ keys_of_rows (bare_row f (own_part n)) (λ key. refl) (keys_used (own_part n)))
+      (λ n. ap keys_of (bare_table f (caches n) (own_part n) one) ∙ keys_of_rows (bare_row f (own_part n)) (λ key. refl)
+      (keys_used (own_part n)))
 
   -- the rows of a key in all tables are those of its part's table
   own_rows : (key : Key) → has key all_keys ≡ true
-      → map but_for_epochs (key_rows f (caches (kept.part_of key)) (own_part (kept.part_of key)) key) ≡ filter (is_of_key key) (flat_map tables parts)
+      → map but_for_epochs (key_rows f (caches (kept.part_of key)) (own_part (kept.part_of key)) key) ≡ filter (is_of_key key)
+      (flat_map tables parts)
   own_rows key e =
       let n = kept.part_of key in
       let us : List Use = own_part (kept.part_of key) in
@@ -128,12 +139,14 @@ module _ (partition : Partition) (q : TypedQuery) (i : ℕ) (kept : KeepsKeys pa
 
 pub exact_in_order : ExactTablesInOrder
 exact_in_order partition q i kept packets parts whole the f g caches one =
-    let own : Key → List Row = λ key. map but_for_epochs (key_rows f (caches (kept.part_of key)) (part_uses partition q i packets (kept.part_of key)) key) in
+    let own : Key → List Row = λ key. map but_for_epochs (key_rows f (caches (kept.part_of key))
+    (part_uses partition q i packets (kept.part_of key)) key) in
     let all = tables partition q i kept packets parts whole the f caches one in
     let keys : List Key = all_keys partition q i kept packets parts whole the f caches one in (
       tables_join partition q i kept packets parts whole the f g caches one
           ∙ (same_keys own (λ key. filter (is_of_key key) (flat_map all parts)) (ascending keys)
           (λ key e. own_rows partition q i kept packets parts whole the f caches one key (sym (has-ascending key keys) ∙ e))
-          ∙ ap (λ ks. flat_map (λ key. filter (is_of_key key) (flat_map all parts)) (ascending ks)) (sym (keys_of_tables partition q i kept packets parts whole the f caches one))),
+          ∙ ap (λ ks. flat_map (λ key. filter (is_of_key key) (flat_map all parts)) (ascending ks))
+          (sym (keys_of_tables partition q i kept packets parts whole the f caches one))),
       in_their_parts partition q i kept packets parts whole the f caches one,
     )

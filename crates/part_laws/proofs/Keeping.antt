@@ -1,5 +1,6 @@
 -- A key's rows and its place in the table, where its packets all go to one part.
-use Rattle.std.proofs.Common.{◌≡◌, ◌≢◌, All, ℕ, zero, suc, ◌<◌, Bool, true, false, ◌||◌, ◌==◌, List, [], ◌∷◌, ◌++◌, length, map, flat_map, refl, sym, ap, ◌∙◌, arith, Contains}
+use Rattle.std.proofs.Common.{◌≡◌, ◌≢◌, All, ℕ, zero, suc, ◌<◌, Bool, true, false, ◌||◌, ◌==◌, List, [], ◌∷◌, ◌++◌, length, map, flat_map}
+use Rattle.std.proofs.Common.{refl, sym, ap, ◌∙◌, arith, Contains}
 use Rattle.std.specs.Prelude.{slice_index_or}
 use Rattle.std.proofs.lemmas.Bool.{true≢false, false≢true}
 use Rattle.std.proofs.lemmas.List.Elements.{All-head, All-tail}
@@ -29,25 +30,30 @@ module _ (partition : Partition) (q : TypedQuery) (i : ℕ) (kept : KeepsKeys pa
       none : (us : List Use) → All (λ u. partition words ≡ kept.part_of u.key) us → rows_used key us ≡ []
       none [] h = refl
       none (u ∷ us) h = by_test (key_eq u.key key)
-          (λ e. absurd (other (All-head (λ (v : Use). partition words ≡ kept.part_of v.key) u us h ∙ ap kept.part_of (key_eq-true u.key key e))))
+          (λ e. absurd (other (All-head (λ (v : Use). partition words ≡ kept.part_of v.key) u us h
+          ∙ ap kept.part_of (key_eq-true u.key key e))))
           (λ e. rw e (none us (All-tail (λ (v : Use). partition words ≡ kept.part_of v.key) u us h)))
 
-  own_part : (n : ℕ) → n ≡ kept.part_of key → (packets : List (List ℕ)) → AreWhole packets → flat_map rows packets ≡ flat_map rows (part_at partition n packets)
+  own_part : (n : ℕ) → n ≡ kept.part_of key → (packets : List (List ℕ)) → AreWhole packets
+      → flat_map rows packets ≡ flat_map rows (part_at partition n packets)
   own_part n is [] whole = refl
   own_part n is (words ∷ packets) whole =
       let rest = own_part n is packets (All-tail (λ ws. length ws ≡ 14) words packets whole) in
       by_test (partition words == n)
       (λ e. rw e (ap (λ rs. rows words ++ rs) rest))
       (λ e. rw e (ap (λ rs. rs ++ flat_map rows packets)
-      (none_elsewhere words (All-head (λ ws. length ws ≡ 14) words packets whole) (λ same. not_number (partition words) n e (same ∙ sym is))) ∙ rest))
+      (none_elsewhere words (All-head (λ ws. length ws ≡ 14) words packets whole)
+      (λ same. not_number (partition words) n e (same ∙ sym is))) ∙ rest))
 
-  other_part : (n : ℕ) → n ≢ kept.part_of key → (packets : List (List ℕ)) → AreWhole packets → flat_map rows (part_at partition n packets) ≡ []
+  other_part : (n : ℕ) → n ≢ kept.part_of key → (packets : List (List ℕ)) → AreWhole packets
+      → flat_map rows (part_at partition n packets) ≡ []
   other_part n other [] whole = refl
   other_part n other (words ∷ packets) whole =
       let rest = other_part n other packets (All-tail (λ ws. length ws ≡ 14) words packets whole) in
       by_test (partition words == n)
       (λ e. rw e (ap (λ rs. rs ++ flat_map rows (part_at partition n packets))
-      (none_elsewhere words (All-head (λ ws. length ws ≡ 14) words packets whole) (λ same. other (sym (same_number (partition words) n e) ∙ same))) ∙ rest))
+      (none_elsewhere words (All-head (λ ws. length ws ≡ 14) words packets whole)
+      (λ same. other (sym (same_number (partition words) n e) ∙ same))) ∙ rest))
       (λ e. rw e rest)
 
 pub parts_have_rows : PartsHaveTheRows
@@ -86,7 +92,8 @@ used_some key (u ∷ us) = by_test (key_eq u.key key) (λ e. rw e refl) (λ e. r
 pub key_has_rows : (key : Key) (us : List Use) → has key (keys_used us) ≡ some (rows_used key us)
 key_has_rows key us = has-ascending key (map (λ u. u.key) us) ∙ used_some key us
 
-same_place : (key : Key) (us others : List Use) → rows_used key us ≡ rows_used key others → Contains (keys_used us) key → Contains (keys_used others) key
+same_place : (key : Key) (us others : List Use) → rows_used key us ≡ rows_used key others → Contains (keys_used us) key
+    → Contains (keys_used others) key
 same_place key us others e c = has_contained key (keys_used others)
     (key_has_rows key others ∙ (ap some (sym e) ∙ (sym (key_has_rows key us) ∙ contained_has key (keys_used us) c.0 c.1 c.2)))
 

@@ -33,7 +33,8 @@ bare_keys : (keys : List ℕ) (rows : List Row) → map (grouped_key keys) (map 
 bare_keys keys [] = refl
 bare_keys keys (row ∷ rows) = ap (λ ks. grouped_key keys row ∷ ks) (bare_keys keys rows)
 
-bare_args : (keys args : List ℕ) (key : Key) (rows : List Row) → grouped_args keys args (map but_for_epochs rows) key ≡ grouped_args keys args rows key
+bare_args : (keys args : List ℕ) (key : Key) (rows : List Row) → grouped_args keys args (map but_for_epochs rows) key ≡ grouped_args keys
+    args rows key
 bare_args keys args key [] = refl
 bare_args keys args key (row ∷ rows) = by_test (key_eq (grouped_key keys row) key)
     (λ e. rw e (ap (λ xs. values_at (columns_of row) args ∷ xs) (bare_args keys args key rows)))
@@ -42,16 +43,19 @@ bare_args keys args key (row ∷ rows) = by_test (key_eq (grouped_key keys row) 
 pub groupbys_bare : GroupbysReadNoEpochs
 groupbys_bare keys None args rows = refl
 groupbys_bare keys (Some f) args rows =
-    ap (λ ks. map (λ key. plain_row key (folded f (initial_state f) (grouped_args keys args (map but_for_epochs rows) key))) (ascending ks)) (bare_keys keys rows)
+    ap (λ ks. map (λ key. plain_row key (folded f (initial_state f) (grouped_args keys args (map but_for_epochs rows) key))) (ascending ks))
+    (bare_keys keys rows)
     ∙ same_map (λ key. plain_row key (folded f (initial_state f) (grouped_args keys args (map but_for_epochs rows) key)))
     (λ key. plain_row key (folded f (initial_state f) (grouped_args keys args rows key))) (ascending (map (grouped_key keys) rows))
     (λ key. ap (λ list. plain_row key (folded f (initial_state f) list)) (bare_args keys args key rows))
 
-bare_found : (row : Row) (right : List Row) → with_found row (find (is_of_key row.key) (map but_for_epochs right)) ≡ with_found row (find (is_of_key row.key) right)
+bare_found : (row : Row) (right : List Row) → with_found row (find (is_of_key row.key) (map but_for_epochs right)) ≡ with_found row
+    (find (is_of_key row.key) right)
 bare_found row [] = refl
 bare_found row (other ∷ right) = by_test (key_eq other.key row.key) (λ e. rw e refl) (λ e. rw e (bare_found row right))
 
-bare_joined : (right left : List Row) → flat_map (one_joined (map but_for_epochs right)) (map but_for_epochs left) ≡ flat_map (one_joined right) left
+bare_joined : (right left : List Row) → flat_map (one_joined (map but_for_epochs right)) (map but_for_epochs left) ≡ flat_map
+    (one_joined right) left
 bare_joined right [] = refl
 bare_joined right (row ∷ left) =
     ap (λ xs. xs ++ flat_map (one_joined (map but_for_epochs right)) (map but_for_epochs left)) (bare_found row right)
@@ -70,11 +74,13 @@ bare_count column row (first ∷ rows) =
     ∙ (ap (λ n. one first + n) (bare_count column row rows) ∙ sym (sum_by-cons one first rows))
 
 bare_tops : (column kept : ℕ) (all rows : List Row)
-    → map (λ row. plain_row row.key row.values) (filter (λ row. nat_lt (count_by (λ other. goes_before column other row) (map but_for_epochs all)) kept) (map but_for_epochs rows))
+    → map (λ row. plain_row row.key row.values) (filter (λ row. nat_lt
+    (count_by (λ other. goes_before column other row) (map but_for_epochs all)) kept) (map but_for_epochs rows))
     ≡ map (λ row. plain_row row.key row.values) (filter (λ row. nat_lt (count_by (λ other. goes_before column other row) all) kept) rows)
 bare_tops column kept all [] = refl
 bare_tops column kept all (row ∷ rows) =
-    let same : nat_lt (count_by (λ other. goes_before column other row) (map but_for_epochs all)) kept ≡ nat_lt (count_by (λ other. goes_before column other row) all) kept = ap (λ n. nat_lt n kept) (bare_count column row all) in
+    let same : nat_lt (count_by (λ other. goes_before column other row) (map but_for_epochs all)) kept ≡ nat_lt
+    (count_by (λ other. goes_before column other row) all) kept = ap (λ n. nat_lt n kept) (bare_count column row all) in
     by_test (nat_lt (count_by (λ other. goes_before column other row) all) kept)
     (λ e. rw (same ∙ e) (rw e (ap (λ xs. plain_row row.key row.values ∷ xs) (bare_tops column kept all rows))))
     (λ e. rw (same ∙ e) (rw e (bare_tops column kept all rows)))

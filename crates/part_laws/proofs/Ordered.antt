@@ -15,22 +15,26 @@ use Rattle.part_laws.specs.FinalParts.{by_key}
 
 -- ---- lists
 
-pub flat_joined : {A B C : Type 0} (h : B → List C) (f : A → List B) (xs : List A) → flat_map h (flat_map f xs) ≡ flat_map (λ x. flat_map h (f x)) xs
+pub flat_joined : {A B C : Type 0} (h : B → List C) (f : A → List B) (xs : List A)
+    → flat_map h (flat_map f xs) ≡ flat_map (λ x. flat_map h (f x)) xs
 flat_joined h f [] = refl
 flat_joined h f (x ∷ xs) = flat_map-append h (f x) (flat_map f xs) ∙ ap (λ ys. flat_map h (f x) ++ ys) (flat_joined h f xs)
 
-pub filter_joined : {A B : Type 0} (p : B → Bool) (f : A → List B) (xs : List A) → filter p (flat_map f xs) ≡ flat_map (λ x. filter p (f x)) xs
+pub filter_joined : {A B : Type 0} (p : B → Bool) (f : A → List B) (xs : List A)
+    → filter p (flat_map f xs) ≡ flat_map (λ x. filter p (f x)) xs
 filter_joined p f [] = refl
 filter_joined p f (x ∷ xs) = filter-append p (f x) (flat_map f xs) ∙ ap (λ ys. filter p (f x) ++ ys) (filter_joined p f xs)
 
-pub flat_of_filter : {A B : Type 0} (p : A → Bool) (f : A → List B) (xs : List A) → flat_map (λ x. cond (p x) (f x) []) xs ≡ flat_map f (filter p xs)
+pub flat_of_filter : {A B : Type 0} (p : A → Bool) (f : A → List B) (xs : List A)
+    → flat_map (λ x. cond (p x) (f x) []) xs ≡ flat_map f (filter p xs)
 flat_of_filter p f [] = refl
 flat_of_filter p f (x ∷ xs) = by_test (p x)
     (λ e. rw e (ap (λ ys. f x ++ ys) (flat_of_filter p f xs)))
     (λ e. rw e (flat_of_filter p f xs))
 
 -- where the test fails, the function gives nothing
-pub flat_where : {A B : Type 0} (p : A → Bool) (f : A → List B) (xs : List A) → ((x : A) → p x ≡ false → f x ≡ []) → flat_map f xs ≡ flat_map f (filter p xs)
+pub flat_where : {A B : Type 0} (p : A → Bool) (f : A → List B) (xs : List A) → ((x : A) → p x ≡ false → f x ≡ [])
+    → flat_map f xs ≡ flat_map f (filter p xs)
 flat_where p f [] none = refl
 flat_where p f (x ∷ xs) none = by_test (p x)
     (λ e. rw e (ap (λ ys. f x ++ ys) (flat_where p f xs none)))
@@ -124,7 +128,8 @@ abbrev pub KeepsKey : (Row → List Row) → Type 0
 KeepsKey f = (row : Row) (k : Key) → filter (is_of_key k) (f row) ≡ cond (key_eq row.key k) (f row) []
 
 module _ (f : Row → List Row) (keeps : KeepsKey f) where
-  same_flat : (k : Key) (rows : List Row) → flat_map (λ row. filter (is_of_key k) (f row)) rows ≡ flat_map (λ row. cond (key_eq row.key k) (f row) []) rows
+  same_flat : (k : Key) (rows : List Row) → flat_map (λ row. filter (is_of_key k) (f row)) rows ≡ flat_map
+      (λ row. cond (key_eq row.key k) (f row) []) rows
   same_flat k [] = refl
   same_flat k (row ∷ rows) =
       ap (λ xs. xs ++ flat_map (λ r. filter (is_of_key k) (f r)) rows) (keeps row k)
@@ -136,7 +141,8 @@ module _ (f : Row → List Row) (keeps : KeepsKey f) where
   made_has : (k : Key) (rows : List Row) → has k (keys_of (flat_map f rows)) ≡ true → has k (keys_of rows) ≡ true
   made_has k rows e = by_test (has k (keys_of rows))
       (λ t. t)
-      (λ t. absurd (true≢false (sym e ∙ (key_of_rows k (flat_map f rows) ∙ ap some (of_key_made k rows ∙ ap (flat_map f) (none_of_key k rows t))))))
+      (λ t. absurd (true≢false (sym e ∙ (key_of_rows k (flat_map f rows)
+      ∙ ap some (of_key_made k rows ∙ ap (flat_map f) (none_of_key k rows t))))))
 
   each_key : (keys : List Key) (rows : List Row)
       → flat_map (λ k. flat_map f (filter (is_of_key k) rows)) keys ≡ flat_map (λ k. filter (is_of_key k) (flat_map f rows)) keys
@@ -157,7 +163,8 @@ module _ (f : Row → List Row) (keeps : KeepsKey f) where
 
 -- ---- the rows of one key
 
-filter_twice : (k key : Key) (rows : List Row) → filter (is_of_key k) (filter (is_of_key key) rows) ≡ cond (key_eq key k) (filter (is_of_key key) rows) []
+filter_twice : (k key : Key) (rows : List Row) → filter (is_of_key k) (filter (is_of_key key) rows) ≡ cond (key_eq key k)
+    (filter (is_of_key key) rows) []
 filter_twice k key [] = none (key_eq key k)
   where
     none : (b : Bool) → let empty : List Row = [] in empty ≡ cond b empty empty
@@ -173,7 +180,8 @@ filter_twice k key (row ∷ rows) = by_test (key_eq row.key key)
     (λ e. rw e (filter_twice k key rows))
 
 each_twice : (k : Key) (keys : List Key) (rows : List Row)
-    → flat_map (λ key. filter (is_of_key k) (filter (is_of_key key) rows)) keys ≡ flat_map (λ key. cond (key_eq key k) (filter (is_of_key key) rows) []) keys
+    → flat_map (λ key. filter (is_of_key k) (filter (is_of_key key) rows)) keys ≡ flat_map
+    (λ key. cond (key_eq key k) (filter (is_of_key key) rows) []) keys
 each_twice k [] rows = refl
 each_twice k (key ∷ keys) rows =
     ap (λ xs. xs ++ flat_map (λ j. filter (is_of_key k) (filter (is_of_key j) rows)) keys) (filter_twice k key rows)

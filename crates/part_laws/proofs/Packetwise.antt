@@ -25,7 +25,8 @@ module _ (t : Taking) (f : List ℕ → Row) (key : Key) where
   one_more : (n : ℕ) (words : List ℕ) (packets : List (List ℕ)) → along n (words ∷ packets) ≡ along 1 (words ∷ []) ++ along (suc n) packets
   one_more n words packets = go (f words)
     where
-      go : (o : Row) → rows_used key (map (use_of t) (tuple_of n o ++ tuples f (suc n) packets)) ≡ rows_used key (map (use_of t) (tuple_of 1 o ++ [])) ++ along (suc n) packets
+      go : (o : Row) → rows_used key (map (use_of t) (tuple_of n o ++ tuples f (suc n) packets)) ≡ rows_used key
+          (map (use_of t) (tuple_of 1 o ++ [])) ++ along (suc n) packets
       go None = refl
       go (Some row) = by_test (key_eq (values_at row t.keys) key) (λ e. rw e refl) (λ e. rw e refl)
 
@@ -38,7 +39,8 @@ none_taken [] = refl
 none_taken (words ∷ packets) = none_taken packets
 
 -- the rows of a trace are those of its packets
-pub rows_packetwise : (q : TypedQuery) (i : ℕ) (key : Key) (packets : List (List ℕ)) → rows_used key (uses q i packets) ≡ flat_map (rows_of_one q i key) packets
+pub rows_packetwise : (q : TypedQuery) (i : ℕ) (key : Key) (packets : List (List ℕ))
+    → rows_used key (uses q i packets) ≡ flat_map (rows_of_one q i key) packets
 rows_packetwise q i key packets = go (slice_get (takings q.streams) i)
   where
     go : (o : Option Taking) → rows_used key (taken_by q packets o) ≡ flat_map (λ words. rows_used key (taken_by q (words ∷ []) o)) packets
@@ -47,5 +49,6 @@ rows_packetwise q i key packets = go (slice_get (takings q.streams) i)
         let f : List ℕ → Row = λ words. row_at (all_rows q words) t.input in
         ap (λ tuples. rows_used key (map (use_of t) tuples)) (stream_rows q t.input packets)
         ∙ (each_alone t f key 1 packets
-        ∙ same_each (λ words. rows_used key (map (use_of t) (tuples f 1 (words ∷ [])))) (λ words. rows_used key (taken_by q (words ∷ []) (Some t))) packets
+        ∙ same_each (λ words. rows_used key (map (use_of t) (tuples f 1 (words ∷ []))))
+        (λ words. rows_used key (taken_by q (words ∷ []) (Some t))) packets
         (λ words. ap (λ tuples. rows_used key (map (use_of t) tuples)) (sym (stream_rows q t.input (words ∷ [])))))

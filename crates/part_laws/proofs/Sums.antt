@@ -55,12 +55,15 @@ module _ (p more : ℕ) (t u : ℕ → ℕ) (here : (p == p) ≡ true → u p �
 
 -- a sum over packets is one over the parts
 pub sum_of_parts : (partition : Partition) (w : List ℕ → ℕ) (parts : List ℕ) → AreApart parts → (packets : List (List ℕ))
-    → All (λ words. has_number (partition words) parts ≡ true) packets → sum_by w packets ≡ sum_by (λ n. sum_by w (part_at partition n packets)) parts
+    → All (λ words. has_number (partition words) parts ≡ true) packets
+    → sum_by w packets ≡ sum_by (λ n. sum_by w (part_at partition n packets)) parts
 sum_of_parts partition w parts apart [] each = sym (zeros_sum parts)
 sum_of_parts partition w parts apart (words ∷ packets) each =
     sum_by-cons w words packets
-    ∙ (ap (λ n. w words + n) (sum_of_parts partition w parts apart packets (All-tail (λ ws. has_number (partition ws) parts ≡ true) words packets each))
-    ∙ sym (touched (partition words) (w words) (λ n. sum_by w (part_at partition n packets)) (λ n. sum_by w (part_at partition n (words ∷ packets)))
+    ∙ (ap (λ n. w words + n) (sum_of_parts partition w parts apart packets
+    (All-tail (λ ws. has_number (partition ws) parts ≡ true) words packets each))
+    ∙ sym (touched (partition words) (w words) (λ n. sum_by w (part_at partition n packets))
+    (λ n. sum_by w (part_at partition n (words ∷ packets)))
     (λ e. rw e (sum_by-cons w words (part_at partition (partition words) packets)))
     (λ n e. rw e refl) parts apart (All-head (λ ws. has_number (partition ws) parts ≡ true) words packets each)))
 

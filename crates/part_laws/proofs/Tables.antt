@@ -1,5 +1,6 @@
 -- The table rows of a key in its part, and tables of parts together.
-use Rattle.std.proofs.Common.{◌≡◌, ℕ, Bool, true, false, ◌||◌, List, [], ◌∷◌, ◌++◌, length, map, flat_map, refl, sym, ap, ◌∙◌, arith, append-nil}
+use Rattle.std.proofs.Common.{◌≡◌, ℕ, Bool, true, false, ◌||◌, List, [], ◌∷◌, ◌++◌, length, map, flat_map, refl, sym, ap, ◌∙◌, arith}
+use Rattle.std.proofs.Common.{append-nil}
 use Rattle.std.specs.List.{sum_by}
 use Rattle.std.proofs.lemmas.List.{map-append}
 use Rattle.std.proofs.lemmas.List.Concat.{length-flat_map}
@@ -15,7 +16,8 @@ use Rattle.query_lang.specs.declared.typed.TypedQuery.{TypedQuery}
 use Rattle.query_types.specs.Uses.{uses}
 use Rattle.additive_laws.specs.TraceLaws.{rows_used}
 use Rattle.part_laws.specs.Parts.{Partition, part_at, AreTheParts}
-use Rattle.part_laws.specs.PartLaws.{but_for_epochs, valid_row, ExactRowsAreTheParts, ValidRowsFoldTheWhole, KeysAreOfAllParts, ExactTablesJoin}
+use Rattle.part_laws.specs.PartLaws.{but_for_epochs, valid_row, ExactRowsAreTheParts, ValidRowsFoldTheWhole, KeysAreOfAllParts}
+use Rattle.part_laws.specs.PartLaws.{ExactTablesJoin}
 use Rattle.part_laws.proofs.Packetwise.{rows_of_one, rows_packetwise, same_each}
 use Rattle.part_laws.proofs.Keeping.{parts_have_rows, key_has_rows}
 use Rattle.part_laws.proofs.Sums.{same_sums, sum_of_parts}
@@ -65,7 +67,8 @@ has_of_lists key us (n ∷ parts) =
     ∙ (ap (λ b. some (rows_used key (us n)) || b) (has_of_lists key us parts)
     ∙ sym (some_joined (rows_used key (us n)) (flat_map (λ k. rows_used key (us k)) parts))))
 
-module _ (partition : Partition) (q : TypedQuery) (i : ℕ) (packets : List (List ℕ)) (parts : List ℕ) (the : AreTheParts partition packets parts) where
+module _ (partition : Partition) (q : TypedQuery) (i : ℕ) (packets : List (List ℕ)) (parts : List ℕ)
+    (the : AreTheParts partition packets parts) where
   abbrev part : ℕ → List Use
   part n = uses q i (part_at partition n packets)
 
@@ -74,7 +77,8 @@ module _ (partition : Partition) (q : TypedQuery) (i : ℕ) (packets : List (Lis
   as_many key =
       long packets
       ∙ (sum_of_parts partition (λ words. length (rows_of_one q i key words)) parts the.apart packets the.each
-      ∙ (same_sums (λ n. sum_by (λ words. length (rows_of_one q i key words)) (part_at partition n packets)) (λ n. length (rows_used key (part n))) parts
+      ∙ (same_sums (λ n. sum_by (λ words. length (rows_of_one q i key words)) (part_at partition n packets))
+      (λ n. length (rows_used key (part n))) parts
       (λ n. sym (long (part_at partition n packets)))
       ∙ sym (length-flat_map (λ n. rows_used key (part n)) parts)))
     where

@@ -1,5 +1,6 @@
 -- `top` of all rows is `top` of the parts' top rows.
-use Rattle.std.proofs.Common.{◌≡◌, ℕ, ◌+◌, ◌<◌, Bool, true, false, cond, ◌||◌, ◌&&◌, ◌==◌, nat_lt, List, [], ◌∷◌, map, filter, flat_map, ◌⊎◌, inl, inr, refl, sym, ap, ◌∙◌, arith}
+use Rattle.std.proofs.Common.{◌≡◌, ℕ, ◌+◌, ◌<◌, Bool, true, false, cond, ◌||◌, ◌&&◌, ◌==◌, nat_lt, List, [], ◌∷◌, map, filter, flat_map}
+use Rattle.std.proofs.Common.{◌⊎◌, inl, inr, refl, sym, ap, ◌∙◌, arith}
 use Rattle.std.specs.List.{sum_by, count_by}
 use Rattle.std.specs.declared.cmp.Ordering.{Ordering}
 use Rattle.std.specs.declared.cmp.Ordering.TheVariants.{Less, Equal, Greater}
@@ -113,15 +114,18 @@ or_true : (b : Bool) → (b || true) ≡ true
 or_true true = refl
 or_true false = refl
 
-counts_by_key : (p : Row → Bool) (keys : List Key) → IsAscending keys → (rows : List Row) → ((k : Key) → has k (keys_of rows) ≡ true → has k keys ≡ true)
+counts_by_key : (p : Row → Bool) (keys : List Key) → IsAscending keys → (rows : List Row)
+    → ((k : Key) → has k (keys_of rows) ≡ true → has k keys ≡ true)
     → sum_by (λ key. count_by p (filter (is_of_key key) rows)) keys ≡ count_by p rows
 counts_by_key p keys s [] in_keys = zeros_sum keys
 counts_by_key p keys s (row ∷ rows) in_keys =
-    touched row.key (cond (p row) 1 0) (λ key. count_by p (filter (is_of_key key) rows)) (λ key. count_by p (filter (is_of_key key) (row ∷ rows)))
+    touched row.key (cond (p row) 1 0) (λ key. count_by p (filter (is_of_key key) rows))
+    (λ key. count_by p (filter (is_of_key key) (row ∷ rows)))
     (λ key e. rw e (count_one p row (filter (is_of_key key) rows)))
     (λ key e. rw e refl)
     keys s (in_keys row.key (ap (λ b. b || has row.key (keys_of rows)) (key_eq-refl row.key)))
-    ∙ (ap (λ n. cond (p row) 1 0 + n) (counts_by_key p keys s rows (λ k e. in_keys k (ap (λ b. key_eq row.key k || b) e ∙ or_true (key_eq row.key k))))
+    ∙ (ap (λ n. cond (p row) 1 0 + n) (counts_by_key p keys s rows (λ k e. in_keys k
+    (ap (λ b. key_eq row.key k || b) e ∙ or_true (key_eq row.key k))))
     ∙ sym (count_one p row rows))
 
 -- the order of keys changes no count
@@ -148,7 +152,8 @@ picked_keeps t row k = go (t row)
     none true = refl
     none false = refl
 
-    go : (b : Bool) → filter (is_of_key k) (cond b (plain_row row.key row.values ∷ []) []) ≡ cond (key_eq row.key k) (cond b (plain_row row.key row.values ∷ []) []) []
+    go : (b : Bool) → filter (is_of_key k) (cond b (plain_row row.key row.values ∷ []) []) ≡ cond (key_eq row.key k)
+        (cond b (plain_row row.key row.values ∷ []) []) []
     go true = refl
     go false = none (key_eq row.key k)
 
@@ -162,7 +167,8 @@ module _ (column kept : ℕ) where
   -- `top` of rows in the order of keys gives what it gives of the rows, in this order
   top_in_order : (rows : List Row) → top_rows column kept (by_key rows) ≡ by_key (top_rows column kept rows)
   top_in_order rows =
-      ap (map bare) (filter_agree (top_in (by_key rows)) (top_in rows) (λ row. ap (λ n. nat_lt n kept) (count_in_order (λ other. before other row) rows)) (by_key rows))
+      ap (map bare) (filter_agree (top_in (by_key rows)) (top_in rows)
+      (λ row. ap (λ n. nat_lt n kept) (count_in_order (λ other. before other row) rows)) (by_key rows))
       ∙ (picked_each (top_in rows) (by_key rows)
       ∙ (made_by_key (λ row. cond (top_in rows row) (bare row ∷ []) []) (picked_keeps (top_in rows)) rows
       ∙ ap by_key (sym (picked_each (top_in rows) rows))))
@@ -176,7 +182,8 @@ module _ (column kept : ℕ) where
   bare_tops : (all rows : List Row) → map bare (filter (top_in (map bare all)) (map bare rows)) ≡ map bare (filter (top_in all) rows)
   bare_tops all [] = refl
   bare_tops all (row ∷ rows) =
-      let same : nat_lt (rank_in before (map bare all) row) kept ≡ nat_lt (rank_in before all row) kept = ap (λ n. nat_lt n kept) (bare_rank row all) in
+      let same : nat_lt (rank_in before (map bare all) row) kept ≡ nat_lt (rank_in before all row) kept =
+      ap (λ n. nat_lt n kept) (bare_rank row all) in
       by_test (nat_lt (rank_in before all row) kept)
       (λ e. rw (same ∙ e) (rw e (ap (λ xs. bare row ∷ xs) (bare_tops all rows))))
       (λ e. rw (same ∙ e) (rw e (bare_tops all rows)))

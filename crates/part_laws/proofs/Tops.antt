@@ -1,5 +1,6 @@
 -- The top rows of all parts are among the parts' own top rows.
-use Rattle.std.proofs.Common.{◌≡◌, ℕ, zero, suc, ◌+◌, ◌≤◌, ◌<◌, Bool, true, false, cond, ◌==◌, nat_lt, min, List, [], ◌∷◌, ◌++◌, filter, flat_map, ◌⊎◌, inl, inr, refl, sym, ap, ◌∙◌, arith}
+use Rattle.std.proofs.Common.{◌≡◌, ℕ, zero, suc, ◌+◌, ◌≤◌, ◌<◌, Bool, true, false, cond, ◌==◌, nat_lt, min, List, [], ◌∷◌, ◌++◌, filter}
+use Rattle.std.proofs.Common.{flat_map, ◌⊎◌, inl, inr, refl, sym, ap, ◌∙◌, arith}
 use Rattle.std.specs.List.{count_by}
 use Rattle.std.proofs.lemmas.Bool.{false≢true}
 use Rattle.std.proofs.lemmas.Bool.Decides.{nat_tests}
@@ -20,7 +21,13 @@ counts_less : {A : Type 0} (p q : A → Bool) (xs : List A) → ((x : A) → p x
 counts_less p q [] more = omega arith
 counts_less p q (x ∷ xs) more =
     let rest = counts_less p q xs more in by_test (p x)
-    (λ e. omega (arith, rest, count_one p x xs ∙ ap (λ b. cond b 1 0 + count_by p xs) e, count_one q x xs ∙ ap (λ b. cond b 1 0 + count_by q xs) (more x e)))
+    (λ e. omega (
+      arith,
+      rest,
+      count_one p x xs ∙ ap (λ b. cond b 1 0 + count_by p xs) e,
+      count_one q x xs
+          ∙ ap (λ b. cond b 1 0 + count_by q xs) (more x e),
+    ))
     (λ e. omega (arith, rest, count_one p x xs ∙ ap (λ b. cond b 1 0 + count_by p xs) e, count_one q x xs))
 
 fewer : {A : Type 0} (p t : A → Bool) (xs : List A) → count_by p (filter t xs) ≤ count_by p xs
@@ -49,7 +56,13 @@ more_found p t x xs h = record {
   fails = h.fails;
   strict = λ q r more no yes.
       let rest = h.strict q r more no yes in by_test (q x)
-      (λ e. omega (arith, rest, count_one q x xs ∙ ap (λ b. cond b 1 0 + count_by q xs) e, count_one r x xs ∙ ap (λ b. cond b 1 0 + count_by r xs) (more x e)))
+      (λ e. omega (
+        arith,
+        rest,
+        count_one q x xs ∙ ap (λ b. cond b 1 0 + count_by q xs) e,
+        count_one r x xs
+            ∙ ap (λ b. cond b 1 0 + count_by r xs) (more x e),
+      ))
       (λ e. omega (arith, rest, count_one q x xs ∙ ap (λ b. cond b 1 0 + count_by q xs) e, count_one r x xs));
 }
 
@@ -59,7 +72,13 @@ first_found p t x xs passes fails = record {
   passes = passes;
   fails = fails;
   strict = λ q r more no yes.
-      omega (arith, counts_less q r xs more, count_one q x xs ∙ ap (λ b. cond b 1 0 + count_by q xs) no, count_one r x xs ∙ ap (λ b. cond b 1 0 + count_by r xs) yes);
+      omega (
+        arith,
+        counts_less q r xs more,
+        count_one q x xs ∙ ap (λ b. cond b 1 0 + count_by q xs) no,
+        count_one r x xs
+            ∙ ap (λ b. cond b 1 0 + count_by r xs) yes,
+      );
 }
 
 -- either all that pass the one test pass the other, or one of them doesn't
@@ -67,7 +86,8 @@ search_for : {A : Type 0} (p t : A → Bool) (xs : List A) → (count_by p (filt
 search_for p t [] = inl refl
 search_for p t (x ∷ xs) = go (search_for p t xs)
   where
-    go : (count_by p (filter t xs) ≡ count_by p xs) ⊎ Found p t xs → (count_by p (filter t (x ∷ xs)) ≡ count_by p (x ∷ xs)) ⊎ Found p t (x ∷ xs)
+    go : (count_by p (filter t xs) ≡ count_by p xs) ⊎ Found p t xs → (count_by p (filter t (x ∷ xs)) ≡ count_by p (x ∷ xs)) ⊎ Found p t
+        (x ∷ xs)
     go (inr h) = inr (more_found p t x xs h)
     go (inl e) = by_test (t x)
         (λ k. inl (rw k (count_one p x (filter t xs) ∙ (ap (λ n. cond (p x) 1 0 + n) e ∙ sym (count_one p x xs)))))
@@ -100,7 +120,8 @@ abbrev pub top_of : {A : Type 0} → (A → A → Bool) → ℕ → List A → L
 top_of before kept all = filter (λ x. nat_lt (rank_in before all x) kept) all
 
 -- one after the other two tests, where the last says as much as both
-filter_both : {A : Type 0} (a b c : A → Bool) (xs : List A) → ((x : A) → a x ≡ c x) → ((x : A) → c x ≡ true → b x ≡ true) → filter a (filter b xs) ≡ filter c xs
+filter_both : {A : Type 0} (a b c : A → Bool) (xs : List A) → ((x : A) → a x ≡ c x) → ((x : A) → c x ≡ true → b x ≡ true)
+    → filter a (filter b xs) ≡ filter c xs
 filter_both a b c [] same more = refl
 filter_both a b c (x ∷ xs) same more =
     let rest = filter_both a b c xs same more in by_test (c x)
@@ -114,7 +135,8 @@ module _ {A : Type 0} (before : A → A → Bool) (irreflexive : (x : A) → bef
   HasEnough all x = min kept (rank_in before all x) ≤ count_by (λ y. before y x) (top_of before kept all)
 
   enough_by : (all : List A) (x : A) → ((y : A) → rank_in before all y < rank_in before all x → HasEnough all y)
-      → (count_by (λ y. before y x) (top_of before kept all) ≡ rank_in before all x) ⊎ Found (λ y. before y x) (λ y. nat_lt (rank_in before all y) kept) all
+      → (count_by (λ y. before y x) (top_of before kept all) ≡ rank_in before all x) ⊎ Found (λ y. before y x)
+      (λ y. nat_lt (rank_in before all y) kept) all
       → HasEnough all x
   enough_by all x again (inl e) = omega (arith, e)
   enough_by all x again (inr h) =
@@ -128,7 +150,8 @@ module _ {A : Type 0} (before : A → A → Bool) (irreflexive : (x : A) → bef
   enough zero all x le =
       enough_by all x (λ y lt. absurd (omega (arith, lt, le))) (search_for (λ y. before y x) (λ y. nat_lt (rank_in before all y) kept) all)
   enough (suc n) all x le =
-      enough_by all x (λ y lt. enough n all y (omega (arith, lt, le))) (search_for (λ y. before y x) (λ y. nat_lt (rank_in before all y) kept) all)
+      enough_by all x (λ y lt. enough n all y (omega (arith, lt, le)))
+      (search_for (λ y. before y x) (λ y. nat_lt (rank_in before all y) kept) all)
 
   module _ (rows : ℕ → List A) where
     abbrev tops : ℕ → List A
@@ -145,11 +168,13 @@ module _ {A : Type 0} (before : A → A → Bool) (irreflexive : (x : A) → bef
         let some = count_both (λ y. before y x) (tops n) (flat_map tops parts) in
         (omega (arith, rest.0, here, all, some), omega (arith, rest.1, few, all, some))
 
-    part_less : (x : A) (n : ℕ) (parts : List ℕ) → has_number n parts ≡ true → rank_in before (rows n) x ≤ rank_in before (flat_map rows parts) x
+    part_less : (x : A) (n : ℕ) (parts : List ℕ) → has_number n parts ≡ true
+        → rank_in before (rows n) x ≤ rank_in before (flat_map rows parts) x
     part_less x n [] e = absurd (false≢true e)
     part_less x n (m ∷ parts) e =
         let all = count_both (λ y. before y x) (rows m) (flat_map rows parts) in by_test (m == n)
-        (λ t. let same : rank_in before (rows m) x ≡ rank_in before (rows n) x = ap (λ k. rank_in before (rows k) x) (same_number m n t) in omega (arith, all, same))
+        (λ t. let same : rank_in before (rows m) x ≡ rank_in before (rows n) x =
+        ap (λ k. rank_in before (rows k) x) (same_number m n t) in omega (arith, all, same))
         (λ t. let rest = part_less x n parts (rw t at e) in omega (arith, all, rest))
 
     -- the top rows of the parts' top rows are those of all rows

@@ -1,5 +1,7 @@
 -- A text of the fields that are read reads back.
-use Rattle.std.proofs.Common.{◌≡◌, ℕ, suc, zero, ◌+◌, ◌-◌, ◌<◌, ◌≤◌, ◌^◌, Bool, true, false, cond, not, List, [], ◌∷◌, ◌++◌, length, map, slice_index, Option, Some, None, Result, Ok, Err, refl, sym, ap, subst, ◌∙◌, inl, inr, append_assoc, append-nil, eq-eqb, lit<, arith}
+use Rattle.std.proofs.Common.{◌≡◌, ℕ, suc, zero, ◌+◌, ◌-◌, ◌<◌, ◌≤◌, ◌^◌, Bool, true, false, cond, not, List, [], ◌∷◌, ◌++◌, length, map}
+use Rattle.std.proofs.Common.{slice_index, Option, Some, None, Result, Ok, Err, refl, sym, ap, subst, ◌∙◌, inl, inr, append_assoc}
+use Rattle.std.proofs.Common.{append-nil, eq-eqb, lit<, arith}
 use Rattle.std.specs.Prelude.{⊤, ◌||◌, ◌==◌, if◌then◌else◌, codes, decimal, filter, flat_map, nat_lt}
 use Rattle.std.specs.List.{list_all, list_any, zip}
 use Rattle.std.specs.Option.{ok_or}
@@ -20,12 +22,14 @@ use Rattle.csv.specs.declared.parser.State.TheVariants as st
 use Rattle.marple_base.specs.Field.{all_fields, field_name, has_field, number_of}
 use Rattle.marple_base.proofs.Fields.{same_field}
 use Rattle.marple_base.specs.declared.field.Field.{Field}
-use Rattle.marple_base.specs.declared.field.Field.TheVariants.{Switch, Qid, Uid, SrcIp, DstIp, SrcPort, DstPort, Proto, PktLen, PayloadLen, TcpSeq, Tin, Tout, QSize}
+use Rattle.marple_base.specs.declared.field.Field.TheVariants.{Switch, Qid, Uid, SrcIp, DstIp, SrcPort, DstPort, Proto, PktLen, PayloadLen}
+use Rattle.marple_base.specs.declared.field.Field.TheVariants.{TcpSeq, Tin, Tout, QSize}
 use Rattle.marple_base.specs.declared.field.FieldSet.{FieldSet}
 use Rattle.marple_base.specs.declared.field.Packet.{Packet}
 use Rattle.trace_reader.specs.Numbers.{without_blanks, word_of}
 use Rattle.trace_reader.specs.Reading.{records}
-use Rattle.trace_reader.specs.Traces.{Contents, Layout, column_of, columns_named, columns_of, contents, contents_from, each, most_records, only_column, packet_of, text_at, word_at, words_of}
+use Rattle.trace_reader.specs.Traces.{Contents, Layout, column_of, columns_named, columns_of, contents, contents_from, each, most_records}
+use Rattle.trace_reader.specs.Traces.{only_column, packet_of, text_at, word_at, words_of}
 use Rattle.trace_reader.proofs.TraceFacts.{contents_good}
 use Rattle.queue_sim.specs.ReadBack.{ArePackets, AreWords}
 use Rattle.queue_sim.specs.TraceText.{continued, line, word_text}
@@ -89,7 +93,8 @@ by_end s f p c more x is end = rw is (rw end refl)
 abbrev IsPlainText : List ℕ → Type 0
 IsPlainText text = list_any (needs_byte default_writer) text ≡ false
 
-copy_rows : (f : List (List ℕ)) (p text more : List ℕ) → IsPlainText text → rows_from st.InField f p (text ++ more) ≡ rows_from st.InField f (p ++ text) more
+copy_rows : (f : List (List ℕ)) (p text more : List ℕ) → IsPlainText text
+    → rows_from st.InField f p (text ++ more) ≡ rows_from st.InField f (p ++ text) more
 copy_rows f p [] more plain = ap (λ q. rows_from st.InField f q more) (sym (append-nil p))
 copy_rows f p (c ∷ text) more plain =
     let both = or_false (needs_byte default_writer c) (list_any (needs_byte default_writer) text) plain in
@@ -101,7 +106,8 @@ copy_rows f p (c ∷ text) more plain =
 abbrev IsPart : List ℕ → Type 0
 IsPart text = IsPlainText text × (1 ≤ length text)
 
-start_rows : (s : State) (f : List (List ℕ)) (text more : List ℕ) → IsInLine s → IsPart text → rows_from s f [] (text ++ more) ≡ rows_from st.InField f text more
+start_rows : (s : State) (f : List (List ℕ)) (text more : List ℕ) → IsInLine s → IsPart text
+    → rows_from s f [] (text ++ more) ≡ rows_from st.InField f text more
 start_rows s f [] more in_line part = absurd (omega (arith, part.1))
 start_rows s f (c ∷ text) more in_line part =
     let both = or_false (needs_byte default_writer c) (list_any (needs_byte default_writer) text) part.0 in
@@ -166,8 +172,11 @@ word_some QSize n small = decimal_some n small
 word_parts : (words : List ℕ) (fields : List Field) → AreWords words → AreParts (texts_by words fields)
 word_parts words [] are = tt
 word_parts words (field ∷ fields) are =
-    let small = word_small words (number_of field) are in
-    ((word_plain field (slice_index words (number_of field)) small, word_some field (slice_index words (number_of field)) small), word_parts words fields are)
+    let small = word_small words (number_of field) are in (
+      (word_plain field (slice_index words (number_of field)) small, word_some field (slice_index words (number_of field)) small),
+      word_parts
+          words fields are,
+    )
 
 name_part : (field : Field) → IsPart (field_name field)
 name_part Switch = (refl, omega arith)
@@ -190,11 +199,13 @@ name_parts [] = tt
 name_parts (field ∷ fields) = (name_part field, name_parts fields)
 
 body_rows : (field : Field) (fields : List Field) (sent : List Packet) → ArePackets sent
-    → rows_from st.StartRecord [] [] (body_of (field ∷ fields) sent) ≡ map (λ (packet : Packet). texts_by packet.words (field ∷ fields)) sent
+    → rows_from st.StartRecord [] [] (body_of (field ∷ fields) sent) ≡ map (λ (packet : Packet). texts_by packet.words (field ∷ fields))
+    sent
 unfolding rows_from
 body_rows field fields [] are = refl
 body_rows field fields (packet ∷ sent) are =
-    record_rows (word_text field (slice_index packet.words (number_of field))) (texts_by packet.words fields) (body_of (field ∷ fields) sent)
+    record_rows (word_text field (slice_index packet.words (number_of field))) (texts_by packet.words fields)
+    (body_of (field ∷ fields) sent)
     (word_parts packet.words (field ∷ fields) are.1)
     ∙ ap (λ (r : List (List (List ℕ))). texts_by packet.words (field ∷ fields) ∷ r) (body_rows field fields sent are.2)
 
@@ -218,7 +229,8 @@ no_mark QSize rest = refl
 
 -- the records of the text
 text_records : (field : Field) (fields : List Field) (sent : List Packet) → ArePackets sent
-    → records (lines_of (field ∷ fields) sent) ≡ map field_name (field ∷ fields) ∷ map (λ (packet : Packet). texts_by packet.words (field ∷ fields)) sent
+    → records (lines_of (field ∷ fields) sent) ≡ map field_name (field ∷ fields)
+    ∷ map (λ (packet : Packet). texts_by packet.words (field ∷ fields)) sent
 text_records field fields sent are =
     let body = body_of (field ∷ fields) sent in
     let names = map field_name fields in
@@ -319,11 +331,13 @@ none_of has f at (g ∷ gs) others =
     let both = and_parts (not (is_same f g)) (are_others f gs) others in
     by (has g) (none_of has f at gs both.1) (rw (not_false (is_same f g) both.0) (none_of has f (at + 1) gs both.1))
   where
-    by : (b : Bool) → places f at (filter has gs) ≡ [] → places f at (g ∷ filter has gs) ≡ [] → places f at (cond b (g ∷ filter has gs) (filter has gs)) ≡ []
+    by : (b : Bool) → places f at (filter has gs) ≡ [] → places f at (g ∷ filter has gs) ≡ []
+        → places f at (cond b (g ∷ filter has gs) (filter has gs)) ≡ []
     by true without with = with
     by false without with = without
 
-place_after : (has : Field → Bool) (f : Field) (at : ℕ) (pre post : List Field) → are_others f pre ≡ true → are_others f post ≡ true → has f ≡ true
+place_after : (has : Field → Bool) (f : Field) (at : ℕ) (pre post : List Field) → are_others f pre ≡ true → are_others f post ≡ true
+    → has f ≡ true
     → places f at (filter has (pre ++ f ∷ post)) ≡ (at + length (filter has pre)) ∷ []
 place_after has f at [] post before later read =
     let here : at ≡ at + 0 = omega arith in
@@ -335,8 +349,10 @@ place_after has f at (g ∷ pre) post before later read =
   where
     by : (b : Bool) → places f at (filter has (pre ++ f ∷ post)) ≡ (at + length (filter has pre)) ∷ []
         → places f at (g ∷ filter has (pre ++ f ∷ post)) ≡ (at + 1 + length (filter has pre)) ∷ []
-        → places f at (cond b (g ∷ filter has (pre ++ f ∷ post)) (filter has (pre ++ f ∷ post))) ≡ (at + length (cond b (g ∷ filter has pre) (filter has pre))) ∷ []
-    by true without with = let next : at + 1 + length (filter has pre) ≡ at + suc (length (filter has pre)) = omega arith in with ∙ ap (λ k. k ∷ []) next
+        → places f at (cond b (g ∷ filter has (pre ++ f ∷ post)) (filter has (pre ++ f ∷ post)))
+        ≡ (at + length (cond b (g ∷ filter has pre) (filter has pre))) ∷ []
+    by true without with = let next : at + 1 + length (filter has pre) ≡ at + suc (length (filter has pre)) = omega arith in with
+        ∙ ap (λ k. k ∷ []) next
     by false without with = without
 
 text_after : (has : Field → Bool) (T : Field → List ℕ) (f : Field) (pre post : List Field) → has f ≡ true
@@ -346,7 +362,8 @@ text_after has T f [] post read = rw read refl
 text_after has T f (g ∷ pre) post read = by (has g) (text_after has T f pre post read)
   where
     by : (b : Bool) → text_at (map T (filter has (pre ++ f ∷ post))) (length (filter has pre)) ≡ T f
-        → text_at (map T (cond b (g ∷ filter has (pre ++ f ∷ post)) (filter has (pre ++ f ∷ post)))) (length (cond b (g ∷ filter has pre) (filter has pre))) ≡ T f
+        → text_at (map T (cond b (g ∷ filter has (pre ++ f ∷ post)) (filter has (pre ++ f ∷ post))))
+        (length (cond b (g ∷ filter has pre) (filter has pre))) ≡ T f
     by true rest = rest
     by false rest = rest
 
@@ -445,7 +462,8 @@ some_read : (reads : FieldSet) (f : Field) → has_field reads f ≡ true → fi
 some_read reads f read none =
     let at = place_after (has_field reads) f 0 (before f) (later f) (others_before f) (others_later f) read in
     let gone : places f 0 (fields_in reads) ≡ [] = ap (places f 0) none in
-    let there : places f 0 (fields_in reads) ≡ (0 + place_of reads f) ∷ [] = ap (λ gs. places f 0 (filter (has_field reads) gs)) (parted f) ∙ at in
+    let there : places f 0 (fields_in reads) ≡ (0 + place_of reads f) ∷ [] = ap (λ gs. places f 0 (filter (has_field reads) gs)) (parted f)
+    ∙ at in
     absurd (cc (gone, there))
 
 -- where a field is read, the columns are the fields that are read
@@ -460,7 +478,8 @@ column_here : (reads : FieldSet) (f : Field) → column_of reads (map field_name
 column_here reads f = by (has_field reads f) refl
   where
     by : (b : Bool) → has_field reads f ≡ b
-        → cond b (only_column f (columns_named (field_name f) 0 (map field_name (written_fields reads)))) (Ok None) ≡ Ok (cond b (Some (place_of reads f)) None)
+        → cond b (only_column f (columns_named (field_name f) 0 (map field_name (written_fields reads)))) (Ok None) ≡ Ok
+        (cond b (Some (place_of reads f)) None)
     by true read =
         let zero_more : 0 + place_of reads f ≡ place_of reads f = omega arith in
         ap (only_column f)
@@ -470,7 +489,8 @@ column_here reads f = by (has_field reads f) refl
         ∙ ap (λ k. k ∷ []) zero_more)
     by false read = refl
 
-each_ok : {A E : Type 0} (F : Field → Result A E) (G : Field → A) (fs : List Field) → ((f : Field) → F f ≡ Ok (G f)) → each F fs ≡ Ok (map G fs)
+each_ok : {A E : Type 0} (F : Field → Result A E) (G : Field → A) (fs : List Field) → ((f : Field) → F f ≡ Ok (G f))
+    → each F fs ≡ Ok (map G fs)
 unfolding each
 each_ok F G [] is = refl
 each_ok F G (f ∷ fs) is = rw (is f, each_ok F G fs is) refl
@@ -483,7 +503,8 @@ word_here : (reads : FieldSet) (words : List ℕ) (f : Field) → AreWords words
 word_here reads words f are = by (has_field reads f) refl
   where
     by : (b : Bool) → has_field reads f ≡ b
-        → word_at (texts_by words (written_fields reads)) f (cond b (Some (place_of reads f)) None) ≡ Ok (cond b (slice_index words (number_of f)) 0)
+        → word_at (texts_by words (written_fields reads)) f (cond b (Some (place_of reads f)) None) ≡ Ok
+        (cond b (slice_index words (number_of f)) 0)
     by true read =
         let text : text_at (texts_by words (written_fields reads)) (place_of reads f) ≡ word_text f (slice_index words (number_of f)) =
         ap (λ gs. text_at (texts_by words gs) (place_of reads f))
@@ -493,7 +514,8 @@ word_here reads words f are = by (has_field reads f) refl
         ∙ ap (λ (o : Option ℕ). ok_or o f) (word_read f (slice_index words (number_of f)) (word_small words (number_of f) are))
     by false read = refl
 
-each_zip : (W : Field × Option ℕ → Result ℕ Field) (G : Field → Option ℕ) (V : Field → ℕ) (fs : List Field) → ((f : Field) → W (f, G f) ≡ Ok (V f))
+each_zip : (W : Field × Option ℕ → Result ℕ Field) (G : Field → Option ℕ) (V : Field → ℕ) (fs : List Field)
+    → ((f : Field) → W (f, G f) ≡ Ok (V f))
     → each W (zip fs (map G fs)) ≡ Ok (map V fs)
 unfolding each
 each_zip W G V [] is = refl
@@ -502,7 +524,8 @@ each_zip W G V (f ∷ fs) is = rw (is f, each_zip W G V fs is) refl
 words_here : (reads : FieldSet) (words : List ℕ) → AreWords words
     → words_of (map (place_if reads) all_fields) (texts_by words (written_fields reads)) ≡ Ok (map (word_if_read reads words) all_fields)
 words_here reads words are =
-    each_zip (λ p. word_at (texts_by words (written_fields reads)) p.0 p.1) (place_if reads) (word_if_read reads words) all_fields (λ f. word_here reads words f are)
+    each_zip (λ p. word_at (texts_by words (written_fields reads)) p.0 p.1) (place_if reads) (word_if_read reads words) all_fields
+    (λ f. word_here reads words f are)
 
 -- ---- the whole text
 
@@ -524,7 +547,8 @@ packet_here reads packet n are within =
     rw (few, width, words_here reads packet.words are) refl
 
 sent_here : (reads : FieldSet) (sent : List Packet) (n : ℕ) → ArePackets sent → n + length sent ≤ most_records + 1
-    → contents_from (layout reads) n (map (λ (packet : Packet). texts_by packet.words (written_fields reads)) sent) ≡ record { packets = map (as_read reads) sent; fault = None }
+    → contents_from (layout reads) n (map (λ (packet : Packet). texts_by packet.words (written_fields reads)) sent) ≡ record
+    { packets = map (as_read reads) sent; fault = None }
 unfolding contents_from
 sent_here reads [] n are within = refl
 sent_here reads (packet ∷ sent) n are within =
@@ -539,15 +563,19 @@ some_column reads = by (fields_in reads)
     by (f ∷ fs) = (f, fs, refl)
 
 records_here : (reads : FieldSet) (sent : List Packet) → ArePackets sent
-    → records (fields_text reads sent) ≡ map field_name (written_fields reads) ∷ map (λ (packet : Packet). texts_by packet.words (written_fields reads)) sent
+    → records (fields_text reads sent) ≡ map field_name (written_fields reads)
+    ∷ map (λ (packet : Packet). texts_by packet.words (written_fields reads)) sent
 records_here reads sent are =
     let some = some_column reads in
-    let P : List Field → Type 0 = λ fs. records (lines_of fs sent) ≡ map field_name fs ∷ map (λ (packet : Packet). texts_by packet.words fs) sent in
+    let P : List Field → Type 0 = λ fs. records (lines_of fs sent) ≡ map field_name fs
+    ∷ map (λ (packet : Packet). texts_by packet.words fs) sent in
     subst P (sym some.2) (text_records some.0 some.1 sent are)
 
 pub field_texts_read_back_lem : FieldTextsReadBack
 field_texts_read_back_lem reads sent are few short =
     let is : contents (fields_text reads sent) reads ≡ record { packets = map (as_read reads) sent; fault = None } =
-    contents_good (fields_text reads sent) reads (map field_name (written_fields reads)) (map (λ (packet : Packet). texts_by packet.words (written_fields reads)) sent)
-    (map (place_if reads) all_fields) short (records_here reads sent are) (sym (columns_here reads)) ∙ sent_here reads sent 1 are (omega arith) in
+    contents_good (fields_text reads sent) reads (map field_name (written_fields reads))
+    (map (λ (packet : Packet). texts_by packet.words (written_fields reads)) sent)
+    (map (place_if reads) all_fields) short (records_here reads sent are) (sym (columns_here reads))
+    ∙ sent_here reads sent 1 are (omega arith) in
     (ap (λ (c : Contents). c.packets) is, ap (λ (c : Contents). c.fault) is)

@@ -1,5 +1,6 @@
 -- The line of a packet from its end to its beginning, and the line of the names of fields.
-use Rattle.std.proofs.Common.{◌≡◌, ℕ, suc, zero, ◌+◌, ◌<◌, ◌≤◌, List, [], ◌∷◌, ◌++◌, length, get_or, drop, map, slice_index, refl, sym, ap, ◌∙◌, append_assoc, append-nil, arith}
+use Rattle.std.proofs.Common.{◌≡◌, ℕ, suc, zero, ◌+◌, ◌<◌, ◌≤◌, List, [], ◌∷◌, ◌++◌, length, get_or, drop, map, slice_index, refl, sym, ap}
+use Rattle.std.proofs.Common.{◌∙◌, append_assoc, append-nil, arith}
 use Rattle.std.proofs.lemmas.List.{drop_all}
 use Rattle.marple_base.specs.Field.{field_name, number_of}
 use Rattle.marple_base.specs.declared.field.Field.{Field}
@@ -62,7 +63,8 @@ names_start (f ∷ fields) some = refl
 -- one name more
 pub names_more : (fields : List Field) (text : List ℕ) (i : ℕ) → i < length fields
     → text ++ continued (drop i (map field_name fields)) ≡ joined (map field_name fields)
-    → ((text ++ 44 ∷ []) ++ field_name (get_or fields i Switch)) ++ continued (drop (i + 1) (map field_name fields)) ≡ joined (map field_name fields)
+    → ((text ++ 44 ∷ []) ++ field_name (get_or fields i Switch)) ++ continued (drop (i + 1) (map field_name fields)) ≡ joined
+    (map field_name fields)
 names_more fields text i within so_far =
     let name = field_name (get_or fields i Switch) in
     let rest = continued (drop (i + 1) (map field_name fields)) in

@@ -1,5 +1,6 @@
 -- The texts of parts, packet by packet.
-use Rattle.std.proofs.Common.{◌≡◌, ℕ, ◌+◌, ◌≤◌, Bool, true, false, cond, List, [], ◌∷◌, ◌++◌, length, map, refl, sym, ap, ◌∙◌, append_assoc, append-nil}
+use Rattle.std.proofs.Common.{◌≡◌, ℕ, ◌+◌, ◌≤◌, Bool, true, false, cond, List, [], ◌∷◌, ◌++◌, length, map, refl, sym, ap, ◌∙◌, append_assoc}
+use Rattle.std.proofs.Common.{append-nil}
 use Rattle.std.specs.Prelude.{◌==◌, filter, flat_map}
 use Rattle.marple_base.specs.Field.{field_name}
 use Rattle.marple_base.specs.declared.field.Field.{Field}
@@ -23,7 +24,8 @@ packets_append partition n (packet ∷ sent) more = by (partition packet.words =
 abbrev pub body_of : List Field → List Packet → List ℕ
 body_of fields packets = flat_map (λ packet. fields_line fields packet.words) packets
 
-pub body_append : (fields : List Field) (sent more : List Packet) → body_of fields (sent ++ more) ≡ body_of fields sent ++ body_of fields more
+pub body_append : (fields : List Field) (sent more : List Packet) → body_of fields (sent ++ more) ≡ body_of fields sent
+    ++ body_of fields more
 body_append fields [] more = refl
 body_append fields (packet ∷ sent) more =
     ap (λ rest. fields_line fields packet.words ++ rest) (body_append fields sent more)
@@ -31,11 +33,13 @@ body_append fields (packet ∷ sent) more =
 
 -- the text of a part of more packets: that of fewer goes on
 pub text_append : (fields : List Field) (partition : List ℕ → ℕ) (n : ℕ) (sent more : List Packet)
-    → lines_of fields (packets_at partition n (sent ++ more)) ≡ lines_of fields (packets_at partition n sent) ++ body_of fields (packets_at partition n more)
+    → lines_of fields (packets_at partition n (sent ++ more)) ≡ lines_of fields (packets_at partition n sent)
+    ++ body_of fields (packets_at partition n more)
 text_append fields partition n sent more =
     ap (lines_of fields) (packets_append partition n sent more)
     ∙ ap (λ rest. line (map field_name fields) ++ rest) (body_append fields (packets_at partition n sent) (packets_at partition n more))
-    ∙ sym (append_assoc (line (map field_name fields)) (body_of fields (packets_at partition n sent)) (body_of fields (packets_at partition n more)))
+    ∙ sym (append_assoc (line (map field_name fields)) (body_of fields (packets_at partition n sent))
+    (body_of fields (packets_at partition n more)))
 
 -- what one packet adds to a part: its line where the part is its own
 pub one_here : (fields : List Field) (partition : List ℕ → ℕ) (n : ℕ) (packet : Packet) → (partition packet.words == n) ≡ true

@@ -42,13 +42,15 @@ fields_same (f ∷ a) (g ∷ b) e =
     let more : a ≡ b = fields_same a b rest in
     cc
 
-named_operand_once : (f g : List Field) (o : List PlanOp) (w line n m : List ℕ) (u v : Operand) → IsNamedOperand f o w line n u → IsNamedOperand g o w line m v → (n ≡ m) × (u ≡ v)
+named_operand_once : (f g : List Field) (o : List PlanOp) (w line n m : List ℕ) (u v : Operand) → IsNamedOperand f o w line n u
+    → IsNamedOperand g o w line m v → (n ≡ m) × (u ≡ v)
 named_operand_once f g o w line n m u v p q =
     let both : w ∷ n ∷ p.token ∷ [] ≡ w ∷ m ∷ q.token ∷ [] = sym p.words ∙ q.words in
     let same : p.token ≡ q.token = third_same w n p.token m q.token [] [] both in
     (second_same w n m (p.token ∷ []) (q.token ∷ []) both, value_same u v (sym p.reads ∙ ap operand same ∙ q.reads))
 
-one_operand_once : (f g : List Field) (o : List PlanOp) (w line : List ℕ) (u v : Operand) → IsOneOperand f o w line u → IsOneOperand g o w line v → u ≡ v
+one_operand_once : (f g : List Field) (o : List PlanOp) (w line : List ℕ) (u v : Operand) → IsOneOperand f o w line u
+    → IsOneOperand g o w line v → u ≡ v
 one_operand_once f g o w line u v p q =
     let same : p.token ≡ q.token = second_same w p.token q.token [] [] (sym p.words ∙ q.words) in
     value_same u v (sym p.reads ∙ ap operand same ∙ q.reads)
@@ -79,7 +81,8 @@ op_once x l a b p q =
     let same : p.op ≡ q.op = value_same p.op q.op (sym p.valid.words ∙ q.valid.words) in
     p.made ∙ rw same (sym q.made)
 
-begun_once : (f g : List Field) (o : List PlanOp) (gs : List Folded) (l : List ℕ) (a b : Group) → IsGroupLine f o gs l a → IsGroupLine g o gs l b → a ≡ b
+begun_once : (f g : List Field) (o : List PlanOp) (gs : List Folded) (l : List ℕ) (a b : Group) → IsGroupLine f o gs l a
+    → IsGroupLine g o gs l b → a ≡ b
 begun_once f g o gs l a b p q =
     let same = named_operand_once f g o (codes "group") l a.name b.name a.present b.present p.valid q.valid in
     p.made ∙ ap (λ n. group_with n a.present) same.0 ∙ ap (λ v. group_with b.name v) same.1 ∙ sym q.made
@@ -89,7 +92,8 @@ group_once x l a b p q =
     let same : p.group ≡ q.group = begun_once p.fields q.fields x.ops x.groups l p.group q.group p.valid q.valid in
     p.made ∙ rw same (sym q.made)
 
-in_group_once : (word : LineWord) (f g : List Field) (o : List PlanOp) (x : Group) (l : List ℕ) (a b : Group) → IsInGroup word f o x l a → IsInGroup word g o x l b → a ≡ b
+in_group_once : (word : LineWord) (f g : List Field) (o : List PlanOp) (x : Group) (l : List ℕ) (a b : Group) → IsInGroup word f o x l a
+    → IsInGroup word g o x l b → a ≡ b
 in_group_once words.Key f g o x l a b p q =
     let same = named_operand_once f g o (codes "key") l p.name q.name p.value q.value p.valid q.valid in
     p.made ∙ rw (same.0, same.1) (sym q.made)

@@ -12,13 +12,15 @@ use Rattle.plan_file.specs.Lexis.{is_space, tokens}
 use Rattle.plan_file.specs.Operations.{IsKnown, IsAllowed, IsOpLine, two_of, op_words}
 
 -- no words, no operation
-pub no_words : (fields : List Field) (ops : List PlanOp) (w : Option PlanOp) → w ≡ None → (op : PlanOp) → w ≡ Some op → IsAllowed fields ops op → ⊥
+pub no_words : (fields : List Field) (ops : List PlanOp) (w : Option PlanOp) → w ≡ None → (op : PlanOp) → w ≡ Some op
+    → IsAllowed fields ops op → ⊥
 no_words fields ops w none op e allowed = cc
 
 some_same : (p q : PlanOp) → Some p ≡ Some q → p ≡ q
 some_same p q e = cc
 
-pub two_no_left : (fields : List Field) (ops : List PlanOp) (s : Option ℕ) (f : Option Op) (a b : Option Operand) → ((v : Operand) → a ≡ Some v → IsKnown fields ops v → ⊥)
+pub two_no_left : (fields : List Field) (ops : List PlanOp) (s : Option ℕ) (f : Option Op) (a b : Option Operand)
+    → ((v : Operand) → a ≡ Some v → IsKnown fields ops v → ⊥)
     → (op : PlanOp) → two_of s f a b ≡ Some op → IsAllowed fields ops op → ⊥
 two_no_left fields ops None f a b none op e allowed = cc
 two_no_left fields ops (Some s) None a b none op e allowed = cc
@@ -28,7 +30,8 @@ two_no_left fields ops (Some s) (Some f) (Some v) (Some w) none op e allowed =
     none v refl (subst (λ o. IsKnown fields ops o.left) (sym (some_same _ op e)) allowed.left)
 
 -- a line whose words are no operation
-pub no_line : (fields : List Field) (ops : List PlanOp) (line : List ℕ) → op_words (tokens line) ≡ None → (op : PlanOp) → IsOpLine fields ops line op → ⊥
+pub no_line : (fields : List Field) (ops : List PlanOp) (line : List ℕ) → op_words (tokens line) ≡ None → (op : PlanOp)
+    → IsOpLine fields ops line op → ⊥
 no_line fields ops line none op valid = no_words fields ops (op_words (tokens line)) none op valid.words valid.allowed
 
 -- a line with another first word

@@ -1,9 +1,11 @@
 -- Which registers are known.
-use Rattle.std.proofs.Common.{◌≡◌, ℕ, zero, suc, ◌+◌, ◌<◌, ◌≤◌, Bool, true, false, List, [], ◌∷◌, length, get_or, map, Some, refl, sym, ap, ◌∙◌, arith, inl, inr, Contains, subst}
+use Rattle.std.proofs.Common.{◌≡◌, ℕ, zero, suc, ◌+◌, ◌<◌, ◌≤◌, Bool, true, false, List, [], ◌∷◌, length, get_or, map, Some, refl, sym, ap}
+use Rattle.std.proofs.Common.{◌∙◌, arith, inl, inr, Contains, subst}
 use Rattle.std.specs.Prelude.{nat_lt}
 use Rattle.std.proofs.lemmas.Bool.Decides.{nat_tests}
 use Rattle.marple_base.specs.declared.field.Field.{Field}
-use Rattle.marple_base.specs.declared.field.Field.TheVariants.{Switch, Qid, Uid, SrcIp, DstIp, SrcPort, DstPort, Proto, PktLen, PayloadLen, TcpSeq, Tin, Tout, QSize}
+use Rattle.marple_base.specs.declared.field.Field.TheVariants.{Switch, Qid, Uid, SrcIp, DstIp, SrcPort, DstPort, Proto, PktLen, PayloadLen}
+use Rattle.marple_base.specs.declared.field.Field.TheVariants.{TcpSeq, Tin, Tout, QSize}
 use Rattle.marple_base.specs.Field.{number_of}
 use Rattle.stage_plan.specs.declared.op.Operand.{Operand}
 use Rattle.stage_plan.specs.declared.op.Operand.TheVariants.{Register, Number}
@@ -26,7 +28,8 @@ at_map (f ∷ fields) zero d h = refl
 at_map (f ∷ fields) (suc k) d h = at_map fields k d (omega (arith, h))
 
 -- one more field that hasn't the number
-pub none_more : (fields : List Field) (n i : ℕ) (d : Field) → i < length fields → ((k : ℕ) → k < i → get_or (map number_of fields) k 0 ≡ n → ⊥)
+pub none_more : (fields : List Field) (n i : ℕ) (d : Field) → i < length fields
+    → ((k : ℕ) → k < i → get_or (map number_of fields) k 0 ≡ n → ⊥)
     → (number_of (get_or fields i d) ≡ n → ⊥) → (k : ℕ) → k < i + 1 → get_or (map number_of fields) k 0 ≡ n → ⊥
 none_more fields n i d within before here k lt e = by (nat_lt k i) refl
   where
@@ -36,7 +39,8 @@ none_more fields n i d within before here k lt e = by (nat_lt k i) refl
         let same : k ≡ i = grind (arith, nat_tests) in
         here (sym (at_map fields i d within) ∙ (rw same at e))
 
-pub not_among : (fields : List Field) (n : ℕ) → ((k : ℕ) → k < length fields → get_or (map number_of fields) k 0 ≡ n → ⊥) → Contains (map number_of fields) n → ⊥
+pub not_among : (fields : List Field) (n : ℕ) → ((k : ℕ) → k < length fields → get_or (map number_of fields) k 0 ≡ n → ⊥)
+    → Contains (map number_of fields) n → ⊥
 not_among fields n none found =
     none found.0 (omega (arith, size_of_map fields, found.1)) (same_default (map number_of fields) found.0 0 n found.1 ∙ found.2)
 
@@ -71,7 +75,8 @@ not_known fields ops n large past (inr made) = omega (arith, made.1, past)
 pub known_bound : (fields : List Field) (ops : List PlanOp) (n : ℕ) → length ops ≤ 32768 → 65536 ≤ n → IsKnownRegister fields ops n → ⊥
 known_bound fields ops n few large = not_known fields ops n (omega (arith, large)) (omega (arith, few, large))
 
-pub register_unknown : (fields : List Field) (ops : List PlanOp) (token : List ℕ) (n : ℕ) → register token ≡ Some n → (IsKnownRegister fields ops n → ⊥)
+pub register_unknown : (fields : List Field) (ops : List PlanOp) (token : List ℕ) (n : ℕ) → register token ≡ Some n
+    → (IsKnownRegister fields ops n → ⊥)
     → (v : Operand) → operand token ≡ Some v → IsKnown fields ops v → ⊥
 register_unknown fields ops token n b none (Register r) e known =
     let same : Some (Register n) ≡ Some (Register r) = rw b at e in

@@ -1,5 +1,6 @@
 -- How far the lines of a text are read.
-use Rattle.std.proofs.Common.{◌≡◌, ℕ, zero, suc, ◌+◌, ◌<◌, ◌≤◌, List, [], ◌∷◌, length, take, Some, refl, sym, ap, subst, arith, add-one, inl, inr}
+use Rattle.std.proofs.Common.{◌≡◌, ℕ, zero, suc, ◌+◌, ◌<◌, ◌≤◌, List, [], ◌∷◌, length, take, Some, refl, sym, ap, subst, arith, add-one}
+use Rattle.std.proofs.Common.{inl, inr}
 use Rattle.std.specs.Prelude.{slice_get}
 use Rattle.std.proofs.lemmas.List.{take_all, length-drop}
 use Rattle.plan_file.specs.declared.made.Made.{Made}
@@ -13,7 +14,8 @@ pub record IsReached (text : List ℕ) (i at : ℕ) (made : Made) : Type 0 where
   pub valid : Make (take i (lines text)) nothing made
 
 -- one more line follows those that were read
-make_more : (ls : List (List ℕ)) (i : ℕ) (x y z : Made) (line : List ℕ) → Make (take i ls) x y → slice_get ls i ≡ Some line → IsLine y line z → Make (take (suc i) ls) x z
+make_more : (ls : List (List ℕ)) (i : ℕ) (x y z : Made) (line : List ℕ) → Make (take i ls) x y → slice_get ls i ≡ Some line
+    → IsLine y line z → Make (take (suc i) ls) x z
 make_more [] i x y z line p e l = cc
 make_more (m ∷ ls) zero x y z line p e l =
     let same : m ≡ line = cc in
@@ -26,30 +28,50 @@ reached_first text = record {
   valid = refl;
 }
 
-pub reached_more : (text : List ℕ) (i at next : ℕ) (made after : Made) (line : List ℕ) → IsReached text i at made → slice_get (lines text) i ≡ Some line → IsLineStart text (i + 1) next → IsLine made line after
+pub reached_more : (text : List ℕ) (i at next : ℕ) (made after : Made) (line : List ℕ) → IsReached text i at made
+    → slice_get (lines text) i ≡ Some line → IsLineStart text (i + 1) next → IsLine made line after
     → IsReached text (i + 1) next after
 reached_more text i at next made after line r e start l = record {
   start = start;
-  valid = subst (λ n. Make (take n (lines text)) nothing after) (sym (add-one i)) (make_more (lines text) i nothing made after line r.valid e l);
+  valid = subst (λ n. Make (take n (lines text)) nothing after) (sym (add-one i))
+      (make_more (lines text) i nothing made after line r.valid e l);
 }
 
 -- a line that isn't valid after those that were read
-pub bad_line : (text : List ℕ) (i at : ℕ) (made : Made) (line : List ℕ) → length text ≤ 2097152 → IsReached text i at made → slice_get (lines text) i ≡ Some line → ((after : Made) → IsLine made line after → ⊥) → IsBadAt text at
-bad_line text i at made line small r e bad = inr (small, inl (i, record { before = made; valid_before = r.valid; line = line; is = e; bad = λ v. bad v.0 v.1 }, r.start.start))
+pub bad_line : (text : List ℕ) (i at : ℕ) (made : Made) (line : List ℕ) → length text ≤ 2097152 → IsReached text i at made
+    → slice_get (lines text) i ≡ Some line → ((after : Made) → IsLine made line after → ⊥) → IsBadAt text at
+bad_line text i at made line small r e bad = inr (
+  small,
+  inl (
+    i,
+    record
+        { before = made; valid_before = r.valid; line = line; is = e; bad = λ v. bad v.0 v.1 },
+    r.start.start,
+  ),
+)
 
 -- all lines are read
 pub all_made : (text : List ℕ) (i at : ℕ) (made : Made) → IsReached text i at made → IsAfterLines text i at → Make (lines text) nothing made
 all_made text i at made r b = subst (λ ls. Make ls nothing made) (take_all i (lines text) (omega (arith, b.count))) r.valid
 
-pub bad_rest : (text : List ℕ) (i at : ℕ) (made : Made) → length text ≤ 2097152 → at < length text → IsReached text i at made → IsAfterLines text i at → IsBadAt text (length text)
+pub bad_rest : (text : List ℕ) (i at : ℕ) (made : Made) → length text ≤ 2097152 → at < length text → IsReached text i at made
+    → IsAfterLines text i at → IsBadAt text (length text)
 bad_rest text i at made small lt r b =
     let size : 0 < length (bytes_after_lines text) = omega (arith, ap length b.rest, length-drop at text) in
     inr (small, inr (record { plan = made; valid = all_made text i at made r b; bad = inl size }, refl))
 
-pub no_print : (text : List ℕ) (i at : ℕ) (made : Made) → length text ≤ 2097152 → made.prints ≡ [] → IsReached text i at made → IsAfterLines text i at → IsBadAt text (length text)
-no_print text i at made small none r b = inr (small, inr (record { plan = made; valid = all_made text i at made r b; bad = inr none }, refl))
+pub no_print : (text : List ℕ) (i at : ℕ) (made : Made) → length text ≤ 2097152 → made.prints ≡ [] → IsReached text i at made
+    → IsAfterLines text i at → IsBadAt text (length text)
+no_print text i at made small none r b = inr (
+  small,
+  inr (
+    record { plan = made; valid = all_made text i at made r b; bad = inr none },
+    refl,
+  ),
+)
 
-pub says : (text : List ℕ) (i at : ℕ) (made : Made) → length text ≤ 2097152 → length text ≤ at → (made.prints ≡ [] → ⊥) → IsReached text i at made → IsAfterLines text i at → Says text made
+pub says : (text : List ℕ) (i at : ℕ) (made : Made) → length text ≤ 2097152 → length text ≤ at → (made.prints ≡ [] → ⊥)
+    → IsReached text i at made → IsAfterLines text i at → Says text made
 says text i at made small le some r b = record {
   size = small;
   valid = all_made text i at made r b;

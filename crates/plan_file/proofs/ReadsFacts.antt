@@ -1,11 +1,13 @@
 -- The fields of a line `reads`, taken in their order.
-use Rattle.std.proofs.Common.{◌≡◌, ℕ, ◌+◌, ◌<◌, ◌≤◌, Bool, true, false, List, [], ◌∷◌, ◌++◌, map, refl, sym, ap, ◌∙◌, arith, append_assoc, length, subst}
+use Rattle.std.proofs.Common.{◌≡◌, ℕ, ◌+◌, ◌<◌, ◌≤◌, Bool, true, false, List, [], ◌∷◌, ◌++◌, map, refl, sym, ap, ◌∙◌, arith, append_assoc}
+use Rattle.std.proofs.Common.{length, subst}
 use Rattle.std.proofs.lemmas.List.Splits.{length-slice_split}
 use Rattle.std.specs.Prelude.{codes, nat_eq, if◌then◌else◌}
 use Rattle.std.specs.Str.{bytes_eq}
 use Rattle.std.proofs.lemmas.Bool.Decides.{nat_tests}
 use Rattle.marple_base.specs.declared.field.Field.{Field}
-use Rattle.marple_base.specs.declared.field.Field.TheVariants.{Switch, Qid, Uid, SrcIp, DstIp, SrcPort, DstPort, Proto, PktLen, PayloadLen, TcpSeq, Tin, Tout, QSize}
+use Rattle.marple_base.specs.declared.field.Field.TheVariants.{Switch, Qid, Uid, SrcIp, DstIp, SrcPort, DstPort, Proto, PktLen, PayloadLen}
+use Rattle.marple_base.specs.declared.field.Field.TheVariants.{TcpSeq, Tin, Tout, QSize}
 use Rattle.marple_base.specs.Field.{number_of, field_name}
 use Rattle.plan_file.specs.Lexis.{is_space, tokens}
 use Rattle.plan_file.specs.Operations.{AreFrom, IsReadsLine}
@@ -82,7 +84,8 @@ in_more : (fields : List Field) (least most : ℕ) → AreIn least most fields �
 in_more [] least most h = omega (arith, h)
 in_more (f ∷ rest) least most h = (h.0, in_more rest (number_of f + 1) most h.1)
 
-in_with : (fields : List Field) (least most : ℕ) (f : Field) → AreIn least most fields → number_of f ≡ most → AreIn least (most + 1) (fields ++ f ∷ [])
+in_with : (fields : List Field) (least most : ℕ) (f : Field) → AreIn least most fields → number_of f ≡ most
+    → AreIn least (most + 1) (fields ++ f ∷ [])
 in_with [] least most f h e = (omega (arith, h, e), omega (arith, e))
 in_with (g ∷ rest) least most f h e = (h.0, in_with rest (number_of g + 1) most f h.1 e)
 
@@ -94,7 +97,8 @@ in_from (f ∷ rest) least most h = (h.0, in_from rest (number_of f + 1) most h.
 pub record IsPassed (line : List ℕ) (found : List Field) (i : ℕ) (left : List (List ℕ)) : Type 0 where
   pub words : tokens line ≡ codes "reads" ∷ (map field_name found ++ left)
   pub order : AreIn 0 i found
-  pub all : (fields : List Field) → IsReadsLine line fields → (more : List Field) × (fields ≡ found ++ more) × AreFrom i more × (map field_name more ≡ left)
+  pub all : (fields : List Field) → IsReadsLine line fields → (more : List Field) × (fields ≡ found ++ more) × AreFrom i more
+      × (map field_name more ≡ left)
 
 tail_is : (a b : List ℕ) (xs ys : List (List ℕ)) → a ∷ xs ≡ b ∷ ys → xs ≡ ys
 tail_is a b xs ys e = cc
@@ -142,7 +146,8 @@ passed_end line found i p = record {
 }
 
 -- the field isn't named
-pub passed_other : (line : List ℕ) (found : List Field) (i : ℕ) (f : Field) (t : List ℕ) (ts : List (List ℕ)) → IsPassed line found i (t ∷ ts) → number_of f ≡ i → (t ≡ field_name f → ⊥)
+pub passed_other : (line : List ℕ) (found : List Field) (i : ℕ) (f : Field) (t : List ℕ) (ts : List (List ℕ))
+    → IsPassed line found i (t ∷ ts) → number_of f ≡ i → (t ≡ field_name f → ⊥)
     → IsPassed line found (i + 1) (t ∷ ts)
 passed_other line found i f t ts p e other = record {
   words = p.words;
@@ -162,12 +167,14 @@ taken f t ts i found fields e name (g ∷ rest) is order words =
       tail_is (field_name g) t (map field_name rest) ts words,
     )
 
-map_with : (found : List Field) (f : Field) (ts : List (List ℕ)) → map field_name found ++ field_name f ∷ ts ≡ map field_name (found ++ f ∷ []) ++ ts
+map_with : (found : List Field) (f : Field) (ts : List (List ℕ)) → map field_name found ++ field_name f
+    ∷ ts ≡ map field_name (found ++ f ∷ []) ++ ts
 map_with [] f ts = refl
 map_with (g ∷ found) f ts = ap (λ rest. field_name g ∷ rest) (map_with found f ts)
 
 -- the field is named
-pub passed_with : (line : List ℕ) (found : List Field) (i : ℕ) (f : Field) (t : List ℕ) (ts : List (List ℕ)) → IsPassed line found i (t ∷ ts) → number_of f ≡ i → t ≡ field_name f
+pub passed_with : (line : List ℕ) (found : List Field) (i : ℕ) (f : Field) (t : List ℕ) (ts : List (List ℕ))
+    → IsPassed line found i (t ∷ ts) → number_of f ≡ i → t ≡ field_name f
     → IsPassed line (found ++ f ∷ []) (i + 1) ts
 passed_with line found i f t ts p e name = record {
   words = p.words ∙ ap (λ h. codes "reads" ∷ (map field_name found ++ h ∷ ts)) name ∙ ap (λ rest. codes "reads" ∷ rest) (map_with found f ts);
@@ -210,21 +217,28 @@ passed_none line found i t ts past p fields valid =
     past_all a.0 i t ts past a.2 a.3
 
 -- what an iteration over one field does, in each of its three ways
-pub step_with : (line : List ℕ) (found new : List Field) (i : ℕ) (f : Field) (t : List ℕ) (left ts : List (List ℕ)) → IsPassed line found i left → left ≡ t ∷ ts → number_of f ≡ i
+pub step_with : (line : List ℕ) (found new : List Field) (i : ℕ) (f : Field) (t : List ℕ) (left ts : List (List ℕ))
+    → IsPassed line found i left → left ≡ t ∷ ts → number_of f ≡ i
     → t ≡ field_name f → new ≡ found ++ f ∷ [] → IsPassed line new (i + 1) ts
 step_with line found new i f t left ts p is e name new_is =
-    subst (λ xs. IsPassed line xs (i + 1) ts) (sym new_is) (passed_with line found i f t ts (subst (λ xs. IsPassed line found i xs) is p) e name)
+    subst (λ xs. IsPassed line xs (i + 1) ts) (sym new_is) (passed_with line found i f t ts (subst (λ xs. IsPassed line found i xs) is p) e
+    name)
 
-pub step_other : (line : List ℕ) (found : List Field) (i : ℕ) (f : Field) (t : List ℕ) (left ts : List (List ℕ)) → IsPassed line found i left → left ≡ t ∷ ts → number_of f ≡ i
+pub step_other : (line : List ℕ) (found : List Field) (i : ℕ) (f : Field) (t : List ℕ) (left ts : List (List ℕ))
+    → IsPassed line found i left → left ≡ t ∷ ts → number_of f ≡ i
     → (t ≡ field_name f → ⊥) → IsPassed line found (i + 1) left
 step_other line found i f t left ts p is e other =
-    subst (λ xs. IsPassed line found (i + 1) xs) (sym is) (passed_other line found i f t ts (subst (λ xs. IsPassed line found i xs) is p) e other)
+    subst (λ xs. IsPassed line found (i + 1) xs) (sym is) (passed_other line found i f t ts (subst (λ xs. IsPassed line found i xs) is p) e
+    other)
 
-pub step_end : (line : List ℕ) (found : List Field) (i : ℕ) (left : List (List ℕ)) → IsPassed line found i left → left ≡ [] → IsPassed line found (i + 1) left
-step_end line found i left p is = subst (λ xs. IsPassed line found (i + 1) xs) (sym is) (passed_end line found i (subst (λ xs. IsPassed line found i xs) is p))
+pub step_end : (line : List ℕ) (found : List Field) (i : ℕ) (left : List (List ℕ)) → IsPassed line found i left → left ≡ []
+    → IsPassed line found (i + 1) left
+step_end line found i left p is = subst (λ xs. IsPassed line found (i + 1) xs) (sym is)
+    (passed_end line found i (subst (λ xs. IsPassed line found i xs) is p))
 
 -- tokens are left after all fields
-pub left_over : (line text : List ℕ) (found : List Field) (i : ℕ) → 14 ≤ i → IsPassed line found i (tokens text) → (fields : List Field) → IsReadsLine line fields → ⊥
+pub left_over : (line text : List ℕ) (found : List Field) (i : ℕ) → 14 ≤ i → IsPassed line found i (tokens text) → (fields : List Field)
+    → IsReadsLine line fields → ⊥
 left_over line text found i past p = by (tokens text) refl p
   where
     by : (ts : List (List ℕ)) → tokens text ≡ ts → IsPassed line found i ts → (fields : List Field) → IsReadsLine line fields → ⊥

@@ -1,5 +1,6 @@
 -- Where the lines of a text begin.
-use Rattle.std.proofs.Common.{◌≡◌, ℕ, zero, suc, ◌+◌, ◌<◌, ◌≤◌, List, [], ◌∷◌, ◌++◌, length, take, drop, Some, refl, sym, ap, ◌∙◌, arith, add-one}
+use Rattle.std.proofs.Common.{◌≡◌, ℕ, zero, suc, ◌+◌, ◌<◌, ◌≤◌, List, [], ◌∷◌, ◌++◌, length, take, drop, Some, refl, sym, ap, ◌∙◌, arith}
+use Rattle.std.proofs.Common.{add-one}
 use Rattle.std.specs.Prelude.{slice_get, sum_by}
 use Rattle.std.specs.List.{slice_split}
 use Rattle.std.proofs.lemmas.List.Splits.{length-slice_split}
@@ -43,19 +44,23 @@ last_is (p ∷ q ∷ qs) (suc i) x e =
     let more = last_is (q ∷ qs) i x e in
     record { count = omega (arith, more.count); last = more.last }
 
-pub after_lines : (text : List ℕ) (i at : ℕ) → IsLineStart text i at → slice_split is_line_feed (drop at text) ≡ drop at text ∷ [] → IsAfterLines text i at
+pub after_lines : (text : List ℕ) (i at : ℕ) → IsLineStart text i at → slice_split is_line_feed (drop at text) ≡ drop at text ∷ []
+    → IsAfterLines text i at
 after_lines text i at start none =
     let last = last_is (pieces text) i (drop at text) (sym start.rest ∙ none) in
     record { count = last.count; rest = last.last }
 
-start_more : (text : List ℕ) (i : ℕ) (x y : List ℕ) (rest : List (List ℕ)) → IsNext (pieces text) i x y rest → start_of_line text (i + 1) ≡ start_of_line text i + (length x + 1)
+start_more : (text : List ℕ) (i : ℕ) (x y : List ℕ) (rest : List (List ℕ)) → IsNext (pieces text) i x y rest
+    → start_of_line text (i + 1) ≡ start_of_line text i + (length x + 1)
 start_more text i x y rest next =
     let f : List ℕ → ℕ = λ line. length line + 1 in
     let one : sum_by f (x ∷ []) ≡ length x + 1 = omega arith in
-    ap (λ k. sum_by f (take k (lines text))) (add-one i) ∙ ap (λ ls. sum_by f ls) next.taken ∙ sum_by-append f (take i (lines text)) (x ∷ [])
+    ap (λ k. sum_by f (take k (lines text))) (add-one i) ∙ ap (λ ls. sum_by f ls) next.taken
+    ∙ sum_by-append f (take i (lines text)) (x ∷ [])
     ∙ ap (λ n. sum_by f (take i (lines text)) + n) one
 
-pub next_start : (text : List ℕ) (i at : ℕ) (x left : List ℕ) → IsLineStart text i at → slice_split is_line_feed (drop at text) ≡ x ∷ slice_split is_line_feed left
+pub next_start : (text : List ℕ) (i at : ℕ) (x left : List ℕ) → IsLineStart text i at → slice_split is_line_feed (drop at text) ≡ x
+    ∷ slice_split is_line_feed left
     → left ≡ drop (length x + 1) (drop at text) → length x < length (drop at text)
     → (slice_get (lines text) i ≡ Some x) × IsLineStart text (i + 1) (at + length x + 1)
 next_start text i at x left start cut left_is size = by (slice_split is_line_feed left) refl cut
@@ -66,7 +71,8 @@ next_start text i at x left start cut left_is size = by (slice_split is_line_fee
     by (y ∷ rest) e cut =
         let next = next_is (pieces text) i x y rest (sym start.rest ∙ cut) in
         let sum : at + (length x + 1) ≡ at + length x + 1 = omega arith in
-        let same : drop (at + length x + 1) text ≡ left = ap (λ n. drop n text) (sym sum) ∙ sym (drop-drop (length x + 1) at text) ∙ sym left_is in
+        let same : drop (at + length x + 1) text ≡ left = ap (λ n. drop n text) (sym sum) ∙ sym (drop-drop (length x + 1) at text)
+        ∙ sym left_is in
         let start_is : start_of_line text (i + 1) ≡ start_of_line text i + (length x + 1) = start_more text i x y rest next in (
           next.there,
           record {

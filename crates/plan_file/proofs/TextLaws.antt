@@ -18,7 +18,8 @@ make_once one (l ∷ ls) x y z p q =
     make_once one ls q.0 y z (subst (λ m. Make ls m y) same p.2) q.2
 
 -- each of the lines that are valid in sequence is valid after those before it
-pub make_at : MakesOne → (ls : List (List ℕ)) (x y : Made) → Make ls x y → (i : ℕ) (b : Made) (line : List ℕ) → Make (take i ls) x b → slice_get ls i ≡ Some line → IsValidAfter b line
+pub make_at : MakesOne → (ls : List (List ℕ)) (x y : Made) → Make ls x y → (i : ℕ) (b : Made) (line : List ℕ) → Make (take i ls) x b
+    → slice_get ls i ≡ Some line → IsValidAfter b line
 make_at one [] x y p zero b line q e = cc
 make_at one [] x y p (suc i) b line q e = cc
 make_at one (l ∷ ls) x y p zero b line q e =
@@ -47,7 +48,8 @@ not_refused one text plan place says (inr (size, inr (ends, at))) = by ends.bad
         omega (arith, says.printed, size, ap length none)
 
 -- no line after a bad one is reached
-not_after : MakesOne → (ls : List (List ℕ)) (x b c : Made) (i j : ℕ) (l : List ℕ) → i < j → Make (take i ls) x b → slice_get ls i ≡ Some l → (IsValidAfter b l → ⊥) → Make (take j ls) x c → ⊥
+not_after : MakesOne → (ls : List (List ℕ)) (x b c : Made) (i j : ℕ) (l : List ℕ) → i < j → Make (take i ls) x b → slice_get ls i ≡ Some l
+    → (IsValidAfter b l → ⊥) → Make (take j ls) x c → ⊥
 not_after one [] x b c zero j l lt p e bad q = cc
 not_after one [] x b c (suc i) j l lt p e bad q = cc
 not_after one (m ∷ ls) x b c zero zero l lt p e bad q = omega (arith, lt)
@@ -64,8 +66,10 @@ pub first_bad_once : MakesOne → (text : List ℕ) (i j : ℕ) → IsFirstBadLi
 first_bad_once one text i j p q = by (nat_lt i j) (nat_lt j i) refl refl
   where
     by : (a b : Bool) → nat_lt i j ≡ a → nat_lt j i ≡ b → i ≡ j
-    by true b f g = absurd (not_after one (lines text) nothing p.before q.before i j p.line (grind (arith, nat_tests)) p.valid_before p.is p.bad q.valid_before)
-    by false true f g = absurd (not_after one (lines text) nothing q.before p.before j i q.line (grind (arith, nat_tests)) q.valid_before q.is q.bad p.valid_before)
+    by true b f g = absurd (not_after one (lines text) nothing p.before q.before i j p.line (grind (arith, nat_tests)) p.valid_before p.is
+        p.bad q.valid_before)
+    by false true f g = absurd (not_after one (lines text) nothing q.before p.before j i q.line (grind (arith, nat_tests)) q.valid_before
+        q.is q.bad p.valid_before)
     by false false f g = grind (arith, nat_tests)
 
 -- a text is refused at one place at most
@@ -73,7 +77,8 @@ pub place_once : MakesOne → (text : List ℕ) (a b : ℕ) → IsBadAt text a �
 place_once one text a b (inl p) (inl q) = p.1 ∙ sym q.1
 place_once one text a b (inl p) (inr q) = absurd (omega (arith, p.0, q.0))
 place_once one text a b (inr p) (inl q) = absurd (omega (arith, p.0, q.0))
-place_once one text a b (inr (s, inl (i, p, e))) (inr (t, inl (j, q, f))) = e ∙ ap (λ n. start_of_line text n) (first_bad_once one text i j p q) ∙ sym f
+place_once one text a b (inr (s, inl (i, p, e))) (inr (t, inl (j, q, f))) = e
+    ∙ ap (λ n. start_of_line text n) (first_bad_once one text i j p q) ∙ sym f
 place_once one text a b (inr (s, inl (i, p, e))) (inr (t, inr (ends, f))) =
     absurd (p.bad (make_at one (lines text) nothing ends.plan ends.valid i p.before p.line p.valid_before p.is))
 place_once one text a b (inr (s, inr (ends, f))) (inr (t, inl (i, p, e))) =

@@ -1,5 +1,6 @@
 -- What a stack of expected things reads, and that reading one token at a time reads the same.
-use Rattle.std.proofs.Common.{◌≡◌, ℕ, zero, suc, ◌+◌, ◌-◌, ◌^◌, ◌<◌, ◌≤◌, Bool, true, false, not, ◌&&◌, List, [], ◌∷◌, ◌++◌, Some, None, refl, sym, ap, ◌∙◌, subst, arith, append_assoc, append-nil, inl, inr}
+use Rattle.std.proofs.Common.{◌≡◌, ℕ, zero, suc, ◌+◌, ◌-◌, ◌^◌, ◌<◌, ◌≤◌, Bool, true, false, not, ◌&&◌, List, [], ◌∷◌, ◌++◌, Some, None}
+use Rattle.std.proofs.Common.{refl, sym, ap, ◌∙◌, subst, arith, append_assoc, append-nil, inl, inr}
 use Rattle.std.specs.Prelude.{nat_lt, reverse, if◌then◌else◌, ◌⊎◌}
 use Rattle.std.proofs.lemmas.Bool.Decides.{nat_tests}
 use Rattle.std.proofs.lemmas.List.{reverse-append}
@@ -13,7 +14,8 @@ use Rattle.plan_file.specs.declared.lexemes.Lexeme.TheVariants as word
 use Rattle.plan_file.specs.declared.wants.Want.{Want}
 use Rattle.plan_file.specs.declared.wants.Want.TheVariants.{Word, Condition, Divisor, Shift, Target, Open, Block}
 use Rattle.plan_file.specs.Bodies.{slot_lexeme, written, written_block, open_braces, IsBody}
-use Rattle.plan_file.specs.Wants.{operands, where_true, past_word, after_condition, after_number, after_target, after_if, after_open, after_block, past, Steps, Sticks}
+use Rattle.plan_file.specs.Wants.{operands, where_true, past_word, after_condition, after_number, after_target, after_if, after_open}
+use Rattle.plan_file.specs.Wants.{after_block, past, Steps, Sticks}
 
 head_same : (a b : Lexeme) (xs ys : List Lexeme) → a ∷ xs ≡ b ∷ ys → a ≡ b
 head_same a b xs ys e = cc
@@ -52,7 +54,8 @@ module _ (states args : ℕ) where
 
   -- statements and a closing brace, with room for this many braces
   abbrev ReadsBlock : ℕ → List Lexeme → Type 0
-  ReadsBlock room ls = (b : blocks.Block) × (ls ≡ written_block states b ++ word.Close ∷ []) × IsValidBlock states args b × (open_braces b ≤ room)
+  ReadsBlock room ls = (b : blocks.Block) × (ls ≡ written_block states b ++ word.Close ∷ []) × IsValidBlock states args b
+      × (open_braces b ≤ room)
 
   -- these tokens are what is expected
   abbrev pub Reads : Want → List Lexeme → Type 0
@@ -74,7 +77,8 @@ module _ (states args : ℕ) where
   all_join (x ∷ xs) ys front back (f, b, e, r, more) q =
       (f, b ++ back, ap (λ l. l ++ back) e ∙ append_assoc f b back, r, all_join xs ys b back more q)
 
-  all_split : (xs ys : List Want) (ls : List Lexeme) → AllRead (xs ++ ys) ls → (front : List Lexeme) × (back : List Lexeme) × (ls ≡ front ++ back) × AllRead xs front × AllRead ys back
+  all_split : (xs ys : List Want) (ls : List Lexeme) → AllRead (xs ++ ys) ls → (front : List Lexeme) × (back : List Lexeme)
+      × (ls ≡ front ++ back) × AllRead xs front × AllRead ys back
   all_split [] ys ls p = ([], ls, refl, refl, p)
   all_split (x ∷ xs) ys ls (f, b, e, r, more) =
       let split = all_split xs ys b more in
@@ -90,7 +94,8 @@ module _ (states args : ℕ) where
   only_one : (w : Want) (ls : List Lexeme) → AllRead (w ∷ []) ls → Reads w ls
   only_one w ls (f, b, e, r, none) = subst (Reads w) (sym (e ∙ ap (λ l. f ++ l) none ∙ append-nil f)) r
 
-  two_split : (w v : Want) (ls : List Lexeme) → AllRead (w ∷ v ∷ []) ls → (f : List Lexeme) × (b : List Lexeme) × (ls ≡ f ++ b) × Reads w f × Reads v b
+  two_split : (w v : Want) (ls : List Lexeme) → AllRead (w ∷ v ∷ []) ls → (f : List Lexeme) × (b : List Lexeme) × (ls ≡ f ++ b) × Reads w f
+      × Reads v b
   two_split w v ls (f, b, e, r, more) = (f, b, e, r, only_one v b more)
 
   -- what nothing is expected after
@@ -113,26 +118,37 @@ module _ (states args : ℕ) where
   constant_go P (Negation e) v c = absurd c
   constant_go P (Operation op a b) v c = absurd c
 
-  operands_go : (op : Op) (a b : Term) → IsValidTerm slots a → IsValidTerm slots b → TakesOperands op a b → AllRead (reverse (operands op)) (written states a ++ written states b)
-  operands_go ops.Both a b va vb t = two_read Condition Condition (written states a) (written states b) (a, refl, va, t.0) (b, refl, vb, t.1)
-  operands_go ops.Either a b va vb t = two_read Condition Condition (written states a) (written states b) (a, refl, va, t.0) (b, refl, vb, t.1)
-  operands_go ops.Div a b va vb t = two_read Word Divisor (written states a) (written states b) (a, refl, va, t.0) (constant_go (λ n. 0 < n) b vb t.1)
-  operands_go ops.Rem a b va vb t = two_read Word Divisor (written states a) (written states b) (a, refl, va, t.0) (constant_go (λ n. 0 < n) b vb t.1)
-  operands_go ops.Shl a b va vb t = two_read Word Shift (written states a) (written states b) (a, refl, va, t.0) (constant_go (λ n. n < 64) b vb t.1)
-  operands_go ops.Shr a b va vb t = two_read Word Shift (written states a) (written states b) (a, refl, va, t.0) (constant_go (λ n. n < 64) b vb t.1)
-  operands_go ops.Decay a b va vb t = two_read Word Shift (written states a) (written states b) (a, refl, va, t.0) (constant_go (λ n. n < 64) b vb t.1)
+  operands_go : (op : Op) (a b : Term) → IsValidTerm slots a → IsValidTerm slots b → TakesOperands op a b
+      → AllRead (reverse (operands op)) (written states a ++ written states b)
+  operands_go ops.Both a b va vb t = two_read Condition Condition (written states a) (written states b) (a, refl, va, t.0)
+      (b, refl, vb, t.1)
+  operands_go ops.Either a b va vb t = two_read Condition Condition (written states a) (written states b) (a, refl, va, t.0)
+      (b, refl, vb, t.1)
+  operands_go ops.Div a b va vb t = two_read Word Divisor (written states a) (written states b) (a, refl, va, t.0)
+      (constant_go (λ n. 0 < n) b vb t.1)
+  operands_go ops.Rem a b va vb t = two_read Word Divisor (written states a) (written states b) (a, refl, va, t.0)
+      (constant_go (λ n. 0 < n) b vb t.1)
+  operands_go ops.Shl a b va vb t = two_read Word Shift (written states a) (written states b) (a, refl, va, t.0)
+      (constant_go (λ n. n < 64) b vb t.1)
+  operands_go ops.Shr a b va vb t = two_read Word Shift (written states a) (written states b) (a, refl, va, t.0)
+      (constant_go (λ n. n < 64) b vb t.1)
+  operands_go ops.Decay a b va vb t = two_read Word Shift (written states a) (written states b) (a, refl, va, t.0)
+      (constant_go (λ n. n < 64) b vb t.1)
   operands_go op a b va vb t = two_read Word Word (written states a) (written states b) (a, refl, va, t.0) (b, refl, vb, t.1)
 
   abbrev ReadsPair : List Lexeme → (Term → Term → Type 0) → Type 0
   ReadsPair ls P = (a : Term) × (b : Term) × (ls ≡ written states a ++ written states b) × IsValidTerm slots a × IsValidTerm slots b × P a b
 
-  pair_is : (ls f b : List Lexeme) (x y : Term) → ls ≡ f ++ b → f ≡ written states x → b ≡ written states y → ls ≡ written states x ++ written states y
+  pair_is : (ls f b : List Lexeme) (x y : Term) → ls ≡ f ++ b → f ≡ written states x → b ≡ written states y → ls ≡ written states x
+      ++ written states y
   pair_is ls f b x y e p q = e ∙ ap (λ l. l ++ b) p ∙ ap (λ l. written states x ++ l) q
 
-  terms_back : (k : Bool) (ls : List Lexeme) → (f : List Lexeme) × (b : List Lexeme) × (ls ≡ f ++ b) × ReadsTerm k f × ReadsTerm k b → ReadsPair ls (λ a b. (is_condition a ≡ k) × (is_condition b ≡ k))
+  terms_back : (k : Bool) (ls : List Lexeme) → (f : List Lexeme) × (b : List Lexeme) × (ls ≡ f ++ b) × ReadsTerm k f × ReadsTerm k b
+      → ReadsPair ls (λ a b. (is_condition a ≡ k) × (is_condition b ≡ k))
   terms_back k ls (f, b, e, (x, ex, vx, kx), (y, ey, vy, ky)) = (x, y, pair_is ls f b x y e ex ey, vx, vy, (kx, ky))
 
-  number_back : (P : ℕ → Type 0) (ls : List Lexeme) → (f : List Lexeme) × (b : List Lexeme) × (ls ≡ f ++ b) × ReadsTerm false f × ReadsNumber P b → ReadsPair ls (λ a b. (is_condition a ≡ false) × IsConstant P b)
+  number_back : (P : ℕ → Type 0) (ls : List Lexeme) → (f : List Lexeme) × (b : List Lexeme) × (ls ≡ f ++ b) × ReadsTerm false f
+      × ReadsNumber P b → ReadsPair ls (λ a b. (is_condition a ≡ false) × IsConstant P b)
   number_back P ls (f, b, e, (x, ex, vx, kx), (n, en, ln, pn)) = (x, Literal n, pair_is ls f b x (Literal n) e ex en, vx, ln, (kx, pn))
 
   operands_back : (op : Op) (ls : List Lexeme) → AllRead (reverse (operands op)) ls → ReadsPair ls (TakesOperands op)
@@ -171,18 +187,22 @@ module _ (states args : ℕ) where
   slot_argument s t = rw t refl
 
   -- an expression whose value is a word
-  slot_goes : (s : ℕ) (wants : List Want) (b : Bool) → past_word states slots (if b then word.State s else word.Argument (s - states)) ≡ Some wants → wants ≡ []
+  slot_goes : (s : ℕ) (wants : List Want) (b : Bool) → past_word states slots (if b then word.State s else word.Argument (s - states))
+      ≡ Some wants → wants ≡ []
   slot_goes s wants true h = (where_some (nat_lt s states) [] wants h).1
   slot_goes s wants false h = (where_some (nat_lt (states + (s - states)) slots) [] wants h).1
 
-  word_goes : (e : Term) (wants : List Want) → past_word states slots (first_of e) ≡ Some wants → IsValidTerm slots e → is_condition e ≡ false → AllRead (reverse wants) (rest_of e)
+  word_goes : (e : Term) (wants : List Want) → past_word states slots (first_of e) ≡ Some wants → IsValidTerm slots e
+      → is_condition e ≡ false → AllRead (reverse wants) (rest_of e)
   word_goes (Literal n) wants h v k = nothing_wanted wants (where_some (nat_lt n (2 ^ 64)) [] wants h).1
   word_goes (Read s) wants h v k = nothing_wanted wants (slot_goes s wants (nat_lt s states) h)
   word_goes (Negation e) wants h v k = cc
   word_goes (Operation op a b) wants h v k =
-      wanted_go (operands op) wants (written states a ++ written states b) (where_some (not (gives_condition op)) (operands op) wants h).1 (operands_go op a b v.0 v.1 v.2)
+      wanted_go (operands op) wants (written states a ++ written states b) (where_some (not (gives_condition op)) (operands op) wants h).1
+      (operands_go op a b v.0 v.1 v.2)
 
-  slot_sticks : (s : ℕ) → s < slots → (b : Bool) → nat_lt s states ≡ b → past_word states slots (if b then word.State s else word.Argument (s - states)) ≡ None → ⊥
+  slot_sticks : (s : ℕ) → s < slots → (b : Bool) → nat_lt s states ≡ b
+      → past_word states slots (if b then word.State s else word.Argument (s - states)) ≡ None → ⊥
   slot_sticks s lt true t h = cc (where_none (nat_lt s states) [] h)
   slot_sticks s lt false t h =
       let out : nat_lt (states + (s - states)) slots ≡ false = where_none (nat_lt (states + (s - states)) slots) [] h in
@@ -201,7 +221,8 @@ module _ (states args : ℕ) where
       not_both true e f = cc
       not_both false e f = cc
 
-  word_back : (w : Lexeme) (wants : List Want) (front : List Lexeme) → past_word states slots w ≡ Some wants → AllRead (reverse wants) front → ReadsTerm false (w ∷ front)
+  word_back : (w : Lexeme) (wants : List Want) (front : List Lexeme) → past_word states slots w ≡ Some wants → AllRead (reverse wants) front
+      → ReadsTerm false (w ∷ front)
   word_back (word.Number n) wants front h p =
       let t = where_some (nat_lt n (2 ^ 64)) [] wants h in
       let small : n < 2 ^ 64 = (let e : nat_lt n (2 ^ 64) ≡ true = t.0 in grind (arith, nat_tests)) in
@@ -214,8 +235,13 @@ module _ (states args : ℕ) where
       let t = where_some (nat_lt (states + a) slots) [] wants h in
       let small : states + a < slots = (let e : nat_lt (states + a) slots ≡ true = t.0 in grind (arith, nat_tests)) in
       let after_states : nat_lt (states + a) states ≡ false = grind (arith, nat_tests) in
-      let number : states + a - states ≡ a = omega arith in
-      (Read (states + a), ap (λ l. word.Argument a ∷ l) (nothing_read wants front t.1 p) ∙ ap (λ n. word.Argument n ∷ []) (sym number) ∙ ap (λ l. l ∷ []) (sym (slot_argument (states + a) after_states)), small, refl)
+      let number : states + a - states ≡ a = omega arith in (
+        Read (states + a),
+        ap (λ l. word.Argument a ∷ l) (nothing_read wants front t.1 p) ∙ ap (λ n. word.Argument n ∷ []) (sym number)
+            ∙ ap (λ l. l ∷ []) (sym (slot_argument (states + a) after_states)),
+        small,
+        refl,
+      )
   word_back (word.Function op) wants front h p =
       let t = where_some (not (gives_condition op)) (operands op) wants h in
       let q = operands_back op front (wanted_back (operands op) wants front t.1 p) in
@@ -228,14 +254,16 @@ module _ (states args : ℕ) where
   word_back word.Other wants front h p = cc
 
   -- an expression whose value is a condition
-  condition_goes : (e : Term) (wants : List Want) → after_condition (first_of e) ≡ Some wants → IsValidTerm slots e → is_condition e ≡ true → AllRead (reverse wants) (rest_of e)
+  condition_goes : (e : Term) (wants : List Want) → after_condition (first_of e) ≡ Some wants → IsValidTerm slots e → is_condition e ≡ true
+      → AllRead (reverse wants) (rest_of e)
   condition_goes (Literal n) wants h v k = cc
   condition_goes (Read s) wants h v k = cc
   condition_goes (Negation e) wants h v k =
       let same : wants ≡ Condition ∷ [] = cc in
       wanted_go (Condition ∷ []) wants (written states e) same (one_read Condition (written states e) (e, refl, v.0, v.1))
   condition_goes (Operation op a b) wants h v k =
-      wanted_go (operands op) wants (written states a ++ written states b) (where_some (gives_condition op) (operands op) wants h).1 (operands_go op a b v.0 v.1 v.2)
+      wanted_go (operands op) wants (written states a ++ written states b) (where_some (gives_condition op) (operands op) wants h).1
+      (operands_go op a b v.0 v.1 v.2)
 
   condition_sticks : (e : Term) → after_condition (first_of e) ≡ None → is_condition e ≡ true → ⊥
   condition_sticks (Literal n) h k = cc
@@ -243,7 +271,8 @@ module _ (states args : ℕ) where
   condition_sticks (Negation e) h k = cc
   condition_sticks (Operation op a b) h k = cc (k, where_none (gives_condition op) (operands op) h)
 
-  condition_back : (w : Lexeme) (wants : List Want) (front : List Lexeme) → after_condition w ≡ Some wants → AllRead (reverse wants) front → ReadsTerm true (w ∷ front)
+  condition_back : (w : Lexeme) (wants : List Want) (front : List Lexeme) → after_condition w ≡ Some wants → AllRead (reverse wants) front
+      → ReadsTerm true (w ∷ front)
   condition_back word.Not wants front h p =
       let same : wants ≡ Condition ∷ [] = cc in
       let q = only_one Condition front (wanted_back (Condition ∷ []) wants front same p) in
@@ -263,18 +292,21 @@ module _ (states args : ℕ) where
 
   -- a block
   choice_tail : (c a b n t : List Lexeme)
-      → (c ++ (word.Open ∷ (a ++ (word.Close ∷ word.Open ∷ (b ++ (word.Close ∷ n)))))) ++ t ≡ c ++ (word.Open ∷ (a ++ (word.Close ∷ word.Open ∷ (b ++ (word.Close ∷ (n ++ t))))))
+      → (c ++ (word.Open ∷ (a ++ (word.Close ∷ word.Open ∷ (b ++ (word.Close ∷ n)))))) ++ t ≡ c
+      ++ (word.Open ∷ (a ++ (word.Close ∷ word.Open ∷ (b ++ (word.Close ∷ (n ++ t))))))
   choice_tail c a b n t = simp append_assoc
 
   closed : (a t : List Lexeme) → a ++ (word.Close ∷ t) ≡ (a ++ word.Close ∷ []) ++ t
   closed a t = sym (append_assoc a (word.Close ∷ []) t)
 
-  room_more : (room : ℕ) (c : Term) (a b n : blocks.Block) → open_braces (blocks.Fork c a b n) ≤ room → (r : ℕ) × (room ≡ suc r) × (open_braces a ≤ r) × (open_braces b ≤ r) × (open_braces n ≤ suc r)
+  room_more : (room : ℕ) (c : Term) (a b n : blocks.Block) → open_braces (blocks.Fork c a b n) ≤ room → (r : ℕ) × (room ≡ suc r)
+      × (open_braces a ≤ r) × (open_braces b ≤ r) × (open_braces n ≤ suc r)
   room_more zero c a b n o = absurd (omega (arith, o))
   room_more (suc r) c a b n o = (r, refl, omega (arith, o), omega (arith, o), omega (arith, o))
 
   block_goes : (room : ℕ) (block : blocks.Block) (w : Lexeme) (front : List Lexeme) (wants : List Want) → after_block room w ≡ Some wants
-      → w ∷ front ≡ written_block states block ++ word.Close ∷ [] → IsValidBlock states args block → open_braces block ≤ room → AllRead (reverse wants) front
+      → w ∷ front ≡ written_block states block ++ word.Close ∷ [] → IsValidBlock states args block → open_braces block ≤ room
+      → AllRead (reverse wants) front
   block_goes room blocks.End w front wants h e v o =
       let first : w ≡ word.Close = head_same w word.Close front [] e in
       let none : front ≡ [] = tail_same w word.Close front [] e in
@@ -364,35 +396,59 @@ module _ (states args : ℕ) where
       let n = only_one (Block room) d last in
       let close : List Lexeme = word.Close ∷ [] in
       let words : front ≡ word.State v ∷ ((written states x ++ written_block states n.0) ++ close) =
-      e ∙ ap (λ l. l ++ b) ef ∙ ap (λ l. word.State v ∷ l) (eb ∙ ap (λ l. l ++ d) eg ∙ ap (λ l. written states x ++ l) n.1 ∙ sym (append_assoc (written states x) (written_block states n.0) close))
+      e ∙ ap (λ l. l ++ b) ef ∙ ap (λ l. word.State v ∷ l) (eb ∙ ap (λ l. l ++ d) eg ∙ ap (λ l. written states x ++ l) n.1
+      ∙ sym (append_assoc (written states x) (written_block states n.0) close))
       in
       (blocks.Set v x n.0, ap (λ l. word.Set ∷ l) words, (lt, vx, kx, n.2), n.3)
 
-  choice_back : (r : ℕ) (front : List Lexeme) → AllRead (Condition ∷ Open ∷ Block r ∷ Open ∷ Block r ∷ Block (suc r) ∷ []) front → ReadsBlock (suc r) (word.If ∷ front)
-  choice_back r front (f, t1, e1, (c, ec, vc, kc), (o1, t2, e2, eo, (g, t3, e3, (a, ea, va, oa), (o2, t4, e4, ep, (k, t5, e5, (b, eb, vb, ob), last))))) =
+  choice_back : (r : ℕ) (front : List Lexeme) → AllRead (Condition ∷ Open ∷ Block r ∷ Open ∷ Block r ∷ Block (suc r) ∷ []) front
+      → ReadsBlock (suc r) (word.If ∷ front)
+  choice_back r front (
+    f,
+    t1,
+    e1,
+    (c, ec, vc, kc),
+    (
+      o1,
+      t2,
+      e2,
+      eo,
+      (
+        g,
+        t3,
+        e3,
+        (a, ea, va, oa),
+        (o2, t4, e4, ep, (k, t5, e5, (b, eb, vb, ob), last)),
+      ),
+    ),
+  ) =
       let n = only_one (Block (suc r)) t5 last in
       let close : List Lexeme = word.Close ∷ [] in
       let wc : List Lexeme = written states c in
       let wa : List Lexeme = written_block states a in
       let wb : List Lexeme = written_block states b in
       let wn : List Lexeme = written_block states n.0 in
-      let p4 : t4 ≡ wb ++ (word.Close ∷ (wn ++ close)) = e5 ∙ ap (λ l. l ++ t5) eb ∙ append_assoc wb close t5 ∙ ap (λ l. wb ++ (word.Close ∷ l)) n.1 in
+      let p4 : t4 ≡ wb ++ (word.Close ∷ (wn ++ close)) = e5 ∙ ap (λ l. l ++ t5) eb ∙ append_assoc wb close t5
+      ∙ ap (λ l. wb ++ (word.Close ∷ l)) n.1 in
       let p3 : t3 ≡ word.Open ∷ t4 = e4 ∙ ap (λ l. l ++ t4) ep in
       let p2 : t2 ≡ wa ++ (word.Close ∷ t3) = e3 ∙ ap (λ l. l ++ t3) ea ∙ append_assoc wa close t3 in
       let p1 : t1 ≡ word.Open ∷ t2 = e2 ∙ ap (λ l. l ++ t2) eo in
       let words : front ≡ wc ++ (word.Open ∷ (wa ++ (word.Close ∷ word.Open ∷ (wb ++ (word.Close ∷ (wn ++ close)))))) =
-      e1 ∙ ap (λ l. l ++ t1) ec ∙ ap (λ l. wc ++ l) (p1 ∙ ap (λ l. word.Open ∷ l) (p2 ∙ ap (λ l. wa ++ (word.Close ∷ l)) (p3 ∙ ap (λ l. word.Open ∷ l) p4)))
+      e1 ∙ ap (λ l. l ++ t1) ec ∙ ap (λ l. wc ++ l) (p1 ∙ ap (λ l. word.Open ∷ l)
+      (p2 ∙ ap (λ l. wa ++ (word.Close ∷ l)) (p3 ∙ ap (λ l. word.Open ∷ l) p4)))
       in
       let room : open_braces (blocks.Fork c a b n.0) ≤ suc r = (let on : open_braces n.0 ≤ suc r = n.3 in omega arith) in
       (blocks.Fork c a b n.0, ap (λ l. word.If ∷ l) (words ∙ sym (choice_tail wc wa wb wn close)), (vc, kc, va, vb, n.2), room)
 
-  if_back : (room : ℕ) (wants : List Want) (front : List Lexeme) → after_if room ≡ Some wants → AllRead (reverse wants) front → ReadsBlock room (word.If ∷ front)
+  if_back : (room : ℕ) (wants : List Want) (front : List Lexeme) → after_if room ≡ Some wants → AllRead (reverse wants) front
+      → ReadsBlock room (word.If ∷ front)
   if_back zero wants front h p = cc
   if_back (suc r) wants front h p =
       let same : wants ≡ Block (suc r) ∷ Block r ∷ Open ∷ Block r ∷ Open ∷ Condition ∷ [] = cc in
       choice_back r front (wanted_back (Block (suc r) ∷ Block r ∷ Open ∷ Block r ∷ Open ∷ Condition ∷ []) wants front same p)
 
-  block_back : (room : ℕ) (w : Lexeme) (wants : List Want) (front : List Lexeme) → after_block room w ≡ Some wants → AllRead (reverse wants) front → ReadsBlock room (w ∷ front)
+  block_back : (room : ℕ) (w : Lexeme) (wants : List Want) (front : List Lexeme) → after_block room w ≡ Some wants
+      → AllRead (reverse wants) front → ReadsBlock room (w ∷ front)
   block_back room word.Close wants front h p =
       let same : wants ≡ [] = cc in
       (blocks.End, ap (λ l. word.Close ∷ l) (nothing_read wants front same p), tt, omega arith)
@@ -409,12 +465,15 @@ module _ (states args : ℕ) where
   block_back room word.Other wants front h p = cc
 
   -- a number for which a test holds
-  number_goes : (test : ℕ → Bool) (w : Lexeme) (n : ℕ) (front : List Lexeme) (wants : List Want) → after_number test w ≡ Some wants → w ∷ front ≡ word.Number n ∷ [] → AllRead (reverse wants) front
+  number_goes : (test : ℕ → Bool) (w : Lexeme) (n : ℕ) (front : List Lexeme) (wants : List Want) → after_number test w ≡ Some wants → w
+      ∷ front ≡ word.Number n ∷ [] → AllRead (reverse wants) front
   number_goes test w n front wants h e =
-      let here : after_number test (word.Number n) ≡ Some wants = sym (ap (after_number test) (head_same w (word.Number n) front [] e)) ∙ h in
+      let here : after_number test (word.Number n) ≡ Some wants = sym (ap (after_number test) (head_same w (word.Number n) front [] e))
+      ∙ h in
       wanted_go [] wants front (where_some (nat_lt n (2 ^ 64) && test n) [] wants here).1 (tail_same w (word.Number n) front [] e)
 
-  number_sticks : (test : ℕ → Bool) (w : Lexeme) (n : ℕ) (front : List Lexeme) → after_number test w ≡ None → w ∷ front ≡ word.Number n ∷ [] → n < 2 ^ 64 → test n ≡ true → ⊥
+  number_sticks : (test : ℕ → Bool) (w : Lexeme) (n : ℕ) (front : List Lexeme) → after_number test w ≡ None → w ∷ front ≡ word.Number n ∷ []
+      → n < 2 ^ 64 → test n ≡ true → ⊥
   number_sticks test w n front h e small holds =
       let here : after_number test (word.Number n) ≡ None = sym (ap (after_number test) (head_same w (word.Number n) front [] e)) ∙ h in
       let out : (nat_lt n (2 ^ 64) && test n) ≡ false = where_none (nat_lt n (2 ^ 64) && test n) [] here in
@@ -426,7 +485,8 @@ module _ (states args : ℕ) where
       both true false p q r = cc
       both false b p q r = cc
 
-  number_from : (test : ℕ → Bool) (w : Lexeme) (wants : List Want) (front : List Lexeme) → after_number test w ≡ Some wants → AllRead (reverse wants) front
+  number_from : (test : ℕ → Bool) (w : Lexeme) (wants : List Want) (front : List Lexeme) → after_number test w ≡ Some wants
+      → AllRead (reverse wants) front
       → (n : ℕ) × (w ∷ front ≡ word.Number n ∷ []) × (n < 2 ^ 64) × (test n ≡ true)
   number_from test (word.Number n) wants front h p =
       let t = where_some (nat_lt n (2 ^ 64) && test n) [] wants h in
@@ -443,9 +503,11 @@ module _ (states args : ℕ) where
   number_from test (word.Argument n) wants front h p = cc
   number_from test word.Other wants front h p = cc
 
-  target_goes : (w : Lexeme) (v : ℕ) (front : List Lexeme) (wants : List Want) → after_target states w ≡ Some wants → w ∷ front ≡ word.State v ∷ [] → AllRead (reverse wants) front
+  target_goes : (w : Lexeme) (v : ℕ) (front : List Lexeme) (wants : List Want) → after_target states w ≡ Some wants → w
+      ∷ front ≡ word.State v ∷ [] → AllRead (reverse wants) front
   target_goes w v front wants h e =
-      let here : after_target states (word.State v) ≡ Some wants = sym (ap (after_target states) (head_same w (word.State v) front [] e)) ∙ h in
+      let here : after_target states (word.State v) ≡ Some wants = sym (ap (after_target states) (head_same w (word.State v) front [] e))
+      ∙ h in
       wanted_go [] wants front (where_some (nat_lt v states) [] wants here).1 (tail_same w (word.State v) front [] e)
 
   target_sticks : (w : Lexeme) (v : ℕ) (front : List Lexeme) → after_target states w ≡ None → w ∷ front ≡ word.State v ∷ [] → v < states → ⊥
@@ -454,7 +516,8 @@ module _ (states args : ℕ) where
       let out : nat_lt v states ≡ false = where_none (nat_lt v states) [] here in
       grind (arith, nat_tests)
 
-  target_back : (w : Lexeme) (wants : List Want) (front : List Lexeme) → after_target states w ≡ Some wants → AllRead (reverse wants) front → Reads Target (w ∷ front)
+  target_back : (w : Lexeme) (wants : List Want) (front : List Lexeme) → after_target states w ≡ Some wants → AllRead (reverse wants) front
+      → Reads Target (w ∷ front)
   target_back (word.State v) wants front h p =
       let t = where_some (nat_lt v states) [] wants h in
       let small : v < states = (let e : nat_lt v states ≡ true = t.0 in grind (arith, nat_tests)) in
@@ -469,7 +532,8 @@ module _ (states args : ℕ) where
   target_back (word.Argument n) wants front h p = cc
   target_back word.Other wants front h p = cc
 
-  open_back : (w : Lexeme) (wants : List Want) (front : List Lexeme) → after_open w ≡ Some wants → AllRead (reverse wants) front → Reads Open (w ∷ front)
+  open_back : (w : Lexeme) (wants : List Want) (front : List Lexeme) → after_open w ≡ Some wants → AllRead (reverse wants) front
+      → Reads Open (w ∷ front)
   open_back word.Open wants front h p = let same : wants ≡ [] = cc in ap (λ l. word.Open ∷ l) (nothing_read wants front same p)
   open_back word.Set wants front h p = cc
   open_back word.If wants front h p = cc
@@ -487,7 +551,8 @@ module _ (states args : ℕ) where
       let both : w ∷ front ≡ first_of e ∷ rest_of e = eq ∙ first_rest e in
       (head_same w (first_of e) front (rest_of e) both, tail_same w (first_of e) front (rest_of e) both)
 
-  goes : (want : Want) (w : Lexeme) (front : List Lexeme) (wants : List Want) → past states slots want w ≡ Some wants → Reads want (w ∷ front) → AllRead (reverse wants) front
+  goes : (want : Want) (w : Lexeme) (front : List Lexeme) (wants : List Want) → past states slots want w ≡ Some wants
+      → Reads want (w ∷ front) → AllRead (reverse wants) front
   goes Word w front wants h (e, eq, v, k) =
       let t = term_first e w front eq in
       subst (AllRead (reverse wants)) (sym t.1) (word_goes e wants (sym (ap (past_word states slots) t.0) ∙ h) v k)
@@ -503,7 +568,8 @@ module _ (states args : ℕ) where
       wanted_go [] wants front same (tail_same w word.Open front [] eq)
   goes (Block room) w front wants h (b, eq, v, o) = block_goes room b w front wants h eq v o
 
-  back : (want : Want) (w : Lexeme) (front : List Lexeme) (wants : List Want) → past states slots want w ≡ Some wants → AllRead (reverse wants) front → Reads want (w ∷ front)
+  back : (want : Want) (w : Lexeme) (front : List Lexeme) (wants : List Want) → past states slots want w ≡ Some wants
+      → AllRead (reverse wants) front → Reads want (w ∷ front)
   back Word w front wants h p = word_back w wants front h p
   back Condition w front wants h p = condition_back w wants front h p
   back Divisor w front wants h p =
@@ -557,15 +623,18 @@ module _ (states args : ℕ) where
       let same : w ≡ x = head_same w x ls (f ++ b) e in
       (f, b, tail_same w x ls (f ++ b) e, subst (λ y. Reads want (y ∷ f)) (sym same) r, more)
 
-  pub step_goes : (old new : List Want) (w : Lexeme) (ls : List Lexeme) → Steps states slots w old new → StackReads old (w ∷ ls) → StackReads new ls
+  pub step_goes : (old new : List Want) (w : Lexeme) (ls : List Lexeme) → Steps states slots w old new → StackReads old (w ∷ ls)
+      → StackReads new ls
   step_goes old new w ls s p =
       let t = top_reads s.front s.want w ls (subst (λ st. AllRead st (w ∷ ls)) (top_is old s.front s.want s.old_is) p) in
       let inner : AllRead (reverse s.wants) t.0 = goes s.want w t.0 s.wants s.after_is t.3 in
-      let joined : AllRead (reverse s.wants ++ reverse s.front) (t.0 ++ t.1) = all_join (reverse s.wants) (reverse s.front) t.0 t.1 inner t.4 in
+      let joined : AllRead (reverse s.wants ++ reverse s.front) (t.0 ++ t.1) =
+      all_join (reverse s.wants) (reverse s.front) t.0 t.1 inner t.4 in
       let stack : reverse new ≡ reverse s.wants ++ reverse s.front = ap reverse s.new_is ∙ reverse-append s.front s.wants in
       subst (λ st. AllRead st ls) (sym stack) (subst (AllRead (reverse s.wants ++ reverse s.front)) (sym t.2) joined)
 
-  pub step_back : (old new : List Want) (w : Lexeme) (ls : List Lexeme) → Steps states slots w old new → StackReads new ls → StackReads old (w ∷ ls)
+  pub step_back : (old new : List Want) (w : Lexeme) (ls : List Lexeme) → Steps states slots w old new → StackReads new ls
+      → StackReads old (w ∷ ls)
   step_back old new w ls s p =
       let stack : reverse new ≡ reverse s.wants ++ reverse s.front = ap reverse s.new_is ∙ reverse-append s.front s.wants in
       let t = all_split (reverse s.wants) (reverse s.front) ls (subst (λ st. AllRead st ls) stack p) in
@@ -615,10 +684,13 @@ module _ (states args : ℕ) where
       cc
 
   -- a body is a block without its closing brace
-  pub body_read : (words : List Lexeme) (body : blocks.Block) → IsBody states args words body → StackReads (Block 64 ∷ []) (words ++ word.Close ∷ [])
-  body_read words body b = one_read (Block 64) (words ++ word.Close ∷ []) (body, ap (λ l. l ++ word.Close ∷ []) b.statements, b.typed, b.nesting)
+  pub body_read : (words : List Lexeme) (body : blocks.Block) → IsBody states args words body
+      → StackReads (Block 64 ∷ []) (words ++ word.Close ∷ [])
+  body_read words body b = one_read (Block 64) (words ++ word.Close ∷ [])
+      (body, ap (λ l. l ++ word.Close ∷ []) b.statements, b.typed, b.nesting)
 
-  pub read_body : (words : List Lexeme) → StackReads (Block 64 ∷ []) (words ++ word.Close ∷ []) → (body : blocks.Block) × IsBody states args words body
+  pub read_body : (words : List Lexeme) → StackReads (Block 64 ∷ []) (words ++ word.Close ∷ []) → (body : blocks.Block)
+      × IsBody states args words body
   read_body words p =
       let q = only_one (Block 64) (words ++ word.Close ∷ []) p in
       (q.0, record { statements = snoc_same words (written_block states q.0) word.Close q.1; typed = q.2; nesting = q.3 })

@@ -11,7 +11,8 @@ use Rattle.plan_file.specs.declared.made.Group.{Group}
 use Rattle.plan_file.specs.declared.made.Made.{Made}
 use Rattle.plan_file.specs.Bodies.{IsBody}
 use Rattle.plan_file.specs.Groups.{IsInGroup, IsKeyLine, IsArgLine, IsStateLine, IsGroupBody, group_with}
-use Rattle.plan_file.specs.Lines.{nothing, IsLine, IsLineOf, IsFirst, IsReads, IsOp, IsGroup, IsPart, IsFold, IsPrint, IsWithin, IsGroupWithin}
+use Rattle.plan_file.specs.Lines.{nothing, IsLine, IsLineOf, IsFirst, IsReads, IsOp, IsGroup, IsPart, IsFold, IsPrint, IsWithin}
+use Rattle.plan_file.specs.Lines.{IsGroupWithin}
 use Rattle.plan_file.specs.LineWords.{line_word}
 
 pub nothing_within : IsWithin nothing
@@ -20,25 +21,45 @@ nothing_within = record { ops = omega arith; groups = omega arith; room = tt; cu
 abbrev HasBody : Group → Type 0
 HasBody g = IfSome g.body (λ tokens. (body : Block) × IsBody (length g.initial) (length g.args) tokens body)
 
-key_within : (fields : List Field) (ops : List PlanOp) (g : Group) (line : List ℕ) (n : Group) → IsKeyLine fields ops g line n → IsGroupWithin g → IsGroupWithin n
+key_within : (fields : List Field) (ops : List PlanOp) (g : Group) (line : List ℕ) (n : Group) → IsKeyLine fields ops g line n
+    → IsGroupWithin g → IsGroupWithin n
 key_within fields ops g line n p w = subst IsGroupWithin (sym p.made) (record { states = w.states; args = w.args; body = w.body })
 
-arg_within : (fields : List Field) (ops : List PlanOp) (g : Group) (line : List ℕ) (n : Group) → IsArgLine fields ops g line n → IsGroupWithin g → IsGroupWithin n
+arg_within : (fields : List Field) (ops : List PlanOp) (g : Group) (line : List ℕ) (n : Group) → IsArgLine fields ops g line n
+    → IsGroupWithin g → IsGroupWithin n
 arg_within fields ops g line n p w =
     let room : length g.args < 16 = p.room in
-    let B = λ (o : Option (List Lexeme)). IfSome o (λ tokens. (body : Block) × IsBody (length g.initial) (length (g.args ++ p.value ∷ [])) tokens body) in
-    subst IsGroupWithin (sym p.made) (record { states = w.states; args = omega (arith, length-append g.args (p.value ∷ []), room); body = subst B (sym p.body) tt })
+    let B = λ (o : Option (List Lexeme)). IfSome o (λ tokens. (body : Block)
+    × IsBody (length g.initial) (length (g.args ++ p.value ∷ [])) tokens body) in
+    subst IsGroupWithin (sym p.made) (record {
+      states = w.states;
+      args = omega (arith, length-append g.args (p.value ∷ []), room);
+      body =
+          subst B (sym p.body) tt;
+    })
 
 state_within : (g : Group) (line : List ℕ) (n : Group) → IsStateLine g line n → IsGroupWithin g → IsGroupWithin n
 state_within g line n p w =
     let room : length g.initial < 8 = p.room in
-    let B = λ (o : Option (List Lexeme)). IfSome o (λ tokens. (body : Block) × IsBody (length (g.initial ++ p.value ∷ [])) (length g.args) tokens body) in
-    subst IsGroupWithin (sym p.made) (record { states = omega (arith, length-append g.initial (p.value ∷ []), room); args = w.args; body = subst B (sym p.body) tt })
+    let B = λ (o : Option (List Lexeme)). IfSome o (λ tokens. (body : Block)
+    × IsBody (length (g.initial ++ p.value ∷ [])) (length g.args) tokens body) in
+    subst IsGroupWithin (sym p.made) (record {
+      states = omega (arith, length-append g.initial (p.value ∷ []), room);
+      args = w.args;
+      body =
+          subst B (sym p.body) tt;
+    })
 
 body_within : (g : Group) (line : List ℕ) (n : Group) → IsGroupBody g line n → IsGroupWithin g → IsGroupWithin n
-body_within g line n p w = subst IsGroupWithin (sym p.made) (record { states = w.states; args = w.args; body = (p.valid.body, p.valid.is_body) })
+body_within g line n p w = subst IsGroupWithin (sym p.made) (record {
+  states = w.states;
+  args = w.args;
+  body =
+      (p.valid.body, p.valid.is_body);
+})
 
-group_within : (word : LineWord) (fields : List Field) (ops : List PlanOp) (g : Group) (line : List ℕ) (n : Group) → IsInGroup word fields ops g line n → IsGroupWithin g → IsGroupWithin n
+group_within : (word : LineWord) (fields : List Field) (ops : List PlanOp) (g : Group) (line : List ℕ) (n : Group)
+    → IsInGroup word fields ops g line n → IsGroupWithin g → IsGroupWithin n
 group_within words.Key fields ops g line n p w = key_within fields ops g line n p w
 group_within words.Arg fields ops g line n p w = arg_within fields ops g line n p w
 group_within words.State fields ops g line n p w = state_within g line n p w
@@ -60,23 +81,47 @@ reads_within b line a p w = subst IsWithin (sym p.made) (record { ops = w.ops; g
 op_within : (b : Made) (line : List ℕ) (a : Made) → IsOp b line a → IsWithin b → IsWithin a
 op_within b line a p w =
     let room : length b.ops < 32768 = p.valid.allowed.staged.room in
-    subst IsWithin (sym p.made) (record { ops = omega (arith, length-append b.ops (p.op ∷ []), room); groups = w.groups; room = w.room; current = w.current })
+    subst IsWithin (sym p.made) (record {
+      ops = omega (arith, length-append b.ops (p.op ∷ []), room);
+      groups = w.groups;
+      room =
+          w.room;
+      current = w.current;
+    })
 
 begun_within : (b : Made) (line : List ℕ) (a : Made) → IsGroup b line a → IsWithin b → IsWithin a
 begun_within b line a p w =
     let new : IsGroupWithin (group_with p.group.name p.group.present) = record { states = omega arith; args = omega arith; body = tt } in
-    subst IsWithin (sym p.made) (record { ops = w.ops; groups = w.groups; room = p.valid.room; current = subst IsGroupWithin (sym p.valid.made) new })
+    subst IsWithin (sym p.made) (record {
+      ops = w.ops;
+      groups = w.groups;
+      room = p.valid.room;
+      current =
+          subst IsGroupWithin (sym p.valid.made) new;
+    })
 
 part_within : (word : LineWord) (b : Made) (line : List ℕ) (a : Made) → IsPart word b line a → IsWithin b → IsWithin a
 part_within word b line a p w =
     let room = subst (λ o. IfSome o (λ group. length b.groups < 8)) p.current w.room in
     let old = subst (λ o. IfSome o IsGroupWithin) p.current w.current in
-    subst IsWithin (sym p.made) (record { ops = w.ops; groups = w.groups; room = room; current = group_within word p.fields b.ops p.group line p.next p.valid old })
+    subst IsWithin (sym p.made) (record {
+      ops = w.ops;
+      groups = w.groups;
+      room = room;
+      current =
+          group_within word p.fields b.ops p.group line p.next p.valid old;
+    })
 
 fold_within : (b : Made) (line : List ℕ) (a : Made) → IsFold b line a → IsWithin b → IsWithin a
 fold_within b line a p w =
     let room : length b.groups < 8 = subst (λ o. IfSome o (λ group. length b.groups < 8)) p.current w.room in
-    subst IsWithin (sym p.made) (record { ops = w.ops; groups = omega (arith, length-append b.groups (p.folded ∷ []), room); room = tt; current = tt })
+    subst IsWithin (sym p.made) (record {
+      ops = w.ops;
+      groups = omega (arith, length-append b.groups (p.folded ∷ []), room);
+      room =
+          tt;
+      current = tt;
+    })
 
 print_within : (b : Made) (line : List ℕ) (a : Made) → IsPrint b line a → IsWithin b → IsWithin a
 print_within b line a p w = subst IsWithin (sym p.made) (record { ops = w.ops; groups = w.groups; room = w.room; current = w.current })

@@ -1,5 +1,6 @@
 -- The statements that tokens write are read from them.
-use Rattle.std.proofs.Common.{◌≡◌, ℕ, zero, suc, ◌+◌, ◌-◌, ◌≤◌, Bool, true, false, List, [], ◌∷◌, ◌++◌, length, drop, refl, sym, ap, ◌∙◌, arith, append_assoc, append-nil, length-append}
+use Rattle.std.proofs.Common.{◌≡◌, ℕ, zero, suc, ◌+◌, ◌-◌, ◌≤◌, Bool, true, false, List, [], ◌∷◌, ◌++◌, length, drop, refl, sym, ap, ◌∙◌}
+use Rattle.std.proofs.Common.{arith, append_assoc, append-nil, length-append}
 use Rattle.std.specs.Prelude.{nat_lt, if◌then◌else◌}
 use Rattle.std.proofs.lemmas.Bool.Decides.{nat_tests}
 use Rattle.query_lang.specs.Terms.{Term, Literal, Read, Negation, Operation, term_of}
@@ -19,13 +20,15 @@ front found left = record { found = found; left = left }
 slot_read : (n states s : ℕ) (rest : List Lexeme) → read_term (suc n) states (slot_lexeme states s ∷ rest) ≡ front (Read s) rest
 slot_read n states s rest = by (nat_lt s states) refl
   where
-    by : (b : Bool) → nat_lt s states ≡ b → read_term (suc n) states ((if nat_lt s states then word.State s else word.Argument (s - states)) ∷ rest) ≡ front (Read s) rest
+    by : (b : Bool) → nat_lt s states ≡ b → read_term (suc n) states ((if nat_lt s states then word.State s else word.Argument (s - states))
+        ∷ rest) ≡ front (Read s) rest
     by true e = rw e refl
     by false e =
         let slot : states + (s - states) ≡ s = grind (arith, nat_tests) in
         rw e (ap (λ t. front (Read t) rest) slot)
 
-term_read : (n states : ℕ) (e : Term) (rest : List Lexeme) → length (written states e) ≤ n → read_term n states (written states e ++ rest) ≡ front e rest
+term_read : (n states : ℕ) (e : Term) (rest : List Lexeme) → length (written states e) ≤ n
+    → read_term n states (written states e ++ rest) ≡ front e rest
 term_read zero states (Literal v) rest le = absurd (omega (arith, le))
 term_read zero states (Read s) rest le = absurd (omega (arith, le))
 term_read zero states (Negation e) rest le = absurd (omega (arith, le))
@@ -69,7 +72,8 @@ module _ (n states : ℕ) where
   abbrev after_condition : Front Term → Front Block
   after_condition c = after_then c.found (read_block n states (drop 1 c.left))
 
-block_read : (n states : ℕ) (b : Block) (rest : List Lexeme) → Closes rest → length (written_block states b) ≤ n → read_block n states (written_block states b ++ rest) ≡ front b rest
+block_read : (n states : ℕ) (b : Block) (rest : List Lexeme) → Closes rest → length (written_block states b) ≤ n
+    → read_block n states (written_block states b ++ rest) ≡ front b rest
 block_read n states End rest c le = closed n states rest c
 block_read zero states (Set v e next) rest c le = absurd (omega (arith, le))
 block_read zero states (Fork t a b next) rest c le = absurd (omega (arith, le))
@@ -117,7 +121,8 @@ expr_same (Literal n) = term_number n
 expr_same (Read s) = term_slot s
 expr_same (Negation e) = term_not (expr_for e) ∙ ap Negation (expr_same e)
 expr_same (Operation op a b) =
-    term_binary op (expr_for a) (expr_for b) ∙ ap (λ x. Operation op x (term_of (expr_for b))) (expr_same a) ∙ ap (Operation op a) (expr_same b)
+    term_binary op (expr_for a) (expr_for b) ∙ ap (λ x. Operation op x (term_of (expr_for b))) (expr_same a)
+    ∙ ap (Operation op a) (expr_same b)
 
 pub stmts_same : (b : Block) → block_of (stmts_for b) ≡ b
 stmts_same End = refl

@@ -74,5 +74,7 @@ whole_within one whole =
     record {
       states = s.most_states;
       args = s.most_args;
-      body = subst (λ (o : Option (List Lexeme)). IfSome o (λ words. (b : Block) × IsBody (length one.group.initial) (length one.group.args) words b)) (sym s.is_fold.has_body) (fold_block s.fold, s.is_fold.body);
+      body = subst (λ (o : Option (List Lexeme)). IfSome o (λ words. (b : Block)
+          × IsBody (length one.group.initial) (length one.group.args) words b)) (sym s.is_fold.has_body)
+          (fold_block s.fold, s.is_fold.body);
     }

@@ -60,7 +60,8 @@ first_sound = record {
   prints = All-nil (λ number. number < length nothing.groups);
 }
 
-key_begun : (fs : List Field) (ops : List PlanOp) (g : Group) (line : List ℕ) (n : Group) → IsKeyLine fs ops g line n → IsBegun (14 + length ops) g → IsBegun (14 + length ops) n
+key_begun : (fs : List Field) (ops : List PlanOp) (g : Group) (line : List ℕ) (n : Group) → IsKeyLine fs ops g line n
+    → IsBegun (14 + length ops) g → IsBegun (14 + length ops) n
 key_begun fs ops g line n p b =
     let room : length g.keys < 8 = p.room in
     let names = b.key_names in
@@ -78,7 +79,8 @@ key_begun fs ops g line n p b =
       after_keys = subst B (sym p.body) tt;
     })
 
-arg_begun : (fs : List Field) (ops : List PlanOp) (g : Group) (line : List ℕ) (n : Group) → IsArgLine fs ops g line n → IsBegun (14 + length ops) g → IsBegun (14 + length ops) n
+arg_begun : (fs : List Field) (ops : List PlanOp) (g : Group) (line : List ℕ) (n : Group) → IsArgLine fs ops g line n
+    → IsBegun (14 + length ops) g → IsBegun (14 + length ops) n
 arg_begun fs ops g line n p b =
     let room : length g.args < 16 = p.room in
     let registers = 14 + length ops in
@@ -124,7 +126,8 @@ body_begun registers g line n p b =
       after_keys = p.keys;
     })
 
-group_begun : (word : LineWord) (fs : List Field) (ops : List PlanOp) (g : Group) (line : List ℕ) (n : Group) → IsInGroup word fs ops g line n → IsBegun (14 + length ops) g → IsBegun (14 + length ops) n
+group_begun : (word : LineWord) (fs : List Field) (ops : List PlanOp) (g : Group) (line : List ℕ) (n : Group)
+    → IsInGroup word fs ops g line n → IsBegun (14 + length ops) g → IsBegun (14 + length ops) n
 group_begun words.Key fs ops g line n p b = key_begun fs ops g line n p b
 group_begun words.Arg fs ops g line n p b = arg_begun fs ops g line n p b
 group_begun words.State fs ops g line n p b = state_begun (14 + length ops) g line n p b
@@ -137,7 +140,8 @@ group_begun words.Fold fs ops g line n p b = absurd p
 group_begun words.Print fs ops g line n p b = absurd p
 group_begun words.Other fs ops g line n p b = absurd p
 
-folded_sound : (registers : ℕ) (g : Group) (line : List ℕ) (after : Folded) → IsFoldLine g line after → IsBegun registers g → IsSoundFolded registers after
+folded_sound : (registers : ℕ) (g : Group) (line : List ℕ) (after : Folded) → IsFoldLine g line after → IsBegun registers g
+    → IsSoundFolded registers after
 folded_sound registers g line after p b =
     let keys : 0 < length g.keys = subst (λ o. IfSome o (λ words. 0 < length g.keys)) p.is_fold.has_body b.after_keys in
     let group = sym p.made in
@@ -159,10 +163,24 @@ folded_sound registers g line after p b =
     }
 
 first_more : (b : Made) (line : List ℕ) (a : Made) → IsFirst b line a → IsSoundSoFar b → IsSoundSoFar a
-first_more b line a p s = subst IsSoundSoFar (sym p.made) (record { ops = s.ops; most_groups = s.most_groups; groups = s.groups; current = s.current; prints = s.prints })
+first_more b line a p s = subst IsSoundSoFar (sym p.made) (record {
+  ops = s.ops;
+  most_groups = s.most_groups;
+  groups = s.groups;
+  current =
+      s.current;
+  prints = s.prints;
+})
 
 reads_more : (b : Made) (line : List ℕ) (a : Made) → IsReads b line a → IsSoundSoFar b → IsSoundSoFar a
-reads_more b line a p s = subst IsSoundSoFar (sym p.made) (record { ops = s.ops; most_groups = s.most_groups; groups = s.groups; current = s.current; prints = s.prints })
+reads_more b line a p s = subst IsSoundSoFar (sym p.made) (record {
+  ops = s.ops;
+  most_groups = s.most_groups;
+  groups = s.groups;
+  current =
+      s.current;
+  prints = s.prints;
+})
 
 op_more : (b : Made) (line : List ℕ) (a : Made) → IsOp b line a → IsSoundSoFar b → IsSoundSoFar a
 op_more b line a p s =
@@ -221,7 +239,8 @@ fold_more b line a p s =
       most_groups = omega (arith, room, long);
       groups = All-push (IsSoundFolded registers) b.groups p.folded s.groups (folded_sound registers p.group line p.folded p.valid old.0);
       current = tt;
-      prints = All-weaker (λ number. number < length b.groups) (λ number. number < length (b.groups ++ p.folded ∷ [])) (λ number lt. omega (arith, lt, long)) b.prints s.prints;
+      prints = All-weaker (λ number. number < length b.groups) (λ number. number < length (b.groups ++ p.folded ∷ []))
+          (λ number lt. omega (arith, lt, long)) b.prints s.prints;
     })
 
 print_more : (b : Made) (line : List ℕ) (a : Made) → IsPrint b line a → IsSoundSoFar b → IsSoundSoFar a

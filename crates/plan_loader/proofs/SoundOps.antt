@@ -1,5 +1,6 @@
 -- The operations that the lines of a valid text make are those of a plan.
-use Rattle.std.proofs.Common.{◌≡◌, ℕ, suc, ◌+◌, ◌-◌, ◌<◌, ◌≤◌, max, List, [], ◌∷◌, ◌++◌, length, map, Option, Some, None, refl, sym, ap, ap₂, ◌∙◌, subst, inl, inr, arith}
+use Rattle.std.proofs.Common.{◌≡◌, ℕ, suc, ◌+◌, ◌-◌, ◌<◌, ◌≤◌, max, List, [], ◌∷◌, ◌++◌, length, map, Option, Some, None, refl, sym, ap}
+use Rattle.std.proofs.Common.{ap₂, ◌∙◌, subst, inl, inr, arith}
 use Rattle.std.specs.Prelude.{slice_get, nat_lt, if◌then◌else◌, option_map, unwrap_or, Contains, All}
 use Rattle.std.proofs.lemmas.Bool.{cases_lt}
 use Rattle.std.proofs.lemmas.List.{length_push}
@@ -73,7 +74,8 @@ most_last ops i one sound found =
       | inr past ↦ absurd (let p = past.0 in omega arith)
     ]
 
-module _ (ops : List PlanOp) (op : PlanOp) (sound : AreSoundOps ops) (left : IsWithin (14 + length ops) op.left) (right : IsWithin (14 + length ops) op.right) where
+module _ (ops : List PlanOp) (op : PlanOp) (sound : AreSoundOps ops) (left : IsWithin (14 + length ops) op.left)
+    (right : IsWithin (14 + length ops) op.right) where
   abbrev more : List PlanOp
   more = ops ++ op ∷ []
 
@@ -84,8 +86,10 @@ module _ (ops : List PlanOp) (op : PlanOp) (sound : AreSoundOps ops) (left : IsW
   old_op i one found =
       let s = sound.each i one found in
       let lt : i < length ops = slice_get_within ops i one found in
-      let l : operand_stage more one.left ≡ operand_stage ops one.left = kept one.left (within_more (14 + i) (14 + length ops) one.left (omega arith) s.left) in
-      let r : operand_stage more one.right ≡ operand_stage ops one.right = kept one.right (within_more (14 + i) (14 + length ops) one.right (omega arith) s.right) in
+      let l : operand_stage more one.left ≡ operand_stage ops one.left =
+      kept one.left (within_more (14 + i) (14 + length ops) one.left (omega arith) s.left) in
+      let r : operand_stage more one.right ≡ operand_stage ops one.right =
+      kept one.right (within_more (14 + i) (14 + length ops) one.right (omega arith) s.right) in
       record { left = s.left; right = s.right; stage = s.stage ∙ sym (ap₂ (λ a b. suc (max a b)) l r); most = s.most }
 
   new_op : op.stage ≡ 1 + max (stage_of ops op.left) (stage_of ops op.right) → op.stage ≤ 64 → IsSoundOp more (length ops) op
@@ -112,7 +116,8 @@ ops_more fs ops op sound allowed =
           | inr last ↦ absurd (let n = slice_get_within ops j other old in let e = last.0 in omega arith)
         ]
         | inr last ↦ elim (push_cases ops op i one found) [
-          | inl first ↦ (let le = most_last ops i one sound first in let order = staged.order in omega (arith, le, order, ap (λ (x : PlanOp). x.stage) last.1))
+          | inl first ↦ (let le = most_last ops i one sound first in let order =
+              staged.order in omega (arith, le, order, ap (λ (x : PlanOp). x.stage) last.1))
           | inr both ↦ absurd (let e = last.0 in let f = both.0 in omega arith)
         ]
       ];

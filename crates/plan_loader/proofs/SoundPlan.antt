@@ -19,7 +19,8 @@ use Rattle.plan_loader.specs.Parts.{AreGroupsFrom, IsGroupFrom, IsPlanFrom, IsSo
 use Rattle.plan_loader.proofs.Folds.{algebras, classes, depths, fold_in_is}
 
 -- the first of the items of two lists at one place
-pub zip_at : {A B : Type 0} (R : A → B → Type 0) (xs : List A) (ys : List B) (i : ℕ) (y : B) → AllZip R xs ys → slice_get ys i ≡ Some y → (x : A) × (slice_get xs i ≡ Some x) × R x y
+pub zip_at : {A B : Type 0} (R : A → B → Type 0) (xs : List A) (ys : List B) (i : ℕ) (y : B) → AllZip R xs ys → slice_get ys i ≡ Some y
+    → (x : A) × (slice_get xs i ≡ Some x) × R x y
 zip_at R [] [] i y z e = absurd (none_some e)
   where
     none_some : {X : Type 0} {x : X} → None ≡ Some x → ⊥
@@ -35,7 +36,8 @@ zip_length R [] (b ∷ ys) z = absurd z
 zip_length R (a ∷ xs) [] z = absurd z
 zip_length R (a ∷ xs) (b ∷ ys) z = ap suc (zip_length R xs ys z.1)
 
-pub zip_push : {A B : Type 0} (R : A → B → Type 0) (xs : List A) (ys : List B) (x : A) (y : B) → AllZip R xs ys → R x y → AllZip R (xs ++ x ∷ []) (ys ++ y ∷ [])
+pub zip_push : {A B : Type 0} (R : A → B → Type 0) (xs : List A) (ys : List B) (x : A) (y : B) → AllZip R xs ys → R x y
+    → AllZip R (xs ++ x ∷ []) (ys ++ y ∷ [])
 zip_push R [] [] x y z r = (r, z)
 zip_push R [] (b ∷ ys) x y z r = absurd z
 zip_push R (a ∷ xs) [] x y z r = absurd z
@@ -44,7 +46,8 @@ zip_push R (a ∷ xs) (b ∷ ys) x y z r = (z.0, zip_push R xs ys x y z.1 r)
 pub all_at : {A : Type 0} (P : A → Type 0) (xs : List A) (i : ℕ) (x : A) → All P xs → slice_get xs i ≡ Some x → P x
 all_at P xs i x all e = subst P (get_or_from_slice_get xs i x x e) (All-get_or P xs i x (slice_get_within xs i x e) all)
 
-sound_group : (registers : ℕ) (one : Folded) (group : GroupPlan) → IsSoundFolded registers one → IsGroupFrom one group → IsSoundGroup registers group (wiring_in one)
+sound_group : (registers : ℕ) (one : Folded) (group : GroupPlan) → IsSoundFolded registers one → IsGroupFrom one group
+    → IsSoundGroup registers group (wiring_in one)
 sound_group registers one group s from =
     let keys : length group.key_names ≡ length one.group.keys = ap length from.key_names ∙ s.key_names in
     let some = s.some_keys in
@@ -77,14 +80,18 @@ sound_plan made plan sound from =
       wired = wires ∙ count;
       each = λ i group wiring at_group at_wiring.
           let one = zip_at IsGroupFrom made.groups plan.groups i group from.groups at_group in
-          let wired : wiring_in one.0 ≡ wiring = same_Some (wiring_in one.0) wiring (ap (option_map wiring_in) (sym one.1) ∙ sym (slice_get-map wiring_in made.groups i) ∙ ap (λ w. slice_get w i) (sym from.wiring) ∙ at_wiring) in
+          let wired : wiring_in one.0 ≡ wiring = same_Some (wiring_in one.0) wiring
+          (ap (option_map wiring_in) (sym one.1) ∙ sym (slice_get-map wiring_in made.groups i)
+          ∙ ap (λ w. slice_get w i) (sym from.wiring) ∙ at_wiring) in
           let s = all_at (IsSoundFolded (14 + length made.ops)) made.groups i one.0 sound.groups one.1 in
           let g = sound_group (14 + length made.ops) one.0 group s one.2 in
-          subst (λ ops. IsSoundGroup (14 + length ops) group wiring) (sym from.ops) (subst (IsSoundGroup (14 + length made.ops) group) wired g);
+          subst (λ ops. IsSoundGroup (14 + length ops) group wiring) (sym from.ops)
+          (subst (IsSoundGroup (14 + length made.ops) group) wired g);
     }
 
 -- a groupby has the sizes of its group
-pub shape_same : (registers : ℕ) (one : Folded) (group : GroupPlan) → IsSoundFolded registers one → IsGroupFrom one group → group_shape group ≡ shape_in one
+pub shape_same : (registers : ℕ) (one : Folded) (group : GroupPlan) → IsSoundFolded registers one → IsGroupFrom one group
+    → group_shape group ≡ shape_in one
 shape_same registers one group s from =
     let is = from.is_fold.is_fold in
     let program = from.program in
@@ -92,14 +99,17 @@ shape_same registers one group s from =
     let keys = from.key_names in
     let states = from.state_names in
     let class : group.program.class ≡ one.class = program.class ∙ classes one.group from.fold s.fold is s.is_fold ∙ sym s.class in
-    let algebra : group.program.algebra ≡ algebra_of (fold_in one) = program.algebra ∙ algebras one.group from.fold (fold_in one) is (fold_in_is one from.fold is) in
-    let depth : group.program.depth ≡ one.depth = depths one.group from.fold s.fold is s.is_fold group.program.depth one.depth program.depth s.depth in
+    let algebra : group.program.algebra ≡ algebra_of (fold_in one) = program.algebra
+    ∙ algebras one.group from.fold (fold_in one) is (fold_in_is one from.fold is) in
+    let depth : group.program.depth ≡ one.depth = depths one.group from.fold s.fold is s.is_fold group.program.depth one.depth program.depth
+    s.depth in
     let args : group.program.layout.args ≡ length one.group.args = program.layout.args ∙ is.args in
     let nodes : group.program.layout.nodes ≡ one.nodes = program.layout.nodes ∙ from.is_fold.nodes in
     let statements : group.program.layout.statements ≡ one.statements = program.layout.statements ∙ from.is_fold.statements in
     cc
 
-shapes_same : (registers : ℕ) (groups : List Folded) (plans : List GroupPlan) → All (IsSoundFolded registers) groups → AreGroupsFrom groups plans → map group_shape plans ≡ map shape_in groups
+shapes_same : (registers : ℕ) (groups : List Folded) (plans : List GroupPlan) → All (IsSoundFolded registers) groups
+    → AreGroupsFrom groups plans → map group_shape plans ≡ map shape_in groups
 shapes_same registers [] [] all from = refl
 shapes_same registers [] (p ∷ plans) all from = absurd from
 shapes_same registers (g ∷ groups) [] all from = absurd from
@@ -110,8 +120,10 @@ shapes_same registers (g ∷ groups) (p ∷ plans) all from =
 pub shape_is : (made : Made) (plan : PlanParts) → IsSoundMade made → IsPlanFrom made plan → shape_of plan ≡ text_shape made
 shape_is made plan sound from =
     let groups = shapes_same (14 + length made.ops) made.groups plan.groups sound.groups from.groups in
-    let make : List PlanOp → List GroupShape → PlanShape = λ ops shapes. record { operations = length ops; stage_sizes = sizes_of (stages_of ops) (map (λ (one : PlanOp). one.stage) ops); groups = shapes } in
+    let make : List PlanOp → List GroupShape → PlanShape = λ ops shapes. record
+    { operations = length ops; stage_sizes = sizes_of (stages_of ops) (map (λ (one : PlanOp). one.stage) ops); groups = shapes } in
     ap (λ ops. make ops (map group_shape plan.groups)) from.ops ∙ ap (make made.ops) groups
 
 pub all_whole : (made : Made) → IsSoundMade made → All IsWhole made.groups
-all_whole made sound = All-weaker (IsSoundFolded (14 + length made.ops)) IsWhole (λ one s. record { registers = 14 + length made.ops; sound = s }) made.groups sound.groups
+all_whole made sound = All-weaker (IsSoundFolded (14 + length made.ops)) IsWhole
+    (λ one s. record { registers = 14 + length made.ops; sound = s }) made.groups sound.groups

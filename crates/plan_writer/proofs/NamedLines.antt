@@ -1,5 +1,6 @@
 -- Lines of names and last words that are written in sequence.
-use Rattle.std.proofs.Common.{◌≡◌, ℕ, ◌+◌, ◌<◌, ◌≤◌, List, [], ◌∷◌, ◌++◌, length, get_or, drop, map, min, sym, ap, ◌∙◌, arith, append_assoc, append-nil, refl, inl, inr}
+use Rattle.std.proofs.Common.{◌≡◌, ℕ, ◌+◌, ◌<◌, ◌≤◌, List, [], ◌∷◌, ◌++◌, length, get_or, drop, map, min, sym, ap, ◌∙◌, arith, append_assoc}
+use Rattle.std.proofs.Common.{append-nil, refl, inl, inr}
 use Rattle.std.proofs.lemmas.List.{drop_more, drop_all}
 use Rattle.std.proofs.lemmas.Bool.{cases_lt}
 use Rattle.plan_writer.specs.Words.{line}
@@ -14,12 +15,15 @@ no_lasts word [] = refl
 no_lasts word (name ∷ names) = refl
 
 -- one more line
-pub named_more : {A : Type 0} (said : A → List ℕ) (word : List ℕ) (names : List (List ℕ)) (values : List A) (i : ℕ) (name : List ℕ) (d : A) (t1 t2 : List ℕ) →
+pub named_more : {A : Type 0} (said : A → List ℕ) (word : List ℕ) (names : List (List ℕ)) (values : List A) (i : ℕ) (name : List ℕ) (d : A)
+    (t1 t2 : List ℕ) →
     i < length names → i < length values → name ≡ get_or names i [] → t2 ≡ t1 ++ line word (name ∷ said (get_or values i d) ∷ []) →
-    t2 ++ named_lines word (drop (i + 1) names) (map said (drop (i + 1) values)) ≡ t1 ++ named_lines word (drop i names) (map said (drop i values))
+    t2 ++ named_lines word (drop (i + 1) names) (map said (drop (i + 1) values)) ≡ t1
+    ++ named_lines word (drop i names) (map said (drop i values))
 named_more said word names values i name d t1 t2 a b is e =
     ap (λ t. t ++ named_lines word (drop (i + 1) names) (map said (drop (i + 1) values))) e
-    ∙ append_assoc t1 (line word (name ∷ said (get_or values i d) ∷ [])) (named_lines word (drop (i + 1) names) (map said (drop (i + 1) values)))
+    ∙ append_assoc t1 (line word (name ∷ said (get_or values i d) ∷ []))
+    (named_lines word (drop (i + 1) names) (map said (drop (i + 1) values)))
     ∙ ap (λ n. t1 ++ named_lines word (n ∷ drop (i + 1) names) (map said (get_or values i d ∷ drop (i + 1) values))) is
     ∙ ap (λ l. t1 ++ named_lines word l (map said (get_or values i d ∷ drop (i + 1) values))) (sym (drop_more names i [] a))
     ∙ ap (λ l. t1 ++ named_lines word (drop i names) (map said l)) (sym (drop_more values i d b))
@@ -32,5 +36,6 @@ named_end said word names values i t1 t2 le e = sym (append-nil t1) ∙ ap (λ l
     none : named_lines word (drop i names) (map said (drop i values)) ≡ []
     none = elim (cases_lt i (length names)) [
       | inr few ↦ ap (λ l. named_lines word l (map said (drop i values))) (drop_all i names few) ∙ no_names word (map said (drop i values))
-      | inl more ↦ (let short : length values ≤ i = omega (arith, le, more) in ap (λ l. named_lines word (drop i names) (map said l)) (drop_all i values short) ∙ no_lasts word (drop i names))
+      | inl more ↦ (let short : length values ≤ i = omega (arith, le, more) in ap (λ l. named_lines word (drop i names) (map said l))
+          (drop_all i values short) ∙ no_lasts word (drop i names))
     ]

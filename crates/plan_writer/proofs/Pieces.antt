@@ -32,7 +32,8 @@ words_followed states (Fork c a b next) q =
     regrouped i o e t x y n z = simp (append_assoc)
 
 -- one more statement is written
-pub stmts_more : (states : ℕ) (xs : List TypedStmt) (i : ℕ) (x : TypedStmt) (t1 t2 : List ℕ) → i < length xs → x ≡ get_or xs i x → t2 ≡ t1 ++ spaced (block_words states (stmt_block x)) →
+pub stmts_more : (states : ℕ) (xs : List TypedStmt) (i : ℕ) (x : TypedStmt) (t1 t2 : List ℕ) → i < length xs → x ≡ get_or xs i x → t2 ≡ t1
+    ++ spaced (block_words states (stmt_block x)) →
     t2 ++ spaced (block_words states (block_of (drop (i + 1) xs))) ≡ t1 ++ spaced (block_words states (block_of (drop i xs)))
 stmts_more states xs i x t1 t2 lt is e =
     let rest = block_of (drop (i + 1) xs) in
@@ -44,12 +45,14 @@ stmts_more states xs i x t1 t2 lt is e =
     ∙ ap (λ l. t1 ++ spaced (block_words states (block_of l))) (sym (drop_more xs i x lt))
 
 -- and all are written
-pub stmts_end : (states : ℕ) (xs : List TypedStmt) (i : ℕ) (t1 t2 : List ℕ) → length xs ≤ i → t1 ++ spaced (block_words states (block_of (drop i xs))) ≡ t2 → t1 ≡ t2
+pub stmts_end : (states : ℕ) (xs : List TypedStmt) (i : ℕ) (t1 t2 : List ℕ) → length xs ≤ i → t1
+    ++ spaced (block_words states (block_of (drop i xs))) ≡ t2 → t1 ≡ t2
 stmts_end states xs i t1 t2 le e =
     sym (append-nil t1) ∙ ap (λ l. t1 ++ spaced (block_words states (block_of l))) (sym (drop_all i xs le)) ∙ e
 
 -- the eight pieces of a choice
-pub choice_written : (states : ℕ) (s : TypedStmt) (c : TypedExpr) (a b p q : List TypedStmt) (t0 t1 t2 t3 t4 t5 t6 t7 t8 : List ℕ) → s ≡ If c a b → p ≡ a → q ≡ b →
+pub choice_written : (states : ℕ) (s : TypedStmt) (c : TypedExpr) (a b p q : List TypedStmt) (t0 t1 t2 t3 t4 t5 t6 t7 t8 : List ℕ)
+    → s ≡ If c a b → p ≡ a → q ≡ b →
     t1 ≡ t0 ++ spaced (codes "if" ∷ []) → t2 ≡ t1 ++ spaced (term_words states (term_of c)) → t3 ≡ t2 ++ spaced (codes "{" ∷ []) →
     t4 ≡ t3 ++ spaced (block_words states (block_of p)) → t5 ≡ t4 ++ spaced (codes "}" ∷ []) → t6 ≡ t5 ++ spaced (codes "{" ∷ []) →
     t7 ≡ t6 ++ spaced (block_words states (block_of q)) → t8 ≡ t7 ++ spaced (codes "}" ∷ []) →
@@ -66,14 +69,17 @@ choice_written states s c a b p q t0 t1 t2 t3 t4 t5 t6 t7 t8 is ea eb e1 e2 e3 e
     ∙ ap (λ l. t0 ++ spaced (block_words states l)) (sym (block_if c a b))
     ∙ ap (λ l. t0 ++ spaced (block_words states (stmt_block l))) (sym is)
   where
-    flat : (t i x o y e z : List ℕ) → (((((((t ++ i) ++ x) ++ o) ++ y) ++ e) ++ o) ++ z) ++ e ≡ t ++ (i ++ (x ++ (o ++ (y ++ (e ++ (o ++ (z ++ e)))))))
+    flat : (t i x o y e z : List ℕ) → (((((((t ++ i) ++ x) ++ o) ++ y) ++ e) ++ o) ++ z) ++ e ≡ t
+        ++ (i ++ (x ++ (o ++ (y ++ (e ++ (o ++ (z ++ e)))))))
     flat t i x o y e z = simp (append_assoc)
 
-    parts : (i x o y e z : List (List ℕ)) → spaced (i ++ (x ++ (o ++ (y ++ (e ++ (o ++ (z ++ e))))))) ≡ spaced i ++ (spaced x ++ (spaced o ++ (spaced y ++ (spaced e ++ (spaced o ++ (spaced z ++ spaced e))))))
+    parts : (i x o y e z : List (List ℕ)) → spaced (i ++ (x ++ (o ++ (y ++ (e ++ (o ++ (z ++ e))))))) ≡ spaced i
+        ++ (spaced x ++ (spaced o ++ (spaced y ++ (spaced e ++ (spaced o ++ (spaced z ++ spaced e))))))
     parts i x o y e z = simp (after_both)
 
     glued : (t0 i o e : List ℕ) (x y z : List (List ℕ)) →
-        (((((((t0 ++ spaced (i ∷ [])) ++ spaced x) ++ spaced (o ∷ [])) ++ spaced y) ++ spaced (e ∷ [])) ++ spaced (o ∷ [])) ++ spaced z) ++ spaced (e ∷ [])
+        (((((((t0 ++ spaced (i ∷ [])) ++ spaced x) ++ spaced (o ∷ [])) ++ spaced y) ++ spaced (e ∷ [])) ++ spaced (o ∷ [])) ++ spaced z)
+        ++ spaced (e ∷ [])
         ≡ t0 ++ spaced (i ∷ (x ++ (o ∷ (y ++ (e ∷ o ∷ (z ++ (e ∷ [])))))))
     glued t0 i o e x y z =
         flat t0 (spaced (i ∷ [])) (spaced x) (spaced (o ∷ [])) (spaced y) (spaced (e ∷ [])) (spaced z)
@@ -100,8 +106,10 @@ assignment_written states v n s e t0 t1 t2 t3 is same e1 e2 e3 =
         ∙ ap (λ l. t0 ++ l) (sym (after_both (i ∷ []) (o ∷ x)))
 
 -- one more field's name is written, where it is in the set
-pub fields_more : (reads : FieldSet) (fields : List Field) (i : ℕ) (d : Field) (t0 t1 t2 : List ℕ) → i < length fields → t1 ≡ t0 ++ spaced (map field_name (filter (has_field reads) (take i fields))) →
-    t2 ≡ t1 ++ spaced (map field_name (filter (has_field reads) (get_or fields i d ∷ []))) → t2 ≡ t0 ++ spaced (map field_name (filter (has_field reads) (take (i + 1) fields)))
+pub fields_more : (reads : FieldSet) (fields : List Field) (i : ℕ) (d : Field) (t0 t1 t2 : List ℕ) → i < length fields → t1 ≡ t0
+    ++ spaced (map field_name (filter (has_field reads) (take i fields))) →
+    t2 ≡ t1 ++ spaced (map field_name (filter (has_field reads) (get_or fields i d ∷ []))) → t2 ≡ t0
+    ++ spaced (map field_name (filter (has_field reads) (take (i + 1) fields)))
 fields_more reads fields i d t0 t1 t2 lt e f =
     let x = filter (has_field reads) (take i fields) in
     let y = filter (has_field reads) (get_or fields i d ∷ []) in

@@ -8,7 +8,11 @@ use Rattle.query_lang.specs.declared.token.Mark.TheVariants as marks
 use Rattle.query_lang.specs.declared.token.TokenKind.{TokenKind}
 use Rattle.query_grammar.specs.Language.{Leaf, Language, Then, Repeated, AtMostOnce, Either, Meaning, Chain, Chained}
 use Rattle.query_grammar.specs.Kinds.{sign, keyword}
-use Rattle.query_grammar.specs.Grammar.{list_of, listed, Token_of, Plain_name, After, Before, Between, Parens, Brackets, Separated, Listed, Operators, either_ops, both_ops, or_ops, xor_ops, and_ops, shift_ops, sum_ops, product_ops, Level, Atom, Unary, Product, Sum, Shift, BitAnd, BitXor, BitOr, Comparison, Conjunction, Disjunction, Expression, Assignment, Emission, Block, IfPart, ElsePart, IfStatement, Statement_at, Fold, Filter, ColumnOf, Mapping, Stream, Final, Print, Query}
+use Rattle.query_grammar.specs.Grammar.{list_of, listed, Token_of, Plain_name, After, Before, Between, Parens, Brackets, Separated, Listed}
+use Rattle.query_grammar.specs.Grammar.{Operators, either_ops, both_ops, or_ops, xor_ops, and_ops, shift_ops, sum_ops, product_ops, Level}
+use Rattle.query_grammar.specs.Grammar.{Atom, Unary, Product, Sum, Shift, BitAnd, BitXor, BitOr, Comparison, Conjunction, Disjunction}
+use Rattle.query_grammar.specs.Grammar.{Expression, Assignment, Emission, Block, IfPart, ElsePart, IfStatement, Statement_at, Fold, Filter}
+use Rattle.query_grammar.specs.Grammar.{ColumnOf, Mapping, Stream, Final, Print, Query}
 
 -- each word of the first language is one of the second, with the same meaning
 pub record Within {A : Type 0} (L M : List Leaf → A → Type 0) : Type 0 where
@@ -17,7 +21,8 @@ pub record Within {A : Type 0} (L M : List Leaf → A → Type 0) : Type 0 where
 same : {A : Type 0} (L : List Leaf → A → Type 0) → Within L L
 same L = record { is = λ w v h. h }
 
-then_in : {A B : Type 0} {L L' : List Leaf → A → Type 0} {M M' : List Leaf → B → Type 0} → Within L L' → Within M M' → Within (Then L M) (Then L' M')
+then_in : {A B : Type 0} {L L' : List Leaf → A → Type 0} {M M' : List Leaf → B → Type 0} → Within L L' → Within M M'
+    → Within (Then L M) (Then L' M')
 then_in f g = record { is = λ w v h. (h.0, h.1, h.2, f.is h.0 v.0 h.3, g.is h.1 v.1 h.4) }
 
 meaning_in : {A B : Type 0} {f : A → B} {L L' : List Leaf → A → Type 0} → Within L L' → Within (Meaning f L) (Meaning f L')
@@ -44,7 +49,8 @@ repeats L L' f w (a ∷ others) h = (h.0, h.1, h.2, f.is h.0 a h.3, repeats L L'
 repeated_in : {A : Type 0} {L L' : List Leaf → A → Type 0} → Within L L' → Within (Repeated L) (Repeated L')
 repeated_in {A} {L} {L'} f = record { is = repeats L L' f }
 
-links_in : {A B : Type 0} (T T' : List Leaf → A ⊎ B → Type 0) → Within T T' → (w : List Leaf) (v : List A) (o : Option B) → Chain T w v o → Chain T' w v o
+links_in : {A B : Type 0} (T T' : List Leaf → A ⊎ B → Type 0) → Within T T' → (w : List Leaf) (v : List A) (o : Option B) → Chain T w v o
+    → Chain T' w v o
 links_in T T' f w [] None h = h
 links_in T T' f w [] (Some b) h = f.is w (inr b) h
 links_in T T' f w (a ∷ others) o h = (h.0, h.1, h.2, f.is h.0 (inl a) h.3, links_in T T' f h.1 others o h.4)
@@ -94,7 +100,8 @@ disjunction_in {P} {P'} f =
 
 expr_in : (d : ℕ) → Within (Expression d) (Expression (suc d))
 expr_in zero = disjunction_in (left_in _ _)
-expr_in (suc d) = let f = expr_in d in disjunction_in (either_in (same Atom) (either_in (parens_in f) (meaning_in (then_in (same _) (parens_in (listed_in f))))))
+expr_in (suc d) = let f = expr_in d in disjunction_in (either_in (same Atom)
+    (either_in (parens_in f) (meaning_in (then_in (same _) (parens_in (listed_in f))))))
 
 assignment_in : {E E' : Language Expr} → Within E E' → Within (Assignment E) (Assignment E')
 assignment_in f = meaning_in (then_in (same _) (between_in (sign marks.Assign) (sign marks.Semicolon) f))
@@ -122,16 +129,19 @@ mapping_in {E} {E'} f =
     after_in (keyword words.Map) (parens_in (then_in (same Plain_name) (after_in (sign marks.Comma) (brackets_in (separated_in c)))))
 
 stream_in : {E E' : Language Expr} → Within E E' → Within (Stream E E) (Stream E' E')
-stream_in f = meaning_in (then_in (same _) (between_in (sign marks.Assign) (sign marks.Semicolon) (either_in (meaning_in (filter_in f)) (either_in (meaning_in (mapping_in f)) (same _)))))
+stream_in f = meaning_in (then_in (same _) (between_in (sign marks.Assign) (sign marks.Semicolon)
+    (either_in (meaning_in (filter_in f)) (either_in (meaning_in (mapping_in f)) (same _)))))
 
 final_in : {E E' : Language Expr} → Within E E' → Within (Final E E) (Final E' E')
-final_in f = meaning_in (then_in (same _) (then_in (same Plain_name) (between_in (sign marks.Assign) (sign marks.Semicolon) (either_in (meaning_in (filter_in f)) (either_in (meaning_in (mapping_in f)) (same _))))))
+final_in f = meaning_in (then_in (same _) (then_in (same Plain_name) (between_in (sign marks.Assign) (sign marks.Semicolon)
+    (either_in (meaning_in (filter_in f)) (either_in (meaning_in (mapping_in f)) (same _))))))
 
 fold_in : (d : ℕ) → Within (Fold d) (Fold (suc d))
 fold_in d = meaning_in (then_in (same _) (then_in (same _) (then_in (same _) (block_in (stmt_in d)))))
 
 query_in : (d : ℕ) → Within (Query d) (Query (suc d))
-query_in d = then_in (repeated_in (either_in (fold_in d) (either_in (stream_in (expr_in d)) (either_in (final_in (expr_in d)) (same Print))))) (same _)
+query_in d = then_in (repeated_in (either_in (fold_in d) (either_in (stream_in (expr_in d))
+    (either_in (final_in (expr_in d)) (same Print))))) (same _)
 
 next_query : (n d : ℕ) → (d ≤ n → Within (Query d) (Query n)) → d ≤ suc n → Within (Query d) (Query (suc n))
 next_query n d f le = go (cases_lt n d)

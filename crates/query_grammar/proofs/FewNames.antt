@@ -1,5 +1,6 @@
 -- A text has so few names that a byte fits between any two of them.
-use Rattle.std.proofs.Common.{◌≡◌, ℕ, zero, suc, ◌+◌, ◌*◌, ◌≤◌, Bool, true, false, cond, List, [], ◌∷◌, ◌++◌, length, take, drop, Option, Some, None, Ok, Err, refl, ap, ◌∙◌, arith}
+use Rattle.std.proofs.Common.{◌≡◌, ℕ, zero, suc, ◌+◌, ◌*◌, ◌≤◌, Bool, true, false, cond, List, [], ◌∷◌, ◌++◌, length, take, drop, Option}
+use Rattle.std.proofs.Common.{Some, None, Ok, Err, refl, ap, ◌∙◌, arith}
 use Rattle.std.specs.Prelude.{nat_eq, codes}
 use Rattle.std.specs.List.{list_any, prefix_len}
 use Rattle.std.specs.Str.{bytes_eq}
@@ -13,7 +14,9 @@ use Rattle.query_lang.specs.declared.token.Piece.TheVariants as pieces
 use Rattle.query_lang.specs.declared.token.Token.{Token}
 use Rattle.query_lang.specs.declared.token.TokenKind.TheVariants as kinds
 use Rattle.query_lang.specs.declared.token.Word.{Word}
-use Rattle.query_lang.specs.Lexis.{Cut, TakesSome, below_limit, cut, cut_piece, is_blank, is_digit, is_word_byte, mark_at, name_piece, number_piece, one_mark, piece, piece_of_mark, reserved, token_at, tokens_of, two_mark, with_front, word_piece}
+use Rattle.query_lang.specs.Lexis.{Cut, TakesSome, below_limit, cut, cut_piece, is_blank, is_digit, is_word_byte, mark_at, name_piece}
+use Rattle.query_lang.specs.Lexis.{number_piece, one_mark, piece, piece_of_mark, reserved, token_at, tokens_of, two_mark, with_front}
+use Rattle.query_lang.specs.Lexis.{word_piece}
 use Rattle.query_lang.specs.Names.{number_in, with_name}
 
 -- 1 where a word begins, and else 0
@@ -34,8 +37,10 @@ past_word : (bytes : List ℕ) → word_begins (drop (prefix_len is_word_byte by
 past_word [] = refl
 past_word (b ∷ bytes) = go (is_word_byte b) refl (past_word bytes)
   where
-    go : (w : Bool) → is_word_byte b ≡ w → word_begins (drop (prefix_len is_word_byte bytes) bytes) ≡ 0 → word_begins (drop (cond w (1 + prefix_len is_word_byte bytes) 0) (b ∷ bytes)) ≡ 0
-    go true e h = let same : 1 + prefix_len is_word_byte bytes ≡ suc (prefix_len is_word_byte bytes) = omega arith in ap (λ n. word_begins (drop n (b ∷ bytes))) same ∙ h
+    go : (w : Bool) → is_word_byte b ≡ w → word_begins (drop (prefix_len is_word_byte bytes) bytes) ≡ 0
+        → word_begins (drop (cond w (1 + prefix_len is_word_byte bytes) 0) (b ∷ bytes)) ≡ 0
+    go true e h = let same : 1 + prefix_len is_word_byte bytes ≡ suc (prefix_len is_word_byte bytes) =
+        omega arith in ap (λ n. word_begins (drop n (b ∷ bytes))) same ∙ h
     go false e h = ap (λ w. cond w 1 0) e
 
 -- a name is a whole word
@@ -53,7 +58,8 @@ whole_number : (o : Option ℕ) (len : ℕ) (bytes : List ℕ) → IsWholeWord (
 whole_number None len bytes = tt
 whole_number (Some n) len bytes = tt
 
-whole_name : (o : Option Word) (len : ℕ) (bytes : List ℕ) → word_begins bytes ≡ 1 → len ≡ prefix_len is_word_byte bytes → IsWholeWord (name_piece o len) bytes
+whole_name : (o : Option Word) (len : ℕ) (bytes : List ℕ) → word_begins bytes ≡ 1 → len ≡ prefix_len is_word_byte bytes
+    → IsWholeWord (name_piece o len) bytes
 whole_name None len bytes begins same = (begins, same)
 whole_name (Some w) len bytes begins same = tt
 
@@ -66,15 +72,20 @@ whole_mark_at : (b : ℕ) (rest bytes : List ℕ) → IsWholeWord (mark_at b res
 whole_mark_at b [] bytes = whole_mark None (one_mark b) bytes
 whole_mark_at b (c ∷ rest) bytes = whole_mark (two_mark b c) (one_mark b) bytes
 
-whole_word : (w : List ℕ) (digits : ℕ) (bytes : List ℕ) → word_begins bytes ≡ 1 → length w ≡ prefix_len is_word_byte bytes → IsWholeWord (word_piece w digits) bytes
-whole_word w digits bytes begins same = whole_either (nat_eq digits (length w)) _ _ bytes (whole_number (below_limit (digits_value 10 w)) (length w) bytes)
+whole_word : (w : List ℕ) (digits : ℕ) (bytes : List ℕ) → word_begins bytes ≡ 1 → length w ≡ prefix_len is_word_byte bytes
+    → IsWholeWord (word_piece w digits) bytes
+whole_word w digits bytes begins same = whole_either (nat_eq digits (length w)) _ _ bytes
+    (whole_number (below_limit (digits_value 10 w)) (length w) bytes)
     (whole_either (bytes_eq w (codes "5tuple")) _ _ bytes tt (whole_either (nat_eq digits 0) _ _ bytes (whole_name (reserved w) (length w) bytes begins same) tt))
 
 whole_piece : (b : ℕ) (bytes : List ℕ) → IsWholeWord (piece (b ∷ bytes)) (b ∷ bytes)
-whole_piece b bytes = whole_either (is_blank b) _ _ (b ∷ bytes) tt (whole_either (nat_eq b 35) _ _ (b ∷ bytes) tt (go (is_word_byte b) refl))
+whole_piece b bytes = whole_either (is_blank b) _ _ (b ∷ bytes) tt (whole_either (nat_eq b 35) _ _ (b ∷ bytes) tt
+    (go (is_word_byte b) refl))
   where
-    go : (w : Bool) → is_word_byte b ≡ w → IsWholeWord (cond w (word_piece (take (prefix_len is_word_byte (b ∷ bytes)) (b ∷ bytes)) (prefix_len is_digit (b ∷ bytes))) (mark_at b bytes)) (b ∷ bytes)
-    go true e = whole_word (take (prefix_len is_word_byte (b ∷ bytes)) (b ∷ bytes)) (prefix_len is_digit (b ∷ bytes)) (b ∷ bytes) (ap (λ w. cond w 1 0) e) (length-prefix_len is_word_byte (b ∷ bytes))
+    go : (w : Bool) → is_word_byte b ≡ w → IsWholeWord (cond w (word_piece (take (prefix_len is_word_byte (b ∷ bytes)) (b ∷ bytes))
+        (prefix_len is_digit (b ∷ bytes))) (mark_at b bytes)) (b ∷ bytes)
+    go true e = whole_word (take (prefix_len is_word_byte (b ∷ bytes)) (b ∷ bytes)) (prefix_len is_digit (b ∷ bytes)) (b ∷ bytes)
+        (ap (λ w. cond w 1 0) e) (length-prefix_len is_word_byte (b ∷ bytes))
     go false e = whole_mark_at b bytes (b ∷ bytes)
 
 abbrev Pair : Type 0
@@ -99,8 +110,10 @@ one_more known w = go (list_any (bytes_eq w) known)
 abbrev AreFew : List (List ℕ) → List ℕ → Pair → Type 0
 AreFew known bytes found = 2 * length found.1 ≤ 2 * length known + length bytes + word_begins bytes
 
-piece_few : (p : Piece) (at : ℕ) (known : List (List ℕ)) (bytes : List ℕ) (next : ℕ → List (List ℕ) → Cut) (found : Pair) → TakesSome p (length bytes) → IsWholeWord p bytes
-    → ((k : ℕ) (later : List (List ℕ)) (got : Pair) → next k later ≡ Ok got → AreFew later (drop k bytes) got) → cut_piece p at known bytes next ≡ Ok found → AreFew known bytes found
+piece_few : (p : Piece) (at : ℕ) (known : List (List ℕ)) (bytes : List ℕ) (next : ℕ → List (List ℕ) → Cut) (found : Pair)
+    → TakesSome p (length bytes) → IsWholeWord p bytes
+    → ((k : ℕ) (later : List (List ℕ)) (got : Pair) → next k later ≡ Ok got → AreFew later (drop k bytes) got)
+    → cut_piece p at known bytes next ≡ Ok found → AreFew known bytes found
 piece_few (pieces.Blank n) at known bytes next found some whole h e =
     let more = h n known found e in
     omega (arith, more, some.0, some.1, length-drop n bytes, begins_once (drop n bytes))
@@ -118,7 +131,8 @@ piece_few (pieces.Token kind n) at known bytes next found some whole h e =
     omega (arith, more, all, some.0, some.1, length-drop n bytes, begins_once (drop n bytes))
 piece_few (pieces.Fault kind n) at known bytes next found some whole h e = absurd cc
 
-only_known : (at : ℕ) (known : List (List ℕ)) (bytes : List ℕ) (found : Pair) → ◌≡◌ {A = Cut} (Ok (token_at kinds.End at at ∷ [], known)) (Ok found) → AreFew known bytes found
+only_known : (at : ℕ) (known : List (List ℕ)) (bytes : List ℕ) (found : Pair)
+    → ◌≡◌ {A = Cut} (Ok (token_at kinds.End at at ∷ [], known)) (Ok found) → AreFew known bytes found
 only_known at known bytes found e =
     let all : length known ≡ length found.1 = ap (λ (p : Pair). length p.1) (same_found (token_at kinds.End at at ∷ [], known) found e) in
     omega (arith, all)
@@ -128,11 +142,13 @@ unfolding cut
 cut_few zero at known bytes found e = only_known at known bytes found e
 cut_few (suc n) at known [] found e = only_known at known [] found e
 cut_few (suc n) at known (b ∷ bytes) found e =
-    piece_few (piece (b ∷ bytes)) at known (b ∷ bytes) (λ k later. cut n (at + k) later (drop k (b ∷ bytes))) found (takes_some b bytes) (whole_piece b bytes)
+    piece_few (piece (b ∷ bytes)) at known (b ∷ bytes) (λ k later. cut n (at + k) later (drop k (b ∷ bytes))) found (takes_some b bytes)
+    (whole_piece b bytes)
     (λ k later got h. cut_few n (at + k) later (drop k (b ∷ bytes)) got h) e
 
 -- a text of 65,536 bytes has at most 32,768 names
-pub few_names : (text : List ℕ) (tokens : List Token) (names : List (List ℕ)) → length text ≤ 65536 → tokens_of text ≡ Ok (tokens, names) → length names ≤ 32768
+pub few_names : (text : List ℕ) (tokens : List Token) (names : List (List ℕ)) → length text ≤ 65536 → tokens_of text ≡ Ok (tokens, names)
+    → length names ≤ 32768
 few_names text tokens names short e =
     let all : AreFew [] text (tokens, names) = cut_few (length text) 0 [] text (tokens, names) e in
     omega (arith, all, short, begins_once text)

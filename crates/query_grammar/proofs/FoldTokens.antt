@@ -24,7 +24,13 @@ statement_is Opening = refl
 
 nodes_are : (leaves : List Leaf) → nodes_among leaves ≡ leaves_by is_node leaves
 nodes_are [] = refl
-nodes_are (leaf ∷ rest) = omega (arith, sum_by-cons (λ (l : Leaf). cond (counts_as_node l.role) 1 0) leaf rest, node_is leaf.role, nodes_are rest)
+nodes_are (leaf ∷ rest) = omega (
+  arith,
+  sum_by-cons (λ (l : Leaf). cond (counts_as_node l.role) 1 0) leaf rest,
+  node_is leaf.role,
+  nodes_are
+      rest,
+)
 
 statements_are : (leaves : List Leaf) → statements_among leaves ≡ leaves_by is_statement leaves
 statements_are [] = refl
@@ -37,7 +43,8 @@ fold_nodes_are d leaves f means =
     let first : is_node o.0.role ≡ 0 = ap is_node o.3 in
     omega (arith, nodes_are leaves, ap (leaves_by is_node) o.2, first, o.4.nodes, sum_total stmt_nodes f.body)
 
-pub fold_statements_are : (d : ℕ) (leaves : List Leaf) (f : FoldDef) → Fold d leaves (items.Fold f) → statements_among leaves ≡ fold_statements f
+pub fold_statements_are : (d : ℕ) (leaves : List Leaf) (f : FoldDef) → Fold d leaves (items.Fold f)
+    → statements_among leaves ≡ fold_statements f
 fold_statements_are d leaves f means =
     let o = (opens_fold d).is leaves (items.Fold f) means in
     let first : is_statement o.0.role ≡ 0 = ap is_statement o.3 in

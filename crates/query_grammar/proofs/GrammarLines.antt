@@ -14,13 +14,26 @@ use Rattle.query_lang.specs.declared.token.TokenKind.TheVariants as kinds
 use Rattle.query_lang.specs.declared.token.Token.{Token}
 use Rattle.query_grammar.specs.Language.{Role, Plain, Node, Statement, Opening, Leaf, Language, Word, Then, Repeated, Either, Meaning}
 use Rattle.query_grammar.specs.Parser.{Limits, Limited, Unlimited, Parser, word, followed_by, repeated}
-use Rattle.query_grammar.specs.Kinds.{one_of, among, kind, kind_number, is, name, name_of, number, number_of, operator, kinds_of, sign, keyword}
-use Rattle.query_grammar.specs.Grammar.{Token_of, After, Before, Parens, Brackets, Separated, Listed, Operators, either_ops, both_ops, comparing_ops, or_ops, xor_ops, and_ops, shift_ops, sum_ops, product_ops, functions, Level, Atom, Primary, Unary, Product, Sum, Shift, BitAnd, BitXor, BitOr, Comparison, Conjunction, Disjunction, Expression, Assignment, Emission, Block, IfPart, IfStatement, Statement_at, StateVariable, Parameters, Fold, Filter, ColumnOf, Mapping, Pairing, KeyOf, Group, Best, Streaming, Stream, Finishing, Final, Print, ItemOf, Query}
-use Rattle.query_grammar.specs.Reading.{token_of, after, before, parens, brackets, separated, listed_by, blocked, atom_starts, primary_starts, expr_starts, level, atom, primary, unary, product, sum, shift, bit_and, bit_xor, bit_or, comparison, conjunction, disjunction, expr_at, assignment, emission, stmt_starts, block, if_part, if_statement, statement, stmt_at, state_variable, parameters, fold_def, filter_of, column_of, mapping, pairing, key_of, group, best, streaming, stream, finishing, final, print, item, item_starts, query}
+use Rattle.query_grammar.specs.Kinds.{one_of, among, kind, kind_number, is, name, name_of, number, number_of, operator, kinds_of, sign}
+use Rattle.query_grammar.specs.Kinds.{keyword}
+use Rattle.query_grammar.specs.Grammar.{Token_of, After, Before, Parens, Brackets, Separated, Listed, Operators, either_ops, both_ops}
+use Rattle.query_grammar.specs.Grammar.{comparing_ops, or_ops, xor_ops, and_ops, shift_ops, sum_ops, product_ops, functions, Level, Atom}
+use Rattle.query_grammar.specs.Grammar.{Primary, Unary, Product, Sum, Shift, BitAnd, BitXor, BitOr, Comparison, Conjunction, Disjunction}
+use Rattle.query_grammar.specs.Grammar.{Expression, Assignment, Emission, Block, IfPart, IfStatement, Statement_at, StateVariable}
+use Rattle.query_grammar.specs.Grammar.{Parameters, Fold, Filter, ColumnOf, Mapping, Pairing, KeyOf, Group, Best, Streaming, Stream}
+use Rattle.query_grammar.specs.Grammar.{Finishing, Final, Print, ItemOf, Query}
+use Rattle.query_grammar.specs.Reading.{token_of, after, before, parens, brackets, separated, listed_by, blocked, atom_starts}
+use Rattle.query_grammar.specs.Reading.{primary_starts, expr_starts, level, atom, primary, unary, product, sum, shift, bit_and, bit_xor}
+use Rattle.query_grammar.specs.Reading.{bit_or, comparison, conjunction, disjunction, expr_at, assignment, emission, stmt_starts, block}
+use Rattle.query_grammar.specs.Reading.{if_part, if_statement, statement, stmt_at, state_variable, parameters, fold_def, filter_of}
+use Rattle.query_grammar.specs.Reading.{column_of, mapping, pairing, key_of, group, best, streaming, stream, finishing, final, print, item}
+use Rattle.query_grammar.specs.Reading.{item_starts, query}
 use Rattle.query_grammar.proofs.Parses.{Parses, is_some_of, parses_wider, parses_wider_on, parses_word}
 use Rattle.query_grammar.proofs.Choices.{parses_blocked}
 use Rattle.query_grammar.proofs.Sequences.{parses_null_then}
-use Rattle.query_grammar.proofs.Lines.{disjoint, disjoint_is, Line, EndFree, free_word, free_both, line_word, line_then, line_then_null, line_null_then, line_either, line_once, line_repeated, line_meaning, line_sets, line_chained, more_left, more_right, less_left}
+use Rattle.query_grammar.proofs.Lines.{disjoint, disjoint_is, Line, EndFree, free_word, free_both, line_word, line_then, line_then_null}
+use Rattle.query_grammar.proofs.Lines.{line_null_then, line_either, line_once, line_repeated, line_meaning, line_sets, line_chained}
+use Rattle.query_grammar.proofs.Lines.{more_left, more_right, less_left}
 
 -- ---- words
 
@@ -38,7 +51,8 @@ pub operator_kind : (ops : Operators) (t : Token) → is_some_of (operator ops t
 operator_kind [] t h = absurd cc
 operator_kind (o ∷ others) t h = go (eqb (kind t) (kind_number o.0)) (operator_kind others t) h
   where
-    go : (b : Bool) → (is_some_of (operator others t) ≡ true → among (kinds_of others) t ≡ true) → is_some_of (cond b (Some (o.1, t.span)) (operator others t)) ≡ true → cond b true (among (kinds_of others) t) ≡ true
+    go : (b : Bool) → (is_some_of (operator others t) ≡ true → among (kinds_of others) t ≡ true)
+        → is_some_of (cond b (Some (o.1, t.span)) (operator others t)) ≡ true → cond b true (among (kinds_of others) t) ≡ true
     go true ih h = refl
     go false ih h = ih h
 
@@ -67,15 +81,18 @@ sample_of k = record { kind = k; span = no_place }
 pub is_itself : (k : TokenKind) → is k (sample_of k) ≡ Some no_place
 is_itself k = ap (λ (b : Bool). cond b (Some no_place) no_span) (eq-eqb (kind_number k) (kind_number k) refl)
 
-line_is : (m : Limits) (role : Role) (k : TokenKind) → one_of (kind_number k ∷ []) 3 ≡ false → Line m (Word role (is k)) (word m role (is k)) (kind_number k ∷ []) [] false
+line_is : (m : Limits) (role : Role) (k : TokenKind) → one_of (kind_number k ∷ []) 3 ≡ false
+    → Line m (Word role (is k)) (word m role (is k)) (kind_number k ∷ []) [] false
 line_is m role k other = line_word (kind_number k ∷ []) (sample_of k) no_place (is_itself k) other (is_kind k)
 
-line_operator : (m : Limits) (ops : Operators) (k : TokenKind) (op : Op) → operator ops (sample_of k) ≡ Some (op, no_place) → one_of (kinds_of ops) 3 ≡ false
+line_operator : (m : Limits) (ops : Operators) (k : TokenKind) (op : Op) → operator ops (sample_of k) ≡ Some (op, no_place)
+    → one_of (kinds_of ops) 3 ≡ false
     → Line m (Word Node (operator ops)) (word m Node (operator ops)) (kinds_of ops) [] false
 line_operator m ops k op e other = line_word (kinds_of ops) (sample_of k) (op, no_place) e other (operator_kind ops)
 
 line_name : (m : Limits) (role : Role) → Line m (Word role name) (word m role name) (0 ∷ []) [] false
-line_name m role = line_word (0 ∷ []) (sample_of (kinds.Name 0)) (record { id = 0; span = no_place }) refl refl (λ t h. name_kind_of t.kind t.span h)
+line_name m role = line_word (0 ∷ []) (sample_of (kinds.Name 0)) (record { id = 0; span = no_place }) refl refl
+    (λ t h. name_kind_of t.kind t.span h)
 
 line_number : (m : Limits) (role : Role) → Line m (Word role number) (word m role number) (1 ∷ []) [] false
 line_number m role = line_word (1 ∷ []) (sample_of (kinds.Number 0)) (0, no_place) refl refl (λ t h. number_kind_of t.kind t.span h)
@@ -86,43 +103,56 @@ disjoint_nil : (xs : List ℕ) → disjoint xs [] ≡ true
 disjoint_nil [] = refl
 disjoint_nil (x ∷ xs) = disjoint_nil xs
 
-line_after : {A : Type 0} {m : Limits} {L : Language A} {p : Parser A} {xs ys : List ℕ} → (k : TokenKind) → one_of (kind_number k ∷ []) 3 ≡ false → Line m L p xs ys false → Line m (After k L) (after m k p) (kind_number k ∷ []) ys false
+line_after : {A : Type 0} {m : Limits} {L : Language A} {p : Parser A} {xs ys : List ℕ} → (k : TokenKind)
+    → one_of (kind_number k ∷ []) 3 ≡ false → Line m L p xs ys false → Line m (After k L) (after m k p) (kind_number k ∷ []) ys false
 line_after {A} {m} {L} {p} {xs} {ys} k e f = line_meaning (line_then (line_is m Plain k e) f (disjoint_nil xs))
 
-line_before : {A : Type 0} {m : Limits} {L : Language A} {p : Parser A} {xs ys : List ℕ} → (k : TokenKind) → one_of (kind_number k ∷ []) 3 ≡ false → Line m L p xs ys false → disjoint (kind_number k ∷ []) ys ≡ true → Line m (Before L k) (before m p k) xs [] false
+line_before : {A : Type 0} {m : Limits} {L : Language A} {p : Parser A} {xs ys : List ℕ} → (k : TokenKind)
+    → one_of (kind_number k ∷ []) 3 ≡ false → Line m L p xs ys false → disjoint (kind_number k ∷ []) ys ≡ true
+    → Line m (Before L k) (before m p k) xs [] false
 line_before {A} {m} k e f d = line_meaning (line_then f (line_is m Plain k e) d)
 
-line_before_null : {A : Type 0} {m : Limits} {L : Language A} {p : Parser A} {xs ys : List ℕ} → (k : TokenKind) → one_of (kind_number k ∷ []) 3 ≡ false → Line m L p xs ys true → disjoint (kind_number k ∷ []) ys ≡ true → Line m (Before L k) (before m p k) (xs ++ (kind_number k ∷ [])) [] false
+line_before_null : {A : Type 0} {m : Limits} {L : Language A} {p : Parser A} {xs ys : List ℕ} → (k : TokenKind)
+    → one_of (kind_number k ∷ []) 3 ≡ false → Line m L p xs ys true → disjoint (kind_number k ∷ []) ys ≡ true
+    → Line m (Before L k) (before m p k) (xs ++ (kind_number k ∷ [])) [] false
 line_before_null {A} {m} k e f d = line_meaning (line_null_then f (line_is m Plain k e) d)
 
-line_parens : {A : Type 0} {m : Limits} {L : Language A} {p : Parser A} {xs ys : List ℕ} → Line m L p xs ys false → disjoint (25 ∷ []) ys ≡ true → Line m (Parens L) (parens m p) (24 ∷ []) [] false
+line_parens : {A : Type 0} {m : Limits} {L : Language A} {p : Parser A} {xs ys : List ℕ} → Line m L p xs ys false
+    → disjoint (25 ∷ []) ys ≡ true → Line m (Parens L) (parens m p) (24 ∷ []) [] false
 line_parens f d = line_after (sign marks.OpenParen) refl (line_before (sign marks.CloseParen) refl f d)
 
-line_parens_null : {A : Type 0} {m : Limits} {L : Language A} {p : Parser A} {xs ys : List ℕ} → Line m L p xs ys true → disjoint (25 ∷ []) ys ≡ true → Line m (Parens L) (parens m p) (24 ∷ []) [] false
+line_parens_null : {A : Type 0} {m : Limits} {L : Language A} {p : Parser A} {xs ys : List ℕ} → Line m L p xs ys true
+    → disjoint (25 ∷ []) ys ≡ true → Line m (Parens L) (parens m p) (24 ∷ []) [] false
 line_parens_null f d = line_after (sign marks.OpenParen) refl (line_before_null (sign marks.CloseParen) refl f d)
 
-line_brackets : {A : Type 0} {m : Limits} {L : Language A} {p : Parser A} {xs ys : List ℕ} → Line m L p xs ys false → disjoint (27 ∷ []) ys ≡ true → Line m (Brackets L) (brackets m p) (26 ∷ []) [] false
+line_brackets : {A : Type 0} {m : Limits} {L : Language A} {p : Parser A} {xs ys : List ℕ} → Line m L p xs ys false
+    → disjoint (27 ∷ []) ys ≡ true → Line m (Brackets L) (brackets m p) (26 ∷ []) [] false
 line_brackets f d = line_after (sign marks.OpenBracket) refl (line_before (sign marks.CloseBracket) refl f d)
 
-line_brackets_null : {A : Type 0} {m : Limits} {L : Language A} {p : Parser A} {xs ys : List ℕ} → Line m L p xs ys true → disjoint (27 ∷ []) ys ≡ true → Line m (Brackets L) (brackets m p) (26 ∷ []) [] false
+line_brackets_null : {A : Type 0} {m : Limits} {L : Language A} {p : Parser A} {xs ys : List ℕ} → Line m L p xs ys true
+    → disjoint (27 ∷ []) ys ≡ true → Line m (Brackets L) (brackets m p) (26 ∷ []) [] false
 line_brackets_null f d = line_after (sign marks.OpenBracket) refl (line_before_null (sign marks.CloseBracket) refl f d)
 
 -- L { "," L }
-line_separated : {A : Type 0} {m : Limits} {L : Language A} {p : Parser A} {xs ys : List ℕ} → Line m L p xs ys false → disjoint (30 ∷ []) ys ≡ true
+line_separated : {A : Type 0} {m : Limits} {L : Language A} {p : Parser A} {xs ys : List ℕ} → Line m L p xs ys false
+    → disjoint (30 ∷ []) ys ≡ true
     → Line m (Separated L) (separated m p) xs (ys ++ ((30 ∷ []) ++ ys)) false
 line_separated f d = line_meaning (line_then_null f (line_repeated (line_after (sign marks.Comma) refl f) d) d)
 
 -- [ L { "," L } ]
-line_listed : {A : Type 0} {m : Limits} {L : Language A} {p : Parser A} {xs ys : List ℕ} → Line m L p xs ys false → disjoint (30 ∷ []) ys ≡ true
+line_listed : {A : Type 0} {m : Limits} {L : Language A} {p : Parser A} {xs ys : List ℕ} → Line m L p xs ys false
+    → disjoint (30 ∷ []) ys ≡ true
     → Line m (Listed L) (listed_by m xs p) xs (xs ++ (ys ++ ((30 ∷ []) ++ ys))) true
 line_listed f d = line_meaning (line_once (line_separated f d))
 
-line_comma : {A : Type 0} {m : Limits} {L : Language A} {p : Parser A} {xs ys : List ℕ} → Line m L p xs ys false → Line m (After (sign marks.Comma) L) (after m (sign marks.Comma) p) (30 ∷ []) ys false
+line_comma : {A : Type 0} {m : Limits} {L : Language A} {p : Parser A} {xs ys : List ℕ} → Line m L p xs ys false
+    → Line m (After (sign marks.Comma) L) (after m (sign marks.Comma) p) (30 ∷ []) ys false
 line_comma f = line_after (sign marks.Comma) refl f
 
 -- ---- expressions
 
-line_level : {m : Limits} {L : Language Expr} {p : Parser Expr} {xs ys : List ℕ} → (ops : Operators) (k : TokenKind) (op : Op) → operator ops (sample_of k) ≡ Some (op, no_place) → one_of (kinds_of ops) 3 ≡ false → Line m L p xs ys false
+line_level : {m : Limits} {L : Language Expr} {p : Parser Expr} {xs ys : List ℕ} → (ops : Operators) (k : TokenKind) (op : Op)
+    → operator ops (sample_of k) ≡ Some (op, no_place) → one_of (kinds_of ops) 3 ≡ false → Line m L p xs ys false
     → disjoint (kinds_of ops) ys ≡ true → Line m (Level ops L) (level m ops p) xs (ys ++ (kinds_of ops ++ ys)) false
 line_level {m} {L} {p} {xs} {ys} ops k op e other f d =
     line_meaning (line_then_null f (line_repeated (line_then (line_operator m ops k op e other) f (disjoint_nil xs)) d) d)
@@ -154,48 +184,70 @@ conjunction_on = 47 ∷ 33 ∷ 34 ∷ 35 ∷ 36 ∷ 37 ∷ 38 ∷ 48 ∷ 50 ∷ 
 abbrev pub expr_on : List ℕ
 expr_on = 49 ∷ 47 ∷ 33 ∷ 34 ∷ 35 ∷ 36 ∷ 37 ∷ 38 ∷ 48 ∷ 50 ∷ 46 ∷ 39 ∷ 40 ∷ 41 ∷ 42 ∷ 43 ∷ 44 ∷ 45 ∷ []
 
-line_unary : {m : Limits} {P : Language Expr} {p : Parser Expr} → Line m P p primary_starts [] false → Line m (Unary P) (unary m p) expr_starts [] false
+line_unary : {m : Limits} {P : Language Expr} {p : Parser Expr} → Line m P p primary_starts [] false
+    → Line m (Unary P) (unary m p) expr_starts [] false
 line_unary {m} f = line_meaning (line_null_then (line_repeated (line_is m Node (sign marks.Bang) refl) refl) f refl)
 
-line_product : {m : Limits} {P : Language Expr} {p : Parser Expr} → Line m P p primary_starts [] false → Line m (Product P) (product m p) expr_starts product_on false
+line_product : {m : Limits} {P : Language Expr} {p : Parser Expr} → Line m P p primary_starts [] false
+    → Line m (Product P) (product m p) expr_starts product_on false
 line_product f = line_sets _ _ (line_level product_ops (sign marks.Times) operations.Mul refl refl (line_unary f) refl) refl refl
 
-line_sum : {m : Limits} {P : Language Expr} {p : Parser Expr} → Line m P p primary_starts [] false → Line m (Sum P) (sum m p) expr_starts sum_on false
+line_sum : {m : Limits} {P : Language Expr} {p : Parser Expr} → Line m P p primary_starts [] false
+    → Line m (Sum P) (sum m p) expr_starts sum_on false
 line_sum f = line_sets _ _ (line_level sum_ops (sign marks.Plus) operations.Add refl refl (line_product f) refl) refl refl
 
-line_shift : {m : Limits} {P : Language Expr} {p : Parser Expr} → Line m P p primary_starts [] false → Line m (Shift P) (shift m p) expr_starts shift_on false
+line_shift : {m : Limits} {P : Language Expr} {p : Parser Expr} → Line m P p primary_starts [] false
+    → Line m (Shift P) (shift m p) expr_starts shift_on false
 line_shift f = line_sets _ _ (line_level shift_ops (sign marks.ShiftLeft) operations.Shl refl refl (line_sum f) refl) refl refl
 
-line_bit_and : {m : Limits} {P : Language Expr} {p : Parser Expr} → Line m P p primary_starts [] false → Line m (BitAnd P) (bit_and m p) expr_starts and_on false
+line_bit_and : {m : Limits} {P : Language Expr} {p : Parser Expr} → Line m P p primary_starts [] false
+    → Line m (BitAnd P) (bit_and m p) expr_starts and_on false
 line_bit_and f = line_sets _ _ (line_level and_ops (sign marks.And) operations.And refl refl (line_shift f) refl) refl refl
 
-line_bit_xor : {m : Limits} {P : Language Expr} {p : Parser Expr} → Line m P p primary_starts [] false → Line m (BitXor P) (bit_xor m p) expr_starts xor_on false
+line_bit_xor : {m : Limits} {P : Language Expr} {p : Parser Expr} → Line m P p primary_starts [] false
+    → Line m (BitXor P) (bit_xor m p) expr_starts xor_on false
 line_bit_xor f = line_sets _ _ (line_level xor_ops (sign marks.Xor) operations.Xor refl refl (line_bit_and f) refl) refl refl
 
-line_bit_or : {m : Limits} {P : Language Expr} {p : Parser Expr} → Line m P p primary_starts [] false → Line m (BitOr P) (bit_or m p) expr_starts or_on false
+line_bit_or : {m : Limits} {P : Language Expr} {p : Parser Expr} → Line m P p primary_starts [] false
+    → Line m (BitOr P) (bit_or m p) expr_starts or_on false
 line_bit_or f = line_sets _ _ (line_level or_ops (sign marks.Or) operations.Or refl refl (line_bit_xor f) refl) refl refl
 
-line_comparison : {m : Limits} {P : Language Expr} {p : Parser Expr} → Line m P p primary_starts [] false → Line m (Comparison P) (comparison m p) expr_starts comparison_on false
-line_comparison {m} f = let g = line_bit_or f in line_sets _ _ (line_meaning (line_then_null g (line_once (line_then (line_operator m comparing_ops (sign marks.Equal) operations.Eq refl refl) g refl)) refl)) refl refl
+line_comparison : {m : Limits} {P : Language Expr} {p : Parser Expr} → Line m P p primary_starts [] false
+    → Line m (Comparison P) (comparison m p) expr_starts comparison_on false
+line_comparison {m} f = let g = line_bit_or f in line_sets _ _ (line_meaning
+    (line_then_null g (line_once (line_then (line_operator m comparing_ops (sign marks.Equal) operations.Eq refl refl) g refl)) refl)) refl
+    refl
 
-line_conjunction : {m : Limits} {P : Language Expr} {p : Parser Expr} → Line m P p primary_starts [] false → Line m (Conjunction P) (conjunction m p) expr_starts conjunction_on false
+line_conjunction : {m : Limits} {P : Language Expr} {p : Parser Expr} → Line m P p primary_starts [] false
+    → Line m (Conjunction P) (conjunction m p) expr_starts conjunction_on false
 line_conjunction f = line_sets _ _ (line_level both_ops (sign marks.Both) operations.Both refl refl (line_comparison f) refl) refl refl
 
-pub line_disjunction : {m : Limits} {P : Language Expr} {p : Parser Expr} → Line m P p primary_starts [] false → Line m (Disjunction P) (disjunction m p) expr_starts expr_on false
-line_disjunction f = line_sets _ _ (line_level either_ops (sign marks.Either) operations.Either refl refl (line_conjunction f) refl) refl refl
+pub line_disjunction : {m : Limits} {P : Language Expr} {p : Parser Expr} → Line m P p primary_starts [] false
+    → Line m (Disjunction P) (disjunction m p) expr_starts expr_on false
+line_disjunction f = line_sets _ _ (line_level either_ops (sign marks.Either) operations.Either refl refl (line_conjunction f) refl) refl
+    refl
 
 pub line_atom : (m : Limits) → Line m Atom (atom m) atom_starts [] false
-line_atom m = line_either (line_meaning (line_number m Node)) (line_either (line_meaning (line_is m Node (keyword words.Infinity) refl)) (line_meaning (line_name m Node)) refl) refl
+line_atom m = line_either (line_meaning (line_number m Node)) (line_either (line_meaning (line_is m Node (keyword words.Infinity) refl))
+    (line_meaning (line_name m Node)) refl) refl
 
-line_wider : {A : Type 0} {m : Limits} {L : Language A} {p : Parser A} {xs ys : List ℕ} → (also : List ℕ) → Line m L p xs ys false → Line m L p (xs ++ also) ys false
-line_wider {A} {m} {L} {p} {xs} {ys} also f = record { parses = parses_wider (among (xs ++ also)) (λ t h. more_left xs also (kind t) h) f.parses; free = f.free }
+line_wider : {A : Type 0} {m : Limits} {L : Language A} {p : Parser A} {xs ys : List ℕ} → (also : List ℕ) → Line m L p xs ys false
+    → Line m L p (xs ++ also) ys false
+line_wider {A} {m} {L} {p} {xs} {ys} also f = record {
+  parses = parses_wider (among (xs ++ also)) (λ t h. more_left xs also (kind t) h)
+      f.parses;
+  free = f.free;
+}
 
-line_arguments : {m : Limits} {E : Language Expr} {p : Parser Expr} → Line m E p expr_starts expr_on false → Line m (Parens (Listed E)) (parens m (listed_by m expr_starts p)) (24 ∷ []) [] false
+line_arguments : {m : Limits} {E : Language Expr} {p : Parser Expr} → Line m E p expr_starts expr_on false
+    → Line m (Parens (Listed E)) (parens m (listed_by m expr_starts p)) (24 ∷ []) [] false
 line_arguments f = line_parens_null (line_listed f refl) refl
 
-line_primary : {m : Limits} {p : Parser Expr} {q : Parser (List Expr)} → (E : Language Expr) → Line m (Parens E) p (24 ∷ []) [] false → Line m (Parens (Listed E)) q (24 ∷ []) [] false
+line_primary : {m : Limits} {p : Parser Expr} {q : Parser (List Expr)} → (E : Language Expr) → Line m (Parens E) p (24 ∷ []) [] false
+    → Line m (Parens (Listed E)) q (24 ∷ []) [] false
     → Line m (Primary E) (primary m p q) primary_starts [] false
-line_primary {m} E f g = line_either (line_atom m) (line_either f (line_meaning (line_then (line_operator m functions (keyword words.Max) operations.Max refl refl) g refl)) refl) refl
+line_primary {m} E f g = line_either (line_atom m) (line_either f (line_meaning
+    (line_then (line_operator m functions (keyword words.Max) operations.Max refl refl) g refl)) refl) refl
 
 -- with no limits, the parser is given as many brackets as the language has
 pub line_expr : (d : ℕ) → Line Unlimited (Expression d) (expr_at Unlimited d) expr_starts expr_on false
@@ -208,19 +260,24 @@ pub data Deeper : ℕ → ℕ → Type 0 where
   here : {k : ℕ} → Deeper zero (suc k)
   under : {e d : ℕ} → Deeper e d → Deeper (suc e) (suc d)
 
-free_blocked : {A B : Type 0} (L : Language A) (f : Span × A → B) (k : TokenKind) → one_of (kind_number k ∷ []) 3 ≡ false → ((w : List Leaf) (v : A) → L w v → EndFree w)
+free_blocked : {A B : Type 0} (L : Language A) (f : Span × A → B) (k : TokenKind) → one_of (kind_number k ∷ []) 3 ≡ false
+    → ((w : List Leaf) (v : A) → L w v → EndFree w)
     → (w : List Leaf) (v : B) → Meaning f (Then (Token_of k) L) w v → EndFree w
-free_blocked L f k e free w v h = free_both w h.1.0 h.1.1 h.1.2 (free_word Plain (is k) (kind_number k ∷ []) e (is_kind k) h.1.0 h.0.0 h.1.3) (free h.1.1 h.0.1 h.1.4)
+free_blocked L f k e free w v h = free_both w h.1.0 h.1.1 h.1.2 (free_word Plain (is k) (kind_number k ∷ []) e (is_kind k) h.1.0 h.0.0
+    h.1.3) (free h.1.1 h.0.1 h.1.4)
 
-line_blocked : {A B : Type 0} → (L : Language A) (f : Span × A → B) (k : TokenKind) → one_of (kind_number k ∷ []) 3 ≡ false → ((w : List Leaf) (v : A) → L w v → EndFree w) → (w : List Leaf) → (a : A) → L w a
+line_blocked : {A B : Type 0} → (L : Language A) (f : Span × A → B) (k : TokenKind) → one_of (kind_number k ∷ []) 3 ≡ false
+    → ((w : List Leaf) (v : A) → L w v → EndFree w) → (w : List Leaf) → (a : A) → L w a
     → Line Limited (Meaning f (Then (Token_of k) L)) (blocked k) (kind_number k ∷ []) [] false
 line_blocked {A} {B} L f k e free w a h = record {
-  parses = parses_wider (among (kind_number k ∷ [])) (is_kind k) (parses_blocked L (is k) f (blocked k) (λ c. refl) (λ c u ts. refl) (among []) (sample_of k) no_place (is_itself k) w a h);
+  parses = parses_wider (among (kind_number k ∷ [])) (is_kind k) (parses_blocked L (is k) f (blocked k) (λ c. refl) (λ c u ts. refl)
+      (among []) (sample_of k) no_place (is_itself k) w a h);
   free = free_blocked L f k e free;
 }
 
 -- a bracket before a line that would be one too many
-line_blocked_by : {A B : Type 0} {m : Limits} {L : Language A} {p : Parser A} {xs ys : List ℕ} {nullable : Bool} → (f : Span × A → B) (k : TokenKind) → one_of (kind_number k ∷ []) 3 ≡ false → Line m L p xs ys nullable
+line_blocked_by : {A B : Type 0} {m : Limits} {L : Language A} {p : Parser A} {xs ys : List ℕ} {nullable : Bool}
+    → (f : Span × A → B) (k : TokenKind) → one_of (kind_number k ∷ []) 3 ≡ false → Line m L p xs ys nullable
     → Line Limited (Meaning f (Then (Token_of k) L)) (blocked k) (kind_number k ∷ []) [] false
 line_blocked_by {A} {B} {m} {L} f k e g = let s = g.parses.sample in line_blocked L f k e g.free s.0 s.1 s.2
 
@@ -228,38 +285,56 @@ pub line_expr_limited : {e d : ℕ} → Deeper e d → Line Limited (Expression 
 unfolding expr_at
 line_expr_limited {e} {d} (here {k}) =
     let f = line_expr k in
-    line_disjunction (line_primary (Expression k) (line_blocked_by (λ v. v.1) (sign marks.OpenParen) refl (line_before (sign marks.CloseParen) refl f refl))
+    line_disjunction (line_primary (Expression k) (line_blocked_by (λ v. v.1) (sign marks.OpenParen) refl
+    (line_before (sign marks.CloseParen) refl f refl))
     (line_blocked_by (λ v. v.1) (sign marks.OpenParen) refl (line_before_null (sign marks.CloseParen) refl (line_listed f refl) refl)))
-line_expr_limited (under {d = d} h) = let f = line_expr_limited h in line_disjunction (line_primary (Expression d) (line_parens f refl) (line_arguments f))
+line_expr_limited (under {d = d} h) = let f = line_expr_limited h in line_disjunction
+    (line_primary (Expression d) (line_parens f refl) (line_arguments f))
 
 -- ---- statements
 
-line_wider_on : {A : Type 0} {m : Limits} {L : Language A} {p : Parser A} {xs ys : List ℕ} → (also : List ℕ) → Line m L p xs ys false → Line m L p xs (ys ++ also) false
-line_wider_on {A} {m} {L} {p} {xs} {ys} also f = record { parses = parses_wider_on (among (ys ++ also)) (λ t h. less_left ys also (kind t) h) f.parses; free = f.free }
+line_wider_on : {A : Type 0} {m : Limits} {L : Language A} {p : Parser A} {xs ys : List ℕ} → (also : List ℕ) → Line m L p xs ys false
+    → Line m L p xs (ys ++ also) false
+line_wider_on {A} {m} {L} {p} {xs} {ys} also f = record {
+  parses = parses_wider_on (among (ys ++ also))
+      (λ t h. less_left ys also (kind t) h) f.parses;
+  free = f.free;
+}
 
-line_assignment : {m : Limits} {E : Language Expr} {p : Parser Expr} → Line m E p expr_starts expr_on false → Line m (Assignment E) (assignment m p) (0 ∷ []) [] false
-line_assignment {m} f = line_meaning (line_then (line_name m Statement) (line_after (sign marks.Assign) refl (line_before (sign marks.Semicolon) refl f refl)) refl)
+line_assignment : {m : Limits} {E : Language Expr} {p : Parser Expr} → Line m E p expr_starts expr_on false
+    → Line m (Assignment E) (assignment m p) (0 ∷ []) [] false
+line_assignment {m} f = line_meaning (line_then (line_name m Statement)
+    (line_after (sign marks.Assign) refl (line_before (sign marks.Semicolon) refl f refl)) refl)
 
-line_closing : (m : Limits) → Line m (Then (Token_of (sign marks.CloseParen)) (Token_of (sign marks.Semicolon))) (followed_by (token_of m (sign marks.CloseParen)) (token_of m (sign marks.Semicolon))) (25 ∷ []) [] false
+line_closing : (m : Limits) → Line m (Then (Token_of (sign marks.CloseParen)) (Token_of (sign marks.Semicolon)))
+    (followed_by (token_of m (sign marks.CloseParen)) (token_of m (sign marks.Semicolon))) (25 ∷ []) [] false
 line_closing m = line_then (line_is m Plain (sign marks.CloseParen) refl) (line_is m Plain (sign marks.Semicolon) refl) refl
 
-line_emission : {m : Limits} {p : Parser (Span × Span)} → Line m (After (sign marks.OpenParen) (Then (Token_of (sign marks.CloseParen)) (Token_of (sign marks.Semicolon)))) p (24 ∷ []) [] false → Line m Emission (emission m p) (7 ∷ []) [] false
+line_emission : {m : Limits} {p : Parser (Span × Span)} → Line m (After (sign marks.OpenParen)
+    (Then (Token_of (sign marks.CloseParen)) (Token_of (sign marks.Semicolon)))) p (24 ∷ []) [] false
+    → Line m Emission (emission m p) (7 ∷ []) [] false
 line_emission {m} f = line_meaning (line_then (line_is m Statement (keyword words.Emit) refl) f refl)
 
-line_block : {m : Limits} {S : Language Stmt} {p : Parser Stmt} → Line m S p stmt_starts (6 ∷ []) false → Line m (Block S) (block m p) (28 ∷ []) [] false
+line_block : {m : Limits} {S : Language Stmt} {p : Parser Stmt} → Line m S p stmt_starts (6 ∷ []) false
+    → Line m (Block S) (block m p) (28 ∷ []) [] false
 line_block f = line_after (sign marks.OpenBrace) refl (line_before_null (sign marks.CloseBrace) refl (line_repeated f refl) refl)
 
-line_if_part : {m : Limits} {p : Parser Expr} {q : Parser (List Stmt)} → (E : Language Expr) (S : Language Stmt) → Line m (Parens E) p (24 ∷ []) [] false → Line m (Block S) q (28 ∷ []) [] false
+line_if_part : {m : Limits} {p : Parser Expr} {q : Parser (List Stmt)} → (E : Language Expr) (S : Language Stmt)
+    → Line m (Parens E) p (24 ∷ []) [] false → Line m (Block S) q (28 ∷ []) [] false
     → Line m (IfPart E S) (if_part m p q) (5 ∷ []) [] false
 line_if_part {m} E S f g = line_then (line_is m Statement (keyword words.If) refl) (line_then f g refl) refl
 
-line_if : {m : Limits} {p : Parser Expr} {q : Parser (List Stmt)} → (E : Language Expr) (S : Language Stmt) → Line m (Parens E) p (24 ∷ []) [] false → Line m (Block S) q (28 ∷ []) [] false
+line_if : {m : Limits} {p : Parser Expr} {q : Parser (List Stmt)} → (E : Language Expr) (S : Language Stmt)
+    → Line m (Parens E) p (24 ∷ []) [] false → Line m (Block S) q (28 ∷ []) [] false
     → Line m (IfStatement E S) (if_statement m p q) (5 ∷ []) (6 ∷ []) false
 line_if {m} E S f g =
     let i = line_if_part E S f g in
-    line_meaning (line_then_null i (line_chained (line_after (keyword words.Else) refl (line_either (line_meaning g) (line_meaning i) refl)) refl) refl)
+    line_meaning (line_then_null i (line_chained (line_after (keyword words.Else) refl (line_either (line_meaning g) (line_meaning i) refl))
+    refl) refl)
 
-line_statement : {m : Limits} {v p : Parser Expr} {q : Parser (List Stmt)} {r : Parser (Span × Span)} → (V E : Language Expr) (S : Language Stmt) → Line m V v expr_starts expr_on false → Line m (Parens E) p (24 ∷ []) [] false → Line m (Block S) q (28 ∷ []) [] false
+line_statement : {m : Limits} {v p : Parser Expr} {q : Parser (List Stmt)} {r : Parser (Span × Span)}
+    → (V E : Language Expr) (S : Language Stmt) → Line m V v expr_starts expr_on false → Line m (Parens E) p (24 ∷ []) [] false
+    → Line m (Block S) q (28 ∷ []) [] false
     → Line m (After (sign marks.OpenParen) (Then (Token_of (sign marks.CloseParen)) (Token_of (sign marks.Semicolon)))) r (24 ∷ []) [] false
     → Line m (Either (Assignment V) (Either (IfStatement E S) Emission)) (statement m v p q r) stmt_starts (6 ∷ []) false
 line_statement V E S a f g h = line_either (line_assignment a) (line_either (line_if E S f g) (line_emission h) refl) refl
@@ -267,87 +342,119 @@ line_statement V E S a f g h = line_either (line_assignment a) (line_either (lin
 pub line_stmt : (d : ℕ) → Line Unlimited (Statement_at d) (stmt_at Unlimited d) stmt_starts (6 ∷ []) false
 unfolding stmt_at
 line_stmt zero = line_wider_on (6 ∷ []) (line_wider (5 ∷ 7 ∷ []) (line_assignment (line_expr zero)))
-line_stmt (suc d) = line_statement (Expression (suc d)) (Expression d) (Statement_at d) (line_expr (suc d)) (line_parens (line_expr d) refl) (line_block (line_stmt d)) (line_after (sign marks.OpenParen) refl (line_closing Unlimited))
+line_stmt (suc d) = line_statement (Expression (suc d)) (Expression d) (Statement_at d) (line_expr (suc d)) (line_parens (line_expr d) refl)
+    (line_block (line_stmt d)) (line_after (sign marks.OpenParen) refl (line_closing Unlimited))
 
 pub line_stmt_limited : {e d : ℕ} → Deeper e d → Line Limited (Statement_at d) (stmt_at Limited e) stmt_starts (6 ∷ []) false
 unfolding stmt_at
 line_stmt_limited {e} {d} (here {k}) =
     line_statement (Expression (suc k)) (Expression k) (Statement_at k) (line_expr_limited (here {k = k}))
     (line_blocked_by (λ v. v.1) (sign marks.OpenParen) refl (line_before (sign marks.CloseParen) refl (line_expr k) refl))
-    (line_blocked_by (λ v. v.1) (sign marks.OpenBrace) refl (line_before_null (sign marks.CloseBrace) refl (line_repeated (line_stmt k) refl) refl))
+    (line_blocked_by (λ v. v.1) (sign marks.OpenBrace) refl (line_before_null (sign marks.CloseBrace) refl
+    (line_repeated (line_stmt k) refl) refl))
     (line_blocked_by (λ v. v.1) (sign marks.OpenParen) refl (line_closing Limited))
-line_stmt_limited (under {d = d} h) = line_statement (Expression (suc d)) (Expression d) (Statement_at d) (line_expr_limited (under h)) (line_parens (line_expr_limited h) refl) (line_block (line_stmt_limited h)) (line_after (sign marks.OpenParen) refl (line_closing Limited))
+line_stmt_limited (under {d = d} h) = line_statement (Expression (suc d)) (Expression d) (Statement_at d) (line_expr_limited (under h))
+    (line_parens (line_expr_limited h) refl) (line_block (line_stmt_limited h))
+    (line_after (sign marks.OpenParen) refl (line_closing Limited))
 
 -- ---- items
 
 line_variable : (m : Limits) → Line m StateVariable (state_variable m) (0 ∷ []) (32 ∷ []) false
-line_variable m = line_meaning (line_then_null (line_name m Plain) (line_once (line_after (sign marks.Assign) refl (line_number m Plain))) refl)
+line_variable m = line_meaning (line_then_null (line_name m Plain) (line_once (line_after (sign marks.Assign) refl (line_number m Plain)))
+    refl)
 
 line_parameters : (m : Limits) → Line m Parameters (parameters m) (24 ∷ []) [] false
-line_parameters m = line_parens (line_then (line_brackets_null (line_listed (line_variable m) refl) refl) (line_comma (line_brackets_null (line_listed (line_name m Plain) refl) refl)) refl) refl
+line_parameters m = line_parens (line_then (line_brackets_null (line_listed (line_variable m) refl) refl)
+    (line_comma (line_brackets_null (line_listed (line_name m Plain) refl) refl)) refl) refl
 
-line_fold : {m : Limits} → (d : ℕ) {p : Parser Stmt} → Line m (Statement_at d) p stmt_starts (6 ∷ []) false → Line m (Fold d) (fold_def m p) (4 ∷ []) [] false
-line_fold {m} d f = line_meaning (line_then (line_is m Opening (keyword words.Def) refl) (line_then (line_name m Plain) (line_then (line_parameters m) (line_block f) refl) refl) refl)
+line_fold : {m : Limits} → (d : ℕ) {p : Parser Stmt} → Line m (Statement_at d) p stmt_starts (6 ∷ []) false
+    → Line m (Fold d) (fold_def m p) (4 ∷ []) [] false
+line_fold {m} d f = line_meaning (line_then (line_is m Opening (keyword words.Def) refl)
+    (line_then (line_name m Plain) (line_then (line_parameters m) (line_block f) refl) refl) refl)
 
-line_filter : {m : Limits} {E : Language Expr} {p : Parser Expr} → Line m E p expr_starts expr_on false → Line m (Filter E) (filter_of m p) (8 ∷ []) [] false
+line_filter : {m : Limits} {E : Language Expr} {p : Parser Expr} → Line m E p expr_starts expr_on false
+    → Line m (Filter E) (filter_of m p) (8 ∷ []) [] false
 line_filter {m} f = line_after (keyword words.Filter) refl (line_parens (line_then (line_name m Plain) (line_comma f) refl) refl)
 
-line_column : {m : Limits} {E : Language Expr} {p : Parser Expr} → Line m E p expr_starts expr_on false → Line m (ColumnOf E) (column_of m p) (0 ∷ []) expr_on false
+line_column : {m : Limits} {E : Language Expr} {p : Parser Expr} → Line m E p expr_starts expr_on false
+    → Line m (ColumnOf E) (column_of m p) (0 ∷ []) expr_on false
 line_column {m} f = line_meaning (line_then (line_name m Plain) (line_after (sign marks.Assign) refl f) refl)
 
-line_mapping : {m : Limits} {E : Language Expr} {p : Parser Expr} → Line m E p expr_starts expr_on false → Line m (Mapping E) (mapping m p) (9 ∷ []) [] false
-line_mapping {m} f = line_after (keyword words.Map) refl (line_parens (line_then (line_name m Plain) (line_comma (line_brackets (line_separated (line_column f) refl) refl)) refl) refl)
+line_mapping : {m : Limits} {E : Language Expr} {p : Parser Expr} → Line m E p expr_starts expr_on false
+    → Line m (Mapping E) (mapping m p) (9 ∷ []) [] false
+line_mapping {m} f = line_after (keyword words.Map) refl (line_parens (line_then (line_name m Plain)
+    (line_comma (line_brackets (line_separated (line_column f) refl) refl)) refl) refl)
 
-line_pairing : (m : Limits) (k : TokenKind) → one_of (kind_number k ∷ []) 3 ≡ false → Line m (Pairing k) (pairing m k) (kind_number k ∷ []) [] false
+line_pairing : (m : Limits) (k : TokenKind) → one_of (kind_number k ∷ []) 3 ≡ false
+    → Line m (Pairing k) (pairing m k) (kind_number k ∷ []) [] false
 line_pairing m k e = line_after k e (line_parens (line_then (line_name m Plain) (line_comma (line_name m Plain)) refl) refl)
 
 line_key : (m : Limits) → Line m KeyOf (key_of m) (0 ∷ 2 ∷ []) [] false
 line_key m = line_either (line_meaning (line_name m Plain)) (line_meaning (line_is m Plain kinds.FiveTuple refl)) refl
 
 line_group : (m : Limits) → Line m Group (group m) (11 ∷ []) [] false
-line_group m = line_after (keyword words.Groupby) refl (line_parens (line_then (line_name m Plain) (line_comma (line_then (line_brackets (line_separated (line_key m) refl) refl) (line_comma (line_name m Plain)) refl)) refl) refl)
+line_group m = line_after (keyword words.Groupby) refl (line_parens (line_then (line_name m Plain)
+    (line_comma (line_then (line_brackets (line_separated (line_key m) refl) refl) (line_comma (line_name m Plain)) refl)) refl) refl)
 
 line_best : (m : Limits) → Line m Best (best m) (15 ∷ []) [] false
-line_best m = line_after (keyword words.Top) refl (line_parens (line_then (line_name m Plain) (line_comma (line_then (line_name m Plain) (line_comma (line_number m Plain)) refl)) refl) refl)
+line_best m = line_after (keyword words.Top) refl (line_parens (line_then (line_name m Plain)
+    (line_comma (line_then (line_name m Plain) (line_comma (line_number m Plain)) refl)) refl) refl)
 
-line_streaming : {m : Limits} {E F : Language Expr} {p q : Parser Expr} → Line m E p expr_starts expr_on false → Line m F q expr_starts expr_on false
+line_streaming : {m : Limits} {E F : Language Expr} {p q : Parser Expr} → Line m E p expr_starts expr_on false
+    → Line m F q expr_starts expr_on false
     → Line m (Streaming E F) (streaming m p q) (8 ∷ 9 ∷ 10 ∷ 11 ∷ []) [] false
 line_streaming {m} f g = line_either (line_meaning (line_filter f)) (line_either (line_meaning (line_mapping g))
     (line_either (line_meaning (line_pairing m (keyword words.Zip) refl)) (line_meaning (line_group m)) refl) refl) refl
 
-line_stream : {m : Limits} {E F : Language Expr} {p q : Parser Expr} → Line m E p expr_starts expr_on false → Line m F q expr_starts expr_on false → Line m (Stream E F) (stream m p q) (0 ∷ []) [] false
-line_stream {m} f g = line_meaning (line_then (line_name m Opening) (line_after (sign marks.Assign) refl (line_before (sign marks.Semicolon) refl (line_streaming f g) refl)) refl)
+line_stream : {m : Limits} {E F : Language Expr} {p q : Parser Expr} → Line m E p expr_starts expr_on false
+    → Line m F q expr_starts expr_on false → Line m (Stream E F) (stream m p q) (0 ∷ []) [] false
+line_stream {m} f g = line_meaning (line_then (line_name m Opening) (line_after (sign marks.Assign) refl
+    (line_before (sign marks.Semicolon) refl (line_streaming f g) refl)) refl)
 
-line_finishing : {m : Limits} {E F : Language Expr} {p q : Parser Expr} → Line m E p expr_starts expr_on false → Line m F q expr_starts expr_on false
+line_finishing : {m : Limits} {E F : Language Expr} {p q : Parser Expr} → Line m E p expr_starts expr_on false
+    → Line m F q expr_starts expr_on false
     → Line m (Finishing E F) (finishing m p q) (8 ∷ 9 ∷ 11 ∷ 14 ∷ 15 ∷ []) [] false
-line_finishing {m} f g = line_either (line_meaning (line_filter f)) (line_either (line_meaning (line_mapping g)) (line_either (line_meaning (line_group m))
+line_finishing {m} f g = line_either (line_meaning (line_filter f)) (line_either (line_meaning (line_mapping g))
+    (line_either (line_meaning (line_group m))
     (line_either (line_meaning (line_pairing m (keyword words.Join) refl)) (line_meaning (line_best m)) refl) refl) refl) refl
 
-line_final : {m : Limits} {E F : Language Expr} {p q : Parser Expr} → Line m E p expr_starts expr_on false → Line m F q expr_starts expr_on false → Line m (Final E F) (final m p q) (12 ∷ []) [] false
-line_final {m} f g = line_meaning (line_then (line_is m Opening (keyword words.Final) refl) (line_then (line_name m Plain) (line_after (sign marks.Assign) refl (line_before (sign marks.Semicolon) refl (line_finishing f g) refl)) refl) refl)
+line_final : {m : Limits} {E F : Language Expr} {p q : Parser Expr} → Line m E p expr_starts expr_on false
+    → Line m F q expr_starts expr_on false → Line m (Final E F) (final m p q) (12 ∷ []) [] false
+line_final {m} f g = line_meaning (line_then (line_is m Opening (keyword words.Final) refl)
+    (line_then (line_name m Plain) (line_after (sign marks.Assign) refl (line_before (sign marks.Semicolon) refl (line_finishing f g) refl))
+    refl) refl)
 
 line_print : (m : Limits) → Line m Print (print m) (13 ∷ []) [] false
-line_print m = line_meaning (line_then (line_is m Opening (keyword words.Print) refl) (line_before (sign marks.Semicolon) refl (line_name m Plain) refl) refl)
+line_print m = line_meaning (line_then (line_is m Opening (keyword words.Print) refl)
+    (line_before (sign marks.Semicolon) refl (line_name m Plain) refl) refl)
 
-line_item : {m : Limits} {s : Parser Stmt} {p q : Parser Expr} → (d : ℕ) → Line m (Statement_at d) s stmt_starts (6 ∷ []) false → Line m (Expression d) p expr_starts expr_on false → Line m (Expression d) q expr_starts expr_on false
+line_item : {m : Limits} {s : Parser Stmt} {p q : Parser Expr} → (d : ℕ) → Line m (Statement_at d) s stmt_starts (6 ∷ []) false
+    → Line m (Expression d) p expr_starts expr_on false → Line m (Expression d) q expr_starts expr_on false
     → Line m (ItemOf d) (item m s p q) item_starts [] false
-line_item {m} d f g h = line_either (line_fold d f) (line_either (line_stream g h) (line_either (line_final g h) (line_print m) refl) refl) refl
+line_item {m} d f g h = line_either (line_fold d f) (line_either (line_stream g h) (line_either (line_final g h) (line_print m) refl) refl)
+    refl
 
 -- ---- the query
 
-pub line_items : {m : Limits} {s : Parser Stmt} {p q : Parser Expr} → (d : ℕ) → Line m (Statement_at d) s stmt_starts (6 ∷ []) false → Line m (Expression d) p expr_starts expr_on false → Line m (Expression d) q expr_starts expr_on false
+pub line_items : {m : Limits} {s : Parser Stmt} {p q : Parser Expr} → (d : ℕ) → Line m (Statement_at d) s stmt_starts (6 ∷ []) false
+    → Line m (Expression d) p expr_starts expr_on false → Line m (Expression d) q expr_starts expr_on false
     → Line m (Repeated (ItemOf d)) (repeated (among item_starts) (item m s p q)) item_starts (item_starts ++ []) true
 line_items d f g h = line_repeated (line_item d f g h) refl
 
 -- { item } end
-parses_query : {m : Limits} {L : Language (List Item)} {p : Parser (List Item)} → Line m L p item_starts (item_starts ++ []) true → Parses m (Then L (Token_of kinds.End)) (followed_by p (token_of m kinds.End)) (among (item_starts ++ (3 ∷ []))) (among []) false
-parses_query {m} {L} {p} f = parses_null_then (among (item_starts ++ (3 ∷ []))) (among []) f.parses (parses_wider (among (3 ∷ [])) (is_kind kinds.End) (parses_word m Plain (is kinds.End) (among []) (sample_of kinds.End) no_place (is_itself kinds.End)))
-    (λ t h. disjoint_is (3 ∷ []) (item_starts ++ []) (kind t) refl h) (λ t h. more_left item_starts (3 ∷ []) (kind t) h) (λ t h. more_right item_starts (3 ∷ []) (kind t) h) (λ t h. h)
+parses_query : {m : Limits} {L : Language (List Item)} {p : Parser (List Item)} → Line m L p item_starts (item_starts ++ []) true
+    → Parses m (Then L (Token_of kinds.End)) (followed_by p (token_of m kinds.End)) (among (item_starts ++ (3 ∷ []))) (among []) false
+parses_query {m} {L} {p} f = parses_null_then (among (item_starts ++ (3 ∷ []))) (among []) f.parses
+    (parses_wider (among (3 ∷ [])) (is_kind kinds.End) (parses_word m Plain (is kinds.End) (among []) (sample_of kinds.End) no_place
+    (is_itself kinds.End)))
+    (λ t h. disjoint_is (3 ∷ []) (item_starts ++ []) (kind t) refl h) (λ t h. more_left item_starts (3 ∷ []) (kind t) h)
+    (λ t h. more_right item_starts (3 ∷ []) (kind t) h) (λ t h. h)
 
 pub parses_unlimited : (d : ℕ) → Parses Unlimited (Query d) (query Unlimited d d) (among (item_starts ++ (3 ∷ []))) (among []) false
 parses_unlimited d = parses_query (line_items d (line_stmt d) (line_expr d) (line_expr d))
 
-pub parses_limited : {e e' d : ℕ} → Deeper e d → Deeper e' d → Parses Limited (Query d) (query Limited e e') (among (item_starts ++ (3 ∷ []))) (among []) false
+pub parses_limited : {e e' d : ℕ} → Deeper e d → Deeper e' d → Parses Limited (Query d) (query Limited e e')
+    (among (item_starts ++ (3 ∷ []))) (among []) false
 parses_limited {e} {e'} {d} h h' = parses_query (line_items d (line_stmt_limited h) (line_expr_limited h) (line_expr_limited h'))
 
 -- the words of items have no end

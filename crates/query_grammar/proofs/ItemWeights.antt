@@ -1,5 +1,6 @@
 -- The items of an accepted query keep the limits on nodes and statements.
-use Rattle.std.proofs.Common.{◌≡◌, ℕ, zero, suc, ◌+◌, ◌<◌, ◌≤◌, Bool, true, false, cond, ltb, List, [], ◌∷◌, ◌++◌, Option, Some, None, refl, sym, ap, ◌∙◌, arith, inl, inr, ◌⊎◌}
+use Rattle.std.proofs.Common.{◌≡◌, ℕ, zero, suc, ◌+◌, ◌<◌, ◌≤◌, Bool, true, false, cond, ltb, List, [], ◌∷◌, ◌++◌, Option, Some, None, refl}
+use Rattle.std.proofs.Common.{sym, ap, ◌∙◌, arith, inl, inr, ◌⊎◌}
 use Rattle.std.specs.Prelude.{All}
 use Rattle.std.specs.Option.{option_and_then}
 use Rattle.std.proofs.lemmas.Bool.{ltb-true}
@@ -18,20 +19,27 @@ use Rattle.query_grammar.specs.declared.stop.Counts.{Counts}
 use Rattle.query_grammar.specs.Kinds.{sign, keyword}
 use Rattle.query_grammar.specs.Language.{Role, Plain, Node, Statement, Opening, Leaf, Language, Word, Then, Repeated, Either, Meaning}
 use Rattle.query_grammar.specs.Parser.{Limited, charge, no_counts}
-use Rattle.query_grammar.specs.Grammar.{Plain_name, After, Brackets, Separated, Listed, StateVariable, Parameters, Fold, Filter, ColumnOf, Mapping, Pairing, KeyOf, Group, Best, Streaming, Stream, Finishing, Final, Print, ItemOf}
+use Rattle.query_grammar.specs.Grammar.{Plain_name, After, Brackets, Separated, Listed, StateVariable, Parameters, Fold, Filter, ColumnOf}
+use Rattle.query_grammar.specs.Grammar.{Mapping, Pairing, KeyOf, Group, Best, Streaming, Stream, Finishing, Final, Print, ItemOf}
 use Rattle.query_grammar.specs.Fault.{IsAccepted}
 use Rattle.query_grammar.proofs.Parses.{pays, pays-append}
 use Rattle.query_grammar.proofs.Runs.{Value, pays_is}
-use Rattle.query_grammar.proofs.Weights.{total, sum_total, is_node, is_statement, is_opening, leaves_by, Weight, Weighs, none, weigh_plain, weigh_then, weigh_meaning, weigh_either, weigh_once, weigh_same, weigh_after, weigh_before, weigh_between, weigh_separated, weigh_listed, weigh_parens, weigh_block, weigh_expr, weigh_stmt, if_some, nothing_in}
+use Rattle.query_grammar.proofs.Weights.{total, sum_total, is_node, is_statement, is_opening, leaves_by, Weight, Weighs, none, weigh_plain}
+use Rattle.query_grammar.proofs.Weights.{weigh_then, weigh_meaning, weigh_either, weigh_once, weigh_same, weigh_after, weigh_before}
+use Rattle.query_grammar.proofs.Weights.{weigh_between, weigh_separated, weigh_listed, weigh_parens, weigh_block, weigh_expr, weigh_stmt}
+use Rattle.query_grammar.proofs.Weights.{if_some, nothing_in}
 
 -- ---- what a limit leaves
 
 -- leaves that are counted from these counts on keep the limits
 abbrev Bounded : List Leaf → Counts → Counts → Type 0
-Bounded w c e = leaves_by is_opening w ≡ 0 → pays Limited c w ≡ Some e → c.nodes ≤ 512 → c.statements ≤ 64 → (c.nodes + leaves_by is_node w ≤ 512) × (c.statements + leaves_by is_statement w ≤ 64)
+Bounded w c e = leaves_by is_opening w ≡ 0 → pays Limited c w ≡ Some e → c.nodes ≤ 512 → c.statements ≤ 64
+    → (c.nodes + leaves_by is_node w ≤ 512) × (c.statements + leaves_by is_statement w ≤ 64)
 
-node_more : (w : List Leaf) (c e : Counts) → ((m : Counts) → Bounded w m e) → c.statements ≤ 64 → (b : Bool) → ltb c.nodes 512 ≡ b → leaves_by is_opening w ≡ 0
-    → option_and_then (λ d. pays Limited d w) (cond {A = Option Counts} b (Some (record { nodes = c.nodes + 1; statements = c.statements })) None) ≡ Some e
+node_more : (w : List Leaf) (c e : Counts) → ((m : Counts) → Bounded w m e) → c.statements ≤ 64 → (b : Bool) → ltb c.nodes 512 ≡ b
+    → leaves_by is_opening w ≡ 0
+    → option_and_then (λ d. pays Limited d w) (cond {A = Option Counts} b (Some (record { nodes = c.nodes + 1; statements = c.statements }))
+    None) ≡ Some e
     → (c.nodes + (1 + leaves_by is_node w) ≤ 512) × (c.statements + (0 + leaves_by is_statement w) ≤ 64)
 node_more w c e ih s true t i k =
     let small : c.nodes < 512 = ltb-true c.nodes 512 t in
@@ -39,8 +47,10 @@ node_more w c e ih s true t i k =
     (omega (arith, r.0), omega (arith, r.1))
 node_more w c e ih s false t i k = absurd cc
 
-statement_more : (w : List Leaf) (c e : Counts) → ((m : Counts) → Bounded w m e) → c.nodes ≤ 512 → (b : Bool) → ltb c.statements 64 ≡ b → leaves_by is_opening w ≡ 0
-    → option_and_then (λ d. pays Limited d w) (cond {A = Option Counts} b (Some (record { nodes = c.nodes; statements = c.statements + 1 })) None) ≡ Some e
+statement_more : (w : List Leaf) (c e : Counts) → ((m : Counts) → Bounded w m e) → c.nodes ≤ 512 → (b : Bool) → ltb c.statements 64 ≡ b
+    → leaves_by is_opening w ≡ 0
+    → option_and_then (λ d. pays Limited d w) (cond {A = Option Counts} b (Some (record { nodes = c.nodes; statements = c.statements + 1 }))
+    None) ≡ Some e
     → (c.nodes + (0 + leaves_by is_node w) ≤ 512) × (c.statements + (1 + leaves_by is_statement w) ≤ 64)
 statement_more w c e ih n true t i k =
     let small : c.statements < 64 = ltb-true c.statements 64 t in
@@ -48,8 +58,10 @@ statement_more w c e ih n true t i k =
     (omega (arith, r.0), omega (arith, r.1))
 statement_more w c e ih n false t i k = absurd cc
 
-one_more : (w : List Leaf) (c e : Counts) → ((m : Counts) → Bounded w m e) → c.nodes ≤ 512 → c.statements ≤ 64 → (r : Role) → is_opening r + leaves_by is_opening w ≡ 0
-    → option_and_then (λ d. pays Limited d w) (charge Limited r c) ≡ Some e → (c.nodes + (is_node r + leaves_by is_node w) ≤ 512) × (c.statements + (is_statement r + leaves_by is_statement w) ≤ 64)
+one_more : (w : List Leaf) (c e : Counts) → ((m : Counts) → Bounded w m e) → c.nodes ≤ 512 → c.statements ≤ 64 → (r : Role) → is_opening r
+    + leaves_by is_opening w ≡ 0
+    → option_and_then (λ d. pays Limited d w) (charge Limited r c) ≡ Some e → (c.nodes + (is_node r + leaves_by is_node w) ≤ 512)
+    × (c.statements + (is_statement r + leaves_by is_statement w) ≤ 64)
 one_more w c e ih n s Plain i k = let r = ih c (omega (arith, i)) k n s in (omega (arith, r.0), omega (arith, r.1))
 one_more w c e ih n s Opening i k = absurd (omega (arith, i))
 one_more w c e ih n s Node i k = node_more w c e ih s (ltb c.nodes 512) refl (omega (arith, i)) k
@@ -59,10 +71,12 @@ bound : (w : List Leaf) (c e : Counts) → Bounded w c e
 bound [] c e inner h n s = (omega arith, omega arith)
 bound (l ∷ w) c e inner h n s = one_more w c e (λ m. bound w m e) n s l.role inner h
 
-pays_part : (c e : Counts) (u w : List Leaf) → pays Limited c (u ++ w) ≡ Some e → (m : Counts) × (pays Limited c u ≡ Some m) × (pays Limited m w ≡ Some e)
+pays_part : (c e : Counts) (u w : List Leaf) → pays Limited c (u ++ w) ≡ Some e → (m : Counts) × (pays Limited c u ≡ Some m)
+    × (pays Limited m w ≡ Some e)
 pays_part c e u w h = go (pays Limited c u) refl (sym (pays-append Limited c u w) ∙ h)
   where
-    go : (o : Option Counts) → pays Limited c u ≡ o → option_and_then (λ d. pays Limited d w) o ≡ Some e → (m : Counts) × (pays Limited c u ≡ Some m) × (pays Limited m w ≡ Some e)
+    go : (o : Option Counts) → pays Limited c u ≡ o → option_and_then (λ d. pays Limited d w) o ≡ Some e → (m : Counts)
+        × (pays Limited c u ≡ Some m) × (pays Limited m w ≡ Some e)
     go None p k = absurd cc
     go (Some m) p k = (m, p, k)
 
@@ -71,13 +85,34 @@ pays_part c e u w h = go (pays Limited c u) refl (sym (pays-append Limited c u w
 pub record Opens {A : Type 0} (L : Language A) (f g : A → ℕ) : Type 0 where
   pub is : (w : List Leaf) (v : A) → L w v → (l : Leaf) × (x : List Leaf) × (w ≡ l ∷ x) × (l.role ≡ Opening) × Weight x (f v) (g v)
 
-opens_then : {A B : Type 0} {takes : Token → Option A} {M : Language B} (f g : B → ℕ) → Weighs M f g → Opens (Then (Word Opening takes) M) (λ v. f v.1) (λ v. g v.1)
-opens_then f g p = record { is = λ w v h. (record { role = Opening; token = h.3.0 }, h.1, h.2 ∙ ap (λ (u : List Leaf). u ++ h.1) h.3.1, refl, p.is h.1 v.1 h.4) }
+opens_then : {A B : Type 0} {takes : Token → Option A} {M : Language B} (f g : B → ℕ) → Weighs M f g
+    → Opens (Then (Word Opening takes) M) (λ v. f v.1) (λ v. g v.1)
+opens_then f g p = record {
+  is = λ w v h. (
+    record { role = Opening; token = h.3.0 },
+    h.1,
+    h.2
+        ∙ ap (λ (u : List Leaf). u ++ h.1) h.3.1,
+    refl,
+    p.is h.1 v.1 h.4,
+  );
+}
 
-opens_meaning : {A B : Type 0} {L : Language A} {h : A → B} (f g : A → ℕ) (f' g' : B → ℕ) → Opens L f g → ((a : A) → f a ≡ f' (h a)) → ((a : A) → g a ≡ g' (h a)) → Opens (Meaning h L) f' g'
+opens_meaning : {A B : Type 0} {L : Language A} {h : A → B} (f g : A → ℕ) (f' g' : B → ℕ) → Opens L f g → ((a : A) → f a ≡ f' (h a))
+    → ((a : A) → g a ≡ g' (h a)) → Opens (Meaning h L) f' g'
 opens_meaning {h = h} f g f' g' p e d = record {
-  is = λ w v m. let o = p.is w m.0 m.1 in
-      (o.0, o.1, o.2, o.3, record { nodes = o.4.nodes ∙ e m.0 ∙ ap f' m.2; statements = o.4.statements ∙ d m.0 ∙ ap g' m.2; inner = o.4.inner });
+  is = λ w v m. let o = p.is w m.0 m.1 in (
+    o.0,
+    o.1,
+    o.2,
+    o.3,
+    record {
+      nodes = o.4.nodes ∙ e m.0 ∙ ap f' m.2;
+      statements = o.4.statements ∙ d m.0 ∙ ap g' m.2;
+      inner =
+          o.4.inner;
+    },
+  );
 }
 
 opens_either : {A : Type 0} {L M : Language A} (f g : A → ℕ) → Opens L f g → Opens M f g → Opens (Either L M) f g
@@ -94,7 +129,8 @@ none_then p q = weigh_same (λ v. 0 + 0) (λ v. 0 + 0) none none (weigh_then non
 
 -- a name before what weighs
 named : {B : Type 0} {M : Language B} (f g : B → ℕ) → Weighs M f g → Weighs (Then Plain_name M) (λ v. f v.1) (λ v. g v.1)
-named f g q = weigh_same (λ v. 0 + f v.1) (λ v. 0 + g v.1) (λ v. f v.1) (λ v. g v.1) (weigh_then none none f g weigh_plain q) (λ a. omega arith) (λ a. omega arith)
+named f g q = weigh_same (λ v. 0 + f v.1) (λ v. 0 + g v.1) (λ v. f v.1) (λ v. g v.1) (weigh_then none none f g weigh_plain q)
+    (λ a. omega arith) (λ a. omega arith)
 
 comma : {A : Type 0} {L : Language A} (f g : A → ℕ) → Weighs L f g → Weighs (After (sign marks.Comma) L) f g
 comma f g p = weigh_after (sign marks.Comma) f g p
@@ -109,14 +145,17 @@ bracketed : {A : Type 0} {L : Language A} (f g : A → ℕ) → Weighs L f g →
 bracketed f g p = weigh_between (sign marks.OpenBracket) (sign marks.CloseBracket) f g p
 
 weigh_variable : Weighs StateVariable none none
-weigh_variable = weigh_meaning none none none none (none_then weigh_plain (weigh_same (if_some none) (if_some none) none none (weigh_once none none (weigh_after (sign marks.Assign) none none weigh_plain)) either either)) (λ a. refl) (λ a. refl)
+weigh_variable = weigh_meaning none none none none (none_then weigh_plain
+    (weigh_same (if_some none) (if_some none) none none (weigh_once none none (weigh_after (sign marks.Assign) none none weigh_plain))
+    either either)) (λ a. refl) (λ a. refl)
   where
     either : (o : Option (ℕ × Span)) → if_some none o ≡ 0
     either None = refl
     either (Some n) = refl
 
 weigh_parameters : Weighs Parameters none none
-weigh_parameters = weigh_parens none none (none_then (bracketed none none (none_listed weigh_variable)) (comma none none (bracketed none none (none_listed weigh_plain))))
+weigh_parameters = weigh_parens none none (none_then (bracketed none none (none_listed weigh_variable))
+    (comma none none (bracketed none none (none_listed weigh_plain))))
 
 abbrev pub item_nodes : Item → ℕ
 item_nodes (items.Fold d) = total stmt_nodes d.body
@@ -133,42 +172,53 @@ item_count (items.Print table) = 0
 pub opens_fold : (d : ℕ) → Opens (Fold d) item_nodes item_count
 opens_fold d = opens_meaning (λ v. 0 + total stmt_nodes v.1.1.1) (λ v. 0 + total stmt_count v.1.1.1) item_nodes item_count
     (opens_then (λ v. 0 + total stmt_nodes v.1.1) (λ v. 0 + total stmt_count v.1.1)
-    (named (λ v. 0 + total stmt_nodes v.1) (λ v. 0 + total stmt_count v.1) (weigh_then none none (total stmt_nodes) (total stmt_count) weigh_parameters (weigh_block (weigh_stmt d)))))
+    (named (λ v. 0 + total stmt_nodes v.1) (λ v. 0 + total stmt_count v.1)
+    (weigh_then none none (total stmt_nodes) (total stmt_count) weigh_parameters (weigh_block (weigh_stmt d)))))
     (λ a. omega arith) (λ a. omega arith)
 
 weigh_filter : {E : Language Expr} → Weighs E expr_nodes none → Weighs (Filter E) (λ v. expr_nodes v.1) none
-weigh_filter p = weigh_after (keyword words.Filter) (λ v. expr_nodes v.1) none (weigh_parens (λ v. expr_nodes v.1) none (named expr_nodes none (comma expr_nodes none p)))
+weigh_filter p = weigh_after (keyword words.Filter) (λ v. expr_nodes v.1) none
+    (weigh_parens (λ v. expr_nodes v.1) none (named expr_nodes none (comma expr_nodes none p)))
 
 abbrev column_nodes : Column → ℕ
 column_nodes c = expr_nodes c.value
 
 weigh_column : {E : Language Expr} → Weighs E expr_nodes none → Weighs (ColumnOf E) column_nodes none
-weigh_column p = weigh_meaning (λ v. expr_nodes v.1) none column_nodes none (named expr_nodes none (weigh_after (sign marks.Assign) expr_nodes none p)) (λ a. refl) (λ a. refl)
+weigh_column p = weigh_meaning (λ v. expr_nodes v.1) none column_nodes none
+    (named expr_nodes none (weigh_after (sign marks.Assign) expr_nodes none p)) (λ a. refl) (λ a. refl)
 
 weigh_mapping : {E : Language Expr} → Weighs E expr_nodes none → Weighs (Mapping E) (λ v. columns_nodes v.1) none
-weigh_mapping p = weigh_after (keyword words.Map) (λ v. columns_nodes v.1) none (weigh_parens (λ v. columns_nodes v.1) none (named columns_nodes none (comma columns_nodes none (bracketed columns_nodes none
-    (weigh_same (total column_nodes) (total none) columns_nodes none (weigh_separated column_nodes none (weigh_column p)) (λ a. sym (sum_total column_nodes a)) nothing_in)))))
+weigh_mapping p = weigh_after (keyword words.Map) (λ v. columns_nodes v.1) none
+    (weigh_parens (λ v. columns_nodes v.1) none (named columns_nodes none (comma columns_nodes none (bracketed columns_nodes none
+    (weigh_same (total column_nodes) (total none) columns_nodes none (weigh_separated column_nodes none (weigh_column p))
+    (λ a. sym (sum_total column_nodes a)) nothing_in)))))
 
 weigh_pairing : (k : TokenKind) → Weighs (Pairing k) none none
 weigh_pairing k = weigh_after k none none (weigh_parens none none (none_then weigh_plain (comma none none weigh_plain)))
 
 weigh_key : Weighs KeyOf none none
-weigh_key = weigh_either none none (weigh_meaning none none none none weigh_plain (λ a. refl) (λ a. refl)) (weigh_meaning none none none none weigh_plain (λ a. refl) (λ a. refl))
+weigh_key = weigh_either none none (weigh_meaning none none none none weigh_plain (λ a. refl) (λ a. refl))
+    (weigh_meaning none none none none weigh_plain (λ a. refl) (λ a. refl))
 
 weigh_group : Weighs Group none none
-weigh_group = weigh_after (keyword words.Groupby) none none (weigh_parens none none (none_then weigh_plain (comma none none (none_then (bracketed none none (none_separated weigh_key)) (comma none none weigh_plain)))))
+weigh_group = weigh_after (keyword words.Groupby) none none (weigh_parens none none
+    (none_then weigh_plain (comma none none (none_then (bracketed none none (none_separated weigh_key)) (comma none none weigh_plain)))))
 
 weigh_best : Weighs Best none none
-weigh_best = weigh_after (keyword words.Top) none none (weigh_parens none none (none_then weigh_plain (comma none none (none_then weigh_plain (comma none none weigh_plain)))))
+weigh_best = weigh_after (keyword words.Top) none none (weigh_parens none none
+    (none_then weigh_plain (comma none none (none_then weigh_plain (comma none none weigh_plain)))))
 
 weigh_streaming : {E : Language Expr} → Weighs E expr_nodes none → Weighs (Streaming E E) stream_nodes none
-weigh_streaming p = weigh_either stream_nodes none (weigh_meaning (λ v. expr_nodes v.1) none stream_nodes none (weigh_filter p) (λ a. refl) (λ a. refl))
-    (weigh_either stream_nodes none (weigh_meaning (λ v. columns_nodes v.1) none stream_nodes none (weigh_mapping p) (λ a. refl) (λ a. refl))
+weigh_streaming p = weigh_either stream_nodes none (weigh_meaning (λ v. expr_nodes v.1) none stream_nodes none (weigh_filter p) (λ a. refl)
+    (λ a. refl))
+    (weigh_either stream_nodes none (weigh_meaning (λ v. columns_nodes v.1) none stream_nodes none (weigh_mapping p) (λ a. refl)
+    (λ a. refl))
     (weigh_either stream_nodes none (weigh_meaning none none stream_nodes none (weigh_pairing (keyword words.Zip)) (λ a. refl) (λ a. refl))
     (weigh_meaning none none stream_nodes none weigh_group (λ a. refl) (λ a. refl))))
 
 weigh_finishing : {E : Language Expr} → Weighs E expr_nodes none → Weighs (Finishing E E) final_nodes none
-weigh_finishing p = weigh_either final_nodes none (weigh_meaning (λ v. expr_nodes v.1) none final_nodes none (weigh_filter p) (λ a. refl) (λ a. refl))
+weigh_finishing p = weigh_either final_nodes none (weigh_meaning (λ v. expr_nodes v.1) none final_nodes none (weigh_filter p) (λ a. refl)
+    (λ a. refl))
     (weigh_either final_nodes none (weigh_meaning (λ v. columns_nodes v.1) none final_nodes none (weigh_mapping p) (λ a. refl) (λ a. refl))
     (weigh_either final_nodes none (weigh_meaning none none final_nodes none weigh_group (λ a. refl) (λ a. refl))
     (weigh_either final_nodes none (weigh_meaning none none final_nodes none (weigh_pairing (keyword words.Join)) (λ a. refl) (λ a. refl))
@@ -176,17 +226,21 @@ weigh_finishing p = weigh_either final_nodes none (weigh_meaning (λ v. expr_nod
 
 opens_stream : {E : Language Expr} → Weighs E expr_nodes none → Opens (Stream E E) item_nodes item_count
 opens_stream p = opens_meaning (λ v. stream_nodes v.1) (λ v. 0) item_nodes item_count
-    (opens_then stream_nodes none (weigh_between (sign marks.Assign) (sign marks.Semicolon) stream_nodes none (weigh_streaming p))) (λ a. refl) (λ a. refl)
+    (opens_then stream_nodes none (weigh_between (sign marks.Assign) (sign marks.Semicolon) stream_nodes none (weigh_streaming p)))
+    (λ a. refl) (λ a. refl)
 
 opens_final : {E : Language Expr} → Weighs E expr_nodes none → Opens (Final E E) item_nodes item_count
 opens_final p = opens_meaning (λ v. final_nodes v.1.1) (λ v. 0) item_nodes item_count
-    (opens_then (λ v. final_nodes v.1) none (named final_nodes none (weigh_between (sign marks.Assign) (sign marks.Semicolon) final_nodes none (weigh_finishing p)))) (λ a. refl) (λ a. refl)
+    (opens_then (λ v. final_nodes v.1) none (named final_nodes none (weigh_between (sign marks.Assign) (sign marks.Semicolon) final_nodes
+    none (weigh_finishing p)))) (λ a. refl) (λ a. refl)
 
 opens_print : Opens Print item_nodes item_count
-opens_print = opens_meaning (λ v. 0) (λ v. 0) item_nodes item_count (opens_then none none (weigh_before (sign marks.Semicolon) none none weigh_plain)) (λ a. refl) (λ a. refl)
+opens_print = opens_meaning (λ v. 0) (λ v. 0) item_nodes item_count (opens_then none none
+    (weigh_before (sign marks.Semicolon) none none weigh_plain)) (λ a. refl) (λ a. refl)
 
 opens_item : (d : ℕ) → Opens (ItemOf d) item_nodes item_count
-opens_item d = opens_either item_nodes item_count (opens_fold d) (opens_either item_nodes item_count (opens_stream (weigh_expr d)) (opens_either item_nodes item_count (opens_final (weigh_expr d)) opens_print))
+opens_item d = opens_either item_nodes item_count (opens_fold d) (opens_either item_nodes item_count (opens_stream (weigh_expr d))
+    (opens_either item_nodes item_count (opens_final (weigh_expr d)) opens_print))
 
 -- ---- limits
 
@@ -207,11 +261,13 @@ item_keeps : (d : ℕ) (w : List Leaf) (v : Item) (c e : Counts) → ItemOf d w 
 item_keeps d w v c e h p =
     let o = (opens_item d).is w v h in
     let first : option_and_then (λ m. pays Limited m o.1) (charge Limited o.0.role c) ≡ Some e = ap (pays Limited c) (sym o.2) ∙ p in
-    let rest : pays Limited no_counts o.1 ≡ Some e = ap (λ (r : Role). option_and_then (λ m. pays Limited m o.1) (charge Limited r c)) (sym o.3) ∙ first in
+    let rest : pays Limited no_counts o.1 ≡ Some e = ap (λ (r : Role). option_and_then (λ m. pays Limited m o.1) (charge Limited r c))
+    (sym o.3) ∙ first in
     let b = bound o.1 no_counts e o.4.inner rest (omega arith) (omega arith) in
     keeps v (omega (arith, b.0, o.4.nodes)) (omega (arith, b.1, o.4.statements))
 
-items_keep : (d : ℕ) (w : List Leaf) (v : List Item) (c e : Counts) → Repeated (ItemOf d) w v → pays Limited c w ≡ Some e → All KeepsLimits v
+items_keep : (d : ℕ) (w : List Leaf) (v : List Item) (c e : Counts) → Repeated (ItemOf d) w v → pays Limited c w ≡ Some e
+    → All KeepsLimits v
 items_keep d w [] c e h p = all_none KeepsLimits
 items_keep d w (a ∷ others) c e h p =
     let m = pays_part c e h.0 h.1 (ap (pays Limited c) (sym h.2) ∙ p) in

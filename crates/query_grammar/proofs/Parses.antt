@@ -7,7 +7,8 @@ use Rattle.query_grammar.specs.Language.{Role, Plain, Node, Statement, Opening, 
 use Rattle.query_grammar.specs.declared.stop.Counts.{Counts}
 use Rattle.query_grammar.specs.declared.stop.Stop.{Stop}
 use Rattle.query_grammar.specs.declared.stop.Stop.TheVariants.{Unexpected, Nodes, Statements, Nesting}
-use Rattle.query_grammar.specs.Parser.{Limits, Limited, Unlimited, charge, limit_of, Outcome, Done, Stopped, Parser, paid, taken, word, next_is}
+use Rattle.query_grammar.specs.Parser.{Limits, Limited, Unlimited, charge, limit_of, Outcome, Done, Stopped, Parser, paid, taken, word}
+use Rattle.query_grammar.specs.Parser.{next_is}
 
 -- the same next token
 abbrev pub SameNext : List Token → List Token → Type 0
@@ -23,7 +24,8 @@ pub pays-append : (m : Limits) (c : Counts) (w x : List Leaf) → pays m c (w ++
 pays-append m c [] x = refl
 pays-append m c (l ∷ w) x = go (λ d. pays-append m d w x) (charge m l.role c)
   where
-    go : ((d : Counts) → pays m d (w ++ x) ≡ option_and_then (λ e. pays m e x) (pays m d w)) → (o : Option Counts) → option_and_then (λ d. pays m d (w ++ x)) o ≡ option_and_then (λ d. pays m d x) (option_and_then (λ d. pays m d w) o)
+    go : ((d : Counts) → pays m d (w ++ x) ≡ option_and_then (λ e. pays m e x) (pays m d w)) → (o : Option Counts)
+        → option_and_then (λ d. pays m d (w ++ x)) o ≡ option_and_then (λ d. pays m d x) (option_and_then (λ d. pays m d w) o)
     go h None = refl
     go h (Some d) = h d
 
@@ -31,10 +33,12 @@ pub pays_both : (m : Limits) (c d e : Counts) (w x : List Leaf) → pays m c w �
 pays_both m c d e w x p q = pays-append m c w x ∙ rw p q
 
 pub tokens-append : (w x : List Leaf) (rest : List Token) → tokens_of (w ++ x) ++ rest ≡ tokens_of w ++ (tokens_of x ++ rest)
-tokens-append w x rest = ap (λ (ts : List Token). ts ++ rest) (map-append (λ (l : Leaf). l.token) w x) ∙ append_assoc (tokens_of w) (tokens_of x) rest
+tokens-append w x rest = ap (λ (ts : List Token). ts ++ rest) (map-append (λ (l : Leaf). l.token) w x)
+    ∙ append_assoc (tokens_of w) (tokens_of x) rest
 
 -- what the parser read is a word of the language, and it looked no further than the next token
-pub record Found {A : Type 0} (m : Limits) (L : List Leaf → A → Type 0) (p : Parser A) (c : Counts) (ts : List Token) (v : A) (d : Counts) (rest : List Token) : Type 0 where
+pub record Found {A : Type 0} (m : Limits) (L : List Leaf → A → Type 0) (p : Parser A) (c : Counts) (ts : List Token) (v : A) (d : Counts)
+    (rest : List Token) : Type 0 where
   pub front : List Leaf
   pub split : ts ≡ tokens_of front ++ rest
   pub means : L front v
@@ -49,7 +53,8 @@ Stops m Statements d l = (l.role ≡ Statement) × (charge m l.role d ≡ None)
 Stops m Nesting d l = l.role ≡ Plain
 
 abbrev pub StopsFirst : Limits → Stop → Counts → List Leaf → List Token → Type 0
-StopsFirst m k d more rest = (l : Leaf) × (others : List Leaf) × (ts : List Token) × (more ≡ l ∷ others) × (rest ≡ l.token ∷ ts) × Stops m k d l
+StopsFirst m k d more rest = (l : Leaf) × (others : List Leaf) × (ts : List Token) × (more ≡ l ∷ others) × (rest ≡ l.token ∷ ts)
+    × Stops m k d l
 
 -- why it stopped: the first token passes a limit, and else nothing is said
 abbrev pub Cause : Limits → Stop → Counts → List Leaf → List Token → Type 0
@@ -59,7 +64,8 @@ Cause m Statements d more rest = StopsFirst m Statements d more rest
 Cause m Nesting d more rest = StopsFirst m Nesting d more rest
 
 -- what the parser read before the fault begins a word of the language, and it looked no further than the fault
-pub record Halted {A : Type 0} (m : Limits) (L : List Leaf → A → Type 0) (p : Parser A) (c : Counts) (ts : List Token) (k : Stop) (rest : List Token) : Type 0 where
+pub record Halted {A : Type 0} (m : Limits) (L : List Leaf → A → Type 0) (p : Parser A) (c : Counts) (ts : List Token) (k : Stop)
+    (rest : List Token) : Type 0 where
   pub front : List Leaf
   pub split : ts ≡ tokens_of front ++ rest
   pub counts : Counts
@@ -97,7 +103,8 @@ pub data Begins (starts : Token → Bool) : Bool → List Leaf → Type 0 where
   something : {nullable : Bool} → (l : Leaf) → (others : List Leaf) → starts l.token ≡ true → Begins starts nullable (l ∷ others)
 
 -- the parser meets the language. Its words begin with tokens of `starts`; it reads on at tokens of `goes_on`
-pub record Parses {A : Type 0} (m : Limits) (L : List Leaf → A → Type 0) (p : Parser A) (starts goes_on : Token → Bool) (nullable : Bool) : Type 0 where
+pub record Parses {A : Type 0} (m : Limits) (L : List Leaf → A → Type 0) (p : Parser A) (starts goes_on : Token → Bool)
+    (nullable : Bool) : Type 0 where
   pub meets : (c : Counts) (ts : List Token) → Meets m L p c ts (p c ts)
   pub complete : (c : Counts) (w : List Leaf) (v : A) (rest : List Token) → L w v → next_is goes_on rest ≡ false → Reads m p c w v rest
   pub begins : (w : List Leaf) (v : A) → L w v → Begins starts nullable w
@@ -113,22 +120,28 @@ pub same_next : (test : Token → Bool) (ts x : List Token) → SameNext ts x �
 same_next test [] x s = rw s refl
 same_next test (t ∷ ts) x s = rw s.1 refl
 
-pub starts_of : {starts : Token → Bool} {w : List Leaf} → Begins starts false w → (l : Leaf) × (others : List Leaf) × (w ≡ l ∷ others) × (starts l.token ≡ true)
+pub starts_of : {starts : Token → Bool} {w : List Leaf} → Begins starts false w → (l : Leaf) × (others : List Leaf) × (w ≡ l ∷ others)
+    × (starts l.token ≡ true)
 starts_of (something l others s) = (l, others, refl, s)
 
-pub next_starts : {starts : Token → Bool} {w : List Leaf} (rest : List Token) → Begins starts false w → next_is starts (tokens_of w ++ rest) ≡ true
+pub next_starts : {starts : Token → Bool} {w : List Leaf} (rest : List Token) → Begins starts false w
+    → next_is starts (tokens_of w ++ rest) ≡ true
 next_starts rest (something l others s) = s
 
-pub next_clear : {starts : Token → Bool} {nullable : Bool} {w : List Leaf} (test : Token → Bool) (rest : List Token) → Begins starts nullable w
-    → (nullable ≡ true → next_is test rest ≡ false) → ((t : Token) → starts t ≡ true → test t ≡ false) → next_is test (tokens_of w ++ rest) ≡ false
+pub next_clear : {starts : Token → Bool} {nullable : Bool} {w : List Leaf} (test : Token → Bool) (rest : List Token)
+    → Begins starts nullable w
+    → (nullable ≡ true → next_is test rest ≡ false) → ((t : Token) → starts t ≡ true → test t ≡ false)
+    → next_is test (tokens_of w ++ rest) ≡ false
 next_clear test rest nothing h a = h refl
 next_clear test rest (something l others s) h a = a l.token s
 
-pub fewer : (test on : Token → Bool) (rest : List Token) → ((t : Token) → on t ≡ false → test t ≡ false) → next_is on rest ≡ false → next_is test rest ≡ false
+pub fewer : (test on : Token → Bool) (rest : List Token) → ((t : Token) → on t ≡ false → test t ≡ false) → next_is on rest ≡ false
+    → next_is test rest ≡ false
 fewer test on [] h e = refl
 fewer test on (t ∷ ts) h e = h t e
 
-pub wider : {starts also : Token → Bool} {nullable : Bool} {w : List Leaf} → ((t : Token) → starts t ≡ true → also t ≡ true) → Begins starts nullable w → Begins also nullable w
+pub wider : {starts also : Token → Bool} {nullable : Bool} {w : List Leaf} → ((t : Token) → starts t ≡ true → also t ≡ true)
+    → Begins starts nullable w → Begins also nullable w
 wider h nothing = nothing
 wider h (something l others s) = something l others (h l.token s)
 
@@ -139,23 +152,27 @@ limited_of Unlimited Node c e = absurd cc
 limited_of Unlimited Statement c e = absurd cc
 limited_of Unlimited Opening c e = absurd cc
 
-first_more : (m : Limits) (k : Stop) (d : Counts) (more also : List Leaf) (rest : List Token) → StopsFirst m k d more rest → StopsFirst m k d (more ++ also) rest
+first_more : (m : Limits) (k : Stop) (d : Counts) (more also : List Leaf) (rest : List Token) → StopsFirst m k d more rest
+    → StopsFirst m k d (more ++ also) rest
 first_more m k d more also rest h = (h.0, h.1 ++ also, h.2, ap (λ (x : List Leaf). x ++ also) h.3, h.4, h.5)
 
-pub cause_more : (m : Limits) (k : Stop) (d : Counts) (more also : List Leaf) (rest : List Token) → Cause m k d more rest → Cause m k d (more ++ also) rest
+pub cause_more : (m : Limits) (k : Stop) (d : Counts) (more also : List Leaf) (rest : List Token) → Cause m k d more rest
+    → Cause m k d (more ++ also) rest
 cause_more m Unexpected d more also rest h = tt
 cause_more m Nodes d more also rest h = first_more m Nodes d more also rest h
 cause_more m Statements d more also rest h = first_more m Statements d more also rest h
 cause_more m Nesting d more also rest h = first_more m Nesting d more also rest h
 
 -- a token whose role passes a limit
-charge_stops : (m : Limits) (role : Role) (c : Counts) (t : Token) → charge m role c ≡ None → Stops m (limit_of role) c (record { role = role; token = t })
+charge_stops : (m : Limits) (role : Role) (c : Counts) (t : Token) → charge m role c ≡ None
+    → Stops m (limit_of role) c (record { role = role; token = t })
 charge_stops m Plain c t e = absurd cc
 charge_stops m Opening c t e = absurd cc
 charge_stops m Node c t e = (refl, e)
 charge_stops m Statement c t e = (refl, e)
 
-stops_cause : (m : Limits) (k : Stop) (c : Counts) (l : Leaf) (others : List Leaf) (ts : List Token) → Stops m k c l → Cause m k c (l ∷ others) (l.token ∷ ts)
+stops_cause : (m : Limits) (k : Stop) (c : Counts) (l : Leaf) (others : List Leaf) (ts : List Token) → Stops m k c l
+    → Cause m k c (l ∷ others) (l.token ∷ ts)
 stops_cause m Unexpected c l others ts h = tt
 stops_cause m Nodes c l others ts h = (l, others, ts, refl, refl, h)
 stops_cause m Statements c l others ts h = (l, others, ts, refl, refl, h)
@@ -168,7 +185,8 @@ is_some_of None = false
 is_some_of (Some a) = true
 
 module _ {A : Type 0} (m : Limits) (role : Role) (takes : Token → Option A) where
-  word_charged : (c : Counts) (t : Token) (ts : List Token) (a : A) → takes t ≡ Some a → (o : Option Counts) → charge m role c ≡ o → Meets m (Word role takes) (word m role takes) c (t ∷ ts) (paid role o a t ts)
+  word_charged : (c : Counts) (t : Token) (ts : List Token) (a : A) → takes t ≡ Some a → (o : Option Counts) → charge m role c ≡ o
+      → Meets m (Word role takes) (word m role takes) c (t ∷ ts) (paid role o a t ts)
   word_charged c t ts a h None e = record {
     front = [];
     split = refl;
@@ -188,7 +206,8 @@ module _ {A : Type 0} (m : Limits) (role : Role) (takes : Token → Option A) wh
     again = λ x s. rw (h, e) refl;
   }
 
-  word_meets : (t0 : Token) (a0 : A) → takes t0 ≡ Some a0 → (c : Counts) (ts : List Token) → Meets m (Word role takes) (word m role takes) c ts (word m role takes c ts)
+  word_meets : (t0 : Token) (a0 : A) → takes t0 ≡ Some a0 → (c : Counts) (ts : List Token)
+      → Meets m (Word role takes) (word m role takes) c ts (word m role takes c ts)
   word_meets t0 a0 h0 c [] = record {
     front = [];
     split = refl;
@@ -220,23 +239,34 @@ module _ {A : Type 0} (m : Limits) (role : Role) (takes : Token → Option A) wh
   word_complete c w v rest h = subst (λ (x : List Leaf). Reads m (word m role takes) c x v rest) (sym h.1) (go (charge m role c) refl)
     where
       go : (o : Option Counts) → charge m role c ≡ o → Reads m (word m role takes) c (record { role = role; token = h.0 } ∷ []) v rest
-      go None e = passes (limit_of role) [] (record { role = role; token = h.0 }) [] c refl refl (charge_stops m role c h.0 e) (rw (h.2, e) refl) (limited_of m role c e)
+      go None e = passes (limit_of role) [] (record { role = role; token = h.0 }) [] c refl refl (charge_stops m role c h.0 e)
+          (rw (h.2, e) refl) (limited_of m role c e)
       go (Some d) e = reads d (rw e refl) (rw (h.2, e) refl)
 
-  pub parses_word : (goes_on : Token → Bool) (t0 : Token) (a0 : A) → takes t0 ≡ Some a0 → Parses m (Word role takes) (word m role takes) (λ t. is_some_of (takes t)) goes_on false
+  pub parses_word : (goes_on : Token → Bool) (t0 : Token) (a0 : A) → takes t0 ≡ Some a0
+      → Parses m (Word role takes) (word m role takes) (λ t. is_some_of (takes t)) goes_on false
   parses_word goes_on t0 a0 h0 = record {
     meets = word_meets t0 a0 h0;
     complete = λ c w v rest h clear. word_complete c w v rest h;
-    begins = λ w v h. subst (λ (x : List Leaf). Begins (λ t. is_some_of (takes t)) false x) (sym h.1) (something (record { role = role; token = h.0 }) [] (ap is_some_of h.2));
+    begins = λ w v h. subst (λ (x : List Leaf). Begins (λ t. is_some_of (takes t)) false x) (sym h.1)
+        (something (record { role = role; token = h.0 }) [] (ap is_some_of h.2));
     sample = (record { role = role; token = t0 } ∷ [], a0, (t0, refl, h0));
   }
 
 -- ---- more kinds
 
-pub parses_wider : {A : Type 0} {m : Limits} {L : List Leaf → A → Type 0} {p : Parser A} {starts on : Token → Bool} {nullable : Bool} → (also : Token → Bool)
+pub parses_wider : {A : Type 0} {m : Limits} {L : List Leaf → A → Type 0} {p : Parser A} {starts on : Token → Bool} {nullable : Bool}
+    → (also : Token → Bool)
     → ((t : Token) → starts t ≡ true → also t ≡ true) → Parses m L p starts on nullable → Parses m L p also on nullable
 parses_wider also h f = record { meets = f.meets; complete = f.complete; begins = λ w v l. wider h (f.begins w v l); sample = f.sample }
 
-pub parses_wider_on : {A : Type 0} {m : Limits} {L : List Leaf → A → Type 0} {p : Parser A} {starts on : Token → Bool} {nullable : Bool} → (also : Token → Bool)
+pub parses_wider_on : {A : Type 0} {m : Limits} {L : List Leaf → A → Type 0} {p : Parser A} {starts on : Token → Bool} {nullable : Bool}
+    → (also : Token → Bool)
     → ((t : Token) → also t ≡ false → on t ≡ false) → Parses m L p starts on nullable → Parses m L p starts also nullable
-parses_wider_on {A} {m} {L} {p} {starts} {on} also h f = record { meets = f.meets; complete = λ c w v rest l clear. f.complete c w v rest l (fewer on also rest h clear); begins = f.begins; sample = f.sample }
+parses_wider_on {A} {m} {L} {p} {starts} {on} also h f = record {
+  meets = f.meets;
+  complete =
+      λ c w v rest l clear. f.complete c w v rest l (fewer on also rest h clear);
+  begins = f.begins;
+  sample = f.sample;
+}

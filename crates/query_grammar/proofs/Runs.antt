@@ -1,5 +1,6 @@
 -- What the parser does on the words of queries.
-use Rattle.std.proofs.Common.{◌≡◌, ℕ, zero, suc, ◌+◌, ◌≤◌, false, List, [], ◌∷◌, ◌++◌, Option, Some, None, refl, sym, ap, subst, ◌∙◌, append_assoc, arith}
+use Rattle.std.proofs.Common.{◌≡◌, ℕ, zero, suc, ◌+◌, ◌≤◌, false, List, [], ◌∷◌, ◌++◌, Option, Some, None, refl, sym, ap, subst, ◌∙◌}
+use Rattle.std.proofs.Common.{append_assoc, arith}
 use Rattle.std.proofs.lemmas.List.{append-nil, map-append, append_cancel_right}
 use Rattle.std.specs.Option.{option_and_then}
 use Rattle.query_lang.specs.declared.fault.Span.{Span}
@@ -25,7 +26,8 @@ Value = List Item × Span
 
 -- ---- tokens have one meaning
 
-read_of : (d : ℕ) (c : Counts) (leaves : List Leaf) (q : Value) → Query d leaves q → (e : Counts) × (query Unlimited d d c (tokens_of leaves) ≡ Done q e [])
+read_of : (d : ℕ) (c : Counts) (leaves : List Leaf) (q : Value) → Query d leaves q → (e : Counts)
+    × (query Unlimited d d c (tokens_of leaves) ≡ Done q e [])
 read_of d c leaves q h = go ((parses_unlimited d).complete c leaves q [] h refl)
   where
     go : Reads Unlimited (query Unlimited d d) c leaves q [] → (e : Counts) × (query Unlimited d d c (tokens_of leaves) ≡ Done q e [])
@@ -86,10 +88,12 @@ depth_le k = over_le 63 k
 pub met : (ts : List Token) → Meets Limited (Query (depth 0)) (query Limited 63 62) no_counts ts (run ts)
 met ts = (limited 0).meets no_counts ts
 
-pub halted_of : (ts : List Token) (k : Stop) (rest : List Token) → run ts ≡ Stopped k rest → Halted Limited (Query (depth 0)) (query Limited 63 62) no_counts ts k rest
+pub halted_of : (ts : List Token) (k : Stop) (rest : List Token) → run ts ≡ Stopped k rest
+    → Halted Limited (Query (depth 0)) (query Limited 63 62) no_counts ts k rest
 halted_of ts k rest e = subst (λ (o : Outcome Value). Meets Limited (Query (depth 0)) (query Limited 63 62) no_counts ts o) e (met ts)
 
-pub found_of : (ts : List Token) (q : Value) (c : Counts) (rest : List Token) → run ts ≡ Done q c rest → Found Limited (Query (depth 0)) (query Limited 63 62) no_counts ts q c rest
+pub found_of : (ts : List Token) (q : Value) (c : Counts) (rest : List Token) → run ts ≡ Done q c rest
+    → Found Limited (Query (depth 0)) (query Limited 63 62) no_counts ts q c rest
 found_of ts q c rest e = subst (λ (o : Outcome Value). Meets Limited (Query (depth 0)) (query Limited 63 62) no_counts ts o) e (met ts)
 
 pub leveled : (ts : List Token) → LevelMeets 0 0 64 ts (run ts)
@@ -108,7 +112,8 @@ StopFacts Nodes front t = Unit {0}
 StopFacts Statements front t = Unit {0}
 StopFacts Nesting front t = (opens (kind t) ≡ 1) × (opened front ≡ closed front + 64)
 
-pub stop_facts : (front : List Token) (t : Token) (more : List Token) (k : Stop) → StopLevel 64 (front ++ t ∷ more) k (t ∷ more) → StopFacts k front t
+pub stop_facts : (front : List Token) (t : Token) (more : List Token) (k : Stop) → StopLevel 64 (front ++ t ∷ more) k (t ∷ more)
+    → StopFacts k front t
 stop_facts front t more Unexpected n = tt
 stop_facts front t more Nodes n = tt
 stop_facts front t more Statements n = tt
@@ -121,7 +126,8 @@ stop_shallow front rest k n = let r = reached_of 64 (front ++ rest) k rest n in
     subst (λ (x : List Token). Shallow 64 0 0 x) (append_cancel_right r.front front rest (sym r.split)) r.shallow
 
 -- what follows the fault changes nothing
-pub same_stop : (front : List Token) (t : Token) (more other : List Token) (k : Stop) → run (front ++ t ∷ more) ≡ Stopped k (t ∷ more) → run (front ++ t ∷ other) ≡ Stopped k (t ∷ other)
+pub same_stop : (front : List Token) (t : Token) (more other : List Token) (k : Stop) → run (front ++ t ∷ more) ≡ Stopped k (t ∷ more)
+    → run (front ++ t ∷ other) ≡ Stopped k (t ∷ other)
 same_stop front t more other k e =
     let h = halted_of (front ++ t ∷ more) k (t ∷ more) e in
     let f : tokens_of h.front ≡ front = append_cancel_right (tokens_of h.front) front (t ∷ more) (sym h.split) in
@@ -135,7 +141,8 @@ tokens_cons u l x = map-append (λ (l : Leaf). l.token) u (l ∷ x)
 -- the word is read whole, or the parser stops at one of its leaves
 pub data Run (w : List Leaf) (q : Value) : Type 0 where
   whole : (d : Counts) → pays Limited no_counts w ≡ Some d → Shallow 64 0 0 (tokens_of w) → run (tokens_of w) ≡ Done q d [] → Run w q
-  halts : (k : Stop) (u : List Leaf) (l : Leaf) (x : List Leaf) (d : Counts) → w ≡ u ++ l ∷ x → pays Limited no_counts u ≡ Some d → Stops Limited k d l → StopFacts k (tokens_of u) l.token
+  halts : (k : Stop) (u : List Leaf) (l : Leaf) (x : List Leaf) (d : Counts) → w ≡ u ++ l ∷ x → pays Limited no_counts u ≡ Some d
+      → Stops Limited k d l → StopFacts k (tokens_of u) l.token
       → Shallow 64 0 0 (tokens_of u) → run (tokens_of w) ≡ Stopped k (l.token ∷ tokens_of x) → Run w q
 
 pub run_of : (d : ℕ) (w : List Leaf) (q : Value) → Query d w q → Run w q
@@ -145,17 +152,22 @@ run_of d w q h = go ((limited d).complete no_counts w q [] ((deeper_query (depth
     nil = ap run (sym (append-nil (tokens_of w)))
 
     all : (c : Counts) → run (tokens_of w) ≡ Done q c [] → Shallow 64 0 0 (tokens_of w)
-    all c e = let n = done_level (tokens_of w) q c [] e in subst (λ (x : List Token). Shallow 64 0 0 x) (sym (n.split ∙ append-nil n.front)) n.shallow
+    all c e = let n = done_level (tokens_of w) q c [] e in subst (λ (x : List Token). Shallow 64 0 0 x) (sym (n.split ∙ append-nil n.front))
+        n.shallow
 
-    part : (k : Stop) (u : List Leaf) (l : Leaf) (x : List Leaf) (c : Counts) → w ≡ u ++ l ∷ x → pays Limited no_counts u ≡ Some c → Stops Limited k c l → run (tokens_of w) ≡ Stopped k (l.token ∷ tokens_of x) → Run w q
+    part : (k : Stop) (u : List Leaf) (l : Leaf) (x : List Leaf) (c : Counts) → w ≡ u ++ l ∷ x → pays Limited no_counts u ≡ Some c
+        → Stops Limited k c l → run (tokens_of w) ≡ Stopped k (l.token ∷ tokens_of x) → Run w q
     part k u l x c e n i s =
         let ts : tokens_of w ≡ tokens_of u ++ l.token ∷ tokens_of x = ap tokens_of e ∙ tokens_cons u l x in
-        let lv : StopLevel 64 (tokens_of u ++ l.token ∷ tokens_of x) k (l.token ∷ tokens_of x) = stop_level (tokens_of u ++ l.token ∷ tokens_of x) k (l.token ∷ tokens_of x) (ap run (sym ts) ∙ s) in
-        halts k u l x c e n i (stop_facts (tokens_of u) l.token (tokens_of x) k lv) (stop_shallow (tokens_of u) (l.token ∷ tokens_of x) k lv) s
+        let lv : StopLevel 64 (tokens_of u ++ l.token ∷ tokens_of x) k (l.token ∷ tokens_of x) =
+        stop_level (tokens_of u ++ l.token ∷ tokens_of x) k (l.token ∷ tokens_of x) (ap run (sym ts) ∙ s) in
+        halts k u l x c e n i (stop_facts (tokens_of u) l.token (tokens_of x) k lv)
+        (stop_shallow (tokens_of u) (l.token ∷ tokens_of x) k lv) s
 
     go : Reads Limited (query Limited 63 62) no_counts w q [] → Run w q
     go (reads c pay r) = whole c pay (all c (nil ∙ r)) (nil ∙ r)
-    go (passes k u l x c e n i s o) = part k u l x c e n i (nil ∙ s ∙ ap (λ (y : List Token). Stopped k (l.token ∷ y)) (append-nil (tokens_of x)))
+    go (passes k u l x c e n i s o) = part k u l x c e n i (nil ∙ s ∙ ap (λ (y : List Token). Stopped k (l.token ∷ y))
+        (append-nil (tokens_of x)))
 
 -- ---- beginnings
 
@@ -171,21 +183,25 @@ pub pays_is : (m : Limits) (c : Counts) (leaves : List Leaf) → pays m c leaves
 pays_is m c [] = refl
 pays_is m c (l ∷ leaves) = go (λ d. pays_is m d leaves) (charge m l.role c)
   where
-    go : ((d : Counts) → pays m d leaves ≡ counted m d leaves) → (o : Option Counts) → option_and_then (λ d. pays m d leaves) o ≡ option_and_then (λ d. counted m d leaves) o
+    go : ((d : Counts) → pays m d leaves ≡ counted m d leaves) → (o : Option Counts)
+        → option_and_then (λ d. pays m d leaves) o ≡ option_and_then (λ d. counted m d leaves) o
     go h None = refl
     go h (Some d) = h d
 
-pays_stop : (c : Counts) (u : List Leaf) (l : Leaf) (x : List Leaf) (d z : Counts) → pays Limited c u ≡ Some d → charge Limited l.role d ≡ None → pays Limited c (u ++ l ∷ x) ≡ Some z → ⊥
+pays_stop : (c : Counts) (u : List Leaf) (l : Leaf) (x : List Leaf) (d z : Counts) → pays Limited c u ≡ Some d
+    → charge Limited l.role d ≡ None → pays Limited c (u ++ l ∷ x) ≡ Some z → ⊥
 pays_stop c u l x d z h k e =
     let n : pays Limited c (u ++ l ∷ x) ≡ None = pays-append Limited c u (l ∷ x) ∙ rw (h, k) refl in
     let y : None ≡ Some z = sym n ∙ e in absurd cc
 
 -- in leaves that pass no limit, no leaf is one at which a limit is passed
-pub no_stop : (k : Stop) (leaves u : List Leaf) (l : Leaf) (y : List Leaf) (c d : Counts) → leaves ≡ u ++ l ∷ y → pays Limited no_counts leaves ≡ Some c → IsShallow (tokens_of leaves)
+pub no_stop : (k : Stop) (leaves u : List Leaf) (l : Leaf) (y : List Leaf) (c d : Counts) → leaves ≡ u ++ l ∷ y
+    → pays Limited no_counts leaves ≡ Some c → IsShallow (tokens_of leaves)
     → pays Limited no_counts u ≡ Some d → Stops Limited k d l → StopFacts k (tokens_of u) l.token → ⊥
 no_stop Unexpected leaves u l y c d e within shallow n i f = i
 no_stop Nodes leaves u l y c d e within shallow n i f = pays_stop no_counts u l y d c n i.1 (ap (pays Limited no_counts) (sym e) ∙ within)
-no_stop Statements leaves u l y c d e within shallow n i f = pays_stop no_counts u l y d c n i.1 (ap (pays Limited no_counts) (sym e) ∙ within)
+no_stop Statements leaves u l y c d e within shallow n i f = pays_stop no_counts u l y d c n i.1
+    (ap (pays Limited no_counts) (sym e) ∙ within)
 no_stop Nesting leaves u l y c d e within shallow n i f =
     let s = shallow (tokens_of u) (tokens_of y) l.token (ap tokens_of e ∙ tokens_cons u l y) f.0 in
     absurd (omega (arith, s, f.1))

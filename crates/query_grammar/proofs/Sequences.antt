@@ -5,11 +5,14 @@ use Rattle.query_grammar.specs.Language.{Leaf, tokens_of, Then, Meaning}
 use Rattle.query_grammar.specs.declared.stop.Counts.{Counts}
 use Rattle.query_grammar.specs.declared.stop.Stop.{Stop}
 use Rattle.query_grammar.specs.Parser.{Limits, Outcome, Done, Stopped, Parser, and_then, followed_by, mapped}
-use Rattle.query_grammar.proofs.Parses.{SameNext, pays_both, tokens-append, Found, Halted, Meets, Reads, Begins, Parses, next_of, starts_of, next_clear, fewer, wider, cause_more, reads, passes, nothing, something}
+use Rattle.query_grammar.proofs.Parses.{SameNext, pays_both, tokens-append, Found, Halted, Meets, Reads, Begins, Parses, next_of, starts_of}
+use Rattle.query_grammar.proofs.Parses.{next_clear, fewer, wider, cause_more, reads, passes, nothing, something}
 
 module _ {A B : Type 0} (m : Limits) (L : List Leaf → A → Type 0) (M : List Leaf → B → Type 0) (p : Parser A) (q : Parser B) where
-  then_again : (c : Counts) (ts : List Token) (a : A) (d : Counts) (mid : List Token) → Found m L p c ts a d mid → (w : List Leaf) (rest : List Token) → mid ≡ tokens_of w ++ rest
-      → (f : Found m L p c ts a d mid) → (x : List Token) → SameNext rest x → p c (tokens_of f.front ++ (tokens_of w ++ x)) ≡ Done a d (tokens_of w ++ x)
+  then_again : (c : Counts) (ts : List Token) (a : A) (d : Counts) (mid : List Token) → Found m L p c ts a d mid
+      → (w : List Leaf) (rest : List Token) → mid ≡ tokens_of w ++ rest
+      → (f : Found m L p c ts a d mid) → (x : List Token) → SameNext rest x
+      → p c (tokens_of f.front ++ (tokens_of w ++ x)) ≡ Done a d (tokens_of w ++ x)
   then_again c ts a d mid _ w rest h f x s = f.again (tokens_of w ++ x) (next_of w rest x mid h s)
 
   then_done : (c : Counts) (ts : List Token) (a : A) (d : Counts) (mid : List Token) (b : B) (e : Counts) (rest : List Token)
@@ -19,7 +22,8 @@ module _ {A B : Type 0} (m : Limits) (L : List Leaf → A → Type 0) (M : List 
     split = f.split ∙ ap (λ (x : List Token). tokens_of f.front ++ x) g.split ∙ sym (tokens-append f.front g.front rest);
     means = (f.front, g.front, refl, f.means, g.means);
     pays = pays_both m c d e f.front g.front f.pays g.pays;
-    again = λ x h. ap (followed_by p q c) (tokens-append f.front g.front x) ∙ rw (f.again (tokens_of g.front ++ x) (next_of g.front rest x mid g.split h), g.again x h) refl;
+    again = λ x h. ap (followed_by p q c) (tokens-append f.front g.front x)
+        ∙ rw (f.again (tokens_of g.front ++ x) (next_of g.front rest x mid g.split h), g.again x h) refl;
   }
 
   then_stopped_late : (c : Counts) (ts : List Token) (a : A) (d : Counts) (mid : List Token) (k : Stop) (rest : List Token)
@@ -33,7 +37,8 @@ module _ {A B : Type 0} (m : Limits) (L : List Leaf → A → Type 0) (M : List 
     value = (a, g.value);
     begins = (f.front, g.front ++ g.more, append_assoc f.front g.front g.more, f.means, g.begins);
     cause = g.cause;
-    again = λ x h. ap (followed_by p q c) (tokens-append f.front g.front x) ∙ rw (f.again (tokens_of g.front ++ x) (next_of g.front rest x mid g.split h), g.again x h) refl;
+    again = λ x h. ap (followed_by p q c) (tokens-append f.front g.front x)
+        ∙ rw (f.again (tokens_of g.front ++ x) (next_of g.front rest x mid g.split h), g.again x h) refl;
   }
 
   then_stopped : (c : Counts) (ts : List Token) (k : Stop) (rest : List Token) (w : List Leaf) (b : B)
@@ -50,21 +55,27 @@ module _ {A B : Type 0} (m : Limits) (L : List Leaf → A → Type 0) (M : List 
     again = λ x h. rw (f.again x h) refl;
   }
 
-  then_meets : (w : List Leaf) (b : B) → M w b → ((c : Counts) (ts : List Token) → Meets m L p c ts (p c ts)) → ((c : Counts) (ts : List Token) → Meets m M q c ts (q c ts))
+  then_meets : (w : List Leaf) (b : B) → M w b → ((c : Counts) (ts : List Token) → Meets m L p c ts (p c ts))
+      → ((c : Counts) (ts : List Token) → Meets m M q c ts (q c ts))
       → (c : Counts) (ts : List Token) → Meets m (Then L M) (followed_by p q) c ts (followed_by p q c ts)
   then_meets w b mb pm qm c ts = first (p c ts) (pm c ts)
     where
-      second : (a : A) (d : Counts) (mid : List Token) → Found m L p c ts a d mid → (o : Outcome B) → Meets m M q d mid o → Meets m (Then L M) (followed_by p q) c ts (and_then o (λ b c'' rest'. Done (a, b) c'' rest'))
+      second : (a : A) (d : Counts) (mid : List Token) → Found m L p c ts a d mid → (o : Outcome B) → Meets m M q d mid o
+          → Meets m (Then L M) (followed_by p q) c ts (and_then o (λ b c'' rest'. Done (a, b) c'' rest'))
       second a d mid f (Done b e rest) g = then_done c ts a d mid b e rest f g
       second a d mid f (Stopped k rest) g = then_stopped_late c ts a d mid k rest f g
 
-      first : (o : Outcome A) → Meets m L p c ts o → Meets m (Then L M) (followed_by p q) c ts (and_then o (λ a c' rest. and_then (q c' rest) (λ b c'' rest'. Done (a, b) c'' rest')))
+      first : (o : Outcome A) → Meets m L p c ts o → Meets m (Then L M) (followed_by p q) c ts
+          (and_then o (λ a c' rest. and_then (q c' rest) (λ b c'' rest'. Done (a, b) c'' rest')))
       first (Done a d mid) f = second a d mid f (q d mid) (qm d mid)
       first (Stopped k rest) f = then_stopped c ts k rest w b mb f
 
-  then_reads : (c : Counts) (u w : List Leaf) (a : A) (b : B) (rest : List Token) → Reads m p c u a (tokens_of w ++ rest) → ((d : Counts) → Reads m q d w b rest) → Reads m (followed_by p q) c (u ++ w) (a, b) rest
-  then_reads c u w a b rest (passes k y l x d e n i s o) g = passes k y l (x ++ w) d (ap (λ (z : List Leaf). z ++ w) e ∙ append_assoc y (l ∷ x) w) n i
-      (ap (followed_by p q c) (tokens-append u w rest) ∙ one ∙ ap (λ (z : List Token). Stopped k (l.token ∷ z)) (sym (tokens-append x w rest))) o
+  then_reads : (c : Counts) (u w : List Leaf) (a : A) (b : B) (rest : List Token) → Reads m p c u a (tokens_of w ++ rest)
+      → ((d : Counts) → Reads m q d w b rest) → Reads m (followed_by p q) c (u ++ w) (a, b) rest
+  then_reads c u w a b rest (passes k y l x d e n i s o) g = passes k y l (x ++ w) d
+      (ap (λ (z : List Leaf). z ++ w) e ∙ append_assoc y (l ∷ x) w) n i
+      (ap (followed_by p q c) (tokens-append u w rest) ∙ one ∙ ap (λ (z : List Token). Stopped k (l.token ∷ z))
+      (sym (tokens-append x w rest))) o
     where
       one : followed_by p q c (tokens_of u ++ (tokens_of w ++ rest)) ≡ Stopped k (l.token ∷ (tokens_of x ++ (tokens_of w ++ rest)))
       one = rw s refl
@@ -72,9 +83,11 @@ module _ {A B : Type 0} (m : Limits) (L : List Leaf → A → Type 0) (M : List 
     where
       go : Reads m q d w b rest → Reads m (followed_by p q) c (u ++ w) (a, b) rest
       go (reads d2 pay2 e2) = reads d2 (pays_both m c d d2 u w pay pay2) (ap (followed_by p q c) (tokens-append u w rest) ∙ rw (e, e2) refl)
-      go (passes k y l x d2 e2 n i s o) = passes k (u ++ y) l x d2 (ap (λ (z : List Leaf). u ++ z) e2 ∙ sym (append_assoc u y (l ∷ x))) (pays_both m c d d2 u y pay n) i (ap (followed_by p q c) (tokens-append u w rest) ∙ rw (e, s) refl) o
+      go (passes k y l x d2 e2 n i s o) = passes k (u ++ y) l x d2 (ap (λ (z : List Leaf). u ++ z) e2 ∙ sym (append_assoc u y (l ∷ x)))
+          (pays_both m c d d2 u y pay n) i (ap (followed_by p q c) (tokens-append u w rest) ∙ rw (e, s) refl) o
 
-  pub parses_then : {starts on starts' on' : Token → Bool} {nullable : Bool} → (goes_on : Token → Bool) → Parses m L p starts on false → Parses m M q starts' on' nullable
+  pub parses_then : {starts on starts' on' : Token → Bool} {nullable : Bool} → (goes_on : Token → Bool) → Parses m L p starts on false
+      → Parses m M q starts' on' nullable
       → ((t : Token) → starts' t ≡ true → on t ≡ false)
       → (nullable ≡ true → (t : Token) → goes_on t ≡ false → on t ≡ false)
       → ((t : Token) → goes_on t ≡ false → on' t ≡ false)
@@ -83,23 +96,33 @@ module _ {A B : Type 0} (m : Limits) (L : List Leaf → A → Type 0) (M : List 
     meets = then_meets g.sample.0 g.sample.1 g.sample.2 f.meets g.meets;
     complete = λ c w v rest h clear. subst (λ (x : List Leaf). Reads m (followed_by p q) c x v rest) (sym h.2)
         (then_reads c h.0 h.1 v.0 v.1 rest
-        (f.complete c h.0 v.0 (tokens_of h.1 ++ rest) h.3 (next_clear on rest (g.begins h.1 v.1 h.4) (λ n. fewer on goes_on rest (keeps n) clear) apart))
+        (f.complete c h.0 v.0 (tokens_of h.1 ++ rest) h.3 (next_clear on rest (g.begins h.1 v.1 h.4)
+        (λ n. fewer on goes_on rest (keeps n) clear) apart))
         (λ d. g.complete d h.1 v.1 rest h.4 (fewer on' goes_on rest keeps' clear)));
     begins = λ w v h. subst (λ (x : List Leaf). Begins starts false x) (sym h.2) (front_begins h.0 h.1 (f.begins h.0 v.0 h.3));
     sample = (f.sample.0 ++ g.sample.0, (f.sample.1, g.sample.1), (f.sample.0, g.sample.0, refl, f.sample.2, g.sample.2));
   }
     where
       front_begins : (u w : List Leaf) → Begins starts false u → Begins starts false (u ++ w)
-      front_begins u w b = let s = starts_of b in subst (λ (x : List Leaf). Begins starts false (x ++ w)) (sym s.2) (something s.0 (s.1 ++ w) s.3)
+      front_begins u w b = let s = starts_of b in subst (λ (x : List Leaf). Begins starts false (x ++ w)) (sym s.2)
+          (something s.0 (s.1 ++ w) s.3)
 
 -- ---- another meaning
 
 module _ {A B : Type 0} (m : Limits) (f : A → B) (L : List Leaf → A → Type 0) (p : Parser A) where
-  mapped_meets : ((c : Counts) (ts : List Token) → Meets m L p c ts (p c ts)) → (c : Counts) (ts : List Token) → Meets m (Meaning f L) (mapped f p) c ts (mapped f p c ts)
+  mapped_meets : ((c : Counts) (ts : List Token) → Meets m L p c ts (p c ts)) → (c : Counts) (ts : List Token)
+      → Meets m (Meaning f L) (mapped f p) c ts (mapped f p c ts)
   mapped_meets pm c ts = go (p c ts) (pm c ts)
     where
       go : (o : Outcome A) → Meets m L p c ts o → Meets m (Meaning f L) (mapped f p) c ts (and_then o (λ a c' rest. Done (f a) c' rest))
-      go (Done a d rest) h = record { front = h.front; split = h.split; means = (a, h.means, refl); pays = h.pays; again = λ x s. rw (h.again x s) refl }
+      go (Done a d rest) h = record {
+        front = h.front;
+        split = h.split;
+        means = (a, h.means, refl);
+        pays = h.pays;
+        again =
+            λ x s. rw (h.again x s) refl;
+      }
       go (Stopped k rest) h = record {
         front = h.front;
         split = h.split;
@@ -116,17 +139,20 @@ module _ {A B : Type 0} (m : Limits) (f : A → B) (L : List Leaf → A → Type
   mapped_reads c w a rest (reads d pay e) = reads d pay (rw e refl)
   mapped_reads c w a rest (passes k y l x d e n i s o) = passes k y l x d e n i (rw s refl) o
 
-  pub parses_mapped : {starts on : Token → Bool} {nullable : Bool} → Parses m L p starts on nullable → Parses m (Meaning f L) (mapped f p) starts on nullable
+  pub parses_mapped : {starts on : Token → Bool} {nullable : Bool} → Parses m L p starts on nullable
+      → Parses m (Meaning f L) (mapped f p) starts on nullable
   parses_mapped g = record {
     meets = mapped_meets g.meets;
-    complete = λ c w v rest h clear. subst (λ (b : B). Reads m (mapped f p) c w b rest) h.2 (mapped_reads c w h.0 rest (g.complete c w h.0 rest h.1 clear));
+    complete = λ c w v rest h clear. subst (λ (b : B). Reads m (mapped f p) c w b rest) h.2
+        (mapped_reads c w h.0 rest (g.complete c w h.0 rest h.1 clear));
     begins = λ w v h. g.begins w h.0 h.1;
     sample = (g.sample.0, f g.sample.1, (g.sample.1, g.sample.2, refl));
   }
 
 -- ---- one after the other, where the first may be empty
 
-pub parses_null_then : {A B : Type 0} {m : Limits} {L : List Leaf → A → Type 0} {M : List Leaf → B → Type 0} {p : Parser A} {q : Parser B} {starts on starts' on' : Token → Bool}
+pub parses_null_then : {A B : Type 0} {m : Limits} {L : List Leaf → A → Type 0} {M : List Leaf → B → Type 0} {p : Parser A} {q : Parser B}
+    {starts on starts' on' : Token → Bool}
     → (also goes_on : Token → Bool) → Parses m L p starts on true → Parses m M q starts' on' false
     → ((t : Token) → starts' t ≡ true → on t ≡ false)
     → ((t : Token) → starts t ≡ true → also t ≡ true) → ((t : Token) → starts' t ≡ true → also t ≡ true)

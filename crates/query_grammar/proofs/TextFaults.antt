@@ -1,5 +1,6 @@
 -- The query of a text is the one that the grammar relates to it, and its fault the first.
-use Rattle.std.proofs.Common.{◌≡◌, ℕ, zero, suc, ◌+◌, ◌<◌, ◌≤◌, Bool, true, false, cond, ltb, List, [], ◌∷◌, length, drop, refl, sym, ap, subst, ◌∙◌, arith, Ok, Err, Result, ◌⊎◌, inl, inr}
+use Rattle.std.proofs.Common.{◌≡◌, ℕ, zero, suc, ◌+◌, ◌<◌, ◌≤◌, Bool, true, false, cond, ltb, List, [], ◌∷◌, length, drop, refl, sym, ap}
+use Rattle.std.proofs.Common.{subst, ◌∙◌, arith, Ok, Err, Result, ◌⊎◌, inl, inr}
 use Rattle.std.proofs.lemmas.Bool.{le-ltb, cases_lt}
 use Rattle.query_lang.specs.declared.fault.FaultKind.TheVariants.{QueryTooLong}
 use Rattle.query_lang.specs.declared.fault.QueryFault.{QueryFault}
@@ -12,7 +13,8 @@ use Rattle.query_lang.specs.Lexis.{Cut, cut, cut_piece, fault_at, piece, token_a
 use Rattle.query_grammar.specs.Fault.{HasEnd, Says}
 use Rattle.query_grammar.specs.Parser.{Outcome, Done, Stopped}
 use Rattle.query_grammar.specs.Reading.{parsed}
-use Rattle.query_grammar.specs.Texts.{IsQueryOf, IsFaultOf, too_long, in_lexis, in_grammar, answered, fault_of, with_names, parsed_cut, parsed_text}
+use Rattle.query_grammar.specs.Texts.{IsQueryOf, IsFaultOf, too_long, in_lexis, in_grammar, answered, fault_of, with_names, parsed_cut}
+use Rattle.query_grammar.specs.Texts.{parsed_text}
 use Rattle.query_grammar.proofs.Runs.{Value}
 use Rattle.query_grammar.proofs.Whole.{parsed_says, accepted_parsed, fault_found}
 
@@ -32,21 +34,28 @@ front_end t (Ok got) found h e =
 front_end t (Err fault) found h e = absurd cc
 
 piece_end : (p : Piece) (at : ℕ) (names : List (List ℕ)) (bytes : List ℕ) (next : ℕ → List (List ℕ) → Cut) (found : Pair)
-    → ((k : ℕ) (known : List (List ℕ)) (got : Pair) → next k known ≡ Ok got → HasEnd got.0) → cut_piece p at names bytes next ≡ Ok found → HasEnd found.0
+    → ((k : ℕ) (known : List (List ℕ)) (got : Pair) → next k known ≡ Ok got → HasEnd got.0) → cut_piece p at names bytes next ≡ Ok found
+    → HasEnd found.0
 piece_end (pieces.Blank n) at names bytes next found h e = h n names found e
 piece_end (pieces.Name n) at names bytes next found h e = front_end _ (next n _) found (h n _) e
 piece_end (pieces.Token kind n) at names bytes next found h e = front_end _ (next n names) found (h n names) e
 piece_end (pieces.Fault kind n) at names bytes next found h e = absurd cc
 
 only_end : (at : ℕ) (names : List (List ℕ)) (found : Pair) → ◌≡◌ {A = Cut} (Ok (token_at End at at ∷ [], names)) (Ok found) → HasEnd found.0
-only_end at names found e = ([], token_at End at at, sym (ap (λ (p : Pair). p.0) (same_found (token_at End at at ∷ [], names) found e)), refl)
+only_end at names found e = (
+  [],
+  token_at End at at,
+  sym (ap (λ (p : Pair). p.0) (same_found (token_at End at at ∷ [], names) found e)),
+  refl,
+)
 
 cut_end : (n at : ℕ) (names : List (List ℕ)) (bytes : List ℕ) (found : Pair) → cut n at names bytes ≡ Ok found → HasEnd found.0
 unfolding cut
 cut_end zero at names bytes found e = only_end at names found e
 cut_end (suc n) at names [] found e = only_end at names found e
 cut_end (suc n) at names (b ∷ bytes) found e =
-    piece_end (piece (b ∷ bytes)) at names (b ∷ bytes) (λ k known. cut n (at + k) known (drop k (b ∷ bytes))) found (λ k known got h. cut_end n (at + k) known (drop k (b ∷ bytes)) got h) e
+    piece_end (piece (b ∷ bytes)) at names (b ∷ bytes) (λ k known. cut n (at + k) known (drop k (b ∷ bytes))) found
+    (λ k known got h. cut_end n (at + k) known (drop k (b ∷ bytes)) got h) e
 
 -- ---- the answer
 
@@ -59,7 +68,8 @@ short_text text le = let b : ltb 65536 (length text) ≡ false = le-ltb _ _ le i
 long_text : (text : List ℕ) → 65536 < length text → parsed_text text ≡ Err (fault_at QueryTooLong 65536)
 long_text text lt = go (ltb 65536 (length text)) refl
   where
-    go : (b : Bool) → ltb 65536 (length text) ≡ b → cond {A = Result Query QueryFault} b (Err (fault_at QueryTooLong 65536)) (parsed_cut (tokens_of text)) ≡ Err (fault_at QueryTooLong 65536)
+    go : (b : Bool) → ltb 65536 (length text) ≡ b → cond {A = Result Query QueryFault} b (Err (fault_at QueryTooLong 65536))
+        (parsed_cut (tokens_of text)) ≡ Err (fault_at QueryTooLong 65536)
     go true e = refl
     go false e = grind (arith, e)
 
@@ -70,14 +80,16 @@ same_err : (f g : QueryFault) → ◌≡◌ {A = Result Query QueryFault} (Err f
 same_err f g e = cc
 
 -- what the tokens of a text say
-tokens_query : (text : List ℕ) (found : Pair) (q : Query) → length text ≤ 65536 → tokens_of text ≡ Ok found → (o : Outcome Value) → Says found.0 o → with_names found.1 (answered o) ≡ Ok q → IsQueryOf text q
+tokens_query : (text : List ℕ) (found : Pair) (q : Query) → length text ≤ 65536 → tokens_of text ≡ Ok found → (o : Outcome Value)
+    → Says found.0 o → with_names found.1 (answered o) ≡ Ok q → IsQueryOf text q
 tokens_query text found q le cut (Done v c []) h e =
     let same : record { names = found.1; items = v.0; end = v.1 } ≡ q = same_ok (record { names = found.1; items = v.0; end = v.1 }) q e in
     subst (IsQueryOf text) same (record { short = le; tokens = found.0; cut = cut; accepted = h })
 tokens_query text found q le cut (Done v c (t ∷ more)) h e = absurd h
 tokens_query text found q le cut (Stopped k rest) h e = absurd cc
 
-tokens_fault : (text : List ℕ) (found : Pair) (f : QueryFault) → length text ≤ 65536 → tokens_of text ≡ Ok found → (o : Outcome Value) → Says found.0 o → with_names found.1 (answered o) ≡ Err f → IsFaultOf text f
+tokens_fault : (text : List ℕ) (found : Pair) (f : QueryFault) → length text ≤ 65536 → tokens_of text ≡ Ok found → (o : Outcome Value)
+    → Says found.0 o → with_names found.1 (answered o) ≡ Err f → IsFaultOf text f
 tokens_fault text found f le cut (Done v c rest) h e = absurd cc
 tokens_fault text found f le cut (Stopped k []) h e = absurd h
 tokens_fault text found f le cut (Stopped k (t ∷ more)) h e =
@@ -87,7 +99,8 @@ cut_query : (text : List ℕ) (q : Query) → length text ≤ 65536 → (o : Cut
 cut_query text q le (Ok found) cut e = tokens_query text found q le cut (parsed found.0) (parsed_says found.0 (text_end text found cut)) e
 cut_query text q le (Err fault) cut e = absurd cc
 
-cut_fault : (text : List ℕ) (f : QueryFault) → length text ≤ 65536 → (o : Cut) → tokens_of text ≡ o → parsed_cut o ≡ Err f → IsFaultOf text f
+cut_fault : (text : List ℕ) (f : QueryFault) → length text ≤ 65536 → (o : Cut) → tokens_of text ≡ o → parsed_cut o ≡ Err f
+    → IsFaultOf text f
 cut_fault text f le (Ok found) cut e = tokens_fault text found f le cut (parsed found.0) (parsed_says found.0 (text_end text found cut)) e
 cut_fault text f le (Err fault) cut e = in_lexis le (cut ∙ ap (λ (g : QueryFault). Err g) (same_err fault f e))
 
@@ -95,7 +108,8 @@ pub query_of_text : (text : List ℕ) (q : Query) → parsed_text text ≡ Ok q 
 query_of_text text q e = go (cases_lt 65536 (length text))
   where
     go : (65536 < length text) ⊎ (length text ≤ 65536) → IsQueryOf text q
-    go (inl lt) = let x : ◌≡◌ {A = Result Query QueryFault} (Err (fault_at QueryTooLong 65536)) (Ok q) = sym (long_text text lt) ∙ e in absurd cc
+    go (inl lt) = let x : ◌≡◌ {A = Result Query QueryFault} (Err (fault_at QueryTooLong 65536)) (Ok q) = sym (long_text text lt)
+        ∙ e in absurd cc
     go (inr le) = cut_query text q le (tokens_of text) refl (sym (short_text text le) ∙ e)
 
 pub fault_of_text : (text : List ℕ) (f : QueryFault) → parsed_text text ≡ Err f → IsFaultOf text f
@@ -114,4 +128,5 @@ pub text_of_fault : (text : List ℕ) (f : QueryFault) → IsFaultOf text f → 
 text_of_fault text f (too_long lt e) = long_text text lt ∙ ap (λ (g : QueryFault). Err g) (sym e)
 text_of_fault text f (in_lexis le e) = short_text text le ∙ ap parsed_cut e
 text_of_fault text f (in_grammar le names front t more k cut h e) =
-    short_text text le ∙ ap parsed_cut cut ∙ ap (λ (o : Outcome Value). with_names names (answered o)) (fault_found k front t more h) ∙ ap (λ (g : QueryFault). Err g) (sym e)
+    short_text text le ∙ ap parsed_cut cut ∙ ap (λ (o : Outcome Value). with_names names (answered o)) (fault_found k front t more h)
+    ∙ ap (λ (g : QueryFault). Err g) (sym e)

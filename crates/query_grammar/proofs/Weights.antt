@@ -1,5 +1,6 @@
 -- The nodes and statements of what a word means are counted among the word's leaves.
-use Rattle.std.proofs.Common.{◌≡◌, ℕ, zero, suc, ◌+◌, ◌-◌, ◌^◌, List, [], ◌∷◌, ◌++◌, map, Option, Some, None, refl, sym, ap, subst, ◌∙◌, arith, inl, inr, ◌⊎◌}
+use Rattle.std.proofs.Common.{◌≡◌, ℕ, zero, suc, ◌+◌, ◌-◌, ◌^◌, List, [], ◌∷◌, ◌++◌, map, Option, Some, None, refl, sym, ap, subst, ◌∙◌}
+use Rattle.std.proofs.Common.{arith, inl, inr, ◌⊎◌}
 use Rattle.std.specs.Prelude.{sum, sum_by, fold}
 use Rattle.query_lang.specs.declared.fault.Span.{Span}
 use Rattle.query_lang.specs.declared.fold.Op.{Op}
@@ -15,9 +16,13 @@ use Rattle.query_lang.specs.declared.token.Word.TheVariants as words
 use Rattle.query_lang.specs.declared.token.TokenKind.{TokenKind}
 use Rattle.query_lang.specs.declared.token.Token.{Token}
 use Rattle.query_lang.specs.TypedFolds.{expr_nodes, nodes_step, stmt_nodes, stmt_nodes_step, stmt_count, count_step}
-use Rattle.query_grammar.specs.Language.{Role, Plain, Node, Statement, Opening, Leaf, Language, Word, Then, Repeated, AtMostOnce, Either, Meaning, Chain, Chained}
+use Rattle.query_grammar.specs.Language.{Role, Plain, Node, Statement, Opening, Leaf, Language, Word, Then, Repeated, AtMostOnce, Either}
+use Rattle.query_grammar.specs.Language.{Meaning, Chain, Chained}
 use Rattle.query_grammar.specs.Kinds.{sign, keyword}
-use Rattle.query_grammar.specs.Grammar.{grouped, compared, negated, listed, else_of, After, Before, Between, Parens, Separated, Listed, Operators, either_ops, both_ops, or_ops, xor_ops, and_ops, shift_ops, sum_ops, product_ops, Level, Atom, CallOf, Unary, Product, Sum, Shift, BitAnd, BitXor, BitOr, Comparison, Conjunction, Disjunction, Expression, Assignment, Emission, Block, IfPart, ElsePart, IfStatement, Statement_at}
+use Rattle.query_grammar.specs.Grammar.{grouped, compared, negated, listed, else_of, After, Before, Between, Parens, Separated, Listed}
+use Rattle.query_grammar.specs.Grammar.{Operators, either_ops, both_ops, or_ops, xor_ops, and_ops, shift_ops, sum_ops, product_ops, Level}
+use Rattle.query_grammar.specs.Grammar.{Atom, CallOf, Unary, Product, Sum, Shift, BitAnd, BitXor, BitOr, Comparison, Conjunction}
+use Rattle.query_grammar.specs.Grammar.{Disjunction, Expression, Assignment, Emission, Block, IfPart, ElsePart, IfStatement, Statement_at}
 
 -- ---- sums
 
@@ -54,14 +59,16 @@ node_binary : (op : Op) (s : Span) (a b : Expr) → expr_nodes (Binary op s a b)
 node_binary op s a b = ap expr_nodes (sym (rolls-Binary op s a b)) ∙ fold-roll-Expr ℕ nodes_step (expr.Binary op s a b)
 
 node_call : (op : Op) (s : Span) (es : List Expr) → expr_nodes (Call op s es) ≡ 1 + total expr_nodes es
-node_call op s es = ap expr_nodes (sym (rolls-Call op s es)) ∙ fold-roll-Expr ℕ nodes_step (expr.Call op s es) ∙ ap (λ (n : ℕ). 1 + n) (sum_map expr_nodes es)
+node_call op s es = ap expr_nodes (sym (rolls-Call op s es)) ∙ fold-roll-Expr ℕ nodes_step (expr.Call op s es)
+    ∙ ap (λ (n : ℕ). 1 + n) (sum_map expr_nodes es)
 
 nodes_assign : (n : Name) (e : Expr) → stmt_nodes (Assign n e) ≡ expr_nodes e
 nodes_assign n e = ap stmt_nodes (sym (rolls-Assign n e)) ∙ fold-roll-Stmt ℕ stmt_nodes_step (stmt.Assign n e)
 
 nodes_if : (c : Expr) (a b : List Stmt) → stmt_nodes (If c a b) ≡ expr_nodes c + total stmt_nodes a + total stmt_nodes b
 nodes_if c a b = ap stmt_nodes (sym (rolls-If c a b)) ∙ fold-roll-Stmt ℕ stmt_nodes_step (stmt.If c a b)
-    ∙ ap (λ (n : ℕ). expr_nodes c + n + sum (map stmt_nodes b)) (sum_map stmt_nodes a) ∙ ap (λ (n : ℕ). expr_nodes c + total stmt_nodes a + n) (sum_map stmt_nodes b)
+    ∙ ap (λ (n : ℕ). expr_nodes c + n + sum (map stmt_nodes b)) (sum_map stmt_nodes a)
+    ∙ ap (λ (n : ℕ). expr_nodes c + total stmt_nodes a + n) (sum_map stmt_nodes b)
 
 nodes_emit : (s : Span) → stmt_nodes (Emit s) ≡ 0
 nodes_emit s = ap stmt_nodes (sym (rolls-Emit s)) ∙ fold-roll-Stmt ℕ stmt_nodes_step (stmt.Emit s)
@@ -71,7 +78,8 @@ count_assign n e = ap stmt_count (sym (rolls-Assign n e)) ∙ fold-roll-Stmt ℕ
 
 count_if : (c : Expr) (a b : List Stmt) → stmt_count (If c a b) ≡ 1 + total stmt_count a + total stmt_count b
 count_if c a b = ap stmt_count (sym (rolls-If c a b)) ∙ fold-roll-Stmt ℕ count_step (stmt.If c a b)
-    ∙ ap (λ (n : ℕ). 1 + n + sum (map stmt_count b)) (sum_map stmt_count a) ∙ ap (λ (n : ℕ). 1 + total stmt_count a + n) (sum_map stmt_count b)
+    ∙ ap (λ (n : ℕ). 1 + n + sum (map stmt_count b)) (sum_map stmt_count a)
+    ∙ ap (λ (n : ℕ). 1 + total stmt_count a + n) (sum_map stmt_count b)
 
 count_emit : (s : Span) → stmt_count (Emit s) ≡ 1
 count_emit s = ap stmt_count (sym (rolls-Emit s)) ∙ fold-roll-Stmt ℕ count_step (stmt.Emit s)
@@ -133,18 +141,31 @@ abbrev pub one : {A : Type 0} → A → ℕ
 one v = 1
 
 pub weigh_plain : {A : Type 0} {takes : Token → Option A} → Weighs (Word Plain takes) none none
-weigh_plain = record { is = λ w v h. subst (λ (x : List Leaf). Weight x 0 0) (sym h.1) (record { nodes = refl; statements = refl; inner = refl }) }
+weigh_plain = record {
+  is = λ w v h. subst (λ (x : List Leaf). Weight x 0 0) (sym h.1)
+      (record { nodes = refl; statements = refl; inner = refl });
+}
 
 pub weigh_node : {A : Type 0} {takes : Token → Option A} → Weighs (Word Node takes) one none
-weigh_node = record { is = λ w v h. subst (λ (x : List Leaf). Weight x 1 0) (sym h.1) (record { nodes = refl; statements = refl; inner = refl }) }
+weigh_node = record {
+  is = λ w v h. subst (λ (x : List Leaf). Weight x 1 0) (sym h.1)
+      (record { nodes = refl; statements = refl; inner = refl });
+}
 
 pub weigh_statement : {A : Type 0} {takes : Token → Option A} → Weighs (Word Statement takes) none one
-weigh_statement = record { is = λ w v h. subst (λ (x : List Leaf). Weight x 0 1) (sym h.1) (record { nodes = refl; statements = refl; inner = refl }) }
+weigh_statement = record {
+  is = λ w v h. subst (λ (x : List Leaf). Weight x 0 1) (sym h.1)
+      (record { nodes = refl; statements = refl; inner = refl });
+}
 
-pub weigh_then : {A B : Type 0} {L : Language A} {M : Language B} (f g : A → ℕ) (f' g' : B → ℕ) → Weighs L f g → Weighs M f' g' → Weighs (Then L M) (λ v. f v.0 + f' v.1) (λ v. g v.0 + g' v.1)
-weigh_then f g f' g' p q = record { is = λ w v h. both w h.0 h.1 (f v.0) (g v.0) (f' v.1) (g' v.1) h.2 (p.is h.0 v.0 h.3) (q.is h.1 v.1 h.4) }
+pub weigh_then : {A B : Type 0} {L : Language A} {M : Language B} (f g : A → ℕ) (f' g' : B → ℕ) → Weighs L f g → Weighs M f' g'
+    → Weighs (Then L M) (λ v. f v.0 + f' v.1) (λ v. g v.0 + g' v.1)
+weigh_then f g f' g' p q = record {
+  is = λ w v h. both w h.0 h.1 (f v.0) (g v.0) (f' v.1) (g' v.1) h.2 (p.is h.0 v.0 h.3) (q.is h.1 v.1 h.4);
+}
 
-pub weigh_meaning : {A B : Type 0} {L : Language A} {h : A → B} (f g : A → ℕ) (f' g' : B → ℕ) → Weighs L f g → ((a : A) → f a ≡ f' (h a)) → ((a : A) → g a ≡ g' (h a)) → Weighs (Meaning h L) f' g'
+pub weigh_meaning : {A B : Type 0} {L : Language A} {h : A → B} (f g : A → ℕ) (f' g' : B → ℕ) → Weighs L f g → ((a : A) → f a ≡ f' (h a))
+    → ((a : A) → g a ≡ g' (h a)) → Weighs (Meaning h L) f' g'
 weigh_meaning {h = h} f g f' g' p e d = record {
   is = λ w v m.
       same_weight w (f m.0) (g m.0) (f' v) (g' v) (e m.0 ∙ ap f' m.2) (d m.0 ∙ ap g' m.2) (p.is w m.0 m.1);
@@ -157,9 +178,11 @@ weigh_either {A} {L} {M} f g p q = record { is = λ w v h. go w v h }
     go w v (inl h) = p.is w v h
     go w v (inr h) = q.is w v h
 
-repeats : {A : Type 0} (L : Language A) (f g : A → ℕ) → Weighs L f g → (w : List Leaf) (v : List A) → Repeated L w v → Weight w (total f v) (total g v)
+repeats : {A : Type 0} (L : Language A) (f g : A → ℕ) → Weighs L f g → (w : List Leaf) (v : List A) → Repeated L w v
+    → Weight w (total f v) (total g v)
 repeats L f g p w [] h = nothing w h
-repeats L f g p w (a ∷ others) h = both w h.0 h.1 (f a) (g a) (total f others) (total g others) h.2 (p.is h.0 a h.3) (repeats L f g p h.1 others h.4)
+repeats L f g p w (a ∷ others) h = both w h.0 h.1 (f a) (g a) (total f others) (total g others) h.2 (p.is h.0 a h.3)
+    (repeats L f g p h.1 others h.4)
 
 pub weigh_repeated : {A : Type 0} {L : Language A} (f g : A → ℕ) → Weighs L f g → Weighs (Repeated L) (total f) (total g)
 weigh_repeated {A} {L} f g p = record { is = λ w v h. repeats L f g p w v h }
@@ -175,16 +198,19 @@ weigh_once {A} {L} f g p = record { is = λ w v h. go w v h }
     go w None h = nothing w h
     go w (Some a) h = p.is w a h
 
-pub weigh_same : {A : Type 0} {L : Language A} (f g f' g' : A → ℕ) → Weighs L f g → ((a : A) → f a ≡ f' a) → ((a : A) → g a ≡ g' a) → Weighs L f' g'
+pub weigh_same : {A : Type 0} {L : Language A} (f g f' g' : A → ℕ) → Weighs L f g → ((a : A) → f a ≡ f' a) → ((a : A) → g a ≡ g' a)
+    → Weighs L f' g'
 weigh_same f g f' g' p e d = record { is = λ w v h. same_weight w (f v) (g v) (f' v) (g' v) (e v) (d v) (p.is w v h) }
 
 -- ---- signs and words around
 
 pub weigh_after : {A : Type 0} {L : Language A} (k : TokenKind) (f g : A → ℕ) → Weighs L f g → Weighs (After k L) f g
-weigh_after k f g p = weigh_meaning (λ v. 0 + f v.1) (λ v. 0 + g v.1) f g (weigh_then none none f g weigh_plain p) (λ a. omega arith) (λ a. omega arith)
+weigh_after k f g p = weigh_meaning (λ v. 0 + f v.1) (λ v. 0 + g v.1) f g (weigh_then none none f g weigh_plain p) (λ a. omega arith)
+    (λ a. omega arith)
 
 pub weigh_before : {A : Type 0} {L : Language A} (k : TokenKind) (f g : A → ℕ) → Weighs L f g → Weighs (Before L k) f g
-weigh_before k f g p = weigh_meaning (λ v. f v.0 + 0) (λ v. g v.0 + 0) f g (weigh_then f g none none p weigh_plain) (λ a. omega arith) (λ a. omega arith)
+weigh_before k f g p = weigh_meaning (λ v. f v.0 + 0) (λ v. g v.0 + 0) f g (weigh_then f g none none p weigh_plain) (λ a. omega arith)
+    (λ a. omega arith)
 
 pub weigh_between : {A : Type 0} {L : Language A} (s t : TokenKind) (f g : A → ℕ) → Weighs L f g → Weighs (Between s L t) f g
 weigh_between s t f g p = weigh_after s f g (weigh_before t f g p)
@@ -198,15 +224,18 @@ listed_is f None = refl
 listed_is f (Some xs) = refl
 
 pub weigh_listed : {A : Type 0} {L : Language A} (f g : A → ℕ) → Weighs L f g → Weighs (Listed L) (total f) (total g)
-weigh_listed f g p = weigh_meaning (if_some (total f)) (if_some (total g)) (total f) (total g) (weigh_once (total f) (total g) (weigh_separated f g p)) (listed_is f) (listed_is g)
+weigh_listed f g p = weigh_meaning (if_some (total f)) (if_some (total g)) (total f) (total g)
+    (weigh_once (total f) (total g) (weigh_separated f g p)) (listed_is f) (listed_is g)
 
 -- ---- expressions
 
-grouped_nodes : (left : Expr) (others : List ((Op × Span) × Expr)) → expr_nodes left + total (λ (o : (Op × Span) × Expr). 1 + expr_nodes o.1) others ≡ expr_nodes (grouped left others)
+grouped_nodes : (left : Expr) (others : List ((Op × Span) × Expr)) → expr_nodes left
+    + total (λ (o : (Op × Span) × Expr). 1 + expr_nodes o.1) others ≡ expr_nodes (grouped left others)
 grouped_nodes left [] = omega arith
 grouped_nodes left (o ∷ others) = omega (arith, node_binary o.0.0 o.0.1 left o.1, grouped_nodes (Binary o.0.0 o.0.1 left o.1) others)
 
-compared_nodes : (left : Expr) (other : Option ((Op × Span) × Expr)) → expr_nodes left + if_some (λ (o : (Op × Span) × Expr). 1 + expr_nodes o.1) other ≡ expr_nodes (compared left other)
+compared_nodes : (left : Expr) (other : Option ((Op × Span) × Expr)) → expr_nodes left
+    + if_some (λ (o : (Op × Span) × Expr). 1 + expr_nodes o.1) other ≡ expr_nodes (compared left other)
 compared_nodes left None = omega arith
 compared_nodes left (Some o) = omega (arith, node_binary o.0.0 o.0.1 left o.1)
 
@@ -223,14 +252,17 @@ nothing_more [] = refl
 nothing_more (x ∷ xs) = omega (arith, nothing_more xs)
 
 pub weigh_level : {P : Language Expr} (ops : Operators) → Weighs P expr_nodes none → Weighs (Level ops P) expr_nodes none
-weigh_level ops p = weigh_meaning (λ v. expr_nodes v.0 + total (λ (o : (Op × Span) × Expr). 1 + expr_nodes o.1) v.1) (λ v. 0 + total (λ (o : (Op × Span) × Expr). 0 + 0) v.1) expr_nodes none
+weigh_level ops p = weigh_meaning (λ v. expr_nodes v.0 + total (λ (o : (Op × Span) × Expr). 1 + expr_nodes o.1) v.1)
+    (λ v. 0 + total (λ (o : (Op × Span) × Expr). 0 + 0) v.1) expr_nodes none
     (weigh_then expr_nodes none (total (λ (o : (Op × Span) × Expr). 1 + expr_nodes o.1)) (total (λ (o : (Op × Span) × Expr). 0 + 0)) p
-    (weigh_repeated (λ (o : (Op × Span) × Expr). 1 + expr_nodes o.1) (λ (o : (Op × Span) × Expr). 0 + 0) (weigh_then one none expr_nodes none weigh_node p)))
+    (weigh_repeated (λ (o : (Op × Span) × Expr). 1 + expr_nodes o.1) (λ (o : (Op × Span) × Expr). 0 + 0)
+    (weigh_then one none expr_nodes none weigh_node p)))
     (λ a. grouped_nodes a.0 a.1) (λ a. omega (arith, nothing_more a.1))
 
 weigh_unary : {P : Language Expr} → Weighs P expr_nodes none → Weighs (Unary P) expr_nodes none
 weigh_unary p = weigh_meaning (λ v. total one v.0 + expr_nodes v.1) (λ v. total none v.0 + 0) expr_nodes none
-    (weigh_then (total one) (total none) expr_nodes none (weigh_repeated one none weigh_node) p) (λ a. negated_nodes a.0 a.1) (λ a. omega (arith, nothing_in a.0))
+    (weigh_then (total one) (total none) expr_nodes none (weigh_repeated one none weigh_node) p) (λ a. negated_nodes a.0 a.1)
+    (λ a. omega (arith, nothing_in a.0))
 
 weigh_comparison : {P : Language Expr} → Weighs P expr_nodes none → Weighs (Comparison P) expr_nodes none
 weigh_comparison {P} p =
@@ -241,9 +273,11 @@ weigh_comparison {P} p =
     let an : Weighs (BitAnd P) expr_nodes none = weigh_level and_ops sh in
     let xo : Weighs (BitXor P) expr_nodes none = weigh_level xor_ops an in
     let bo : Weighs (BitOr P) expr_nodes none = weigh_level or_ops xo in
-    weigh_meaning (λ v. expr_nodes v.0 + if_some (λ (o : (Op × Span) × Expr). 1 + expr_nodes o.1) v.1) (λ v. 0 + if_some (λ (o : (Op × Span) × Expr). 0 + 0) v.1) expr_nodes none
+    weigh_meaning (λ v. expr_nodes v.0 + if_some (λ (o : (Op × Span) × Expr). 1 + expr_nodes o.1) v.1)
+    (λ v. 0 + if_some (λ (o : (Op × Span) × Expr). 0 + 0) v.1) expr_nodes none
     (weigh_then expr_nodes none (if_some (λ (o : (Op × Span) × Expr). 1 + expr_nodes o.1)) (if_some (λ (o : (Op × Span) × Expr). 0 + 0)) bo
-    (weigh_once (λ (o : (Op × Span) × Expr). 1 + expr_nodes o.1) (λ (o : (Op × Span) × Expr). 0 + 0) (weigh_then one none expr_nodes none weigh_node bo)))
+    (weigh_once (λ (o : (Op × Span) × Expr). 1 + expr_nodes o.1) (λ (o : (Op × Span) × Expr). 0 + 0)
+    (weigh_then one none expr_nodes none weigh_node bo)))
     (λ a. compared_nodes a.0 a.1) (λ a. no_more a.1)
   where
     no_more : (o : Option ((Op × Span) × Expr)) → 0 + if_some (λ (o : (Op × Span) × Expr). 0 + 0) o ≡ 0
@@ -257,19 +291,22 @@ weigh_disjunction {P} p =
 
 weigh_atom : Weighs Atom expr_nodes none
 weigh_atom = weigh_either expr_nodes none (weigh_meaning one none expr_nodes none weigh_node (λ a. sym (node_number a.0 a.1)) (λ a. refl))
-    (weigh_either expr_nodes none (weigh_meaning one none expr_nodes none weigh_node (λ a. sym (node_number (2 ^ 64 - 1) a)) (λ a. refl)) (weigh_meaning one none expr_nodes none weigh_node (λ a. sym (node_named a)) (λ a. refl)))
+    (weigh_either expr_nodes none (weigh_meaning one none expr_nodes none weigh_node (λ a. sym (node_number (2 ^ 64 - 1) a)) (λ a. refl))
+    (weigh_meaning one none expr_nodes none weigh_node (λ a. sym (node_named a)) (λ a. refl)))
 
 pub weigh_parens : {A : Type 0} {L : Language A} (f g : A → ℕ) → Weighs L f g → Weighs (Parens L) f g
 weigh_parens f g p = weigh_between (sign marks.OpenParen) (sign marks.CloseParen) f g p
 
 weigh_call : {E : Language Expr} → Weighs E expr_nodes none → Weighs (CallOf E) expr_nodes none
 weigh_call p = weigh_meaning (λ v. 1 + total expr_nodes v.1) (λ v. 0 + total none v.1) expr_nodes none
-    (weigh_then one none (total expr_nodes) (total none) weigh_node (weigh_parens (total expr_nodes) (total none) (weigh_listed expr_nodes none p)))
+    (weigh_then one none (total expr_nodes) (total none) weigh_node (weigh_parens (total expr_nodes) (total none)
+    (weigh_listed expr_nodes none p)))
     (λ a. sym (node_call a.0.0 a.0.1 a.1)) (λ a. omega (arith, nothing_in a.1))
 
 pub weigh_expr : (d : ℕ) → Weighs (Expression d) expr_nodes none
 weigh_expr zero = weigh_disjunction weigh_atom
-weigh_expr (suc d) = let p = weigh_expr d in weigh_disjunction (weigh_either expr_nodes none weigh_atom (weigh_either expr_nodes none (weigh_parens expr_nodes none p) (weigh_call p)))
+weigh_expr (suc d) = let p = weigh_expr d in weigh_disjunction (weigh_either expr_nodes none weigh_atom
+    (weigh_either expr_nodes none (weigh_parens expr_nodes none p) (weigh_call p)))
 
 -- ---- statements
 
@@ -280,11 +317,13 @@ weigh_assignment p = weigh_meaning (λ v. 0 + expr_nodes v.1) (λ v. 1 + 0) stmt
 
 weigh_emission : Weighs Emission stmt_nodes stmt_count
 weigh_emission = weigh_meaning (λ v. 0 + (0 + 0)) (λ v. 1 + (0 + 0)) stmt_nodes stmt_count
-    (weigh_then none one (λ v. 0 + 0) (λ v. 0 + 0) weigh_statement (weigh_after (sign marks.OpenParen) (λ v. 0 + 0) (λ v. 0 + 0) (weigh_then none none none none weigh_plain weigh_plain)))
+    (weigh_then none one (λ v. 0 + 0) (λ v. 0 + 0) weigh_statement (weigh_after (sign marks.OpenParen) (λ v. 0 + 0) (λ v. 0 + 0)
+    (weigh_then none none none none weigh_plain weigh_plain)))
     (λ a. omega (arith, nodes_emit a.0)) (λ a. omega (arith, count_emit a.0))
 
 pub weigh_block : {S : Language Stmt} → Weighs S stmt_nodes stmt_count → Weighs (Block S) (total stmt_nodes) (total stmt_count)
-weigh_block p = weigh_between (sign marks.OpenBrace) (sign marks.CloseBrace) (total stmt_nodes) (total stmt_count) (weigh_repeated stmt_nodes stmt_count p)
+weigh_block p = weigh_between (sign marks.OpenBrace) (sign marks.CloseBrace) (total stmt_nodes) (total stmt_count)
+    (weigh_repeated stmt_nodes stmt_count p)
 
 -- what an `if` and its block weigh, and what comes after an `else`
 abbrev branch_nodes : Expr × List Stmt → ℕ
@@ -304,42 +343,59 @@ else_count (inr b) = total stmt_count b
 abbrev chain_by : (Expr × List Stmt → ℕ) → (List Stmt → ℕ) → List (Expr × List Stmt) × Option (List Stmt) → ℕ
 chain_by f g v = total f v.0 + if_some g v.1
 
-chains : (T : Language ((Expr × List Stmt) ⊎ List Stmt)) → Weighs T else_nodes else_count → (w : List Leaf) (v : List (Expr × List Stmt)) (o : Option (List Stmt)) → Chain T w v o
+chains : (T : Language ((Expr × List Stmt) ⊎ List Stmt)) → Weighs T else_nodes else_count
+    → (w : List Leaf) (v : List (Expr × List Stmt)) (o : Option (List Stmt)) → Chain T w v o
     → Weight w (total branch_nodes v + if_some (total stmt_nodes) o) (total branch_count v + if_some (total stmt_count) o)
 chains T p w [] None h = nothing w h
-chains T p w [] (Some b) h = same_weight w (total stmt_nodes b) (total stmt_count b) (0 + total stmt_nodes b) (0 + total stmt_count b) (omega arith) (omega arith) (p.is w (inr b) h)
+chains T p w [] (Some b) h = same_weight w (total stmt_nodes b) (total stmt_count b) (0 + total stmt_nodes b) (0 + total stmt_count b)
+    (omega arith) (omega arith) (p.is w (inr b) h)
 chains T p w (a ∷ others) o h =
-    same_weight w (branch_nodes a + (total branch_nodes others + if_some (total stmt_nodes) o)) (branch_count a + (total branch_count others + if_some (total stmt_count) o))
-    (branch_nodes a + total branch_nodes others + if_some (total stmt_nodes) o) (branch_count a + total branch_count others + if_some (total stmt_count) o) (omega arith) (omega arith)
-    (both w h.0 h.1 (branch_nodes a) (branch_count a) (total branch_nodes others + if_some (total stmt_nodes) o) (total branch_count others + if_some (total stmt_count) o) h.2 (p.is h.0 (inl a) h.3) (chains T p h.1 others o h.4))
+    same_weight w (branch_nodes a + (total branch_nodes others + if_some (total stmt_nodes) o))
+    (branch_count a + (total branch_count others + if_some (total stmt_count) o))
+    (branch_nodes a + total branch_nodes others + if_some (total stmt_nodes) o)
+    (branch_count a + total branch_count others + if_some (total stmt_count) o) (omega arith) (omega arith)
+    (both w h.0 h.1 (branch_nodes a) (branch_count a) (total branch_nodes others + if_some (total stmt_nodes) o)
+    (total branch_count others + if_some (total stmt_count) o) h.2 (p.is h.0 (inl a) h.3) (chains T p h.1 others o h.4))
 
-weigh_chained : {T : Language ((Expr × List Stmt) ⊎ List Stmt)} → Weighs T else_nodes else_count → Weighs (Chained T) (chain_by branch_nodes (total stmt_nodes)) (chain_by branch_count (total stmt_count))
+weigh_chained : {T : Language ((Expr × List Stmt) ⊎ List Stmt)} → Weighs T else_nodes else_count
+    → Weighs (Chained T) (chain_by branch_nodes (total stmt_nodes)) (chain_by branch_count (total stmt_count))
 weigh_chained {T} p = record { is = λ w v h. chains T p w v.0 v.1 h }
 
-chain_nodes : (v : List (Expr × List Stmt)) (o : Option (List Stmt)) → total branch_nodes v + if_some (total stmt_nodes) o ≡ total stmt_nodes (else_of v o)
+chain_nodes : (v : List (Expr × List Stmt)) (o : Option (List Stmt)) → total branch_nodes v
+    + if_some (total stmt_nodes) o ≡ total stmt_nodes (else_of v o)
 chain_nodes [] None = refl
 chain_nodes [] (Some b) = omega arith
 chain_nodes (a ∷ others) o = omega (arith, nodes_if a.0 a.1 (else_of others o), chain_nodes others o)
 
-chain_count : (v : List (Expr × List Stmt)) (o : Option (List Stmt)) → total branch_count v + if_some (total stmt_count) o ≡ total stmt_count (else_of v o)
+chain_count : (v : List (Expr × List Stmt)) (o : Option (List Stmt)) → total branch_count v
+    + if_some (total stmt_count) o ≡ total stmt_count (else_of v o)
 chain_count [] None = refl
 chain_count [] (Some b) = omega arith
 chain_count (a ∷ others) o = omega (arith, count_if a.0 a.1 (else_of others o), chain_count others o)
 
-weigh_if_part : {E : Language Expr} {S : Language Stmt} → Weighs E expr_nodes none → Weighs S stmt_nodes stmt_count → Weighs (IfPart E S) (λ v. 0 + (expr_nodes v.1.0 + total stmt_nodes v.1.1)) (λ v. 1 + (0 + total stmt_count v.1.1))
-weigh_if_part p q = weigh_then none one branch_nodes (λ v. 0 + total stmt_count v.1) weigh_statement (weigh_then expr_nodes none (total stmt_nodes) (total stmt_count) (weigh_parens expr_nodes none p) (weigh_block q))
+weigh_if_part : {E : Language Expr} {S : Language Stmt} → Weighs E expr_nodes none → Weighs S stmt_nodes stmt_count
+    → Weighs (IfPart E S) (λ v. 0 + (expr_nodes v.1.0 + total stmt_nodes v.1.1)) (λ v. 1 + (0 + total stmt_count v.1.1))
+weigh_if_part p q = weigh_then none one branch_nodes (λ v. 0 + total stmt_count v.1) weigh_statement
+    (weigh_then expr_nodes none (total stmt_nodes) (total stmt_count) (weigh_parens expr_nodes none p) (weigh_block q))
 
-weigh_else : {E : Language Expr} {S : Language Stmt} → Weighs E expr_nodes none → Weighs S stmt_nodes stmt_count → Weighs (ElsePart E S) else_nodes else_count
+weigh_else : {E : Language Expr} {S : Language Stmt} → Weighs E expr_nodes none → Weighs S stmt_nodes stmt_count
+    → Weighs (ElsePart E S) else_nodes else_count
 weigh_else p q = weigh_after (keyword words.Else) else_nodes else_count (weigh_either else_nodes else_count
     (weigh_meaning (total stmt_nodes) (total stmt_count) else_nodes else_count (weigh_block q) (λ a. refl) (λ a. refl))
-    (weigh_meaning (λ v. 0 + (expr_nodes v.1.0 + total stmt_nodes v.1.1)) (λ v. 1 + (0 + total stmt_count v.1.1)) else_nodes else_count (weigh_if_part p q) (λ a. omega arith) (λ a. omega arith)))
+    (weigh_meaning (λ v. 0 + (expr_nodes v.1.0 + total stmt_nodes v.1.1)) (λ v. 1 + (0 + total stmt_count v.1.1)) else_nodes else_count
+    (weigh_if_part p q) (λ a. omega arith) (λ a. omega arith)))
 
-weigh_if : {E : Language Expr} {S : Language Stmt} → Weighs E expr_nodes none → Weighs S stmt_nodes stmt_count → Weighs (IfStatement E S) stmt_nodes stmt_count
-weigh_if p q = weigh_meaning (λ v. 0 + (expr_nodes v.0.1.0 + total stmt_nodes v.0.1.1) + chain_by branch_nodes (total stmt_nodes) v.1) (λ v. 1 + (0 + total stmt_count v.0.1.1) + chain_by branch_count (total stmt_count) v.1) stmt_nodes stmt_count
-    (weigh_then (λ v. 0 + (expr_nodes v.1.0 + total stmt_nodes v.1.1)) (λ v. 1 + (0 + total stmt_count v.1.1)) (chain_by branch_nodes (total stmt_nodes)) (chain_by branch_count (total stmt_count)) (weigh_if_part p q) (weigh_chained (weigh_else p q)))
+weigh_if : {E : Language Expr} {S : Language Stmt} → Weighs E expr_nodes none → Weighs S stmt_nodes stmt_count
+    → Weighs (IfStatement E S) stmt_nodes stmt_count
+weigh_if p q = weigh_meaning (λ v. 0 + (expr_nodes v.0.1.0 + total stmt_nodes v.0.1.1) + chain_by branch_nodes (total stmt_nodes) v.1)
+    (λ v. 1 + (0 + total stmt_count v.0.1.1) + chain_by branch_count (total stmt_count) v.1) stmt_nodes stmt_count
+    (weigh_then (λ v. 0 + (expr_nodes v.1.0 + total stmt_nodes v.1.1)) (λ v. 1 + (0 + total stmt_count v.1.1))
+    (chain_by branch_nodes (total stmt_nodes)) (chain_by branch_count (total stmt_count)) (weigh_if_part p q)
+    (weigh_chained (weigh_else p q)))
     (λ a. omega (arith, nodes_if a.0.1.0 a.0.1.1 (else_of a.1.0 a.1.1), chain_nodes a.1.0 a.1.1))
     (λ a. omega (arith, count_if a.0.1.0 a.0.1.1 (else_of a.1.0 a.1.1), chain_count a.1.0 a.1.1))
 
 pub weigh_stmt : (d : ℕ) → Weighs (Statement_at d) stmt_nodes stmt_count
 weigh_stmt zero = weigh_assignment (weigh_expr zero)
-weigh_stmt (suc d) = weigh_either stmt_nodes stmt_count (weigh_assignment (weigh_expr (suc d))) (weigh_either stmt_nodes stmt_count (weigh_if (weigh_expr d) (weigh_stmt d)) weigh_emission)
+weigh_stmt (suc d) = weigh_either stmt_nodes stmt_count (weigh_assignment (weigh_expr (suc d)))
+    (weigh_either stmt_nodes stmt_count (weigh_if (weigh_expr d) (weigh_stmt d)) weigh_emission)

@@ -1,5 +1,6 @@
 -- Each piece takes a byte.
-use Rattle.std.proofs.Common.{◌≡◌, ℕ, zero, suc, ◌+◌, ◌<◌, ◌≤◌, Bool, true, false, cond, List, [], ◌∷◌, length, drop, take, Option, Some, None, refl, sym, ap, ◌∙◌, arith, Ok}
+use Rattle.std.proofs.Common.{◌≡◌, ℕ, zero, suc, ◌+◌, ◌<◌, ◌≤◌, Bool, true, false, cond, List, [], ◌∷◌, length, drop, take, Option, Some}
+use Rattle.std.proofs.Common.{None, refl, sym, ap, ◌∙◌, arith, Ok}
 use Rattle.std.specs.Prelude.{codes, nat_eq}
 use Rattle.std.specs.List.{prefix_len}
 use Rattle.std.specs.Str.{bytes_eq}
@@ -14,7 +15,9 @@ use Rattle.query_lang.specs.declared.token.Piece.TheVariants as pieces
 use Rattle.query_lang.specs.declared.token.TokenKind.TheVariants.{End, Name, FiveTuple}
 use Rattle.query_lang.specs.declared.fault.FaultKind.TheVariants.{BadByte}
 use Rattle.query_lang.specs.Names.{with_name, number_in}
-use Rattle.query_lang.specs.Lexis.{is_digit, is_word_byte, is_blank, is_not_line_feed, one_mark, two_mark, reserved, below_limit, number_piece, name_piece, word_piece, piece_of_mark, mark_at, piece, Cut, with_front, token_at, cut_piece, cut, TakesSome}
+use Rattle.query_lang.specs.Lexis.{is_digit, is_word_byte, is_blank, is_not_line_feed, one_mark, two_mark, reserved, below_limit}
+use Rattle.query_lang.specs.Lexis.{number_piece, name_piece, word_piece, piece_of_mark, mark_at, piece, Cut, with_front, token_at}
+use Rattle.query_lang.specs.Lexis.{cut_piece, cut, TakesSome}
 
 number_takes : (o : Option ℕ) (len most : ℕ) → 0 < len → len ≤ most → TakesSome (number_piece o len) most
 number_takes None len most more le = omega arith
@@ -31,7 +34,8 @@ word_takes w digits most more le within = whole (nat_eq digits (length w)) refl
     last true lt = name_takes (reserved w) (length w) most more le
     last false lt = omega arith
 
-    five : (b : Bool) → digits < length w → TakesSome (cond b (pieces.Token FiveTuple (length w)) (cond (nat_eq digits 0) (name_piece (reserved w) (length w)) (pieces.Fault BadByte digits))) most
+    five : (b : Bool) → digits < length w → TakesSome (cond b (pieces.Token FiveTuple (length w))
+        (cond (nat_eq digits 0) (name_piece (reserved w) (length w)) (pieces.Fault BadByte digits))) most
     five true lt = (more, le)
     five false lt = last (nat_eq digits 0) lt
 
@@ -56,7 +60,8 @@ digits_within : (bs : List ℕ) → prefix_len is_digit bs ≤ prefix_len is_wor
 digits_within [] = omega arith
 digits_within (b ∷ bs) = go (is_digit b) refl (digits_within bs)
   where
-    go : (d : Bool) → is_digit b ≡ d → prefix_len is_digit bs ≤ prefix_len is_word_byte bs → prefix_len is_digit (b ∷ bs) ≤ prefix_len is_word_byte (b ∷ bs)
+    go : (d : Bool) → is_digit b ≡ d → prefix_len is_digit bs ≤ prefix_len is_word_byte bs
+        → prefix_len is_digit (b ∷ bs) ≤ prefix_len is_word_byte (b ∷ bs)
     go true e h = rw e (omega arith)
     go false e h = rw e (omega arith)
 
@@ -65,23 +70,28 @@ word_first : (b : ℕ) (bytes : List ℕ) → is_word_byte b ≡ true
 word_first b bytes e =
     let some : 0 < prefix_len is_word_byte (b ∷ bytes) = rw e (omega arith) in
     let all : prefix_len is_word_byte (b ∷ bytes) ≤ length (b ∷ bytes) = prefix_len-le-length is_word_byte (b ∷ bytes) in
-    let n : length (take (prefix_len is_word_byte (b ∷ bytes)) (b ∷ bytes)) ≡ prefix_len is_word_byte (b ∷ bytes) = omega (arith, length-take (prefix_len is_word_byte (b ∷ bytes)) (b ∷ bytes)) in
-    word_takes (take (prefix_len is_word_byte (b ∷ bytes)) (b ∷ bytes)) (prefix_len is_digit (b ∷ bytes)) (length (b ∷ bytes)) (omega (arith, n, some)) (omega (arith, n, all)) (omega (arith, n, digits_within (b ∷ bytes)))
+    let n : length (take (prefix_len is_word_byte (b ∷ bytes)) (b ∷ bytes)) ≡ prefix_len is_word_byte (b ∷ bytes) =
+    omega (arith, length-take (prefix_len is_word_byte (b ∷ bytes)) (b ∷ bytes)) in
+    word_takes (take (prefix_len is_word_byte (b ∷ bytes)) (b ∷ bytes)) (prefix_len is_digit (b ∷ bytes)) (length (b ∷ bytes))
+    (omega (arith, n, some)) (omega (arith, n, all)) (omega (arith, n, digits_within (b ∷ bytes)))
 
 pub takes_some : (b : ℕ) (bytes : List ℕ) → TakesSome (piece (b ∷ bytes)) (length (b ∷ bytes))
 takes_some b bytes = blank (is_blank b)
   where
-    word : (w : Bool) → is_word_byte b ≡ w → TakesSome (cond w (word_piece (take (prefix_len is_word_byte (b ∷ bytes)) (b ∷ bytes)) (prefix_len is_digit (b ∷ bytes))) (mark_at b bytes)) (length (b ∷ bytes))
+    word : (w : Bool) → is_word_byte b ≡ w → TakesSome (cond w (word_piece (take (prefix_len is_word_byte (b ∷ bytes)) (b ∷ bytes))
+        (prefix_len is_digit (b ∷ bytes))) (mark_at b bytes)) (length (b ∷ bytes))
     word true e = word_first b bytes e
     word false e = mark_at_takes b bytes
 
     comment : (c : Bool) → TakesSome (cond c (pieces.Blank (1 + prefix_len is_not_line_feed bytes))
-        (cond (is_word_byte b) (word_piece (take (prefix_len is_word_byte (b ∷ bytes)) (b ∷ bytes)) (prefix_len is_digit (b ∷ bytes))) (mark_at b bytes))) (length (b ∷ bytes))
+        (cond (is_word_byte b) (word_piece (take (prefix_len is_word_byte (b ∷ bytes)) (b ∷ bytes)) (prefix_len is_digit (b ∷ bytes)))
+        (mark_at b bytes))) (length (b ∷ bytes))
     comment true = (omega arith, omega (arith, prefix_len-le-length is_not_line_feed bytes))
     comment false = word (is_word_byte b) refl
 
     blank : (s : Bool) → TakesSome (cond s (pieces.Blank 1) (cond (nat_eq b 35) (pieces.Blank (1 + prefix_len is_not_line_feed bytes))
-        (cond (is_word_byte b) (word_piece (take (prefix_len is_word_byte (b ∷ bytes)) (b ∷ bytes)) (prefix_len is_digit (b ∷ bytes))) (mark_at b bytes)))) (length (b ∷ bytes))
+        (cond (is_word_byte b) (word_piece (take (prefix_len is_word_byte (b ∷ bytes)) (b ∷ bytes)) (prefix_len is_digit (b ∷ bytes)))
+        (mark_at b bytes)))) (length (b ∷ bytes))
     blank true = (omega arith, omega arith)
     blank false = comment (nat_eq b 35)
 
@@ -90,28 +100,36 @@ unfolding cut
 cut_none zero at names = refl
 cut_none (suc n) at names = refl
 
-cut_some : (n at : ℕ) (names : List (List ℕ)) (b : ℕ) (bytes : List ℕ) → cut (suc n) at names (b ∷ bytes) ≡ cut_piece (piece (b ∷ bytes)) at names (b ∷ bytes) (λ k known. cut n (at + k) known (drop k (b ∷ bytes)))
+cut_some : (n at : ℕ) (names : List (List ℕ)) (b : ℕ) (bytes : List ℕ)
+    → cut (suc n) at names (b ∷ bytes) ≡ cut_piece (piece (b ∷ bytes)) at names (b ∷ bytes)
+    (λ k known. cut n (at + k) known (drop k (b ∷ bytes)))
 unfolding cut
 cut_some n at names b bytes = refl
 
 -- a piece that takes some gives the same where what comes after it gives the same
 same_piece : (p : Piece) (at : ℕ) (names : List (List ℕ)) (bytes : List ℕ) (f g : ℕ → List (List ℕ) → Cut) → TakesSome p (length bytes)
-    → ((k : ℕ) (known : List (List ℕ)) → 0 < k → k ≤ length bytes → f k known ≡ g k known) → cut_piece p at names bytes f ≡ cut_piece p at names bytes g
+    → ((k : ℕ) (known : List (List ℕ)) → 0 < k → k ≤ length bytes → f k known ≡ g k known)
+    → cut_piece p at names bytes f ≡ cut_piece p at names bytes g
 same_piece (pieces.Blank n) at names bytes f g h same = same n names h.0 h.1
-same_piece (pieces.Name n) at names bytes f g h same = ap (with_front (token_at (Name (number_in names (take n bytes))) at (at + n))) (same n (with_name names (take n bytes)) h.0 h.1)
+same_piece (pieces.Name n) at names bytes f g h same = ap (with_front (token_at (Name (number_in names (take n bytes))) at (at + n)))
+    (same n (with_name names (take n bytes)) h.0 h.1)
 same_piece (pieces.Token kind n) at names bytes f g h same = ap (with_front (token_at kind at (at + n))) (same n names h.0 h.1)
 same_piece (pieces.Fault kind n) at names bytes f g h same = refl
 
 -- two bounds that are enough
-both_enough : (n m at : ℕ) (names : List (List ℕ)) (bytes : List ℕ) → length bytes ≤ n → length bytes ≤ m → cut n at names bytes ≡ cut m at names bytes
+both_enough : (n m at : ℕ) (names : List (List ℕ)) (bytes : List ℕ) → length bytes ≤ n → length bytes ≤ m
+    → cut n at names bytes ≡ cut m at names bytes
 both_enough n m at names [] le also = cut_none n at names ∙ sym (cut_none m at names)
 both_enough zero m at names (b ∷ bytes) le also = absurd (omega arith)
 both_enough (suc n) zero at names (b ∷ bytes) le also = absurd (omega arith)
 both_enough (suc n) (suc m) at names (b ∷ bytes) le also =
     cut_some n at names b bytes
-    ∙ same_piece (piece (b ∷ bytes)) at names (b ∷ bytes) (λ k known. cut n (at + k) known (drop k (b ∷ bytes))) (λ k known. cut m (at + k) known (drop k (b ∷ bytes))) (takes_some b bytes)
-    (λ k known more within. both_enough n m (at + k) known (drop k (b ∷ bytes)) (omega (arith, length-drop k (b ∷ bytes))) (omega (arith, length-drop k (b ∷ bytes))))
+    ∙ same_piece (piece (b ∷ bytes)) at names (b ∷ bytes) (λ k known. cut n (at + k) known (drop k (b ∷ bytes)))
+    (λ k known. cut m (at + k) known (drop k (b ∷ bytes))) (takes_some b bytes)
+    (λ k known more within. both_enough n m (at + k) known (drop k (b ∷ bytes)) (omega (arith, length-drop k (b ∷ bytes)))
+    (omega (arith, length-drop k (b ∷ bytes))))
     ∙ sym (cut_some m at names b bytes)
 
-pub enough : (n at : ℕ) (names : List (List ℕ)) (bytes : List ℕ) → length bytes ≤ n → cut n at names bytes ≡ cut (length bytes) at names bytes
+pub enough : (n at : ℕ) (names : List (List ℕ)) (bytes : List ℕ) → length bytes ≤ n
+    → cut n at names bytes ≡ cut (length bytes) at names bytes
 enough n at names bytes le = both_enough n (length bytes) at names bytes le (omega arith)

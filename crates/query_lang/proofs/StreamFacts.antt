@@ -16,7 +16,8 @@ use Rattle.query_lang.specs.StreamExamples.{three_packets, tuple, FilterExample,
 pub filter_example : FilterExample
 unfolding op_value
 filter_example condition e =
-    let P : Term → Type 0 = λ t. filter (λ one. holds (term_value t one.row)) (numbered 1 three_packets) ≡ tuple 1 (5 ∷ 1 ∷ []) ∷ tuple 3 (5 ∷ 3 ∷ []) ∷ [] in
+    let P : Term → Type 0 = λ t. filter (λ one. holds (term_value t one.row)) (numbered 1 three_packets) ≡ tuple 1 (5 ∷ 1 ∷ [])
+    ∷ tuple 3 (5 ∷ 3 ∷ []) ∷ [] in
     subst P (sym e) refl
 
 pub map_example : MapExample
@@ -41,7 +42,8 @@ group_example q f first second emit below parts emits starts groups filters emit
     let keys : Option TypedExpr → List ℕ → List Tuple = λ o start.
     map (λ one. tuple one.packet (values_at one.row (0 ∷ []))) (filter (λ one. holds_at o (start ++ values_at one.row (1 ∷ []))) packets) in
     let emitted : Term → List Tuple = λ t.
-    map (λ one. tuple one.packet (values_at one.row (0 ∷ []))) (filter (λ one. holds (term_value t (9 ∷ values_at one.row (1 ∷ [])))) packets) in
+    map (λ one. tuple one.packet (values_at one.row (0 ∷ []))) (filter (λ one. holds (term_value t (9 ∷ values_at one.row (1 ∷ []))))
+    packets) in
     let kept : List Tuple → Term → List Tuple = λ input t. filter (λ one. holds (term_value t one.row)) input in
     ap (λ folds. whole folds q.streams) parts.0
     ∙ ap (λ streams. whole (f ∷ []) streams) parts.1

@@ -61,7 +61,8 @@ not_fit : (t : TypedQuery) (fault : QueryFault) → stage_fault t ≡ Some fault
 not_fit t fault e h = let both : (let o : Option QueryFault = Some fault in o) ≡ None = sym e ∙ no_stage_fault t h in cc both
 
 -- what a fault of each kind says of the rules
-item_breaks : (q : Query) (kind : FaultKind) (at : Span) → (kinds.NothingPrinted ≡ kind → ⊥) → HasFault kind at q → BreaksRule q (at_span kind at)
+item_breaks : (q : Query) (kind : FaultKind) (at : Span) → (kinds.NothingPrinted ≡ kind → ⊥) → HasFault kind at q
+    → BreaksRule q (at_span kind at)
 item_breaks q kind at other e = of_item (at_some_item q kind at other e)
 
 breaks_rule : (q : Query) (kind : FaultKind) (at : Span) → IsOfTyping kind → HasFault kind at q → BreaksRule q (at_span kind at)
@@ -76,15 +77,18 @@ breaks_rule q (kinds.OverLimit limit) at h e = item_breaks q (kinds.OverLimit li
 breaks_rule q _ at h e = absurd h
 
 untyped : (text : List ℕ) (q : Query) (fault : QueryFault) → parsed_text text ≡ Ok q → checked q ≡ Err fault → IsRefusedFor text fault
-untyped text q fault p is = by_typing q (query_of_text text q p) is (breaks_rule q fault.kind fault.span (only_these q fault is) is) (λ t h. no_form q fault t is h)
+untyped text q fault p is = by_typing q (query_of_text text q p) is (breaks_rule q fault.kind fault.span (only_these q fault is) is)
+    (λ t h. no_form q fault t is h)
 
 cause : (text : List ℕ) (fault : QueryFault) → accepted text ≡ Err fault → IsRefusedFor text fault
 unfolding accepted
 cause text fault e =
-    by_next (parsed_text text) (λ (z : Query). and_then (checked z) staged) fault e (λ is. by_grammar (fault_of_text text fault is)) (λ q p e.
+    by_next (parsed_text text) (λ (z : Query). and_then (checked z) staged) fault e (λ is. by_grammar (fault_of_text text fault is))
+    (λ q p e.
     by_next (checked q) staged fault e (λ is. untyped text q fault p is) (λ t r e.
     let deep = too_deep (stage_fault t) t fault e in
     by_stages q t (query_of_text text q p) (query_sound q t r) deep (not_fit t fault deep)))
 
-pub refused : (text : List ℕ) (fault : QueryFault) → accepted text ≡ Err fault → IsRefusedFor text fault × ((t : TypedQuery) → IsAcceptedAs text t → ⊥)
+pub refused : (text : List ℕ) (fault : QueryFault) → accepted text ≡ Err fault → IsRefusedFor text fault
+    × ((t : TypedQuery) → IsAcceptedAs text t → ⊥)
 refused text fault e = (cause text fault e, λ t h. no_fault t fault (sym (accepted_complete text t h) ∙ e))

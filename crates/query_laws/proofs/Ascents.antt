@@ -1,5 +1,6 @@
 -- Each operator keeps the order of the packets.
-use Rattle.std.proofs.Common.{◌≡◌, ℕ, zero, suc, ◌+◌, ◌<◌, ◌≤◌, Bool, true, false, cond, List, [], ◌∷◌, ◌++◌, length, Option, Some, None, slice_index, subst, arith}
+use Rattle.std.proofs.Common.{◌≡◌, ℕ, zero, suc, ◌+◌, ◌<◌, ◌≤◌, Bool, true, false, cond, List, [], ◌∷◌, ◌++◌, length, Option, Some, None}
+use Rattle.std.proofs.Common.{slice_index, subst, arith}
 use Rattle.std.specs.Prelude.{All, map, filter, find, fold, slice_get, option_map, ◌==◌}
 use Rattle.std.specs.List.{cons_option}
 use Rattle.std.specs.List.Sorted.{IsStrictlyIncreasing}
@@ -40,13 +41,15 @@ map_rises : (new : Tuple → List ℕ) (from end : ℕ) (tuples : List Tuple) �
 map_rises new from end [] h = tt
 map_rises new from end (t ∷ tuples) h = (h.0, h.1, map_rises new (suc t.packet) end tuples h.2)
 
-zip_rises : (slots : List ℕ) (right : List Tuple) (from end : ℕ) (left : List Tuple) → Rises from end left → Rises from end (zip_stream slots left right)
+zip_rises : (slots : List ℕ) (right : List Tuple) (from end : ℕ) (left : List Tuple) → Rises from end left
+    → Rises from end (zip_stream slots left right)
 zip_rises slots right from end [] h = tt
 zip_rises slots right from end (t ∷ left) h =
     go (find (λ (other : Tuple). other.packet == t.packet) right) (zip_rises slots right (suc t.packet) end left h.2)
   where
     go : (o : Option Tuple) → Rises (suc t.packet) end (zip_stream slots left right)
-        → Rises from end (cons_option (option_map (λ (other : Tuple). record { packet = t.packet; row = t.row ++ values_at other.row slots }) o) (zip_stream slots left right))
+        → Rises from end (cons_option (option_map (λ (other : Tuple). record
+        { packet = t.packet; row = t.row ++ values_at other.row slots }) o) (zip_stream slots left right))
     go (Some other) more = (h.0, h.1, more)
     go None more = rises_before from (suc t.packet) end (zip_stream slots left right) (omega (arith, h.0)) more
 
@@ -68,11 +71,13 @@ rise_at end [] number h = tt
 rise_at end (one ∷ streams) zero h = h.0
 rise_at end (one ∷ streams) (suc number) h = rise_at end streams number h.1
 
-rise_last : (end : ℕ) (streams : List (List Tuple)) (one : List Tuple) → AllRise end streams → Rises 1 end one → AllRise end (streams ++ one ∷ [])
+rise_last : (end : ℕ) (streams : List (List Tuple)) (one : List Tuple) → AllRise end streams → Rises 1 end one
+    → AllRise end (streams ++ one ∷ [])
 rise_last end [] one h k = (k, tt)
 rise_last end (first ∷ streams) one h k = (h.0, rise_last end streams one h.1 k)
 
-made_rises : (folds : List TypedFold) (end : ℕ) (streams : List (List Tuple)) (op : TypedOp) → AllRise end streams → Rises 1 end (made_of folds streams op)
+made_rises : (folds : List TypedFold) (end : ℕ) (streams : List (List Tuple)) (op : TypedOp) → AllRise end streams
+    → Rises 1 end (made_of folds streams op)
 made_rises folds end streams (Filter input condition) h =
     filter_rises (λ t. holds (expr_value condition t.row)) 1 end (list_at streams input) (rise_at end streams input h)
 made_rises folds end streams (Map input values) h =

@@ -1,5 +1,6 @@
 -- The statements of a fold: what the check gives has a rule, and what has a rule is what the check gives.
-use Rattle.std.proofs.Common.{◌≡◌, ℕ, Bool, true, false, List, [], ◌∷◌, ◌++◌, length, map, Option, Some, None, Ok, refl, sym, ap, subst, ◌∙◌, append_assoc, append-nil}
+use Rattle.std.proofs.Common.{◌≡◌, ℕ, Bool, true, false, List, [], ◌∷◌, ◌++◌, length, map, Option, Some, None, Ok, refl, sym, ap, subst}
+use Rattle.std.proofs.Common.{◌∙◌, append_assoc, append-nil}
 use Rattle.std.specs.Prelude.{is_some}
 use Rattle.query_lang.specs.declared.fault.FaultKind.TheVariants.{WrongArity}
 use Rattle.query_lang.specs.declared.fault.Span.{Span}
@@ -19,7 +20,8 @@ use Rattle.query_lang.specs.Terms.{Term}
 use Rattle.query_lang.specs.Folds.{ReadsArguments}
 use Rattle.query_lang.specs.Checks.{Checked, is_among, place_of}
 use Rattle.query_lang.specs.TypedExprs.{condition_of, word_of}
-use Rattle.query_lang.specs.TypedFolds.{target_at, target_of, state_in, joined, inside, emit_condition, no_state, Adding, in_order, stmt_step, stmt_checked}
+use Rattle.query_lang.specs.TypedFolds.{target_at, target_of, state_in, joined, inside, emit_condition, no_state, Adding, in_order}
+use Rattle.query_lang.specs.TypedFolds.{stmt_step, stmt_checked}
 use Rattle.query_lang.proofs.TreeLemmas.{term_not}
 use Rattle.query_laws.specs.ExprRules.{Condition, StandsAt}
 use Rattle.query_laws.specs.FoldRules.{conjunction, emit_of, ReadArguments, HasBlock, of_none, of_assign, of_if, of_emit, at_most_one}
@@ -48,7 +50,8 @@ emit_is : (around : List TypedExpr) → emit_condition (all_of around) ≡ emit_
 emit_is [] = refl
 emit_is (t ∷ others) = refl
 
-fits_inside : (states : List ℕ) (around : List TypedExpr) (outer : Enclosing) (written : Expr) (t : TypedExpr) → Fits states around outer → Reads states written t → Fits states (t ∷ around) (inside states outer written t)
+fits_inside : (states : List ℕ) (around : List TypedExpr) (outer : Enclosing) (written : Expr) (t : TypedExpr) → Fits states around outer
+    → Reads states written t → Fits states (t ∷ around) (inside states outer written t)
 fits_inside states around outer written t f r = record {
   condition = ap (λ (o : Option TypedExpr). Some (joined o t)) f.condition ∙ ap Some (one_more t around);
   past = λ e. let p = neither outer.state (state_in states written) e in (r.past p.1, f.past p.0);
@@ -85,7 +88,8 @@ record Added (states args : List ℕ) (around : List TypedExpr) (s : Stmt) (foun
   pub es : List TypedExpr
   pub statements : made.statements ≡ found.statements ++ ts
   pub emits : at_most_one found.emit ++ es ≡ at_most_one made.emit
-  pub rule : (rest : List Stmt) (us : List TypedStmt) (fs : List TypedExpr) → HasBlock states args around rest us fs → HasBlock states args around (s ∷ rest) (ts ++ us) (es ++ fs)
+  pub rule : (rest : List Stmt) (us : List TypedStmt) (fs : List TypedExpr) → HasBlock states args around rest us fs
+      → HasBlock states args around (s ∷ rest) (ts ++ us) (es ++ fs)
 
 pub record IsBlock (states args : List ℕ) (around : List TypedExpr) (ss : List Stmt) (found made : Body) : Type 0 where
   pub ts : List TypedStmt
@@ -95,21 +99,25 @@ pub record IsBlock (states args : List ℕ) (around : List TypedExpr) (ss : List
   pub rule : HasBlock states args around ss ts es
 
 abbrev IsSound : List ℕ → List ℕ → Stmt → Type 0
-IsSound states args s = (around : List TypedExpr) (outer : Enclosing) (found made : Body) → Fits states around outer → stmt_checked states args s outer found ≡ Ok made → Added states args around s found made
+IsSound states args s = (around : List TypedExpr) (outer : Enclosing) (found made : Body) → Fits states around outer
+    → stmt_checked states args s outer found ≡ Ok made → Added states args around s found made
 
 abbrev Sound : List ℕ → List ℕ → Type 0
 Sound states args = (s : Stmt) × IsSound states args s
 
 abbrev IsSoundLayer : List ℕ → List ℕ → stmt.Stmt-F Stmt → Type 0
 IsSoundLayer states args x = (around : List TypedExpr) (outer : Enclosing) (found made : Body) → Fits states around outer
-    → stmt_step states args (map-Stmt Stmt Adding (stmt_checked states args) x) outer found ≡ Ok made → Added states args around (roll-Stmt x) found made
+    → stmt_step states args (map-Stmt Stmt Adding (stmt_checked states args) x) outer found ≡ Ok made
+    → Added states args around (roll-Stmt x) found made
 
 of_layer : (states args : List ℕ) (x : stmt.Stmt-F Stmt) → IsSoundLayer states args x → IsSound states args (roll-Stmt x)
 of_layer states args x layer around outer found made f e =
     layer around outer found made f (sym (ap (λ (g : Adding). g outer found) (fold-roll-Stmt Adding (stmt_step states args) x)) ∙ e)
 
-block_of_sound : (states args : List ℕ) (ss : List (Sound states args)) (around : List TypedExpr) (outer : Enclosing) (found made : Body) → Fits states around outer
-    → in_order (map (stmt_checked states args) (map (λ s. s.0) ss)) outer found ≡ Ok made → IsBlock states args around (map (λ s. s.0) ss) found made
+block_of_sound : (states args : List ℕ) (ss : List (Sound states args)) (around : List TypedExpr) (outer : Enclosing) (found made : Body)
+    → Fits states around outer
+    → in_order (map (stmt_checked states args) (map (λ s. s.0) ss)) outer found ≡ Ok made
+    → IsBlock states args around (map (λ s. s.0) ss) found made
 block_of_sound states args [] around outer found made f e =
     let same = same_ok found made e in
     record {
@@ -126,15 +134,18 @@ block_of_sound states args (s ∷ ss) around outer found made f e =
     record {
       ts = one.ts ++ rest.ts;
       es = one.es ++ rest.es;
-      statements = rest.statements ∙ ap (λ (z : List TypedStmt). z ++ rest.ts) one.statements ∙ append_assoc found.statements one.ts rest.ts;
+      statements = rest.statements ∙ ap (λ (z : List TypedStmt). z ++ rest.ts) one.statements
+          ∙ append_assoc found.statements one.ts rest.ts;
       emits = sym (append_assoc (at_most_one found.emit) one.es rest.es) ∙ ap (λ (z : List TypedExpr). z ++ rest.es) one.emits ∙ rest.emits;
       rule = one.rule _ rest.ts rest.es rest.rule;
     }
 
-moved : (states args : List ℕ) (around : List TypedExpr) (s r : Stmt) (found made : Body) → r ≡ s → Added states args around s found made → Added states args around r found made
+moved : (states args : List ℕ) (around : List TypedExpr) (s r : Stmt) (found made : Body) → r ≡ s → Added states args around s found made
+    → Added states args around r found made
 moved states args around s r found made is h = let S : Stmt → Type 0 = λ z. Added states args around z found made in subst S (sym is) h
 
-step : (states args : List ℕ) (y : stmt.Stmt-F (Sound states args)) → IsSoundLayer states args (map-Stmt (Sound states args) Stmt (λ s. s.0) y)
+step : (states args : List ℕ) (y : stmt.Stmt-F (Sound states args)) → IsSoundLayer states args
+    (map-Stmt (Sound states args) Stmt (λ s. s.0) y)
 step states args (stmt.Assign x e) around outer found made f is =
     let target = found_first (target_of states args x) _ made is in
     let word = found_first (word_of (states ++ args) [] e) _ made target.2 in
@@ -144,19 +155,23 @@ step states args (stmt.Assign x e) around outer found made f is =
       es = [];
       statements = refl;
       emits = append-nil (at_most_one found.emit);
-      rule = λ rest us fs h. of_assign around x target.0 e word.0 rest us fs (target_stands states args x target.0 target.1) (word_sound (states ++ args) [] e word.0 word.1) h;
+      rule = λ rest us fs h. of_assign around x target.0 e word.0 rest us fs (target_stands states args x target.0 target.1)
+          (word_sound (states ++ args) [] e word.0 word.1) h;
     }))
 step states args (stmt.If c a b) around outer found made f is =
     let firsts = map (λ (s : Sound states args). s.0) a in
     let seconds = map (λ (s : Sound states args). s.0) b in
     let condition = found_first (condition_of (states ++ args) [] c) _ made is in
     let t = condition.0 in
-    let one = found_first (in_order (map (stmt_checked states args) firsts) (inside states outer c t) (record { statements = []; emit = found.emit })) _ made condition.2 in
-    let two = found_first (in_order (map (stmt_checked states args) seconds) (inside states outer c (typed.Not t)) (record { statements = []; emit = one.0.emit })) _ made one.2 in
+    let one = found_first (in_order (map (stmt_checked states args) firsts) (inside states outer c t)
+    (record { statements = []; emit = found.emit })) _ made condition.2 in
+    let two = found_first (in_order (map (stmt_checked states args) seconds) (inside states outer c (typed.Not t))
+    (record { statements = []; emit = one.0.emit })) _ made one.2 in
     let rule = condition_sound (states ++ args) [] c t condition.1 in
     let r = reads states args Condition c t rule in
     let p = block_of_sound states args a (t ∷ around) _ _ one.0 (fits_inside states around outer c t f r) one.1 in
-    let q = block_of_sound states args b (typed.Not t ∷ around) _ _ two.0 (fits_inside states around outer c (typed.Not t) f (not_reads states c t r)) two.1 in
+    let q = block_of_sound states args b (typed.Not t ∷ around) _ _ two.0
+    (fits_inside states around outer c (typed.Not t) f (not_reads states c t r)) two.1 in
     let P : List TypedStmt → Type 0 = λ z. HasBlock states args (t ∷ around) firsts z p.es in
     let Q : List TypedStmt → Type 0 = λ z. HasBlock states args (typed.Not t ∷ around) seconds z q.es in
     let B : Body → Type 0 = λ z. Added states args around (whole.If c firsts seconds) found z in
@@ -165,7 +180,8 @@ step states args (stmt.If c a b) around outer found made f is =
       es = p.es ++ q.es;
       statements = refl;
       emits = sym (append_assoc (at_most_one found.emit) p.es q.es) ∙ ap (λ (z : List TypedExpr). z ++ q.es) p.emits ∙ q.emits;
-      rule = λ rest us fs h. of_if around c t firsts seconds rest one.0.statements two.0.statements us p.es q.es fs rule (subst P (sym p.statements) p.rule) (subst Q (sym q.statements) q.rule) h;
+      rule = λ rest us fs h. of_if around c t firsts seconds rest one.0.statements two.0.statements us p.es q.es fs rule
+          (subst P (sym p.statements) p.rule) (subst Q (sym q.statements) q.rule) h;
     }))
 step states args (stmt.Emit span) around outer found made f is =
     let once = must_not_ok (is_some found.emit) WrongArity span _ made is in
@@ -185,7 +201,8 @@ stmt_sound states args = ind-Stmt (IsSound states args) (λ x y is.
     let L : stmt.Stmt-F Stmt → Type 0 = λ z. IsSoundLayer states args z in
     of_layer states args x (subst L is (step states args y)))
 
-pub block_sound : (states args : List ℕ) (ss : List Stmt) (around : List TypedExpr) (outer : Enclosing) (found made : Body) → Fits states around outer
+pub block_sound : (states args : List ℕ) (ss : List Stmt) (around : List TypedExpr) (outer : Enclosing) (found made : Body)
+    → Fits states around outer
     → in_order (map (stmt_checked states args) ss) outer found ≡ Ok made → IsBlock states args around ss found made
 block_sound states args [] around outer found made f e = block_of_sound states args [] around outer found made f e
 block_sound states args (s ∷ ss) around outer found made f e =
@@ -195,7 +212,8 @@ block_sound states args (s ∷ ss) around outer found made f e =
     record {
       ts = one.ts ++ rest.ts;
       es = one.es ++ rest.es;
-      statements = rest.statements ∙ ap (λ (z : List TypedStmt). z ++ rest.ts) one.statements ∙ append_assoc found.statements one.ts rest.ts;
+      statements = rest.statements ∙ ap (λ (z : List TypedStmt). z ++ rest.ts) one.statements
+          ∙ append_assoc found.statements one.ts rest.ts;
       emits = sym (append_assoc (at_most_one found.emit) one.es rest.es) ∙ ap (λ (z : List TypedExpr). z ++ rest.es) one.emits ∙ rest.emits;
       rule = one.rule _ rest.ts rest.es rest.rule;
     }
@@ -205,7 +223,8 @@ block_sound states args (s ∷ ss) around outer found made f e =
 pub stmt_is : (states args : List ℕ) (x : stmt.Stmt-F Stmt) (s : Stmt) → roll-Stmt x ≡ s → (outer : Enclosing) (found : Body)
     → stmt_checked states args s outer found ≡ stmt_step states args (map-Stmt Stmt Adding (stmt_checked states args) x) outer found
 stmt_is states args x s is outer found =
-    ap (λ (z : Stmt). stmt_checked states args z outer found) (sym is) ∙ ap (λ (g : Adding). g outer found) (fold-roll-Stmt Adding (stmt_step states args) x)
+    ap (λ (z : Stmt). stmt_checked states args z outer found) (sym is)
+    ∙ ap (λ (g : Adding). g outer found) (fold-roll-Stmt Adding (stmt_step states args) x)
 
 same_one : (o p : Option TypedExpr) → at_most_one o ≡ at_most_one p → o ≡ p
 same_one None None e = refl
@@ -214,20 +233,26 @@ same_one (Some t) None e = cc e
 same_one (Some t) (Some u) e = let same : t ≡ u = cc e in ap Some same
 
 -- the first of at most one is at most one
-first_part : (xs ys : List TypedExpr) (last : Option TypedExpr) → xs ++ ys ≡ at_most_one last → (p : Option TypedExpr) × (xs ≡ at_most_one p)
+first_part : (xs ys : List TypedExpr) (last : Option TypedExpr) → xs ++ ys ≡ at_most_one last → (p : Option TypedExpr)
+    × (xs ≡ at_most_one p)
 first_part [] ys last e = (None, refl)
 first_part (x ∷ []) ys last e = (Some x, refl)
 first_part (x ∷ y ∷ xs) ys None e = cc e
 first_part (x ∷ y ∷ xs) ys (Some t) e = cc e
 
-bodies : (xs ys : List TypedStmt) (o p : Option TypedExpr) → xs ≡ ys → o ≡ p → (let r : Checked Body = Ok (record { statements = xs; emit = o }) in r) ≡ Ok (record { statements = ys; emit = p })
-bodies xs ys o p e f = ap (λ (z : List TypedStmt). let r : Checked Body = Ok (record { statements = z; emit = o }) in r) e ∙ ap (λ (z : Option TypedExpr). let r : Checked Body = Ok (record { statements = ys; emit = z }) in r) f
+bodies : (xs ys : List TypedStmt) (o p : Option TypedExpr) → xs ≡ ys → o ≡ p
+    → (let r : Checked Body = Ok (record { statements = xs; emit = o }) in r) ≡ Ok (record { statements = ys; emit = p })
+bodies xs ys o p e f = ap (λ (z : List TypedStmt). let r : Checked Body = Ok (record { statements = z; emit = o }) in r) e
+    ∙ ap (λ (z : Option TypedExpr). let r : Checked Body = Ok (record { statements = ys; emit = z }) in r) f
 
-pub block_complete : (states args : List ℕ) (around : List TypedExpr) (ss : List Stmt) (ts : List TypedStmt) (es : List TypedExpr) → HasBlock states args around ss ts es
-    → (outer : Enclosing) (found : Body) (last : Option TypedExpr) → Fits states around outer → at_most_one found.emit ++ es ≡ at_most_one last
+pub block_complete : (states args : List ℕ) (around : List TypedExpr) (ss : List Stmt) (ts : List TypedStmt) (es : List TypedExpr)
+    → HasBlock states args around ss ts es
+    → (outer : Enclosing) (found : Body) (last : Option TypedExpr) → Fits states around outer → at_most_one found.emit
+    ++ es ≡ at_most_one last
     → in_order (map (stmt_checked states args) ss) outer found ≡ Ok (record { statements = found.statements ++ ts; emit = last })
 block_complete states args _ _ _ _ (of_none around) outer found last f e =
-    bodies found.statements (found.statements ++ []) found.emit last (sym (append-nil found.statements)) (same_one found.emit last (sym (append-nil (at_most_one found.emit)) ∙ e))
+    bodies found.statements (found.statements ++ []) found.emit last (sym (append-nil found.statements))
+    (same_one found.emit last (sym (append-nil (at_most_one found.emit)) ∙ e))
 block_complete states args _ _ _ _ (of_assign around x v e t rest ts es stands word h) outer found last f k =
     then_next _ _ (record { statements = found.statements ++ typed_stmt.Assign v t ∷ []; emit = found.emit }) (
     stmt_is states args (stmt.Assign x e) (whole.Assign x e) (rolls-Assign x e) outer found
@@ -244,9 +269,12 @@ block_complete states args _ _ _ _ (of_if around c t a b rest xs ys ts first sec
     then_next _ _ (record { statements = found.statements ++ typed_stmt.If t xs ys ∷ []; emit = two.0 }) (
     stmt_is states args (stmt.If c a b) (whole.If c a b) (rolls-If c a b) outer found
     ∙ then_next _ _ t (condition_complete (states ++ args) [] c t rule)
-    ∙ then_next _ _ _ (block_complete states args (t ∷ around) a xs first ha (inside states outer c t) (record { statements = []; emit = found.emit }) one.0 (fits_inside states around outer c t f r) one.1)
-    ∙ then_next _ _ _ (block_complete states args (typed.Not t ∷ around) b ys second hb (inside states outer c (typed.Not t)) (record { statements = []; emit = one.0 }) two.0
-    (fits_inside states around outer c (typed.Not t) f (not_reads states c t r)) (sym (ap (λ (z : List TypedExpr). z ++ second) one.1) ∙ inner)))
+    ∙ then_next _ _ _ (block_complete states args (t ∷ around) a xs first ha (inside states outer c t)
+    (record { statements = []; emit = found.emit }) one.0 (fits_inside states around outer c t f r) one.1)
+    ∙ then_next _ _ _ (block_complete states args (typed.Not t ∷ around) b ys second hb (inside states outer c (typed.Not t))
+    (record { statements = []; emit = one.0 }) two.0
+    (fits_inside states around outer c (typed.Not t) f (not_reads states c t r))
+    (sym (ap (λ (z : List TypedExpr). z ++ second) one.1) ∙ inner)))
     ∙ block_complete states args around rest ts others h outer _ last f (sym (ap (λ (z : List TypedExpr). z ++ others) two.1) ∙ front)
     ∙ bodies _ _ last last (append_assoc found.statements (typed_stmt.If t xs ys ∷ []) ts) refl
 block_complete states args _ _ _ _ (of_emit around span rest ts others past h) outer found last f k =
@@ -254,10 +282,13 @@ block_complete states args _ _ _ _ (of_emit around span rest ts others past h) o
     then_next _ _ (record { statements = found.statements; emit = Some (emit_of around) }) (
     stmt_is states args (stmt.Emit span) (whole.Emit span) (rolls-Emit span) outer found
     ∙ must_not_holds _ _ _ _ (ap is_some none)
-    ∙ ap (λ (o : Option Span). no_state o (let r : Checked Body = Ok (record { statements = found.statements; emit = Some (emit_condition outer.condition) }) in r)) (f.none past)
+    ∙ ap (λ (o : Option Span). no_state o (let r : Checked Body = Ok (record
+    { statements = found.statements; emit = Some (emit_condition outer.condition) }) in r)) (f.none past)
     ∙ bodies _ _ _ _ refl (ap Some (ap emit_condition f.condition ∙ emit_is around)))
-    ∙ block_complete states args around rest ts others h outer _ last f (sym (ap (λ (o : Option TypedExpr). at_most_one o ++ emit_of around ∷ others) none) ∙ k)
+    ∙ block_complete states args around rest ts others h outer _ last f
+    (sym (ap (λ (o : Option TypedExpr). at_most_one o ++ emit_of around ∷ others) none) ∙ k)
   where
     only : (o : Option TypedExpr) → at_most_one o ++ emit_of around ∷ others ≡ at_most_one last → o ≡ None
     only None k = refl
-    only (Some t) k = (elim last as (λ z. (t ∷ emit_of around ∷ others) ≡ at_most_one z → Some t ≡ None) [ None ↦ λ k. cc k | Some u ↦ λ k. cc k ]) k
+    only (Some t) k = (elim last as (λ z. (t ∷ emit_of around ∷ others) ≡ at_most_one z → Some t ≡ None)
+        [ None ↦ λ k. cc k | Some u ↦ λ k. cc k ]) k

@@ -1,5 +1,6 @@
 -- Which columns a `zip` and a `groupby` have: the rules and the checks agree.
-use Rattle.std.proofs.Common.{◌≡◌, ℕ, zero, suc, ◌+◌, ◌<◌, Bool, true, false, cond, List, [], ◌∷◌, length, Option, Some, refl, sym, ap, subst, ◌∙◌, arith}
+use Rattle.std.proofs.Common.{◌≡◌, ℕ, zero, suc, ◌+◌, ◌<◌, Bool, true, false, cond, List, [], ◌∷◌, length, Option, Some, refl, sym, ap}
+use Rattle.std.proofs.Common.{subst, ◌∙◌, arith}
 use Rattle.std.specs.Prelude.{slice_get}
 use Rattle.std.specs.List.{cons_option}
 use Rattle.query_lang.specs.declared.typing.StreamColumn.{StreamColumn}
@@ -17,7 +18,8 @@ at_slots columns [] [] h = refl
 at_slots columns [] (c ∷ found) h = absurd h
 at_slots columns (slot ∷ slots) [] h = absurd h
 at_slots columns (slot ∷ slots) (c ∷ found) h =
-    ap (λ (z : List StreamColumn). c ∷ z) (at_slots columns slots found h.1) ∙ sym (ap (λ (o : Option StreamColumn). cons_option o (columns_at columns slots)) h.0)
+    ap (λ (z : List StreamColumn). c ∷ z) (at_slots columns slots found h.1)
+    ∙ sym (ap (λ (o : Option StreamColumn). cons_option o (columns_at columns slots)) h.0)
 
 -- slots of columns that are there
 abbrev AreWithin : ℕ → List ℕ → Type 0
@@ -29,7 +31,8 @@ found_column [] slot lt = absurd (omega (arith, lt))
 found_column (c ∷ columns) zero lt = (c, refl)
 found_column (c ∷ columns) (suc slot) lt = found_column columns slot (omega (arith, lt))
 
-are_there : (columns : List StreamColumn) (slots : List ℕ) → AreWithin (length columns) slots → AreAt columns slots (columns_at columns slots)
+are_there : (columns : List StreamColumn) (slots : List ℕ) → AreWithin (length columns) slots
+    → AreAt columns slots (columns_at columns slots)
 are_there columns [] h = tt
 are_there columns (slot ∷ slots) h =
     let c = found_column columns slot h.0 in
@@ -41,21 +44,25 @@ stands_within [] slot id h = absurd h
 stands_within (c ∷ columns) zero id h = omega arith
 stands_within (c ∷ columns) (suc slot) id h = omega (arith, stands_within columns slot id h.1)
 
-slots_within : (columns : List StreamColumn) (ids slots : List ℕ) → HasSlots (column_names columns) ids slots → AreWithin (length columns) slots
+slots_within : (columns : List StreamColumn) (ids slots : List ℕ) → HasSlots (column_names columns) ids slots
+    → AreWithin (length columns) slots
 slots_within columns [] [] h = tt
 slots_within columns [] (slot ∷ slots) h = absurd h
 slots_within columns (id ∷ ids) [] h = absurd h
 slots_within columns (id ∷ ids) (slot ∷ slots) h = (stands_within columns slot id h.0, slots_within columns ids slots h.1)
 
 -- the columns of a groupby, from its keys' slots
-pub keys_there : (columns : List StreamColumn) (ids slots : List ℕ) → HasSlots (column_names columns) ids slots → AreAt columns slots (columns_at columns slots)
+pub keys_there : (columns : List StreamColumn) (ids slots : List ℕ) → HasSlots (column_names columns) ids slots
+    → AreAt columns slots (columns_at columns slots)
 keys_there columns ids slots h = are_there columns slots (slots_within columns ids slots h)
 
 -- ---- the columns with other names
 
-pub others_are : (names : List ℕ) (slot : ℕ) (columns : List StreamColumn) (slots : List ℕ) → AreOthers names slot columns slots → slots ≡ others_from slot names columns
+pub others_are : (names : List ℕ) (slot : ℕ) (columns : List StreamColumn) (slots : List ℕ) → AreOthers names slot columns slots
+    → slots ≡ others_from slot names columns
 others_are names _ _ _ (of_none slot) = refl
-others_are names _ _ _ (of_named slot column rest slots h more) = go (is_among column.name names) refl (others_are names (slot + 1) rest slots more)
+others_are names _ _ _ (of_named slot column rest slots h more) = go (is_among column.name names) refl
+    (others_are names (slot + 1) rest slots more)
   where
     go : (b : Bool) → is_among column.name names ≡ b → slots ≡ others_from (slot + 1) names rest
         → slots ≡ cond b (others_from (slot + 1) names rest) (slot ∷ others_from (slot + 1) names rest)
@@ -63,7 +70,8 @@ others_are names _ _ _ (of_named slot column rest slots h more) = go (is_among c
     go false is same = absurd (h (among_new column.name names is))
 others_are names _ _ _ (of_other slot column rest slots h more) =
     ap (λ (z : List ℕ). slot ∷ z) (others_are names (slot + 1) rest slots more)
-    ∙ sym (ap (λ (b : Bool). cond b (others_from (slot + 1) names rest) (slot ∷ others_from (slot + 1) names rest)) (new_among column.name names h))
+    ∙ sym (ap (λ (b : Bool). cond b (others_from (slot + 1) names rest) (slot ∷ others_from (slot + 1) names rest))
+    (new_among column.name names h))
 
 others_found : (names : List ℕ) (slot : ℕ) (columns : List StreamColumn) → AreOthers names slot columns (others_from slot names columns)
 others_found names slot [] = of_none slot
@@ -72,14 +80,16 @@ others_found names slot (column ∷ rest) = go (is_among column.name names) refl
     more : List ℕ
     more = others_from (slot + 1) names rest
 
-    go : (b : Bool) → is_among column.name names ≡ b → AreOthers names (slot + 1) rest more → AreOthers names slot (column ∷ rest) (cond b more (slot ∷ more))
+    go : (b : Bool) → is_among column.name names ≡ b → AreOthers names (slot + 1) rest more
+        → AreOthers names slot (column ∷ rest) (cond b more (slot ∷ more))
     go true is h = of_named slot column rest more (λ new. let both : true ≡ false = sym is ∙ new_among column.name names new in cc both) h
     go false is h = of_other slot column rest more (among_new column.name names is) h
 
 others_within : (at : ℕ) (names : List ℕ) (columns : List StreamColumn) → AreWithin (at + length columns) (others_from at names columns)
 others_within at names [] = tt
 others_within at names (c ∷ columns) =
-    go (is_among c.name names) (subst (λ n. AreWithin n (others_from (at + 1) names columns)) (omega arith) (others_within (at + 1) names columns))
+    go (is_among c.name names) (subst (λ n. AreWithin n (others_from (at + 1) names columns)) (omega arith)
+    (others_within (at + 1) names columns))
   where
     go : (b : Bool) → AreWithin (at + length (c ∷ columns)) (others_from (at + 1) names columns)
         → AreWithin (at + length (c ∷ columns)) (cond b (others_from (at + 1) names columns) (at ∷ others_from (at + 1) names columns))

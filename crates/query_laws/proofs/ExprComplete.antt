@@ -14,29 +14,39 @@ use Rattle.query_lang.specs.declared.typing.Found.{Found}
 use Rattle.query_lang.specs.declared.typing.Sort.{Sort}
 use Rattle.query_lang.specs.declared.typing.Sort.TheVariants as sort
 use Rattle.query_lang.specs.Checks.{Checked, and_then, collected, is_among}
-use Rattle.query_lang.specs.TypedExprs.{slot_at, is_condition_sort, is_operand, is_number_with, is_right_constant, sort_of, of_two, call_of, negated, expr_step, expr_checked, condition_of, word_of}
-use Rattle.query_laws.specs.ExprRules.{Kind, Word, Condition, operand_kind, IsNumberWith, IsRightOperand, HasKind, of_number, of_name, of_not, of_binary, of_call}
+use Rattle.query_lang.specs.TypedExprs.{slot_at, is_condition_sort, is_operand, is_number_with, is_right_constant, sort_of, of_two, call_of}
+use Rattle.query_lang.specs.TypedExprs.{negated, expr_step, expr_checked, condition_of, word_of}
+use Rattle.query_laws.specs.ExprRules.{Kind, Word, Condition, operand_kind, IsNumberWith, IsRightOperand, HasKind, of_number, of_name}
+use Rattle.query_laws.specs.ExprRules.{of_not, of_binary, of_call}
 use Rattle.query_laws.proofs.Steps.{must_holds, same_ok, then_next, stands_place}
 use Rattle.query_laws.proofs.ExprSound.{kind_of, kind_made}
 
 -- ---- each form of an expression is checked by its step
 
-pub number_is : (columns hidden : List ℕ) (n : ℕ) (span : Span) → expr_checked columns hidden (whole.Number n span) ≡ expr_step columns hidden (expr.Number n span)
-number_is columns hidden n span = ap (expr_checked columns hidden) (sym (rolls-Number n span)) ∙ fold-roll-Expr (Checked Found) (expr_step columns hidden) (expr.Number n span)
+pub number_is : (columns hidden : List ℕ) (n : ℕ) (span : Span) → expr_checked columns hidden (whole.Number n span) ≡ expr_step columns
+    hidden (expr.Number n span)
+number_is columns hidden n span = ap (expr_checked columns hidden) (sym (rolls-Number n span))
+    ∙ fold-roll-Expr (Checked Found) (expr_step columns hidden) (expr.Number n span)
 
 pub named_is : (columns hidden : List ℕ) (x : Name) → expr_checked columns hidden (whole.Named x) ≡ expr_step columns hidden (expr.Named x)
-named_is columns hidden x = ap (expr_checked columns hidden) (sym (rolls-Named x)) ∙ fold-roll-Expr (Checked Found) (expr_step columns hidden) (expr.Named x)
+named_is columns hidden x = ap (expr_checked columns hidden) (sym (rolls-Named x))
+    ∙ fold-roll-Expr (Checked Found) (expr_step columns hidden) (expr.Named x)
 
-pub not_is : (columns hidden : List ℕ) (span : Span) (e : Expr) → expr_checked columns hidden (whole.Not span e) ≡ and_then (expr_checked columns hidden e) (negated span)
-not_is columns hidden span e = ap (expr_checked columns hidden) (sym (rolls-Not span e)) ∙ fold-roll-Expr (Checked Found) (expr_step columns hidden) (expr.Not span e)
+pub not_is : (columns hidden : List ℕ) (span : Span) (e : Expr) → expr_checked columns hidden (whole.Not span e) ≡ and_then
+    (expr_checked columns hidden e) (negated span)
+not_is columns hidden span e = ap (expr_checked columns hidden) (sym (rolls-Not span e))
+    ∙ fold-roll-Expr (Checked Found) (expr_step columns hidden) (expr.Not span e)
 
 pub binary_is : (columns hidden : List ℕ) (op : Op) (span : Span) (a b : Expr)
-    → expr_checked columns hidden (whole.Binary op span a b) ≡ and_then (expr_checked columns hidden a) (λ x. and_then (expr_checked columns hidden b) (λ y. of_two op x.at x y))
-binary_is columns hidden op span a b = ap (expr_checked columns hidden) (sym (rolls-Binary op span a b)) ∙ fold-roll-Expr (Checked Found) (expr_step columns hidden) (expr.Binary op span a b)
+    → expr_checked columns hidden (whole.Binary op span a b) ≡ and_then (expr_checked columns hidden a)
+    (λ x. and_then (expr_checked columns hidden b) (λ y. of_two op x.at x y))
+binary_is columns hidden op span a b = ap (expr_checked columns hidden) (sym (rolls-Binary op span a b))
+    ∙ fold-roll-Expr (Checked Found) (expr_step columns hidden) (expr.Binary op span a b)
 
 pub call_is : (columns hidden : List ℕ) (op : Op) (span : Span) (es : List Expr)
     → expr_checked columns hidden (whole.Call op span es) ≡ and_then (collected [] (map (expr_checked columns hidden) es)) (call_of op span)
-call_is columns hidden op span es = ap (expr_checked columns hidden) (sym (rolls-Call op span es)) ∙ fold-roll-Expr (Checked Found) (expr_step columns hidden) (expr.Call op span es)
+call_is columns hidden op span es = ap (expr_checked columns hidden) (sym (rolls-Call op span es))
+    ∙ fold-roll-Expr (Checked Found) (expr_step columns hidden) (expr.Call op span es)
 
 -- ---- what the check gives
 
@@ -61,7 +71,8 @@ operand Both s e = kind_condition s e
 operand Either s e = kind_condition s e
 operand _ s e = kind_word s e
 
-constant : (columns hidden : List ℕ) (test : ℕ → Bool) (Q : ℕ → Type 0) (e : Expr) (found : Found) → ((n : ℕ) → Q n → test n ≡ true) → expr_checked columns hidden e ≡ Ok found → IsNumberWith Q e
+constant : (columns hidden : List ℕ) (test : ℕ → Bool) (Q : ℕ → Type 0) (e : Expr) (found : Found) → ((n : ℕ) → Q n → test n ≡ true)
+    → expr_checked columns hidden e ≡ Ok found → IsNumberWith Q e
     → is_number_with test found.sort ≡ true
 constant columns hidden test Q e found tells is h =
     let same = same_ok _ found (sym (number_is columns hidden h.0 h.1) ∙ ap (expr_checked columns hidden) (sym h.2) ∙ is) in
@@ -70,7 +81,8 @@ constant columns hidden test Q e found tells is h =
 below : (k n : ℕ) → k < n → nat_lt k n ≡ true
 below k n h = grind arith
 
-pub right : (columns hidden : List ℕ) (op : Op) (e : Expr) (found : Found) → expr_checked columns hidden e ≡ Ok found → IsRightOperand op e → is_right_constant op found.sort ≡ true
+pub right : (columns hidden : List ℕ) (op : Op) (e : Expr) (found : Found) → expr_checked columns hidden e ≡ Ok found → IsRightOperand op e
+    → is_right_constant op found.sort ≡ true
 right columns hidden Div e found is h = constant columns hidden (λ k. nat_lt 0 k) (λ k. 0 < k) e found (λ k c. below 0 k c) is h
 right columns hidden Rem e found is h = constant columns hidden (λ k. nat_lt 0 k) (λ k. 0 < k) e found (λ k c. below 0 k c) is h
 right columns hidden Shl e found is h = constant columns hidden (λ k. nat_lt k 64) (λ k. k < 64) e found (λ k c. below k 64 c) is h
@@ -81,19 +93,28 @@ right columns hidden _ e found is h = refl
 abbrev pair : Op → Span → Found → Found → Found
 pair op at x y = record { tree = typed.Binary op x.tree y.tree; sort = sort_of op; at = at }
 
-two : (columns hidden : List ℕ) (op : Op) (at : Span) (a b : Expr) (s t : TypedExpr) (x : Gives columns hidden (operand_kind op) a s) (y : Gives columns hidden (operand_kind op) b t) → IsRightOperand op b
+two : (columns hidden : List ℕ) (op : Op) (at : Span) (a b : Expr) (s t : TypedExpr) (x : Gives columns hidden (operand_kind op) a s)
+    (y : Gives columns hidden (operand_kind op) b t) → IsRightOperand op b
     → of_two op at x.found y.found ≡ Ok (pair op at x.found y.found)
 two columns hidden op at a b s t x y c =
-    must_holds _ _ _ _ (operand op x.found.sort x.kind) ∙ must_holds _ _ _ _ (operand op y.found.sort y.kind) ∙ must_holds _ _ _ _ (right columns hidden op b y.found y.is c)
+    must_holds _ _ _ _ (operand op x.found.sort x.kind) ∙ must_holds _ _ _ _ (operand op y.found.sort y.kind)
+    ∙ must_holds _ _ _ _ (right columns hidden op b y.found y.is c)
 
 pair_tree : (op : Op) (at : Span) (x y : Found) (s t : TypedExpr) → x.tree ≡ s → y.tree ≡ t → (pair op at x y).tree ≡ typed.Binary op s t
 pair_tree op at x y s t p q = ap (λ (z : TypedExpr). typed.Binary op z y.tree) p ∙ ap (typed.Binary op s) q
 
 pub complete : (columns hidden : List ℕ) (k : Kind) (e : Expr) (t : TypedExpr) → HasKind columns k e t → Gives columns hidden k e t
-complete columns hidden _ _ _ (of_number n span) = record { found = record { tree = typed.Number n; sort = sort.Number n; at = span }; is = number_is columns hidden n span; tree = refl; kind = refl }
+complete columns hidden _ _ _ (of_number n span) = record {
+  found = record { tree = typed.Number n; sort = sort.Number n; at = span };
+  is =
+      number_is columns hidden n span;
+  tree = refl;
+  kind = refl;
+}
 complete columns hidden _ _ _ (of_name x slot stands) = record {
   found = record { tree = typed.Slot slot; sort = sort.Word; at = x.span };
-  is = named_is columns hidden x ∙ then_next _ _ slot (ap (λ (o : Option ℕ). slot_at o (is_among x.id hidden) x.span) (stands_place columns x.id slot stands));
+  is = named_is columns hidden x ∙ then_next _ _ slot (ap (λ (o : Option ℕ). slot_at o (is_among x.id hidden) x.span)
+      (stands_place columns x.id slot stands));
   tree = refl;
   kind = refl;
 }
@@ -110,7 +131,8 @@ complete columns hidden _ _ _ (of_binary op span a b s t h i c) =
     let y = complete columns hidden _ _ _ i in
     record {
       found = pair op x.found.at x.found y.found;
-      is = binary_is columns hidden op span a b ∙ then_next _ _ x.found x.is ∙ then_next _ _ y.found y.is ∙ two columns hidden op x.found.at a b s t x y c;
+      is = binary_is columns hidden op span a b ∙ then_next _ _ x.found x.is ∙ then_next _ _ y.found y.is
+          ∙ two columns hidden op x.found.at a b s t x y c;
       tree = pair_tree op x.found.at x.found y.found s t x.tree y.tree;
       kind = kind_made op;
     }
@@ -127,12 +149,16 @@ complete columns hidden _ _ _ (of_call op span a b s t h i c) =
       kind = kind_made op;
     }
 
-pub condition_complete : (columns hidden : List ℕ) (e : Expr) (tree : TypedExpr) → HasKind columns Condition e tree → condition_of columns hidden e ≡ Ok tree
+pub condition_complete : (columns hidden : List ℕ) (e : Expr) (tree : TypedExpr) → HasKind columns Condition e tree
+    → condition_of columns hidden e ≡ Ok tree
 condition_complete columns hidden e tree h =
     let x = complete columns hidden Condition e tree h in
-    then_next _ _ x.found x.is ∙ must_holds _ _ _ _ (kind_condition x.found.sort x.kind) ∙ ap (λ (t : TypedExpr). let r : Checked TypedExpr = Ok t in r) x.tree
+    then_next _ _ x.found x.is ∙ must_holds _ _ _ _ (kind_condition x.found.sort x.kind)
+    ∙ ap (λ (t : TypedExpr). let r : Checked TypedExpr = Ok t in r) x.tree
 
-pub word_complete : (columns hidden : List ℕ) (e : Expr) (tree : TypedExpr) → HasKind columns Word e tree → word_of columns hidden e ≡ Ok tree
+pub word_complete : (columns hidden : List ℕ) (e : Expr) (tree : TypedExpr) → HasKind columns Word e tree
+    → word_of columns hidden e ≡ Ok tree
 word_complete columns hidden e tree h =
     let x = complete columns hidden Word e tree h in
-    then_next _ _ x.found x.is ∙ must_holds _ _ _ _ (kind_word x.found.sort x.kind) ∙ ap (λ (t : TypedExpr). let r : Checked TypedExpr = Ok t in r) x.tree
+    then_next _ _ x.found x.is ∙ must_holds _ _ _ _ (kind_word x.found.sort x.kind)
+    ∙ ap (λ (t : TypedExpr). let r : Checked TypedExpr = Ok t in r) x.tree

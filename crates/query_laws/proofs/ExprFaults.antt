@@ -1,5 +1,6 @@
 -- What a fault in an expression says.
-use Rattle.std.proofs.Common.{◌≡◌, ℕ, ◌+◌, Bool, true, false, nat_eq, cond, List, [], ◌∷◌, ◌++◌, length, map, Option, Some, None, Ok, Err, refl, sym, ap, subst, ◌∙◌, arith}
+use Rattle.std.proofs.Common.{◌≡◌, ℕ, ◌+◌, Bool, true, false, nat_eq, cond, List, [], ◌∷◌, ◌++◌, length, map, Option, Some, None, Ok, Err}
+use Rattle.std.proofs.Common.{refl, sym, ap, subst, ◌∙◌, arith}
 use Rattle.query_lang.specs.declared.fault.FaultKind.TheVariants.{UnknownName, WrongKind, WrongArity, BadConstant, StateOnLine}
 use Rattle.query_lang.specs.declared.fault.QueryFault.{QueryFault}
 use Rattle.query_lang.specs.declared.fault.Span.{Span}
@@ -13,9 +14,11 @@ use Rattle.query_lang.specs.declared.query.Expr.TheVariants.{rolls-Named, rolls-
 use Rattle.query_lang.specs.declared.typing.Found.{Found}
 use Rattle.query_lang.specs.declared.typing.Known.{Known}
 use Rattle.query_lang.specs.Checks.{Checked, collected, is_among, place_from, place_of}
-use Rattle.query_lang.specs.TypedExprs.{slot_at, slot_of, is_operand, is_right_constant, of_two, call_of, expr_step, expr_checked, condition_of, word_of}
+use Rattle.query_lang.specs.TypedExprs.{slot_at, slot_of, is_operand, is_right_constant, of_two, call_of, expr_step, expr_checked}
+use Rattle.query_lang.specs.TypedExprs.{condition_of, word_of}
 use Rattle.query_laws.specs.Asked.{ExprAsks, of_part, of_name, of_call, of_right, of_second}
-use Rattle.query_laws.specs.Demands.{leftmost, leftmost_step, IsOneOf, HasPart, Demand, AColumn, Typed, Two, Constant, Tells, first, later, of_not, of_left, of_argument}
+use Rattle.query_laws.specs.Demands.{leftmost, leftmost_step, IsOneOf, HasPart, Demand, AColumn, Typed, Two, Constant, Tells, first, later}
+use Rattle.query_laws.specs.Demands.{of_not, of_left, of_argument}
 use Rattle.query_laws.specs.Demands as parts
 use Rattle.query_laws.specs.ExprRules.{Kind, Word, Condition, other_kind, operand_kind, HasKind}
 use Rattle.query_laws.specs.FoldRules.{IsNew}
@@ -73,7 +76,8 @@ abbrev StandsLeft : List ℕ → List ℕ → Expr → Type 0
 StandsLeft columns hidden e = (found : Found) → expr_checked columns hidden e ≡ Ok found → found.at ≡ leftmost e
 
 left_step : (columns hidden : List ℕ) (y : expr.Expr-F ((e : Expr) × StandsLeft columns hidden e)) (found : Found)
-    → expr_step columns hidden (map-Expr Expr (Checked Found) (expr_checked columns hidden) (map-Expr ((e : Expr) × StandsLeft columns hidden e) Expr (λ a. a.0) y)) ≡ Ok found
+    → expr_step columns hidden (map-Expr Expr (Checked Found) (expr_checked columns hidden)
+    (map-Expr ((e : Expr) × StandsLeft columns hidden e) Expr (λ a. a.0) y)) ≡ Ok found
     → found.at ≡ leftmost_step (map-Expr Expr Span leftmost (map-Expr ((e : Expr) × StandsLeft columns hidden e) Expr (λ a. a.0) y))
 left_step columns hidden (expr.Number n span) found e = sym (ap (λ (f : Found). f.at) (same_ok _ found e))
 left_step columns hidden (expr.Named x) found e =
@@ -92,7 +96,8 @@ left_step columns hidden (expr.Call op span args) found e =
 
 pub stands_left : (columns hidden : List ℕ) (e : Expr) → StandsLeft columns hidden e
 stands_left columns hidden = ind-Expr (StandsLeft columns hidden) (λ x y is found e.
-    let L : expr.Expr-F Expr → Type 0 = λ z. expr_step columns hidden (map-Expr Expr (Checked Found) (expr_checked columns hidden) z) ≡ Ok found
+    let L : expr.Expr-F Expr → Type 0 = λ z. expr_step columns hidden (map-Expr Expr (Checked Found) (expr_checked columns hidden) z) ≡ Ok
+    found
     → found.at ≡ leftmost_step (map-Expr Expr Span leftmost z) in
     subst L is (left_step columns hidden y found) (sym (fold-roll-Expr (Checked Found) (expr_step columns hidden) x) ∙ e)
     ∙ sym (fold-roll-Expr Span leftmost_step x))
@@ -106,13 +111,17 @@ through _ _ _ _ m p (of_left k op span a b l part h) q = of_left k op span a b m
 through _ _ _ _ m p (parts.of_right k op span a b l part h) q = parts.of_right k op span a b m p (through _ _ _ _ m p h q)
 through _ _ _ _ m p (of_argument k op span arguments a l part i h) q = of_argument k op span arguments a m p i (through _ _ _ _ m p h q)
 
-asks_through : (columns hidden : List ℕ) (k : Kind) (e : Expr) (l : Kind) (a : Expr) (d : Demand) → HasPart k e l a → ExprAsks columns hidden l a d
+asks_through : (columns hidden : List ℕ) (k : Kind) (e : Expr) (l : Kind) (a : Expr) (d : Demand) → HasPart k e l a
+    → ExprAsks columns hidden l a d
     → ExprAsks columns hidden k e d
 asks_through columns hidden k e l a _ p (of_part m part h) = of_part m part (through k e l a m part p h)
 asks_through columns hidden k e l a _ p (of_name m x h) = of_name m x (through k e l a m (whole.Named x) p h)
-asks_through columns hidden k e l a _ p (of_call m op span arguments h) = of_call m op span arguments (through k e l a m (whole.Call op span arguments) p h)
-asks_through columns hidden k e l a _ p (of_right m op span x y h) = of_right m op span x y (through k e l a m (whole.Binary op span x y) p h)
-asks_through columns hidden k e l a _ p (of_second m op span x y h) = of_second m op span x y (through k e l a m (whole.Call op span (x ∷ y ∷ [])) p h)
+asks_through columns hidden k e l a _ p (of_call m op span arguments h) =
+    of_call m op span arguments (through k e l a m (whole.Call op span arguments) p h)
+asks_through columns hidden k e l a _ p (of_right m op span x y h) = of_right m op span x y
+    (through k e l a m (whole.Binary op span x y) p h)
+asks_through columns hidden k e l a _ p (of_second m op span x y h) = of_second m op span x y
+    (through k e l a m (whole.Call op span (x ∷ y ∷ [])) p h)
 
 -- something that an expression asks, of which the fault says that it isn't so
 pub record ExprBroken (columns hidden : List ℕ) (k : Kind) (e : Expr) (fault : QueryFault) : Type 0 where
@@ -136,7 +145,8 @@ turned Word Condition differs = refl
 turned Condition Word differs = refl
 turned Condition Condition differs = absurd (differs refl)
 
-has_other_kind : (columns hidden : List ℕ) (l : Kind) (a : Expr) (x : Found) → expr_checked columns hidden a ≡ Ok x → (kind_of x.sort ≡ l → ⊥)
+has_other_kind : (columns hidden : List ℕ) (l : Kind) (a : Expr) (x : Found) → expr_checked columns hidden a ≡ Ok x
+    → (kind_of x.sort ≡ l → ⊥)
     → (t : TypedExpr) × HasKind columns (other_kind l) a t
 has_other_kind columns hidden l a x is differs =
     let K : Kind → Type 0 = λ k. HasKind columns k a x.tree in
@@ -149,10 +159,15 @@ one_kind columns k l e s t p q =
     let g = complete columns [] l e t q in
     sym f.kind ∙ ap (λ (x : Found). kind_of x.sort) (same_ok f.found g.found (sym f.is ∙ g.is)) ∙ g.kind
 
-kind_told : (columns hidden : List ℕ) (l : Kind) (a : Expr) (x : Found) (fault : QueryFault) → expr_checked columns hidden a ≡ Ok x → at_span WrongKind x.at ≡ fault
+kind_told : (columns hidden : List ℕ) (l : Kind) (a : Expr) (x : Found) (fault : QueryFault) → expr_checked columns hidden a ≡ Ok x
+    → at_span WrongKind x.at ≡ fault
     → (kind_of x.sort ≡ l → ⊥) → (known : List Known) → Tells known fault.kind fault.span (Typed columns l a)
 kind_told columns hidden l a x fault is e other known =
-    told known (Typed columns l a) WrongKind x.at fault e (sym (stands_left columns hidden a x is), has_other_kind columns hidden l a x is other)
+    told known (Typed columns l a) WrongKind x.at fault e (
+      sym (stands_left columns hidden a x is),
+      has_other_kind columns hidden l a x is
+          other,
+    )
 
 two_told : (columns hidden : List ℕ) (k : Kind) (e : Expr) (op : Op) (at : Span) (a b : Expr) (x y : Found) (fault : QueryFault)
     → expr_checked columns hidden a ≡ Ok x → expr_checked columns hidden b ≡ Ok y
@@ -179,7 +194,8 @@ two_told columns hidden k e op at a b x y fault p q left right_ constant is =
 -- ---- expressions
 
 abbrev IsTold : List ℕ → List ℕ → Expr → Type 0
-IsTold columns hidden e = (fault : QueryFault) → expr_checked columns hidden e ≡ Err fault → (k : Kind) → ExprBroken columns hidden k e fault
+IsTold columns hidden e = (fault : QueryFault) → expr_checked columns hidden e ≡ Err fault → (k : Kind)
+    → ExprBroken columns hidden k e fault
 
 abbrev Told : List ℕ → List ℕ → Type 0
 Told columns hidden = (e : Expr) × IsTold columns hidden e
@@ -195,12 +211,15 @@ not_two columns hidden k op span es fault other same = record {
   tells = λ known. told known (Two es span) WrongArity span fault same (refl, other);
 }
 
-call_told : (columns hidden : List ℕ) (k : Kind) (op : Op) (span : Span) (es : List Expr) (fs : List Found) (fault : QueryFault) → Each columns hidden es fs
+call_told : (columns hidden : List ℕ) (k : Kind) (op : Op) (span : Span) (es : List Expr) (fs : List Found) (fault : QueryFault)
+    → Each columns hidden es fs
     → call_of op span fs ≡ Err fault → ExprBroken columns hidden k (whole.Call op span es) fault
-call_told columns hidden k op span [] [] fault all e = not_two columns hidden k op span [] fault (λ n. omega (arith, n)) (same_fault _ fault e)
+call_told columns hidden k op span [] [] fault all e = not_two columns hidden k op span [] fault (λ n. omega (arith, n))
+    (same_fault _ fault e)
 call_told columns hidden k op span [] (f ∷ fs) fault all e = absurd all
 call_told columns hidden k op span (a ∷ es) [] fault all e = absurd all
-call_told columns hidden k op span (a ∷ []) (f ∷ []) fault all e = not_two columns hidden k op span (a ∷ []) fault (λ n. omega (arith, n)) (same_fault _ fault e)
+call_told columns hidden k op span (a ∷ []) (f ∷ []) fault all e = not_two columns hidden k op span (a ∷ []) fault (λ n. omega (arith, n))
+    (same_fault _ fault e)
 call_told columns hidden k op span (a ∷ []) (f ∷ g ∷ fs) fault all e = absurd all.1
 call_told columns hidden k op span (a ∷ b ∷ es) (f ∷ []) fault all e = absurd all.1
 call_told columns hidden k op span (a ∷ b ∷ []) (f ∷ g ∷ []) fault all e =
@@ -228,13 +247,20 @@ argument_told columns hidden (a ∷ args) before fault e =
         → collected before (c ∷ map (expr_checked columns hidden) (exprs columns hidden args)) ≡ Err fault
         → (b : Expr) × IsOneOf b (exprs columns hidden (a ∷ args)) × ((k : Kind) → ExprBroken columns hidden k b fault)
     go (Ok x) is next e = let m = next x e in (m.0, later a.0 (exprs columns hidden args) m.1, m.2)
-    go (Err found) is next e = (a.0, first (exprs columns hidden args), a.1 fault (is ∙ ap (λ (f : QueryFault). let r : Checked Found = Err f in r) (same_fault found fault e)))
+    go (Err found) is next e = (
+      a.0,
+      first (exprs columns hidden args),
+      a.1 fault
+          (is ∙ ap (λ (f : QueryFault). let r : Checked Found = Err f in r) (same_fault found fault e)),
+    )
 
-moved : (columns hidden : List ℕ) (k : Kind) (e f : Expr) (fault : QueryFault) → f ≡ e → ExprBroken columns hidden k e fault → ExprBroken columns hidden k f fault
+moved : (columns hidden : List ℕ) (k : Kind) (e f : Expr) (fault : QueryFault) → f ≡ e → ExprBroken columns hidden k e fault
+    → ExprBroken columns hidden k f fault
 moved columns hidden k e f fault is h = let E : Expr → Type 0 = λ z. ExprBroken columns hidden k z fault in subst E (sym is) h
 
 step : (columns hidden : List ℕ) (y : expr.Expr-F (Told columns hidden)) (fault : QueryFault)
-    → expr_step columns hidden (map-Expr Expr (Checked Found) (expr_checked columns hidden) (map-Expr (Told columns hidden) Expr (λ a. a.0) y)) ≡ Err fault
+    → expr_step columns hidden (map-Expr Expr (Checked Found) (expr_checked columns hidden)
+    (map-Expr (Told columns hidden) Expr (λ a. a.0) y)) ≡ Err fault
     → (k : Kind) → ExprBroken columns hidden k (roll-Expr (map-Expr (Told columns hidden) Expr (λ a. a.0) y)) fault
 step columns hidden (expr.Number n span) fault e k = no_fault _ fault e
 step columns hidden (expr.Named x) fault e k =
@@ -271,18 +297,21 @@ step columns hidden (expr.Call op span args) fault e k =
     (λ is.
     let m = argument_told columns hidden args [] fault is in
     broken_through columns hidden k (whole.Call op span (exprs columns hidden args)) (operand_kind op) m.0 fault
-    (of_argument k op span (exprs columns hidden args) m.0 (operand_kind op) m.0 m.1 (parts.whole (operand_kind op) m.0)) (m.2 (operand_kind op)))
+    (of_argument k op span (exprs columns hidden args) m.0 (operand_kind op) m.0 m.1 (parts.whole (operand_kind op) m.0))
+    (m.2 (operand_kind op)))
     (λ fs is e.
     let all = collected_each columns hidden (exprs columns hidden args) [] fs is in
     call_told columns hidden k op span (exprs columns hidden args) all.0 fault all.2 (ap (call_of op span) (sym all.1) ∙ e)))
 
 pub expr_told : (columns hidden : List ℕ) (e : Expr) → IsTold columns hidden e
 expr_told columns hidden = ind-Expr (IsTold columns hidden) (λ x y is fault e k.
-    let L : expr.Expr-F Expr → Type 0 = λ z. expr_step columns hidden (map-Expr Expr (Checked Found) (expr_checked columns hidden) z) ≡ Err fault
+    let L : expr.Expr-F Expr → Type 0 = λ z. expr_step columns hidden (map-Expr Expr (Checked Found) (expr_checked columns hidden) z) ≡ Err
+    fault
     → (l : Kind) → ExprBroken columns hidden l (roll-Expr z) fault in
     subst L is (step columns hidden y fault) (sym (fold-roll-Expr (Checked Found) (expr_step columns hidden) x) ∙ e) k)
 
-pub condition_told : (columns hidden : List ℕ) (e : Expr) (fault : QueryFault) → condition_of columns hidden e ≡ Err fault → ExprBroken columns hidden Condition e fault
+pub condition_told : (columns hidden : List ℕ) (e : Expr) (fault : QueryFault) → condition_of columns hidden e ≡ Err fault
+    → ExprBroken columns hidden Condition e fault
 condition_told columns hidden e fault is =
     by_next (expr_checked columns hidden e) _ fault is (λ is. expr_told columns hidden e fault is Condition) (λ x p is.
     by_must _ _ _ _ fault is (λ no same. record {
@@ -291,7 +320,8 @@ condition_told columns hidden e fault is =
       tells = kind_told columns hidden Condition e x fault p same (λ kind. not_both _ no (kind_condition x.sort kind));
     }) (λ yes is. no_fault _ fault is))
 
-pub word_told : (columns hidden : List ℕ) (e : Expr) (fault : QueryFault) → word_of columns hidden e ≡ Err fault → ExprBroken columns hidden Word e fault
+pub word_told : (columns hidden : List ℕ) (e : Expr) (fault : QueryFault) → word_of columns hidden e ≡ Err fault
+    → ExprBroken columns hidden Word e fault
 word_told columns hidden e fault is =
     by_next (expr_checked columns hidden e) _ fault is (λ is. expr_told columns hidden e fault is Word) (λ x p is.
     by_must _ _ _ _ fault is (λ no same. record {

@@ -48,5 +48,6 @@ pub record Broken (Asks : Demand → Type 0) (known : List Known) (fault : Query
   pub asks : Asks demand
   pub tells : Tells known fault.kind fault.span demand
 
-pub broken_in : (A B : Demand → Type 0) (known : List Known) (fault : QueryFault) → ((d : Demand) → A d → B d) → Broken A known fault → Broken B known fault
+pub broken_in : (A B : Demand → Type 0) (known : List Known) (fault : QueryFault) → ((d : Demand) → A d → B d) → Broken A known fault
+    → Broken B known fault
 broken_in A B known fault asks b = record { demand = b.demand; asks = asks b.demand b.asks; tells = b.tells }

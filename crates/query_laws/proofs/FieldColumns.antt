@@ -88,7 +88,8 @@ abbrev AreApart : List Field → Type 0
 AreApart [] = Unit {0}
 AreApart (f ∷ fields) = (list_any (bytes_eq (field_name f)) (texts_of fields) ≡ false) × AreApart fields
 
-not_same : (names : List (List ℕ)) (a b : List ℕ) → slice_get names (number_in names a) ≡ Some a → slice_get names (number_in names b) ≡ Some b
+not_same : (names : List (List ℕ)) (a b : List ℕ) → slice_get names (number_in names a) ≡ Some a
+    → slice_get names (number_in names b) ≡ Some b
     → bytes_eq a b ≡ false → nat_eq (number_in names b) (number_in names a) ≡ false
 not_same names a b at_a at_b apart = go (nat_eq (number_in names b) (number_in names a)) refl
   where
@@ -98,7 +99,8 @@ not_same names a b at_a at_b apart = go (nat_eq (number_in names b) (number_in n
         let equal : bytes_eq a b ≡ true = (bytes_eq-Decides a b).1 same in cc (equal, apart)
     go false is = refl
 
-not_among : (names : List (List ℕ)) (text : List ℕ) (fields : List Field) → slice_get names (number_in names text) ≡ Some text → AreKnown names fields
+not_among : (names : List (List ℕ)) (text : List ℕ) (fields : List Field) → slice_get names (number_in names text) ≡ Some text
+    → AreKnown names fields
     → list_any (bytes_eq text) (texts_of fields) ≡ false → is_among (number_in names text) (numbers_of names fields) ≡ false
 not_among names text [] at known h = refl
 not_among names text (f ∷ fields) at known h =
@@ -112,7 +114,8 @@ not_among names text (f ∷ fields) at known h =
     go false is more k =
         ap (λ b. b || is_among (number_in names text) (numbers_of names fields)) (not_same names text (field_name f) at known.0 is) ∙ more k
 
-numbers_distinct : (names : List (List ℕ)) (fields : List Field) → AreKnown names fields → AreApart fields → AreDistinct (numbers_of names fields)
+numbers_distinct : (names : List (List ℕ)) (fields : List Field) → AreKnown names fields → AreApart fields
+    → AreDistinct (numbers_of names fields)
 numbers_distinct names [] known apart = tt
 numbers_distinct names (f ∷ fields) known apart =
     (not_among names (field_name f) fields known.0 known.1 apart.0, numbers_distinct names fields known.1 apart.1)

@@ -20,7 +20,8 @@ use Rattle.query_laws.proofs.ItemsMeet.{final_meets}
 use Rattle.query_laws.proofs.NameLaws.{fold_name_sound, fold_name_complete, table_sound, table_complete, apart_sound}
 use Rattle.query_laws.proofs.Steps.{same_ok, place_stands}
 use Rattle.query_laws.specs.TypingExamples.{here, called, first, is_above_0, new_column}
-use Rattle.query_laws.specs.FinalExamples.{group_table, final_table, without_emit, with_emit, tables, three_groupbys, MakesNoTable, table_by, MakesRows, FinalExamples}
+use Rattle.query_laws.specs.FinalExamples.{group_table, final_table, without_emit, with_emit, tables, three_groupbys, MakesNoTable}
+use Rattle.query_laws.specs.FinalExamples.{table_by, MakesRows, FinalExamples}
 use Rattle.query_laws.proofs.TypingExamples.{no_place, right_of_0}
 
 ten : IsTable tables 10 (group_table 0 1 3)
@@ -90,7 +91,8 @@ final_examples = record {
     is = refl;
   };
   filter_on_no_column = unmet (Filter (called 10) (is_above_0 4)) (AColumn (1 ∷ 3 ∷ []) [] 4 here)
-      (asks.of_condition (called 10) (is_above_0 4) (group_table 0 1 3) (AColumn (1 ∷ 3 ∷ []) [] 4 here) ten (asks.of_name Word (called 4) (right_of_0 4)))
+      (asks.of_condition (called 10) (is_above_0 4) (group_table 0 1 3) (AColumn (1 ∷ 3 ∷ []) [] 4 here) ten
+      (asks.of_name Word (called 4) (right_of_0 4)))
       (no_place (1 ∷ 3 ∷ []) 4 refl);
   filter_of_no_table = unmet (Filter (called 14) (is_above_0 1)) (Stands ATable (called 14)) (asks.of_filtered (called 14) (is_above_0 1))
       (λ h. no_fault h.0 (record { kind = WrongKind; span = here }) (sym (table_complete tables (called 14) h.0 h.1)));
@@ -108,7 +110,8 @@ final_examples = record {
     is = refl;
   };
   map_to_a_column = unmet (Map (called 10) (new_column 3 first ∷ [])) (New (1 ∷ 3 ∷ []) 3 here)
-      (asks.of_columns (called 10) (new_column 3 first ∷ []) (group_table 0 1 3) (New (1 ∷ 3 ∷ []) 3 here) ten (asks.of_name [] (new_column 3 first) [] refl))
+      (asks.of_columns (called 10) (new_column 3 first ∷ []) (group_table 0 1 3) (New (1 ∷ 3 ∷ []) 3 here) ten
+      (asks.of_name [] (new_column 3 first) [] refl))
       (λ new. new.1.0 refl);
   groupby_of_a_key = record {
     source = group_table 0 1 3;
@@ -122,12 +125,15 @@ final_examples = record {
     taken = record { places = (place_stands (1 ∷ 3 ∷ []) 3 1 refl, tt); apart = apart_sound (6 ∷ []) (1 ∷ []) refl };
     is = refl;
   };
-  groupby_with_an_emit = unmet (table_by 10 1 16) (Stands AQuietFold (called 16)) (asks.of_fold (called 10) (key.Named (called 1) ∷ []) (called 16)) quiet;
+  groupby_with_an_emit = unmet (table_by 10 1 16) (Stands AQuietFold (called 16))
+      (asks.of_fold (called 10) (key.Named (called 1) ∷ []) (called 16)) quiet;
   key_without_a_column = unmet (table_by 10 2 15) (AColumn (1 ∷ 3 ∷ []) [] 2 here)
-      (asks.of_keys (called 10) (key.Named (called 2) ∷ []) (called 15) (group_table 0 1 3) (AColumn (1 ∷ 3 ∷ []) [] 2 here) ten (asks.of_key [] (called 2) [] refl))
+      (asks.of_keys (called 10) (key.Named (called 2) ∷ []) (called 15) (group_table 0 1 3) (AColumn (1 ∷ 3 ∷ []) [] 2 here) ten
+      (asks.of_key [] (called 2) [] refl))
       (no_place (1 ∷ 3 ∷ []) 2 refl);
   argument_without_a_column = unmet (table_by 11 1 15) (AColumn (1 ∷ 4 ∷ []) [] 3 here)
-      (asks.of_arguments (called 11) (key.Named (called 1) ∷ []) (called 15) (group_table 1 1 4) without_emit (AColumn (1 ∷ 4 ∷ []) [] 3 here) eleven fifteen
+      (asks.of_arguments (called 11) (key.Named (called 1) ∷ []) (called 15) (group_table 1 1 4) without_emit
+      (AColumn (1 ∷ 4 ∷ []) [] 3 here) eleven fifteen
       (asks.of_argument [] 3 [] refl))
       (no_place (1 ∷ 4 ∷ []) 3 refl);
   join_by_the_same_keys = record {

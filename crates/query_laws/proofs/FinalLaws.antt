@@ -1,5 +1,6 @@
 -- Finals: the rules and the checks agree.
-use Rattle.std.proofs.Common.{◌≡◌, ℕ, ◌≤◌, Bool, true, false, ◌&&◌, List, [], ◌∷◌, ◌++◌, length, Ok, nat_eq, nat_lt, nat_le, refl, sym, ap, subst, ◌∙◌, append-nil, arith}
+use Rattle.std.proofs.Common.{◌≡◌, ℕ, ◌≤◌, Bool, true, false, ◌&&◌, List, [], ◌∷◌, ◌++◌, length, Ok, nat_eq, nat_lt, nat_le, refl, sym, ap}
+use Rattle.std.proofs.Common.{subst, ◌∙◌, append-nil, arith}
 use Rattle.std.specs.Cmp.Lexicographic.{pointwise}
 use Rattle.std.proofs.lemmas.Bool.{ltb-true, leb-true}
 use Rattle.query_lang.specs.declared.fault.Span.{Span}
@@ -19,14 +20,16 @@ use Rattle.query_lang.specs.declared.typing.NewColumns.{NewColumns}
 use Rattle.query_lang.specs.declared.typing.Picked.{Picked}
 use Rattle.query_lang.specs.TypedExprs.{slot_of, condition_of}
 use Rattle.query_lang.specs.TypedStreams.{fold_named, new_columns, no_new_columns, keys_checked, arguments_of}
-use Rattle.query_lang.specs.TypedFinals.{table_named, table_number, five_fields, final_filter, final_map, quiet_fold, final_group, key_columns, other_columns, final_join, final_top, made_final}
+use Rattle.query_lang.specs.TypedFinals.{table_named, table_number, five_fields, final_filter, final_map, quiet_fold, final_group}
+use Rattle.query_lang.specs.TypedFinals.{key_columns, other_columns, final_join, final_top, made_final}
 use Rattle.query_laws.specs.StreamRules.{HasColumns, HasArguments, key_ids}
 use Rattle.query_laws.specs.FinalRules.{OfFilter, OfMap, OfGroup, OfJoin, OfTop, HasFinal}
 use Rattle.query_laws.proofs.Steps.{must_ok, must_not_ok, must_holds, must_not_holds, same_ok, found_first, then_next, nat_same, nat_is}
 use Rattle.query_laws.proofs.ExprSound.{slot_stands, condition_sound}
 use Rattle.query_laws.proofs.ExprComplete.{condition_complete}
 use Rattle.query_laws.proofs.FoldNames.{below}
-use Rattle.query_laws.proofs.NameLaws.{ok, table_sound, table_complete, fold_name_sound, fold_name_complete, columns_sound, columns_complete, slot_complete, apart_sound, apart_complete, arguments_sound, arguments_complete}
+use Rattle.query_laws.proofs.NameLaws.{ok, table_sound, table_complete, fold_name_sound, fold_name_complete, columns_sound}
+use Rattle.query_laws.proofs.NameLaws.{columns_complete, slot_complete, apart_sound, apart_complete, arguments_sound, arguments_complete}
 use Rattle.query_laws.proofs.StreamLaws.{picked_sound, picked_complete}
 
 both_true : (a b : Bool) → (a && b) ≡ true → (a ≡ true) × (b ≡ true)
@@ -51,20 +54,36 @@ same_refl (x ∷ xs) = both_hold (nat_eq x x) (pointwise nat_eq xs xs) (nat_is x
 pub same_complete : (xs ys : List ℕ) → xs ≡ ys → pointwise nat_eq xs ys ≡ true
 same_complete xs ys e = let P : List ℕ → Type 0 = λ z. pointwise nat_eq xs z ≡ true in subst P e (same_refl xs)
 
-filter_sound : (groups : ℕ) (earlier : Earlier) (input : Name) (e : Expr) (made : MadeFinal) → final_filter groups earlier input e ≡ Ok made → OfFilter groups earlier.known input e made
+filter_sound : (groups : ℕ) (earlier : Earlier) (input : Name) (e : Expr) (made : MadeFinal) → final_filter groups earlier input e ≡ Ok made
+    → OfFilter groups earlier.known input e made
 filter_sound groups earlier input e made is =
     let source = found_first (table_named earlier.known input) _ made is in
     let c = found_first (condition_of source.0.columns [] e) _ made source.2 in
-    record { source = source.0; condition = c.0; table = table_sound earlier.known input source.0 source.1; typed = condition_sound source.0.columns [] e c.0 c.1; is = sym (same_ok _ made c.2) }
+    record {
+      source = source.0;
+      condition = c.0;
+      table = table_sound earlier.known input source.0 source.1;
+      typed =
+          condition_sound source.0.columns [] e c.0 c.1;
+      is = sym (same_ok _ made c.2);
+    }
 
-filter_complete : (groups : ℕ) (earlier : Earlier) (input : Name) (e : Expr) (made : MadeFinal) → OfFilter groups earlier.known input e made → final_filter groups earlier input e ≡ Ok made
+filter_complete : (groups : ℕ) (earlier : Earlier) (input : Name) (e : Expr) (made : MadeFinal) → OfFilter groups earlier.known input e made
+    → final_filter groups earlier input e ≡ Ok made
 filter_complete groups earlier input e made h =
-    then_next _ _ h.source (table_complete earlier.known input h.source h.table) ∙ then_next _ _ h.condition (condition_complete _ [] e h.condition h.typed) ∙ ok _ _ (sym h.is)
+    then_next _ _ h.source (table_complete earlier.known input h.source h.table)
+    ∙ then_next _ _ h.condition (condition_complete _ [] e h.condition h.typed) ∙ ok _ _ (sym h.is)
 
 abbrev maps_to : ℕ → TableView → NewColumns → MadeFinal
-maps_to groups source made = record { op = typed.Map (table_number groups source.place) made.values; columns = source.columns ++ made.names; keys = source.keys }
+maps_to groups source made = record {
+  op = typed.Map (table_number groups source.place) made.values;
+  columns = source.columns
+      ++ made.names;
+  keys = source.keys;
+}
 
-map_sound : (groups : ℕ) (earlier : Earlier) (input : Name) (cs : List Column) (made : MadeFinal) → final_map groups earlier input cs ≡ Ok made → OfMap groups earlier.known input cs made
+map_sound : (groups : ℕ) (earlier : Earlier) (input : Name) (cs : List Column) (made : MadeFinal)
+    → final_map groups earlier input cs ≡ Ok made → OfMap groups earlier.known input cs made
 map_sound groups earlier input cs made is =
     let source = found_first (table_named earlier.known input) _ made is in
     let n = found_first (new_columns source.0.columns [] no_new_columns cs) _ made source.2 in
@@ -78,11 +97,13 @@ map_sound groups earlier input cs made is =
       is = sym (same_ok _ made n.2) ∙ ap (maps_to groups source.0) c.2;
     }
 
-map_complete : (groups : ℕ) (earlier : Earlier) (input : Name) (cs : List Column) (made : MadeFinal) → OfMap groups earlier.known input cs made → final_map groups earlier input cs ≡ Ok made
+map_complete : (groups : ℕ) (earlier : Earlier) (input : Name) (cs : List Column) (made : MadeFinal)
+    → OfMap groups earlier.known input cs made → final_map groups earlier input cs ≡ Ok made
 map_complete groups earlier input cs made h =
     let N : List ℕ → Type 0 = λ z. HasColumns h.source.columns z cs h.values in
     then_next _ _ h.source (table_complete earlier.known input h.source h.table)
-    ∙ then_next _ _ _ (columns_complete h.source.columns [] cs h.values no_new_columns (subst N (sym (append-nil h.source.columns)) h.typed)) ∙ ok _ _ (sym h.is)
+    ∙ then_next _ _ _ (columns_complete h.source.columns [] cs h.values no_new_columns
+    (subst N (sym (append-nil h.source.columns)) h.typed)) ∙ ok _ _ (sym h.is)
 
 abbrev groups_to : ℕ → TableView → FoldView → List ℕ → Picked → MadeFinal
 groups_to groups source f arguments picked = record {
@@ -91,7 +112,8 @@ groups_to groups source f arguments picked = record {
   keys = length picked.names;
 }
 
-group_sound : (given : Given) (earlier : Earlier) (input : Name) (keys : List Key) (fold_name : Name) (made : MadeFinal) → final_group given earlier input keys fold_name ≡ Ok made
+group_sound : (given : Given) (earlier : Earlier) (input : Name) (keys : List Key) (fold_name : Name) (made : MadeFinal)
+    → final_group given earlier input keys fold_name ≡ Ok made
     → OfGroup (five_fields given.fields) given.groups earlier.known input keys fold_name made
 group_sound given earlier input keys fold_name made is =
     let five = five_fields given.fields in
@@ -117,7 +139,8 @@ group_sound given earlier input keys fold_name made is =
       is = sym (same_ok _ made arguments.2) ∙ ap (groups_to given.groups source.0 f.0 arguments.0) k.2;
     }
 
-group_complete : (given : Given) (earlier : Earlier) (input : Name) (keys : List Key) (fold_name : Name) (made : MadeFinal) → OfGroup (five_fields given.fields) given.groups earlier.known input keys fold_name made
+group_complete : (given : Given) (earlier : Earlier) (input : Name) (keys : List Key) (fold_name : Name) (made : MadeFinal)
+    → OfGroup (five_fields given.fields) given.groups earlier.known input keys fold_name made
     → final_group given earlier input keys fold_name ≡ Ok made
 group_complete given earlier input keys fold_name made h =
     let five = five_fields given.fields in
@@ -127,7 +150,8 @@ group_complete given earlier input keys fold_name made h =
     ∙ then_next _ _ h.arguments (arguments_complete _ [] (key_ids five keys) h.f fold_name.span h.arguments h.taken)
     ∙ ok _ _ (sym h.is)
 
-join_sound : (groups : ℕ) (earlier : Earlier) (first second : Name) (made : MadeFinal) → final_join groups earlier first second ≡ Ok made → OfJoin groups earlier.known first second made
+join_sound : (groups : ℕ) (earlier : Earlier) (first second : Name) (made : MadeFinal) → final_join groups earlier first second ≡ Ok made
+    → OfJoin groups earlier.known first second made
 join_sound groups earlier first second made is =
     let left = found_first (table_named earlier.known first) _ made is in
     let right = found_first (table_named earlier.known second) _ made left.2 in
@@ -143,15 +167,19 @@ join_sound groups earlier first second made is =
       is = sym (same_ok _ made two.1);
     }
 
-join_complete : (groups : ℕ) (earlier : Earlier) (first second : Name) (made : MadeFinal) → OfJoin groups earlier.known first second made → final_join groups earlier first second ≡ Ok made
+join_complete : (groups : ℕ) (earlier : Earlier) (first second : Name) (made : MadeFinal) → OfJoin groups earlier.known first second made
+    → final_join groups earlier first second ≡ Ok made
 join_complete groups earlier first second made h =
-    then_next _ _ h.left (table_complete earlier.known first h.left h.one) ∙ then_next _ _ h.right (table_complete earlier.known second h.right h.other)
-    ∙ must_holds _ _ _ _ (same_complete (key_columns h.left) (key_columns h.right) h.keys) ∙ must_not_holds _ _ _ _ (apart_complete (other_columns h.right) h.left.columns h.apart) ∙ ok _ _ (sym h.is)
+    then_next _ _ h.left (table_complete earlier.known first h.left h.one)
+    ∙ then_next _ _ h.right (table_complete earlier.known second h.right h.other)
+    ∙ must_holds _ _ _ _ (same_complete (key_columns h.left) (key_columns h.right) h.keys)
+    ∙ must_not_holds _ _ _ _ (apart_complete (other_columns h.right) h.left.columns h.apart) ∙ ok _ _ (sym h.is)
 
 pub at_most : (k n : ℕ) → k ≤ n → nat_le k n ≡ true
 at_most k n h = grind arith
 
-top_sound : (groups : ℕ) (earlier : Earlier) (input column : Name) (kept : ℕ) (span : Span) (made : MadeFinal) → final_top groups earlier input column kept span ≡ Ok made → OfTop groups earlier.known input column kept made
+top_sound : (groups : ℕ) (earlier : Earlier) (input column : Name) (kept : ℕ) (span : Span) (made : MadeFinal)
+    → final_top groups earlier input column kept span ≡ Ok made → OfTop groups earlier.known input column kept made
 top_sound groups earlier input column kept span made is =
     let source = found_first (table_named earlier.known input) _ made is in
     let slot = found_first (slot_of source.0.columns [] column) _ made source.2 in
@@ -168,19 +196,24 @@ top_sound groups earlier input column kept span made is =
       is = sym (same_ok _ made one.1);
     }
 
-top_complete : (groups : ℕ) (earlier : Earlier) (input column : Name) (kept : ℕ) (span : Span) (made : MadeFinal) → OfTop groups earlier.known input column kept made → final_top groups earlier input column kept span ≡ Ok made
+top_complete : (groups : ℕ) (earlier : Earlier) (input column : Name) (kept : ℕ) (span : Span) (made : MadeFinal)
+    → OfTop groups earlier.known input column kept made → final_top groups earlier input column kept span ≡ Ok made
 top_complete groups earlier input column kept span made h =
-    then_next _ _ h.source (table_complete earlier.known input h.source h.table) ∙ then_next _ _ h.slot (slot_complete h.source.columns [] column h.slot h.stands)
-    ∙ must_holds _ _ _ _ (both_hold (nat_lt 0 kept) (nat_le kept 65536) (below 0 kept (omega (arith, h.some))) (at_most kept 65536 h.few)) ∙ ok _ _ (sym h.is)
+    then_next _ _ h.source (table_complete earlier.known input h.source h.table)
+    ∙ then_next _ _ h.slot (slot_complete h.source.columns [] column h.slot h.stands)
+    ∙ must_holds _ _ _ _ (both_hold (nat_lt 0 kept) (nat_le kept 65536) (below 0 kept (omega (arith, h.some))) (at_most kept 65536 h.few))
+    ∙ ok _ _ (sym h.is)
 
-pub made_final_sound : (given : Given) (earlier : Earlier) (op : FinalOp) (made : MadeFinal) → made_final given earlier op ≡ Ok made → HasFinal given earlier.known op made
+pub made_final_sound : (given : Given) (earlier : Earlier) (op : FinalOp) (made : MadeFinal) → made_final given earlier op ≡ Ok made
+    → HasFinal given earlier.known op made
 made_final_sound given earlier (ops.Filter input e) made is = filter_sound given.groups earlier input e made is
 made_final_sound given earlier (ops.Map input cs) made is = map_sound given.groups earlier input cs made is
 made_final_sound given earlier (ops.Group input keys fold_name) made is = group_sound given earlier input keys fold_name made is
 made_final_sound given earlier (ops.Join first second) made is = join_sound given.groups earlier first second made is
 made_final_sound given earlier (ops.Top input column kept span) made is = top_sound given.groups earlier input column kept span made is
 
-pub made_final_complete : (given : Given) (earlier : Earlier) (op : FinalOp) (made : MadeFinal) → HasFinal given earlier.known op made → made_final given earlier op ≡ Ok made
+pub made_final_complete : (given : Given) (earlier : Earlier) (op : FinalOp) (made : MadeFinal) → HasFinal given earlier.known op made
+    → made_final given earlier op ≡ Ok made
 made_final_complete given earlier (ops.Filter input e) made h = filter_complete given.groups earlier input e made h
 made_final_complete given earlier (ops.Map input cs) made h = map_complete given.groups earlier input cs made h
 made_final_complete given earlier (ops.Group input keys fold_name) made h = group_complete given earlier input keys fold_name made h

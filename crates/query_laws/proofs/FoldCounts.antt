@@ -10,7 +10,8 @@ use Rattle.query_lang.specs.declared.query.Name.{Name}
 use Rattle.query_lang.specs.declared.query.Stmt.{Stmt, fold-roll-Stmt}
 use Rattle.query_lang.specs.declared.query.Stmt.TheOpen as stmt
 use Rattle.query_lang.specs.declared.query.Stmt.TheVariants.{Assign, If, Emit, rolls-Assign, rolls-If, rolls-Emit}
-use Rattle.query_lang.specs.TypedFolds.{expr_nodes, nodes_step, stmt_nodes, stmt_nodes_step, stmt_count, count_step, fold_nodes, fold_statements}
+use Rattle.query_lang.specs.TypedFolds.{expr_nodes, nodes_step, stmt_nodes, stmt_nodes_step, stmt_count, count_step, fold_nodes}
+use Rattle.query_lang.specs.TypedFolds.{fold_statements}
 use Rattle.query_laws.specs.TypingExamples.{here, called, first, second}
 use Rattle.query_laws.specs.FoldExamples.{a_fold, one_more, on_state, on_argument, below_9}
 
@@ -59,17 +60,21 @@ below_nodes : expr_nodes below_9 ≡ 3
 below_nodes = three_nodes Lt second (Number 9 here) (node_named (called 2)) (node_number 9)
 
 one_more_nodes : stmt_nodes one_more ≡ 3
-one_more_nodes = nodes_assign (called 1) (Binary Add here first (Number 1 here)) ∙ three_nodes Add first (Number 1 here) (node_named (called 1)) (node_number 1)
+one_more_nodes = nodes_assign (called 1) (Binary Add here first (Number 1 here))
+    ∙ three_nodes Add first (Number 1 here) (node_named (called 1)) (node_number 1)
 
 one_more_count : stmt_count one_more ≡ 1
 one_more_count = count_assign (called 1) (Binary Add here first (Number 1 here))
 
 -- a choice by a condition of three nodes, of what its blocks have
-choice_nodes : (c : Expr) (a b : List Stmt) (n m : ℕ) → expr_nodes c ≡ 3 → sum (map stmt_nodes a) ≡ n → sum (map stmt_nodes b) ≡ m → stmt_nodes (If c a b) ≡ 3 + n + m
+choice_nodes : (c : Expr) (a b : List Stmt) (n m : ℕ) → expr_nodes c ≡ 3 → sum (map stmt_nodes a) ≡ n → sum (map stmt_nodes b) ≡ m
+    → stmt_nodes (If c a b) ≡ 3 + n + m
 choice_nodes c a b n m p q r =
-    nodes_if c a b ∙ ap (λ (z : ℕ). z + sum (map stmt_nodes a) + sum (map stmt_nodes b)) p ∙ ap (λ (z : ℕ). 3 + z + sum (map stmt_nodes b)) q ∙ ap (λ (z : ℕ). 3 + n + z) r
+    nodes_if c a b ∙ ap (λ (z : ℕ). z + sum (map stmt_nodes a) + sum (map stmt_nodes b)) p
+    ∙ ap (λ (z : ℕ). 3 + z + sum (map stmt_nodes b)) q ∙ ap (λ (z : ℕ). 3 + n + z) r
 
-choice_count : (c : Expr) (a b : List Stmt) (n m : ℕ) → sum (map stmt_count a) ≡ n → sum (map stmt_count b) ≡ m → stmt_count (If c a b) ≡ 1 + n + m
+choice_count : (c : Expr) (a b : List Stmt) (n m : ℕ) → sum (map stmt_count a) ≡ n → sum (map stmt_count b) ≡ m → stmt_count (If c a b) ≡ 1
+    + n + m
 choice_count c a b n m q r = count_if c a b ∙ ap (λ (z : ℕ). 1 + z + sum (map stmt_count b)) q ∙ ap (λ (z : ℕ). 1 + n + z) r
 
 -- a block of one statement, and of two
@@ -103,12 +108,16 @@ choice_counts = one (If on_state (one_more ∷ []) []) 6 2
 
 pub argument_counts : Counts (If on_argument (one_more ∷ Emit here ∷ []) [] ∷ []) 6 3
 argument_counts = one (If on_argument (one_more ∷ Emit here ∷ []) []) 6 3
-    (choice_nodes on_argument (one_more ∷ Emit here ∷ []) [] 3 0 argument_nodes (pair (stmt_nodes one_more) (stmt_nodes (Emit here)) 3 0 one_more_nodes nodes_emit) refl)
-    (choice_count on_argument (one_more ∷ Emit here ∷ []) [] 2 0 (pair (stmt_count one_more) (stmt_count (Emit here)) 1 1 one_more_count count_emit) refl)
+    (choice_nodes on_argument (one_more ∷ Emit here ∷ []) [] 3 0 argument_nodes
+    (pair (stmt_nodes one_more) (stmt_nodes (Emit here)) 3 0 one_more_nodes nodes_emit) refl)
+    (choice_count on_argument (one_more ∷ Emit here ∷ []) [] 2 0 (pair (stmt_count one_more) (stmt_count (Emit here)) 1 1 one_more_count
+    count_emit) refl)
 
 pub else_counts : Counts (If on_argument (If below_9 [] (Emit here ∷ []) ∷ []) [] ∷ []) 6 3
 else_counts = one (If on_argument (If below_9 [] (Emit here ∷ []) ∷ []) []) 6 3
     (choice_nodes on_argument (If below_9 [] (Emit here ∷ []) ∷ []) [] 3 0 argument_nodes
-    (alone (stmt_nodes (If below_9 [] (Emit here ∷ []))) 3 (choice_nodes below_9 [] (Emit here ∷ []) 0 0 below_nodes refl (alone (stmt_nodes (Emit here)) 0 nodes_emit))) refl)
+    (alone (stmt_nodes (If below_9 [] (Emit here ∷ []))) 3 (choice_nodes below_9 [] (Emit here ∷ []) 0 0 below_nodes refl
+    (alone (stmt_nodes (Emit here)) 0 nodes_emit))) refl)
     (choice_count on_argument (If below_9 [] (Emit here ∷ []) ∷ []) [] 2 0
-    (alone (stmt_count (If below_9 [] (Emit here ∷ []))) 2 (choice_count below_9 [] (Emit here ∷ []) 0 1 refl (alone (stmt_count (Emit here)) 1 count_emit))) refl)
+    (alone (stmt_count (If below_9 [] (Emit here ∷ []))) 2 (choice_count below_9 [] (Emit here ∷ []) 0 1 refl
+    (alone (stmt_count (Emit here)) 1 count_emit))) refl)

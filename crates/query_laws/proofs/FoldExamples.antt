@@ -30,7 +30,8 @@ use Rattle.query_laws.proofs.FoldNames.{among_new}
 use Rattle.query_laws.proofs.FoldsMeet.{fold_meets}
 use Rattle.query_laws.proofs.Steps.{then_next}
 use Rattle.query_laws.specs.TypingExamples.{here, called, two_columns, first, second, is_less}
-use Rattle.query_laws.specs.FoldExamples.{fold_over, a_fold, typed_fold, HasNoFold, one_more, typed_one_more, on_state, typed_on_state, on_argument, typed_on_argument, below_9, typed_below_9, eight, sixteen, FoldExamples}
+use Rattle.query_laws.specs.FoldExamples.{fold_over, a_fold, typed_fold, HasNoFold, one_more, typed_one_more, on_state, typed_on_state}
+use Rattle.query_laws.specs.FoldExamples.{on_argument, typed_on_argument, below_9, typed_below_9, eight, sixteen, FoldExamples}
 use Rattle.query_laws.proofs.FoldCounts.{Counts, count_counts, emit_counts, choice_counts, argument_counts, else_counts}
 use Rattle.query_laws.proofs.TypingExamples.{first_word, second_word, second_is, no_word, no_place, right_of_0}
 
@@ -40,12 +41,14 @@ use Rattle.query_laws.proofs.TypingExamples.{first_word, second_word, second_is,
 abbrev Inside : List TypedExpr → List Stmt → List TypedStmt → List TypedExpr → Type 0
 Inside around body ts emits = HasBlock (1 ∷ []) (2 ∷ []) around body ts emits
 
-typed_as : (body : List Stmt) (ts : List TypedStmt) (emit : Option TypedExpr) (n m : ℕ) → Counts body n m → Inside [] body ts (at_most_one emit)
+typed_as : (body : List Stmt) (ts : List TypedStmt) (emit : Option TypedExpr) (n m : ℕ) → Counts body n m
+    → Inside [] body ts (at_most_one emit)
     → HasFold (a_fold body) (typed_fold ts emit n m)
 typed_as body ts emit n m counts block = record {
   body = ts;
   emit = emit;
-  is = ap (λ (z : ℕ). typed_fold ts emit z m) (sym counts.nodes) ∙ ap (λ (z : ℕ). typed_fold ts emit (fold_nodes (a_fold body)) z) (sym counts.statements);
+  is = ap (λ (z : ℕ). typed_fold ts emit z m) (sym counts.nodes) ∙ ap (λ (z : ℕ). typed_fold ts emit (fold_nodes (a_fold body)) z)
+      (sym counts.statements);
   states = (tt, tt);
   args = (among_new 2 (1 ∷ []) refl, tt);
   few_states = omega arith;
@@ -53,9 +56,11 @@ typed_as body ts emit n m counts block = record {
   statements = block;
 }
 
-one_more_in : (around : List TypedExpr) (rest : List Stmt) (ts : List TypedStmt) (emits : List TypedExpr) → Inside around rest ts emits → Inside around (one_more ∷ rest) (typed_one_more ∷ ts) emits
+one_more_in : (around : List TypedExpr) (rest : List Stmt) (ts : List TypedStmt) (emits : List TypedExpr) → Inside around rest ts emits
+    → Inside around (one_more ∷ rest) (typed_one_more ∷ ts) emits
 one_more_in around rest ts emits h =
-    of_assign around (called 1) 0 (Binary Add here first (Number 1 here)) (typed.Binary Add (typed.Slot 0) (typed.Number 1)) rest ts emits refl
+    of_assign around (called 1) 0 (Binary Add here first (Number 1 here)) (typed.Binary Add (typed.Slot 0) (typed.Number 1)) rest ts emits
+    refl
     (of_binary Add here first (Number 1 here) (typed.Slot 0) (typed.Number 1) first_word (of_number 1 here) tt) h
 
 state_typed : HasKind two_columns Condition on_state typed_on_state
@@ -88,7 +93,8 @@ argument_reads : ReadsNoState typed_on_argument
 argument_reads = of_two Lt (typed.Number 0) (typed.Slot 1) (of_a_number 0) of_the_argument
 
 else_reads : ReadsNoState (typed.Not typed_below_9)
-else_reads = seen (typed.Not typed_below_9) _ (term_not typed_below_9) (of_two Lt (typed.Slot 1) (typed.Number 9) of_the_argument (of_a_number 9))
+else_reads = seen (typed.Not typed_below_9) _ (term_not typed_below_9)
+    (of_two Lt (typed.Slot 1) (typed.Number 9) of_the_argument (of_a_number 9))
 
 -- ---- refused
 
@@ -97,7 +103,8 @@ unmet : (d : FoldDef) (q : Demand) → FoldAsks d q → (Holds [] q → ⊥) →
 unmet d q asked fails = λ f h. fails (fold_meets [] d f q h asked)
 
 -- an `emit` inside a condition on the state
-reads_state : (body : List Stmt) (around : List Expr) → StandsIn [] body around (Emit here) → IsOneOf on_state around → HasNoFold (a_fold body)
+reads_state : (body : List Stmt) (around : List Expr) → StandsIn [] body around (Emit here) → IsOneOf on_state around
+    → HasNoFold (a_fold body)
 reads_state body around stands i = unmet (a_fold body) (ReadsNone (1 ∷ []) on_state)
     (of_statement around (Emit here) (ReadsNone (1 ∷ []) on_state) stands (asks.of_emit here on_state i))
     (λ none. (none (called 1) (Condition, Word, right_of_0 1)).0 refl)
@@ -110,29 +117,36 @@ first_asks : (s : Stmt) (q : Demand) → StmtAsks (1 ∷ []) (2 ∷ []) [] s q �
 first_asks s q asked = of_statement [] s q (parts.first [] s []) asked
 
 no_condition : (t : TypedExpr) × HasKind two_columns Condition second t → ⊥
-no_condition h = no_fault h.0 (record { kind = WrongKind; span = here }) (sym (condition_complete two_columns [] second h.0 h.1) ∙ then_next (expr_checked two_columns [] second) _ _ second_is)
+no_condition h = no_fault h.0 (record { kind = WrongKind; span = here })
+    (sym (condition_complete two_columns [] second h.0 h.1) ∙ then_next (expr_checked two_columns [] second) _ _ second_is)
 
 -- ---- all
 
 pub fold_examples : FoldExamples
 fold_examples = record {
   count = typed_as (one_more ∷ []) (typed_one_more ∷ []) None 3 1 count_counts (one_more_in [] [] [] [] (of_none []));
-  choice_on_a_state = typed_as (If on_state (one_more ∷ []) [] ∷ []) (typed_stmt.If typed_on_state (typed_one_more ∷ []) [] ∷ []) None 6 2 choice_counts
+  choice_on_a_state = typed_as (If on_state (one_more ∷ []) [] ∷ []) (typed_stmt.If typed_on_state (typed_one_more ∷ []) [] ∷ []) None 6 2
+      choice_counts
       (of_if [] on_state typed_on_state (one_more ∷ []) [] [] (typed_one_more ∷ []) [] [] [] [] [] state_typed
       (one_more_in (typed_on_state ∷ []) [] [] [] (of_none (typed_on_state ∷ []))) (of_none (typed.Not typed_on_state ∷ [])) (of_none []));
   emit_always = typed_as (Emit here ∷ []) [] (Some (typed.Number 1)) 0 1 emit_counts (of_emit [] here [] [] [] tt (of_none []));
-  emit_on_an_argument = typed_as (If on_argument (one_more ∷ Emit here ∷ []) [] ∷ []) (typed_stmt.If typed_on_argument (typed_one_more ∷ []) [] ∷ []) (Some typed_on_argument) 6 3 argument_counts
-      (of_if [] on_argument typed_on_argument (one_more ∷ Emit here ∷ []) [] [] (typed_one_more ∷ []) [] [] (typed_on_argument ∷ []) [] [] argument_typed
+  emit_on_an_argument = typed_as (If on_argument (one_more ∷ Emit here ∷ []) [] ∷ [])
+      (typed_stmt.If typed_on_argument (typed_one_more ∷ []) [] ∷ []) (Some typed_on_argument) 6 3 argument_counts
+      (of_if [] on_argument typed_on_argument (one_more ∷ Emit here ∷ []) [] [] (typed_one_more ∷ []) [] [] (typed_on_argument ∷ []) [] []
+      argument_typed
       (one_more_in (typed_on_argument ∷ []) (Emit here ∷ []) [] (typed_on_argument ∷ [])
       (of_emit (typed_on_argument ∷ []) here [] [] [] (argument_reads, tt) (of_none (typed_on_argument ∷ []))))
       (of_none (typed.Not typed_on_argument ∷ [])) (of_none []));
-  emit_in_an_else = typed_as (If on_argument (If below_9 [] (Emit here ∷ []) ∷ []) [] ∷ []) (typed_stmt.If typed_on_argument (typed_stmt.If typed_below_9 [] [] ∷ []) [] ∷ [])
+  emit_in_an_else = typed_as (If on_argument (If below_9 [] (Emit here ∷ []) ∷ []) [] ∷ [])
+      (typed_stmt.If typed_on_argument (typed_stmt.If typed_below_9 [] [] ∷ []) [] ∷ [])
       (Some (emit_of (typed.Not typed_below_9 ∷ typed_on_argument ∷ []))) 6 3 else_counts
       (of_if [] on_argument typed_on_argument (If below_9 [] (Emit here ∷ []) ∷ []) [] [] (typed_stmt.If typed_below_9 [] [] ∷ []) [] []
       (emit_of (typed.Not typed_below_9 ∷ typed_on_argument ∷ []) ∷ []) [] [] argument_typed
-      (of_if (typed_on_argument ∷ []) below_9 typed_below_9 [] (Emit here ∷ []) [] [] [] [] [] (emit_of (typed.Not typed_below_9 ∷ typed_on_argument ∷ []) ∷ []) [] below_typed
+      (of_if (typed_on_argument ∷ []) below_9 typed_below_9 [] (Emit here ∷ []) [] [] [] [] []
+      (emit_of (typed.Not typed_below_9 ∷ typed_on_argument ∷ []) ∷ []) [] below_typed
       (of_none (typed_below_9 ∷ typed_on_argument ∷ []))
-      (of_emit (typed.Not typed_below_9 ∷ typed_on_argument ∷ []) here [] [] [] (else_reads, (argument_reads, tt)) (of_none (typed.Not typed_below_9 ∷ typed_on_argument ∷ [])))
+      (of_emit (typed.Not typed_below_9 ∷ typed_on_argument ∷ []) here [] [] [] (else_reads, (argument_reads, tt))
+      (of_none (typed.Not typed_below_9 ∷ typed_on_argument ∷ [])))
       (of_none (typed_on_argument ∷ [])))
       (of_none (typed.Not typed_on_argument ∷ [])) (of_none []));
   emit_on_a_state = reads_state (If on_state (Emit here ∷ []) [] ∷ []) (on_state ∷ [])
@@ -141,22 +155,27 @@ fold_examples = record {
       (parts.in_second [] on_state [] (Emit here ∷ []) [] (on_state ∷ []) (Emit here) (emit_first (on_state ∷ []))) (parts.first []);
   emit_inside_a_state = reads_state (If on_state (If on_argument (Emit here ∷ []) [] ∷ []) [] ∷ []) (on_argument ∷ on_state ∷ [])
       (parts.in_first [] on_state (If on_argument (Emit here ∷ []) [] ∷ []) [] [] (on_argument ∷ on_state ∷ []) (Emit here)
-      (parts.in_first (on_state ∷ []) on_argument (Emit here ∷ []) [] [] (on_argument ∷ on_state ∷ []) (Emit here) (emit_first (on_argument ∷ on_state ∷ []))))
+      (parts.in_first (on_state ∷ []) on_argument (Emit here ∷ []) [] [] (on_argument ∷ on_state ∷ []) (Emit here)
+      (emit_first (on_argument ∷ on_state ∷ []))))
       (parts.later on_argument (on_state ∷ []) (parts.first []));
   second_emit = unmet (a_fold (Emit here ∷ Emit here ∷ [])) (OneEmit (Emit here ∷ Emit here ∷ [])) of_emits
       (λ alone. alone here (parts.beyond (Emit here) (Emit here ∷ []) [] ([], here, emit_first []) (emit_first [])));
-  emit_in_each_block = unmet (a_fold (If on_argument (Emit here ∷ []) (Emit here ∷ []) ∷ [])) (OneEmit (If on_argument (Emit here ∷ []) (Emit here ∷ []) ∷ [])) of_emits
+  emit_in_each_block = unmet (a_fold (If on_argument (Emit here ∷ []) (Emit here ∷ []) ∷ []))
+      (OneEmit (If on_argument (Emit here ∷ []) (Emit here ∷ []) ∷ [])) of_emits
       (λ alone. alone here (parts.across on_argument (Emit here ∷ []) (Emit here ∷ []) [] [] ([], here, emit_first []) (emit_first [])));
   assigned_argument = unmet (a_fold (Assign (called 2) (Number 0 here) ∷ [])) (Target (1 ∷ []) (2 ∷ []) (called 2))
-      (first_asks (Assign (called 2) (Number 0 here)) (Target (1 ∷ []) (2 ∷ []) (called 2)) (asks.of_target (called 2) (Number 0 here))) (no_place (1 ∷ []) 2 refl);
+      (first_asks (Assign (called 2) (Number 0 here)) (Target (1 ∷ []) (2 ∷ []) (called 2)) (asks.of_target (called 2) (Number 0 here)))
+      (no_place (1 ∷ []) 2 refl);
   assigned_other = unmet (a_fold (Assign (called 3) (Number 0 here) ∷ [])) (Target (1 ∷ []) (2 ∷ []) (called 3))
-      (first_asks (Assign (called 3) (Number 0 here)) (Target (1 ∷ []) (2 ∷ []) (called 3)) (asks.of_target (called 3) (Number 0 here))) (no_place (1 ∷ []) 3 refl);
+      (first_asks (Assign (called 3) (Number 0 here)) (Target (1 ∷ []) (2 ∷ []) (called 3)) (asks.of_target (called 3) (Number 0 here)))
+      (no_place (1 ∷ []) 3 refl);
   assigned_condition = unmet (a_fold (Assign (called 1) is_less ∷ [])) (Typed two_columns Word is_less)
       (first_asks (Assign (called 1) is_less) (Typed two_columns Word is_less)
       (asks.of_value (called 1) is_less (Typed two_columns Word is_less) (asks.of_part Word is_less (parts.whole Word is_less)))) no_word;
   choice_on_a_word = unmet (a_fold (If second [] [] ∷ [])) (Typed two_columns Condition second)
       (first_asks (If second [] []) (Typed two_columns Condition second)
-      (asks.of_condition second [] [] (Typed two_columns Condition second) (asks.of_part Condition second (parts.whole Condition second)))) no_condition;
+      (asks.of_condition second [] [] (Typed two_columns Condition second) (asks.of_part Condition second (parts.whole Condition second))))
+      no_condition;
   state_twice = λ f h. h.states.1.0.0 refl;
   argument_twice = λ f h. h.args.1.0.0 refl;
   argument_with_a_states_name = λ f h. h.args.0.0 refl;

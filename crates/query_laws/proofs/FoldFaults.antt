@@ -1,5 +1,6 @@
 -- What a fault in a fold says.
-use Rattle.std.proofs.Common.{◌≡◌, ℕ, false, ◌||◌, List, [], ◌∷◌, ◌++◌, length, map, Err, suc, refl, sym, ap, subst, ◌∙◌, append_assoc, arith}
+use Rattle.std.proofs.Common.{◌≡◌, ℕ, false, ◌||◌, List, [], ◌∷◌, ◌++◌, length, map, Err, suc, refl, sym, ap, subst, ◌∙◌, append_assoc}
+use Rattle.std.proofs.Common.{arith}
 use Rattle.std.specs.Prelude.{nat_lt}
 use Rattle.query_lang.specs.declared.fault.FaultKind.TheVariants.{NameTaken, WrongArity, OverLimit}
 use Rattle.query_lang.specs.declared.fault.Limit.TheVariants.{States, Args}
@@ -61,8 +62,11 @@ args_told d front (a ∷ args) found known fault split same e =
     record {
       demand = New (state_names_of d ++ ids_of front) a.id a.span;
       asks = of_arg front a args split;
-      tells = told known (New (state_names_of d ++ ids_of front) a.id a.span) NameTaken a.span fault at
-          (refl, λ fresh. not_new a.id (state_names_of d ++ found) (among_append a.id (state_names_of d) found ∙ among) (subst N (sym same) fresh));
+      tells = told known (New (state_names_of d ++ ids_of front) a.id a.span) NameTaken a.span fault at (
+        refl,
+        λ fresh. not_new a.id (state_names_of d ++ found) (among_append a.id (state_names_of d) found ∙ among)
+            (subst N (sym same) fresh),
+      );
     }) (λ none e.
     by_must (nat_lt (length found) 16) (OverLimit Args) a.span _ fault e (λ full at. record {
       demand = Fewer Args (length front) a.span;
@@ -73,7 +77,8 @@ args_told d front (a ∷ args) found known fault split same e =
     args_told d (front ++ a ∷ []) args (found ++ a.id ∷ []) known fault (split ∙ sym (append_assoc front (a ∷ []) args))
     (ap (λ (z : List ℕ). z ++ a.id ∷ []) same ∙ sym (ids_last front a)) e))
 
-statements_told : (d : FoldDef) (known : List Known) (fault : QueryFault) → BlockTold (state_names_of d) (arg_names_of d) [] d.body false known fault
+statements_told : (d : FoldDef) (known : List Known) (fault : QueryFault)
+    → BlockTold (state_names_of d) (arg_names_of d) [] d.body false known fault
     → Broken (FoldAsks d) known fault
 statements_told d known fault (at_statement around s h b) = broken_in _ _ known fault (λ q asked. of_statement around s q h asked) b
 statements_told d known fault (second span around e h has) = cc has
@@ -90,5 +95,6 @@ fold_faults d known fault e =
     let a = (args_sound (state_names_of d) d.args [] args (omega arith) q).0 in
     let B : List ℕ → Type 0 = λ z. rest_of d (state_names_of d) z ≡ Err fault in
     by_next (body_checked (state_names_of d) (arg_names_of d) d.body) _ fault (subst B a e)
-    (λ is. statements_told d known fault (body_told (state_names_of d) (arg_names_of d) known fault d.body [] _ _ (λ span none. cc none) is))
+    (λ is. statements_told d known fault (body_told (state_names_of d) (arg_names_of d) known fault d.body [] _ _ (λ span none. cc none)
+    is))
     (λ body r e. no_fault _ fault e)))

@@ -34,7 +34,8 @@ fold_sound d f e =
     let s = states_sound d.states [] states.0 (omega arith) states.1 in
     let a = args_sound states.0 d.args [] args.0 (omega arith) args.1 in
     let N : List ℕ → Type 0 = λ z. AreNew z (arg_names_of d) in
-    let whole : rest_of d (state_names_of d) (arg_names_of d) ≡ Ok f = sym (ap (λ (z : List ℕ). rest_of d z args.0) s.0 ∙ ap (λ (z : List ℕ). rest_of d (state_names_of d) z) a.0) ∙ args.2 in
+    let whole : rest_of d (state_names_of d) (arg_names_of d) ≡ Ok f =
+    sym (ap (λ (z : List ℕ). rest_of d z args.0) s.0 ∙ ap (λ (z : List ℕ). rest_of d (state_names_of d) z) a.0) ∙ args.2 in
     let body = found_first (body_checked (state_names_of d) (arg_names_of d) d.body) _ f whole in
     let b = block_sound (state_names_of d) (arg_names_of d) d.body [] _ _ body.0 (nothing_around (state_names_of d)) body.1 in
     let B : List TypedStmt → Type 0 = λ z. HasBlock (state_names_of d) (arg_names_of d) [] d.body z (at_most_one body.0.emit) in
@@ -54,6 +55,8 @@ pub fold_complete : (d : FoldDef) (f : TypedFold) → HasFold d f → fold_check
 fold_complete d f h =
     let N : List ℕ → Type 0 = λ z. AreNew z (arg_names_of d) in
     then_next _ _ (state_names_of d) (states_complete d.states [] h.states (omega (arith, h.few_states)))
-    ∙ then_next _ _ (arg_names_of d) (args_complete (state_names_of d) d.args [] (subst N (sym (append-nil (state_names_of d))) h.args) (omega (arith, h.few_args)))
-    ∙ then_next _ _ _ (block_complete (state_names_of d) (arg_names_of d) [] d.body h.body (at_most_one h.emit) h.statements _ (record { statements = []; emit = None }) h.emit (nothing_around (state_names_of d)) refl)
+    ∙ then_next _ _ (arg_names_of d) (args_complete (state_names_of d) d.args [] (subst N (sym (append-nil (state_names_of d))) h.args)
+    (omega (arith, h.few_args)))
+    ∙ then_next _ _ _ (block_complete (state_names_of d) (arg_names_of d) [] d.body h.body (at_most_one h.emit) h.statements _
+    (record { statements = []; emit = None }) h.emit (nothing_around (state_names_of d)) refl)
     ∙ ap (λ (g : TypedFold). let r : Checked TypedFold = Ok g in r) (sym h.is)

@@ -1,5 +1,6 @@
 -- The names of a fold, and which expressions read a state variable.
-use Rattle.std.proofs.Common.{◌≡◌, ℕ, zero, suc, ◌+◌, ◌<◌, ◌≤◌, Bool, true, false, ◌||◌, cond, List, [], ◌∷◌, ◌++◌, length, map, Option, Some, None, Ok, nat_eq, nat_lt, refl, sym, ap, subst, ◌∙◌, append_assoc, append-nil, arith}
+use Rattle.std.proofs.Common.{◌≡◌, ℕ, zero, suc, ◌+◌, ◌<◌, ◌≤◌, Bool, true, false, ◌||◌, cond, List, [], ◌∷◌, ◌++◌, length, map, Option}
+use Rattle.std.proofs.Common.{Some, None, Ok, nat_eq, nat_lt, refl, sym, ap, subst, ◌∙◌, append_assoc, append-nil, arith}
 use Rattle.std.proofs.lemmas.Bool.{ltb-true}
 use Rattle.std.proofs.lemmas.List.{length-append}
 use Rattle.query_lang.specs.declared.fault.Span.{Span}
@@ -30,7 +31,8 @@ pub among_new : (id : ℕ) (names : List ℕ) → is_among id names ≡ false �
 among_new id [] e = tt
 among_new id (name ∷ rest) e = go (nat_eq name id) refl (λ k. among_new id rest k) e
   where
-    go : (b : Bool) → nat_eq name id ≡ b → (is_among id rest ≡ false → IsNew id rest) → (b || is_among id rest) ≡ false → IsNew id (name ∷ rest)
+    go : (b : Bool) → nat_eq name id ≡ b → (is_among id rest ≡ false → IsNew id rest) → (b || is_among id rest) ≡ false
+        → IsNew id (name ∷ rest)
     go true is more e = cc e
     go false is more e = (nat_other name id is, more e)
 
@@ -48,7 +50,8 @@ below k n h = grind arith
 abbrev ids : List StateVar → List ℕ
 ids ss = map (λ s. s.name.id) ss
 
-pub states_sound : (ss : List StateVar) (found all : List ℕ) → length found ≤ 8 → states_from found ss ≡ Ok all → (all ≡ found ++ ids ss) × AreNew found (ids ss) × (length found + length ss ≤ 8)
+pub states_sound : (ss : List StateVar) (found all : List ℕ) → length found ≤ 8 → states_from found ss ≡ Ok all → (all ≡ found ++ ids ss)
+    × AreNew found (ids ss) × (length found + length ss ≤ 8)
 states_sound [] found all h e = (sym (same_ok _ all e) ∙ sym (append-nil found), tt, omega (arith, h))
 states_sound (s ∷ ss) found all h e =
     let one = must_not_ok _ _ _ _ all e in
@@ -58,7 +61,8 @@ states_sound (s ∷ ss) found all h e =
     let more = states_sound ss (found ++ s.name.id ∷ []) all (omega (arith, long, few)) two.1 in
     (more.0 ∙ append_assoc found (s.name.id ∷ []) (ids ss), (among_new s.name.id found one.0, more.1), omega (arith, long, more.2))
 
-pub states_complete : (ss : List StateVar) (found : List ℕ) → AreNew found (ids ss) → length found + length ss ≤ 8 → states_from found ss ≡ Ok (found ++ ids ss)
+pub states_complete : (ss : List StateVar) (found : List ℕ) → AreNew found (ids ss) → length found + length ss ≤ 8
+    → states_from found ss ≡ Ok (found ++ ids ss)
 states_complete [] found h few = ap (λ (z : List ℕ). let r : Checked (List ℕ) = Ok z in r) (sym (append-nil found))
 states_complete (s ∷ ss) found h few =
     must_not_holds _ _ _ _ (new_among s.name.id found h.0) ∙ must_holds _ _ _ _ (below (length found) 8 (omega (arith, few)))
@@ -77,15 +81,26 @@ args_sound states (a ∷ more) found all h e =
     let few = ltb-true (length found) 16 two.0 in
     let long = length-append found (a.id ∷ []) in
     let found_rest = args_sound states more (found ++ a.id ∷ []) all (omega (arith, long, few)) two.1 in
-    let N : List ℕ → Type 0 = λ z. AreNew z (arg_ids more) in
-    (found_rest.0 ∙ append_assoc found (a.id ∷ []) (arg_ids more), (among_new a.id (states ++ found) (among_append a.id states found ∙ one.0), subst N (sym (append_assoc states found (a.id ∷ []))) found_rest.1), omega (arith, long, found_rest.2))
+    let N : List ℕ → Type 0 = λ z. AreNew z (arg_ids more) in (
+      found_rest.0 ∙ append_assoc found (a.id ∷ []) (arg_ids more),
+      (
+        among_new a.id (states ++ found)
+            (among_append a.id states found ∙ one.0),
+        subst N (sym (append_assoc states found (a.id ∷ []))) found_rest.1,
+      ),
+      omega
+          (arith, long, found_rest.2),
+    )
 
-pub args_complete : (states : List ℕ) (more : List Name) (found : List ℕ) → AreNew (states ++ found) (arg_ids more) → length found + length more ≤ 16 → args_from states found more ≡ Ok (found ++ arg_ids more)
+pub args_complete : (states : List ℕ) (more : List Name) (found : List ℕ) → AreNew (states ++ found) (arg_ids more) → length found
+    + length more ≤ 16 → args_from states found more ≡ Ok (found ++ arg_ids more)
 args_complete states [] found h few = ap (λ (z : List ℕ). let r : Checked (List ℕ) = Ok z in r) (sym (append-nil found))
 args_complete states (a ∷ more) found h few =
     let N : List ℕ → Type 0 = λ z. AreNew z (arg_ids more) in
-    must_not_holds _ _ _ _ (sym (among_append a.id states found) ∙ new_among a.id (states ++ found) h.0) ∙ must_holds _ _ _ _ (below (length found) 16 (omega (arith, few)))
-    ∙ args_complete states more (found ++ a.id ∷ []) (subst N (append_assoc states found (a.id ∷ [])) h.1) (omega (arith, few, length-append found (a.id ∷ [])))
+    must_not_holds _ _ _ _ (sym (among_append a.id states found) ∙ new_among a.id (states ++ found) h.0)
+    ∙ must_holds _ _ _ _ (below (length found) 16 (omega (arith, few)))
+    ∙ args_complete states more (found ++ a.id ∷ []) (subst N (append_assoc states found (a.id ∷ [])) h.1)
+    (omega (arith, few, length-append found (a.id ∷ [])))
     ∙ ap (λ (z : List ℕ). let r : Checked (List ℕ) = Ok z in r) (append_assoc found (a.id ∷ []) (arg_ids more))
 
 -- ---- expressions on the arguments alone
@@ -97,7 +112,8 @@ neither (Some span) b e = cc e
 pub both_none : (a b : Option Span) → a ≡ None → b ≡ None → or_else a b ≡ None
 both_none a b p q = ap (λ (o : Option Span). or_else o b) p ∙ q
 
-stands_past : (states args : List ℕ) (slot id : ℕ) → StandsAt (states ++ args) slot id → (is_among id states ≡ false → length states ≤ slot) × (length states ≤ slot → is_among id states ≡ false)
+stands_past : (states args : List ℕ) (slot id : ℕ) → StandsAt (states ++ args) slot id → (is_among id states ≡ false → length states ≤ slot)
+    × (length states ≤ slot → is_among id states ≡ false)
 stands_past [] args slot id e = (λ h. omega arith, λ h. refl)
 stands_past (s ∷ states) args zero id e =
     let is : is_among id (s ∷ states) ≡ true = ap (λ (b : Bool). b || is_among id states) (nat_is s id e) in
@@ -108,7 +124,8 @@ stands_past (s ∷ states) args (suc slot) id e =
     (λ h. let k = m.0 (sym is ∙ h) in omega (arith, k), λ h. is ∙ m.1 (omega (arith, h)))
 
 in_number : (states : List ℕ) (n : ℕ) (span : Span) → state_in states (whole.Number n span) ≡ None
-in_number states n span = ap (state_in states) (sym (rolls-Number n span)) ∙ fold-roll-Expr (Option Span) (state_step states) (expr.Number n span)
+in_number states n span = ap (state_in states) (sym (rolls-Number n span))
+    ∙ fold-roll-Expr (Option Span) (state_step states) (expr.Number n span)
 
 pub in_named : (states : List ℕ) (x : Name) → state_in states (whole.Named x) ≡ cond (is_among x.id states) (Some x.span) None
 in_named states x = ap (state_in states) (sym (rolls-Named x)) ∙ fold-roll-Expr (Option Span) (state_step states) (expr.Named x)
@@ -116,11 +133,15 @@ in_named states x = ap (state_in states) (sym (rolls-Named x)) ∙ fold-roll-Exp
 pub in_not : (states : List ℕ) (span : Span) (e : Expr) → state_in states (whole.Not span e) ≡ state_in states e
 in_not states span e = ap (state_in states) (sym (rolls-Not span e)) ∙ fold-roll-Expr (Option Span) (state_step states) (expr.Not span e)
 
-pub in_binary : (states : List ℕ) (op : Op) (span : Span) (a b : Expr) → state_in states (whole.Binary op span a b) ≡ or_else (state_in states a) (state_in states b)
-in_binary states op span a b = ap (state_in states) (sym (rolls-Binary op span a b)) ∙ fold-roll-Expr (Option Span) (state_step states) (expr.Binary op span a b)
+pub in_binary : (states : List ℕ) (op : Op) (span : Span) (a b : Expr)
+    → state_in states (whole.Binary op span a b) ≡ or_else (state_in states a) (state_in states b)
+in_binary states op span a b = ap (state_in states) (sym (rolls-Binary op span a b))
+    ∙ fold-roll-Expr (Option Span) (state_step states) (expr.Binary op span a b)
 
-in_call : (states : List ℕ) (op : Op) (span : Span) (a b : Expr) → state_in states (whole.Call op span (a ∷ b ∷ [])) ≡ or_else (state_in states a) (or_else (state_in states b) None)
-in_call states op span a b = ap (state_in states) (sym (rolls-Call op span (a ∷ b ∷ []))) ∙ fold-roll-Expr (Option Span) (state_step states) (expr.Call op span (a ∷ b ∷ []))
+in_call : (states : List ℕ) (op : Op) (span : Span) (a b : Expr) → state_in states (whole.Call op span (a ∷ b ∷ [])) ≡ or_else
+    (state_in states a) (or_else (state_in states b) None)
+in_call states op span a b = ap (state_in states) (sym (rolls-Call op span (a ∷ b ∷ [])))
+    ∙ fold-roll-Expr (Option Span) (state_step states) (expr.Call op span (a ∷ b ∷ []))
 
 -- no state variable is in the expression exactly where its typed form reads none
 pub record Reads (states : List ℕ) (e : Expr) (t : TypedExpr) : Type 0 where
@@ -135,7 +156,11 @@ no_span true span e = cc e
 no_span false span e = refl
 
 pub reads : (states args : List ℕ) (k : Kind) (e : Expr) (t : TypedExpr) → HasKind (states ++ args) k e t → Reads states e t
-reads states args _ _ _ (of_number n span) = record { past = λ h. turned _ _ _ (sym (term_number n)) tt; none = λ h. in_number states n span }
+reads states args _ _ _ (of_number n span) = record {
+  past = λ h. turned _ _ _ (sym (term_number n)) tt;
+  none =
+      λ h. in_number states n span;
+}
 reads states args _ _ _ (of_name x slot stands) =
     let m = stands_past states args slot x.id stands in
     record {
@@ -144,7 +169,11 @@ reads states args _ _ _ (of_name x slot stands) =
     }
 reads states args _ _ _ (of_not span e t h) =
     let m = reads states args _ _ _ h in
-    record { past = λ k. turned _ _ _ (sym (term_not t)) (m.past (sym (in_not states span e) ∙ k)); none = λ k. in_not states span e ∙ m.none (turned _ _ _ (term_not t) k) }
+    record {
+      past = λ k. turned _ _ _ (sym (term_not t)) (m.past (sym (in_not states span e) ∙ k));
+      none = λ k. in_not states span e
+          ∙ m.none (turned _ _ _ (term_not t) k);
+    }
 reads states args _ _ _ (of_binary op span a b s t h i c) =
     let m = reads states args _ _ _ h in
     let n = reads states args _ _ _ i in

@@ -23,7 +23,8 @@ use Rattle.query_lang.specs.declared.typing.Known.{Known}
 use Rattle.query_lang.specs.Checks.{Checked, and_then, is_among}
 use Rattle.query_lang.specs.TypedExprs.{condition_of, word_of}
 use Rattle.query_lang.specs.TypedFolds.{target_of, first_of, state_step, state_in, inside, Adding, in_order, stmt_step, stmt_checked}
-use Rattle.query_laws.specs.Asked.{StmtAsks, of_target, of_value, of_condition, of_emit, FoldAsks, of_state, of_states, of_arg, of_args, of_statement, of_emits}
+use Rattle.query_laws.specs.Asked.{StmtAsks, of_target, of_value, of_condition, of_emit, FoldAsks, of_state, of_states, of_arg, of_args}
+use Rattle.query_laws.specs.Asked.{of_statement, of_emits}
 use Rattle.query_laws.specs.Demands.{HasPart, StandsInside, StandsIn, FollowsEmit, Demand, Holds}
 use Rattle.query_laws.specs.Demands as parts
 use Rattle.query_laws.specs.ExprRules.{Kind, Word, Condition}
@@ -40,9 +41,11 @@ use Rattle.query_laws.proofs.Steps.{must_not_ok, same_ok, found_first}
 
 first_none : (states : List ℕ) (es : List Expr) → first_of (map (state_in states) es) ≡ None → EachIs (λ e. state_in states e ≡ None) es
 first_none states [] e = tt
-first_none states (a ∷ es) e = let p = neither (state_in states a) (first_of (map (state_in states) es)) e in (p.0, first_none states es p.1)
+first_none states (a ∷ es) e = let p = neither (state_in states a) (first_of (map (state_in states) es)) e
+    in (p.0, first_none states es p.1)
 
-part_none : (states : List ℕ) (k : Kind) (e : Expr) (l : Kind) (part : Expr) → HasPart k e l part → state_in states e ≡ None → state_in states part ≡ None
+part_none : (states : List ℕ) (k : Kind) (e : Expr) (l : Kind) (part : Expr) → HasPart k e l part → state_in states e ≡ None
+    → state_in states part ≡ None
 part_none states _ _ _ _ (parts.whole k e) is = is
 part_none states _ _ _ _ (parts.of_not k span e l part p) is = part_none states Condition e l part p (sym (in_not states span e) ∙ is)
 part_none states _ _ _ _ (parts.of_left k op span a b l part p) is =
@@ -56,7 +59,8 @@ part_none states _ _ _ _ (parts.of_argument k op span es a l part i p) is =
 
 none_inside : (states : List ℕ) (e : Expr) → state_in states e ≡ None → (x : Name) → StandsInside x e → IsNew x.id states
 none_inside states e is x h =
-    among_new x.id states (no_span (is_among x.id states) x.span (sym (in_named states x) ∙ part_none states h.0 e h.1 (whole.Named x) h.2 is))
+    among_new x.id states (no_span (is_among x.id states) x.span (sym (in_named states x)
+    ∙ part_none states h.0 e h.1 (whole.Named x) h.2 is))
 
 module _ (states args : List ℕ) where
   -- ---- statements of a block that was checked
@@ -65,7 +69,8 @@ module _ (states args : List ℕ) where
   abbrev Clean : List Expr → Enclosing → Type 0
   Clean around outer = outer.state ≡ None → EachIs (λ c. state_in states c ≡ None) around
 
-  clean_inside : (around : List Expr) (outer : Enclosing) (c : Expr) (t : TypedExpr) → Clean around outer → Clean (c ∷ around) (inside states outer c t)
+  clean_inside : (around : List Expr) (outer : Enclosing) (c : Expr) (t : TypedExpr) → Clean around outer
+      → Clean (c ∷ around) (inside states outer c t)
   clean_inside around outer c t clean e = let p = neither outer.state (state_in states c) e in (p.1, clean p.0)
 
   record AtStatement (around : List Expr) (s : Stmt) : Type 0 where
@@ -81,16 +86,20 @@ module _ (states args : List ℕ) where
     pub q : Body
     pub condition : condition_of (states ++ args) [] c ≡ Ok t
     pub first : in_order (map (stmt_checked states args) a) (inside states outer c t) (record { statements = []; emit = found.emit }) ≡ Ok p
-    pub second : in_order (map (stmt_checked states args) b) (inside states outer c (typed.Not t)) (record { statements = []; emit = p.emit }) ≡ Ok q
+    pub second : in_order (map (stmt_checked states args) b) (inside states outer c (typed.Not t))
+        (record { statements = []; emit = p.emit }) ≡ Ok q
     pub emit : q.emit ≡ made.emit
 
-  if_of : (c : Expr) (a b : List Stmt) (outer : Enclosing) (found made : Body) → stmt_checked states args (block.If c a b) outer found ≡ Ok made
+  if_of : (c : Expr) (a b : List Stmt) (outer : Enclosing) (found made : Body)
+      → stmt_checked states args (block.If c a b) outer found ≡ Ok made
       → IfParts c a b outer found made
   if_of c a b outer found made e =
       let is = sym (stmt_is states args (stmt.If c a b) (block.If c a b) (rolls-If c a b) outer found) ∙ e in
       let condition = found_first (condition_of (states ++ args) [] c) _ made is in
-      let one = found_first (in_order (map (stmt_checked states args) a) (inside states outer c condition.0) (record { statements = []; emit = found.emit })) _ made condition.2 in
-      let two = found_first (in_order (map (stmt_checked states args) b) (inside states outer c (typed.Not condition.0)) (record { statements = []; emit = one.0.emit })) _ made one.2 in
+      let one = found_first (in_order (map (stmt_checked states args) a) (inside states outer c condition.0)
+      (record { statements = []; emit = found.emit })) _ made condition.2 in
+      let two = found_first (in_order (map (stmt_checked states args) b) (inside states outer c (typed.Not condition.0))
+      (record { statements = []; emit = one.0.emit })) _ made one.2 in
       record {
         t = condition.0;
         p = one.0;
@@ -101,13 +110,15 @@ module _ (states args : List ℕ) where
         emit = ap (λ (z : Body). z.emit) (same_ok _ made two.2);
       }
 
-  at_statement : (before : List Expr) (ss : List Stmt) (around : List Expr) (s : Stmt) → StandsIn before ss around s → (outer : Enclosing) (found made : Body)
+  at_statement : (before : List Expr) (ss : List Stmt) (around : List Expr) (s : Stmt) → StandsIn before ss around s
+      → (outer : Enclosing) (found made : Body)
       → Clean before outer → in_order (map (stmt_checked states args) ss) outer found ≡ Ok made → AtStatement around s
   at_statement _ _ _ _ (parts.first around s rest) outer found made clean e =
       let f = found_first (stmt_checked states args s outer found) _ made e in
       record { outer = outer; found = found; made = f.0; clean = clean; is = f.1 }
   at_statement _ _ _ _ (parts.later before other rest around s h) outer found made clean e =
-      let f = found_first (stmt_checked states args other outer found) _ made e in at_statement before rest around s h outer f.0 made clean f.2
+      let f = found_first (stmt_checked states args other outer found) _ made e in at_statement before rest around s h outer f.0 made clean
+      f.2
   at_statement _ _ _ _ (parts.in_first before c a b rest around s h) outer found made clean e =
       let f = found_first (stmt_checked states args (block.If c a b) outer found) _ made e in
       let i = if_of c a b outer found f.0 f.1 in
@@ -117,7 +128,8 @@ module _ (states args : List ℕ) where
       let i = if_of c a b outer found f.0 f.1 in
       at_statement (c ∷ before) b around s h _ _ i.q (clean_inside before outer c (typed.Not i.t) clean) i.second
 
-  statement_meets : (known : List Known) (around : List Expr) (s : Stmt) (q : Demand) → AtStatement around s → StmtAsks states args around s q → Holds known q
+  statement_meets : (known : List Known) (around : List Expr) (s : Stmt) (q : Demand) → AtStatement around s
+      → StmtAsks states args around s q → Holds known q
   statement_meets known around _ _ h (of_target x e) =
       let is = sym (stmt_is states args (stmt.Assign x e) (block.Assign x e) (rolls-Assign x e) h.outer h.found) ∙ h.is in
       let target = found_first (target_of states args x) _ h.made is in
@@ -148,7 +160,8 @@ module _ (states args : List ℕ) where
   abbrev Kept : Type 0
   Kept = (s : Stmt) × Keeping s
 
-  block_keeps : (ss : List Kept) (outer : Enclosing) (found made : Body) → in_order (map (stmt_checked states args) (map (λ (s : Kept). s.0) ss)) outer found ≡ Ok made
+  block_keeps : (ss : List Kept) (outer : Enclosing) (found made : Body)
+      → in_order (map (stmt_checked states args) (map (λ (s : Kept). s.0) ss)) outer found ≡ Ok made
       → Keeps found made
   block_keeps [] outer found made e = λ some. sym (ap (λ (b : Body). is_some b.emit) (same_ok found made e)) ∙ some
   block_keeps (s ∷ ss) outer found made e =
@@ -156,25 +169,32 @@ module _ (states args : List ℕ) where
       λ some. block_keeps ss outer f.0 made f.2 (s.1 outer found f.0 f.1 some)
 
   keep_step : (y : stmt.Stmt-F Kept) (outer : Enclosing) (found made : Body)
-      → stmt_step states args (map-Stmt Stmt Adding (stmt_checked states args) (map-Stmt Kept Stmt (λ s. s.0) y)) outer found ≡ Ok made → Keeps found made
+      → stmt_step states args (map-Stmt Stmt Adding (stmt_checked states args) (map-Stmt Kept Stmt (λ s. s.0) y)) outer found ≡ Ok made
+      → Keeps found made
   keep_step (stmt.Assign x e) outer found made is =
       let target = found_first (target_of states args x) _ made is in
       let word = found_first (word_of (states ++ args) [] e) _ made target.2 in
       λ some. sym (ap (λ (b : Body). is_some b.emit) (same_ok _ made word.2)) ∙ some
   keep_step (stmt.If c a b) outer found made is =
       let condition = found_first (condition_of (states ++ args) [] c) _ made is in
-      let one = found_first (in_order (map (stmt_checked states args) (map (λ (s : Kept). s.0) a)) (inside states outer c condition.0) (record { statements = []; emit = found.emit })) _ made condition.2 in
-      let two = found_first (in_order (map (stmt_checked states args) (map (λ (s : Kept). s.0) b)) (inside states outer c (typed.Not condition.0)) (record { statements = []; emit = one.0.emit })) _ made one.2 in
-      λ some. sym (ap (λ (z : Body). is_some z.emit) (same_ok _ made two.2)) ∙ block_keeps b _ _ two.0 two.1 (block_keeps a _ _ one.0 one.1 some)
+      let one = found_first (in_order (map (stmt_checked states args) (map (λ (s : Kept). s.0) a)) (inside states outer c condition.0)
+      (record { statements = []; emit = found.emit })) _ made condition.2 in
+      let two = found_first (in_order (map (stmt_checked states args) (map (λ (s : Kept). s.0) b))
+      (inside states outer c (typed.Not condition.0)) (record { statements = []; emit = one.0.emit })) _ made one.2 in
+      λ some. sym (ap (λ (z : Body). is_some z.emit) (same_ok _ made two.2))
+      ∙ block_keeps b _ _ two.0 two.1 (block_keeps a _ _ one.0 one.1 some)
   keep_step (stmt.Emit span) outer found made is =
       let once = must_not_ok (is_some found.emit) WrongArity span _ made is in λ some. not_both (is_some found.emit) once.0 some
 
   stmt_keeps : (s : Stmt) → Keeping s
   stmt_keeps = ind-Stmt Keeping (λ x y is outer found made e.
-      let L : stmt.Stmt-F Stmt → Type 0 = λ z. stmt_step states args (map-Stmt Stmt Adding (stmt_checked states args) z) outer found ≡ Ok made → Keeps found made in
-      subst L is (keep_step y outer found made) (sym (ap (λ (g : Adding). g outer found) (fold-roll-Stmt Adding (stmt_step states args) x)) ∙ e))
+      let L : stmt.Stmt-F Stmt → Type 0 = λ z. stmt_step states args (map-Stmt Stmt Adding (stmt_checked states args) z) outer found ≡ Ok
+      made → Keeps found made in
+      subst L is (keep_step y outer found made) (sym (ap (λ (g : Adding). g outer found) (fold-roll-Stmt Adding (stmt_step states args) x))
+      ∙ e))
 
-  keeps : (ss : List Stmt) (outer : Enclosing) (found made : Body) → in_order (map (stmt_checked states args) ss) outer found ≡ Ok made → Keeps found made
+  keeps : (ss : List Stmt) (outer : Enclosing) (found made : Body) → in_order (map (stmt_checked states args) ss) outer found ≡ Ok made
+      → Keeps found made
   keeps [] outer found made e = λ some. sym (ap (λ (b : Body). is_some b.emit) (same_ok found made e)) ∙ some
   keeps (s ∷ ss) outer found made e =
       let f = found_first (stmt_checked states args s outer found) _ made e in
@@ -191,7 +211,8 @@ module _ (states args : List ℕ) where
       go true is = not_both (is_some made.emit) none (kept is)
       go false is = refl
 
-  emits : (before : List Expr) (ss : List Stmt) (around : List Expr) (s : Stmt) (span : Span) → StandsIn before ss around s → s ≡ block.Emit span
+  emits : (before : List Expr) (ss : List Stmt) (around : List Expr) (s : Stmt) (span : Span) → StandsIn before ss around s
+      → s ≡ block.Emit span
       → (outer : Enclosing) (found made : Body) → in_order (map (stmt_checked states args) ss) outer found ≡ Ok made → Emits found made
   emits _ _ _ _ span (parts.first around s rest) same outer found made e =
       let f = found_first (stmt_checked states args s outer found) _ made e in
@@ -219,7 +240,8 @@ module _ (states args : List ℕ) where
       → in_order (map (stmt_checked states args) ss) outer found ≡ Ok made → ⊥
   one_emit span _ (parts.beyond s rest around h stands) outer found made e =
       let f = found_first (stmt_checked states args s outer found) _ made e in
-      let alone : in_order (map (stmt_checked states args) (s ∷ [])) outer found ≡ Ok f.0 = ap (λ (c : Checked Body). and_then c (λ more. Ok more)) f.1 in
+      let alone : in_order (map (stmt_checked states args) (s ∷ [])) outer found ≡ Ok f.0 =
+      ap (λ (c : Checked Body). and_then c (λ more. Ok more)) f.1 in
       let one = emits [] (s ∷ []) h.0 (block.Emit h.1) h.1 h.2 refl outer found f.0 alone in
       let two = emits [] rest around (block.Emit span) span stands refl outer f.0 made f.2 in
       not_both (is_some f.0.emit) two.0 one.1
@@ -249,10 +271,12 @@ states_split (x ∷ front) s back = ap (λ (z : List ℕ). x.name.id ∷ z) (sta
 
 -- the body's check gives its typed form
 body_checks : (d : FoldDef) (f : TypedFold) (h : HasFold d f)
-    → in_order (map (stmt_checked (state_names_of d) (arg_names_of d)) d.body) (record { condition = None; state = None }) (record { statements = []; emit = None })
+    → in_order (map (stmt_checked (state_names_of d) (arg_names_of d)) d.body) (record { condition = None; state = None })
+    (record { statements = []; emit = None })
     ≡ Ok (record { statements = [] ++ h.body; emit = h.emit })
 body_checks d f h =
-    block_complete (state_names_of d) (arg_names_of d) [] d.body h.body (at_most_one h.emit) h.statements (record { condition = None; state = None })
+    block_complete (state_names_of d) (arg_names_of d) [] d.body h.body (at_most_one h.emit) h.statements
+    (record { condition = None; state = None })
     (record { statements = []; emit = None }) h.emit (nothing_around (state_names_of d)) refl
 
 pub fold_meets : (known : List Known) (d : FoldDef) (f : TypedFold) (q : Demand) → HasFold d f → FoldAsks d q → Holds known q
@@ -265,4 +289,5 @@ fold_meets known d f _ h (of_args front a back split) = few_before d.args front 
 fold_meets known d f _ h (of_statement around s q stands asked) =
     statement_meets (state_names_of d) (arg_names_of d) known around s q
     (at_statement (state_names_of d) (arg_names_of d) [] d.body around s stands _ _ _ (λ none. tt) (body_checks d f h)) asked
-fold_meets known d f _ h of_emits = λ span follows. one_emit (state_names_of d) (arg_names_of d) span d.body follows _ _ _ (body_checks d f h)
+fold_meets known d f _ h of_emits = λ span follows. one_emit (state_names_of d) (arg_names_of d) span d.body follows _ _ _
+    (body_checks d f h)

@@ -41,14 +41,16 @@ item_examples = record {
     is = refl;
   };
   printed_twice = λ one h. h.once.0 refl;
-  printed_fold = λ one h. no_fault h.table (record { kind = WrongKind; span = here }) (sym (table_complete before (called 10) h.table h.stands));
+  printed_fold = λ one h. no_fault h.table (record { kind = WrongKind; span = here })
+      (sym (table_complete before (called 10) h.table h.stands));
   binding_32 = record {
     made = _;
     binding = record { free = free_sound (known_in names (filters 31)) 50 refl; few = omega arith };
     typed = record {
       source = record { number = 0; columns = columns_of_packets; hidden = []; table = None };
       condition = typed.Binary Lt (typed.Number 0) (typed.Number 1);
-      stream = stream_sound (known_in names (filters 31)) (called 0) (record { number = 0; columns = columns_of_packets; hidden = []; table = None }) refl;
+      stream = stream_sound (known_in names (filters 31)) (called 0) (record
+          { number = 0; columns = columns_of_packets; hidden = []; table = None }) refl;
       typed = of_binary Lt here (Number 0 here) (Number 1 here) (typed.Number 0) (typed.Number 1) (of_number 0 here) (of_number 1 here) tt;
       is = refl;
     };

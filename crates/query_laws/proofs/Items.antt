@@ -15,10 +15,13 @@ use Rattle.query_lang.specs.Words.{IsWord}
 use Rattle.query_types.specs.Numbers.{greatest_number, greatest_in, columns_number, stream_number, final_number, item_number}
 use Rattle.query_grammar.specs.Language.{Language}
 use Rattle.query_grammar.specs.Kinds.{sign, keyword}
-use Rattle.query_grammar.specs.Grammar.{initial_of, StateVariable, Parameters, Fold, Filter, ColumnOf, Mapping, Streaming, Stream, Finishing, Final, Print, ItemOf}
+use Rattle.query_grammar.specs.Grammar.{initial_of, StateVariable, Parameters, Fold, Filter, ColumnOf, Mapping, Streaming, Stream}
+use Rattle.query_grammar.specs.Grammar.{Finishing, Final, Print, ItemOf}
 use Rattle.query_laws.specs.ValidLaws.{StartsAsWords, NumbersAreWords}
 use Rattle.query_laws.proofs.Tokens.{AreWordTokens, cut_words}
-use Rattle.query_laws.proofs.Holds.{HaveWords, leaves_have, both_have, Holds, any_holds, first_is_word, number_holds, then_holds, first_holds, second_holds, meaning_holds, either_holds, repeats, if_some, once_holds, after_holds, between_holds, parens_hold, brackets_hold, separated_holds, listed_holds}
+use Rattle.query_laws.proofs.Holds.{HaveWords, leaves_have, both_have, Holds, any_holds, first_is_word, number_holds, then_holds}
+use Rattle.query_laws.proofs.Holds.{first_holds, second_holds, meaning_holds, either_holds, repeats, if_some, once_holds, after_holds}
+use Rattle.query_laws.proofs.Holds.{between_holds, parens_hold, brackets_hold, separated_holds, listed_holds}
 use Rattle.query_laws.proofs.Numbers.{is_word_expr, greatest_word, expr_holds, block_holds, stmt_holds}
 
 -- ---- parts of items

@@ -48,7 +48,8 @@ stream_meets five known number groups name _ made _ h (asks.of_condition input e
 stream_meets five known number groups name _ made _ h (asks.of_mapped input new) = (h.source, h.stream)
 stream_meets five known number groups name _ made _ h (asks.of_columns input new source d is asked) =
     let S : StreamView → Type 0 = λ z. HasColumns (column_names z.columns) (column_names z.columns ++ z.hidden) new h.values in
-    columns_meet known (column_names source.columns) source.hidden new h.values d (subst S (one_stream known input h.source source h.stream is) h.typed) asked
+    columns_meet known (column_names source.columns) source.hidden new h.values d
+    (subst S (one_stream known input h.source source h.stream is) h.typed) asked
 stream_meets five known number groups name _ made _ h (asks.of_first first second) = (h.left, h.one)
 stream_meets five known number groups name _ made _ h (asks.of_second first second) = (h.right, h.other)
 stream_meets five known number groups name _ made _ h (asks.of_both first second left right p q) =
@@ -84,7 +85,8 @@ final_meets given known _ made _ h (asks.of_grouped input keys fold_name) = (h.s
 final_meets given known _ made _ h (asks.of_keys input keys fold_name source d is asked) =
     let five = five_fields given.fields in
     let S : TableView → Type 0 = λ z. HasKeys z.columns (key_ids five keys) h.slots in
-    keys_meet known source.columns [] (flat_map (key_names five) keys) h.slots d (subst S (one_table known input h.source source h.table is) h.picked) asked
+    keys_meet known source.columns [] (flat_map (key_names five) keys) h.slots d
+    (subst S (one_table known input h.source source h.table is) h.picked) asked
 final_meets given known _ made _ h (asks.of_fold input keys fold_name) = (h.f, h.fold, h.quiet)
 final_meets given known _ made _ h (asks.of_arguments input keys fold_name source f d is there asked) =
     let five = five_fields given.fields in
@@ -115,7 +117,8 @@ item_meets given names items _ one _ h (asks.of_fold d q asked) = fold_meets (kn
 item_meets given names items _ one _ h (asks.of_stream_name d) = h.binding.free
 item_meets given names items _ one _ h (asks.of_one_stream d) = h.binding.few
 item_meets given names items _ one _ h (asks.of_stream d q asked) =
-    stream_meets (five_fields given.fields) (known_in names items) (length (streams_in items) + 1) (groups_in items) d.name d.op h.made q h.typed asked
+    stream_meets (five_fields given.fields) (known_in names items) (length (streams_in items) + 1) (groups_in items) d.name d.op h.made q
+    h.typed asked
 item_meets given names items _ one _ h (asks.of_final_name d) = h.binding.free
 item_meets given names items _ one _ h (asks.of_one_final d) = h.binding.few
 item_meets given names items _ one _ h (asks.of_final d q asked) = final_meets given (known_in names items) d.op h.made q h.typed asked

@@ -1,5 +1,6 @@
 -- What is asked of an expression, of new columns, of keys and of arguments is so where they are typed.
-use Rattle.std.proofs.Common.{◌≡◌, ℕ, ◌<◌, ◌≤◌, List, [], ◌∷◌, ◌++◌, length, map, Ok, refl, sym, ap, subst, ◌∙◌, append_assoc, append-nil, arith}
+use Rattle.std.proofs.Common.{◌≡◌, ℕ, ◌<◌, ◌≤◌, List, [], ◌∷◌, ◌++◌, length, map, Ok, refl, sym, ap, subst, ◌∙◌, append_assoc, append-nil}
+use Rattle.std.proofs.Common.{arith}
 use Rattle.std.proofs.lemmas.List.{length-append, length-map}
 use Rattle.query_lang.specs.declared.fault.FaultKind.TheVariants.{WrongKind}
 use Rattle.query_lang.specs.declared.fault.Span.{Span}
@@ -14,7 +15,8 @@ use Rattle.query_lang.specs.declared.typing.Found.{Found}
 use Rattle.query_lang.specs.declared.typing.Known.{Known}
 use Rattle.query_lang.specs.Checks.{and_then, collected}
 use Rattle.query_lang.specs.TypedExprs.{slot_of, is_condition_sort, of_two, call_of, negated, expr_checked}
-use Rattle.query_laws.specs.Asked.{ExprAsks, of_part, of_name, of_call, of_right, of_second, ColumnsAsk, of_value, KeysAsk, of_key, of_new, of_limit, ArgumentsAsk, of_argument, of_states, ids_of}
+use Rattle.query_laws.specs.Asked.{ExprAsks, of_part, of_name, of_call, of_right, of_second, ColumnsAsk, of_value, KeysAsk, of_key, of_new}
+use Rattle.query_laws.specs.Asked.{of_limit, ArgumentsAsk, of_argument, of_states, ids_of}
 use Rattle.query_laws.specs.Asked as asks
 use Rattle.query_laws.specs.Demands.{IsOneOf, HasPart, Demand, Holds}
 use Rattle.query_laws.specs.Demands as parts
@@ -48,7 +50,8 @@ record Both (columns : List ℕ) (op : Op) (a b : Expr) : Type 0 where
 both_of : (columns : List ℕ) (op : Op) (a b : Expr) (x y found : Found) → Operands columns op a b x y found → Both columns op a b
 both_of columns op a b x y found h = record { first = (x.tree, h.first); second = (y.tree, h.second); constant = h.constant }
 
-of_not : (columns : List ℕ) (k : Kind) (span : Span) (e : Expr) (t : TypedExpr) → HasKind columns k (whole.Not span e) t → HasForm columns Condition e
+of_not : (columns : List ℕ) (k : Kind) (span : Span) (e : Expr) (t : TypedExpr) → HasKind columns k (whole.Not span e) t
+    → HasForm columns Condition e
 of_not columns k span e t h =
     let g = complete columns [] k (whole.Not span e) t h in
     let first = found_first (expr_checked columns [] e) (negated span) g.found (sym (not_is columns [] span e) ∙ g.is) in
@@ -56,13 +59,16 @@ of_not columns k span e t h =
     let K : Kind → Type 0 = λ z. HasKind columns z e first.0.tree in
     (first.0.tree, subst K (condition_kind first.0.sort one.0) (expr_sound columns [] e first.0 first.1).rule)
 
-of_binary : (columns : List ℕ) (k : Kind) (op : Op) (span : Span) (a b : Expr) (t : TypedExpr) → HasKind columns k (whole.Binary op span a b) t → Both columns op a b
+of_binary : (columns : List ℕ) (k : Kind) (op : Op) (span : Span) (a b : Expr) (t : TypedExpr)
+    → HasKind columns k (whole.Binary op span a b) t → Both columns op a b
 of_binary columns k op span a b t h =
     let g = complete columns [] k (whole.Binary op span a b) t h in
-    let first = found_first (expr_checked columns [] a) (λ x. and_then (expr_checked columns [] b) (λ y. of_two op x.at x y)) g.found (sym (binary_is columns [] op span a b) ∙ g.is) in
+    let first = found_first (expr_checked columns [] a) (λ x. and_then (expr_checked columns [] b) (λ y. of_two op x.at x y)) g.found
+    (sym (binary_is columns [] op span a b) ∙ g.is) in
     let second = found_first (expr_checked columns [] b) (λ y. of_two op first.0.at first.0 y) g.found first.2 in
     both_of columns op a b first.0 second.0 g.found (
-    two columns op first.0.at a b first.0 second.0 g.found (expr_sound columns [] a first.0 first.1) (expr_sound columns [] b second.0 second.1) second.2)
+    two columns op first.0.at a b first.0 second.0 g.found (expr_sound columns [] a first.0 first.1)
+    (expr_sound columns [] b second.0 second.1) second.2)
 
 -- the arguments of a function
 record Pair (columns : List ℕ) (op : Op) (es : List Expr) : Type 0 where
@@ -71,7 +77,8 @@ record Pair (columns : List ℕ) (op : Op) (es : List Expr) : Type 0 where
   pub are : es ≡ a ∷ b ∷ []
   pub both : Both columns op a b
 
-pair_of : (columns : List ℕ) (op : Op) (span : Span) (es : List Expr) (fs : List Found) (found : Found) → Each columns [] es fs → call_of op span fs ≡ Ok found → Pair columns op es
+pair_of : (columns : List ℕ) (op : Op) (span : Span) (es : List Expr) (fs : List Found) (found : Found) → Each columns [] es fs
+    → call_of op span fs ≡ Ok found → Pair columns op es
 pair_of columns op span [] [] found all e = cc e
 pair_of columns op span [] (f ∷ fs) found all e = absurd all
 pair_of columns op span (a ∷ es) [] found all e = absurd all
@@ -82,16 +89,19 @@ pair_of columns op span (a ∷ b ∷ []) (f ∷ g ∷ []) found all e = record {
   a = a;
   b = b;
   are = refl;
-  both = both_of columns op a b f g found (two columns op span a b f g found (expr_sound columns [] a f all.0) (expr_sound columns [] b g all.1.0) e);
+  both = both_of columns op a b f g found (two columns op span a b f g found (expr_sound columns [] a f all.0)
+      (expr_sound columns [] b g all.1.0) e);
 }
 pair_of columns op span (a ∷ b ∷ []) (f ∷ g ∷ h ∷ fs) found all e = absurd all.1.1
 pair_of columns op span (a ∷ b ∷ c ∷ es) (f ∷ g ∷ []) found all e = absurd all.1.1
 pair_of columns op span (a ∷ b ∷ c ∷ es) (f ∷ g ∷ h ∷ fs) found all e = cc e
 
-of_function : (columns : List ℕ) (k : Kind) (op : Op) (span : Span) (es : List Expr) (t : TypedExpr) → HasKind columns k (whole.Call op span es) t → Pair columns op es
+of_function : (columns : List ℕ) (k : Kind) (op : Op) (span : Span) (es : List Expr) (t : TypedExpr)
+    → HasKind columns k (whole.Call op span es) t → Pair columns op es
 of_function columns k op span es t h =
     let g = complete columns [] k (whole.Call op span es) t h in
-    let first = found_first (collected [] (map (expr_checked columns []) es)) (call_of op span) g.found (sym (call_is columns [] op span es) ∙ g.is) in
+    let first = found_first (collected [] (map (expr_checked columns []) es)) (call_of op span) g.found
+    (sym (call_is columns [] op span es) ∙ g.is) in
     let all = collected_each columns [] es [] first.0 first.1 in
     pair_of columns op span es all.0 g.found all.2 (ap (call_of op span) (sym all.1) ∙ first.2)
 
@@ -99,15 +109,19 @@ same_second : (a b x y : Expr) → (a ∷ b ∷ []) ≡ (x ∷ y ∷ []) → y �
 same_second a b x y e = sym (cc e)
 
 -- each part of a typed expression is typed
-part_typed : (columns : List ℕ) (k : Kind) (e : Expr) (l : Kind) (part : Expr) → HasForm columns k e → HasPart k e l part → HasForm columns l part
+part_typed : (columns : List ℕ) (k : Kind) (e : Expr) (l : Kind) (part : Expr) → HasForm columns k e → HasPart k e l part
+    → HasForm columns l part
 part_typed columns _ _ _ _ h (parts.whole k e) = h
 part_typed columns _ _ _ _ h (parts.of_not k span e l part p) = part_typed columns Condition e l part (of_not columns k span e h.0 h.1) p
-part_typed columns _ _ _ _ h (parts.of_left k op span a b l part p) = part_typed columns (operand_kind op) a l part (of_binary columns k op span a b h.0 h.1).first p
-part_typed columns _ _ _ _ h (parts.of_right k op span a b l part p) = part_typed columns (operand_kind op) b l part (of_binary columns k op span a b h.0 h.1).second p
+part_typed columns _ _ _ _ h (parts.of_left k op span a b l part p) = part_typed columns (operand_kind op) a l part
+    (of_binary columns k op span a b h.0 h.1).first p
+part_typed columns _ _ _ _ h (parts.of_right k op span a b l part p) =
+    part_typed columns (operand_kind op) b l part (of_binary columns k op span a b h.0 h.1).second p
 part_typed columns _ _ _ _ h (parts.of_argument k op span es a l part i p) =
     let c = of_function columns k op span es h.0 h.1 in
     let E : List Expr → Type 0 = λ z. EachIs (HasForm columns (operand_kind op)) z in
-    part_typed columns (operand_kind op) a l part (one_is (HasForm columns (operand_kind op)) a es i (subst E (sym c.are) (c.both.first, (c.both.second, tt)))) p
+    part_typed columns (operand_kind op) a l part (one_is (HasForm columns (operand_kind op)) a es i
+    (subst E (sym c.are) (c.both.first, (c.both.second, tt)))) p
 
 named_stands : (columns : List ℕ) (k : Kind) (x : Name) → HasForm columns k (whole.Named x) → (slot : ℕ) × StandsAt columns slot x.id
 named_stands columns k x h =
@@ -115,7 +129,8 @@ named_stands columns k x h =
     let slot = found_first (slot_of columns [] x) _ g.found (sym (named_is columns [] x) ∙ g.is) in
     (slot.0, slot_stands columns [] x slot.0 slot.1)
 
-pub expr_meets : (known : List Known) (columns hidden : List ℕ) (k : Kind) (e : Expr) (d : Demand) → HasForm columns k e → ExprAsks columns hidden k e d → Holds known d
+pub expr_meets : (known : List Known) (columns hidden : List ℕ) (k : Kind) (e : Expr) (d : Demand) → HasForm columns k e
+    → ExprAsks columns hidden k e d → Holds known d
 expr_meets known columns hidden k e _ h (of_part l part p) = part_typed columns k e l part h p
 expr_meets known columns hidden k e _ h (of_name l x p) = named_stands columns l x (part_typed columns k e l (whole.Named x) h p)
 expr_meets known columns hidden k e _ h (of_call l op span es p) =
@@ -141,12 +156,14 @@ pub ids_split : (front : List Name) (x : Name) (back : List Name) → ids_of (fr
 ids_split [] x back = refl
 ids_split (y ∷ front) x back = ap (λ (z : List ℕ). y.id ∷ z) (ids_split front x back)
 
-pub names_new : (before : List ℕ) (all front : List Name) (x : Name) (back : List Name) → all ≡ front ++ x ∷ back → AreNew before (ids_of all) → IsNew x.id (before ++ ids_of front)
+pub names_new : (before : List ℕ) (all front : List Name) (x : Name) (back : List Name) → all ≡ front ++ x ∷ back
+    → AreNew before (ids_of all) → IsNew x.id (before ++ ids_of front)
 names_new before all front x back split h =
     let N : List ℕ → Type 0 = λ z. AreNew before z in
     new_at before (ids_of front) x.id (ids_of back) (subst N (ap ids_of split ∙ ids_split front x back) h)
 
-pub few_before : {A : Type 0} (all front : List A) (x : A) (back : List A) (n : ℕ) → all ≡ front ++ x ∷ back → length all ≤ n → length front < n
+pub few_before : {A : Type 0} (all front : List A) (x : A) (back : List A) (n : ℕ) → all ≡ front ++ x ∷ back → length all ≤ n
+    → length front < n
 few_before all front x back n split few = let long = ap length split ∙ length-append front (x ∷ back) in omega (arith, long, few)
 
 -- ---- new columns
@@ -154,7 +171,8 @@ few_before all front x back n split few = let long = ap length split ∙ length-
 abbrev AtColumn : List ℕ → List ℕ → Column → Type 0
 AtColumn columns taken c = IsNew c.name.id taken × HasForm columns Word c.value
 
-column_at : (columns taken : List ℕ) (front : List Column) (c : Column) (back : List Column) (values : List TypedExpr) → HasColumns columns taken (front ++ c ∷ back) values
+column_at : (columns taken : List ℕ) (front : List Column) (c : Column) (back : List Column) (values : List TypedExpr)
+    → HasColumns columns taken (front ++ c ∷ back) values
     → AtColumn columns (taken ++ new_names front) c
 column_at columns taken [] c back [] h = absurd h
 column_at columns taken [] c back (v ∷ values) h =
@@ -164,7 +182,8 @@ column_at columns taken (x ∷ front) c back (v ∷ values) h =
     let A : List ℕ → Type 0 = λ z. AtColumn columns z c in
     subst A (append_assoc taken (x.name.id ∷ []) (new_names front)) (column_at columns (taken ++ x.name.id ∷ []) front c back values h.2)
 
-pub columns_meet : (known : List Known) (columns hidden : List ℕ) (new : List Column) (values : List TypedExpr) (d : Demand) → HasColumns columns (columns ++ hidden) new values
+pub columns_meet : (known : List Known) (columns hidden : List ℕ) (new : List Column) (values : List TypedExpr) (d : Demand)
+    → HasColumns columns (columns ++ hidden) new values
     → ColumnsAsk columns hidden new d → Holds known d
 columns_meet known columns hidden new values _ h (asks.of_name front c back split) =
     let C : List Column → Type 0 = λ z. HasColumns columns (columns ++ hidden) z values in
@@ -176,13 +195,15 @@ columns_meet known columns hidden new values _ h (of_value front c back d split 
 
 -- ---- keys and arguments
 
-slot_at : (columns front : List ℕ) (id : ℕ) (back slots : List ℕ) → HasSlots columns (front ++ id ∷ back) slots → (slot : ℕ) × StandsAt columns slot id
+slot_at : (columns front : List ℕ) (id : ℕ) (back slots : List ℕ) → HasSlots columns (front ++ id ∷ back) slots → (slot : ℕ)
+    × StandsAt columns slot id
 slot_at columns [] id back [] h = absurd h
 slot_at columns [] id back (slot ∷ slots) h = (slot, h.0)
 slot_at columns (x ∷ front) id back [] h = absurd h
 slot_at columns (x ∷ front) id back (slot ∷ slots) h = slot_at columns front id back slots h.1
 
-pub keys_meet : (known : List Known) (columns hidden : List ℕ) (keys : List Name) (slots : List ℕ) (d : Demand) → HasKeys columns (ids_of keys) slots
+pub keys_meet : (known : List Known) (columns hidden : List ℕ) (keys : List Name) (slots : List ℕ) (d : Demand)
+    → HasKeys columns (ids_of keys) slots
     → KeysAsk columns hidden keys d → Holds known d
 keys_meet known columns hidden keys slots _ h (of_key front key back split) =
     let S : List ℕ → Type 0 = λ z. HasSlots columns z slots in
@@ -192,7 +213,8 @@ keys_meet known columns hidden keys slots _ h (of_limit front key back split) =
     let long = length-map keys (λ (n : Name). n.id) in
     few_before keys front key back 8 split (omega (arith, h.few, long))
 
-pub arguments_meet : (known : List Known) (columns hidden keys : List ℕ) (f : FoldView) (span : Span) (slots : List ℕ) (d : Demand) → HasArguments columns keys f slots
+pub arguments_meet : (known : List Known) (columns hidden keys : List ℕ) (f : FoldView) (span : Span) (slots : List ℕ) (d : Demand)
+    → HasArguments columns keys f slots
     → ArgumentsAsk columns hidden keys f span d → Holds known d
 arguments_meet known columns hidden keys f span slots _ h (of_argument front id back split) =
     let S : List ℕ → Type 0 = λ z. HasSlots columns z slots in slot_at columns front id back slots (subst S split h.places)

@@ -1,5 +1,6 @@
 -- What a fault at the name of an item, at a new column, at a key and at a fold's arguments says.
-use Rattle.std.proofs.Common.{◌≡◌, ℕ, suc, ◌≤◌, true, false, ◌||◌, List, [], ◌∷◌, ◌++◌, length, map, Option, Some, None, Ok, Err, refl, sym, ap, subst, ◌∙◌, append_assoc, inl, inr, arith}
+use Rattle.std.proofs.Common.{◌≡◌, ℕ, suc, ◌≤◌, true, false, ◌||◌, List, [], ◌∷◌, ◌++◌, length, map, Option, Some, None, Ok, Err, refl, sym}
+use Rattle.std.proofs.Common.{ap, subst, ◌∙◌, append_assoc, inl, inr, arith}
 use Rattle.std.specs.Prelude.{is_some, nat_lt}
 use Rattle.std.specs.List.{list_any}
 use Rattle.query_lang.specs.declared.fault.FaultKind.TheVariants.{UnknownName, NameTaken, WrongKind, OverLimit}
@@ -20,7 +21,8 @@ use Rattle.query_lang.specs.Checks.{Checked, and_then, must_not, collected, is_a
 use Rattle.query_lang.specs.TypedExprs.{slot_of, word_of}
 use Rattle.query_lang.specs.TypedStreams.{meaning_of, as_stream, stream_named, as_fold, fold_named, new_columns, keys_from, arguments_of}
 use Rattle.query_lang.specs.TypedFinals.{table_at, as_table, table_named, quiet_fold}
-use Rattle.query_laws.specs.Asked.{ColumnsAsk, of_name, of_value, KeysAsk, of_key, of_new, of_limit, ArgumentsAsk, of_argument, of_states, ids_of}
+use Rattle.query_laws.specs.Asked.{ColumnsAsk, of_name, of_value, KeysAsk, of_key, of_new, of_limit, ArgumentsAsk, of_argument, of_states}
+use Rattle.query_laws.specs.Asked.{ids_of}
 use Rattle.query_laws.specs.Context.{IsFree}
 use Rattle.query_laws.specs.Demands.{AStream, ATable, AFold, AQuietFold, Sought, IsSought, Stands, AColumn, New, Fewer, Apart, Tells}
 use Rattle.query_laws.specs.FoldRules.{IsNew}
@@ -34,24 +36,29 @@ use Rattle.query_laws.proofs.NameLaws.{meaning_complete, free_sound, free_comple
 abbrev StandsTold : List Known → Sought → Name → QueryFault → Type 0
 StandsTold known sought x fault = Tells known fault.kind fault.span (Stands sought x)
 
-unknown_told : (known : List Known) (sought : Sought) (x : Name) (fault : QueryFault) → meaning_of known x.id ≡ None → at_span UnknownName x.span ≡ fault
+unknown_told : (known : List Known) (sought : Sought) (x : Name) (fault : QueryFault) → meaning_of known x.id ≡ None
+    → at_span UnknownName x.span ≡ fault
     → StandsTold known sought x fault
-unknown_told known sought x fault is e = told known (Stands sought x) UnknownName x.span fault e (refl, free_sound known x.id (ap is_some is))
+unknown_told known sought x fault is e = told known (Stands sought x) UnknownName x.span fault e
+    (refl, free_sound known x.id (ap is_some is))
 
 pub not_free : (known : List Known) (id : ℕ) (m : Meaning) → meaning_of known id ≡ Some m → IsFree known id → ⊥
 not_free known id m is free = not_both (is_some (meaning_of known id)) (free_complete known id free) (ap is_some is)
 
-other_told : (known : List Known) (sought : Sought) (x : Name) (fault : QueryFault) (m : Meaning) → meaning_of known x.id ≡ Some m → (IsSought known sought x.id → ⊥)
+other_told : (known : List Known) (sought : Sought) (x : Name) (fault : QueryFault) (m : Meaning) → meaning_of known x.id ≡ Some m
+    → (IsSought known sought x.id → ⊥)
     → at_span WrongKind x.span ≡ fault → StandsTold known sought x fault
 other_told known sought x fault m is none e = told known (Stands sought x) WrongKind x.span fault e (refl, not_free known x.id m is, none)
 
 pub one_meaning : (known : List Known) (id : ℕ) (m n : Meaning) → meaning_of known id ≡ Some m → meaning_of known id ≡ Some n → m ≡ n
 one_meaning known id m n p q = let both : (let o : Option Meaning = Some m in o) ≡ Some n = sym p ∙ q in cc both
 
-no_stream : (known : List Known) (id : ℕ) (m : Meaning) → meaning_of known id ≡ Some m → ((s : StreamView) → m ≡ meaning.Stream s → ⊥) → IsSought known AStream id → ⊥
+no_stream : (known : List Known) (id : ℕ) (m : Meaning) → meaning_of known id ≡ Some m → ((s : StreamView) → m ≡ meaning.Stream s → ⊥)
+    → IsSought known AStream id → ⊥
 no_stream known id m is none h = none h.0 (one_meaning known id m _ is (meaning_complete known id (meaning.Stream h.0) h.1))
 
-no_fold : (known : List Known) (id : ℕ) (m : Meaning) → meaning_of known id ≡ Some m → ((f : FoldView) → m ≡ meaning.Fold f → ⊥) → IsSought known AFold id → ⊥
+no_fold : (known : List Known) (id : ℕ) (m : Meaning) → meaning_of known id ≡ Some m → ((f : FoldView) → m ≡ meaning.Fold f → ⊥)
+    → IsSought known AFold id → ⊥
 no_fold known id m is none h = none h.0 (one_meaning known id m _ is (meaning_complete known id (meaning.Fold h.0) h.1))
 
 pub stream_told : (known : List Known) (x : Name) (fault : QueryFault) → stream_named known x ≡ Err fault → StandsTold known AStream x fault
@@ -61,7 +68,8 @@ stream_told known x fault e = go (meaning_of known x.id) refl e
     go None is e = unknown_told known AStream x fault is (same_fault _ fault e)
     go (Some (meaning.Stream s)) is e = no_fault s fault e
     go (Some (meaning.Fold f)) is e = other_told known AStream x fault _ is (no_stream known x.id _ is (λ s k. cc k)) (same_fault _ fault e)
-    go (Some (meaning.Final t)) is e = other_told known AStream x fault _ is (no_stream known x.id _ is (λ s k. cc k)) (same_fault _ fault e)
+    go (Some (meaning.Final t)) is e = other_told known AStream x fault _ is (no_stream known x.id _ is (λ s k. cc k))
+        (same_fault _ fault e)
 
 pub fold_told : (known : List Known) (x : Name) (fault : QueryFault) → fold_named known x ≡ Err fault → StandsTold known AFold x fault
 fold_told known x fault e = go (meaning_of known x.id) refl e
@@ -75,7 +83,8 @@ fold_told known x fault e = go (meaning_of known x.id) refl e
 no_table : (known : List Known) (id : ℕ) (m : Meaning) → meaning_of known id ≡ Some m → ((t : TableView) → m ≡ meaning.Final t → ⊥)
     → ((s : StreamView) (t : TableView) → m ≡ meaning.Stream s → s.table ≡ Some t → ⊥) → IsSought known ATable id → ⊥
 no_table known id m is final group (t, inl h) = final t (one_meaning known id m _ is (meaning_complete known id (meaning.Final t) h))
-no_table known id m is final group (t, inr h) = group h.0 t (one_meaning known id m _ is (meaning_complete known id (meaning.Stream h.0) h.1)) h.2
+no_table known id m is final group (t, inr h) = group h.0 t (one_meaning known id m _ is
+    (meaning_complete known id (meaning.Stream h.0) h.1)) h.2
 
 same_stream : (s r : StreamView) → meaning.Stream s ≡ meaning.Stream r → s ≡ r
 same_stream s r e = cc e
@@ -83,11 +92,13 @@ same_stream s r e = cc e
 pub table_told : (known : List Known) (x : Name) (fault : QueryFault) → table_named known x ≡ Err fault → StandsTold known ATable x fault
 table_told known x fault e = go (meaning_of known x.id) refl e
   where
-    at_stream : (s : StreamView) → meaning_of known x.id ≡ Some (meaning.Stream s) → (o : Option TableView) → s.table ≡ o → table_at o x.span ≡ Err fault
+    at_stream : (s : StreamView) → meaning_of known x.id ≡ Some (meaning.Stream s) → (o : Option TableView) → s.table ≡ o
+        → table_at o x.span ≡ Err fault
         → StandsTold known ATable x fault
     at_stream s is None none e =
         other_told known ATable x fault _ is (no_table known x.id _ is (λ t k. cc k)
-        (λ r t k there. let both : (let o : Option TableView = None in o) ≡ Some t = sym none ∙ ap (λ (z : StreamView). z.table) (same_stream s r k) ∙ there in cc both))
+        (λ r t k there. let both : (let o : Option TableView = None in o) ≡ Some t = sym none
+        ∙ ap (λ (z : StreamView). z.table) (same_stream s r k) ∙ there in cc both))
         (same_fault _ fault e)
     at_stream s is (Some t) some e = no_fault t fault e
 
@@ -110,11 +121,13 @@ quiet_told known x fault e = go (meaning_of known x.id) refl e
         let one : f ≡ h.0 = cc same in
         not_both f.emits (ap (λ (z : FoldView). z.emits) one ∙ h.2) emits
 
-    go : (o : Option Meaning) → meaning_of known x.id ≡ o → and_then (as_fold o x.span) (λ f. must_not f.emits WrongKind x.span (Ok f)) ≡ Err fault
+    go : (o : Option Meaning) → meaning_of known x.id ≡ o → and_then (as_fold o x.span) (λ f. must_not f.emits WrongKind x.span (Ok f))
+        ≡ Err fault
         → StandsTold known AQuietFold x fault
     go None is e = unknown_told known AQuietFold x fault is (same_fault _ fault e)
     go (Some (meaning.Fold f)) is e =
-        by_must_not f.emits WrongKind x.span _ fault e (λ emits same. other_told known AQuietFold x fault _ is (loud f is emits) same) (λ no e. no_fault f fault e)
+        by_must_not f.emits WrongKind x.span _ fault e (λ emits same. other_told known AQuietFold x fault _ is (loud f is emits) same)
+        (λ no e. no_fault f fault e)
     go (Some (meaning.Stream s)) is e = other_told known AQuietFold x fault _ is (none _ is (λ f k. cc k)) (same_fault _ fault e)
     go (Some (meaning.Final t)) is e = other_told known AQuietFold x fault _ is (none _ is (λ f k. cc k)) (same_fault _ fault e)
 
@@ -129,18 +142,26 @@ pub columns_told : (columns hidden : List ℕ) (all front new : List Column) (ma
     → Broken (ColumnsAsk columns hidden all) known fault
 columns_told columns hidden all front [] made known fault split same e = no_fault made fault e
 columns_told columns hidden all front (c ∷ new) made known fault split same e =
-    by_must_not (is_among c.name.id columns || (is_among c.name.id hidden || is_among c.name.id made.names)) NameTaken c.name.span _ fault e (λ among at.
+    by_must_not (is_among c.name.id columns || (is_among c.name.id hidden || is_among c.name.id made.names)) NameTaken c.name.span _ fault e
+    (λ among at.
     let N : List ℕ → Type 0 = λ z. IsNew c.name.id (columns ++ (hidden ++ z)) in
     record {
       demand = New (columns ++ (hidden ++ new_names front)) c.name.id c.name.span;
       asks = of_name front c new split;
-      tells = told known (New (columns ++ (hidden ++ new_names front)) c.name.id c.name.span) NameTaken c.name.span fault at
-          (refl, λ fresh. not_new c.name.id (columns ++ (hidden ++ made.names)) (taken_is c.name.id columns hidden made.names ∙ among) (subst N (sym same) fresh));
+      tells = told known (New (columns ++ (hidden ++ new_names front)) c.name.id c.name.span) NameTaken c.name.span fault at (
+        refl,
+        λ fresh. not_new c.name.id (columns ++ (hidden ++ made.names)) (taken_is c.name.id columns hidden made.names ∙ among)
+            (subst N (sym same) fresh),
+      );
     }) (λ none e.
     by_next (word_of columns hidden c.value) _ fault e (λ is.
     let b = word_told columns hidden c.value fault is in
     record { demand = b.demand; asks = of_value front c new b.demand split b.asks; tells = b.tells known }) (λ value is e.
-    columns_told columns hidden all (front ++ c ∷ []) new (record { names = made.names ++ c.name.id ∷ []; values = made.values ++ value ∷ [] }) known fault
+    columns_told columns hidden all (front ++ c ∷ []) new (record {
+      names = made.names ++ c.name.id ∷ [];
+      values = made.values ++ value
+          ∷ [];
+    }) known fault
     (split ∙ sym (append_assoc front (c ∷ []) new)) (ap (λ (z : List ℕ). z ++ c.name.id ∷ []) same ∙ sym (new_names_last front c)) e))
 
 -- ---- keys
@@ -179,23 +200,28 @@ keys_told columns hidden all front (key ∷ keys) found known fault split same e
     record {
       demand = Fewer Keys (length front) key.span;
       asks = of_limit front key keys split;
-      tells = told known (Fewer Keys (length front) key.span) (OverLimit Keys) key.span fault at (refl, refl, at_least (length found.names) (length front) 8 long full);
+      tells = told known (Fewer Keys (length front) key.span) (OverLimit Keys) key.span fault at
+          (refl, refl, at_least (length found.names) (length front) 8 long full);
     }) (λ few e.
-    keys_told columns hidden all (front ++ key ∷ []) keys (record { names = found.names ++ key.id ∷ []; slots = found.slots ++ slot ∷ [] }) known fault
+    keys_told columns hidden all (front ++ key ∷ []) keys (record { names = found.names ++ key.id ∷ []; slots = found.slots ++ slot ∷ [] })
+    known fault
     (split ∙ sym (append_assoc front (key ∷ []) keys)) (ap (λ (z : List ℕ). z ++ key.id ∷ []) same ∙ sym (ids_last front key)) e)))
 
 -- ---- arguments
 
-argument_told : (columns hidden keys : List ℕ) (f : FoldView) (span : Span) (front ids before : List ℕ) (known : List Known) (fault : QueryFault)
+argument_told : (columns hidden keys : List ℕ) (f : FoldView) (span : Span) (front ids before : List ℕ) (known : List Known)
+    (fault : QueryFault)
     → f.args ≡ front ++ ids → collected before (map (slot_for columns hidden span) ids) ≡ Err fault
     → Broken (ArgumentsAsk columns hidden keys f span) known fault
 argument_told columns hidden keys f span front [] before known fault split e = no_fault before fault e
 argument_told columns hidden keys f span front (id ∷ ids) before known fault split e =
     go (slot_for columns hidden span id) refl (λ x k.
-    argument_told columns hidden keys f span (front ++ id ∷ []) ids (before ++ x ∷ []) known fault (split ∙ sym (append_assoc front (id ∷ []) ids)) k) e
+    argument_told columns hidden keys f span (front ++ id ∷ []) ids (before ++ x ∷ []) known fault
+    (split ∙ sym (append_assoc front (id ∷ []) ids)) k) e
   where
     go : (c : Checked ℕ) → slot_for columns hidden span id ≡ c
-        → ((x : ℕ) → collected (before ++ x ∷ []) (map (slot_for columns hidden span) ids) ≡ Err fault → Broken (ArgumentsAsk columns hidden keys f span) known fault)
+        → ((x : ℕ) → collected (before ++ x ∷ []) (map (slot_for columns hidden span) ids) ≡ Err fault
+        → Broken (ArgumentsAsk columns hidden keys f span) known fault)
         → collected before (c ∷ map (slot_for columns hidden span) ids) ≡ Err fault
         → Broken (ArgumentsAsk columns hidden keys f span) known fault
     go (Ok x) is next e = next x e
@@ -214,5 +240,6 @@ arguments_told columns hidden keys f span known fault e =
     by_must_not (list_any (λ state. is_among state keys) f.states) NameTaken span _ fault e (λ among at. record {
       demand = Apart f.states keys span;
       asks = of_states;
-      tells = told known (Apart f.states keys span) NameTaken span fault at (refl, λ apart. not_both _ (apart_complete f.states keys apart) among);
+      tells = told known (Apart f.states keys span) NameTaken span fault at
+          (refl, λ apart. not_both _ (apart_complete f.states keys apart) among);
     }) (λ none e. no_fault slots fault e))

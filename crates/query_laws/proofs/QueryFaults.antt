@@ -1,5 +1,6 @@
 -- What a query's fault says.
-use Rattle.std.proofs.Common.{◌≡◌, ℕ, suc, ◌+◌, true, false, List, [], ◌∷◌, ◌++◌, length, Ok, Err, refl, sym, ap, subst, ◌∙◌, inl, inr, ◌⊎◌, arith}
+use Rattle.std.proofs.Common.{◌≡◌, ℕ, suc, ◌+◌, true, false, List, [], ◌∷◌, ◌++◌, length, Ok, Err, refl, sym, ap, subst, ◌∙◌, inl, inr, ◌⊎◌}
+use Rattle.std.proofs.Common.{arith}
 use Rattle.std.specs.Prelude.{is_some, nat_lt}
 use Rattle.query_lang.specs.declared.fault.FaultKind.{FaultKind}
 use Rattle.query_lang.specs.declared.fault.FaultKind.TheVariants as kinds
@@ -19,7 +20,8 @@ use Rattle.query_lang.specs.TypedFinals.{table_named, five_fields, made_final}
 use Rattle.query_lang.specs.TypedFolds.{fold_checked}
 use Rattle.query_lang.specs.TypedStreams.{meaning_of, begun, made_stream}
 use Rattle.query_lang.specs.Typing.{item_checked, items_checked, ended, start_of, checked, typed_names, given_of}
-use Rattle.query_laws.specs.Asked.{ItemAsks, of_fold_name, of_fold, of_stream_name, of_one_stream, of_stream, of_final_name, of_one_final, of_final, of_print, of_once}
+use Rattle.query_laws.specs.Asked.{ItemAsks, of_fold_name, of_fold, of_stream_name, of_one_stream, of_stream, of_final_name, of_one_final}
+use Rattle.query_laws.specs.Asked.{of_final, of_print, of_once}
 use Rattle.query_laws.specs.Context.{Entry, streams_in, finals_in, prints_in, printed_in, known_in, earlier_of}
 use Rattle.query_laws.specs.Demands.{ATable, Demand, Free, Stands, New, Fewer, Holds, Tells}
 use Rattle.query_laws.specs.FaultLaws.{Breaks, PrintsNothing, HasFault, IsOfTyping}
@@ -35,19 +37,29 @@ use Rattle.query_laws.proofs.Unmet.{unmet}
 
 -- ---- items
 
-taken_told : (known : List Known) (x : Name) (fault : QueryFault) → is_some (meaning_of known x.id) ≡ true → at_span NameTaken x.span ≡ fault
+taken_told : (known : List Known) (x : Name) (fault : QueryFault) → is_some (meaning_of known x.id) ≡ true
+    → at_span NameTaken x.span ≡ fault
     → Tells known fault.kind fault.span (Free x)
-taken_told known x fault taken e = told known (Free x) NameTaken x.span fault e (refl, λ free. not_both _ (free_complete known x.id free) taken)
+taken_told known x fault taken e = told known (Free x) NameTaken x.span fault e
+    (refl, λ free. not_both _ (free_complete known x.id free) taken)
 
-bindings_told : (names : List (List ℕ)) (items : List Entry) (x : Name) (fault : QueryFault) → nat_lt (length (streams_in items) + length (finals_in items)) 32 ≡ false
+bindings_told : (names : List (List ℕ)) (items : List Entry) (x : Name) (fault : QueryFault)
+    → nat_lt (length (streams_in items) + length (finals_in items)) 32 ≡ false
     → at_span (OverLimit Bindings) x.span ≡ fault
     → Tells (known_in names items) fault.kind fault.span (Fewer Bindings (length (streams_in items) + length (finals_in items)) x.span)
 bindings_told names items x fault full e =
-    told (known_in names items) (Fewer Bindings (length (streams_in items) + length (finals_in items)) x.span) (OverLimit Bindings) x.span fault e
-    (refl, refl, at_least (length (streams_in items) + length (finals_in items)) (length (streams_in items) + length (finals_in items)) 32 refl full)
+    told (known_in names items) (Fewer Bindings (length (streams_in items) + length (finals_in items)) x.span) (OverLimit Bindings) x.span
+    fault e (
+      refl,
+      refl,
+      at_least (length (streams_in items) + length (finals_in items)) (length (streams_in items) + length (finals_in items)) 32
+          refl full,
+    )
 
-begun_told : (names : List (List ℕ)) (items : List Entry) (x : Name) (fault : QueryFault) (Asks : Demand → Type 0) → begun (earlier_of names items) x ≡ Err fault
-    → Asks (Free x) → Asks (Fewer Bindings (length (streams_in items) + length (finals_in items)) x.span) → Broken Asks (known_in names items) fault
+begun_told : (names : List (List ℕ)) (items : List Entry) (x : Name) (fault : QueryFault) (Asks : Demand → Type 0)
+    → begun (earlier_of names items) x ≡ Err fault
+    → Asks (Free x) → Asks (Fewer Bindings (length (streams_in items) + length (finals_in items)) x.span)
+    → Broken Asks (known_in names items) fault
 begun_told names items x fault Asks e free one =
     by_must_not (is_some (meaning_of (known_in names items) x.id)) NameTaken x.span _ fault e
     (λ taken at. record { demand = Free x; asks = free; tells = taken_told (known_in names items) x fault taken at }) (λ none e.
@@ -60,7 +72,8 @@ begun_told names items x fault Asks e free one =
 abbrev ItemTold : Given → List (List ℕ) → List Entry → Item → QueryFault → Type 0
 ItemTold given names items i fault = Broken (ItemAsks (five_fields given.fields) names items i) (known_in names items) fault
 
-item_told : (given : Given) (names : List (List ℕ)) (items : List Entry) (i : Item) (fault : QueryFault) → item_checked given (earlier_of names items) i ≡ Err fault
+item_told : (given : Given) (names : List (List ℕ)) (items : List Entry) (i : Item) (fault : QueryFault)
+    → item_checked given (earlier_of names items) i ≡ Err fault
     → ItemTold given names items i fault
 item_told given names items (item.Fold d) fault e =
     by_must_not (is_some (meaning_of (known_in names items) d.name.id)) NameTaken d.name.span _ fault e (λ taken at. record {
@@ -82,7 +95,8 @@ item_told given names items (item.Final d) fault e =
     by_next (begun (earlier_of names items) d.name) _ fault e
     (λ is. begun_told names items d.name fault _ is (of_final_name d) (of_one_final d)) (λ u p e.
     by_next (made_final given (earlier_of names items) d.op) _ fault e
-    (λ is. broken_in _ _ (known_in names items) fault (λ q asked. of_final d q asked) (final_op_told given (earlier_of names items) d.op fault is))
+    (λ is. broken_in _ _ (known_in names items) fault (λ q asked. of_final d q asked)
+    (final_op_told given (earlier_of names items) d.op fault is))
     (λ made q e. no_fault _ fault e))
 item_told given names items (item.Print x) fault e =
     by_next (table_named (known_in names items) x) _ fault e (λ is. record {
@@ -93,7 +107,8 @@ item_told given names items (item.Print x) fault e =
     by_must_not (is_among x.id (printed_in items)) NameTaken x.span _ fault e (λ among at. record {
       demand = New (printed_in items) x.id x.span;
       asks = of_once x;
-      tells = told (known_in names items) (New (printed_in items) x.id x.span) NameTaken x.span fault at (refl, not_new x.id (printed_in items) among);
+      tells = told (known_in names items) (New (printed_in items) x.id x.span) NameTaken x.span fault at
+          (refl, not_new x.id (printed_in items) among);
     }) (λ none e. no_fault _ fault e))
 
 -- where all that an item asks is so, the check finds no fault
@@ -180,11 +195,20 @@ fault_told q fault e =
     })) (λ more p e.
     let all = items_sound given names [] q.items more p in
     by_must (nat_lt 0 (length more.prints)) NothingPrinted q.end _ fault e (λ none at.
-    inr (at, record { all = all.0; typed = all.1; none = empty (prints_in all.0) (ap (λ (z : Earlier). nat_lt 0 (length z.prints)) (sym all.2) ∙ none) }))
+    inr (
+      at,
+      record {
+        all = all.0;
+        typed = all.1;
+        none = empty (prints_in all.0)
+            (ap (λ (z : Earlier). nat_lt 0 (length z.prints)) (sym all.2) ∙ none);
+      },
+    ))
     (λ some e. no_fault _ fault e))
 
 -- a fault of another kind than *NothingPrinted* is at an item
-pub at_some_item : (q : Query) (kind : FaultKind) (at : Span) → (NothingPrinted ≡ kind → ⊥) → HasFault kind at q → Breaks (λ known d. Tells known kind at d) q
+pub at_some_item : (q : Query) (kind : FaultKind) (at : Span) → (NothingPrinted ≡ kind → ⊥) → HasFault kind at q
+    → Breaks (λ known d. Tells known kind at d) q
 at_some_item q kind at other e = go (fault_told q (at_span kind at) e)
   where
     go : IsTold q (at_span kind at) → Breaks (λ known d. Tells known kind at d) q

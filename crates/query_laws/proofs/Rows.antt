@@ -1,5 +1,6 @@
 -- The rows of all streams of a typed query.
-use Rattle.std.proofs.Common.{◌≡◌, ℕ, zero, suc, ◌+◌, ◌-◌, ◌<◌, List, [], ◌∷◌, ◌++◌, length, map, Option, Some, None, Ok, refl, sym, ap, subst, ◌∙◌, append_assoc, append-nil, arith}
+use Rattle.std.proofs.Common.{◌≡◌, ℕ, zero, suc, ◌+◌, ◌-◌, ◌<◌, List, [], ◌∷◌, ◌++◌, length, map, Option, Some, None, Ok, refl, sym, ap}
+use Rattle.std.proofs.Common.{subst, ◌∙◌, append_assoc, append-nil, arith}
 use Rattle.std.specs.Prelude.{All, Contains, fold, slice_get, slice_index_or, unwrap_or}
 use Rattle.std.proofs.lemmas.List.{length_push, length-map}
 use Rattle.std.proofs.lemmas.Option.{same_Some, slice_get_within, get_or_from_slice_get}
@@ -18,7 +19,8 @@ use Rattle.query_laws.specs.Columns.{columns_of}
 use Rattle.query_laws.proofs.Views.{View, AreDistinct, AreBelow, Makes, AreMade, others_below, columns_made}
 use Rattle.query_laws.proofs.Typed.{field_view, viewed}
 use Rattle.query_laws.proofs.FieldColumns.{fields_distinct}
-use Rattle.query_laws.proofs.Values.{Values, row_of, HaveValues, look, all_looked_up, AreEarlier, AllHave, have_at, OneMore, of_filter, of_map, of_zip, of_group}
+use Rattle.query_laws.proofs.Values.{Values, row_of, HaveValues, look, all_looked_up, AreEarlier, AllHave, have_at, OneMore, of_filter}
+use Rattle.query_laws.proofs.Values.{of_map, of_zip, of_group}
 
 -- ---- stream by stream
 
@@ -29,7 +31,8 @@ one_more folds number V views lists h (typed.Map input values) view m = of_map f
 one_more folds number V views lists h (typed.Zip left right slots) view m =
     of_zip folds number V views lists h left right slots view m
     (subst (AreBelow (length m.second)) (sym m.picked) (others_below (column_names m.first) m.second))
-one_more folds number V views lists h (typed.Group input keys f args) view m = of_group folds number V views lists h input keys f args view m
+one_more folds number V views lists h (typed.Group input keys f args) view m =
+    of_group folds number V views lists h input keys f args view m
 
 -- the streams that follow others
 abbrev followed : List TypedFold → List (List Tuple) → List TypedStream → List (List Tuple)
@@ -45,7 +48,8 @@ all_have folds (one ∷ streams) before (view ∷ views) lists V h m =
     let next = one_more folds (length before) V before lists h one.op view m.0 in
     let made : List (List Tuple) = lists ++ made_of folds lists one.op ∷ [] in
     let long : suc (length before) ≡ length (before ++ view ∷ []) = omega (arith, length_push before view) in
-    let more = all_have folds streams (before ++ view ∷ []) views made next.0 (subst (λ n. AllHave n next.0 (before ++ view ∷ []) made) long next.1) m.2 in
+    let more = all_have folds streams (before ++ view ∷ []) views made next.0
+    (subst (λ n. AllHave n next.0 (before ++ view ∷ []) made) long next.1) m.2 in
     (more.0, subst (λ l. AllHave (length l) more.0 l (followed folds made streams)) (append_assoc before (view ∷ []) views) more.1)
 
 -- ---- the packets
@@ -78,7 +82,8 @@ numbered_have V view n (words ∷ packets) are = (
       (λ k w e. are (suc k) w e ∙ ap (λ m. row_of V m view) (let same : n + suc k ≡ suc n + k = omega arith in same)),
 )
 
-packets_have : (names : List (List ℕ)) (packets : List (List ℕ)) → AreDistinct (field_numbers names) → All (λ words. length words ≡ 14) packets
+packets_have : (names : List (List ℕ)) (packets : List (List ℕ)) → AreDistinct (field_numbers names)
+    → All (λ words. length words ≡ 14) packets
     → HaveValues (field_values (field_numbers names) packets) (field_view names) (numbered 1 packets)
 packets_have names packets distinct whole = numbered_have V (field_view names) 1 packets are
   where
@@ -90,7 +95,8 @@ packets_have names packets distinct whole = numbered_have V (field_view names) 1
 
     are : (k : ℕ) (words : List ℕ) → slice_get packets k ≡ Some words → words ≡ row_of V (1 + k) (field_view names)
     are k words e =
-        let long : length words ≡ 14 = ap length (sym (get_or_from_slice_get packets k words [] e)) ∙ whole k [] (slice_get_within packets k words e) in
+        let long : length words ≡ 14 = ap length (sym (get_or_from_slice_get packets k words [] e))
+        ∙ whole k [] (slice_get_within packets k words e) in
         let here : words_of packets (1 + k) ≡ words =
         ap (λ i. unwrap_or (slice_get packets i) []) (let same : (1 + k) - 1 ≡ k = omega arith in same) ∙ ap (λ o. unwrap_or o []) e in
         sym (fields_row V (1 + k) ids ∙ ap (λ w. map (λ id. look ids w id) ids) here ∙ all_looked_up ids words distinct (sym long))
@@ -127,7 +133,8 @@ names_are q views made zero view e = field_names (field_numbers q.names) ∙ ap 
 names_are q views made (suc i) view e = ap (λ o. unwrap_or o []) (columns_made (field_view q.names ∷ []) q.streams views made i view e)
 
 -- a tuple of a stream has these values
-pub row_in : (V : Values) (view : View) (tuples : List Tuple) (t : Tuple) → HaveValues V view tuples → Contains tuples t → t.row ≡ row_of V t.packet view
+pub row_in : (V : Values) (view : View) (tuples : List Tuple) (t : Tuple) → HaveValues V view tuples → Contains tuples t
+    → t.row ≡ row_of V t.packet view
 row_in V view [] t h c = absurd (omega (arith, c.1))
 row_in V view (u ∷ tuples) t h c = go c.0 c.1 c.2 (λ k lt e. row_in V view tuples t h.1 (k, lt, e))
   where
@@ -138,7 +145,8 @@ row_in V view (u ∷ tuples) t h c = go c.0 c.1 c.2 (λ k lt e. row_in V view tu
 
 -- ---- how long rows are
 
-all_long : (V : Values) (view : View) (n : ℕ) (tuples : List Tuple) → n ≡ length view → HaveValues V view tuples → All (λ t. length t.row ≡ n) tuples
+all_long : (V : Values) (view : View) (n : ℕ) (tuples : List Tuple) → n ≡ length view → HaveValues V view tuples
+    → All (λ t. length t.row ≡ n) tuples
 all_long V view n [] e h = λ k d lt. absurd (omega (arith, lt))
 all_long V view n (t ∷ tuples) e h = go (all_long V view n tuples e h.1)
   where
@@ -163,7 +171,8 @@ rows_fill q packets r number = go (slice_get (field_view q.names ∷ r.views) nu
 
     go : (o : Option View) → slice_get all number ≡ o → All (λ t. length t.row ≡ length (columns_of q number)) (stream q number packets)
     go None e =
-        subst (All (λ t. length t.row ≡ length (columns_of q number))) (sym (none_past (length all) r.values all (all_streams q packets) number r.have e))
+        subst (All (λ t. length t.row ≡ length (columns_of q number)))
+        (sym (none_past (length all) r.values all (all_streams q packets) number r.have e))
         (λ k d lt. absurd (omega (arith, lt)))
     go (Some view) e =
         all_long r.values view (length (columns_of q number)) (stream q number packets)

@@ -1,5 +1,6 @@
 -- No stream is refused exactly where no operation is deeper than 64.
-use Rattle.std.proofs.Common.{◌≡◌, ℕ, ◌≤◌, Bool, true, false, ◌||◌, cond, List, [], ◌∷◌, ◌++◌, Option, Some, None, refl, sym, ap, subst, ◌∙◌, append_assoc, append-nil, arith}
+use Rattle.std.proofs.Common.{◌≡◌, ℕ, ◌≤◌, Bool, true, false, ◌||◌, cond, List, [], ◌∷◌, ◌++◌, Option, Some, None, refl, sym, ap, subst}
+use Rattle.std.proofs.Common.{◌∙◌, append_assoc, append-nil, arith}
 use Rattle.std.specs.Prelude.{All, drop, fold, flat_map, nat_lt}
 use Rattle.std.proofs.lemmas.List.Elements.{All-nil, All-cons, All-head, All-tail, All-append}
 use Rattle.query_lang.specs.declared.fault.FaultKind.TheVariants.{OverLimit}
@@ -42,14 +43,16 @@ shallow_fits : (depths : List ℕ) → is_too_deep depths ≡ false → All Fits
 shallow_fits [] e = All-nil Fits
 shallow_fits (depth ∷ depths) e = go (nat_lt 64 depth) refl (λ k. shallow_fits depths k) e
   where
-    go : (b : Bool) → nat_lt 64 depth ≡ b → (is_too_deep depths ≡ false → All Fits depths) → (b || is_too_deep depths) ≡ false → All Fits (depth ∷ depths)
+    go : (b : Bool) → nat_lt 64 depth ≡ b → (is_too_deep depths ≡ false → All Fits depths) → (b || is_too_deep depths) ≡ false
+        → All Fits (depth ∷ depths)
     go true is more e = cc e
     go false is more e = All-cons Fits depth depths (not_deep depth is) (more e)
 
 fits_shallow : (depths : List ℕ) → All Fits depths → is_too_deep depths ≡ false
 fits_shallow [] h = refl
 fits_shallow (depth ∷ depths) h =
-    ap (λ (b : Bool). b || is_too_deep depths) (is_fit depth (All-head Fits depth depths h)) ∙ fits_shallow depths (All-tail Fits depth depths h)
+    ap (λ (b : Bool). b || is_too_deep depths) (is_fit depth (All-head Fits depth depths h))
+    ∙ fits_shallow depths (All-tail Fits depth depths h)
 
 -- ---- streams
 
@@ -66,7 +69,8 @@ depths_are q = all_after q.folds (packet_depths ∷ []) q.streams
 some_deep : {P : Type 0} (fault : QueryFault) → (let o : Option QueryFault = Some fault in o) ≡ None → P
 some_deep fault e = cc e
 
-none_deep : (folds : List TypedFold) (depths : List StreamDepths) (list : List TypedStream) → first_too_deep list (beyond folds depths list) ≡ None
+none_deep : (folds : List TypedFold) (depths : List StreamDepths) (list : List TypedStream)
+    → first_too_deep list (beyond folds depths list) ≡ None
     → All Fits (operations (beyond folds depths list))
 none_deep folds depths [] e = All-nil Fits
 none_deep folds depths (one ∷ list) e = go (is_too_deep made.operations) refl (λ k. none_deep folds (depths ++ made ∷ []) list k) e

@@ -1,28 +1,34 @@
 -- What a check that finds no fault has found on its way.
-use Rattle.std.proofs.Common.{◌≡◌, ℕ, ◌+◌, zero, suc, Bool, true, false, cond, List, [], ◌∷◌, Some, Ok, Err, nat_eq, refl, ap, subst, ◌∙◌, arith}
+use Rattle.std.proofs.Common.{◌≡◌, ℕ, ◌+◌, zero, suc, Bool, true, false, cond, List, [], ◌∷◌, Some, Ok, Err, nat_eq, refl, ap, subst, ◌∙◌}
+use Rattle.std.proofs.Common.{arith}
 use Rattle.query_lang.specs.declared.fault.FaultKind.{FaultKind}
 use Rattle.query_lang.specs.declared.fault.Span.{Span}
 use Rattle.query_lang.specs.Checks.{Checked, and_then, must, must_not, place_from, place_of}
 use Rattle.query_laws.specs.ExprRules.{StandsAt}
 
-pub must_ok : {A : Type 0} (test : Bool) (kind : FaultKind) (span : Span) (next : Checked A) (x : A) → must test kind span next ≡ Ok x → (test ≡ true) × (next ≡ Ok x)
+pub must_ok : {A : Type 0} (test : Bool) (kind : FaultKind) (span : Span) (next : Checked A) (x : A) → must test kind span next ≡ Ok x
+    → (test ≡ true) × (next ≡ Ok x)
 must_ok true kind span next x e = (refl, e)
 must_ok false kind span next x e = cc e
 
-pub must_not_ok : {A : Type 0} (test : Bool) (kind : FaultKind) (span : Span) (next : Checked A) (x : A) → must_not test kind span next ≡ Ok x → (test ≡ false) × (next ≡ Ok x)
+pub must_not_ok : {A : Type 0} (test : Bool) (kind : FaultKind) (span : Span) (next : Checked A) (x : A)
+    → must_not test kind span next ≡ Ok x → (test ≡ false) × (next ≡ Ok x)
 must_not_ok true kind span next x e = cc e
 must_not_ok false kind span next x e = (refl, e)
 
-pub must_holds : {A : Type 0} (test : Bool) (kind : FaultKind) (span : Span) (next : Checked A) → test ≡ true → must test kind span next ≡ next
+pub must_holds : {A : Type 0} (test : Bool) (kind : FaultKind) (span : Span) (next : Checked A) → test ≡ true
+    → must test kind span next ≡ next
 must_holds test kind span next e = ap (λ (b : Bool). must b kind span next) e
 
-pub must_not_holds : {A : Type 0} (test : Bool) (kind : FaultKind) (span : Span) (next : Checked A) → test ≡ false → must_not test kind span next ≡ next
+pub must_not_holds : {A : Type 0} (test : Bool) (kind : FaultKind) (span : Span) (next : Checked A) → test ≡ false
+    → must_not test kind span next ≡ next
 must_not_holds test kind span next e = ap (λ (b : Bool). must_not b kind span next) e
 
 pub same_ok : {A : Type 0} (x y : A) → (let whole : Checked A = Ok x in whole) ≡ Ok y → x ≡ y
 same_ok x y e = cc e
 
-pub found_first : {A B : Type 0} (first : Checked A) (next : A → Checked B) (y : B) → and_then first next ≡ Ok y → (x : A) × (first ≡ Ok x) × (next x ≡ Ok y)
+pub found_first : {A B : Type 0} (first : Checked A) (next : A → Checked B) (y : B) → and_then first next ≡ Ok y → (x : A) × (first ≡ Ok x)
+    × (next x ≡ Ok y)
 found_first (Ok x) next y e = (x, refl, e)
 found_first (Err fault) next y e = cc e
 
@@ -50,7 +56,8 @@ stands_from : (names : List ℕ) (at id v : ℕ) → place_from at names id ≡ 
 stands_from [] at id v e = cc e
 stands_from (name ∷ rest) at id v e = go (nat_eq name id) refl (λ k. stands_from rest (at + 1) id v k) e
   where
-    go : (b : Bool) → nat_eq name id ≡ b → (place_from (at + 1) rest id ≡ Some v → (k : ℕ) × (v ≡ (at + 1) + k) × StandsAt rest k id) → cond b (Some at) (place_from (at + 1) rest id) ≡ Some v
+    go : (b : Bool) → nat_eq name id ≡ b → (place_from (at + 1) rest id ≡ Some v → (k : ℕ) × (v ≡ (at + 1) + k) × StandsAt rest k id)
+        → cond b (Some at) (place_from (at + 1) rest id) ≡ Some v
         → (k : ℕ) × (v ≡ at + k) × StandsAt (name ∷ rest) k id
     go true is more e = let same : at ≡ v = cc in (0, omega (arith, same), nat_same name id is)
     go false is more e = let m = more e in (suc m.0, omega (arith, m.1), (nat_other name id is, m.2))
@@ -60,7 +67,8 @@ found_from [] at id k e = absurd e
 found_from (name ∷ rest) at id zero e =
     ap (λ (b : Bool). cond b (Some at) (place_from (at + 1) rest id)) (nat_is name id e) ∙ ap Some (let s : at ≡ at + 0 = omega arith in s)
 found_from (name ∷ rest) at id (suc k) e =
-    ap (λ (b : Bool). cond b (Some at) (place_from (at + 1) rest id)) (nat_is_not name id e.0) ∙ found_from rest (at + 1) id k e.1 ∙ ap Some (let s : (at + 1) + k ≡ at + suc k = omega arith in s)
+    ap (λ (b : Bool). cond b (Some at) (place_from (at + 1) rest id)) (nat_is_not name id e.0) ∙ found_from rest (at + 1) id k e.1
+    ∙ ap Some (let s : (at + 1) + k ≡ at + suc k = omega arith in s)
 
 pub place_stands : (names : List ℕ) (id v : ℕ) → place_of names id ≡ Some v → StandsAt names v id
 place_stands names id v e =

@@ -17,8 +17,10 @@ use Rattle.query_lang.specs.declared.typing.Picked.{Picked}
 use Rattle.query_lang.specs.Checks.{is_among}
 use Rattle.query_lang.specs.TypedExprs.{slot_of, condition_of}
 use Rattle.query_lang.specs.TypedFinals.{table_named, quiet_fold, five_fields, same_names, key_columns, other_columns, made_final}
-use Rattle.query_lang.specs.TypedStreams.{column_names, key_names, no_new_columns, new_columns, clash, stream_named, fold_named, keys_checked, arguments_of, made_stream}
-use Rattle.query_laws.specs.Asked.{StreamAsks, FinalAsks, of_filtered, of_condition, of_mapped, of_columns, of_first, of_second, of_both, of_limit, of_grouped, of_keys, of_fold, of_arguments}
+use Rattle.query_lang.specs.TypedStreams.{column_names, key_names, no_new_columns, new_columns, clash, stream_named, fold_named}
+use Rattle.query_lang.specs.TypedStreams.{keys_checked, arguments_of, made_stream}
+use Rattle.query_laws.specs.Asked.{StreamAsks, FinalAsks, of_filtered, of_condition, of_mapped, of_columns, of_first, of_second, of_both}
+use Rattle.query_laws.specs.Asked.{of_limit, of_grouped, of_keys, of_fold, of_arguments}
 use Rattle.query_laws.specs.Asked as asks
 use Rattle.query_laws.specs.Context.{IsFold}
 use Rattle.query_laws.specs.Demands.{AStream, ATable, AFold, AQuietFold, Stands, AColumn, Kept, Fewer, Same, Apart, SameKeys}
@@ -32,7 +34,8 @@ use Rattle.query_laws.proofs.NameLaws.{stream_sound, fold_name_sound, table_soun
 use Rattle.query_laws.proofs.Steps.{must_not_ok, same_ok, found_first}
 use Rattle.query_laws.proofs.StreamLaws.{all_same_complete, picked_sound}
 
-pub stream_op_told : (five : List ℕ) (earlier : Earlier) (name : Name) (op : StreamOp) (fault : QueryFault) → made_stream five earlier name op ≡ Err fault
+pub stream_op_told : (five : List ℕ) (earlier : Earlier) (name : Name) (op : StreamOp) (fault : QueryFault)
+    → made_stream five earlier name op ≡ Err fault
     → Broken (StreamAsks five earlier.known earlier.groups name op) earlier.known fault
 stream_op_told five earlier name (stream.Filter input e) fault is =
     by_next (stream_named earlier.known input) _ fault is (λ is. record {
@@ -42,7 +45,12 @@ stream_op_told five earlier name (stream.Filter input e) fault is =
     }) (λ source p is.
     by_next (condition_of (column_names source.columns) source.hidden e) _ fault is (λ is.
     let b = condition_told (column_names source.columns) source.hidden e fault is in
-    record { demand = b.demand; asks = of_condition input e source b.demand (stream_sound earlier.known input source p) b.asks; tells = b.tells earlier.known })
+    record {
+      demand = b.demand;
+      asks = of_condition input e source b.demand (stream_sound earlier.known input source p) b.asks;
+      tells =
+          b.tells earlier.known;
+    })
     (λ condition q is. no_fault _ fault is))
 stream_op_told five earlier name (stream.Map input new) fault is =
     by_next (stream_named earlier.known input) _ fault is (λ is. record {
@@ -85,7 +93,8 @@ stream_op_told five earlier name (stream.Group input keys fold_name) fault is =
     }) (λ source p is.
     by_next (keys_checked five (column_names source.columns) source.hidden keys) _ fault is (λ is.
     broken_in _ _ earlier.known fault (λ d asked. of_keys input keys fold_name source d (stream_sound earlier.known input source p) asked)
-    (keys_told (column_names source.columns) source.hidden (flat_map (key_names five) keys) [] (flat_map (key_names five) keys) (record { names = []; slots = [] })
+    (keys_told (column_names source.columns) source.hidden (flat_map (key_names five) keys) [] (flat_map (key_names five) keys)
+    (record { names = []; slots = [] })
     earlier.known fault refl refl is)) (λ picked q is.
     by_next (fold_named earlier.known fold_name) _ fault is (λ is. record {
       demand = Stands AFold fold_name;
@@ -96,7 +105,8 @@ stream_op_told five earlier name (stream.Group input keys fold_name) fault is =
     let k = picked_sound five (column_names source.columns) source.hidden keys picked q in
     let A : List ℕ → Type 0 = λ z. arguments_of (column_names source.columns) source.hidden z f fold_name.span ≡ Err fault in
     broken_in _ _ earlier.known fault
-    (λ d asked. of_arguments input keys fold_name source f d (stream_sound earlier.known input source p) (fold_name_sound earlier.known fold_name f r) asked)
+    (λ d asked. of_arguments input keys fold_name source f d (stream_sound earlier.known input source p)
+    (fold_name_sound earlier.known fold_name f r) asked)
     (arguments_told (column_names source.columns) source.hidden (key_ids five keys) f fold_name.span earlier.known fault
     (subst A (ap (λ (z : Picked). z.names) k.2) is))) (λ arguments s is. no_fault _ fault is)))))
 
@@ -120,7 +130,12 @@ final_op_told given earlier (final.Filter input e) fault is =
     }) (λ source p is.
     by_next (condition_of source.columns [] e) _ fault is (λ is.
     let b = condition_told source.columns [] e fault is in
-    record { demand = b.demand; asks = asks.of_condition input e source b.demand (table_sound earlier.known input source p) b.asks; tells = b.tells earlier.known })
+    record {
+      demand = b.demand;
+      asks = asks.of_condition input e source b.demand (table_sound earlier.known input source p) b.asks;
+      tells =
+          b.tells earlier.known;
+    })
     (λ condition q is. no_fault _ fault is))
 final_op_told given earlier (final.Map input new) fault is =
     by_next (table_named earlier.known input) _ fault is (λ is. record {
@@ -140,7 +155,8 @@ final_op_told given earlier (final.Group input keys fold_name) fault is =
       tells = table_told earlier.known input fault is;
     }) (λ source p is.
     by_next (keys_checked five source.columns [] keys) _ fault is (λ is.
-    broken_in _ _ earlier.known fault (λ d asked. asks.of_keys input keys fold_name source d (table_sound earlier.known input source p) asked)
+    broken_in _ _ earlier.known fault (λ d asked. asks.of_keys input keys fold_name source d (table_sound earlier.known input source p)
+    asked)
     (keys_told source.columns [] (flat_map (key_names five) keys) [] (flat_map (key_names five) keys) (record { names = []; slots = [] })
     earlier.known fault refl refl is)) (λ picked q is.
     by_next (quiet_fold earlier.known fold_name) _ fault is (λ is. record {
@@ -152,8 +168,10 @@ final_op_told given earlier (final.Group input keys fold_name) fault is =
     let k = picked_sound five source.columns [] keys picked q in
     let A : List ℕ → Type 0 = λ z. arguments_of source.columns [] z f fold_name.span ≡ Err fault in
     broken_in _ _ earlier.known fault
-    (λ d asked. asks.of_arguments input keys fold_name source f d (table_sound earlier.known input source p) (quiet_stands earlier fold_name f r) asked)
-    (arguments_told source.columns [] (key_ids five keys) f fold_name.span earlier.known fault (subst A (ap (λ (z : Picked). z.names) k.2) is)))
+    (λ d asked. asks.of_arguments input keys fold_name source f d (table_sound earlier.known input source p)
+    (quiet_stands earlier fold_name f r) asked)
+    (arguments_told source.columns [] (key_ids five keys) f fold_name.span earlier.known fault
+    (subst A (ap (λ (z : Picked). z.names) k.2) is)))
     (λ arguments s is. no_fault _ fault is))))
 final_op_told given earlier (final.Join first second) fault is =
     by_next (table_named earlier.known first) _ fault is (λ is. record {

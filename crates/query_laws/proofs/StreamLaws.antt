@@ -1,5 +1,6 @@
 -- Streams: the rules and the checks agree.
-use Rattle.std.proofs.Common.{◌≡◌, ℕ, Bool, true, false, List, [], ◌∷◌, ◌++◌, length, map, Some, None, Ok, nat_eq, not, ◌&&◌, ◌||◌, refl, sym, ap, subst, ◌∙◌, append-nil, arith}
+use Rattle.std.proofs.Common.{◌≡◌, ℕ, Bool, true, false, List, [], ◌∷◌, ◌++◌, length, map, Some, None, Ok, nat_eq, not, ◌&&◌, ◌||◌, refl}
+use Rattle.std.proofs.Common.{sym, ap, subst, ◌∙◌, append-nil, arith}
 use Rattle.std.specs.Prelude.{flat_map}
 use Rattle.std.proofs.lemmas.Bool.{ltb-true}
 use Rattle.std.proofs.lemmas.List.{length-map}
@@ -22,24 +23,39 @@ use Rattle.query_lang.specs.declared.typing.Origin.{Origin}
 use Rattle.query_lang.specs.declared.typing.Origin.TheVariants as origin
 use Rattle.query_lang.specs.declared.typing.StreamColumn.{StreamColumn}
 use Rattle.query_lang.specs.TypedExprs.{condition_of}
-use Rattle.query_lang.specs.TypedStreams.{stream_named, fold_named, column_names, key_names, new_columns, no_new_columns, keys_checked, arguments_of, same_origin, clashes_with, clash, others_from, columns_at, filtered, mapped, zipped, next_stream, made_stream}
-use Rattle.query_laws.specs.StreamRules.{HasColumns, HasKeys, HasArguments, key_ids, IsSame, AreSame, OfFilter, OfMap, OfZip, OfGroup, HasStream}
-use Rattle.query_laws.proofs.Steps.{must_ok, must_not_ok, must_holds, must_not_holds, same_ok, found_first, then_next, nat_same, nat_other, nat_is}
+use Rattle.query_lang.specs.TypedStreams.{stream_named, fold_named, column_names, key_names, new_columns, no_new_columns, keys_checked}
+use Rattle.query_lang.specs.TypedStreams.{arguments_of, same_origin, clashes_with, clash, others_from, columns_at, filtered, mapped, zipped}
+use Rattle.query_lang.specs.TypedStreams.{next_stream, made_stream}
+use Rattle.query_laws.specs.StreamRules.{HasColumns, HasKeys, HasArguments, key_ids, IsSame, AreSame, OfFilter, OfMap, OfZip, OfGroup}
+use Rattle.query_laws.specs.StreamRules.{HasStream}
+use Rattle.query_laws.proofs.Steps.{must_ok, must_not_ok, must_holds, must_not_holds, same_ok, found_first, then_next, nat_same, nat_other}
+use Rattle.query_laws.proofs.Steps.{nat_is}
 use Rattle.query_laws.proofs.ColumnLaws.{at_slots, keys_there, others_are, others_taken}
 use Rattle.query_laws.proofs.ExprSound.{condition_sound}
 use Rattle.query_laws.proofs.ExprComplete.{condition_complete}
 use Rattle.query_laws.proofs.FoldNames.{below}
-use Rattle.query_laws.proofs.NameLaws.{ok, stream_sound, stream_complete, fold_name_sound, fold_name_complete, columns_sound, columns_complete, keys_sound, keys_complete, arguments_sound, arguments_complete}
+use Rattle.query_laws.proofs.NameLaws.{ok, stream_sound, stream_complete, fold_name_sound, fold_name_complete, columns_sound}
+use Rattle.query_laws.proofs.NameLaws.{columns_complete, keys_sound, keys_complete, arguments_sound, arguments_complete}
 
-filter_sound : (earlier : Earlier) (input : Name) (e : Expr) (made : MadeStream) → filtered earlier input e ≡ Ok made → OfFilter earlier.known input e made
+filter_sound : (earlier : Earlier) (input : Name) (e : Expr) (made : MadeStream) → filtered earlier input e ≡ Ok made
+    → OfFilter earlier.known input e made
 filter_sound earlier input e made is =
     let source = found_first (stream_named earlier.known input) _ made is in
     let c = found_first (condition_of (column_names source.0.columns) source.0.hidden e) _ made source.2 in
-    record { source = source.0; condition = c.0; stream = stream_sound earlier.known input source.0 source.1; typed = condition_sound _ _ e c.0 c.1; is = sym (same_ok _ made c.2) }
+    record {
+      source = source.0;
+      condition = c.0;
+      stream = stream_sound earlier.known input source.0 source.1;
+      typed =
+          condition_sound _ _ e c.0 c.1;
+      is = sym (same_ok _ made c.2);
+    }
 
-filter_complete : (earlier : Earlier) (input : Name) (e : Expr) (made : MadeStream) → OfFilter earlier.known input e made → filtered earlier input e ≡ Ok made
+filter_complete : (earlier : Earlier) (input : Name) (e : Expr) (made : MadeStream) → OfFilter earlier.known input e made
+    → filtered earlier input e ≡ Ok made
 filter_complete earlier input e made h =
-    then_next _ _ h.source (stream_complete earlier.known input h.source h.stream) ∙ then_next _ _ h.condition (condition_complete _ h.source.hidden e h.condition h.typed) ∙ ok _ _ (sym h.is)
+    then_next _ _ h.source (stream_complete earlier.known input h.source h.stream)
+    ∙ then_next _ _ h.condition (condition_complete _ h.source.hidden e h.condition h.typed) ∙ ok _ _ (sym h.is)
 
 abbrev maps_to : ℕ → StreamView → NewColumns → MadeStream
 maps_to number source made = record {
@@ -52,7 +68,8 @@ maps_to number source made = record {
 pub taken_start : (columns hidden : List ℕ) → columns ++ (hidden ++ []) ≡ columns ++ hidden
 taken_start columns hidden = ap (λ (z : List ℕ). columns ++ z) (append-nil hidden)
 
-map_sound : (earlier : Earlier) (input : Name) (cs : List Column) (made : MadeStream) → mapped earlier input cs ≡ Ok made → OfMap earlier.known (next_stream earlier) input cs made
+map_sound : (earlier : Earlier) (input : Name) (cs : List Column) (made : MadeStream) → mapped earlier input cs ≡ Ok made
+    → OfMap earlier.known (next_stream earlier) input cs made
 map_sound earlier input cs made is =
     let source = found_first (stream_named earlier.known input) _ made is in
     let n = found_first (new_columns (column_names source.0.columns) source.0.hidden no_new_columns cs) _ made source.2 in
@@ -66,11 +83,13 @@ map_sound earlier input cs made is =
       is = sym (same_ok _ made n.2) ∙ ap (maps_to (next_stream earlier) source.0) c.2;
     }
 
-map_complete : (earlier : Earlier) (input : Name) (cs : List Column) (made : MadeStream) → OfMap earlier.known (next_stream earlier) input cs made → mapped earlier input cs ≡ Ok made
+map_complete : (earlier : Earlier) (input : Name) (cs : List Column) (made : MadeStream)
+    → OfMap earlier.known (next_stream earlier) input cs made → mapped earlier input cs ≡ Ok made
 map_complete earlier input cs made h =
     let N : List ℕ → Type 0 = λ z. HasColumns (column_names h.source.columns) z cs h.values in
     then_next _ _ h.source (stream_complete earlier.known input h.source h.stream)
-    ∙ then_next _ _ _ (columns_complete (column_names h.source.columns) h.source.hidden cs h.values no_new_columns (subst N (sym (taken_start _ h.source.hidden)) h.typed)) ∙ ok _ _ (sym h.is)
+    ∙ then_next _ _ _ (columns_complete (column_names h.source.columns) h.source.hidden cs h.values no_new_columns
+    (subst N (sym (taken_start _ h.source.hidden)) h.typed)) ∙ ok _ _ (sym h.is)
 
 -- ---- the same columns
 
@@ -89,15 +108,18 @@ origin_is a b e = let P : Origin → Type 0 = λ z. same_origin a z ≡ true in 
 
 same_sound : (left : List StreamColumn) (column : StreamColumn) → clashes_with left column ≡ false → IsSame left column
 same_sound [] column e = tt
-same_sound (other ∷ rest) column e = go (nat_eq other.name column.name) refl (same_origin other.origin column.origin) refl (λ k. same_sound rest column k) e
+same_sound (other ∷ rest) column e = go (nat_eq other.name column.name) refl (same_origin other.origin column.origin) refl
+    (λ k. same_sound rest column k) e
   where
-    go : (b : Bool) → nat_eq other.name column.name ≡ b → (s : Bool) → same_origin other.origin column.origin ≡ s → (clashes_with rest column ≡ false → IsSame rest column)
+    go : (b : Bool) → nat_eq other.name column.name ≡ b → (s : Bool) → same_origin other.origin column.origin ≡ s
+        → (clashes_with rest column ≡ false → IsSame rest column)
         → ((b && not s) || clashes_with rest column) ≡ false → IsSame (other ∷ rest) column
     go true is true so more e = (λ n. origin_same other.origin column.origin so, more e)
     go true is false so more e = cc e
     go false is s so more e = (λ n. absurd (nat_other other.name column.name is n), more e)
 
-apart_or_same : (other column : StreamColumn) → (other.name ≡ column.name → other.origin ≡ column.origin) → (nat_eq other.name column.name && not (same_origin other.origin column.origin)) ≡ false
+apart_or_same : (other column : StreamColumn) → (other.name ≡ column.name → other.origin ≡ column.origin)
+    → (nat_eq other.name column.name && not (same_origin other.origin column.origin)) ≡ false
 apart_or_same other column h = go (nat_eq other.name column.name) refl
   where
     go : (b : Bool) → nat_eq other.name column.name ≡ b → (b && not (same_origin other.origin column.origin)) ≡ false
@@ -106,19 +128,22 @@ apart_or_same other column h = go (nat_eq other.name column.name) refl
 
 same_complete : (left : List StreamColumn) (column : StreamColumn) → IsSame left column → clashes_with left column ≡ false
 same_complete [] column h = refl
-same_complete (other ∷ rest) column h = ap (λ (b : Bool). b || clashes_with rest column) (apart_or_same other column h.0) ∙ same_complete rest column h.1
+same_complete (other ∷ rest) column h = ap (λ (b : Bool). b || clashes_with rest column) (apart_or_same other column h.0)
+    ∙ same_complete rest column h.1
 
 all_same_sound : (left right : List StreamColumn) → clash left right ≡ false → AreSame left right
 all_same_sound left [] e = tt
 all_same_sound left (column ∷ rest) e = go (clashes_with left column) refl (λ k. all_same_sound left rest k) e
   where
-    go : (b : Bool) → clashes_with left column ≡ b → (clash left rest ≡ false → AreSame left rest) → (b || clash left rest) ≡ false → AreSame left (column ∷ rest)
+    go : (b : Bool) → clashes_with left column ≡ b → (clash left rest ≡ false → AreSame left rest) → (b || clash left rest) ≡ false
+        → AreSame left (column ∷ rest)
     go true is more e = cc e
     go false is more e = (same_sound left column is, more e)
 
 pub all_same_complete : (left right : List StreamColumn) → AreSame left right → clash left right ≡ false
 all_same_complete left [] h = refl
-all_same_complete left (column ∷ rest) h = ap (λ (b : Bool). b || clash left rest) (same_complete left column h.0) ∙ all_same_complete left rest h.1
+all_same_complete left (column ∷ rest) h = ap (λ (b : Bool). b || clash left rest) (same_complete left column h.0)
+    ∙ all_same_complete left rest h.1
 
 -- what a `zip` of two streams makes
 abbrev pub zips_to : StreamView → StreamView → List ℕ → List StreamColumn → MadeStream
@@ -131,13 +156,16 @@ zips_to left right slots others = record {
 
 -- by the functions of the check
 pub zip_is : {known : List Known} (first second : Name) (made : MadeStream) (h : OfZip known first second made)
-    → made ≡ zips_to h.left h.right (others_from 0 (column_names h.left.columns) h.right.columns) (columns_at h.right.columns (others_from 0 (column_names h.left.columns) h.right.columns))
+    → made ≡ zips_to h.left h.right (others_from 0 (column_names h.left.columns) h.right.columns)
+    (columns_at h.right.columns (others_from 0 (column_names h.left.columns) h.right.columns))
 zip_is first second made h =
     let same = others_are (column_names h.left.columns) 0 h.right.columns h.slots h.new in
     h.is ∙ ap (zips_to h.left h.right h.slots) (at_slots h.right.columns h.slots h.others h.taken ∙ ap (columns_at h.right.columns) same)
-    ∙ ap (λ (z : List ℕ). zips_to h.left h.right z (columns_at h.right.columns (others_from 0 (column_names h.left.columns) h.right.columns))) same
+    ∙ ap (λ (z : List ℕ). zips_to h.left h.right z (columns_at h.right.columns
+    (others_from 0 (column_names h.left.columns) h.right.columns))) same
 
-zip_sound : (earlier : Earlier) (first second : Name) (made : MadeStream) → zipped earlier first second ≡ Ok made → OfZip earlier.known first second made
+zip_sound : (earlier : Earlier) (first second : Name) (made : MadeStream) → zipped earlier first second ≡ Ok made
+    → OfZip earlier.known first second made
 zip_sound earlier first second made is =
     let left = found_first (stream_named earlier.known first) _ made is in
     let right = found_first (stream_named earlier.known second) _ made left.2 in
@@ -156,9 +184,11 @@ zip_sound earlier first second made is =
       is = sym (same_ok _ made one.1);
     }
 
-zip_complete : (earlier : Earlier) (first second : Name) (made : MadeStream) → OfZip earlier.known first second made → zipped earlier first second ≡ Ok made
+zip_complete : (earlier : Earlier) (first second : Name) (made : MadeStream) → OfZip earlier.known first second made
+    → zipped earlier first second ≡ Ok made
 zip_complete earlier first second made h =
-    then_next _ _ h.left (stream_complete earlier.known first h.left h.one) ∙ then_next _ _ h.right (stream_complete earlier.known second h.right h.other)
+    then_next _ _ h.left (stream_complete earlier.known first h.left h.one)
+    ∙ then_next _ _ h.right (stream_complete earlier.known second h.right h.other)
     ∙ must_not_holds _ _ _ _ (all_same_complete h.left.columns h.right.columns h.same) ∙ ok _ _ (sym (zip_is first second made h))
 
 -- ---- keys, from none
@@ -170,10 +200,12 @@ picked_sound five columns hidden keys picked e =
     let long = length-map (flat_map (key_names five) keys) (λ (n : Name). n.id) in
     (k.0, record { places = k.1; distinct = k.2; few = omega (arith, k.3, long) }, k.4)
 
-pub picked_complete : (five columns hidden : List ℕ) (keys : List Key) (slots : List ℕ) → HasKeys columns (key_ids five keys) slots → keys_checked five columns hidden keys ≡ Ok (record { names = key_ids five keys; slots = slots })
+pub picked_complete : (five columns hidden : List ℕ) (keys : List Key) (slots : List ℕ) → HasKeys columns (key_ids five keys) slots
+    → keys_checked five columns hidden keys ≡ Ok (record { names = key_ids five keys; slots = slots })
 picked_complete five columns hidden keys slots h =
     let long = length-map (flat_map (key_names five) keys) (λ (n : Name). n.id) in
-    keys_complete columns hidden (flat_map (key_names five) keys) slots (record { names = []; slots = [] }) h.places h.distinct (omega (arith, h.few, long))
+    keys_complete columns hidden (flat_map (key_names five) keys) slots (record { names = []; slots = [] }) h.places h.distinct
+    (omega (arith, h.few, long))
 
 abbrev groups_with : ℕ → StreamView → FoldView → List ℕ → Picked → List StreamColumn → MadeStream
 groups_with groups source f arguments picked columns = record {
@@ -191,16 +223,19 @@ pub group_is : {five : List ℕ} {known : List Known} {groups : ℕ} (input : Na
     (h : OfGroup five known groups input keys fold_name made)
     → made ≡ groups_to groups h.source h.f h.arguments (record { names = key_ids five keys; slots = h.slots })
 group_is {five} {known} {groups} input keys fold_name made h =
-    h.is ∙ ap (groups_with groups h.source h.f h.arguments (record { names = key_ids five keys; slots = h.slots })) (at_slots h.source.columns h.slots h.columns h.there)
+    h.is ∙ ap (groups_with groups h.source h.f h.arguments (record { names = key_ids five keys; slots = h.slots }))
+    (at_slots h.source.columns h.slots h.columns h.there)
 
 group_sound : (five : List ℕ) (earlier : Earlier) (name input : Name) (keys : List Key) (fold_name : Name) (made : MadeStream)
-    → made_stream five earlier name (ops.Group input keys fold_name) ≡ Ok made → OfGroup five earlier.known earlier.groups input keys fold_name made
+    → made_stream five earlier name (ops.Group input keys fold_name) ≡ Ok made
+    → OfGroup five earlier.known earlier.groups input keys fold_name made
 group_sound five earlier name input keys fold_name made is =
     let few = must_ok _ _ _ _ made is in
     let source = found_first (stream_named earlier.known input) _ made few.1 in
     let picked = found_first (keys_checked five (column_names source.0.columns) source.0.hidden keys) _ made source.2 in
     let f = found_first (fold_named earlier.known fold_name) _ made picked.2 in
-    let arguments = found_first (arguments_of (column_names source.0.columns) source.0.hidden picked.0.names f.0 fold_name.span) _ made f.2 in
+    let arguments = found_first (arguments_of (column_names source.0.columns) source.0.hidden picked.0.names f.0 fold_name.span) _ made
+    f.2 in
     let k = picked_sound five (column_names source.0.columns) source.0.hidden keys picked.0 picked.1 in
     let A : Picked → Type 0 = λ z. HasArguments (column_names source.0.columns) z.names f.0 arguments.0 in
     record {
@@ -219,7 +254,8 @@ group_sound five earlier name input keys fold_name made is =
     }
 
 group_complete : (five : List ℕ) (earlier : Earlier) (name input : Name) (keys : List Key) (fold_name : Name) (made : MadeStream)
-    → OfGroup five earlier.known earlier.groups input keys fold_name made → made_stream five earlier name (ops.Group input keys fold_name) ≡ Ok made
+    → OfGroup five earlier.known earlier.groups input keys fold_name made
+    → made_stream five earlier name (ops.Group input keys fold_name) ≡ Ok made
 group_complete five earlier name input keys fold_name made h =
     must_holds _ _ _ _ (below earlier.groups 8 h.few)
     ∙ then_next _ _ h.source (stream_complete earlier.known input h.source h.stream)
@@ -228,14 +264,17 @@ group_complete five earlier name input keys fold_name made h =
     ∙ then_next _ _ h.arguments (arguments_complete _ h.source.hidden (key_ids five keys) h.f fold_name.span h.arguments h.taken)
     ∙ ok _ _ (sym (group_is input keys fold_name made h))
 
-pub made_stream_sound : (five : List ℕ) (earlier : Earlier) (name : Name) (op : StreamOp) (made : MadeStream) → made_stream five earlier name op ≡ Ok made → HasStream five earlier.known (next_stream earlier) earlier.groups op made
+pub made_stream_sound : (five : List ℕ) (earlier : Earlier) (name : Name) (op : StreamOp) (made : MadeStream)
+    → made_stream five earlier name op ≡ Ok made → HasStream five earlier.known (next_stream earlier) earlier.groups op made
 made_stream_sound five earlier name (ops.Filter input e) made is = filter_sound earlier input e made is
 made_stream_sound five earlier name (ops.Map input cs) made is = map_sound earlier input cs made is
 made_stream_sound five earlier name (ops.Zip first second) made is = zip_sound earlier first second made is
 made_stream_sound five earlier name (ops.Group input keys fold_name) made is = group_sound five earlier name input keys fold_name made is
 
-pub made_stream_complete : (five : List ℕ) (earlier : Earlier) (name : Name) (op : StreamOp) (made : MadeStream) → HasStream five earlier.known (next_stream earlier) earlier.groups op made → made_stream five earlier name op ≡ Ok made
+pub made_stream_complete : (five : List ℕ) (earlier : Earlier) (name : Name) (op : StreamOp) (made : MadeStream)
+    → HasStream five earlier.known (next_stream earlier) earlier.groups op made → made_stream five earlier name op ≡ Ok made
 made_stream_complete five earlier name (ops.Filter input e) made h = filter_complete earlier input e made h
 made_stream_complete five earlier name (ops.Map input cs) made h = map_complete earlier input cs made h
 made_stream_complete five earlier name (ops.Zip first second) made h = zip_complete earlier first second made h
-made_stream_complete five earlier name (ops.Group input keys fold_name) made h = group_complete five earlier name input keys fold_name made h
+made_stream_complete five earlier name (ops.Group input keys fold_name) made h =
+    group_complete five earlier name input keys fold_name made h

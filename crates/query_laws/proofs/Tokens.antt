@@ -1,5 +1,6 @@
 -- The numbers among the tokens of a text are words.
-use Rattle.std.proofs.Common.{◌≡◌, ℕ, zero, suc, ◌+◌, ◌^◌, Bool, true, false, cond, List, [], ◌∷◌, length, take, drop, Option, Some, None, Ok, Err, refl, subst}
+use Rattle.std.proofs.Common.{◌≡◌, ℕ, zero, suc, ◌+◌, ◌^◌, Bool, true, false, cond, List, [], ◌∷◌, length, take, drop, Option, Some, None}
+use Rattle.std.proofs.Common.{Ok, Err, refl, subst}
 use Rattle.std.specs.Prelude.{nat_eq, nat_lt, codes}
 use Rattle.std.specs.List.{prefix_len}
 use Rattle.std.specs.Str.{bytes_eq}
@@ -12,7 +13,8 @@ use Rattle.query_lang.specs.declared.token.Token.{Token}
 use Rattle.query_lang.specs.declared.token.TokenKind.{TokenKind}
 use Rattle.query_lang.specs.declared.token.TokenKind.TheVariants as kinds
 use Rattle.query_lang.specs.declared.token.Word.{Word}
-use Rattle.query_lang.specs.Lexis.{Cut, below_limit, cut, cut_piece, is_blank, is_digit, is_word_byte, mark_at, name_piece, number_piece, one_mark, piece, piece_of_mark, reserved, token_at, two_mark, with_front, word_piece}
+use Rattle.query_lang.specs.Lexis.{Cut, below_limit, cut, cut_piece, is_blank, is_digit, is_word_byte, mark_at, name_piece, number_piece}
+use Rattle.query_lang.specs.Lexis.{one_mark, piece, piece_of_mark, reserved, token_at, two_mark, with_front, word_piece}
 use Rattle.query_lang.specs.Names.{number_in, with_name}
 use Rattle.query_lang.specs.Words.{IsWord}
 

@@ -1,5 +1,6 @@
 -- The streams of a typed query and the columns that the checks know of them.
-use Rattle.std.proofs.Common.{◌≡◌, ℕ, zero, suc, ◌+◌, ◌<◌, Bool, true, false, ◌||◌, cond, List, [], ◌∷◌, ◌++◌, length, map, Option, Some, None, Ok, nat_eq, refl, sym, ap, subst, ◌∙◌, arith}
+use Rattle.std.proofs.Common.{◌≡◌, ℕ, zero, suc, ◌+◌, ◌<◌, Bool, true, false, ◌||◌, cond, List, [], ◌∷◌, ◌++◌, length, map, Option, Some}
+use Rattle.std.proofs.Common.{None, Ok, nat_eq, refl, sym, ap, subst, ◌∙◌, arith}
 use Rattle.std.specs.Prelude.{flat_map, slice_get}
 use Rattle.std.proofs.lemmas.List.{length_push, length-map}
 use Rattle.std.proofs.lemmas.List.Folds.{list_any-append}
@@ -32,9 +33,12 @@ use Rattle.query_lang.specs.declared.typing.StreamView.{StreamView}
 use Rattle.query_lang.specs.Checks.{is_among}
 use Rattle.query_lang.specs.TypedExprs.{slot_of, word_of, condition_of}
 use Rattle.query_lang.specs.TypedFolds.{fold_checked}
-use Rattle.query_lang.specs.TypedStreams.{meaning_of, as_stream, stream_named, fold_named, column_names, others_from, columns_at, new_columns, no_new_columns, key_names, keys_from, keys_checked, arguments_of, filtered, mapped, next_stream, zipped, grouped, made_stream, with_stream, begun, stream_checked}
+use Rattle.query_lang.specs.TypedStreams.{meaning_of, as_stream, stream_named, fold_named, column_names, others_from, columns_at}
+use Rattle.query_lang.specs.TypedStreams.{new_columns, no_new_columns, key_names, keys_from, keys_checked, arguments_of, filtered, mapped}
+use Rattle.query_lang.specs.TypedStreams.{next_stream, zipped, grouped, made_stream, with_stream, begun, stream_checked}
 use Rattle.query_lang.specs.TypedFinals.{five_fields, table_named, made_final, final_checked}
-use Rattle.query_lang.specs.Typing.{typed_names, field_numbers, given_of, start_of, fold_added, print_checked, item_checked, items_checked, ended, checked}
+use Rattle.query_lang.specs.Typing.{typed_names, field_numbers, given_of, start_of, fold_added, print_checked, item_checked, items_checked}
+use Rattle.query_lang.specs.Typing.{ended, checked}
 use Rattle.query_laws.specs.ExprRules.{StandsAt}
 use Rattle.query_laws.proofs.Steps.{must_ok, must_not_ok, same_ok, found_first, nat_other, nat_is_not}
 use Rattle.query_laws.proofs.ExprSound.{slot_stands}
@@ -52,7 +56,8 @@ abbrev pub AllTell : List View → List Known → Type 0
 AllTell views [] = Unit {0}
 AllTell views (one ∷ known) = TellsColumns views one.meaning × AllTell views known
 
-tell_last : (views : List View) (known : List Known) (one : Known) → AllTell views known → TellsColumns views one.meaning → AllTell views (known ++ one ∷ [])
+tell_last : (views : List View) (known : List Known) (one : Known) → AllTell views known → TellsColumns views one.meaning
+    → AllTell views (known ++ one ∷ [])
 tell_last views [] one h k = (k, tt)
 tell_last views (first ∷ known) one h k = (h.0, tell_last views known one h.1 k)
 
@@ -68,22 +73,27 @@ tell_more views view (one ∷ known) h = (tells_more views view one.meaning h.0,
 some_meaning : (m n : Meaning) → (let o : Option Meaning = Some m in o) ≡ Some n → m ≡ n
 some_meaning m n e = cc e
 
-tells_of : (views : List View) (known : List Known) (id : ℕ) (m : Meaning) → AllTell views known → meaning_of known id ≡ Some m → TellsColumns views m
+tells_of : (views : List View) (known : List Known) (id : ℕ) (m : Meaning) → AllTell views known → meaning_of known id ≡ Some m
+    → TellsColumns views m
 tells_of views [] id m h e = cc e
 tells_of views (one ∷ known) id m h e = go (nat_eq one.name id) (λ k. tells_of views known id m h.1 k) e
   where
-    go : (b : Bool) → (meaning_of known id ≡ Some m → TellsColumns views m) → cond b (Some one.meaning) (meaning_of known id) ≡ Some m → TellsColumns views m
+    go : (b : Bool) → (meaning_of known id ≡ Some m → TellsColumns views m) → cond b (Some one.meaning) (meaning_of known id) ≡ Some m
+        → TellsColumns views m
     go true more k = subst (TellsColumns views) (some_meaning one.meaning m k) h.0
     go false more k = more k
 
 -- the columns of a stream that is named
-columns_named : (views : List View) (known : List Known) (name : Name) (s : StreamView) → AllTell views known → stream_named known name ≡ Ok s
+columns_named : (views : List View) (known : List Known) (name : Name) (s : StreamView) → AllTell views known
+    → stream_named known name ≡ Ok s
     → slice_get views s.number ≡ Some s.columns
 columns_named views known name s h e = go (meaning_of known name.id) (λ m k. tells_of views known name.id m h k) e
   where
-    go : (o : Option Meaning) → ((m : Meaning) → o ≡ Some m → TellsColumns views m) → as_stream o name.span ≡ Ok s → slice_get views s.number ≡ Some s.columns
+    go : (o : Option Meaning) → ((m : Meaning) → o ≡ Some m → TellsColumns views m) → as_stream o name.span ≡ Ok s
+        → slice_get views s.number ≡ Some s.columns
     go None told k = cc k
-    go (Some (meaning.Stream x)) told k = subst (λ z. slice_get views z.number ≡ Some z.columns) (same_ok x s k) (told (meaning.Stream x) refl)
+    go (Some (meaning.Stream x)) told k = subst (λ z. slice_get views z.number ≡ Some z.columns) (same_ok x s k)
+        (told (meaning.Stream x) refl)
     go (Some (meaning.Fold f)) told k = cc k
     go (Some (meaning.Final t)) told k = cc k
 
@@ -108,9 +118,11 @@ distinct_last (n ∷ names) id h k = go (nat_eq n id) refl (λ e. distinct_last 
     go false is more e = (not_last n id names h.0 (nat_is_not id n (λ same. nat_other n id is (sym same))), more e)
 
 -- the names of new columns are distinct, and there is a name for each value
-new_distinct : (columns hidden : List ℕ) (new : List Column) (made all : NewColumns) → AreDistinct made.names → length made.names ≡ length made.values
+new_distinct : (columns hidden : List ℕ) (new : List Column) (made all : NewColumns) → AreDistinct made.names
+    → length made.names ≡ length made.values
     → new_columns columns hidden made new ≡ Ok all → AreDistinct all.names × (length all.names ≡ length all.values)
-new_distinct columns hidden [] made all d long e = subst (λ z. AreDistinct z.names × (length z.names ≡ length z.values)) (same_ok made all e) (d, long)
+new_distinct columns hidden [] made all d long e = subst (λ z. AreDistinct z.names × (length z.names ≡ length z.values))
+    (same_ok made all e) (d, long)
 new_distinct columns hidden (c ∷ new) made all d long e =
     let free = must_not_ok _ _ _ _ all e in
     let value = found_first (word_of columns hidden c.value) _ all free.1 in
@@ -186,7 +198,8 @@ module _ (views : List View) (earlier : Earlier) (told : AllTell views earlier.k
       let source = found_first (stream_named earlier.known input) _ made h in
       let new = found_first (new_columns (column_names source.0.columns) source.0.hidden no_new_columns columns) _ made source.2 in
       let names = new_distinct (column_names source.0.columns) source.0.hidden columns no_new_columns new.0 tt refl new.1 in
-      made_as views earlier (maps_to (next_stream earlier) source.0 new.0) made (same_ok (maps_to (next_stream earlier) source.0 new.0) made new.2) (record {
+      made_as views earlier (maps_to (next_stream earlier) source.0 new.0) made
+      (same_ok (maps_to (next_stream earlier) source.0 new.0) made new.2) (record {
         source = source.0.columns;
         names = new.0.names;
         stream = columns_named views earlier.known input source.0 told source.1;
@@ -228,7 +241,8 @@ module _ (views : List View) (earlier : Earlier) (told : AllTell views earlier.k
         is = refl;
       })
 
-  stream_made : (five : List ℕ) (name : Name) (op : StreamOp) (made : MadeStream) → made_stream five earlier name op ≡ Ok made → MadeOf views earlier made
+  stream_made : (five : List ℕ) (name : Name) (op : StreamOp) (made : MadeStream) → made_stream five earlier name op ≡ Ok made
+      → MadeOf views earlier made
   stream_made five name (ops.Filter input e) made h = filter_made input e made h
   stream_made five name (ops.Map input columns) made h = map_made input columns made h
   stream_made five name (ops.Zip first second) made h = zip_made first second made h
@@ -246,11 +260,14 @@ module _ (fields : View) where
   one_more : (earlier : Earlier) (name : Name) (made : MadeStream) (h : HasViews fields earlier) → MadeOf (fields ∷ h.views) earlier made
       → HasViews fields (with_stream earlier name made)
   one_more earlier name made h k =
-      let long : next_stream earlier ≡ length (fields ∷ h.views) = omega (arith, made_long (fields ∷ []) earlier.streams h.views h.made) in record {
+      let long : next_stream earlier ≡ length (fields ∷ h.views) = omega (arith, made_long (fields ∷ []) earlier.streams h.views h.made)
+      in record {
         views = h.views ++ made.columns ∷ [];
-        made = made_last (fields ∷ []) earlier.streams h.views (record { name = name; columns = column_names made.columns; op = made.op }) made.columns h.made
+        made = made_last (fields ∷ []) earlier.streams h.views (record { name = name; columns = column_names made.columns; op = made.op })
+            made.columns h.made
             (subst (λ n. Makes (fields ∷ h.views) n made.op made.columns) long k) refl;
-        told = tell_last (fields ∷ h.views ++ made.columns ∷ []) earlier.known _ (tell_more (fields ∷ h.views) made.columns earlier.known h.told)
+        told = tell_last (fields ∷ h.views ++ made.columns ∷ []) earlier.known _
+            (tell_more (fields ∷ h.views) made.columns earlier.known h.told)
             (get_after (fields ∷ h.views) made.columns [] (next_stream earlier) long);
       }
 
@@ -277,19 +294,22 @@ module _ (fields : View) where
       subst (HasViews fields) (same_ok _ more made.2)
       (record { views = h.views; made = h.made; told = tell_last (fields ∷ h.views) earlier.known _ h.told tt })
 
-  print_item : (name : Name) (earlier more : Earlier) → HasViews fields earlier → print_checked earlier name ≡ Ok more → HasViews fields more
+  print_item : (name : Name) (earlier more : Earlier) → HasViews fields earlier → print_checked earlier name ≡ Ok more
+      → HasViews fields more
   print_item name earlier more h e =
       let table = found_first (table_named earlier.known name) _ more e in
       let once = must_not_ok _ _ _ _ more table.2 in
       subst (HasViews fields) (same_ok _ more once.1) (record { views = h.views; made = h.made; told = h.told })
 
-  one_item : (given : Given) (i : Item) (earlier more : Earlier) → HasViews fields earlier → item_checked given earlier i ≡ Ok more → HasViews fields more
+  one_item : (given : Given) (i : Item) (earlier more : Earlier) → HasViews fields earlier → item_checked given earlier i ≡ Ok more
+      → HasViews fields more
   one_item given (item.Fold d) earlier more h e = fold_item d earlier more h e
   one_item given (item.Stream d) earlier more h e = stream_item (five_fields given.fields) d earlier more h e
   one_item given (item.Final d) earlier more h e = final_item given d earlier more h e
   one_item given (item.Print name) earlier more h e = print_item name earlier more h e
 
-  all_items : (given : Given) (items : List Item) (earlier all : Earlier) → HasViews fields earlier → items_checked given earlier items ≡ Ok all
+  all_items : (given : Given) (items : List Item) (earlier all : Earlier) → HasViews fields earlier
+      → items_checked given earlier items ≡ Ok all
       → HasViews fields all
   all_items given [] earlier all h e = subst (HasViews fields) (same_ok earlier all e) h
   all_items given (i ∷ items) earlier all h e =

@@ -3,7 +3,8 @@ use Rattle.std.proofs.Common.{◌≡◌, ℕ, List, [], ◌∷◌, Option, Some,
 use Rattle.query_lang.specs.declared.fault.FaultKind.TheVariants.{WrongKind}
 use Rattle.query_lang.specs.declared.fault.QueryFault.{QueryFault}
 use Rattle.query_lang.specs.declared.fold.Op.{Op}
-use Rattle.query_lang.specs.declared.fold.Op.TheVariants.{Mul, Div, Rem, Add, Sub, Shl, Shr, And, Xor, Or, Eq, Ne, Lt, Le, Gt, Ge, Both, Either, Max, Min, Sadd, Decay}
+use Rattle.query_lang.specs.declared.fold.Op.TheVariants.{Mul, Div, Rem, Add, Sub, Shl, Shr, And, Xor, Or, Eq, Ne, Lt, Le, Gt, Ge, Both}
+use Rattle.query_lang.specs.declared.fold.Op.TheVariants.{Either, Max, Min, Sadd, Decay}
 use Rattle.query_lang.specs.declared.fold.TypedExpr.{TypedExpr}
 use Rattle.query_lang.specs.declared.fold.TypedExpr.TheVariants as typed
 use Rattle.query_lang.specs.declared.query.Expr.{Expr}
@@ -31,20 +32,24 @@ use Rattle.query_laws.proofs.FoldNames.{among_new}
 use Rattle.query_laws.proofs.ItemsMeet.{stream_meets}
 use Rattle.query_laws.proofs.NameLaws.{stream_sound, stream_complete, fold_name_sound, apart_sound}
 use Rattle.query_laws.proofs.Steps.{then_next, place_stands, stands_place}
-use Rattle.query_laws.specs.TypingExamples.{here, called, two_columns, first, second, is_less, typed_is_less, with_first, RefusesNumber, RefusesColumn, ExpressionExamples}
-use Rattle.query_laws.specs.TypingExamples.{fields, zipped, a_field, by_key, mapped, unmapped, of_one_argument, of_no_argument, items_before, MakesNothing, is_above_0, new_column, grouped_by, StreamExamples}
+use Rattle.query_laws.specs.TypingExamples.{here, called, two_columns, first, second, is_less, typed_is_less, with_first, RefusesNumber}
+use Rattle.query_laws.specs.TypingExamples.{RefusesColumn, ExpressionExamples}
+use Rattle.query_laws.specs.TypingExamples.{fields, zipped, a_field, by_key, mapped, unmapped, of_one_argument, of_no_argument}
+use Rattle.query_laws.specs.TypingExamples.{items_before, MakesNothing, is_above_0, new_column, grouped_by, StreamExamples}
 
 -- ---- expressions
 
 abbrev found : TypedExpr → Sort → Found
 found tree sort = record { tree = tree; sort = sort; at = here }
 
-refuse : (columns : List ℕ) (e : Expr) (fault : QueryFault) → expr_checked columns [] e ≡ Err fault → (k : Kind) (t : TypedExpr) → HasKind columns k e t → ⊥
+refuse : (columns : List ℕ) (e : Expr) (fault : QueryFault) → expr_checked columns [] e ≡ Err fault → (k : Kind) (t : TypedExpr)
+    → HasKind columns k e t → ⊥
 refuse columns e fault is k t h = let g = complete columns [] k e t h in no_fault g.found fault (sym g.is ∙ is)
 
 two : (columns : List ℕ) (op : Op) (x y : Expr) (f g : Found) → expr_checked columns [] x ≡ Ok f → expr_checked columns [] y ≡ Ok g
     → expr_checked columns [] (Binary op here x y) ≡ of_two op f.at f g
-two columns op x y f g p q = binary_is columns [] op here x y ∙ then_next (expr_checked columns [] x) _ f p ∙ then_next (expr_checked columns [] y) _ g q
+two columns op x y f g p q = binary_is columns [] op here x y ∙ then_next (expr_checked columns [] x) _ f p
+    ∙ then_next (expr_checked columns [] y) _ g q
 
 two_called : (columns : List ℕ) (op : Op) (x y : Expr) (f g : Found) → expr_checked columns [] x ≡ Ok f → expr_checked columns [] y ≡ Ok g
     → expr_checked columns [] (Call op here (x ∷ y ∷ [])) ≡ of_two op here f g
@@ -72,12 +77,14 @@ pub second_word : HasKind two_columns Word second (typed.Slot 1)
 second_word = of_name (called 2) 1 (place_stands two_columns 2 1 refl)
 
 pub no_word : (t : TypedExpr) × HasKind two_columns Word is_less t → ⊥
-no_word h = no_fault h.0 (record { kind = WrongKind; span = here }) (sym (word_complete two_columns [] is_less h.0 h.1) ∙ then_next (expr_checked two_columns [] is_less) _ _ less_is)
+no_word h = no_fault h.0 (record { kind = WrongKind; span = here }) (sym (word_complete two_columns [] is_less h.0 h.1)
+    ∙ then_next (expr_checked two_columns [] is_less) _ _ less_is)
 
 is_condition : HasKind two_columns Condition is_less typed_is_less
 is_condition = of_binary Lt here first second (typed.Slot 0) (typed.Slot 1) first_word second_word tt
 
-by_number : (op : Op) (n : ℕ) (fault : QueryFault) → expr_checked two_columns [] (with_first op (Number n here)) ≡ Err fault → RefusesNumber op n
+by_number : (op : Op) (n : ℕ) (fault : QueryFault) → expr_checked two_columns [] (with_first op (Number n here)) ≡ Err fault
+    → RefusesNumber op n
 by_number op n fault is = refuse two_columns (with_first op (Number n here)) fault is
 
 by_column : (op : Op) (fault : QueryFault) → expr_checked two_columns [] (with_first op second) ≡ Err fault → RefusesColumn op
@@ -110,20 +117,26 @@ expression_examples = record {
   either = of_binary Either here is_less is_less typed_is_less typed_is_less is_condition is_condition tt;
   either_of_words = by_column Either _ (two two_columns Either first second _ _ first_is second_is);
   negation = of_not here is_less typed_is_less is_condition;
-  negation_of_a_word = refuse two_columns (Not here first) _ (not_is two_columns [] here first ∙ then_next (expr_checked two_columns [] first) (negated here) _ first_is);
-  quotient = of_binary Div here first (Number 1 here) (typed.Slot 0) (typed.Number 1) first_word (of_number 1 here) (1, here, refl, omega arith);
+  negation_of_a_word = refuse two_columns (Not here first) _ (not_is two_columns [] here first
+      ∙ then_next (expr_checked two_columns [] first) (negated here) _ first_is);
+  quotient = of_binary Div here first (Number 1 here) (typed.Slot 0) (typed.Number 1) first_word (of_number 1 here)
+      (1, here, refl, omega arith);
   divided_by_zero = by_number Div 0 _ (two two_columns Div first (Number 0 here) _ _ first_is (number 0));
   divided_by_a_column = by_column Div _ (two two_columns Div first second _ _ first_is second_is);
-  remainder = of_binary Rem here first (Number 1 here) (typed.Slot 0) (typed.Number 1) first_word (of_number 1 here) (1, here, refl, omega arith);
+  remainder = of_binary Rem here first (Number 1 here) (typed.Slot 0) (typed.Number 1) first_word (of_number 1 here)
+      (1, here, refl, omega arith);
   remainder_by_zero = by_number Rem 0 _ (two two_columns Rem first (Number 0 here) _ _ first_is (number 0));
   remainder_by_a_column = by_column Rem _ (two two_columns Rem first second _ _ first_is second_is);
-  shift = of_binary Shl here first (Number 63 here) (typed.Slot 0) (typed.Number 63) first_word (of_number 63 here) (63, here, refl, omega arith);
+  shift = of_binary Shl here first (Number 63 here) (typed.Slot 0) (typed.Number 63) first_word (of_number 63 here)
+      (63, here, refl, omega arith);
   shifted_by_64 = by_number Shl 64 _ (two two_columns Shl first (Number 64 here) _ _ first_is (number 64));
   shifted_by_a_column = by_column Shl _ (two two_columns Shl first second _ _ first_is second_is);
-  shift_right = of_binary Shr here first (Number 63 here) (typed.Slot 0) (typed.Number 63) first_word (of_number 63 here) (63, here, refl, omega arith);
+  shift_right = of_binary Shr here first (Number 63 here) (typed.Slot 0) (typed.Number 63) first_word (of_number 63 here)
+      (63, here, refl, omega arith);
   shifted_right_by_64 = by_number Shr 64 _ (two two_columns Shr first (Number 64 here) _ _ first_is (number 64));
   shifted_right_by_a_column = by_column Shr _ (two two_columns Shr first second _ _ first_is second_is);
-  decay = of_call Decay here first (Number 63 here) (typed.Slot 0) (typed.Number 63) first_word (of_number 63 here) (63, here, refl, omega arith);
+  decay = of_call Decay here first (Number 63 here) (typed.Slot 0) (typed.Number 63) first_word (of_number 63 here)
+      (63, here, refl, omega arith);
   decay_by_64 = by_number Decay 64 _ (two_called two_columns Decay first (Number 64 here) _ _ first_is (number 64));
   decay_by_a_column = by_column Decay _ (two_called two_columns Decay first second _ _ first_is second_is);
 }
@@ -135,7 +148,8 @@ no_place names id none h = let same : (let o : Option ℕ = None in o) ≡ Some 
 
 -- what is on the right of `0 <`
 pub right_of_0 : (id : ℕ) → HasPart Condition (is_above_0 id) Word (Named (called id))
-right_of_0 id = parts.of_right Condition Lt here (Number 0 here) (Named (called id)) Word (Named (called id)) (parts.whole Word (Named (called id)))
+right_of_0 id = parts.of_right Condition Lt here (Number 0 here) (Named (called id)) Word (Named (called id))
+    (parts.whole Word (Named (called id)))
 
 ten : IsStream items_before 10 by_key
 ten = stream_sound items_before (called 10) by_key refl
@@ -181,7 +195,8 @@ stream_examples = record {
     is = refl;
   };
   filter_on_a_state = unmet (Filter (called 10) (is_above_0 3)) (AColumn (1 ∷ []) (3 ∷ []) 3 here)
-      (asks.of_condition (called 10) (is_above_0 3) by_key (AColumn (1 ∷ []) (3 ∷ []) 3 here) ten (asks.of_name Word (called 3) (right_of_0 3)))
+      (asks.of_condition (called 10) (is_above_0 3) by_key (AColumn (1 ∷ []) (3 ∷ []) 3 here) ten
+      (asks.of_name Word (called 3) (right_of_0 3)))
       (no_place (1 ∷ []) 3 refl);
   filter_of_a_fold = unmet (Filter (called 13) (is_above_0 2)) (Stands AStream (called 13)) (asks.of_filtered (called 13) (is_above_0 2))
       (λ h. no_fault h.0 (record { kind = WrongKind; span = here }) (sym (stream_complete items_before (called 13) h.0 h.1)));
@@ -201,10 +216,12 @@ stream_examples = record {
     is = refl;
   };
   map_to_a_column = unmet (Map (called 12) (new_column 2 first ∷ [])) (New two_columns 2 here)
-      (asks.of_columns (called 12) (new_column 2 first ∷ []) unmapped (New two_columns 2 here) twelve (asks.of_name [] (new_column 2 first) [] refl))
+      (asks.of_columns (called 12) (new_column 2 first ∷ []) unmapped (New two_columns 2 here) twelve
+      (asks.of_name [] (new_column 2 first) [] refl))
       (λ new. new.1.0 refl);
   map_to_a_state = unmet (Map (called 10) (new_column 3 first ∷ [])) (New (1 ∷ 3 ∷ []) 3 here)
-      (asks.of_columns (called 10) (new_column 3 first ∷ []) by_key (New (1 ∷ 3 ∷ []) 3 here) ten (asks.of_name [] (new_column 3 first) [] refl))
+      (asks.of_columns (called 10) (new_column 3 first ∷ []) by_key (New (1 ∷ 3 ∷ []) 3 here) ten
+      (asks.of_name [] (new_column 3 first) [] refl))
       (λ new. new.1.0 refl);
   map_to_one_name = unmet (Map (called 12) (new_column 5 first ∷ new_column 5 second ∷ [])) (New (1 ∷ 2 ∷ 5 ∷ []) 5 here)
       (asks.of_columns (called 12) (new_column 5 first ∷ new_column 5 second ∷ []) unmapped (New (1 ∷ 2 ∷ 5 ∷ []) 5 here) twelve
@@ -212,10 +229,12 @@ stream_examples = record {
       (λ new. new.1.1.0 refl);
   map_of_a_condition = unmet (Map (called 12) (new_column 5 is_less ∷ [])) (Typed two_columns Word is_less)
       (asks.of_columns (called 12) (new_column 5 is_less ∷ []) unmapped (Typed two_columns Word is_less) twelve
-      (asks.of_value [] (new_column 5 is_less) [] (Typed two_columns Word is_less) refl (asks.of_part Word is_less (parts.whole Word is_less))))
+      (asks.of_value [] (new_column 5 is_less) [] (Typed two_columns Word is_less) refl
+      (asks.of_part Word is_less (parts.whole Word is_less))))
       no_word;
   map_of_a_new_column = unmet (Map (called 12) (new_column 5 first ∷ new_column 6 (Named (called 5)) ∷ [])) (AColumn two_columns [] 5 here)
-      (asks.of_columns (called 12) (new_column 5 first ∷ new_column 6 (Named (called 5)) ∷ []) unmapped (AColumn two_columns [] 5 here) twelve
+      (asks.of_columns (called 12) (new_column 5 first ∷ new_column 6 (Named (called 5)) ∷ []) unmapped (AColumn two_columns [] 5 here)
+      twelve
       (asks.of_value (new_column 5 first ∷ []) (new_column 6 (Named (called 5))) [] (AColumn two_columns [] 5 here) refl
       (asks.of_name Word (called 5) (parts.whole Word (Named (called 5))))))
       (no_place two_columns 5 refl);
@@ -227,7 +246,8 @@ stream_examples = record {
     one = ten;
     other = eleven;
     same = ((λ e. refl, tt), ((λ e. absurd (omega (arith, e)), tt), tt));
-    new = rules.of_named 0 _ _ (1 ∷ []) (λ new. new.0 refl) (rules.of_other 1 _ [] [] ((λ e. absurd (omega (arith, e))), tt) (rules.of_none 2));
+    new = rules.of_named 0 _ _ (1 ∷ []) (λ new. new.0 refl) (rules.of_other 1 _ [] [] ((λ e. absurd (omega (arith, e))), tt)
+        (rules.of_none 2));
     taken = (refl, tt);
     is = refl;
   };
@@ -250,17 +270,21 @@ stream_examples = record {
   };
   key_twice = λ made h. h.picked.distinct.1.0.0 refl;
   key_without_a_column = unmet (grouped_by 12 5 13) (AColumn two_columns [] 5 here)
-      (asks.of_keys (called 12) (key.Named (called 5) ∷ []) (called 13) unmapped (AColumn two_columns [] 5 here) twelve (asks.of_key [] (called 5) [] refl))
+      (asks.of_keys (called 12) (key.Named (called 5) ∷ []) (called 13) unmapped (AColumn two_columns [] 5 here) twelve
+      (asks.of_key [] (called 5) [] refl))
       (no_place two_columns 5 refl);
   key_is_a_state = unmet (grouped_by 10 3 14) (AColumn (1 ∷ []) (3 ∷ []) 3 here)
-      (asks.of_keys (called 10) (key.Named (called 3) ∷ []) (called 14) by_key (AColumn (1 ∷ []) (3 ∷ []) 3 here) ten (asks.of_key [] (called 3) [] refl))
+      (asks.of_keys (called 10) (key.Named (called 3) ∷ []) (called 14) by_key (AColumn (1 ∷ []) (3 ∷ []) 3 here) ten
+      (asks.of_key [] (called 3) [] refl))
       (no_place (1 ∷ []) 3 refl);
   argument_without_a_column = unmet (grouped_by 10 1 13) (AColumn (1 ∷ []) (3 ∷ []) 2 here)
-      (asks.of_arguments (called 10) (key.Named (called 1) ∷ []) (called 13) by_key of_one_argument (AColumn (1 ∷ []) (3 ∷ []) 2 here) ten thirteen
+      (asks.of_arguments (called 10) (key.Named (called 1) ∷ []) (called 13) by_key of_one_argument (AColumn (1 ∷ []) (3 ∷ []) 2 here) ten
+      thirteen
       (asks.of_argument [] 2 [] refl))
       (no_place (1 ∷ []) 2 refl);
   variable_with_a_keys_name = unmet (grouped_by 12 1 14) (Apart (1 ∷ []) (1 ∷ []) here)
-      (asks.of_arguments (called 12) (key.Named (called 1) ∷ []) (called 14) unmapped of_no_argument (Apart (1 ∷ []) (1 ∷ []) here) twelve fourteen asks.of_states)
+      (asks.of_arguments (called 12) (key.Named (called 1) ∷ []) (called 14) unmapped of_no_argument (Apart (1 ∷ []) (1 ∷ []) here) twelve
+      fourteen asks.of_states)
       (λ apart. apart.0.0 refl);
   eight_fields = record {
     few = omega arith;
@@ -270,7 +294,41 @@ stream_examples = record {
     f = of_one_argument;
     arguments = 0 ∷ [];
     stream = fifteen;
-    picked = record { places = (field 21 1 refl, (field 22 2 refl, (field 23 3 refl, (field 24 4 refl, (field 25 5 refl, (field 26 6 refl, (field 27 7 refl, (field 28 8 refl, tt)))))))); distinct = (new 21 ([]) refl, (new 22 (21 ∷ []) refl, (new 23 (21 ∷ 22 ∷ []) refl, (new 24 (21 ∷ 22 ∷ 23 ∷ []) refl, (new 25 (21 ∷ 22 ∷ 23 ∷ 24 ∷ []) refl, (new 26 (21 ∷ 22 ∷ 23 ∷ 24 ∷ 25 ∷ []) refl, (new 27 (21 ∷ 22 ∷ 23 ∷ 24 ∷ 25 ∷ 26 ∷ []) refl, (new 28 (21 ∷ 22 ∷ 23 ∷ 24 ∷ 25 ∷ 26 ∷ 27 ∷ []) refl, tt)))))))); few = omega arith };
+    picked = record {
+      places = (
+        field 21 1 refl,
+        (
+          field 22 2 refl,
+          (
+            field 23 3 refl,
+            (field 24 4 refl, (field 25 5 refl, (field 26 6 refl, (field 27 7 refl, (field 28 8 refl, tt))))),
+          ),
+        ),
+      );
+      distinct = (
+        new 21 ([]) refl,
+        (
+          new 22 (21 ∷ []) refl,
+          (
+            new 23 (21 ∷ 22 ∷ []) refl,
+            (
+              new 24 (21 ∷ 22 ∷ 23 ∷ []) refl,
+              (
+                new 25 (21 ∷ 22 ∷ 23 ∷ 24 ∷ []) refl,
+                (
+                  new 26 (21 ∷ 22 ∷ 23 ∷ 24 ∷ 25 ∷ []) refl,
+                  (
+                    new 27 (21 ∷ 22 ∷ 23 ∷ 24 ∷ 25 ∷ 26 ∷ []) refl,
+                    (new 28 (21 ∷ 22 ∷ 23 ∷ 24 ∷ 25 ∷ 26 ∷ 27 ∷ []) refl, tt),
+                  ),
+                ),
+              ),
+            ),
+          ),
+        ),
+      );
+      few = omega arith;
+    };
     there = (refl, (refl, (refl, (refl, (refl, (refl, (refl, (refl, tt))))))));
     fold = thirteen;
     taken = record { places = (field 2 0 refl, tt); apart = apart_sound (3 ∷ []) (21 ∷ 22 ∷ 23 ∷ 24 ∷ 25 ∷ 26 ∷ 27 ∷ 28 ∷ []) refl };
@@ -285,7 +343,20 @@ stream_examples = record {
     f = of_one_argument;
     arguments = 0 ∷ [];
     stream = fifteen;
-    picked = record { places = (field 21 1 refl, (field 22 2 refl, (field 23 3 refl, (field 24 4 refl, (field 25 5 refl, tt))))); distinct = (new 21 ([]) refl, (new 22 (21 ∷ []) refl, (new 23 (21 ∷ 22 ∷ []) refl, (new 24 (21 ∷ 22 ∷ 23 ∷ []) refl, (new 25 (21 ∷ 22 ∷ 23 ∷ 24 ∷ []) refl, tt))))); few = omega arith };
+    picked = record {
+      places = (field 21 1 refl, (field 22 2 refl, (field 23 3 refl, (field 24 4 refl, (field 25 5 refl, tt)))));
+      distinct = (
+        new 21 ([]) refl,
+        (
+          new 22 (21 ∷ []) refl,
+          (
+            new 23 (21 ∷ 22 ∷ []) refl,
+            (new 24 (21 ∷ 22 ∷ 23 ∷ []) refl, (new 25 (21 ∷ 22 ∷ 23 ∷ 24 ∷ []) refl, tt)),
+          ),
+        ),
+      );
+      few = omega arith;
+    };
     there = (refl, (refl, (refl, (refl, (refl, tt)))));
     fold = thirteen;
     taken = record { places = (field 2 0 refl, tt); apart = apart_sound (3 ∷ []) (21 ∷ 22 ∷ 23 ∷ 24 ∷ 25 ∷ []) refl };

@@ -7,7 +7,9 @@ use Rattle.query_lang.specs.declared.fault.Span.{Span}
 use Rattle.query_lang.specs.declared.typing.Known.{Known}
 use Rattle.query_lang.specs.declared.typing.Meaning.TheVariants as meaning
 use Rattle.query_laws.specs.Context.{IsFree}
-use Rattle.query_laws.specs.Demands.{AStream, ATable, AFold, AQuietFold, Sought, IsSought, Demand, Free, Stands, AColumn, New, Target, Typed, Two, Constant, Kept, Fewer, Same, Apart, SameKeys, ReadsNone, OneEmit, most, Holds, IsUnknown, IsHiddenState, IsTaken, IsOtherKind, IsOtherArity, IsBadConstant, IsOneTooMany, Tells}
+use Rattle.query_laws.specs.Demands.{AStream, ATable, AFold, AQuietFold, Sought, IsSought, Demand, Free, Stands, AColumn, New, Target}
+use Rattle.query_laws.specs.Demands.{Typed, Two, Constant, Kept, Fewer, Same, Apart, SameKeys, ReadsNone, OneEmit, most, Holds, IsUnknown}
+use Rattle.query_laws.specs.Demands.{IsHiddenState, IsTaken, IsOtherKind, IsOtherArity, IsBadConstant, IsOneTooMany, Tells}
 use Rattle.query_laws.specs.ExprRules.{Kind, Word, Condition, other_kind, StandsAt}
 use Rattle.query_laws.specs.FoldRules.{IsNew}
 use Rattle.query_laws.proofs.ExprFaults.{one_kind}

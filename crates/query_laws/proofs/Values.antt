@@ -1,5 +1,6 @@
 -- The rows of streams: the values of their columns, each by the packet, where the values come from, and the column's name.
-use Rattle.std.proofs.Common.{◌≡◌, ℕ, zero, suc, ◌<◌, Bool, true, false, cond, ◌||◌, eqb, List, [], ◌∷◌, ◌++◌, length, map, Option, Some, None, nat_eq, slice_index, refl, sym, ap, subst, ◌∙◌, arith}
+use Rattle.std.proofs.Common.{◌≡◌, ℕ, zero, suc, ◌<◌, Bool, true, false, cond, ◌||◌, eqb, List, [], ◌∷◌, ◌++◌, length, map, Option, Some}
+use Rattle.std.proofs.Common.{None, nat_eq, slice_index, refl, sym, ap, subst, ◌∙◌, arith}
 use Rattle.std.specs.Prelude.{filter, find, slice_get, option_map, if◌then◌else◌, ◌==◌}
 use Rattle.std.specs.List.{cons_option}
 use Rattle.std.proofs.lemmas.Bool.{eqb-true}
@@ -50,7 +51,8 @@ values_picked V packet view (slot ∷ slots) h =
 
 -- ---- operators
 
-filter_has : (V : Values) (view : View) (test : Tuple → Bool) (tuples : List Tuple) → HaveValues V view tuples → HaveValues V view (filter test tuples)
+filter_has : (V : Values) (view : View) (test : Tuple → Bool) (tuples : List Tuple) → HaveValues V view tuples
+    → HaveValues V view (filter test tuples)
 filter_has V view test [] h = tt
 filter_has V view test (t ∷ tuples) h = go (test t) (filter_has V view test tuples h.1)
   where
@@ -74,7 +76,8 @@ find_has : (V : Values) (view : View) (packet : ℕ) (tuples : List Tuple) (othe
 find_has V view packet [] other h e = cc e
 find_has V view packet (t ∷ tuples) other h e = go (eqb t.packet packet) refl (λ k. find_has V view packet tuples other h.1 k) e
   where
-    go : (b : Bool) → eqb t.packet packet ≡ b → (find (λ (t : Tuple). t.packet == packet) tuples ≡ Some other → other.row ≡ row_of V packet view)
+    go : (b : Bool) → eqb t.packet packet ≡ b → (find (λ (t : Tuple). t.packet == packet) tuples ≡ Some other
+        → other.row ≡ row_of V packet view)
         → cond b (Some t) (find (λ (t : Tuple). t.packet == packet) tuples) ≡ Some other → other.row ≡ row_of V packet view
     go true is more k =
         ap (λ (z : Tuple). z.row) (sym (same_Some t other k)) ∙ h.0 ∙ ap (λ n. row_of V n view) (eqb-true t.packet packet is)
@@ -90,8 +93,10 @@ zip_has V first second slots below right r (t ∷ left) l =
     whole : View
     whole = first ++ columns_at second slots
 
-    go : (o : Option Tuple) → find (λ (other : Tuple). other.packet == t.packet) right ≡ o → HaveValues V whole (zip_stream slots left right)
-        → HaveValues V whole (cons_option (option_map (λ (other : Tuple). record { packet = t.packet; row = t.row ++ values_at other.row slots }) o) (zip_stream slots left right))
+    go : (o : Option Tuple) → find (λ (other : Tuple). other.packet == t.packet) right ≡ o
+        → HaveValues V whole (zip_stream slots left right)
+        → HaveValues V whole (cons_option (option_map (λ (other : Tuple). record
+        { packet = t.packet; row = t.row ++ values_at other.row slots }) o) (zip_stream slots left right))
     go None is more = more
     go (Some other) is more = (
       ap (λ row. row ++ values_at other.row slots) l.0
@@ -101,7 +106,8 @@ zip_has V first second slots below right r (t ∷ left) l =
       more,
     )
 
-keys_have : (V : Values) (source : View) (keys : List ℕ) → AreBelow (length source) keys → (tuples : List Tuple) → HaveValues V source tuples
+keys_have : (V : Values) (source : View) (keys : List ℕ) → AreBelow (length source) keys → (tuples : List Tuple)
+    → HaveValues V source tuples
     → HaveValues V (columns_at source keys) (map (λ t. record { packet = t.packet; row = values_at t.row keys }) tuples)
 keys_have V source keys below [] h = tt
 keys_have V source keys below (t ∷ tuples) h =
@@ -136,7 +142,8 @@ looks_past name v names values (x ∷ list) h = go (nat_eq x name) refl (λ k. l
         ap (λ b. cond b v (look names values x) ∷ map (λ id. look (name ∷ names) (v ∷ values) id) list) other
         ∙ ap (λ l. look names values x ∷ l) (more k)
 
-pub all_looked_up : (names values : List ℕ) → AreDistinct names → length names ≡ length values → map (λ id. look names values id) names ≡ values
+pub all_looked_up : (names values : List ℕ) → AreDistinct names → length names ≡ length values
+    → map (λ id. look names values id) names ≡ values
 all_looked_up [] [] d e = refl
 all_looked_up [] (v ∷ values) d e = absurd (omega (arith, e))
 all_looked_up (name ∷ names) [] d e = absurd (omega (arith, e))
@@ -199,7 +206,8 @@ row_same V number new packet (c ∷ view) h =
     ap (λ n. n ∷ row_of V packet view) (value_same V number new packet c.origin c.name h.0)
     ∙ ap (λ l. with_map V number new packet c.origin c.name ∷ l) (row_same V number new packet view h.1)
 
-have_same : (V : Values) (number : ℕ) (new : ℕ → ℕ → ℕ) (view : View) (tuples : List Tuple) → AreEarlier number view → HaveValues V view tuples
+have_same : (V : Values) (number : ℕ) (new : ℕ → ℕ → ℕ) (view : View) (tuples : List Tuple) → AreEarlier number view
+    → HaveValues V view tuples
     → HaveValues (with_map V number new) view tuples
 have_same V number new view [] e h = tt
 have_same V number new view (t ∷ tuples) e h = (h.0 ∙ row_same V number new t.packet view e, have_same V number new view tuples e h.1)
@@ -209,7 +217,8 @@ new_row : (V : Values) (number : ℕ) (new : ℕ → ℕ → ℕ) (packet : ℕ)
     → map (λ id. new packet id) names ≡ row_of (with_map V number new) packet (mapped_columns number names)
 new_row V number new packet [] = refl
 new_row V number new packet (name ∷ names) =
-    ap (λ b. cond b (new packet name) (V packet (origin.Map number) name) ∷ map (λ id. new packet id) names) (sym (nat_is number number refl))
+    ap (λ b. cond b (new packet name) (V packet (origin.Map number) name) ∷ map (λ id. new packet id) names)
+    (sym (nat_is number number refl))
     ∙ ap (λ l. with_map V number new packet (origin.Map number) name ∷ l) (new_row V number new packet names)
 
 -- ---- all streams
@@ -248,7 +257,8 @@ all_same V number new (v ∷ views) (l ∷ lists) h = ((h.0.0, have_same V numbe
 abbrev pub OneMore : ℕ → List View → List (List Tuple) → View → List Tuple → Type 0
 OneMore number views lists view tuples = (V : Values) × AllHave (suc number) V (views ++ view ∷ []) (lists ++ tuples ∷ [])
 
-module _ (folds : List TypedFold) (number : ℕ) (V : Values) (views : List View) (lists : List (List Tuple)) (h : AllHave number V views lists) where
+module _ (folds : List TypedFold) (number : ℕ) (V : Values) (views : List View) (lists : List (List Tuple))
+    (h : AllHave number V views lists) where
   pub of_filter : (input : ℕ) (condition : TypedExpr) (view : View) → slice_get views input ≡ Some view
       → OneMore number views lists view (made_of folds lists (typed.Filter input condition))
   of_filter input condition view e =
@@ -265,7 +275,8 @@ module _ (folds : List TypedFold) (number : ℕ) (V : Values) (views : List View
         next,
         have_last number next views lists view _ (all_same V number new views lists h)
             (subst (AreEarlier (suc number)) (sym m.is)
-            (both_earlier (suc number) m.source (mapped_columns number m.names) (are_earlier_later number m.source from.0) (mapped_earlier number m.names)))
+            (both_earlier (suc number) m.source (mapped_columns number m.names) (are_earlier_later number m.source from.0)
+            (mapped_earlier number m.names)))
             (subst (λ z. HaveValues next z (map_stream values (list_at lists input))) (sym m.is)
             (map_has next m.source (mapped_columns number m.names) values (are from.0) (list_at lists input)
             (have_same V number new m.source (list_at lists input) from.0 from.1))),
@@ -284,7 +295,8 @@ module _ (folds : List TypedFold) (number : ℕ) (V : Values) (views : List View
           → map (λ e. expr_value e (row_of next packet m.source)) values ≡ row_of next packet (mapped_columns number m.names)
       are e packet =
           ap (λ row. map (λ e. expr_value e row) values) (sym (row_same V number new packet m.source e))
-          ∙ sym (all_looked_up m.names (results packet) m.distinct (m.long ∙ sym (length-map values (λ e. expr_value e (row_of V packet m.source)))))
+          ∙ sym (all_looked_up m.names (results packet) m.distinct (m.long
+          ∙ sym (length-map values (λ e. expr_value e (row_of V packet m.source)))))
           ∙ new_row V number new packet m.names
 
   pub of_zip : (left right : ℕ) (slots : List ℕ) (view : View) (z : OfZip views left right slots view) → AreBelow (length z.second) slots

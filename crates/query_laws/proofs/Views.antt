@@ -1,5 +1,6 @@
 -- The columns of streams and where their values come from, as the operators make them.
-use Rattle.std.proofs.Common.{◌≡◌, ℕ, zero, suc, ◌+◌, ◌<◌, Bool, true, false, cond, List, [], ◌∷◌, ◌++◌, length, map, Some, refl, sym, ap, subst, ◌∙◌, append_assoc, append-nil, arith}
+use Rattle.std.proofs.Common.{◌≡◌, ℕ, zero, suc, ◌+◌, ◌<◌, Bool, true, false, cond, List, [], ◌∷◌, ◌++◌, length, map, Some, refl, sym, ap}
+use Rattle.std.proofs.Common.{subst, ◌∙◌, append_assoc, append-nil, arith}
 use Rattle.std.specs.Prelude.{slice_get, option_map}
 use Rattle.std.proofs.lemmas.List.{length_push}
 use Rattle.std.proofs.lemmas.Option.{same_Some}
@@ -66,13 +67,15 @@ AreMade before (one ∷ streams) [] = ⊥
 AreMade before (one ∷ streams) (view ∷ views) =
     Makes before (length before) one.op view × (one.columns ≡ column_names view) × AreMade (before ++ view ∷ []) streams views
 
-pub made_long : (before : List View) (streams : List TypedStream) (views : List View) → AreMade before streams views → length views ≡ length streams
+pub made_long : (before : List View) (streams : List TypedStream) (views : List View) → AreMade before streams views
+    → length views ≡ length streams
 made_long before [] [] h = refl
 made_long before [] (view ∷ views) h = absurd h
 made_long before (one ∷ streams) [] h = absurd h
 made_long before (one ∷ streams) (view ∷ views) h = ap suc (made_long (before ++ view ∷ []) streams views h.2)
 
-pub made_last : (before : List View) (streams : List TypedStream) (views : List View) (one : TypedStream) (view : View) → AreMade before streams views
+pub made_last : (before : List View) (streams : List TypedStream) (views : List View) (one : TypedStream) (view : View)
+    → AreMade before streams views
     → Makes (before ++ views) (length (before ++ views)) one.op view → one.columns ≡ column_names view
     → AreMade before (streams ++ one ∷ []) (views ++ view ∷ [])
 made_last before [] [] one view h k e = (subst (λ l. Makes l (length l) one.op view) (append-nil before) k, e, tt)
@@ -117,7 +120,8 @@ others_below names view = subst (λ n. AreBelow n (others_from 0 names view)) (o
 
 -- the columns of the stream at a place
 pub columns_made : (before : List View) (streams : List TypedStream) (views : List View) → AreMade before streams views
-    → (i : ℕ) (view : View) → slice_get views i ≡ Some view → option_map (λ one. one.columns) (slice_get streams i) ≡ Some (column_names view)
+    → (i : ℕ) (view : View) → slice_get views i ≡ Some view → option_map (λ one. one.columns) (slice_get streams i) ≡ Some
+    (column_names view)
 columns_made before [] [] h i view e = cc e
 columns_made before [] (v ∷ views) h i view e = absurd h
 columns_made before (s ∷ streams) [] h i view e = absurd h

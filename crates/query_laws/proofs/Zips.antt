@@ -1,5 +1,6 @@
 -- What a zip's rows have under the names of both streams.
-use Rattle.std.proofs.Common.{◌≡◌, ℕ, zero, suc, ◌+◌, Bool, true, false, cond, not, ◌&&◌, ◌||◌, List, [], ◌∷◌, ◌++◌, length, Option, Some, None, nat_eq, slice_index, refl, sym, ap, subst, ◌∙◌, append_assoc, arith}
+use Rattle.std.proofs.Common.{◌≡◌, ℕ, zero, suc, ◌+◌, Bool, true, false, cond, not, ◌&&◌, ◌||◌, List, [], ◌∷◌, ◌++◌, length, Option, Some}
+use Rattle.std.proofs.Common.{None, nat_eq, slice_index, refl, sym, ap, subst, ◌∙◌, append_assoc, arith}
 use Rattle.std.specs.Prelude.{Contains, slice_get, option_map, if◌then◌else◌}
 use Rattle.std.specs.List.{list_any, cons_option}
 use Rattle.std.proofs.lemmas.List.{length_push}
@@ -41,7 +42,8 @@ value_from V packet id front [] = refl
 value_from V packet id front (c ∷ view) =
     go (nat_eq c.name id)
     (ap (λ n. option_map (λ slot. slice_index whole slot) (place_from n (column_names view) id)) (sym (length_push front x))
-    ∙ ap (λ l. option_map (λ slot. slice_index l slot) (place_from (length (front ++ x ∷ [])) (column_names view) id)) (sym (append_assoc front (x ∷ []) (row_of V packet view)))
+    ∙ ap (λ l. option_map (λ slot. slice_index l slot) (place_from (length (front ++ x ∷ [])) (column_names view) id))
+    (sym (append_assoc front (x ∷ []) (row_of V packet view)))
     ∙ value_from V packet id (front ++ x ∷ []) view)
   where
     x : ℕ
@@ -51,7 +53,8 @@ value_from V packet id front (c ∷ view) =
     whole = front ++ row_of V packet (c ∷ view)
 
     go : (b : Bool)
-        → option_map (λ slot. slice_index whole slot) (place_from (length front + 1) (column_names view) id) ≡ value_of V packet (named view id)
+        → option_map (λ slot. slice_index whole slot) (place_from (length front + 1) (column_names view) id) ≡ value_of V packet
+        (named view id)
         → option_map (λ slot. slice_index whole slot) (cond b (Some (length front)) (place_from (length front + 1) (column_names view) id))
         ≡ value_of V packet (cond b (Some c) (named view id))
     go true more = ap (λ n. Some n) (index_after front x (row_of V packet view))
@@ -93,15 +96,20 @@ same_where true false is e = cc e
 same_where false b is e = cc is
 
 -- columns of one name come from one place
-columns_same : (first second : View) (id : ℕ) (c d : StreamColumn) → clash first second ≡ false → named first id ≡ Some c → named second id ≡ Some d
+columns_same : (first second : View) (id : ℕ) (c d : StreamColumn) → clash first second ≡ false → named first id ≡ Some c
+    → named second id ≡ Some d
     → (c.name ≡ d.name) × (c.origin ≡ d.origin)
 columns_same first second id c d apart one other =
     let right = named_fails second id d (clashes_with first) other apart in
     let left = named_fails first id c (λ z. nat_eq z.name d.name && not (same_origin z.origin d.origin)) one right.1 in
-    let name : c.name ≡ d.name = left.0 ∙ sym right.0 in
-    (name, origins_same c.origin d.origin (same_where (nat_eq c.name d.name) (same_origin c.origin d.origin) (nat_is c.name d.name name) left.1))
+    let name : c.name ≡ d.name = left.0 ∙ sym right.0 in (
+      name,
+      origins_same c.origin d.origin (same_where (nat_eq c.name d.name) (same_origin c.origin d.origin) (nat_is c.name d.name name)
+          left.1),
+    )
 
-values_same : (V : Values) (packet : ℕ) (first second : View) (id : ℕ) (c d : StreamColumn) → clash first second ≡ false → named first id ≡ Some c
+values_same : (V : Values) (packet : ℕ) (first second : View) (id : ℕ) (c d : StreamColumn) → clash first second ≡ false
+    → named first id ≡ Some c
     → named second id ≡ Some d → V packet c.origin c.name ≡ V packet d.origin d.name
 values_same V packet first second id c d apart one other =
     let same = columns_same first second id c d apart one other in
@@ -118,7 +126,8 @@ others_are : (all : View) (at : ℕ) (names : List ℕ) (view : View) → ((k : 
 others_are all at names [] are = refl
 others_are all at names (c ∷ view) are =
     go (is_among c.name names)
-    (others_are all (at + 1) names view (λ k. ap (slice_get all) (let same : (at + 1) + k ≡ at + suc k = omega arith in same) ∙ are (suc k)))
+    (others_are all (at + 1) names view (λ k. ap (slice_get all) (let same : (at + 1) + k ≡ at + suc k = omega arith in same)
+    ∙ are (suc k)))
   where
     here : slice_get all at ≡ Some c
     here = ap (slice_get all) (let same : at ≡ at + 0 = omega arith in same) ∙ are 0
@@ -173,7 +182,8 @@ zip_after : (first second : View) (id : ℕ) → named first id ≡ None
     → named (first ++ columns_at second (others_from 0 (column_names first) second)) id ≡ named second id
 zip_after first second id e =
     named_after first (columns_at second (others_from 0 (column_names first) second)) id e
-    ∙ ap (λ l. named l id) (others_are second 0 (column_names first) second (λ k. ap (slice_get second) (let same : 0 + k ≡ k = omega arith in same)))
+    ∙ ap (λ l. named l id) (others_are second 0 (column_names first) second
+    (λ k. ap (slice_get second) (let same : 0 + k ≡ k = omega arith in same)))
     ∙ named_kept (column_names first) second id (none_among first id e)
 
 -- ---- the laws, over columns
@@ -182,7 +192,8 @@ agree : (V : Values) (packet : ℕ) (first second : View) (id a b : ℕ) → cla
     → value_of V packet (named first id) ≡ Some a → value_of V packet (named second id) ≡ Some b → a ≡ b
 agree V packet first second id a b apart l r = go (named first id) (named second id) refl refl l r
   where
-    go : (o p : Option StreamColumn) → named first id ≡ o → named second id ≡ p → value_of V packet o ≡ Some a → value_of V packet p ≡ Some b → a ≡ b
+    go : (o p : Option StreamColumn) → named first id ≡ o → named second id ≡ p → value_of V packet o ≡ Some a
+        → value_of V packet p ≡ Some b → a ≡ b
     go None p is other l r = cc l
     go (Some c) None is other l r = cc r
     go (Some c) (Some d) is other l r =
@@ -192,7 +203,8 @@ keeps_first : (V : Values) (packet : ℕ) (first more : View) (id v : ℕ) → v
     → value_of V packet (named (first ++ more) id) ≡ Some v
 keeps_first V packet first more id v e = go (named first id) refl e
   where
-    go : (o : Option StreamColumn) → named first id ≡ o → value_of V packet o ≡ Some v → value_of V packet (named (first ++ more) id) ≡ Some v
+    go : (o : Option StreamColumn) → named first id ≡ o → value_of V packet o ≡ Some v
+        → value_of V packet (named (first ++ more) id) ≡ Some v
     go None is k = cc k
     go (Some c) is k = ap (value_of V packet) (named_front first more id c is) ∙ k
 
@@ -224,7 +236,8 @@ module _ (q : TypedQuery) (packets : List (List ℕ)) (r : HasRows q packets) wh
   under number view t id e c =
       ap (λ names. value_under id names t.row) (names_are q r.views r.made number view e)
       ∙ ap (value_under id (column_names view))
-      (row_in r.values view (stream q number packets) t (have_at (length all) r.values all (all_streams q packets) number view r.have e).1 c)
+      (row_in r.values view (stream q number packets) t (have_at (length all) r.values all (all_streams q packets) number view r.have e).1
+      c)
       ∙ value_named r.values t.packet id view
 
   zip_at : (number left right : ℕ) (z : IsZip q number left right) → ZipAt all number left right z.slots
@@ -260,4 +273,5 @@ module _ (q : TypedQuery) (packets : List (List ℕ)) (r : HasRows q packets) wh
       ∙ ap (λ view. value_of r.values u.packet (named view id)) made.is
       ∙ ap (λ slots. value_of r.values u.packet (named (made.first ++ columns_at made.second slots) id)) made.picked
       ∙ keeps_second r.values u.packet made.first made.second id v made.apart
-      (ap (λ packet. value_of r.values packet (named made.second id)) (sym same) ∙ sym (under right made.second t id made.other in_right) ∙ e)
+      (ap (λ packet. value_of r.values packet (named made.second id)) (sym same) ∙ sym (under right made.second t id made.other in_right)
+      ∙ e)

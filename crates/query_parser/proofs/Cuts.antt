@@ -1,5 +1,6 @@
 -- One turn of the lexer's loop.
-use Rattle.std.proofs.Common.{◌≡◌, ℕ, zero, suc, ◌+◌, ◌-◌, Bool, true, false, cond, ◌<◌, ◌≤◌, List, [], ◌∷◌, ◌++◌, length, drop, take, Ok, Err, refl, sym, ap, ◌∙◌, arith, append_assoc, inl, inr, ◌⊎◌}
+use Rattle.std.proofs.Common.{◌≡◌, ℕ, zero, suc, ◌+◌, ◌-◌, Bool, true, false, cond, ◌<◌, ◌≤◌, List, [], ◌∷◌, ◌++◌, length, drop, take, Ok}
+use Rattle.std.proofs.Common.{Err, refl, sym, ap, ◌∙◌, arith, append_assoc, inl, inr, ◌⊎◌}
 use Rattle.std.proofs.lemmas.List.{length-append, length-drop, drop-drop, drop_all, take_all}
 use Rattle.query_lang.specs.declared.token.Token.{Token}
 use Rattle.query_lang.specs.declared.token.TokenKind.{TokenKind}
@@ -17,7 +18,8 @@ abbrev pub with_all : List Token → Cut → Cut
 with_all front (Ok found) = Ok (front ++ found.0, found.1)
 with_all front (Err fault) = Err fault
 
-cut_step : (n at : ℕ) (names : List (List ℕ)) (bs : List ℕ) → 0 < length bs → cut (suc n) at names bs ≡ cut_piece (piece bs) at names bs (λ k known. cut n (at + k) known (drop k bs))
+cut_step : (n at : ℕ) (names : List (List ℕ)) (bs : List ℕ) → 0 < length bs
+    → cut (suc n) at names bs ≡ cut_piece (piece bs) at names bs (λ k known. cut n (at + k) known (drop k bs))
 unfolding cut
 cut_step n at names [] lt = absurd (omega arith)
 cut_step n at names (b ∷ bs) lt = refl
@@ -37,43 +39,56 @@ with_next ts t (Err fault) = refl
 
 module _ (text : List ℕ) (ts : List Token) (names : List (List ℕ)) (at i : ℕ) (total : Cut) where
   step_at : at < length text → i < length text → (p : Piece) → p ≡ piece (drop at text)
-      → cut (length text - i) at names (drop at text) ≡ cut_piece p at names (drop at text) (λ k known. cut (length text - (i + 1)) (at + k) known (drop k (drop at text)))
+      → cut (length text - i) at names (drop at text) ≡ cut_piece p at names (drop at text)
+      (λ k known. cut (length text - (i + 1)) (at + k) known (drop k (drop at text)))
   step_at lt more p e =
       let k : length text - i ≡ suc (length text - (i + 1)) = omega arith in
       let full : 0 < length (drop at text) = omega (arith, length-drop at text) in
       rw (k, e) (cut_step (length text - (i + 1)) at names (drop at text) full)
 
-  pub blank : at < length text → i < length text → (n : ℕ) → pieces.Blank n ≡ piece (drop at text) → with_all ts (cut (length text - i) at names (drop at text)) ≡ total
+  pub blank : at < length text → i < length text → (n : ℕ) → pieces.Blank n ≡ piece (drop at text)
+      → with_all ts (cut (length text - i) at names (drop at text)) ≡ total
       → with_all ts (cut (length text - (i + 1)) (at + n) names (drop (at + n) text)) ≡ total
-  blank lt more n e h = ap (λ (bs : List ℕ). with_all ts (cut (length text - (i + 1)) (at + n) names bs)) (sym (drop-drop n at text)) ∙ ap (with_all ts) (sym (step_at lt more (pieces.Blank n) e)) ∙ h
+  blank lt more n e h = ap (λ (bs : List ℕ). with_all ts (cut (length text - (i + 1)) (at + n) names bs)) (sym (drop-drop n at text))
+      ∙ ap (with_all ts) (sym (step_at lt more (pieces.Blank n) e)) ∙ h
 
-  pub token : at < length text → i < length text → (k : TokenKind) (n : ℕ) → pieces.Token k n ≡ piece (drop at text) → with_all ts (cut (length text - i) at names (drop at text)) ≡ total
+  pub token : at < length text → i < length text → (k : TokenKind) (n : ℕ) → pieces.Token k n ≡ piece (drop at text)
+      → with_all ts (cut (length text - i) at names (drop at text)) ≡ total
       → with_all (ts ++ token_at k at (at + n) ∷ []) (cut (length text - (i + 1)) (at + n) names (drop (at + n) text)) ≡ total
   token lt more k n e h = with_next ts (token_at k at (at + n)) (cut (length text - (i + 1)) (at + n) names (drop (at + n) text))
-      ∙ ap (λ (bs : List ℕ). with_all ts (with_front (token_at k at (at + n)) (cut (length text - (i + 1)) (at + n) names bs))) (sym (drop-drop n at text))
+      ∙ ap (λ (bs : List ℕ). with_all ts (with_front (token_at k at (at + n)) (cut (length text - (i + 1)) (at + n) names bs)))
+      (sym (drop-drop n at text))
       ∙ ap (with_all ts) (sym (step_at lt more (pieces.Token k n) e)) ∙ h
 
-  pub name : at < length text → i < length text → (n : ℕ) → pieces.Name n ≡ piece (drop at text) → with_all ts (cut (length text - i) at names (drop at text)) ≡ total
+  pub name : at < length text → i < length text → (n : ℕ) → pieces.Name n ≡ piece (drop at text)
+      → with_all ts (cut (length text - i) at names (drop at text)) ≡ total
       → with_all (ts ++ token_at (Name (number_in names (take n (drop at text)))) at (at + n) ∷ [])
       (cut (length text - (i + 1)) (at + n) (with_name names (take n (drop at text))) (drop (at + n) text)) ≡ total
   name lt more n e h =
       let w : List ℕ = take n (drop at text) in
       let t : Token = token_at (Name (number_in names w)) at (at + n) in
       with_next ts t (cut (length text - (i + 1)) (at + n) (with_name names w) (drop (at + n) text))
-      ∙ ap (λ (bs : List ℕ). with_all ts (with_front t (cut (length text - (i + 1)) (at + n) (with_name names w) bs))) (sym (drop-drop n at text))
+      ∙ ap (λ (bs : List ℕ). with_all ts (with_front t (cut (length text - (i + 1)) (at + n) (with_name names w) bs)))
+      (sym (drop-drop n at text))
       ∙ ap (with_all ts) (sym (step_at lt more (pieces.Name n) e)) ∙ h
 
-  pub numbered : at < length text → i < length text → (n : ℕ) → pieces.Name n ≡ piece (drop at text) → (w : List ℕ) → w ≡ take n (drop at text)
-      → (id : ℕ) → id ≡ number_in names w → (known : List (List ℕ)) → known ≡ with_name names w → with_all ts (cut (length text - i) at names (drop at text)) ≡ total
+  pub numbered : at < length text → i < length text → (n : ℕ) → pieces.Name n ≡ piece (drop at text) → (w : List ℕ)
+      → w ≡ take n (drop at text)
+      → (id : ℕ) → id ≡ number_in names w → (known : List (List ℕ)) → known ≡ with_name names w
+      → with_all ts (cut (length text - i) at names (drop at text)) ≡ total
       → with_all (ts ++ token_at (Name id) at (at + n) ∷ []) (cut (length text - (i + 1)) (at + n) known (drop (at + n) text)) ≡ total
   numbered lt more n e w f id g known k h = rw (g, k, f) (name lt more n e h)
 
-  pub fault : at < length text → i < length text → (f : FaultKind) (n : ℕ) → pieces.Fault f n ≡ piece (drop at text) → with_all ts (cut (length text - i) at names (drop at text)) ≡ total → total ≡ Err (fault_at f (at + n))
+  pub fault : at < length text → i < length text → (f : FaultKind) (n : ℕ) → pieces.Fault f n ≡ piece (drop at text)
+      → with_all ts (cut (length text - i) at names (drop at text)) ≡ total → total ≡ Err (fault_at f (at + n))
   fault lt more f n e h = sym h ∙ ap (with_all ts) (step_at lt more (pieces.Fault f n) e)
 
-  pub ends : (length text ≤ i) ⊎ (length text ≤ at) → with_all ts (cut (length text - i) at names (drop at text)) ≡ total → total ≡ Ok (ts ++ token_at End at at ∷ [], names)
-  ends (inl le) h = let k : length text - i ≡ 0 = omega arith in sym h ∙ ap (λ (n : ℕ). with_all ts (cut n at names (drop at text))) k ∙ ap (with_all ts) (cut_none at names (drop at text))
-  ends (inr le) h = sym h ∙ ap (λ (bs : List ℕ). with_all ts (cut (length text - i) at names bs)) (drop_all at text le) ∙ ap (with_all ts) (cut_end (length text - i) at names)
+  pub ends : (length text ≤ i) ⊎ (length text ≤ at) → with_all ts (cut (length text - i) at names (drop at text)) ≡ total
+      → total ≡ Ok (ts ++ token_at End at at ∷ [], names)
+  ends (inl le) h = let k : length text - i ≡ 0 = omega arith in sym h ∙ ap (λ (n : ℕ). with_all ts (cut n at names (drop at text))) k
+      ∙ ap (with_all ts) (cut_none at names (drop at text))
+  ends (inr le) h = sym h ∙ ap (λ (bs : List ℕ). with_all ts (cut (length text - i) at names bs)) (drop_all at text le)
+      ∙ ap (with_all ts) (cut_end (length text - i) at names)
 
 -- what is left of the text
 pub rest_all : (text : List ℕ) (at : ℕ) → take (length text - at) (drop at text) ≡ drop at text

@@ -37,7 +37,8 @@ pub operands_or : (p : Parser Expr) (c : Counts) (ts : List Token) → operands_
 unfolding operands_of
 operands_or p c ts = refl
 
-pub operands_comparison : (p : Parser Expr) (c : Counts) (ts : List Token) → operands_of levels.Comparison p c ts ≡ level_of levels.Or p c ts
+pub operands_comparison : (p : Parser Expr) (c : Counts) (ts : List Token)
+    → operands_of levels.Comparison p c ts ≡ level_of levels.Or p c ts
 unfolding operands_of
 operands_comparison p c ts = refl
 
@@ -53,6 +54,8 @@ pub bracket_more : (e : ℕ) (c : Counts) (ts : List Token) → 0 < e → bracke
 bracket_more zero c ts h = grind (arith, h)
 bracket_more (suc e) c ts h = let k : e ≡ suc e - 1 = omega arith in ap (λ (n : ℕ). parens Limited (expr_at Limited n) c ts) k
 
-pub arguments_more : (e : ℕ) (c : Counts) (ts : List Token) → 0 < e → arguments_at e c ts ≡ parens Limited (listed_by Limited expr_starts (expr_at Limited (e - 1))) c ts
+pub arguments_more : (e : ℕ) (c : Counts) (ts : List Token) → 0 < e → arguments_at e c ts ≡ parens Limited
+    (listed_by Limited expr_starts (expr_at Limited (e - 1))) c ts
 arguments_more zero c ts h = grind (arith, h)
-arguments_more (suc e) c ts h = let k : e ≡ suc e - 1 = omega arith in ap (λ (n : ℕ). parens Limited (listed_by Limited expr_starts (expr_at Limited n)) c ts) k
+arguments_more (suc e) c ts h = let k : e ≡ suc e - 1 = omega arith in ap
+    (λ (n : ℕ). parens Limited (listed_by Limited expr_starts (expr_at Limited n)) c ts) k

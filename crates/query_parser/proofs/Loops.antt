@@ -1,5 +1,6 @@
 -- One turn of a loop that reads the same thing repeatedly.
-use Rattle.std.proofs.Common.{◌≡◌, ℕ, zero, suc, ◌+◌, ◌-◌, ◌<◌, ◌≤◌, Bool, true, false, List, [], ◌∷◌, ◌++◌, length, refl, sym, ap, ◌∙◌, arith, append_assoc, inl, inr, ◌⊎◌}
+use Rattle.std.proofs.Common.{◌≡◌, ℕ, zero, suc, ◌+◌, ◌-◌, ◌<◌, ◌≤◌, Bool, true, false, List, [], ◌∷◌, ◌++◌, length, refl, sym, ap, ◌∙◌}
+use Rattle.std.proofs.Common.{arith, append_assoc, inl, inr, ◌⊎◌}
 use Rattle.query_lang.specs.declared.token.Token.{Token}
 use Rattle.query_grammar.specs.declared.stop.Counts.{Counts}
 use Rattle.query_grammar.specs.Parser.{Outcome, Done, Stopped, Parser, and_then, followed_by, mapped, next_is, turns, repeated}
@@ -21,12 +22,16 @@ later found others = found ++ others
 
 module _ {A B : Type 0} (starts : Token → Bool) (p : Parser A) (total : Outcome B) where
   one_turn : (n i : ℕ) (c : Counts) (ts : List Token) → i < n → next_is starts ts ≡ true
-      → turns (n - i) starts p c ts ≡ and_then (p c ts) (λ a c' rest. and_then (turns (n - (i + 1)) starts p c' rest) (λ others c'' rest'. Done (a ∷ others) c'' rest'))
+      → turns (n - i) starts p c ts ≡ and_then (p c ts) (λ a c' rest. and_then (turns (n - (i + 1)) starts p c' rest)
+      (λ others c'' rest'. Done (a ∷ others) c'' rest'))
   one_turn n i c ts lt h = let k : n - i ≡ suc (n - (i + 1)) = omega arith in rw (k, h) refl
 
-  pub goes_on : (f g : List A → B) (n i : ℕ) (c : Counts) (ts : List Token) (a : A) (d : Counts) (rest : List Token) → i < n → next_is starts ts ≡ true
-      → p c ts ≡ Done a d rest → ((others : List A) → g others ≡ f (a ∷ others)) → finished f (turns (n - i) starts p c ts) ≡ total → finished g (turns (n - (i + 1)) starts p d rest) ≡ total
-  goes_on f g n i c ts a d rest lt h e same so_far = go (turns (n - (i + 1)) starts p d rest) ∙ ap (finished f) (sym (one_turn n i c ts lt h ∙ rw e refl)) ∙ so_far
+  pub goes_on : (f g : List A → B) (n i : ℕ) (c : Counts) (ts : List Token) (a : A) (d : Counts) (rest : List Token) → i < n
+      → next_is starts ts ≡ true
+      → p c ts ≡ Done a d rest → ((others : List A) → g others ≡ f (a ∷ others)) → finished f (turns (n - i) starts p c ts) ≡ total
+      → finished g (turns (n - (i + 1)) starts p d rest) ≡ total
+  goes_on f g n i c ts a d rest lt h e same so_far = go (turns (n - (i + 1)) starts p d rest)
+      ∙ ap (finished f) (sym (one_turn n i c ts lt h ∙ rw e refl)) ∙ so_far
     where
       go : (o : Outcome (List A)) → finished g o ≡ finished f (and_then o (λ others c'' rest'. Done (a ∷ others) c'' rest'))
       go (Done others c'' rest') = ap (λ (b : B). Done b c'' rest') (same others)
@@ -38,7 +43,8 @@ module _ {A B : Type 0} (starts : Token → Bool) (p : Parser A) (total : Outcom
   fails f n i c ts halts.Memory lt h e so_far = tt
   fails f n i c ts (halts.At x) lt h e so_far = sym so_far ∙ ap (finished f) (one_turn n i c ts lt h) ∙ rw e refl
 
-  pub ends : (f : List A → B) (n i : ℕ) (c : Counts) (ts : List Token) → (n ≤ i) ⊎ (next_is starts ts ≡ false) → finished f (turns (n - i) starts p c ts) ≡ total → total ≡ Done (f []) c ts
+  pub ends : (f : List A → B) (n i : ℕ) (c : Counts) (ts : List Token) → (n ≤ i) ⊎ (next_is starts ts ≡ false)
+      → finished f (turns (n - i) starts p c ts) ≡ total → total ≡ Done (f []) c ts
   ends f n i c ts (inl le) so_far = let k : n - i ≡ 0 = omega arith in sym so_far ∙ rw k refl
   ends f n i c ts (inr other) so_far = sym so_far ∙ ap (finished f) (none (n - i))
     where
@@ -48,20 +54,26 @@ module _ {A B : Type 0} (starts : Token → Bool) (p : Parser A) (total : Outcom
 
 -- more of a list
 module _ {A : Type 0} (starts : Token → Bool) (p : Parser A) (total : Outcome (List A)) where
-  pub begins_list : (c : Counts) (ts : List Token) → repeated starts p c ts ≡ total → finished (later []) (turns (length ts - 0) starts p c ts) ≡ total
+  pub begins_list : (c : Counts) (ts : List Token) → repeated starts p c ts ≡ total
+      → finished (later []) (turns (length ts - 0) starts p c ts) ≡ total
   begins_list c ts e = let k : length ts - 0 ≡ length ts = omega arith in rw k (go (repeated starts p c ts) ∙ e)
     where
       go : (o : Outcome (List A)) → finished (later []) o ≡ o
       go (Done others c rest) = refl
       go (Stopped k r) = refl
 
-  pub more_list : (found longer : List A) (n i : ℕ) (c : Counts) (ts : List Token) (a : A) (d : Counts) (rest : List Token) → i < n → next_is starts ts ≡ true → p c ts ≡ Done a d rest
-      → longer ≡ found ++ a ∷ [] → finished (later found) (turns (n - i) starts p c ts) ≡ total → finished (later longer) (turns (n - (i + 1)) starts p d rest) ≡ total
+  pub more_list : (found longer : List A) (n i : ℕ) (c : Counts) (ts : List Token) (a : A) (d : Counts) (rest : List Token) → i < n
+      → next_is starts ts ≡ true → p c ts ≡ Done a d rest
+      → longer ≡ found ++ a ∷ [] → finished (later found) (turns (n - i) starts p c ts) ≡ total
+      → finished (later longer) (turns (n - (i + 1)) starts p d rest) ≡ total
   more_list found longer n i c ts a d rest lt h e is so_far =
-      goes_on starts p total (later found) (later longer) n i c ts a d rest lt h e (λ others. rw is (append_assoc found (a ∷ []) others)) so_far
+      goes_on starts p total (later found) (later longer) n i c ts a d rest lt h e (λ others. rw is (append_assoc found (a ∷ []) others))
+      so_far
 
-  pub ends_list : (found : List A) (n i : ℕ) (c : Counts) (ts : List Token) → (n ≤ i) ⊎ (next_is starts ts ≡ false) → finished (later found) (turns (n - i) starts p c ts) ≡ total → total ≡ Done found c ts
-  ends_list found n i c ts way so_far = ends starts p total (later found) n i c ts way so_far ∙ ap (λ (xs : List A). Done xs c ts) (go found)
+  pub ends_list : (found : List A) (n i : ℕ) (c : Counts) (ts : List Token) → (n ≤ i) ⊎ (next_is starts ts ≡ false)
+      → finished (later found) (turns (n - i) starts p c ts) ≡ total → total ≡ Done found c ts
+  ends_list found n i c ts way so_far = ends starts p total (later found) n i c ts way so_far
+      ∙ ap (λ (xs : List A). Done xs c ts) (go found)
     where
       go : (xs : List A) → xs ++ [] ≡ xs
       go [] = refl
@@ -73,7 +85,8 @@ module _ {A B C : Type 0} (f : A × List B → C) (starts : Token → Bool) (p :
       → finished (λ others. f (a, others)) (turns (length rest - 0) starts q d rest) ≡ mapped f (followed_by p (repeated starts q)) c ts
   begins_with c ts a d rest e = let k : length rest - 0 ≡ length rest = omega arith in rw (k, e) (go (repeated starts q d rest))
     where
-      go : (o : Outcome (List B)) → finished (λ others. f (a, others)) o ≡ and_then (and_then o (λ b c'' rest'. Done (a, b) c'' rest')) (λ v c' rest. Done (f v) c' rest)
+      go : (o : Outcome (List B)) → finished (λ others. f (a, others)) o ≡ and_then (and_then o (λ b c'' rest'. Done (a, b) c'' rest'))
+          (λ v c' rest. Done (f v) c' rest)
       go (Done others c rest) = refl
       go (Stopped k r) = refl
 

@@ -10,7 +10,8 @@ pub operator_is : (ops : Operators) (t : Token) → operator ops t ≡ op_with t
 operator_is [] t = refl
 operator_is (o ∷ others) t = go (nat_eq (kind_number t.kind) (kind_number o.0)) refl (operator_is others t)
   where
-    go : (b : Bool) → nat_eq (kind_number t.kind) (kind_number o.0) ≡ b → operator others t ≡ op_with t.span (op_among others t.kind) → operator (o ∷ others) t ≡ op_with t.span (op_among (o ∷ others) t.kind)
+    go : (b : Bool) → nat_eq (kind_number t.kind) (kind_number o.0) ≡ b → operator others t ≡ op_with t.span (op_among others t.kind)
+        → operator (o ∷ others) t ≡ op_with t.span (op_among (o ∷ others) t.kind)
     go true e h = rw e refl
     go false e h = rw e h
 
@@ -18,6 +19,7 @@ pub next_is_op : (ops : Operators) (t : Token) → among (kinds_of ops) t ≡ is
 next_is_op [] t = refl
 next_is_op (o ∷ others) t = go (nat_eq (kind_number t.kind) (kind_number o.0)) refl (next_is_op others t)
   where
-    go : (b : Bool) → nat_eq (kind_number t.kind) (kind_number o.0) ≡ b → among (kinds_of others) t ≡ is_op (op_among others t.kind) → among (kinds_of (o ∷ others)) t ≡ is_op (op_among (o ∷ others) t.kind)
+    go : (b : Bool) → nat_eq (kind_number t.kind) (kind_number o.0) ≡ b → among (kinds_of others) t ≡ is_op (op_among others t.kind)
+        → among (kinds_of (o ∷ others)) t ≡ is_op (op_among (o ∷ others) t.kind)
     go true e h = rw e refl
     go false e h = rw e h

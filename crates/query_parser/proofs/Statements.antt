@@ -1,5 +1,6 @@
 -- What a statement is made of, and the branches of an `if`.
-use Rattle.std.proofs.Common.{◌≡◌, ℕ, zero, suc, ◌+◌, ◌-◌, ◌<◌, ◌≤◌, Bool, true, false, List, [], ◌∷◌, ◌++◌, length, Option, Some, None, refl, sym, ap, ◌∙◌, arith, append_assoc, inl, inr, ◌⊎◌}
+use Rattle.std.proofs.Common.{◌≡◌, ℕ, zero, suc, ◌+◌, ◌-◌, ◌<◌, ◌≤◌, Bool, true, false, List, [], ◌∷◌, ◌++◌, length, Option, Some, None}
+use Rattle.std.proofs.Common.{refl, sym, ap, ◌∙◌, arith, append_assoc, inl, inr, ◌⊎◌}
 use Rattle.query_lang.specs.declared.query.Expr.{Expr}
 use Rattle.query_lang.specs.declared.query.Stmt.{Stmt}
 use Rattle.query_lang.specs.declared.query.Stmt.TheVariants as stmts
@@ -12,7 +13,8 @@ use Rattle.query_parser.specs.declared.halt.Halt.{Halt}
 use Rattle.query_parser.specs.declared.halt.Halt.TheVariants as halts
 use Rattle.query_parser.specs.Reads.{Fails, bracket_at, block_at, empty_at}
 
-pub stmt_is : (e : ℕ) (c : Counts) (ts : List Token) → stmt_at Limited e c ts ≡ statement Limited (expr_at Limited e) (bracket_at e) (block_at e) (empty_at e) c ts
+pub stmt_is : (e : ℕ) (c : Counts) (ts : List Token) → stmt_at Limited e c ts ≡ statement Limited (expr_at Limited e) (bracket_at e)
+    (block_at e) (empty_at e) c ts
 unfolding stmt_at
 stmt_is zero c ts = refl
 stmt_is (suc e) c ts = refl
@@ -51,36 +53,44 @@ module _ {A B : Type 0} (starts : Token → Bool) (p : Parser (A ⊎ B)) (total 
       → chain_turns (n - i) starts p c ts ≡ and_then (p c ts) (next_turn (chain_turns (n - (i + 1)) starts p))
   one_link n i c ts lt h = let k : n - i ≡ suc (n - (i + 1)) = omega arith in rw (k, h) refl
 
-  pub begins_chain : (c : Counts) (ts : List Token) → chained starts p c ts ≡ total → chained_on [] (chain_turns (length ts - 0) starts p c ts) ≡ total
+  pub begins_chain : (c : Counts) (ts : List Token) → chained starts p c ts ≡ total
+      → chained_on [] (chain_turns (length ts - 0) starts p c ts) ≡ total
   begins_chain c ts e = let k : length ts - 0 ≡ length ts = omega arith in rw k (go (chained starts p c ts) ∙ e)
     where
       go : (o : Outcome (List A × Option B)) → chained_on [] o ≡ o
       go (Done v c rest) = refl
       go (Stopped k r) = refl
 
-  pub more_chain : (found longer : List A) (n i : ℕ) (c : Counts) (ts : List Token) (a : A) (d : Counts) (rest : List Token) → i < n → next_is starts ts ≡ true → p c ts ≡ Done (inl a) d rest
-      → longer ≡ found ++ a ∷ [] → chained_on found (chain_turns (n - i) starts p c ts) ≡ total → chained_on longer (chain_turns (n - (i + 1)) starts p d rest) ≡ total
+  pub more_chain : (found longer : List A) (n i : ℕ) (c : Counts) (ts : List Token) (a : A) (d : Counts) (rest : List Token) → i < n
+      → next_is starts ts ≡ true → p c ts ≡ Done (inl a) d rest
+      → longer ≡ found ++ a ∷ [] → chained_on found (chain_turns (n - i) starts p c ts) ≡ total
+      → chained_on longer (chain_turns (n - (i + 1)) starts p d rest) ≡ total
   more_chain found longer n i c ts a d rest lt h e is so_far =
-      let turn : chain_turns (n - i) starts p c ts ≡ linked a (chain_turns (n - (i + 1)) starts p d rest) = one_link n i c ts lt h ∙ rw e refl in
+      let turn : chain_turns (n - i) starts p c ts ≡ linked a (chain_turns (n - (i + 1)) starts p d rest) = one_link n i c ts lt h
+      ∙ rw e refl in
       rw is (go (chain_turns (n - (i + 1)) starts p d rest) ∙ ap (chained_on found) (sym turn) ∙ so_far)
     where
       go : (o : Outcome (List A × Option B)) → chained_on (found ++ a ∷ []) o ≡ chained_on found (linked a o)
       go (Done v c'' rest') = ap (λ (xs : List A). Done (xs, v.1) c'' rest') (append_assoc found (a ∷ []) v.0)
       go (Stopped k r) = refl
 
-  pub last_chain : (found : List A) (n i : ℕ) (c : Counts) (ts : List Token) (b : B) (d : Counts) (rest : List Token) → i < n → next_is starts ts ≡ true → p c ts ≡ Done (inr b) d rest
+  pub last_chain : (found : List A) (n i : ℕ) (c : Counts) (ts : List Token) (b : B) (d : Counts) (rest : List Token) → i < n
+      → next_is starts ts ≡ true → p c ts ≡ Done (inr b) d rest
       → chained_on found (chain_turns (n - i) starts p c ts) ≡ total → total ≡ Done (found, Some b) d rest
   last_chain found n i c ts b d rest lt h e so_far =
       let turn : chain_turns (n - i) starts p c ts ≡ Done ([], Some b) d rest = one_link n i c ts lt h ∙ rw e refl in
       sym so_far ∙ ap (chained_on found) turn ∙ ap (λ (xs : List A). Done (xs, Some b) d rest) (append_none found)
 
-  pub fails_chain : (found : List A) (n i : ℕ) (c : Counts) (ts : List Token) (x : Halt) → i < n → next_is starts ts ≡ true → Fails x (p c ts)
+  pub fails_chain : (found : List A) (n i : ℕ) (c : Counts) (ts : List Token) (x : Halt) → i < n → next_is starts ts ≡ true
+      → Fails x (p c ts)
       → chained_on found (chain_turns (n - i) starts p c ts) ≡ total → Fails x total
   fails_chain found n i c ts halts.Memory lt h e so_far = tt
   fails_chain found n i c ts (halts.At x) lt h e so_far = sym so_far ∙ ap (chained_on found) (one_link n i c ts lt h) ∙ rw e refl
 
-  pub ends_chain : (found : List A) (n i : ℕ) (c : Counts) (ts : List Token) → (n ≤ i) ⊎ (next_is starts ts ≡ false) → chained_on found (chain_turns (n - i) starts p c ts) ≡ total → total ≡ Done (found, None) c ts
-  ends_chain found n i c ts way so_far = sym so_far ∙ ap (chained_on found) (go way) ∙ ap (λ (xs : List A). Done (xs, None) c ts) (append_none found)
+  pub ends_chain : (found : List A) (n i : ℕ) (c : Counts) (ts : List Token) → (n ≤ i) ⊎ (next_is starts ts ≡ false)
+      → chained_on found (chain_turns (n - i) starts p c ts) ≡ total → total ≡ Done (found, None) c ts
+  ends_chain found n i c ts way so_far = sym so_far ∙ ap (chained_on found) (go way)
+      ∙ ap (λ (xs : List A). Done (xs, None) c ts) (append_none found)
     where
       go : (n ≤ i) ⊎ (next_is starts ts ≡ false) → chain_turns (n - i) starts p c ts ≡ Done ([], None) c ts
       go (inl le) = let k : n - i ≡ 0 = omega arith in rw k refl

@@ -32,10 +32,13 @@ one_whole law Final t may = tt
 all_whole : TriplesGiveWholeTables → (tables : List Table) → All MayBeShown tables → All IsWhole (map shown tables)
 all_whole law [] may = All-nil IsWhole
 all_whole law (t ∷ tables) may =
-    All-cons IsWhole (shown t) (map shown tables) (one_whole law t.kind t (All-head MayBeShown t tables may)) (all_whole law tables (All-tail MayBeShown t tables may))
+    All-cons IsWhole (shown t) (map shown tables) (one_whole law t.kind t (All-head MayBeShown t tables may))
+    (all_whole law tables (All-tail MayBeShown t tables may))
 
-module _ (ends : EndsGiveEnclosedTables) (read : EnclosedTablesAreRead) (triples : TriplesGiveWholeTables) (q : TypedQuery) (plan : PlanParts) (valid : IsValidQuery q) (p : IsPlanOf q plan) where
-  are_bounds_tables : (buckets : ℕ) (lanes : List LaneView) (g : Geometry) (packets : List (List ℕ)) → IsSoundPlan plan → AreLanesOf Bounds plan buckets lanes → HasRoom g → AreWhole packets
+module _ (ends : EndsGiveEnclosedTables) (read : EnclosedTablesAreRead) (triples : TriplesGiveWholeTables) (q : TypedQuery)
+    (plan : PlanParts) (valid : IsValidQuery q) (p : IsPlanOf q plan) where
+  are_bounds_tables : (buckets : ℕ) (lanes : List LaneView) (g : Geometry) (packets : List (List ℕ)) → IsSoundPlan plan
+      → AreLanesOf Bounds plan buckets lanes → HasRoom g → AreWhole packets
       → AreBoundsTables q (end_tables plan lanes g packets)
   are_bounds_tables buckets lanes g packets planned each room whole =
       let tables = end_tables plan lanes g packets in
@@ -46,7 +49,8 @@ module _ (ends : EndsGiveEnclosedTables) (read : EnclosedTablesAreRead) (triples
         valid = valid;
         may = may;
         whole = words;
-        read = subst (λ shown. All IsTable (map table_read shown)) (sym same) (read.read q g packets valid (subst (All IsWhole) same words));
+        read = subst (λ shown. All IsTable (map table_read shown)) (sym same)
+            (read.read q g packets valid (subst (All IsWhole) same words));
         shapes = ap (λ shown. map table_shape (map table_read shown)) same ∙ read.shapes q g packets valid;
       }
 

@@ -21,17 +21,22 @@ use Rattle.query_run.specs.declared.driven.Driven.{Driven}
 
 -- the caches of a schedule with the setting's ways are those of the setting
 pub geometry_is : (setting : Setting) (schedule : Schedule) (ways : Ways) → setting.ways ≡ ways
-    → schedule ≡ record { buckets = setting.buckets; pipe = setting.pipe; lag = setting.lag; refresh = setting.refresh } → geometry_for (ways_number ways) schedule ≡ geometry_of setting
+    → schedule ≡ record { buckets = setting.buckets; pipe = setting.pipe; lag = setting.lag; refresh = setting.refresh }
+    → geometry_for (ways_number ways) schedule ≡ geometry_of setting
 geometry_is setting schedule ways is same =
     ap (geometry_for (ways_number ways)) same
     ∙ ap (λ (ways : Ways). record { buckets = setting.buckets; ways = ways_number ways; refresh = setting.refresh }) (sym is)
 
-module _ {O : Type 0} (taken : O → Option (List ℕ)) (faults : O → ℕ) (entries : Entries) (plan : PlanParts) (printed : List Table → List ℕ) (every : ℕ) (packets : List (List ℕ)) (fault : Option TraceFault)
+module _ {O : Type 0} (taken : O → Option (List ℕ)) (faults : O → ℕ) (entries : Entries) (plan : PlanParts) (printed : List Table → List ℕ)
+    (every : ℕ) (packets : List (List ℕ)) (fault : Option TraceFault)
     (old new : O) where
   -- a run broke off with this answer, whichever text its report prints of the plan
   abbrev pub Breaks : Geometry → RunError → Type 0
-  Breaks g answer = (text : Geometry → List (List ℕ) → List ℕ) → Prints entries plan printed text → BreaksOff taken faults (views_text (text g) every packets) fault old new answer
+  Breaks g answer = (text : Geometry → List (List ℕ) → List ℕ) → Prints entries plan printed text
+      → BreaksOff taken faults (views_text (text g) every packets) fault old new answer
 
   -- the answer is handed on
-  pub handed_on : (g found : Geometry) (result : Result Driven RunError) (answer : RunError) → g ≡ found → IsErrAnd result (λ one. one ≡ answer) → Breaks g answer → IfErr result (Breaks found)
-  handed_on g found result answer same is broke = err_is (Breaks found) result answer is (subst (λ (g : Geometry). Breaks g answer) same broke)
+  pub handed_on : (g found : Geometry) (result : Result Driven RunError) (answer : RunError) → g ≡ found
+      → IsErrAnd result (λ one. one ≡ answer) → Breaks g answer → IfErr result (Breaks found)
+  handed_on g found result answer same is broke = err_is (Breaks found) result answer is
+      (subst (λ (g : Geometry). Breaks g answer) same broke)

@@ -15,7 +15,8 @@ from_whole [] = All-nil IsWhole
 from_whole (arrival ∷ earlier) =
     let last = packet_of (length (arrival ∷ earlier)) arrival in
     subst AreWhole (sym (map-append (λ (packet : Packet). packet.words) (packets_from earlier) (last ∷ [])))
-    (All-append IsWhole (words_of (packets_from earlier)) (last.words ∷ []) (from_whole earlier) (All-cons IsWhole last.words [] refl (All-nil IsWhole)))
+    (All-append IsWhole (words_of (packets_from earlier)) (last.words ∷ []) (from_whole earlier)
+    (All-cons IsWhole last.words [] refl (All-nil IsWhole)))
 
 pub simulated_whole : (packets start capacity : ℕ) → AreWhole (words_of (simulated packets start capacity))
 simulated_whole packets start capacity = from_whole (arrivals start capacity packets)

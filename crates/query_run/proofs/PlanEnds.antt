@@ -1,5 +1,6 @@
 -- The tables that the pipeline of a plan gives at the end of packets are those of the plan's text.
-use Rattle.std.proofs.Common.{◌≡◌, ℕ, zero, suc, ◌+◌, ◌<◌, List, [], ◌∷◌, length, map, drop, Option, Some, refl, sym, ap, ap₂, ◌∙◌, subst, arith, length-append}
+use Rattle.std.proofs.Common.{◌≡◌, ℕ, zero, suc, ◌+◌, ◌<◌, List, [], ◌∷◌, length, map, drop, Option, Some, refl, sym, ap, ap₂, ◌∙◌, subst}
+use Rattle.std.proofs.Common.{arith, length-append}
 use Rattle.std.specs.Prelude.{slice_get, option_map, unwrap_or, flat_map, slice_index_or}
 use Rattle.std.specs.List.{All}
 use Rattle.std.proofs.lemmas.List.{length-map}
@@ -40,22 +41,33 @@ nothing : {A : Type 0} {x : A} {rest : List A} → [] ≡ x ∷ rest → ⊥
 nothing e = cc
 
 -- the item at a place is the first of those from there on
-first_at : {A : Type 0} (xs : List A) (i : ℕ) (x : A) (rest : List A) → drop i xs ≡ x ∷ rest → (slice_get xs i ≡ Some x) × (drop (suc i) xs ≡ rest)
+first_at : {A : Type 0} (xs : List A) (i : ℕ) (x : A) (rest : List A) → drop i xs ≡ x ∷ rest → (slice_get xs i ≡ Some x)
+    × (drop (suc i) xs ≡ rest)
 first_at [] zero x rest e = absurd (nothing e)
 first_at (y ∷ xs) zero x rest e = let a : y ≡ x = cc in let b : xs ≡ rest = cc in (ap Some a, b)
 first_at [] (suc i) x rest e = absurd (nothing e)
 first_at (y ∷ xs) (suc i) x rest e = first_at xs i x rest e
 
 -- a groupby's table has, but for its rows, what its group gives
-heading_same : (registers : ℕ) (one : Folded) (group : GroupPlan) → IsSoundFolded registers one → IsGroupFrom one group → heading_of group ≡ heading_in one
+heading_same : (registers : ℕ) (one : Folded) (group : GroupPlan) → IsSoundFolded registers one → IsGroupFrom one group
+    → heading_of group ≡ heading_in one
 heading_same registers one group s from =
-    let of : GroupShape → Heading = λ shape. record { name = shape.name; key_names = shape.key_names; state_names = shape.state_names; class = shape.class; depth = shape.depth } in
+    let of : GroupShape → Heading = λ shape. record {
+      name = shape.name;
+      key_names = shape.key_names;
+      state_names =
+          shape.state_names;
+      class = shape.class;
+      depth = shape.depth;
+    } in
     ap of (shape_same registers one group s from)
 
-module _ (law : AlikeFoldingsMakeOneTable) (closed : ClosedGiveTheGroupTable) (order : TakenUsesAreInTrace) (made : Made) (plan : PlanParts) (buckets : ℕ) (g : Geometry) (packets : List (List ℕ))
+module _ (law : AlikeFoldingsMakeOneTable) (closed : ClosedGiveTheGroupTable) (order : TakenUsesAreInTrace) (made : Made) (plan : PlanParts)
+    (buckets : ℕ) (g : Geometry) (packets : List (List ℕ))
     (sound : IsSoundMade made) (from : IsPlanFrom made plan) (room : HasRoom g) where
   in_trace : (i : ℕ) → IsInTrace (length packets) (uses_by plan i packets)
-  in_trace i = subst (λ n. IsInTrace n (uses_by plan i packets)) (length-map packets (taken plan i)) (order.order (map (taken plan i) packets))
+  in_trace i = subst (λ n. IsInTrace n (uses_by plan i packets)) (length-map packets (taken plan i))
+      (order.order (map (taken plan i) packets))
 
   wiring_same : (i : ℕ) (one : Folded) → slice_get made.groups i ≡ Some one → wiring_at plan i ≡ wiring_in one
   wiring_same i one at =
@@ -70,22 +82,29 @@ module _ (law : AlikeFoldingsMakeOneTable) (closed : ClosedGiveTheGroupTable) (o
       ∙ ap (λ ops. uses_taken 1 (map (take (wiring_in one) ops) packets)) from.ops
 
   one_table : (i : ℕ) (one : Folded) (group : GroupPlan) (lane : LaneView) → slice_get made.groups i ≡ Some one → IsGroupFrom one group
-      → IsLaneOf Folds buckets lane.cache (ghosts.sizes lane.kind) (ghosts.folding lane.kind) (ghosts.open_bound lane.kind) (ghosts.absorb_bound lane.kind) group (wiring_at plan i)
-      → closed_table (heading_of group) (folding_at lane) (end_of g (uses_by plan i packets) (length packets)).closed ≡ table_in made g packets one
+      → IsLaneOf Folds buckets lane.cache (ghosts.sizes lane.kind) (ghosts.folding lane.kind) (ghosts.open_bound lane.kind)
+      (ghosts.absorb_bound lane.kind) group (wiring_at plan i)
+      → closed_table (heading_of group) (folding_at lane) (end_of g (uses_by plan i packets) (length packets)).closed ≡ table_in made g
+      packets one
   one_table i one group lane at is of_lane =
       let kind = of_lane.kind is.fold is.program in
-      let alike : AreAlike (folding_at lane) (folding_of is.fold) = record { row_per_epoch = kind.row_per_epoch; states = λ rows. kind.folded rows } in
+      let alike : AreAlike (folding_at lane) (folding_of is.fold) = record
+      { row_per_epoch = kind.row_per_epoch; states = λ rows. kind.folded rows } in
       let fold = is.is_fold.is_fold in
       let registers = 14 + length made.ops in
-      law.by_closed (heading_of group) (folding_at lane) (folding_of is.fold) (end_of g (uses_by plan i packets) (length packets)).closed alike
+      law.by_closed (heading_of group) (folding_at lane) (folding_of is.fold) (end_of g (uses_by plan i packets) (length packets)).closed
+      alike
       ∙ closed (heading_of group) (folding_of is.fold) g (uses_by plan i packets) (length packets) room (in_trace i)
       ∙ ap (group_table (heading_of group) (folding_of is.fold) g) (uses_same i one at)
-      ∙ ap (λ f. group_table (heading_of group) f g (uses_in made one packets)) (foldings one.group is.fold (fold_in one) fold (fold_in_is one is.fold fold))
+      ∙ ap (λ f. group_table (heading_of group) f g (uses_in made one packets))
+      (foldings one.group is.fold (fold_in one) fold (fold_in_is one is.fold fold))
       ∙ ap (λ h. group_table h (folding_of (fold_in one)) g (uses_in made one packets))
       (heading_same registers one group (all_at (IsSoundFolded registers) made.groups i one sound.groups at) is)
 
-  tables_at : (i : ℕ) (ones : List Folded) (groups : List GroupPlan) (lanes : List LaneView) → drop i made.groups ≡ ones → AreGroupsFrom ones groups
-      → EachFrom (λ n lane group. IsLaneOf Folds buckets lane.cache (ghosts.sizes lane.kind) (ghosts.folding lane.kind) (ghosts.open_bound lane.kind) (ghosts.absorb_bound lane.kind) group (wiring_at plan n)) i lanes groups
+  tables_at : (i : ℕ) (ones : List Folded) (groups : List GroupPlan) (lanes : List LaneView) → drop i made.groups ≡ ones
+      → AreGroupsFrom ones groups
+      → EachFrom (λ n lane group. IsLaneOf Folds buckets lane.cache (ghosts.sizes lane.kind) (ghosts.folding lane.kind)
+      (ghosts.open_bound lane.kind) (ghosts.absorb_bound lane.kind) group (wiring_at plan n)) i lanes groups
       → tables_of groups (map folding_at lanes) (ends_from plan g packets i groups) ≡ map (table_in made g packets) ones
   tables_at i [] [] [] e zip each = refl
   tables_at i [] [] (lane ∷ lanes) e zip each = absurd each
@@ -96,12 +115,14 @@ module _ (law : AlikeFoldingsMakeOneTable) (closed : ClosedGiveTheGroupTable) (o
       let at = first_at made.groups i one ones e in
       ap₂ (λ t ts. t ∷ ts) (one_table i one group lane at.0 zip.0 each.0) (tables_at (suc i) ones groups lanes at.1 zip.1 each.1)
 
-  pub tables_are : (lanes : List LaneView) → AreLanesOf Folds plan buckets lanes → tables_of plan.groups (map folding_at lanes) (end_machines plan g packets) ≡ plan_tables made g packets
+  pub tables_are : (lanes : List LaneView) → AreLanesOf Folds plan buckets lanes
+      → tables_of plan.groups (map folding_at lanes) (end_machines plan g packets) ≡ plan_tables made g packets
   unfolding plan_tables
   tables_are lanes each = tables_at 0 made.groups plan.groups lanes refl from.groups each
 
 pub ends_are : AlikeFoldingsMakeOneTable → ClosedGiveTheGroupTable → TakenUsesAreInTrace → EndsAreTheTexts
-ends_are law closed order made plan buckets lanes g packets sound from each room = tables_are law closed order made plan buckets g packets sound from room lanes each
+ends_are law closed order made plan buckets lanes g packets sound from each room =
+    tables_are law closed order made plan buckets g packets sound from room lanes each
 
 -- tables of groups have their keys, and there is one for each group
 pub tables_have_keys : (made : Made) (g : Geometry) (packets : List (List ℕ)) → All HasKeys (plan_tables made g packets)
@@ -117,7 +138,8 @@ unfolding plan_tables
 tables_count made g packets = length-map made.groups (table_in made g packets)
 
 -- what is printed of those tables is what the plan prints
-module _ (law : EndsAreTheTexts) (made : Made) (plan : PlanParts) (prints : List ℕ) (sound : IsSoundMade made) (from : IsPlanFrom made plan) (same : prints ≡ made.prints) where
+module _ (law : EndsAreTheTexts) (made : Made) (plan : PlanParts) (prints : List ℕ) (sound : IsSoundMade made) (from : IsPlanFrom made plan)
+    (same : prints ≡ made.prints) where
   have_numbers : (g : Geometry) (packets : List (List ℕ)) → HaveNumbers prints (plan_tables made g packets)
   have_numbers g packets = record {
     within =
@@ -132,8 +154,10 @@ module _ (law : EndsAreTheTexts) (made : Made) (plan : PlanParts) (prints : List
 
   pub plan_reports : Reports Folds plan (HaveNumbers prints) (numbered_print prints) (plan_output made)
   plan_reports = record {
-    may_print = λ buckets lanes g packets planned each room whole. subst (HaveNumbers prints) (sym (law made plan buckets lanes g packets sound from each room)) (have_numbers g packets);
+    may_print = λ buckets lanes g packets planned each room whole. subst (HaveNumbers prints)
+        (sym (law made plan buckets lanes g packets sound from each room)) (have_numbers g packets);
     prints = record {
-      at_ends = λ buckets lanes g packets planned each room whole. ap (numbered_print prints) (law made plan buckets lanes g packets sound from each room) ∙ output_is g packets;
+      at_ends = λ buckets lanes g packets planned each room whole. ap (numbered_print prints)
+          (law made plan buckets lanes g packets sound from each room) ∙ output_is g packets;
     };
   }

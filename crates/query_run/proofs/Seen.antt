@@ -23,7 +23,8 @@ use Rattle.trace_drive.specs.Follows.{AlikeFrom}
 use Rattle.trace_drive.proofs.Ending.{each_long, lanes_long}
 
 -- a machine that is as far as the first packets has in a view what it has at the end of a trace of these packets alone
-one_end : ViewsEndTheTrace → (plan : PlanParts) (g : Geometry) (packets : List (List ℕ)) (number i : ℕ) (m : Machine) → number ≤ length packets → SameEpochs m (after_packets g (uses_by plan i packets) number)
+one_end : ViewsEndTheTrace → (plan : PlanParts) (g : Geometry) (packets : List (List ℕ)) (number i : ℕ) (m : Machine)
+    → number ≤ length packets → SameEpochs m (after_packets g (uses_by plan i packets) number)
     → all_closed m ≡ end_of g (uses_by plan i (take number packets)) (length (take number packets))
 one_end law plan g packets number i m within same =
     let long : number ≤ length (map (taken plan i) packets) = omega (arith, length-map packets (taken plan i)) in
@@ -31,8 +32,10 @@ one_end law plan g packets number i m within same =
     ∙ (ap (λ given. end_of g (uses_taken 1 given) number) (take-map (taken plan i) number packets)
     ∙ ap (end_of g (uses_by plan i (take number packets))) (sym (length-take-le number packets within)))
 
-ends_seen : ViewsEndTheTrace → (plan : PlanParts) (g : Geometry) (packets : List (List ℕ)) (number : ℕ) → number ≤ length packets → (i : ℕ) (groups : List GroupPlan) (machines : List Machine)
-    → length machines ≡ length groups → AlikeFrom (λ j. after_packets g (uses_by plan j packets) number) i machines → map all_closed machines ≡ ends_from plan g (take number packets) i groups
+ends_seen : ViewsEndTheTrace → (plan : PlanParts) (g : Geometry) (packets : List (List ℕ)) (number : ℕ) → number ≤ length packets
+    → (i : ℕ) (groups : List GroupPlan) (machines : List Machine)
+    → length machines ≡ length groups → AlikeFrom (λ j. after_packets g (uses_by plan j packets) number) i machines
+    → map all_closed machines ≡ ends_from plan g (take number packets) i groups
 ends_seen law plan g packets number within i [] [] long alike = refl
 ends_seen law plan g packets number within i [] (m ∷ machines) long alike = absurd (omega arith)
 ends_seen law plan g packets number within i (group ∷ groups) [] long alike = absurd (omega arith)
@@ -41,8 +44,10 @@ ends_seen law plan g packets number within i (group ∷ groups) (m ∷ machines)
     (ends_seen law plan g packets number within (suc i) groups machines (omega arith) alike.1)
 
 -- the tables of a view are those at the end of a trace of the packets so far
-pub seen_tables : ViewsEndTheTrace → (entries : Entries) (g : Geometry) (packets : List (List ℕ)) (number : ℕ) (p : PipelineView) (tables : List Table) → AreLanesOf entries p.plan p.buckets p.lanes
-    → ((machines : List Machine) → PipelineStands p machines → tables ≡ tables_seen p.plan.groups (map folding_at p.lanes) machines) → IsAsFarAs g packets number p
+pub seen_tables : ViewsEndTheTrace → (entries : Entries) (g : Geometry) (packets : List (List ℕ)) (number : ℕ) (p : PipelineView)
+    (tables : List Table) → AreLanesOf entries p.plan p.buckets p.lanes
+    → ((machines : List Machine) → PipelineStands p machines → tables ≡ tables_seen p.plan.groups (map folding_at p.lanes) machines)
+    → IsAsFarAs g packets number p
     → tables ≡ end_tables p.plan p.lanes g (take number packets)
 seen_tables law entries g packets number p tables lanes shown far =
     let f = far.follows in
@@ -51,5 +56,6 @@ seen_tables law entries g packets number p tables lanes shown far =
     shown f.machines f.stands ∙ ap (tables_of p.plan.groups (map folding_at p.lanes)) closed
 
 -- the packets so far have the words of all fields
-pub seen_whole : (g : Geometry) (packets : List (List ℕ)) (number : ℕ) (p : PipelineView) → IsAsFarAs g packets number p → AreWhole (take number packets)
+pub seen_whole : (g : Geometry) (packets : List (List ℕ)) (number : ℕ) (p : PipelineView) → IsAsFarAs g packets number p
+    → AreWhole (take number packets)
 seen_whole g packets number p far = All-take (λ (words : List ℕ). length words ≡ 14) number packets far.whole

@@ -1,5 +1,6 @@
 -- The views of a run, in sequence.
-use Rattle.std.proofs.Common.{◌≡◌, ℕ, zero, suc, ◌+◌, ◌-◌, ◌<◌, ◌≤◌, ◌%◌, true, false, List, [], ◌++◌, length, refl, sym, ap, ◌∙◌, arith, append_assoc, append-nil, if◌then◌else◌}
+use Rattle.std.proofs.Common.{◌≡◌, ℕ, zero, suc, ◌+◌, ◌-◌, ◌<◌, ◌≤◌, ◌%◌, true, false, List, [], ◌++◌, length, refl, sym, ap, ◌∙◌, arith}
+use Rattle.std.proofs.Common.{append_assoc, append-nil, if◌then◌else◌}
 use Rattle.std.specs.Prelude.{Bool}
 use Rattle.std.proofs.Math.Nat.{add-mod_right, mod-add-mod, mod-eq_of_lt}
 use Rattle.std.proofs.lemmas.Bool.Decides.{nat_tests}
@@ -7,7 +8,8 @@ use Rattle.query_run.specs.Views.{NoViewsWithoutNumber, is_view, view_text, view
 
 -- the remainders after a multiple
 past : (every number j : ℕ) → number % every ≡ 0 → j < every → (number + j) % every ≡ j
-past every number j whole below = sym (mod-add-mod number every j) ∙ (ap (λ n. (n + j) % every) whole ∙ (let e : 0 + j ≡ j = omega arith in ap (λ n. n % every) e ∙ mod-eq_of_lt below))
+past every number j whole below = sym (mod-add-mod number every j) ∙ (ap (λ n. (n + j) % every) whole
+    ∙ (let e : 0 + j ≡ j = omega arith in ap (λ n. n % every) e ∙ mod-eq_of_lt below))
 
 not_due : (every number j : ℕ) → number % every ≡ 0 → suc j < every → is_view every (suc (number + j)) ≡ false
 not_due every number j whole below =
@@ -36,12 +38,15 @@ tables_alone text packets = ap (λ xs. xs ++ text packets) (no_views text packet
 
 module _ (text : List (List ℕ) → List ℕ) (every : ℕ) (packets : List (List ℕ)) where
   one_more : (number : ℕ) (t : Bool) → is_view every (suc number) ≡ t
-      → views_up_to text every packets (suc number) ≡ views_up_to text every packets number ++ (if t then view_text text packets (suc number) else [])
+      → views_up_to text every packets (suc number) ≡ views_up_to text every packets number
+      ++ (if t then view_text text packets (suc number) else [])
   unfolding views_up_to
-  one_more number t is = ap (λ (b : Bool). views_up_to text every packets number ++ (if b then view_text text packets (suc number) else [])) is
+  one_more number t is = ap (λ (b : Bool). views_up_to text every packets number ++ (if b then view_text text packets (suc number) else []))
+      is
 
   -- none up to the next multiple
-  pub none_between : (number j : ℕ) → number % every ≡ 0 → j < every → views_up_to text every packets (number + j) ≡ views_up_to text every packets number
+  pub none_between : (number j : ℕ) → number % every ≡ 0 → j < every → views_up_to text every packets (number + j) ≡ views_up_to text every
+      packets number
   none_between number zero whole below = let e : number + zero ≡ number = omega arith in ap (views_up_to text every packets) e
   none_between number (suc j) whole below =
       let e : number + suc j ≡ suc (number + j) = omega arith in
@@ -64,14 +69,16 @@ module _ (text : List (List ℕ) → List ℕ) (every : ℕ) (packets : List (Li
       ∙ ap (λ n. views_up_to text every packets number ++ view_text text packets n) e))
 
   -- the views of all packets, where fewer are left than a view needs
-  pub all_views : (number : ℕ) → number % every ≡ 0 → number ≤ length packets → length packets < number + every → views_up_to text every packets (length packets) ≡ views_up_to text every packets number
+  pub all_views : (number : ℕ) → number % every ≡ 0 → number ≤ length packets → length packets < number + every
+      → views_up_to text every packets (length packets) ≡ views_up_to text every packets number
   all_views number whole within few =
       let j = length packets - number in
       let e : number + j ≡ length packets = omega arith in
       ap (views_up_to text every packets) (sym e) ∙ none_between number j whole (omega arith)
 
   -- later views come after these
-  later_views : (number k : ℕ) → (rest : List ℕ) × (views_up_to text every packets (number + k) ≡ views_up_to text every packets number ++ rest)
+  later_views : (number k : ℕ) → (rest : List ℕ) × (views_up_to text every packets (number + k) ≡ views_up_to text every packets number
+      ++ rest)
   later_views number zero =
       let e : number + zero ≡ number = omega arith in
       ([], ap (views_up_to text every packets) e ∙ sym (append-nil (views_up_to text every packets number)))
@@ -87,7 +94,8 @@ module _ (text : List (List ℕ) → List ℕ) (every : ℕ) (packets : List (Li
       )
 
   -- what a run writes begins with the views so far
-  pub begins : (number : ℕ) → number ≤ length packets → (rest : List ℕ) × (views_text text every packets ≡ views_up_to text every packets number ++ rest)
+  pub begins : (number : ℕ) → number ≤ length packets → (rest : List ℕ)
+      × (views_text text every packets ≡ views_up_to text every packets number ++ rest)
   unfolding views_text
   begins number within =
       let k = length packets - number in
@@ -101,7 +109,8 @@ module _ (text : List (List ℕ) → List ℕ) (every : ℕ) (packets : List (Li
 
   -- and then with the next view
   pub parted : (number : ℕ) → number % every ≡ 0 → 0 < every → number + every ≤ length packets
-      → (rest : List ℕ) × (views_text text every packets ≡ views_up_to text every packets number ++ (view_text text packets (number + every) ++ rest))
+      → (rest : List ℕ) × (views_text text every packets ≡ views_up_to text every packets number
+      ++ (view_text text packets (number + every) ++ rest))
   parted number whole some within =
       let front = begins (number + every) within in (
         front.0,

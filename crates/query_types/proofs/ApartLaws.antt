@@ -1,5 +1,6 @@
 -- Lists of names that are all different.
-use Rattle.std.proofs.Common.{◌≡◌, ℕ, zero, suc, ◌+◌, ◌<◌, ◌≤◌, Bool, true, false, ◌||◌, cond, List, [], ◌∷◌, ◌++◌, length, drop, Some, nat_eq, refl, sym, ap, subst, ◌∙◌, arith}
+use Rattle.std.proofs.Common.{◌≡◌, ℕ, zero, suc, ◌+◌, ◌<◌, ◌≤◌, Bool, true, false, ◌||◌, cond, List, [], ◌∷◌, ◌++◌, length, drop, Some}
+use Rattle.std.proofs.Common.{nat_eq, refl, sym, ap, subst, ◌∙◌, arith}
 use Rattle.std.specs.Prelude.{slice_get}
 use Rattle.std.specs.List.{AllByRecursion, IsDistinct, list_any}
 use Rattle.std.proofs.lemmas.Bool.{eqb-true}
@@ -65,13 +66,17 @@ apart_within ids h = length-le_from_distinct_below ids 65536 (distinct ids h.onc
 pub among_both : (x : ℕ) (xs ys : List ℕ) → is_among x xs ≡ false → is_among x ys ≡ false → is_among x (xs ++ ys) ≡ false
 among_both x xs ys h k = list_any-append (λ name. nat_eq name x) xs ys ∙ both_false (is_among x xs) (is_among x ys) h k
 
-without_first : (x : ℕ) (xs ys : List ℕ) → list_any (λ y. is_among y (x ∷ xs)) ys ≡ false → (is_among x ys ≡ false) × (list_any (λ y. is_among y xs) ys ≡ false)
+without_first : (x : ℕ) (xs ys : List ℕ) → list_any (λ y. is_among y (x ∷ xs)) ys ≡ false → (is_among x ys ≡ false)
+    × (list_any (λ y. is_among y xs) ys ≡ false)
 without_first x xs [] h = (refl, refl)
 without_first x xs (y ∷ ys) h =
     let both = or_false (is_among y (x ∷ xs)) (list_any (λ y. is_among y (x ∷ xs)) ys) h in
     let one = or_false (nat_eq x y) (is_among y xs) both.0 in
-    let more = without_first x xs ys both.1 in
-    (both_false (nat_eq y x) (is_among x ys) (swapped x y one.0) more.0, both_false (is_among y xs) (list_any (λ y. is_among y xs) ys) one.1 more.1)
+    let more = without_first x xs ys both.1 in (
+      both_false (nat_eq y x) (is_among x ys) (swapped x y one.0) more.0,
+      both_false (is_among y xs) (list_any (λ y. is_among y xs) ys) one.1
+          more.1,
+    )
 
 different_append : (xs ys : List ℕ) → AreDifferent xs → AreDifferent ys → list_any (λ y. is_among y xs) ys ≡ false → AreDifferent (xs ++ ys)
 different_append [] ys h k apart = k
@@ -107,15 +112,18 @@ others_not : (ids xs : List ℕ) → list_any (λ y. is_among y ids) (others ids
 others_not ids [] = refl
 others_not ids (x ∷ xs) = go (is_among x ids) refl (others_not ids xs)
   where
-    go : (t : Bool) → is_among x ids ≡ t → list_any (λ y. is_among y ids) (others ids xs) ≡ false → list_any (λ y. is_among y ids) (cond t (others ids xs) (x ∷ others ids xs)) ≡ false
+    go : (t : Bool) → is_among x ids ≡ t → list_any (λ y. is_among y ids) (others ids xs) ≡ false
+        → list_any (λ y. is_among y ids) (cond t (others ids xs) (x ∷ others ids xs)) ≡ false
     go true e h = h
     go false e h = both_false (is_among x ids) (list_any (λ y. is_among y ids) (others ids xs)) e h
 
 others_without : (ids : List ℕ) (z : ℕ) (xs : List ℕ) → is_among z xs ≡ false → is_among z (others ids xs) ≡ false
 others_without ids z [] h = refl
-others_without ids z (x ∷ xs) h = let one = or_false (nat_eq x z) (is_among z xs) h in go (is_among x ids) one.0 (others_without ids z xs one.1)
+others_without ids z (x ∷ xs) h = let one = or_false (nat_eq x z) (is_among z xs) h in go (is_among x ids) one.0
+    (others_without ids z xs one.1)
   where
-    go : (t : Bool) → nat_eq x z ≡ false → is_among z (others ids xs) ≡ false → is_among z (cond t (others ids xs) (x ∷ others ids xs)) ≡ false
+    go : (t : Bool) → nat_eq x z ≡ false → is_among z (others ids xs) ≡ false
+        → is_among z (cond t (others ids xs) (x ∷ others ids xs)) ≡ false
     go true e h = h
     go false e h = both_false (nat_eq x z) (is_among z (others ids xs)) e h
 
@@ -125,10 +133,15 @@ others_apart ids (x ∷ xs) h = go (is_among x ids) (others_apart ids xs (record
   where
     go : (t : Bool) → AreApart (others ids xs) → AreApart (cond t (others ids xs) (x ∷ others ids xs))
     go true k = k
-    go false k = record { below = All-cons IsFew x (others ids xs) (All-head IsFew x xs h.below) k.below; once = (others_without ids x xs h.once.0, k.once) }
+    go false k = record {
+      below = All-cons IsFew x (others ids xs) (All-head IsFew x xs h.below) k.below;
+      once =
+          (others_without ids x xs h.once.0, k.once);
+    }
 
 -- what is at a place, and what comes after it
-get_drop : {A : Type 0} (xs : List A) (n : ℕ) (x : A) (rest : List A) → drop n xs ≡ x ∷ rest → (slice_get xs n ≡ Some x) × (drop (n + 1) xs ≡ rest)
+get_drop : {A : Type 0} (xs : List A) (n : ℕ) (x : A) (rest : List A) → drop n xs ≡ x ∷ rest → (slice_get xs n ≡ Some x)
+    × (drop (n + 1) xs ≡ rest)
 get_drop [] zero x rest e = cc e
 get_drop [] (suc n) x rest e = cc e
 get_drop (y ∷ ys) zero x rest e = (cc, cc)
@@ -137,21 +150,28 @@ get_drop (y ∷ ys) (suc n) x rest e =
     let next : suc n + 1 ≡ suc (n + 1) = omega arith in
     (more.0, ap (λ k. drop k (y ∷ ys)) next ∙ more.1)
 
-others_named : (ids : List ℕ) (whole : List StreamColumn) (slot : ℕ) (rest : List StreamColumn) → drop slot whole ≡ rest → column_names (columns_at whole (others_from slot ids rest)) ≡ others ids (column_names rest)
+others_named : (ids : List ℕ) (whole : List StreamColumn) (slot : ℕ) (rest : List StreamColumn) → drop slot whole ≡ rest
+    → column_names (columns_at whole (others_from slot ids rest)) ≡ others ids (column_names rest)
 others_named ids whole slot [] e = refl
 others_named ids whole slot (column ∷ rest) e =
     let here = get_drop whole slot column rest e in
     go (is_among column.name ids) here.0 (others_named ids whole (slot + 1) rest here.1)
   where
-    go : (t : Bool) → slice_get whole slot ≡ Some column → column_names (columns_at whole (others_from (slot + 1) ids rest)) ≡ others ids (column_names rest)
-        → column_names (columns_at whole (cond t (others_from (slot + 1) ids rest) (slot ∷ others_from (slot + 1) ids rest))) ≡ cond t (others ids (column_names rest)) (column.name ∷ others ids (column_names rest))
+    go : (t : Bool) → slice_get whole slot ≡ Some column → column_names (columns_at whole (others_from (slot + 1) ids rest)) ≡ others ids
+        (column_names rest)
+        → column_names (columns_at whole (cond t (others_from (slot + 1) ids rest) (slot ∷ others_from (slot + 1) ids rest))) ≡ cond t
+        (others ids (column_names rest)) (column.name ∷ others ids (column_names rest))
     go true is h = h
     go false is h = rw is (ap (λ l. column.name ∷ l) h)
 
 -- what a `zip` takes: other names than those of the left, all different
 pub others_taken : (ids : List ℕ) (right : List StreamColumn) → AreApart (column_names right)
-    → AreApart (column_names (columns_at right (others_from 0 ids right))) × (list_any (λ y. is_among y ids) (column_names (columns_at right (others_from 0 ids right))) ≡ false)
+    → AreApart (column_names (columns_at right (others_from 0 ids right)))
+    × (list_any (λ y. is_among y ids) (column_names (columns_at right (others_from 0 ids right))) ≡ false)
 others_taken ids right h =
     let same = others_named ids right 0 right refl in
-    let A : List ℕ → Type 0 = λ l. AreApart l in
-    (subst A (sym same) (others_apart ids (column_names right) h), ap (λ l. list_any (λ y. is_among y ids) l) same ∙ others_not ids (column_names right))
+    let A : List ℕ → Type 0 = λ l. AreApart l in (
+      subst A (sym same) (others_apart ids (column_names right) h),
+      ap (λ l. list_any (λ y. is_among y ids) l) same
+          ∙ others_not ids (column_names right),
+    )

@@ -1,5 +1,6 @@
 -- What the check of a fold's statements gives is valid.
-use Rattle.std.proofs.Common.{◌≡◌, ℕ, ◌+◌, ◌*◌, ◌<◌, ◌≤◌, Bool, true, false, List, [], ◌∷◌, ◌++◌, length, Option, Some, None, Ok, refl, sym, ap, subst, ◌∙◌, inl, inr, arith}
+use Rattle.std.proofs.Common.{◌≡◌, ℕ, ◌+◌, ◌*◌, ◌<◌, ◌≤◌, Bool, true, false, List, [], ◌∷◌, ◌++◌, length, Option, Some, None, Ok, refl, sym}
+use Rattle.std.proofs.Common.{ap, subst, ◌∙◌, inl, inr, arith}
 use Rattle.std.specs.Prelude.{IfSome}
 use Rattle.query_lang.specs.declared.fault.Span.{Span}
 use Rattle.query_lang.specs.declared.fault.FaultKind.{FaultKind}
@@ -14,13 +15,15 @@ use Rattle.query_lang.specs.declared.typing.Body.{Body}
 use Rattle.query_lang.specs.declared.typing.Enclosing.{Enclosing}
 use Rattle.query_lang.specs.Terms.{Term, Literal, term_of}
 use Rattle.query_lang.specs.Blocks.{Block, End, Set, Fork, followed, stmt_block, block_of}
-use Rattle.query_lang.specs.Folds.{IsValidTerm, IsValidBlock, IsValidEmit, ReadsArguments, is_condition, term_nodes, block_nodes, block_count}
+use Rattle.query_lang.specs.Folds.{IsValidTerm, IsValidBlock, IsValidEmit, ReadsArguments, is_condition, term_nodes, block_nodes}
+use Rattle.query_lang.specs.Folds.{block_count}
 use Rattle.query_lang.specs.Checks.{Checked, must_not, is_among, place_of}
 use Rattle.query_lang.specs.TypedFolds.{target_at, target_of, or_else, state_in, joined, inside, emit_condition, no_state}
 use Rattle.query_lang.proofs.TreeLemmas.{term_number, term_not, term_binary, block_assign, block_if}
 use Rattle.query_types.proofs.ExprLaws.{place_bound, IsConditionIn, IsWordIn}
 
-pub must_not_ok : {A : Type 0} (test : Bool) (kind : FaultKind) (span : Span) (next : Checked A) (x : A) → must_not test kind span next ≡ Ok x → (test ≡ false) × (next ≡ Ok x)
+pub must_not_ok : {A : Type 0} (test : Bool) (kind : FaultKind) (span : Span) (next : Checked A) (x : A)
+    → must_not test kind span next ≡ Ok x → (test ≡ false) × (next ≡ Ok x)
 must_not_ok true kind span next x e = cc e
 must_not_ok false kind span next x e = (refl, e)
 
@@ -44,16 +47,34 @@ block_push : (xs : List TypedStmt) (y : TypedStmt) → block_of (xs ++ y ∷ [])
 block_push [] y = followed_end (stmt_block y)
 block_push (x ∷ xs) y = ap (followed (stmt_block x)) (block_push xs y) ∙ sym (followed_assoc (stmt_block x) (block_of xs) (stmt_block y))
 
-followed_valid : (states args n k m j : ℕ) (a b : Block) → IsBlockIn states args n k a → IsBlockIn states args m j b → IsBlockIn states args (n + m) (k + j) (followed a b)
-followed_valid states args n k m j End b va vb = record { valid = vb.valid; nodes = omega (arith, vb.nodes); count = omega (arith, vb.count) }
+followed_valid : (states args n k m j : ℕ) (a b : Block) → IsBlockIn states args n k a → IsBlockIn states args m j b
+    → IsBlockIn states args (n + m) (k + j) (followed a b)
+followed_valid states args n k m j End b va vb = record {
+  valid = vb.valid;
+  nodes = omega (arith, vb.nodes);
+  count =
+      omega (arith, vb.count);
+}
 followed_valid states args n k m j (Set v e rest) b va vb =
-    let vr : IsBlockIn states args (block_nodes rest) (block_count rest) rest = record { valid = va.valid.3; nodes = omega arith; count = omega arith } in
+    let vr : IsBlockIn states args (block_nodes rest) (block_count rest) rest =
+    record { valid = va.valid.3; nodes = omega arith; count = omega arith } in
     let h = followed_valid states args (block_nodes rest) (block_count rest) m j rest b vr vb in
-    record { valid = (va.valid.0, va.valid.1, va.valid.2, h.valid); nodes = omega (arith, h.nodes, va.nodes); count = omega (arith, h.count, va.count) }
+    record {
+      valid = (va.valid.0, va.valid.1, va.valid.2, h.valid);
+      nodes = omega (arith, h.nodes, va.nodes);
+      count =
+          omega (arith, h.count, va.count);
+    }
 followed_valid states args n k m j (Fork c x y rest) b va vb =
-    let vr : IsBlockIn states args (block_nodes rest) (block_count rest) rest = record { valid = va.valid.4; nodes = omega arith; count = omega arith } in
+    let vr : IsBlockIn states args (block_nodes rest) (block_count rest) rest =
+    record { valid = va.valid.4; nodes = omega arith; count = omega arith } in
     let h = followed_valid states args (block_nodes rest) (block_count rest) m j rest b vr vb in
-    record { valid = (va.valid.0, va.valid.1, va.valid.2, va.valid.3, h.valid); nodes = omega (arith, h.nodes, va.nodes); count = omega (arith, h.count, va.count) }
+    record {
+      valid = (va.valid.0, va.valid.1, va.valid.2, va.valid.3, h.valid);
+      nodes = omega (arith, h.nodes, va.nodes);
+      count =
+          omega (arith, h.count, va.count);
+    }
 
 -- what is found of a block with that many nodes and statements
 pub record IsBody (states args most_nodes most_count : ℕ) (body : Body) : Type 0 where
@@ -76,32 +97,48 @@ target_bound states args name v e = go (place_of states name.id) refl (is_among 
     go None is true e = cc e
     go None is false e = cc e
 
-pub added : (states args p c m j : ℕ) (found : Body) (one : TypedStmt) → IsBody states args p c found → IsBlockIn states args m j (stmt_block one) → IsBlockIn states args (p + m) (c + j) (block_of (found.statements ++ one ∷ []))
+pub added : (states args p c m j : ℕ) (found : Body) (one : TypedStmt) → IsBody states args p c found
+    → IsBlockIn states args m j (stmt_block one) → IsBlockIn states args (p + m) (c + j) (block_of (found.statements ++ one ∷ []))
 added states args p c m j found one v h =
     let B : Block → Type 0 = λ b. IsBlockIn states args (p + m) (c + j) b in
-    subst B (sym (block_push found.statements one)) (followed_valid states args p c m j (block_of found.statements) (stmt_block one) v.block h)
+    subst B (sym (block_push found.statements one)) (followed_valid states args p c m j (block_of found.statements) (stmt_block one) v.block
+    h)
 
-pub assign_block : (states args n v : ℕ) (e : TypedExpr) → v < states → IsWordIn (states + args) n e → IsBlockIn states args n 1 (stmt_block (typed_stmt.Assign v e))
+pub assign_block : (states args n v : ℕ) (e : TypedExpr) → v < states → IsWordIn (states + args) n e
+    → IsBlockIn states args n 1 (stmt_block (typed_stmt.Assign v e))
 assign_block states args n v e h w =
     let B : Block → Type 0 = λ b. IsBlockIn states args n 1 b in
     subst B (sym (block_assign v e)) (record { valid = (h, w.term, w.word, tt); nodes = omega (arith, w.nodes); count = omega arith })
 
-pub if_block : (states args n m k j l : ℕ) (c : TypedExpr) (a b : List TypedStmt) → IsConditionIn (states + args) n c → IsBlockIn states args m j (block_of a) → IsBlockIn states args k l (block_of b)
+pub if_block : (states args n m k j l : ℕ) (c : TypedExpr) (a b : List TypedStmt) → IsConditionIn (states + args) n c
+    → IsBlockIn states args m j (block_of a) → IsBlockIn states args k l (block_of b)
     → IsBlockIn states args (n + m + k) (1 + j + l) (stmt_block (typed_stmt.If c a b))
 if_block states args n m k j l c a b vc va vb =
     let B : Block → Type 0 = λ z. IsBlockIn states args (n + m + k) (1 + j + l) z in
-    subst B (sym (block_if c a b)) (record { valid = (vc.term, vc.condition, va.valid, vb.valid, tt); nodes = omega (arith, vc.nodes, va.nodes, vb.nodes); count = omega (arith, va.count, vb.count) })
+    subst B (sym (block_if c a b)) (record {
+      valid = (vc.term, vc.condition, va.valid, vb.valid, tt);
+      nodes =
+          omega (arith, vc.nodes, va.nodes, vb.nodes);
+      count = omega (arith, va.count, vb.count);
+    })
 
 -- one more condition inside those around
-joined_valid : (states args n d m : ℕ) (outer : Option TypedExpr) (c : TypedExpr) → IfSome outer (λ e. IsConditionIn (states + args) (n + 2 * d) e) → IsConditionIn (states + args) (m + 1) c
+joined_valid : (states args n d m : ℕ) (outer : Option TypedExpr) (c : TypedExpr)
+    → IfSome outer (λ e. IsConditionIn (states + args) (n + 2 * d) e) → IsConditionIn (states + args) (m + 1) c
     → IsConditionIn (states + args) (n + m + 2 * (d + 1)) (joined outer c)
 joined_valid states args n d m None c vo vc = record { term = vc.term; condition = vc.condition; nodes = omega (arith, vc.nodes) }
 joined_valid states args n d m (Some o) c vo vc =
     let is = term_binary Both o c in
     let V : Term → Type 0 = λ t. IsValidTerm (states + args) t in
-    record { term = subst V (sym is) (vo.term, vc.term, (vo.condition, vc.condition)); condition = ap is_condition is; nodes = omega (arith, ap term_nodes is, vo.nodes, vc.nodes) }
+    record {
+      term = subst V (sym is) (vo.term, vc.term, (vo.condition, vc.condition));
+      condition = ap is_condition is;
+      nodes =
+          omega (arith, ap term_nodes is, vo.nodes, vc.nodes);
+    }
 
-joined_reads : (states : ℕ) (outer : Option TypedExpr) (c : TypedExpr) → IfSome outer (λ e. ReadsArguments states (term_of e)) → ReadsArguments states (term_of c) → ReadsArguments states (term_of (joined outer c))
+joined_reads : (states : ℕ) (outer : Option TypedExpr) (c : TypedExpr) → IfSome outer (λ e. ReadsArguments states (term_of e))
+    → ReadsArguments states (term_of c) → ReadsArguments states (term_of (joined outer c))
 joined_reads states None c ro rc = rc
 joined_reads states (Some o) c ro rc = let V : Term → Type 0 = λ t. ReadsArguments states t in subst V (sym (term_binary Both o c)) (ro, rc)
 
@@ -109,7 +146,8 @@ none_of_both : (a b : Option Span) → or_else a b ≡ None → (a ≡ None) × 
 none_of_both None b e = (refl, e)
 none_of_both (Some span) b e = cc e
 
-pub inside_valid : (states args : List ℕ) (n d m : ℕ) (outer : Enclosing) (written : Expr) (c : TypedExpr) → IsAround (length states) (length args) n d outer
+pub inside_valid : (states args : List ℕ) (n d m : ℕ) (outer : Enclosing) (written : Expr) (c : TypedExpr)
+    → IsAround (length states) (length args) n d outer
     → IsConditionIn (length states + length args) (m + 1) c → (state_in states written ≡ None → ReadsArguments (length states) (term_of c))
     → IsAround (length states) (length args) (n + m) (d + 1) (inside states outer written c)
 inside_valid states args n d m outer written c va vc rc = record {
@@ -123,15 +161,28 @@ pub not_in : (slots n : ℕ) (c : TypedExpr) → IsConditionIn slots n c → IsC
 not_in slots n c v =
     let is = term_not c in
     let V : Term → Type 0 = λ t. IsValidTerm slots t in
-    record { term = subst V (sym is) (v.term, v.condition); condition = ap is_condition is; nodes = omega (arith, ap term_nodes is, v.nodes) }
+    record {
+      term = subst V (sym is) (v.term, v.condition);
+      condition = ap is_condition is;
+      nodes =
+          omega (arith, ap term_nodes is, v.nodes);
+    }
 
-pub emit_valid : (states args n d : ℕ) (outer : Enclosing) → n ≤ 512 → d + 1 ≤ 64 → IsAround states args n d outer → outer.state ≡ None → IsValidEmit states args (term_of (emit_condition outer.condition))
+pub emit_valid : (states args n d : ℕ) (outer : Enclosing) → n ≤ 512 → d + 1 ≤ 64 → IsAround states args n d outer → outer.state ≡ None
+    → IsValidEmit states args (term_of (emit_condition outer.condition))
 emit_valid states args n d outer hn hd va none = go outer.condition va.condition (va.reads none)
   where
-    go : (o : Option TypedExpr) → IfSome o (λ e. IsConditionIn (states + args) (n + 2 * d) e) → IfSome o (λ e. ReadsArguments states (term_of e)) → IsValidEmit states args (term_of (emit_condition o))
+    go : (o : Option TypedExpr) → IfSome o (λ e. IsConditionIn (states + args) (n + 2 * d) e)
+        → IfSome o (λ e. ReadsArguments states (term_of e)) → IsValidEmit states args (term_of (emit_condition o))
     go None v r =
         let E : Term → Type 0 = λ t. IsValidEmit states args t in
-        let one : IsValidEmit states args (Literal 1) = record { slots = omega arith; condition = inr refl; arguments = tt; nodes = omega arith } in
+        let one : IsValidEmit states args (Literal 1) = record {
+          slots = omega arith;
+          condition = inr refl;
+          arguments = tt;
+          nodes =
+              omega arith;
+        } in
         subst E (sym (term_number 1)) one
     go (Some e) v r = record { slots = v.term; condition = inl v.condition; arguments = r; nodes = omega (arith, v.nodes) }
 

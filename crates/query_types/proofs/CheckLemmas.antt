@@ -5,5 +5,6 @@ use Rattle.query_types.specs.declared.answer.CheckAnswer.{CheckAnswer}
 use Rattle.query_types.specs.Answers.{Answers}
 
 -- the next check of the same gives the same
-pub same_checked : {A B : Type 0} (answer : Result B CheckAnswer) (next : A → Checked B) (x y : A) → x ≡ y → Answers answer (next x) → Answers answer (next y)
+pub same_checked : {A B : Type 0} (answer : Result B CheckAnswer) (next : A → Checked B) (x y : A) → x ≡ y → Answers answer (next x)
+    → Answers answer (next y)
 same_checked {A} {B} answer next x y e h = let P : A → Type 0 = λ z. Answers answer (next z) in subst P e h

@@ -1,5 +1,7 @@
 -- What a final's operator makes is valid after the tables before it, in the whole query.
-use Rattle.std.proofs.Common.{◌≡◌, ℕ, zero, suc, ◌+◌, ◌<◌, ◌≤◌, ◌^◌, Bool, true, false, ◌&&◌, List, [], ◌∷◌, ◌++◌, length, map, flat_map, drop, Option, Some, None, Ok, nat_eq, nat_lt, nat_le, refl, sym, ap, subst, ◌∙◌, append-nil, length-drop, arith}
+use Rattle.std.proofs.Common.{◌≡◌, ℕ, zero, suc, ◌+◌, ◌<◌, ◌≤◌, ◌^◌, Bool, true, false, ◌&&◌, List, [], ◌∷◌, ◌++◌, length, map, flat_map}
+use Rattle.std.proofs.Common.{drop, Option, Some, None, Ok, nat_eq, nat_lt, nat_le, refl, sym, ap, subst, ◌∙◌, append-nil, length-drop}
+use Rattle.std.proofs.Common.{arith}
 use Rattle.std.specs.Prelude.{is_some, slice_get, unwrap_or}
 use Rattle.std.specs.List.{list_any}
 use Rattle.std.specs.Cmp.Lexicographic.{pointwise}
@@ -24,13 +26,16 @@ use Rattle.query_lang.specs.Checks.{is_among}
 use Rattle.query_lang.specs.TypedExprs.{slot_of, condition_of}
 use Rattle.query_lang.specs.TypedFolds.{expr_nodes}
 use Rattle.query_lang.specs.TypedStreams.{new_columns, no_new_columns, key_names, keys_checked, arguments_of}
-use Rattle.query_lang.specs.TypedFinals.{table_named, table_number, five_fields, quiet_fold, same_names, key_columns, other_columns, made_final}
-use Rattle.query_lang.specs.TypedQueries.{AreNames, AreValidWords, IsValidWord, IsValidCondition, IsValidGroup, IsValidFinalOp, IsQuiet, Shape, shapes, shape_at, group_shape, final_shape}
+use Rattle.query_lang.specs.TypedFinals.{table_named, table_number, five_fields, quiet_fold, same_names, key_columns, other_columns}
+use Rattle.query_lang.specs.TypedFinals.{made_final}
+use Rattle.query_lang.specs.TypedQueries.{AreNames, AreValidWords, IsValidWord, IsValidCondition, IsValidGroup, IsValidFinalOp, IsQuiet}
+use Rattle.query_lang.specs.TypedQueries.{Shape, shapes, shape_at, group_shape, final_shape}
 use Rattle.query_types.specs.Numbers.{final_number}
 use Rattle.query_types.proofs.ExprLaws.{same_ok, found_first, must_ok, slot_bound, condition_valid}
 use Rattle.query_types.proofs.BodyLaws.{must_not_ok}
 use Rattle.query_types.proofs.ViewLaws.{Whole, IsTable, IsBelow, AreKnown, table_shape, table_known, fold_known, quiet_known, get_front}
-use Rattle.query_types.proofs.StreamLaws.{condition_fits, AreNew, new_valid, ArePicked, keys_valid, picked_some, arguments_valid, group_valid, group_is}
+use Rattle.query_types.proofs.StreamLaws.{condition_fits, AreNew, new_valid, ArePicked, keys_valid, picked_some, arguments_valid}
+use Rattle.query_types.proofs.StreamLaws.{group_valid, group_is}
 use Rattle.query_types.proofs.MadeLaws.{IsPart, IsName}
 
 -- the tables before a final
@@ -39,9 +44,11 @@ tables_of w e = shapes w.folds w.streams [] ++ map final_shape e.finals
 
 get_after : {A : Type 0} (xs ys : List A) (i : ℕ) → slice_get (xs ++ ys) (length xs + i) ≡ slice_get ys i
 get_after [] ys i = let same : 0 + i ≡ i = omega arith in ap (slice_get ys) same
-get_after (x ∷ xs) ys i = let same : suc (length xs) + i ≡ suc (length xs + i) = omega arith in ap (slice_get (x ∷ (xs ++ ys))) same ∙ get_after xs ys i
+get_after (x ∷ xs) ys i = let same : suc (length xs) + i ≡ suc (length xs + i) = omega arith in ap (slice_get (x ∷ (xs ++ ys))) same
+    ∙ get_after xs ys i
 
-at_place : (w : Whole) (e : Earlier) (shape : Shape) (p : PrintOf) → IsPart w e → length (takings w.streams) ≡ w.groups → IsBelow (length e.finals) p → table_shape w p ≡ Some shape
+at_place : (w : Whole) (e : Earlier) (shape : Shape) (p : PrintOf) → IsPart w e → length (takings w.streams) ≡ w.groups
+    → IsBelow (length e.finals) p → table_shape w p ≡ Some shape
     → slice_get (tables_of w e) (table_number w.groups p) ≡ Some shape
 at_place w e shape (place.Group i) part count below is =
     let A = map (group_shape w.folds) (takings w.streams) in
@@ -52,7 +59,8 @@ at_place w e shape (place.Final j) part count below is =
     let B = map final_shape e.finals in
     let size : length A ≡ w.groups = length-map (takings w.streams) (group_shape w.folds) ∙ count in
     let within : j < length B = omega (arith, length-map e.finals final_shape) in
-    let whole : map final_shape w.finals ≡ B ++ map final_shape part.later_finals = ap (map final_shape) part.finals ∙ map-append final_shape e.finals part.later_finals in
+    let whole : map final_shape w.finals ≡ B ++ map final_shape part.later_finals = ap (map final_shape) part.finals
+    ∙ map-append final_shape e.finals part.later_finals in
     ap (λ (l : List Shape). slice_get (l ++ B) (w.groups + j)) (append-nil A)
     ∙ ap (λ (n : ℕ). slice_get (A ++ B) (n + j)) (sym size)
     ∙ get_after A B j
@@ -65,7 +73,8 @@ pub record IsThere (w : Whole) (e : Earlier) (t : TableView) : Type 0 where
   pub within : table_number w.groups t.place < length (tables_of w e)
   pub shape : shape_at (tables_of w e) (table_number w.groups t.place) ≡ record { width = length t.columns; keys = t.keys }
 
-there : (w : Whole) (e : Earlier) (t : TableView) → IsPart w e → length (takings w.streams) ≡ w.groups → IsTable w (length e.finals) t → IsThere w e t
+there : (w : Whole) (e : Earlier) (t : TableView) → IsPart w e → length (takings w.streams) ≡ w.groups → IsTable w (length e.finals) t
+    → IsThere w e t
 there w e t part count v =
     let is = at_place w e (record { width = length t.columns; keys = t.keys }) t.place part count v.below v.shape in
     record {
@@ -97,31 +106,62 @@ drop_names names zero list v = v
 drop_names names (suc n) [] v = v
 drop_names names (suc n) (x ∷ rest) v = drop_names names n rest (All-tail (IsName names) x rest v)
 
-pub final_valid : (w : Whole) (given : Given) (e : Earlier) (op : FinalOp) (made : MadeFinal) → IsPart w e → length (takings w.streams) ≡ w.groups → given.groups ≡ w.groups
-    → AreKnown w (length e.streams) (length e.finals) e.known → final_nodes op ≤ 512 → IsNumberedFinal w.names op → (0 < length (five_fields given.fields)) × HasFinalKeys op → final_number op < 2 ^ 64 → made_final given e op ≡ Ok made → IsMadeFinal w e made
+pub final_valid : (w : Whole) (given : Given) (e : Earlier) (op : FinalOp) (made : MadeFinal) → IsPart w e
+    → length (takings w.streams) ≡ w.groups → given.groups ≡ w.groups
+    → AreKnown w (length e.streams) (length e.finals) e.known → final_nodes op ≤ 512 → IsNumberedFinal w.names op
+    → (0 < length (five_fields given.fields)) × HasFinalKeys op → final_number op < 2 ^ 64 → made_final given e op ≡ Ok made
+    → IsMadeFinal w e made
 final_valid w given e (ops.Filter input c) made part count same known nodes numbered some words h =
     let source = found_first (table_named e.known input) _ made h in
     let condition = found_first (condition_of source.0.columns [] c) _ made source.2 in
     let v = table_known w (length e.streams) (length e.finals) e.known input source.0 known source.1 in
     let t = there w e source.0 part count v in
-    let fits = condition_fits (length source.0.columns) (expr_nodes c) condition.0 nodes (condition_valid source.0.columns [] c condition.0 words condition.1) in
+    let fits = condition_fits (length source.0.columns) (expr_nodes c) condition.0 nodes
+    (condition_valid source.0.columns [] c condition.0 words condition.1) in
     let C : Shape → Type 0 = λ s. IsValidCondition s.width condition.0 in
     let M : MadeFinal → Type 0 = λ m. IsMadeFinal w e m in
-    let P : ℕ → Type 0 = λ g. IsMadeFinal w e (record { op = typed.Filter (table_number g source.0.place) condition.0; columns = source.0.columns; keys = source.0.keys }) in
-    subst M (same_ok _ made condition.2) (subst P (sym same) (record { operator = (t.within, subst C (sym t.shape) fits, sym t.shape); names = v.names; keys = v.keys }))
+    let P : ℕ → Type 0 = λ g. IsMadeFinal w e (record {
+      op = typed.Filter (table_number g source.0.place) condition.0;
+      columns =
+          source.0.columns;
+      keys = source.0.keys;
+    }) in
+    subst M (same_ok _ made condition.2) (subst P (sym same) (record {
+      operator =
+          (t.within, subst C (sym t.shape) fits, sym t.shape);
+      names = v.names;
+      keys = v.keys;
+    }))
 final_valid w given e (ops.Map input columns) made part count same known nodes numbered some words h =
     let source = found_first (table_named e.known input) _ made h in
     let ids = source.0.columns in
     let new = found_first (new_columns ids [] no_new_columns columns) _ made source.2 in
     let v = table_known w (length e.streams) (length e.finals) e.known input source.0 known source.1 in
     let t = there w e source.0 part count v in
-    let none : AreNew w.names (length ids) no_new_columns = record { ids = All-nil (IsName w.names); values = All-nil (IsValidWord (length ids)); same = refl } in
+    let none : AreNew w.names (length ids) no_new_columns = record {
+      ids = All-nil (IsName w.names);
+      values =
+          All-nil (IsValidWord (length ids));
+      same = refl;
+    } in
     let fits = new_valid ids [] w.names no_new_columns new.0 columns none (omega arith) numbered words new.1 in
     let C : Shape → Type 0 = λ s. AreValidWords s.width new.0.values in
     let M : MadeFinal → Type 0 = λ m. IsMadeFinal w e m in
-    let P : ℕ → Type 0 = λ g. IsMadeFinal w e (record { op = typed.Map (table_number g source.0.place) new.0.values; columns = ids ++ new.0.names; keys = source.0.keys }) in
+    let P : ℕ → Type 0 = λ g. IsMadeFinal w e (record {
+      op = typed.Map (table_number g source.0.place) new.0.values;
+      columns = ids
+          ++ new.0.names;
+      keys = source.0.keys;
+    }) in
     subst M (same_ok _ made new.2) (subst P (sym same) (record {
-      operator = (t.within, subst C (sym t.shape) (fits.0.values, fits.1), omega (arith, ap (λ (s : Shape). s.width) t.shape, length-append ids new.0.names, fits.0.same), sym (ap (λ (s : Shape). s.keys) t.shape));
+      operator = (
+        t.within,
+        subst C (sym t.shape) (fits.0.values, fits.1),
+        omega
+            (arith, ap (λ (s : Shape). s.width) t.shape, length-append ids new.0.names, fits.0.same),
+        sym
+            (ap (λ (s : Shape). s.keys) t.shape),
+      );
       names = All-append (IsName w.names) ids new.0.names v.names fits.0.ids;
       keys = omega (arith, v.keys, length-append ids new.0.names);
     }))
@@ -136,8 +176,10 @@ final_valid w given e (ops.Group input keys fold_name) made part count same know
     let t = there w e source.0 part count v in
     let quiet = quiet_known e.known fold_name f.0 f.1 in
     let vf = fold_known w (length e.streams) (length e.finals) e.known fold_name f.0 known quiet.0 in
-    let none : ArePicked w.names (length ids) (record { names = []; slots = [] }) = record { ids = All-nil (IsName w.names); slots_in = All-nil (IsName (length ids)); same = refl; most = omega arith } in
-    let vp = keys_valid ids [] w.names (record { names = []; slots = [] }) picked.0 (flat_map (key_names five) keys) v.names none picked.1 in
+    let none : ArePicked w.names (length ids) (record { names = []; slots = [] }) =
+    record { ids = All-nil (IsName w.names); slots_in = All-nil (IsName (length ids)); same = refl; most = omega arith } in
+    let vp = keys_valid ids [] w.names (record { names = []; slots = [] }) picked.0 (flat_map (key_names five) keys) v.names none
+    picked.1 in
     let va = arguments_valid ids [] picked.0.names f.0 fold_name.span arguments.0 arguments.1 in
     let one_key = picked_some five ids [] picked.0 keys some.0 some.1 picked.1 in
     let group = group_valid w ids arguments.0 picked.0 f.0 vf vp one_key va.0 va.1 in
@@ -145,9 +187,20 @@ final_valid w given e (ops.Group input keys fold_name) made part count same know
     let Q : Option TypedFold → Type 0 = λ o. IsQuiet o in
     let emits : IsQuiet (Some vf.one) = no_emit vf.one.emit (vf.emits ∙ quiet.1) in
     let M : MadeFinal → Type 0 = λ m. IsMadeFinal w e m in
-    let P : ℕ → Type 0 = λ g. IsMadeFinal w e (record { op = typed.Group (table_number g source.0.place) picked.0.slots f.0.number arguments.0; columns = picked.0.names ++ f.0.states; keys = length picked.0.names }) in
+    let P : ℕ → Type 0 = λ g. IsMadeFinal w e (record {
+      op = typed.Group (table_number g source.0.place) picked.0.slots f.0.number
+          arguments.0;
+      columns = picked.0.names ++ f.0.states;
+      keys = length picked.0.names;
+    }) in
     subst M (same_ok _ made arguments.2) (subst P (sym same) (record {
-      operator = (t.within, subst G (sym t.shape) group, subst Q (sym vf.is) emits, sym (group_is w ids arguments.0 (table_number w.groups source.0.place) picked.0 f.0 vf vp));
+      operator = (
+        t.within,
+        subst G (sym t.shape) group,
+        subst Q (sym vf.is) emits,
+        sym
+            (group_is w ids arguments.0 (table_number w.groups source.0.place) picked.0 f.0 vf vp),
+      );
       names = All-append (IsName w.names) picked.0.names f.0.states vp.ids vf.names;
       keys = omega (arith, length-append picked.0.names f.0.states);
     }))
@@ -161,16 +214,37 @@ final_valid w given e (ops.Join first second) made part count same known nodes n
     let tl = there w e left.0 part count vl in
     let tr = there w e right.0 part count vr in
     let lengths = same_length (key_columns left.0) (key_columns right.0) equal.0 in
-    let keys : left.0.keys ≡ right.0.keys = omega (arith, lengths, length-take left.0.keys left.0.columns, length-take right.0.keys right.0.columns, vl.keys, vr.keys) in
+    let keys : left.0.keys ≡ right.0.keys = omega (
+      arith,
+      lengths,
+      length-take left.0.keys left.0.columns,
+      length-take right.0.keys
+          right.0.columns,
+      vl.keys,
+      vr.keys,
+    ) in
     let lk = ap (λ (s : Shape). s.keys) tl.shape in
     let rk = ap (λ (s : Shape). s.keys) tr.shape in
     let lw = ap (λ (s : Shape). s.width) tl.shape in
     let rw' = ap (λ (s : Shape). s.width) tr.shape in
     let M : MadeFinal → Type 0 = λ m. IsMadeFinal w e m in
-    let P : ℕ → Type 0 = λ g. IsMadeFinal w e (record { op = typed.Join (table_number g left.0.place) (table_number g right.0.place); columns = left.0.columns ++ other_columns right.0; keys = left.0.keys }) in
+    let P : ℕ → Type 0 = λ g. IsMadeFinal w e (record {
+      op = typed.Join (table_number g left.0.place) (table_number g right.0.place);
+      columns = left.0.columns ++ other_columns right.0;
+      keys = left.0.keys;
+    }) in
     subst M (same_ok _ made free.1) (subst P (sym same) (record {
-      operator = (tl.within, tr.within, omega (arith, keys, lk, rk), omega (arith, lw, rw', rk, length-append left.0.columns (other_columns right.0), length-drop right.0.keys right.0.columns), omega (arith, lk));
-      names = All-append (IsName w.names) left.0.columns (other_columns right.0) vl.names (drop_names w.names right.0.keys right.0.columns vr.names);
+      operator = (
+        tl.within,
+        tr.within,
+        omega (arith, keys, lk, rk),
+        omega
+            (arith, lw, rw', rk, length-append left.0.columns (other_columns right.0), length-drop right.0.keys right.0.columns),
+        omega
+            (arith, lk),
+      );
+      names = All-append (IsName w.names) left.0.columns (other_columns right.0) vl.names
+          (drop_names w.names right.0.keys right.0.columns vr.names);
       keys = omega (arith, vl.keys, length-append left.0.columns (other_columns right.0));
     }))
 final_valid w given e (ops.Top input column kept span) made part count same known nodes numbered some words h =
@@ -181,9 +255,20 @@ final_valid w given e (ops.Top input column kept span) made part count same know
     let v = table_known w (length e.streams) (length e.finals) e.known input source.0 known source.1 in
     let t = there w e source.0 part count v in
     let M : MadeFinal → Type 0 = λ m. IsMadeFinal w e m in
-    let P : ℕ → Type 0 = λ g. IsMadeFinal w e (record { op = typed.Top (table_number g source.0.place) slot.0 kept; columns = source.0.columns; keys = source.0.keys }) in
+    let P : ℕ → Type 0 = λ g. IsMadeFinal w e (record {
+      op = typed.Top (table_number g source.0.place) slot.0 kept;
+      columns =
+          source.0.columns;
+      keys = source.0.keys;
+    }) in
     subst M (same_ok _ made test.1) (subst P (sym same) (record {
-      operator = (t.within, omega (arith, slot_bound source.0.columns [] column slot.0 slot.1, ap (λ (s : Shape). s.width) t.shape), ltb-true _ _ both.0, leb-true _ _ both.1, sym t.shape);
+      operator = (
+        t.within,
+        omega (arith, slot_bound source.0.columns [] column slot.0 slot.1, ap (λ (s : Shape). s.width) t.shape),
+        ltb-true _ _ both.0,
+        leb-true _ _ both.1,
+        sym t.shape,
+      );
       names = v.names;
       keys = v.keys;
     }))

@@ -1,5 +1,6 @@
 -- What a stream's operator makes is valid after the streams before it, in the whole query.
-use Rattle.std.proofs.Common.{◌≡◌, ℕ, ◌<◌, ◌≤◌, ◌^◌, List, [], ◌∷◌, ◌++◌, length, map, flat_map, Option, Some, None, Ok, nat_lt, refl, sym, ap, subst, ◌∙◌, arith}
+use Rattle.std.proofs.Common.{◌≡◌, ℕ, ◌<◌, ◌≤◌, ◌^◌, List, [], ◌∷◌, ◌++◌, length, map, flat_map, Option, Some, None, Ok, nat_lt, refl, sym}
+use Rattle.std.proofs.Common.{ap, subst, ◌∙◌, arith}
 use Rattle.std.proofs.lemmas.List.{length-append, length-map, map-append}
 use Rattle.std.proofs.lemmas.List.Elements.{All-nil, All-append}
 use Rattle.query_lang.specs.declared.fault.FaultKind.TheVariants.{NameTaken, OverLimit}
@@ -23,13 +24,16 @@ use Rattle.query_lang.specs.Limits.{stream_nodes, HasStreamKeys, IsNumberedStrea
 use Rattle.query_lang.specs.Streams.{Taking, taking_of}
 use Rattle.query_lang.specs.TypedExprs.{condition_of}
 use Rattle.query_lang.specs.TypedFolds.{expr_nodes}
-use Rattle.query_lang.specs.TypedStreams.{stream_named, fold_named, column_names, new_columns, no_new_columns, clash, others_from, columns_at, key_names, keys_checked, arguments_of, next_stream, made_stream}
-use Rattle.query_lang.specs.TypedQueries.{AreNames, AreSlots, AreValidWords, IsValidWord, IsValidCondition, IsValidGroup, IsValidOp, group_shape, stream_width}
+use Rattle.query_lang.specs.TypedStreams.{stream_named, fold_named, column_names, new_columns, no_new_columns, clash, others_from}
+use Rattle.query_lang.specs.TypedStreams.{columns_at, key_names, keys_checked, arguments_of, next_stream, made_stream}
+use Rattle.query_lang.specs.TypedQueries.{AreNames, AreSlots, AreValidWords, IsValidWord, IsValidCondition, IsValidGroup, IsValidOp}
+use Rattle.query_lang.specs.TypedQueries.{group_shape, stream_width}
 use Rattle.query_types.specs.Numbers.{stream_number}
 use Rattle.query_types.proofs.ExprLaws.{same_ok, found_first, must_ok, condition_valid}
 use Rattle.query_types.proofs.BodyLaws.{must_not_ok}
 use Rattle.query_types.proofs.ViewLaws.{Whole, IsStream, AreKnown, stream_known, fold_known, width_front}
-use Rattle.query_types.proofs.StreamLaws.{condition_fits, AreNew, new_valid, ArePicked, keys_valid, picked_some, arguments_valid, group_valid, group_is, others_valid, picked_valid}
+use Rattle.query_types.proofs.StreamLaws.{condition_fits, AreNew, new_valid, ArePicked, keys_valid, picked_some, arguments_valid}
+use Rattle.query_types.proofs.StreamLaws.{group_valid, group_is, others_valid, picked_valid}
 
 abbrev pub IsName : ℕ → ℕ → Type 0
 IsName names id = id < names
@@ -46,16 +50,19 @@ pub record IsPart (w : Whole) (e : Earlier) : Type 0 where
 abbrev pub IsMadeTable : Whole → Earlier → TypedOp → Option TableView → Type 0
 IsMadeTable w e op None = taking_of op ≡ None
 IsMadeTable w e op (Some t) =
-    (one : Taking) × (taking_of op ≡ Some one) × (group_shape w.folds one ≡ record { width = length t.columns; keys = t.keys }) × AreNames w.names t.columns × (t.keys ≤ length t.columns) × (t.place ≡ place.Group e.groups)
+    (one : Taking) × (taking_of op ≡ Some one) × (group_shape w.folds one ≡ record { width = length t.columns; keys = t.keys })
+    × AreNames w.names t.columns × (t.keys ≤ length t.columns) × (t.place ≡ place.Group e.groups)
 
 pub record IsMade (w : Whole) (e : Earlier) (made : MadeStream) : Type 0 where
   pub operator : IsValidOp w.folds e.streams (length (column_names made.columns)) made.op
   pub names : AreNames w.names (column_names made.columns)
   pub table : IsMadeTable w e made.op made.table
 
-source_width : (w : Whole) (e : Earlier) (finals : ℕ) (s : StreamView) → IsPart w e → IsStream w (length e.streams) finals s → stream_width e.streams s.number ≡ length (column_names s.columns)
+source_width : (w : Whole) (e : Earlier) (finals : ℕ) (s : StreamView) → IsPart w e → IsStream w (length e.streams) finals s
+    → stream_width e.streams s.number ≡ length (column_names s.columns)
 source_width w e finals s part v =
-    sym (width_front e.streams part.later_streams s.number v.number) ∙ ap (λ (l : List TypedStream). stream_width l s.number) (sym part.streams) ∙ v.width
+    sym (width_front e.streams part.later_streams s.number v.number) ∙ ap (λ (l : List TypedStream). stream_width l s.number)
+    (sym part.streams) ∙ v.width
 
 pub names_of_made : (origin : Origin) (names : List ℕ) → column_names (map (λ name. record { name = name; origin = origin }) names) ≡ names
 names_of_made origin [] = refl
@@ -67,32 +74,52 @@ names_append a b = map-append (λ (column : StreamColumn). column.name) a b
 columns_length : (columns : List StreamColumn) → length (column_names columns) ≡ length columns
 columns_length columns = simp length-map
 
-pub made_valid : (w : Whole) (five : List ℕ) (e : Earlier) (name : Name) (op : StreamOp) (made : MadeStream) → IsPart w e → AreKnown w (length e.streams) (length e.finals) e.known
-    → stream_nodes op ≤ 512 → IsNumberedStream w.names op → (0 < length five) × HasStreamKeys op → stream_number op < 2 ^ 64 → made_stream five e name op ≡ Ok made → IsMade w e made
+pub made_valid : (w : Whole) (five : List ℕ) (e : Earlier) (name : Name) (op : StreamOp) (made : MadeStream) → IsPart w e
+    → AreKnown w (length e.streams) (length e.finals) e.known
+    → stream_nodes op ≤ 512 → IsNumberedStream w.names op → (0 < length five) × HasStreamKeys op → stream_number op < 2 ^ 64
+    → made_stream five e name op ≡ Ok made → IsMade w e made
 made_valid w five e name (ops.Filter input c) made part known nodes numbered some words h =
     let source = found_first (stream_named e.known input) _ made h in
     let condition = found_first (condition_of (column_names source.0.columns) source.0.hidden c) _ made source.2 in
     let v = stream_known w (length e.streams) (length e.finals) e.known input source.0 known source.1 in
     let width = source_width w e (length e.finals) source.0 part v in
-    let fits = condition_fits (length (column_names source.0.columns)) (expr_nodes c) condition.0 nodes (condition_valid (column_names source.0.columns) source.0.hidden c condition.0 words condition.1) in
+    let fits = condition_fits (length (column_names source.0.columns)) (expr_nodes c) condition.0 nodes
+    (condition_valid (column_names source.0.columns) source.0.hidden c condition.0 words condition.1) in
     let C : ℕ → Type 0 = λ k. IsValidCondition k condition.0 in
     let M : MadeStream → Type 0 = λ m. IsMade w e m in
-    subst M (same_ok _ made condition.2) (record { operator = (v.number, subst C (sym width) fits, sym width); names = v.names; table = refl })
+    subst M (same_ok _ made condition.2) (record {
+      operator = (v.number, subst C (sym width) fits, sym width);
+      names = v.names;
+      table =
+          refl;
+    })
 made_valid w five e name (ops.Map input columns) made part known nodes numbered some words h =
     let source = found_first (stream_named e.known input) _ made h in
     let ids = column_names source.0.columns in
     let new = found_first (new_columns ids source.0.hidden no_new_columns columns) _ made source.2 in
     let v = stream_known w (length e.streams) (length e.finals) e.known input source.0 known source.1 in
     let width = source_width w e (length e.finals) source.0 part v in
-    let none : AreNew w.names (length ids) no_new_columns = record { ids = All-nil (IsName w.names); values = All-nil (IsValidWord (length ids)); same = refl } in
+    let none : AreNew w.names (length ids) no_new_columns = record {
+      ids = All-nil (IsName w.names);
+      values =
+          All-nil (IsValidWord (length ids));
+      same = refl;
+    } in
     let fits = new_valid ids source.0.hidden w.names no_new_columns new.0 columns none (omega arith) numbered words new.1 in
     let C : ℕ → Type 0 = λ k. AreValidWords k new.0.values in
     let M : MadeStream → Type 0 = λ m. IsMade w e m in
-    let added = map (λ name. let column : StreamColumn = record { name = name; origin = (origins.Map (next_stream e)) } in column) new.0.names in
-    let all : column_names (source.0.columns ++ added) ≡ ids ++ new.0.names = names_append source.0.columns added ∙ ap (λ l. ids ++ l) (names_of_made ((origins.Map (next_stream e))) new.0.names) in
+    let added = map (λ name. let column : StreamColumn = record { name = name; origin = (origins.Map (next_stream e)) } in column)
+    new.0.names in
+    let all : column_names (source.0.columns ++ added) ≡ ids ++ new.0.names = names_append source.0.columns added
+    ∙ ap (λ l. ids ++ l) (names_of_made ((origins.Map (next_stream e))) new.0.names) in
     let N : List ℕ → Type 0 = λ l. AreNames w.names l in
     subst M (same_ok _ made new.2) (record {
-      operator = (v.number, subst C (sym width) (fits.0.values, fits.1), omega (arith, ap length all, length-append ids new.0.names, fits.0.same, width));
+      operator = (
+        v.number,
+        subst C (sym width) (fits.0.values, fits.1),
+        omega
+            (arith, ap length all, length-append ids new.0.names, fits.0.same, width),
+      );
       names = subst N (sym all) (All-append (IsName w.names) ids new.0.names v.names fits.0.ids);
       table = refl;
     })
@@ -109,11 +136,18 @@ made_valid w five e name (ops.Zip first second) made part known nodes numbered s
     let A : ℕ → Type 0 = λ k. AreSlots k slots in
     let within : AreSlots (length right.0.columns) slots = subst A (omega arith) (others_valid 0 ids right.0.columns) in
     let picked = picked_valid w.names right.0.columns slots vr.names within in
-    let all : column_names (left.0.columns ++ columns_at right.0.columns slots) ≡ ids ++ column_names (columns_at right.0.columns slots) = names_append left.0.columns (columns_at right.0.columns slots) in
+    let all : column_names (left.0.columns ++ columns_at right.0.columns slots) ≡ ids ++ column_names (columns_at right.0.columns slots) =
+    names_append left.0.columns (columns_at right.0.columns slots) in
     let N : List ℕ → Type 0 = λ l. AreNames w.names l in
     let M : MadeStream → Type 0 = λ m. IsMade w e m in
     subst M (same_ok _ made free.1) (record {
-      operator = (vl.number, vr.number, subst A (omega (arith, wr, columns_length right.0.columns)) within, omega (arith, ap length all, length-append ids (column_names (columns_at right.0.columns slots)), picked.0, wl));
+      operator = (
+        vl.number,
+        vr.number,
+        subst A (omega (arith, wr, columns_length right.0.columns)) within,
+        omega
+            (arith, ap length all, length-append ids (column_names (columns_at right.0.columns slots)), picked.0, wl),
+      );
       names = subst N (sym all) (All-append (IsName w.names) ids (column_names (columns_at right.0.columns slots)) vl.names picked.1);
       table = refl;
     })
@@ -127,8 +161,10 @@ made_valid w five e name (ops.Group input keys fold_name) made part known nodes 
     let v = stream_known w (length e.streams) (length e.finals) e.known input source.0 known source.1 in
     let vf = fold_known w (length e.streams) (length e.finals) e.known fold_name f.0 known f.1 in
     let width = source_width w e (length e.finals) source.0 part v in
-    let none : ArePicked w.names (length ids) (record { names = []; slots = [] }) = record { ids = All-nil (IsName w.names); slots_in = All-nil (IsName (length ids)); same = refl; most = omega arith } in
-    let vp = keys_valid ids source.0.hidden w.names (record { names = []; slots = [] }) picked.0 (flat_map (key_names five) keys) v.names none picked.1 in
+    let none : ArePicked w.names (length ids) (record { names = []; slots = [] }) =
+    record { ids = All-nil (IsName w.names); slots_in = All-nil (IsName (length ids)); same = refl; most = omega arith } in
+    let vp = keys_valid ids source.0.hidden w.names (record { names = []; slots = [] }) picked.0 (flat_map (key_names five) keys) v.names
+    none picked.1 in
     let va = arguments_valid ids source.0.hidden picked.0.names f.0 fold_name.span arguments.0 arguments.1 in
     let one_key = picked_some five ids source.0.hidden picked.0 keys some.0 some.1 picked.1 in
     let group = group_valid w ids arguments.0 picked.0 f.0 vf vp one_key va.0 va.1 in

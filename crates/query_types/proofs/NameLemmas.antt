@@ -13,5 +13,6 @@ one_more names text = go (list_any (bytes_eq text) names)
     go false = omega (arith, length-append names (text ∷ []))
 
 -- one more name than before
-pub still_room : (names after : List (List ℕ)) (text : List ℕ) (n : ℕ) → after ≡ with_name names text → length names ≤ n → length after ≤ n + 1
+pub still_room : (names after : List (List ℕ)) (text : List ℕ) (n : ℕ) → after ≡ with_name names text → length names ≤ n → length after ≤ n
+    + 1
 still_room names after text n is h = omega (arith, h, ap length is, one_more names text)

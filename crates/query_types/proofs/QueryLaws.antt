@@ -1,5 +1,6 @@
 -- What the check of a query gives is valid.
-use Rattle.std.proofs.Common.{◌≡◌, ℕ, ◌+◌, ◌<◌, ◌^◌, cond, List, [], ◌∷◌, ◌++◌, length, map, count_by, Some, Ok, nat_lt, refl, sym, ap, subst, ◌∙◌, arith}
+use Rattle.std.proofs.Common.{◌≡◌, ℕ, ◌+◌, ◌<◌, ◌^◌, cond, List, [], ◌∷◌, ◌++◌, length, map, count_by, Some, Ok, nat_lt, refl, sym, ap}
+use Rattle.std.proofs.Common.{subst, ◌∙◌, arith}
 use Rattle.std.specs.Prelude.{is_some, slice_get}
 use Rattle.std.specs.List.{All}
 use Rattle.std.proofs.lemmas.Option.{slice_get_within}
@@ -31,7 +32,8 @@ use Rattle.query_lang.specs.Streams.{takings}
 use Rattle.query_lang.specs.Checks.{is_among}
 use Rattle.query_lang.specs.TypedExprs.{condition_of}
 use Rattle.query_lang.specs.TypedFolds.{fold_checked}
-use Rattle.query_lang.specs.TypedStreams.{meaning_of, begun, stream_named, fold_named, column_names, new_columns, no_new_columns, clash, keys_checked, arguments_of, next_stream, made_stream, with_stream}
+use Rattle.query_lang.specs.TypedStreams.{meaning_of, begun, stream_named, fold_named, column_names, new_columns, no_new_columns, clash}
+use Rattle.query_lang.specs.TypedStreams.{keys_checked, arguments_of, next_stream, made_stream, with_stream}
 use Rattle.query_lang.specs.TypedFinals.{table_named, five_fields, made_final, with_final}
 use Rattle.query_lang.specs.TypedQueries.{HasNames, shapes, group_shape, final_shape}
 use Rattle.query_lang.specs.Typing.{with_fold, item_checked, items_checked, is_group, is_groupby}
@@ -42,17 +44,29 @@ use Rattle.query_types.proofs.ItemLaws.{Standing, item_stands, fold_named_well}
 use Rattle.query_types.proofs.ViewLaws.{Whole, IsTable, IsFold, IsStream, known_more, table_shape, table_known, get_next}
 use Rattle.query_types.proofs.MadeLaws.{IsPart, IsMade, made_valid}
 use Rattle.query_types.proofs.FinalLaws.{IsMadeFinal, final_valid}
-use Rattle.query_types.proofs.WholeLaws.{IsPrinted, Sound, streams_push, finals_push, get_map, past, item_part, items_part, made_table, next_width}
+use Rattle.query_types.proofs.WholeLaws.{IsPrinted, Sound, streams_push, finals_push, get_map, past, item_part, items_part, made_table}
+use Rattle.query_types.proofs.WholeLaws.{next_width}
 
 -- a table that was looked up is printed
 printed : (w : Whole) (finals : ℕ) (t : TableView) → IsTable w finals t → IsPrinted w t.place
 printed w finals t v = go t.place v.shape
   where
     go : (p : PrintOf) → table_shape w p ≡ Some (record { width = length t.columns; keys = t.keys }) → IsPrinted w p
-    go (place.Group number) is = omega (arith, slice_get_within (map (group_shape w.folds) (takings w.streams)) number (record { width = length t.columns; keys = t.keys }) is, length-map (takings w.streams) (group_shape w.folds))
-    go (place.Final number) is = omega (arith, slice_get_within (map final_shape w.finals) number (record { width = length t.columns; keys = t.keys }) is, length-map w.finals final_shape)
+    go (place.Group number) is = omega (
+      arith,
+      slice_get_within (map (group_shape w.folds) (takings w.streams)) number
+          (record { width = length t.columns; keys = t.keys }) is,
+      length-map (takings w.streams) (group_shape w.folds),
+    )
+    go (place.Final number) is = omega (
+      arith,
+      slice_get_within (map final_shape w.finals) number
+          (record { width = length t.columns; keys = t.keys }) is,
+      length-map w.finals final_shape,
+    )
 
-fold_sound : (w : Whole) (e : Earlier) (f : TypedFold) → Sound w e → IsPart w (with_fold e f) → Standing w.names (with_fold e f) → HasNames w.names f → Sound w (with_fold e f)
+fold_sound : (w : Whole) (e : Earlier) (f : TypedFold) → Sound w e → IsPart w (with_fold e f) → Standing w.names (with_fold e f)
+    → HasNames w.names f → Sound w (with_fold e f)
 fold_sound w e f s part base ids =
     let view : FoldView = record { number = length e.folds; states = f.state_names; args = f.arg_names; emits = is_some f.emit } in
     let is = past w.folds e.folds part.later_folds f part.folds in
@@ -66,13 +80,15 @@ fold_sound w e f s part base ids =
     } in
     record {
       base = base;
-      known = known_more w (length e.streams) (length e.streams) (length e.finals) (length e.finals) e.known (record { name = f.name.id; meaning = meaning.Fold view }) (omega arith) (omega arith) s.known v;
+      known = known_more w (length e.streams) (length e.streams) (length e.finals) (length e.finals) e.known
+          (record { name = f.name.id; meaning = meaning.Fold view }) (omega arith) (omega arith) s.known v;
       streams = s.streams;
       finals = s.finals;
       prints = s.prints;
     }
 
-stream_sound : (w : Whole) (e : Earlier) (name : Name) (made : MadeStream) → Sound w e → IsPart w (with_stream e name made) → Standing w.names (with_stream e name made) → name.id < w.names → IsMade w e made
+stream_sound : (w : Whole) (e : Earlier) (name : Name) (made : MadeStream) → Sound w e → IsPart w (with_stream e name made)
+    → Standing w.names (with_stream e name made) → name.id < w.names → IsMade w e made
     → Sound w (with_stream e name made)
 stream_sound w e name made s part base id v =
     let one : TypedStream = record { name = name; columns = column_names made.columns; op = made.op } in
@@ -87,13 +103,15 @@ stream_sound w e name made s part base id v =
     } in
     record {
       base = base;
-      known = known_more w (length e.streams) (length (e.streams ++ one ∷ [])) (length e.finals) (length e.finals) e.known (record { name = name.id; meaning = meaning.Stream view }) (omega (arith, more)) (omega arith) s.known is_stream;
+      known = known_more w (length e.streams) (length (e.streams ++ one ∷ [])) (length e.finals) (length e.finals) e.known
+          (record { name = name.id; meaning = meaning.Stream view }) (omega (arith, more)) (omega arith) s.known is_stream;
       streams = streams_push w.names w.folds [] e.streams one s.streams (record { name = id; columns = v.names; operator = v.operator });
       finals = s.finals;
       prints = s.prints;
     }
 
-final_sound : (w : Whole) (e : Earlier) (name : Name) (made : MadeFinal) → Sound w e → IsPart w (with_final e name made) → Standing w.names (with_final e name made) → name.id < w.names → IsMadeFinal w e made
+final_sound : (w : Whole) (e : Earlier) (name : Name) (made : MadeFinal) → Sound w e → IsPart w (with_final e name made)
+    → Standing w.names (with_final e name made) → name.id < w.names → IsMadeFinal w e made
     → Sound w (with_final e name made)
 final_sound w e name made s part base id v =
     let one : TypedFinal = record { name = name; columns = made.columns; keys = made.keys; op = made.op } in
@@ -101,20 +119,24 @@ final_sound w e name made s part base id v =
     let is = past w.finals e.finals part.later_finals one part.finals in
     let more : length (e.finals ++ one ∷ []) ≡ length e.finals + 1 = length-append e.finals (one ∷ []) in
     let is_table : IsTable w (length (e.finals ++ one ∷ [])) view = record {
-      shape = get_map final_shape w.finals (length e.finals) one (ap (λ (l : List TypedFinal). slice_get l (length e.finals)) is ∙ get_next e.finals part.later_finals one);
+      shape = get_map final_shape w.finals (length e.finals) one (ap (λ (l : List TypedFinal). slice_get l (length e.finals)) is
+          ∙ get_next e.finals part.later_finals one);
       names = v.names;
       keys = v.keys;
       below = omega (arith, more);
     } in
     record {
       base = base;
-      known = known_more w (length e.streams) (length e.streams) (length e.finals) (length (e.finals ++ one ∷ [])) e.known (record { name = name.id; meaning = meaning.Final view }) (omega arith) (omega (arith, more)) s.known is_table;
+      known = known_more w (length e.streams) (length e.streams) (length e.finals) (length (e.finals ++ one ∷ [])) e.known
+          (record { name = name.id; meaning = meaning.Final view }) (omega arith) (omega (arith, more)) s.known is_table;
       streams = s.streams;
-      finals = finals_push w.names w.folds (shapes w.folds w.streams []) e.finals one s.finals (record { name = id; columns = v.names; keys = v.keys; operator = v.operator });
+      finals = finals_push w.names w.folds (shapes w.folds w.streams []) e.finals one s.finals
+          (record { name = id; columns = v.names; keys = v.keys; operator = v.operator });
       prints = s.prints;
     }
 
-item_sound : (w : Whole) (given : Given) (e after : Earlier) (one : Item) → length (takings w.streams) ≡ w.groups → given.groups ≡ w.groups → KeepsLimits one → IsNumbered w.names one → (0 < length (five_fields given.fields)) × HasKeys one → item_number one < 2 ^ 64
+item_sound : (w : Whole) (given : Given) (e after : Earlier) (one : Item) → length (takings w.streams) ≡ w.groups → given.groups ≡ w.groups
+    → KeepsLimits one → IsNumbered w.names one → (0 < length (five_fields given.fields)) × HasKeys one → item_number one < 2 ^ 64
     → Sound w e → item_checked given e one ≡ Ok after → IsPart w after → Sound w after
 item_sound w given e after (item.Fold d) count same limits numbered some words s h part =
     let base = item_stands w.names given e after (item.Fold d) limits numbered words s.base h in
@@ -152,17 +174,23 @@ item_sound w given e after (item.Print name) count same limits numbered some wor
       prints = All-push (IsPrinted w) e.prints table.0.place s.prints (printed w (length e.finals) table.0 v);
     }) base
 
-pub items_sound : (w : Whole) (given : Given) (items : List Item) (e after : Earlier) → length (takings w.streams) ≡ w.groups → given.groups ≡ w.groups → All KeepsLimits items → All (IsNumbered w.names) items → 0 < length (five_fields given.fields) → All HasKeys items
+pub items_sound : (w : Whole) (given : Given) (items : List Item) (e after : Earlier) → length (takings w.streams) ≡ w.groups
+    → given.groups ≡ w.groups → All KeepsLimits items → All (IsNumbered w.names) items → 0 < length (five_fields given.fields)
+    → All HasKeys items
     → greatest_of (map item_number items) < 2 ^ 64 → Sound w e → items_checked given e items ≡ Ok after → IsPart w after → Sound w after
-items_sound w given [] e after count same limits numbered five keys words s h part = let P : Earlier → Type 0 = λ z. Sound w z in subst P (same_ok e after h) s
+items_sound w given [] e after count same limits numbered five keys words s h part = let P : Earlier → Type 0 =
+    λ z. Sound w z in subst P (same_ok e after h) s
 items_sound w given (one ∷ rest) e after count same limits numbered five keys words s h part =
     let first = found_first (item_checked given e one) _ after h in
     let half = items_part w given rest first.0 after first.2 part in
-    items_sound w given rest first.0 after count same (All-tail KeepsLimits one rest limits) (All-tail (IsNumbered w.names) one rest numbered) five (All-tail HasKeys one rest keys) (omega arith)
-    (item_sound w given e first.0 one count same (All-head KeepsLimits one rest limits) (All-head (IsNumbered w.names) one rest numbered) (five, All-head HasKeys one rest keys) (omega arith) s first.1 half) first.2 part
+    items_sound w given rest first.0 after count same (All-tail KeepsLimits one rest limits)
+    (All-tail (IsNumbered w.names) one rest numbered) five (All-tail HasKeys one rest keys) (omega arith)
+    (item_sound w given e first.0 one count same (All-head KeepsLimits one rest limits) (All-head (IsNumbered w.names) one rest numbered)
+    (five, All-head HasKeys one rest keys) (omega arith) s first.1 half) first.2 part
 
 -- the streams with tables are the groupbys
-group_made : (five : List ℕ) (e : Earlier) (name : Name) (op : StreamOp) (made : MadeStream) → made_stream five e name op ≡ Ok made → is_some made.table ≡ is_group op
+group_made : (five : List ℕ) (e : Earlier) (name : Name) (op : StreamOp) (made : MadeStream) → made_stream five e name op ≡ Ok made
+    → is_some made.table ≡ is_group op
 group_made five e name (ops.Filter input c) made h =
     let source = found_first (stream_named e.known input) _ made h in
     let condition = found_first (condition_of (column_names source.0.columns) source.0.hidden c) _ made source.2 in
@@ -181,10 +209,12 @@ group_made five e name (ops.Group input keys fold_name) made h =
     let source = found_first (stream_named e.known input) _ made room.1 in
     let picked = found_first (keys_checked five (column_names source.0.columns) source.0.hidden keys) _ made source.2 in
     let f = found_first (fold_named e.known fold_name) _ made picked.2 in
-    let arguments = found_first (arguments_of (column_names source.0.columns) source.0.hidden picked.0.names f.0 fold_name.span) _ made f.2 in
+    let arguments = found_first (arguments_of (column_names source.0.columns) source.0.hidden picked.0.names f.0 fold_name.span) _ made
+    f.2 in
     ap (λ (m : MadeStream). is_some m.table) (sym (same_ok _ made arguments.2))
 
-item_counts : (given : Given) (e after : Earlier) (one : Item) → item_checked given e one ≡ Ok after → after.groups ≡ e.groups + cond (is_groupby one) 1 0
+item_counts : (given : Given) (e after : Earlier) (one : Item) → item_checked given e one ≡ Ok after → after.groups ≡ e.groups
+    + cond (is_groupby one) 1 0
 item_counts given e after (item.Fold d) h =
     let free = must_not_ok (is_some (meaning_of e.known d.name.id)) NameTaken d.name.span _ after h in
     let f = found_first (fold_checked d) _ after free.1 in
@@ -193,7 +223,8 @@ item_counts given e after (item.Fold d) h =
 item_counts given e after (item.Stream d) h =
     let begins = found_first (begun e d.name) _ after h in
     let made = found_first (made_stream (five_fields given.fields) e d.name d.op) _ after begins.2 in
-    ap (λ (z : Earlier). z.groups) (sym (same_ok _ after made.2)) ∙ ap (λ b. e.groups + cond b 1 0) (group_made (five_fields given.fields) e d.name d.op made.0 made.1)
+    ap (λ (z : Earlier). z.groups) (sym (same_ok _ after made.2)) ∙ ap (λ b. e.groups + cond b 1 0)
+    (group_made (five_fields given.fields) e d.name d.op made.0 made.1)
 item_counts given e after (item.Final d) h =
     let begins = found_first (begun e d.name) _ after h in
     let made = found_first (made_final given e d.op) _ after begins.2 in
@@ -205,7 +236,8 @@ item_counts given e after (item.Print name) h =
     let same = ap (λ (z : Earlier). z.groups) (sym (same_ok _ after new.1)) in
     omega (arith, same)
 
-pub items_count : (given : Given) (items : List Item) (e after : Earlier) → items_checked given e items ≡ Ok after → after.groups ≡ e.groups + count_by is_groupby items
+pub items_count : (given : Given) (items : List Item) (e after : Earlier) → items_checked given e items ≡ Ok after → after.groups ≡ e.groups
+    + count_by is_groupby items
 items_count given [] e after h = let same = ap (λ (z : Earlier). z.groups) (sym (same_ok e after h)) in omega (arith, same)
 items_count given (one ∷ rest) e after h =
     let first = found_first (item_checked given e one) _ after h in

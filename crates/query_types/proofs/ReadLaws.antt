@@ -1,5 +1,6 @@
 -- An expression with no state variable in it reads arguments alone.
-use Rattle.std.proofs.Common.{◌≡◌, ℕ, ◌+◌, ◌≤◌, Bool, true, false, ◌||◌, cond, List, [], ◌∷◌, ◌++◌, length, map, Option, Some, None, Ok, Err, nat_eq, refl, sym, ap, subst, ◌∙◌, append_assoc, append-nil, arith}
+use Rattle.std.proofs.Common.{◌≡◌, ℕ, ◌+◌, ◌≤◌, Bool, true, false, ◌||◌, cond, List, [], ◌∷◌, ◌++◌, length, map, Option, Some, None, Ok}
+use Rattle.std.proofs.Common.{Err, nat_eq, refl, sym, ap, subst, ◌∙◌, append_assoc, append-nil, arith}
 use Rattle.query_lang.specs.declared.fault.FaultKind.TheVariants.{WrongKind, BadConstant}
 use Rattle.query_lang.specs.declared.fault.Span.{Span}
 use Rattle.query_lang.specs.declared.fold.Op.{Op}
@@ -10,30 +11,36 @@ use Rattle.query_lang.specs.declared.typing.Found.{Found}
 use Rattle.query_lang.specs.Terms.{Term, term_of}
 use Rattle.query_lang.specs.Folds.{ReadsArguments}
 use Rattle.query_lang.specs.Checks.{Checked, collected, is_among, place_from, place_of}
-use Rattle.query_lang.specs.TypedExprs.{is_operand, is_right_constant, is_condition_sort, slot_at, slot_of, of_two, call_of, expr_step, expr_checked, condition_of}
+use Rattle.query_lang.specs.TypedExprs.{is_operand, is_right_constant, is_condition_sort, slot_at, slot_of, of_two, call_of, expr_step}
+use Rattle.query_lang.specs.TypedExprs.{expr_checked, condition_of}
 use Rattle.query_lang.specs.declared.fold.TypedExpr.{TypedExpr}
 use Rattle.query_lang.specs.TypedFolds.{or_else, first_of, state_step, state_in}
 use Rattle.query_lang.proofs.TreeLemmas.{term_number, term_slot, term_not, term_binary}
 use Rattle.query_types.proofs.ExprLaws.{must_ok, same_ok, found_first}
 
-place_past : (states args : List ℕ) (at id v : ℕ) → is_among id states ≡ false → place_from at (states ++ args) id ≡ Some v → at + length states ≤ v
+place_past : (states args : List ℕ) (at id v : ℕ) → is_among id states ≡ false → place_from at (states ++ args) id ≡ Some v → at
+    + length states ≤ v
 place_past [] [] at id v n e = cc e
 place_past [] (arg ∷ args) at id v n e = go (nat_eq arg id) (λ k. place_past [] args (at + 1) id v refl k) e
   where
-    go : (b : Bool) → (place_from (at + 1) args id ≡ Some v → (at + 1) + 0 ≤ v) → cond b (Some at) (place_from (at + 1) args id) ≡ Some v → at + 0 ≤ v
+    go : (b : Bool) → (place_from (at + 1) args id ≡ Some v → (at + 1) + 0 ≤ v) → cond b (Some at) (place_from (at + 1) args id) ≡ Some v
+        → at + 0 ≤ v
     go true more e = let same : at ≡ v = cc in omega arith
     go false more e = omega (arith, more e)
 place_past (state ∷ states) args at id v n e = go (nat_eq state id) (λ h k. place_past states args (at + 1) id v h k) n e
   where
     go : (b : Bool) → (is_among id states ≡ false → place_from (at + 1) (states ++ args) id ≡ Some v → (at + 1) + length states ≤ v)
-        → (b || is_among id states) ≡ false → cond b (Some at) (place_from (at + 1) (states ++ args) id) ≡ Some v → at + length (state ∷ states) ≤ v
+        → (b || is_among id states) ≡ false → cond b (Some at) (place_from (at + 1) (states ++ args) id) ≡ Some v → at
+        + length (state ∷ states) ≤ v
     go true more n e = cc n
     go false more n e = omega (arith, more n e)
 
-slot_past : (states args : List ℕ) (name : Name) (v : ℕ) → cond (is_among name.id states) (Some name.span) None ≡ None → slot_of (states ++ args) [] name ≡ Ok v → length states ≤ v
+slot_past : (states args : List ℕ) (name : Name) (v : ℕ) → cond (is_among name.id states) (Some name.span) None ≡ None
+    → slot_of (states ++ args) [] name ≡ Ok v → length states ≤ v
 slot_past states args name v n e = go (is_among name.id states) refl n (place_of (states ++ args) name.id) refl e
   where
-    go : (b : Bool) → is_among name.id states ≡ b → cond b (Some name.span) None ≡ None → (o : Option ℕ) → place_of (states ++ args) name.id ≡ o → slot_at o false name.span ≡ Ok v → length states ≤ v
+    go : (b : Bool) → is_among name.id states ≡ b → cond b (Some name.span) None ≡ None → (o : Option ℕ)
+        → place_of (states ++ args) name.id ≡ o → slot_at o false name.span ≡ Ok v → length states ≤ v
     go true b n o is e = cc n
     go false b n (Some slot) is e =
         let same : slot ≡ v = cc in
@@ -48,7 +55,8 @@ neither (Some span) b e = cc e
 abbrev ReadsPast : ℕ → Found → Type 0
 ReadsPast states found = ReadsArguments states (term_of found.tree)
 
-two_past : (op : Op) (at : Span) (states : ℕ) (a b found : Found) → ReadsPast states a → ReadsPast states b → of_two op at a b ≡ Ok found → ReadsPast states found
+two_past : (op : Op) (at : Span) (states : ℕ) (a b found : Found) → ReadsPast states a → ReadsPast states b → of_two op at a b ≡ Ok found
+    → ReadsPast states found
 two_past op at states a b found ra rb e =
     let one = must_ok (is_operand op a.sort) WrongKind a.at _ found e in
     let two = must_ok (is_operand op b.sort) WrongKind b.at _ found one.1 in
@@ -61,28 +69,33 @@ abbrev AllPast : ℕ → List Found → Type 0
 AllPast states [] = Unit {0}
 AllPast states (f ∷ fs) = ReadsPast states f × AllPast states fs
 
-call_past : (op : Op) (span : Span) (states : ℕ) (fs : List Found) (found : Found) → AllPast states fs → call_of op span fs ≡ Ok found → ReadsPast states found
+call_past : (op : Op) (span : Span) (states : ℕ) (fs : List Found) (found : Found) → AllPast states fs → call_of op span fs ≡ Ok found
+    → ReadsPast states found
 call_past op span states [] found all e = cc e
 call_past op span states (f ∷ []) found all e = cc e
 call_past op span states (f ∷ g ∷ []) found all e = two_past op span states f g found all.0 all.1.0 e
 call_past op span states (f ∷ g ∷ h ∷ fs) found all e = cc e
 
 abbrev IsPast : List ℕ → List ℕ → Expr → Type 0
-IsPast states args e = (found : Found) → state_in states e ≡ None → expr_checked (states ++ args) [] e ≡ Ok found → ReadsPast (length states) found
+IsPast states args e = (found : Found) → state_in states e ≡ None → expr_checked (states ++ args) [] e ≡ Ok found
+    → ReadsPast (length states) found
 
 abbrev Past : List ℕ → List ℕ → Type 0
 Past states args = (e : Expr) × IsPast states args e
 
 abbrev IsPastLayer : List ℕ → List ℕ → expr.Expr-F Expr → Type 0
 IsPastLayer states args x = (found : Found) → state_step states (map-Expr Expr (Option Span) (state_in states) x) ≡ None
-    → expr_step (states ++ args) [] (map-Expr Expr (Checked Found) (expr_checked (states ++ args) []) x) ≡ Ok found → ReadsPast (length states) found
+    → expr_step (states ++ args) [] (map-Expr Expr (Checked Found) (expr_checked (states ++ args) []) x) ≡ Ok found
+    → ReadsPast (length states) found
 
 of_layer : (states args : List ℕ) (x : expr.Expr-F Expr) → IsPastLayer states args x → IsPast states args (roll-Expr x)
 of_layer states args x layer found h e =
-    layer found (sym (fold-roll-Expr (Option Span) (state_step states) x) ∙ h) (sym (fold-roll-Expr (Checked Found) (expr_step (states ++ args) []) x) ∙ e)
+    layer found (sym (fold-roll-Expr (Option Span) (state_step states) x) ∙ h)
+    (sym (fold-roll-Expr (Checked Found) (expr_step (states ++ args) []) x) ∙ e)
 
 collected_past : (states args : List ℕ) (es : List (Past states args)) (before all : List Found)
-    → first_of (map (state_in states) (map (λ a. a.0) es)) ≡ None → collected before (map (expr_checked (states ++ args) []) (map (λ a. a.0) es)) ≡ Ok all
+    → first_of (map (state_in states) (map (λ a. a.0) es)) ≡ None → collected before
+    (map (expr_checked (states ++ args) []) (map (λ a. a.0) es)) ≡ Ok all
     → (rest : List Found) × (all ≡ before ++ rest) × AllPast (length states) rest
 collected_past states args [] before all h e = ([], sym (same_ok _ all e) ∙ sym (append-nil before), tt)
 collected_past states args (a ∷ es) before all h e =
@@ -90,7 +103,8 @@ collected_past states args (a ∷ es) before all h e =
     go (expr_checked (states ++ args) [] a.0) refl none.0 (λ x k. collected_past states args es (before ++ x ∷ []) all none.1 k) e
   where
     go : (c : Checked Found) → expr_checked (states ++ args) [] a.0 ≡ c → state_in states a.0 ≡ None
-        → ((x : Found) → collected (before ++ x ∷ []) (map (expr_checked (states ++ args) []) (map (λ a. a.0) es)) ≡ Ok all → (rest : List Found) × (all ≡ (before ++ x ∷ []) ++ rest) × AllPast (length states) rest)
+        → ((x : Found) → collected (before ++ x ∷ []) (map (expr_checked (states ++ args) []) (map (λ a. a.0) es)) ≡ Ok all
+        → (rest : List Found) × (all ≡ (before ++ x ∷ []) ++ rest) × AllPast (length states) rest)
         → collected before (c ∷ map (expr_checked (states ++ args) []) (map (λ a. a.0) es)) ≡ Ok all
         → (rest : List Found) × (all ≡ before ++ rest) × AllPast (length states) rest
     go (Ok x) is none next e =
@@ -129,7 +143,8 @@ expr_past states args = ind-Expr (IsPast states args) (λ x y is.
     let L : expr.Expr-F Expr → Type 0 = λ z. IsPastLayer states args z in
     of_layer states args x (subst L is (step states args y)))
 
-pub condition_past : (states args : List ℕ) (e : Expr) (tree : TypedExpr) → state_in states e ≡ None → condition_of (states ++ args) [] e ≡ Ok tree → ReadsArguments (length states) (term_of tree)
+pub condition_past : (states args : List ℕ) (e : Expr) (tree : TypedExpr) → state_in states e ≡ None
+    → condition_of (states ++ args) [] e ≡ Ok tree → ReadsArguments (length states) (term_of tree)
 condition_past states args e tree h is =
     let first = found_first (expr_checked (states ++ args) [] e) _ tree is in
     let test = must_ok (is_condition_sort first.0.sort) WrongKind first.0.at _ tree first.2 in

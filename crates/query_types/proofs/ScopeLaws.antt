@@ -4,7 +4,9 @@ use Rattle.std.proofs.lemmas.List.{length-append}
 use Rattle.query_types.specs.declared.bodies.Scope.{Scope}
 use Rattle.query_types.specs.Bodies.{IsScope}
 
-pub scope_is : (scope : Scope) → scope.columns.now ≡ scope.states.now ++ scope.args.now → length scope.states.now ≤ 8 → length scope.args.now ≤ 16 → IsScope scope
+pub scope_is : (scope : Scope) → scope.columns.now ≡ scope.states.now ++ scope.args.now → length scope.states.now ≤ 8
+    → length scope.args.now ≤ 16 → IsScope scope
 scope_is scope is states args =
-    let width : length scope.columns.now ≡ length scope.states.now + length scope.args.now = ap length is ∙ length-append scope.states.now scope.args.now in
+    let width : length scope.columns.now ≡ length scope.states.now + length scope.args.now = ap length is
+    ∙ length-append scope.states.now scope.args.now in
     record { columns = is; width = omega (arith, width, states, args); states = omega (arith, states) }

@@ -1,5 +1,6 @@
 -- What a query begins with, and what a readable query gives.
-use Rattle.std.proofs.Common.{◌≡◌, ℕ, ◌+◌, ◌<◌, ◌≤◌, Bool, true, false, not, ◌||◌, cond, nat_eq, List, [], ◌∷◌, length, map, min, count_by, None, refl, sym, ap, subst, ◌∙◌, codes, arith}
+use Rattle.std.proofs.Common.{◌≡◌, ℕ, ◌+◌, ◌<◌, ◌≤◌, Bool, true, false, not, ◌||◌, cond, nat_eq, List, [], ◌∷◌, length, map, min, count_by}
+use Rattle.std.proofs.Common.{None, refl, sym, ap, subst, ◌∙◌, codes, arith}
 use Rattle.std.specs.List.{All, list_any}
 use Rattle.std.specs.Str.{bytes_eq}
 use Rattle.std.proofs.lemmas.Bool.{eqb-true}
@@ -31,13 +32,16 @@ same_number : (names : List (List ℕ)) (a b : List ℕ) → IsAmong a names →
 same_number [] a b h e = cc h
 same_number (n ∷ names) a b h e = go (bytes_eq a n) refl (bytes_eq b n) refl (λ i k. same_number names a b i k) h e
   where
-    go : (s : Bool) → bytes_eq a n ≡ s → (t : Bool) → bytes_eq b n ≡ t → (IsAmong a names → number_in names a ≡ number_in names b → bytes_eq a b ≡ true) → (s || list_any (bytes_eq a) names) ≡ true → cond (not s) (1 + number_in names a) 0 ≡ cond (not t) (1 + number_in names b) 0 → bytes_eq a b ≡ true
+    go : (s : Bool) → bytes_eq a n ≡ s → (t : Bool) → bytes_eq b n ≡ t
+        → (IsAmong a names → number_in names a ≡ number_in names b → bytes_eq a b ≡ true) → (s || list_any (bytes_eq a) names) ≡ true
+        → cond (not s) (1 + number_in names a) 0 ≡ cond (not t) (1 + number_in names b) 0 → bytes_eq a b ≡ true
     go true x true y more h e = (bytes_eq-Decides a b).1 ((bytes_eq-Decides a n).0 x ∙ sym ((bytes_eq-Decides b n).0 y))
     go true x false y more h e = absurd (omega arith)
     go false x true y more h e = absurd (omega arith)
     go false x false y more h e = more h (omega arith)
 
-other_number : (names : List (List ℕ)) (a b : List ℕ) → IsAmong a names → bytes_eq a b ≡ false → nat_eq (number_in names a) (number_in names b) ≡ false
+other_number : (names : List (List ℕ)) (a b : List ℕ) → IsAmong a names → bytes_eq a b ≡ false
+    → nat_eq (number_in names a) (number_in names b) ≡ false
 other_number names a b h differ = go (nat_eq (number_in names a) (number_in names b)) refl
   where
     go : (t : Bool) → nat_eq (number_in names a) (number_in names b) ≡ t → t ≡ false
@@ -57,22 +61,30 @@ abbrev TextsDiffer : List Field → Type 0
 TextsDiffer [] = Unit {0}
 TextsDiffer (f ∷ rest) = (has_text f rest ≡ false) × TextsDiffer rest
 
-other_numbers : (names : List (List ℕ)) (f : Field) (rest : List Field) → All (IsThere names) rest → has_text f rest ≡ false → is_among (number_of names f) (map (number_of names) rest) ≡ false
+other_numbers : (names : List (List ℕ)) (f : Field) (rest : List Field) → All (IsThere names) rest → has_text f rest ≡ false
+    → is_among (number_of names f) (map (number_of names) rest) ≡ false
 other_numbers names f [] h e = refl
 other_numbers names f (g ∷ rest) h e =
     let one = or_false (bytes_eq (field_name g) (field_name f)) (has_text f rest) e in
     both_false (nat_eq (number_of names g) (number_of names f)) (is_among (number_of names f) (map (number_of names) rest))
-    (other_number names (field_name g) (field_name f) (All-head (IsThere names) g rest h) one.0) (other_numbers names f rest (All-tail (IsThere names) g rest h) one.1)
+    (other_number names (field_name g) (field_name f) (All-head (IsThere names) g rest h) one.0)
+    (other_numbers names f rest (All-tail (IsThere names) g rest h) one.1)
 
-numbers_differ : (names : List (List ℕ)) (fields : List Field) → All (IsThere names) fields → TextsDiffer fields → AreDifferent (map (number_of names) fields)
+numbers_differ : (names : List (List ℕ)) (fields : List Field) → All (IsThere names) fields → TextsDiffer fields
+    → AreDifferent (map (number_of names) fields)
 numbers_differ names [] h d = tt
-numbers_differ names (f ∷ rest) h d = (other_numbers names f rest (All-tail (IsThere names) f rest h) d.0, numbers_differ names rest (All-tail (IsThere names) f rest h) d.1)
+numbers_differ names (f ∷ rest) h d = (
+  other_numbers names f rest (All-tail (IsThere names) f rest h) d.0,
+  numbers_differ names rest
+      (All-tail (IsThere names) f rest h) d.1,
+)
 
 fields_there : (fields : List Field) (names : List (List ℕ)) → All (IsThere (with_fields names fields)) fields
 fields_there [] names = All-nil (IsThere names)
 fields_there (f ∷ rest) names =
     let after = with_name names (field_name f) in
-    All-cons (IsThere (with_fields after rest)) f rest (among_fields (field_name f) rest after (among_self (field_name f) names)) (fields_there rest after)
+    All-cons (IsThere (with_fields after rest)) f rest (among_fields (field_name f) rest after (among_self (field_name f) names))
+    (fields_there rest after)
 
 texts_differ : TextsDiffer all_fields
 texts_differ = (refl, (refl, (refl, (refl, (refl, (refl, (refl, (refl, (refl, (refl, (refl, (refl, (refl, (refl, tt))))))))))))))
@@ -94,7 +106,11 @@ number_most text (n ∷ names) = go (bytes_eq text n) (number_most text names)
 fields_apart : (names : List (List ℕ)) → length (typed_names names) < 65536 → AreApart (field_numbers (typed_names names))
 fields_apart names few =
     let below = numbers_known names in
-    record { below = λ k d i. omega (arith, below k d i); once = numbers_differ (typed_names names) all_fields (fields_there all_fields names) texts_differ }
+    record {
+      below = λ k d i. omega (arith, below k d i);
+      once = numbers_differ (typed_names names) all_fields
+          (fields_there all_fields names) texts_differ;
+    }
 
 start_fits : (names : List (List ℕ)) → length (typed_names names) < 65536 → Fits (start_of (typed_names names))
 start_fits names few =
@@ -102,7 +118,10 @@ start_fits names few =
     let number = number_in (typed_names names) (codes "pktstream") in
     let columns = map (λ id. let column : StreamColumn = record { name = id; origin = origin.Field } in column) ids in
     let A : List ℕ → Type 0 = λ l. AreApart l in
-    let one : Known = record { name = number; meaning = meaning.Stream (record { number = 0; columns = columns; hidden = []; table = None }) } in
+    let one : Known = record {
+      name = number;
+      meaning = meaning.Stream (record { number = 0; columns = columns; hidden = []; table = None });
+    } in
     let fits : FitsKnown one = record { columns = subst A (sym (names_of_made origin.Field ids)) (fields_apart names few); table = tt } in
     record {
       known = All-cons FitsKnown one [] fits (All-nil FitsKnown);
@@ -132,4 +151,5 @@ start_is names items start r same = let F : Earlier → Type 0 = λ e. Fits e in
 
 -- a ninth groupby isn't counted
 pub given_few : (given : Given) (names : List (List ℕ)) (items : List Item) → given ≡ given_of names items → given.groups ≤ 8
-given_few given names items same = let groups : given.groups ≡ min (count_by is_groupby items) 8 = ap (λ (g : Given). g.groups) same in omega (arith, groups)
+given_few given names items same = let groups : given.groups ≡ min (count_by is_groupby items) 8 =
+    ap (λ (g : Given). g.groups) same in omega (arith, groups)

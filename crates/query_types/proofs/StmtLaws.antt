@@ -1,5 +1,6 @@
 -- What the check of a fold gives is valid.
-use Rattle.std.proofs.Common.{◌≡◌, ℕ, ◌+◌, ◌<◌, ◌≤◌, ◌^◌, ◌||◌, List, [], ◌∷◌, ◌++◌, length, map, sum, sum_by, None, Ok, nat_lt, refl, sym, ap, subst, ◌∙◌, arith}
+use Rattle.std.proofs.Common.{◌≡◌, ℕ, ◌+◌, ◌<◌, ◌≤◌, ◌^◌, ◌||◌, List, [], ◌∷◌, ◌++◌, length, map, sum, sum_by, None, Ok, nat_lt, refl, sym}
+use Rattle.std.proofs.Common.{ap, subst, ◌∙◌, arith}
 use Rattle.std.specs.Prelude.{is_some}
 use Rattle.std.proofs.lemmas.Bool.{ltb-true}
 use Rattle.std.proofs.lemmas.List.{length-append, length-map}
@@ -21,26 +22,34 @@ use Rattle.query_lang.specs.Blocks.{End}
 use Rattle.query_lang.specs.Folds.{IsValidFold, ReadsArguments}
 use Rattle.query_lang.specs.Checks.{is_among}
 use Rattle.query_lang.specs.TypedExprs.{condition_of, word_of}
-use Rattle.query_lang.specs.TypedFolds.{states_from, args_from, target_of, state_in, inside, Adding, in_order, stmt_step, stmt_checked, expr_nodes, stmt_nodes_step, stmt_nodes, count_step, stmt_count, body_checked, fold_nodes, fold_statements, fold_checked}
+use Rattle.query_lang.specs.TypedFolds.{states_from, args_from, target_of, state_in, inside, Adding, in_order, stmt_step, stmt_checked}
+use Rattle.query_lang.specs.TypedFolds.{expr_nodes, stmt_nodes_step, stmt_nodes, count_step, stmt_count, body_checked, fold_nodes}
+use Rattle.query_lang.specs.TypedFolds.{fold_statements, fold_checked}
 use Rattle.query_lang.proofs.TreeLemmas.{term_not}
 use Rattle.query_types.specs.Numbers.{greatest_of, stmt_number_step, greatest_in}
 use Rattle.query_types.proofs.ExprLaws.{same_ok, found_first, must_ok, IsConditionIn, IsWordIn, condition_valid, word_valid}
 use Rattle.query_types.proofs.ReadLaws.{condition_past}
-use Rattle.query_types.proofs.BodyLaws.{must_not_ok, IsBlockIn, IsBody, IsAround, target_bound, added, assign_block, if_block, inside_valid, not_in, emit_valid, no_state_ok}
+use Rattle.query_types.proofs.BodyLaws.{must_not_ok, IsBlockIn, IsBody, IsAround, target_bound, added, assign_block, if_block, inside_valid}
+use Rattle.query_types.proofs.BodyLaws.{not_in, emit_valid, no_state_ok}
 
 abbrev IsSound : List ℕ → List ℕ → Stmt → Type 0
-IsSound states args s = (n d p c : ℕ) (outer : Enclosing) (found made : Body) → greatest_in s < 2 ^ 64 → IsAround (length states) (length args) n d outer
-    → n + stmt_nodes s ≤ 512 → d + stmt_count s ≤ 64 → IsBody (length states) (length args) p c found → stmt_checked states args s outer found ≡ Ok made
+IsSound states args s = (n d p c : ℕ) (outer : Enclosing) (found made : Body) → greatest_in s < 2 ^ 64
+    → IsAround (length states) (length args) n d outer
+    → n + stmt_nodes s ≤ 512 → d + stmt_count s ≤ 64 → IsBody (length states) (length args) p c found
+    → stmt_checked states args s outer found ≡ Ok made
     → IsBody (length states) (length args) (p + stmt_nodes s) (c + stmt_count s) made
 
 abbrev Sound : List ℕ → List ℕ → Type 0
 Sound states args = (s : Stmt) × IsSound states args s
 
 abbrev IsSoundLayer : List ℕ → List ℕ → stmt.Stmt-F Stmt → Type 0
-IsSoundLayer states args x = (n d p c : ℕ) (outer : Enclosing) (found made : Body) → stmt_number_step (map-Stmt Stmt ℕ greatest_in x) < 2 ^ 64 → IsAround (length states) (length args) n d outer
-    → n + stmt_nodes_step (map-Stmt Stmt ℕ stmt_nodes x) ≤ 512 → d + count_step (map-Stmt Stmt ℕ stmt_count x) ≤ 64 → IsBody (length states) (length args) p c found
+IsSoundLayer states args x = (n d p c : ℕ) (outer : Enclosing) (found made : Body)
+    → stmt_number_step (map-Stmt Stmt ℕ greatest_in x) < 2 ^ 64 → IsAround (length states) (length args) n d outer
+    → n + stmt_nodes_step (map-Stmt Stmt ℕ stmt_nodes x) ≤ 512 → d + count_step (map-Stmt Stmt ℕ stmt_count x) ≤ 64
+    → IsBody (length states) (length args) p c found
     → stmt_step states args (map-Stmt Stmt Adding (stmt_checked states args) x) outer found ≡ Ok made
-    → IsBody (length states) (length args) (p + stmt_nodes_step (map-Stmt Stmt ℕ stmt_nodes x)) (c + count_step (map-Stmt Stmt ℕ stmt_count x)) made
+    → IsBody (length states) (length args) (p + stmt_nodes_step (map-Stmt Stmt ℕ stmt_nodes x))
+    (c + count_step (map-Stmt Stmt ℕ stmt_count x)) made
 
 of_layer : (states args : List ℕ) (x : stmt.Stmt-F Stmt) → IsSoundLayer states args x → IsSound states args (roll-Stmt x)
 of_layer states args x layer n d p c outer found made h va hn hd vf e =
@@ -51,8 +60,10 @@ of_layer states args x layer n d p c outer found made h va hn hd vf e =
     let N : ℕ → Type 0 = λ a. n + a ≤ 512 in
     let C : ℕ → Type 0 = λ a. d + a ≤ 64 in
     let steps = ap (λ (f : Adding). f outer found) (fold-roll-Stmt Adding (stmt_step states args) x) in
-    let whole = layer n d p c outer found made (subst G (fold-roll-Stmt ℕ stmt_number_step x) h) va (subst N nodes hn) (subst C count hd) vf (sym steps ∙ e) in
-    let half : B (stmt_nodes (roll-Stmt x)) (count_step (map-Stmt Stmt ℕ stmt_count x)) = subst (λ a. B a (count_step (map-Stmt Stmt ℕ stmt_count x))) (sym nodes) whole in
+    let whole = layer n d p c outer found made (subst G (fold-roll-Stmt ℕ stmt_number_step x) h) va (subst N nodes hn) (subst C count hd) vf
+    (sym steps ∙ e) in
+    let half : B (stmt_nodes (roll-Stmt x)) (count_step (map-Stmt Stmt ℕ stmt_count x)) =
+    subst (λ a. B a (count_step (map-Stmt Stmt ℕ stmt_count x))) (sym nodes) whole in
     subst (λ b. B (stmt_nodes (roll-Stmt x)) b) (sym count) half
 
 sum_cons : (f : Stmt → ℕ) (s : Stmt) (rest : List Stmt) → sum (map f (s ∷ rest)) ≡ f s + sum (map f rest)
@@ -61,9 +72,11 @@ sum_cons f s rest = sum-map f (s ∷ rest) ∙ sum_by-cons f s rest ∙ ap (λ n
 -- the statements of a block, each of which is sound
 block_sound : (states args : List ℕ) (ss : List (Sound states args)) (n d p c : ℕ) (outer : Enclosing) (found made : Body)
     → greatest_of (map greatest_in (map (λ s. s.0) ss)) < 2 ^ 64 → IsAround (length states) (length args) n d outer
-    → n + sum (map stmt_nodes (map (λ s. s.0) ss)) ≤ 512 → d + sum (map stmt_count (map (λ s. s.0) ss)) ≤ 64 → IsBody (length states) (length args) p c found
+    → n + sum (map stmt_nodes (map (λ s. s.0) ss)) ≤ 512 → d + sum (map stmt_count (map (λ s. s.0) ss)) ≤ 64
+    → IsBody (length states) (length args) p c found
     → in_order (map (stmt_checked states args) (map (λ s. s.0) ss)) outer found ≡ Ok made
-    → IsBody (length states) (length args) (p + sum (map stmt_nodes (map (λ s. s.0) ss))) (c + sum (map stmt_count (map (λ s. s.0) ss))) made
+    → IsBody (length states) (length args) (p + sum (map stmt_nodes (map (λ s. s.0) ss))) (c + sum (map stmt_count (map (λ s. s.0) ss)))
+    made
 block_sound states args [] n d p c outer found made h va hn hd vf e =
     let B : Body → Type 0 = λ b. IsBody (length states) (length args) (p + 0) (c + 0) b in
     let same : IsBody (length states) (length args) (p + 0) (c + 0) found = record {
@@ -76,16 +89,24 @@ block_sound states args (s ∷ ss) n d p c outer found made h va hn hd vf e =
     let count = sum_cons stmt_count s.0 (map (λ s. s.0) ss) in
     let first = found_first (stmt_checked states args s.0 outer found) _ made e in
     let one = s.1 n d p c outer found first.0 (omega arith) va (omega (arith, nodes, hn)) (omega (arith, count, hd)) vf first.1 in
-    let rest = block_sound states args ss n d (p + stmt_nodes s.0) (c + stmt_count s.0) outer first.0 made (omega arith) va (omega (arith, nodes, hn)) (omega (arith, count, hd)) one first.2 in
+    let rest = block_sound states args ss n d (p + stmt_nodes s.0) (c + stmt_count s.0) outer first.0 made (omega arith) va
+    (omega (arith, nodes, hn)) (omega (arith, count, hd)) one first.2 in
     record {
-      block = record { valid = rest.block.valid; nodes = omega (arith, rest.block.nodes, nodes); count = omega (arith, rest.block.count, count) };
+      block = record {
+        valid = rest.block.valid;
+        nodes = omega (arith, rest.block.nodes, nodes);
+        count =
+            omega (arith, rest.block.count, count);
+      };
       emit = rest.emit;
     }
 
-over_both : (states args : List ℕ) (n : ℕ) (e : TypedExpr) → IsConditionIn (length (states ++ args)) n e → IsConditionIn (length states + length args) n e
+over_both : (states args : List ℕ) (n : ℕ) (e : TypedExpr) → IsConditionIn (length (states ++ args)) n e
+    → IsConditionIn (length states + length args) n e
 over_both states args n e v = let C : ℕ → Type 0 = λ k. IsConditionIn k n e in subst C (length-append states args) v
 
-word_over_both : (states args : List ℕ) (n : ℕ) (e : TypedExpr) → IsWordIn (length (states ++ args)) n e → IsWordIn (length states + length args) n e
+word_over_both : (states args : List ℕ) (n : ℕ) (e : TypedExpr) → IsWordIn (length (states ++ args)) n e
+    → IsWordIn (length states + length args) n e
 word_over_both states args n e v = let C : ℕ → Type 0 = λ k. IsWordIn k n e in subst C (length-append states args) v
 
 empty_block : (states args : ℕ) → IsBlockIn states args 0 0 End
@@ -103,14 +124,17 @@ as_zero states args n k made v = record {
   emit = v.emit;
 }
 
-step : (states args : List ℕ) (y : stmt.Stmt-F (Sound states args)) → IsSoundLayer states args (map-Stmt (Sound states args) Stmt (λ s. s.0) y)
+step : (states args : List ℕ) (y : stmt.Stmt-F (Sound states args)) → IsSoundLayer states args
+    (map-Stmt (Sound states args) Stmt (λ s. s.0) y)
 step states args (stmt.Assign name value) n d p c outer found made h va hn hd vf e =
     let target = found_first (target_of states args name) _ made e in
     let word = found_first (word_of (states ++ args) [] value) _ made target.2 in
     let B : Body → Type 0 = λ b. IsBody (length states) (length args) (p + expr_nodes value) (c + 1) b in
     let w = word_over_both states args (expr_nodes value) word.0 (word_valid (states ++ args) [] value word.0 h word.1) in
     subst B (same_ok _ made word.2) (record {
-      block = added (length states) (length args) p c (expr_nodes value) 1 found _ vf (assign_block (length states) (length args) (expr_nodes value) target.0 word.0 (target_bound states args name target.0 target.1) w);
+      block = added (length states) (length args) p c (expr_nodes value) 1 found _ vf
+          (assign_block (length states) (length args) (expr_nodes value) target.0 word.0 (target_bound states args name target.0 target.1)
+          w);
       emit = vf.emit;
     })
 step states args (stmt.If t a b) n d p c outer found made h va hn hd vf e =
@@ -120,26 +144,42 @@ step states args (stmt.If t a b) n d p c outer found made h va hn hd vf e =
     let seconds = map (λ (s : Sound states args). s.0) b in
     let condition = found_first (condition_of (states ++ args) [] t) _ made e in
     let k = condition.0 in
-    let one = found_first (in_order (map (stmt_checked states args) firsts) (inside states outer t k) (record { statements = []; emit = found.emit })) _ made condition.2 in
-    let two = found_first (in_order (map (stmt_checked states args) seconds) (inside states outer t (typed.Not k)) (record { statements = []; emit = one.0.emit })) _ made one.2 in
+    let one = found_first (in_order (map (stmt_checked states args) firsts) (inside states outer t k)
+    (record { statements = []; emit = found.emit })) _ made condition.2 in
+    let two = found_first (in_order (map (stmt_checked states args) seconds) (inside states outer t (typed.Not k))
+    (record { statements = []; emit = one.0.emit })) _ made one.2 in
     let vc = over_both states args (expr_nodes t) k (condition_valid (states ++ args) [] t k (omega arith) condition.1) in
     let reads : state_in states t ≡ None → ReadsArguments S (term_of k) = λ none. condition_past states args t k none condition.1 in
-    let holding = inside_valid states args n d (expr_nodes t) outer t k va (more_nodes (S + A) (expr_nodes t) (expr_nodes t + 1) k (omega arith) vc) reads in
+    let holding = inside_valid states args n d (expr_nodes t) outer t k va
+    (more_nodes (S + A) (expr_nodes t) (expr_nodes t + 1) k (omega arith) vc) reads in
     let negation = not_in (S + A) (expr_nodes t) k vc in
     let failing = inside_valid states args n d (expr_nodes t) outer t (typed.Not k) va negation (λ none. not_reads S k (reads none)) in
     let start : IsBody S A 0 0 (record { statements = []; emit = found.emit }) = record { block = empty_block S A; emit = vf.emit } in
-    let v1 = block_sound states args a (n + expr_nodes t) (d + 1) 0 0 (inside states outer t k) (record { statements = []; emit = found.emit }) one.0 (omega arith) holding (omega arith) (omega arith) start one.1 in
+    let v1 = block_sound states args a (n + expr_nodes t) (d + 1) 0 0 (inside states outer t k)
+    (record { statements = []; emit = found.emit }) one.0 (omega arith) holding (omega arith) (omega arith) start one.1 in
     let again : IsBody S A 0 0 (record { statements = []; emit = one.0.emit }) = record { block = empty_block S A; emit = v1.emit } in
-    let v2 = block_sound states args b (n + expr_nodes t) (d + 1) 0 0 (inside states outer t (typed.Not k)) (record { statements = []; emit = one.0.emit }) two.0 (omega arith) failing (omega arith) (omega arith) again two.1 in
+    let v2 = block_sound states args b (n + expr_nodes t) (d + 1) 0 0 (inside states outer t (typed.Not k))
+    (record { statements = []; emit = one.0.emit }) two.0 (omega arith) failing (omega arith) (omega arith) again two.1 in
     let x = sum (map stmt_nodes firsts) in
     let y = sum (map stmt_nodes seconds) in
     let i = sum (map stmt_count firsts) in
     let j = sum (map stmt_count seconds) in
-    let w1 : IsBlockIn S A x i _ = record { valid = v1.block.valid; nodes = omega (arith, v1.block.nodes); count = omega (arith, v1.block.count) } in
-    let w2 : IsBlockIn S A y j _ = record { valid = v2.block.valid; nodes = omega (arith, v2.block.nodes); count = omega (arith, v2.block.count) } in
+    let w1 : IsBlockIn S A x i _ = record {
+      valid = v1.block.valid;
+      nodes = omega (arith, v1.block.nodes);
+      count =
+          omega (arith, v1.block.count);
+    } in
+    let w2 : IsBlockIn S A y j _ = record {
+      valid = v2.block.valid;
+      nodes = omega (arith, v2.block.nodes);
+      count =
+          omega (arith, v2.block.count);
+    } in
     let B : Body → Type 0 = λ z. IsBody S A (p + (expr_nodes t + x + y)) (c + (1 + i + j)) z in
     subst B (same_ok _ made two.2) (record {
-      block = added S A p c (expr_nodes t + x + y) (1 + i + j) found _ vf (if_block S A (expr_nodes t) x y i j k one.0.statements two.0.statements vc w1 w2);
+      block = added S A p c (expr_nodes t + x + y) (1 + i + j) found _ vf
+          (if_block S A (expr_nodes t) x y i j k one.0.statements two.0.statements vc w1 w2);
       emit = v2.emit;
     })
 step states args (stmt.Emit span) n d p c outer found made h va hn hd vf e =
@@ -165,7 +205,8 @@ unfolding sounds
 sounds_are states args [] = refl
 sounds_are states args (s ∷ ss) = ap (λ rest. s ∷ rest) (sounds_are states args ss)
 
-body_valid : (states args : List ℕ) (ss : List Stmt) (made : Body) → greatest_of (map greatest_in ss) < 2 ^ 64 → sum_by stmt_nodes ss ≤ 512 → sum_by stmt_count ss ≤ 64
+body_valid : (states args : List ℕ) (ss : List Stmt) (made : Body) → greatest_of (map greatest_in ss) < 2 ^ 64 → sum_by stmt_nodes ss ≤ 512
+    → sum_by stmt_count ss ≤ 64
     → body_checked states args ss ≡ Ok made → IsBody (length states) (length args) (sum_by stmt_nodes ss) (sum_by stmt_count ss) made
 body_valid states args ss made h hn hd e =
     let S = length states in
@@ -175,9 +216,12 @@ body_valid states args ss made h hn hd e =
     let start : Body = record { statements = []; emit = None } in
     let around : IsAround S A 0 0 outer = record { condition = tt; reads = λ _. tt } in
     let v : IsBody S A 0 0 start = record { block = empty_block S A; emit = tt } in
-    let Q : List Stmt → Type 0 = λ list. greatest_of (map greatest_in list) < 2 ^ 64 → sum (map stmt_nodes list) ≤ 512 → sum (map stmt_count list) ≤ 64
-    → in_order (map (stmt_checked states args) list) outer start ≡ Ok made → IsBody S A (sum (map stmt_nodes list)) (sum (map stmt_count list)) made in
-    let whole : Q ss = subst Q is (λ g a b k. as_zero S A _ _ made (block_sound states args (sounds states args ss) 0 0 0 0 outer start made g around (omega arith) (omega arith) v k)) in
+    let Q : List Stmt → Type 0 = λ list. greatest_of (map greatest_in list) < 2 ^ 64 → sum (map stmt_nodes list) ≤ 512
+    → sum (map stmt_count list) ≤ 64
+    → in_order (map (stmt_checked states args) list) outer start ≡ Ok made
+    → IsBody S A (sum (map stmt_nodes list)) (sum (map stmt_count list)) made in
+    let whole : Q ss = subst Q is (λ g a b k. as_zero S A _ _ made (block_sound states args (sounds states args ss) 0 0 0 0 outer start made
+    g around (omega arith) (omega arith) v k)) in
     let n = sum-map stmt_nodes ss in
     let k = sum-map stmt_count ss in
     let done = whole h (omega (arith, n)) (omega (arith, k)) e in
@@ -186,7 +230,8 @@ body_valid states args ss made h hn hd e =
       emit = done.emit;
     }
 
-states_length : (found states : List ℕ) (list : List StateVar) → length found ≤ 8 → states_from found list ≡ Ok states → (length states ≡ length found + length list) × (length states ≤ 8)
+states_length : (found states : List ℕ) (list : List StateVar) → length found ≤ 8 → states_from found list ≡ Ok states
+    → (length states ≡ length found + length list) × (length states ≤ 8)
 states_length found states [] h e =
     let same = ap length (same_ok found states e) in
     (omega arith, omega arith)
@@ -206,7 +251,8 @@ args_length states found args (one ∷ rest) h e =
     args_length states (found ++ one.id ∷ []) args rest (omega (arith, length-append found (one.id ∷ []))) room.1
 
 -- what the check of a fold gives is valid, where the fold keeps its limits and its numbers are words
-pub fold_valid : (d : FoldDef) (f : TypedFold) → greatest_of (map greatest_in d.body) < 2 ^ 64 → fold_nodes d ≤ 512 → fold_statements d ≤ 64 → fold_checked d ≡ Ok f → IsValidFold f
+pub fold_valid : (d : FoldDef) (f : TypedFold) → greatest_of (map greatest_in d.body) < 2 ^ 64 → fold_nodes d ≤ 512 → fold_statements d ≤ 64
+    → fold_checked d ≡ Ok f → IsValidFold f
 fold_valid d f h hn hd e =
     let states = found_first (states_from [] d.states) _ f e in
     let args = found_first (args_from states.0 [] d.args) _ f states.2 in

@@ -1,5 +1,6 @@
 -- The typed query of a readable query is valid.
-use Rattle.std.proofs.Common.{◌≡◌, ℕ, ◌+◌, ◌<◌, ◌≤◌, ◌^◌, Bool, true, false, ◌||◌, cond, List, [], ◌∷◌, ◌++◌, length, map, min, count_by, Ok, nat_lt, not, refl, sym, ap, subst, append-nil, arith}
+use Rattle.std.proofs.Common.{◌≡◌, ℕ, ◌+◌, ◌<◌, ◌≤◌, ◌^◌, Bool, true, false, ◌||◌, cond, List, [], ◌∷◌, ◌++◌, length, map, min, count_by}
+use Rattle.std.proofs.Common.{Ok, nat_lt, not, refl, sym, ap, subst, append-nil, arith}
 use Rattle.std.specs.List.{All, list_any}
 use Rattle.std.specs.Str.{bytes_eq}
 use Rattle.std.proofs.lemmas.List.{length-append}
@@ -39,7 +40,8 @@ any_front : (p : List ℕ → Bool) (xs ys : List (List ℕ)) → list_any p xs 
 any_front p [] ys e = cc e
 any_front p (x ∷ xs) ys e = go (p x) (λ k. any_front p xs ys k) e
   where
-    go : (b : Bool) → (list_any p xs ≡ true → list_any p (xs ++ ys) ≡ true) → (b || list_any p xs) ≡ true → (b || list_any p (xs ++ ys)) ≡ true
+    go : (b : Bool) → (list_any p xs ≡ true → list_any p (xs ++ ys) ≡ true) → (b || list_any p xs) ≡ true
+        → (b || list_any p (xs ++ ys)) ≡ true
     go true more e = refl
     go false more e = more e
 
@@ -68,7 +70,8 @@ among_self text names = go (list_any (bytes_eq text) names) refl
     go true e = e
     go false e = any_last (bytes_eq text) names text ((bytes_eq-Decides text text).1 refl)
 
-pub among_fields : (text : List ℕ) (fields : List Field) (names : List (List ℕ)) → IsAmong text names → IsAmong text (with_fields names fields)
+pub among_fields : (text : List ℕ) (fields : List Field) (names : List (List ℕ)) → IsAmong text names
+    → IsAmong text (with_fields names fields)
 among_fields text [] names h = h
 among_fields text (f ∷ rest) names h = among_fields text rest (with_name names (field_name f)) (among_more text (field_name f) names h)
 
@@ -76,19 +79,23 @@ number_known : (text : List ℕ) (names : List (List ℕ)) → IsAmong text name
 number_known text [] h = cc h
 number_known text (n ∷ names) h = go (bytes_eq text n) (λ k. number_known text names k) h
   where
-    go : (b : Bool) → (IsAmong text names → number_in names text < length names) → (b || list_any (bytes_eq text) names) ≡ true → cond (not b) (1 + number_in names text) 0 < length (n ∷ names)
+    go : (b : Bool) → (IsAmong text names → number_in names text < length names) → (b || list_any (bytes_eq text) names) ≡ true
+        → cond (not b) (1 + number_in names text) 0 < length (n ∷ names)
     go true more h = omega arith
     go false more h = omega (arith, more h)
 
-fields_known : (fields : List Field) (names : List (List ℕ)) → All (λ f. number_in (with_fields names fields) (field_name f) < length (with_fields names fields)) fields
+fields_known : (fields : List Field) (names : List (List ℕ)) → All (λ f. number_in (with_fields names fields) (field_name f) < length
+    (with_fields names fields)) fields
 fields_known [] names = let P : Field → Type 0 = λ f. number_in names (field_name f) < length names in All-nil P
 fields_known (f ∷ rest) names =
     let after = with_name names (field_name f) in
     let P : Field → Type 0 = λ g. number_in (with_fields after rest) (field_name g) < length (with_fields after rest) in
-    All-cons P f rest (number_known (field_name f) (with_fields after rest) (among_fields (field_name f) rest after (among_self (field_name f) names))) (fields_known rest after)
+    All-cons P f rest (number_known (field_name f) (with_fields after rest)
+    (among_fields (field_name f) rest after (among_self (field_name f) names))) (fields_known rest after)
 
 pub numbers_known : (names : List (List ℕ)) → AreNames (length (typed_names names)) (field_numbers (typed_names names))
-numbers_known names = All-map (IsName (length (typed_names names))) (λ f. number_in (typed_names names) (field_name f)) all_fields (fields_known all_fields names)
+numbers_known names = All-map (IsName (length (typed_names names))) (λ f. number_in (typed_names names) (field_name f)) all_fields
+    (fields_known all_fields names)
 
 with_grows : (names : List (List ℕ)) (text : List ℕ) → length names ≤ length (with_name names text)
 with_grows names text = go (list_any (bytes_eq text) names)
@@ -135,10 +142,22 @@ start_sound w names is =
     let same = names_of_made origin.Field ids in
     let N : ℕ → List ℕ → Type 0 = λ n l. AreNames n l in
     let S : ℕ → Type 0 = λ n. Standing n (start_of (typed_names names)) in
-    let all : AreNames (length (typed_names names)) (column_names (map (λ id. let column : StreamColumn = record { name = id; origin = origin.Field } in column) ids)) = subst (λ l. N (length (typed_names names)) l) (sym same) (numbers_known names) in
+    let all : AreNames (length (typed_names names)) (column_names (map
+    (λ id. let column : StreamColumn = record { name = id; origin = origin.Field } in column) ids)) =
+    subst (λ l. N (length (typed_names names)) l) (sym same) (numbers_known names) in
     record {
       base = subst S (sym is) (start_stands names);
-      known = (record { number = omega arith; width = sym (ap length same); names = subst (λ n. N n (column_names (map (λ id. let column : StreamColumn = record { name = id; origin = origin.Field } in column) ids))) (sym is) all; table = tt }, tt);
+      known = (
+        record {
+          number = omega arith;
+          width = sym (ap length same);
+          names =
+              subst (λ n. N n (column_names (map (λ id. let column : StreamColumn = record { name = id; origin = origin.Field } in column)
+              ids))) (sym is) all;
+          table = tt;
+        },
+        tt,
+      );
       streams = tt;
       finals = tt;
       prints = All-nil (IsPrinted w);
@@ -149,21 +168,47 @@ table_there q w (place.Group number) s f h = omega (arith, ap (λ l. length (tak
 table_there q w (place.Final number) s f h = omega (arith, ap length f)
 
 -- what the check of a readable query gives is valid, where the numbers in its text are words
-pub query_valid : (q : Query) (typed : TypedQuery) → IsReadable q → greatest_of (map item_number q.items) < 2 ^ 64 → checked q ≡ Ok typed → IsValidQuery typed
+pub query_valid : (q : Query) (typed : TypedQuery) → IsReadable q → greatest_of (map item_number q.items) < 2 ^ 64 → checked q ≡ Ok typed
+    → IsValidQuery typed
 query_valid q typed readable words e =
     let names = typed_names q.names in
     let first = found_first (items_checked (given_of names q.items) (start_of names) q.items) _ typed e in
     let last = must_ok (nat_lt 0 (length first.0.prints)) NothingPrinted q.end _ typed first.2 in
     let end = first.0 in
-    let w : Whole = record { names = length names; groups = length (takings end.streams); folds = end.folds; streams = end.streams; finals = end.finals } in
-    let part : IsPart w end = record { later_folds = []; folds = sym (append-nil end.folds); later_streams = []; streams = sym (append-nil end.streams); later_finals = []; finals = sym (append-nil end.finals) } in
+    let w : Whole = record {
+      names = length names;
+      groups = length (takings end.streams);
+      folds = end.folds;
+      streams = end.streams;
+      finals =
+          end.finals;
+    } in
+    let part : IsPart w end = record {
+      later_folds = [];
+      folds = sym (append-nil end.folds);
+      later_streams = [];
+      streams =
+          sym (append-nil end.streams);
+      later_finals = [];
+      finals = sym (append-nil end.finals);
+    } in
     let grows : length q.names ≤ length names = fields_grow all_fields q.names in
-    let numbered : All (IsNumbered (length names)) q.items = λ k d i. item_more (length q.names) (length names) _ grows (readable.names k d i) in
-    let stands = items_stand (length names) (given_of names q.items) q.items (start_of names) end readable.limits numbered words (start_stands q.names) first.1 in
+    let numbered : All (IsNumbered (length names)) q.items = λ k d i. item_more (length q.names) (length names) _ grows
+    (readable.names k d i) in
+    let stands = items_stand (length names) (given_of names q.items) q.items (start_of names) end readable.limits numbered words
+    (start_stands q.names) first.1 in
     let count = items_count (given_of names q.items) q.items (start_of names) end first.1 in
     let same : min (count_by is_groupby q.items) 8 ≡ length (takings end.streams) = omega (arith, count, stands.groups, stands.most) in
-    let s = items_sound w (given_of names q.items) q.items (start_of names) end refl same readable.limits numbered (omega arith) readable.keys words (start_sound w q.names refl) first.1 part in
-    let typed_is : TypedQuery = record { names = names; folds = end.folds; streams = end.streams; finals = end.finals; prints = end.prints } in
+    let s = items_sound w (given_of names q.items) q.items (start_of names) end refl same readable.limits numbered (omega arith)
+    readable.keys words (start_sound w q.names refl) first.1 part in
+    let typed_is : TypedQuery = record {
+      names = names;
+      folds = end.folds;
+      streams = end.streams;
+      finals = end.finals;
+      prints =
+          end.prints;
+    } in
     let V : TypedQuery → Type 0 = λ z. IsValidQuery z in
     subst V (same_ok typed_is typed last.1) (record {
       folds = s.base.folds;

@@ -1,5 +1,6 @@
 -- What the names of a query stand for, where the whole query has these folds, streams and finals.
-use Rattle.std.proofs.Common.{◌≡◌, ℕ, zero, suc, ◌<◌, ◌≤◌, Bool, true, false, cond, List, [], ◌∷◌, ◌++◌, length, map, Option, Some, None, Ok, nat_eq, refl, subst, arith}
+use Rattle.std.proofs.Common.{◌≡◌, ℕ, zero, suc, ◌<◌, ◌≤◌, Bool, true, false, cond, List, [], ◌∷◌, ◌++◌, length, map, Option, Some, None}
+use Rattle.std.proofs.Common.{Ok, nat_eq, refl, subst, arith}
 use Rattle.std.specs.Prelude.{is_some, slice_get, IfSome}
 use Rattle.query_lang.specs.declared.fault.Span.{Span}
 use Rattle.query_lang.specs.declared.fault.FaultKind.TheVariants.{WrongKind}
@@ -79,26 +80,36 @@ some_table_more w n m (Some t) h v = table_more w n m t h v
 
 meaning_more : (w : Whole) (s t n m : ℕ) (one : Meaning) → s ≤ t → n ≤ m → IsMeaning w s n one → IsMeaning w t m one
 meaning_more w s t n m (meaning.Fold f) h k v = v
-meaning_more w s t n m (meaning.Stream x) h k v = record { number = omega (arith, v.number); width = v.width; names = v.names; table = some_table_more w n m x.table k v.table }
+meaning_more w s t n m (meaning.Stream x) h k v = record {
+  number = omega (arith, v.number);
+  width = v.width;
+  names = v.names;
+  table =
+      some_table_more w n m x.table k v.table;
+}
 meaning_more w s t n m (meaning.Final x) h k v = table_more w n m x k v
 
 -- more streams and finals, and one more name
-pub known_more : (w : Whole) (s t n m : ℕ) (known : List Known) (one : Known) → s ≤ t → n ≤ m → AreKnown w s n known → IsMeaning w t m one.meaning → AreKnown w t m (known ++ one ∷ [])
+pub known_more : (w : Whole) (s t n m : ℕ) (known : List Known) (one : Known) → s ≤ t → n ≤ m → AreKnown w s n known
+    → IsMeaning w t m one.meaning → AreKnown w t m (known ++ one ∷ [])
 known_more w s t n m [] one h k v new = (new, tt)
 known_more w s t n m (x ∷ known) one h k v new = (meaning_more w s t n m x.meaning h k v.0, known_more w s t n m known one h k v.1 new)
 
-meaning_known : (w : Whole) (s n : ℕ) (known : List Known) (id : ℕ) (m : Meaning) → AreKnown w s n known → meaning_of known id ≡ Some m → IsMeaning w s n m
+meaning_known : (w : Whole) (s n : ℕ) (known : List Known) (id : ℕ) (m : Meaning) → AreKnown w s n known → meaning_of known id ≡ Some m
+    → IsMeaning w s n m
 meaning_known w s n [] id m v e = cc e
 meaning_known w s n (one ∷ rest) id m v e = go (nat_eq one.name id) (λ k. meaning_known w s n rest id m v.1 k) e
   where
-    go : (b : Bool) → (meaning_of rest id ≡ Some m → IsMeaning w s n m) → cond b (Some one.meaning) (meaning_of rest id) ≡ Some m → IsMeaning w s n m
+    go : (b : Bool) → (meaning_of rest id ≡ Some m → IsMeaning w s n m) → cond b (Some one.meaning) (meaning_of rest id) ≡ Some m
+        → IsMeaning w s n m
     go true more e =
         let same : one.meaning ≡ m = cc in
         let P : Meaning → Type 0 = λ z. IsMeaning w s n z in
         subst P same v.0
     go false more e = more e
 
-pub stream_known : (w : Whole) (s n : ℕ) (known : List Known) (name : Name) (x : StreamView) → AreKnown w s n known → stream_named known name ≡ Ok x → IsStream w s n x
+pub stream_known : (w : Whole) (s n : ℕ) (known : List Known) (name : Name) (x : StreamView) → AreKnown w s n known
+    → stream_named known name ≡ Ok x → IsStream w s n x
 stream_known w s n known name x v e = go (meaning_of known name.id) refl e
   where
     go : (o : Option Meaning) → meaning_of known name.id ≡ o → as_stream o name.span ≡ Ok x → IsStream w s n x
@@ -109,7 +120,8 @@ stream_known w s n known name x v e = go (meaning_of known name.id) refl e
         subst P (same_ok y x e) (meaning_known w s n known name.id (meaning.Stream y) v is)
     go (Some (meaning.Final t)) is e = cc e
 
-pub fold_known : (w : Whole) (s n : ℕ) (known : List Known) (name : Name) (x : FoldView) → AreKnown w s n known → fold_named known name ≡ Ok x → IsFold w x
+pub fold_known : (w : Whole) (s n : ℕ) (known : List Known) (name : Name) (x : FoldView) → AreKnown w s n known
+    → fold_named known name ≡ Ok x → IsFold w x
 fold_known w s n known name x v e = go (meaning_of known name.id) refl e
   where
     go : (o : Option Meaning) → meaning_of known name.id ≡ o → as_fold o name.span ≡ Ok x → IsFold w x
@@ -120,22 +132,26 @@ fold_known w s n known name x v e = go (meaning_of known name.id) refl e
     go (Some (meaning.Stream y)) is e = cc e
     go (Some (meaning.Final t)) is e = cc e
 
-table_of_stream : (w : Whole) (n : ℕ) (o : Option TableView) (span : Span) (x : TableView) → IfSome o (IsTable w n) → table_at o span ≡ Ok x → IsTable w n x
+table_of_stream : (w : Whole) (n : ℕ) (o : Option TableView) (span : Span) (x : TableView) → IfSome o (IsTable w n) → table_at o span ≡ Ok x
+    → IsTable w n x
 table_of_stream w n None span x v e = cc e
 table_of_stream w n (Some t) span x v e = let P : TableView → Type 0 = λ z. IsTable w n z in subst P (same_ok t x e) v
 
-pub table_known : (w : Whole) (s n : ℕ) (known : List Known) (name : Name) (x : TableView) → AreKnown w s n known → table_named known name ≡ Ok x → IsTable w n x
+pub table_known : (w : Whole) (s n : ℕ) (known : List Known) (name : Name) (x : TableView) → AreKnown w s n known
+    → table_named known name ≡ Ok x → IsTable w n x
 table_known w s n known name x v e = go (meaning_of known name.id) refl e
   where
     go : (o : Option Meaning) → meaning_of known name.id ≡ o → as_table o name.span ≡ Ok x → IsTable w n x
     go None is e = cc e
     go (Some (meaning.Fold y)) is e = cc e
-    go (Some (meaning.Stream y)) is e = table_of_stream w n y.table name.span x (meaning_known w s n known name.id (meaning.Stream y) v is).table e
+    go (Some (meaning.Stream y)) is e = table_of_stream w n y.table name.span x
+        (meaning_known w s n known name.id (meaning.Stream y) v is).table e
     go (Some (meaning.Final y)) is e =
         let P : TableView → Type 0 = λ z. IsTable w n z in
         subst P (same_ok y x e) (meaning_known w s n known name.id (meaning.Final y) v is)
 
-pub quiet_known : (known : List Known) (name : Name) (x : FoldView) → quiet_fold known name ≡ Ok x → (fold_named known name ≡ Ok x) × (x.emits ≡ false)
+pub quiet_known : (known : List Known) (name : Name) (x : FoldView) → quiet_fold known name ≡ Ok x → (fold_named known name ≡ Ok x)
+    × (x.emits ≡ false)
 quiet_known known name x e =
     let first = found_first (fold_named known name) _ x e in
     let quiet = must_not_ok first.0.emits WrongKind name.span _ x first.2 in

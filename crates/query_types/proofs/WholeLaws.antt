@@ -1,5 +1,6 @@
 -- What holds of the items before some place, in the whole query.
-use Rattle.std.proofs.Common.{◌≡◌, ℕ, zero, suc, ◌+◌, ◌<◌, List, [], ◌∷◌, ◌++◌, length, map, Option, Some, None, Ok, refl, sym, ap, subst, ◌∙◌, append-nil, append_assoc, add-one}
+use Rattle.std.proofs.Common.{◌≡◌, ℕ, zero, suc, ◌+◌, ◌<◌, List, [], ◌∷◌, ◌++◌, length, map, Option, Some, None, Ok, refl, sym, ap, subst}
+use Rattle.std.proofs.Common.{◌∙◌, append-nil, append_assoc, add-one}
 use Rattle.std.specs.Prelude.{is_some, slice_get, unwrap_or, option_map, IfSome}
 use Rattle.std.specs.List.{All}
 use Rattle.std.proofs.lemmas.List.Elements.{filter_map-append}
@@ -22,7 +23,8 @@ use Rattle.query_lang.specs.Checks.{is_among}
 use Rattle.query_lang.specs.TypedFolds.{fold_checked}
 use Rattle.query_lang.specs.TypedStreams.{meaning_of, begun, column_names, made_stream, with_stream}
 use Rattle.query_lang.specs.TypedFinals.{table_named, five_fields, made_final, with_final}
-use Rattle.query_lang.specs.TypedQueries.{Shape, shapes, group_shape, final_shape, stream_width, IsValidStream, AreValidStreams, IsValidFinal, AreValidFinals}
+use Rattle.query_lang.specs.TypedQueries.{Shape, shapes, group_shape, final_shape, stream_width, IsValidStream, AreValidStreams}
+use Rattle.query_lang.specs.TypedQueries.{IsValidFinal, AreValidFinals}
 use Rattle.query_lang.specs.Typing.{with_fold, item_checked, items_checked}
 use Rattle.query_types.proofs.ExprLaws.{same_ok, found_first}
 use Rattle.query_types.proofs.BodyLaws.{must_not_ok}
@@ -41,19 +43,32 @@ pub record Sound (w : Whole) (e : Earlier) : Type 0 where
   pub finals : AreValidFinals w.names w.folds (shapes w.folds w.streams []) e.finals
   pub prints : All (IsPrinted w) e.prints
 
-pub streams_push : (names : ℕ) (folds : List TypedFold) (before xs : List TypedStream) (x : TypedStream) → AreValidStreams names folds before xs → IsValidStream names folds (before ++ xs) x
+pub streams_push : (names : ℕ) (folds : List TypedFold) (before xs : List TypedStream) (x : TypedStream)
+    → AreValidStreams names folds before xs → IsValidStream names folds (before ++ xs) x
     → AreValidStreams names folds before (xs ++ x ∷ [])
-streams_push names folds before [] x v one = (let P : List TypedStream → Type 0 = λ l. IsValidStream names folds l x in subst P (append-nil before) one, tt)
+streams_push names folds before [] x v one = (
+  let P : List TypedStream → Type 0 =
+      λ l. IsValidStream names folds l x in subst P (append-nil before) one,
+  tt,
+)
 streams_push names folds before (y ∷ ys) x v one =
     let P : List TypedStream → Type 0 = λ l. IsValidStream names folds l x in
     (v.0, streams_push names folds (before ++ y ∷ []) ys x v.1 (subst P (sym (append_assoc before (y ∷ []) ys)) one))
 
-pub finals_push : (names : ℕ) (folds : List TypedFold) (tables : List Shape) (xs : List TypedFinal) (x : TypedFinal) → AreValidFinals names folds tables xs → IsValidFinal names folds (tables ++ map final_shape xs) x
+pub finals_push : (names : ℕ) (folds : List TypedFold) (tables : List Shape) (xs : List TypedFinal) (x : TypedFinal)
+    → AreValidFinals names folds tables xs → IsValidFinal names folds (tables ++ map final_shape xs) x
     → AreValidFinals names folds tables (xs ++ x ∷ [])
-finals_push names folds tables [] x v one = (let P : List Shape → Type 0 = λ l. IsValidFinal names folds l x in subst P (append-nil tables) one, tt)
+finals_push names folds tables [] x v one = (
+  let P : List Shape → Type 0 =
+      λ l. IsValidFinal names folds l x in subst P (append-nil tables) one,
+  tt,
+)
 finals_push names folds tables (y ∷ ys) x v one =
-    let P : List Shape → Type 0 = λ l. IsValidFinal names folds l x in
-    (v.0, finals_push names folds (tables ++ final_shape y ∷ []) ys x v.1 (subst P (sym (append_assoc tables (final_shape y ∷ []) (map final_shape ys))) one))
+    let P : List Shape → Type 0 = λ l. IsValidFinal names folds l x in (
+      v.0,
+      finals_push names folds (tables ++ final_shape y ∷ []) ys x v.1
+          (subst P (sym (append_assoc tables (final_shape y ∷ []) (map final_shape ys))) one),
+    )
 
 same_some : {A : Type 0} (x y : A) → (let o : Option A = Some x in o) ≡ Some y → x ≡ y
 same_some x y e = cc e
@@ -63,11 +78,13 @@ get_map f [] i x e = cc e
 get_map {A} {B} f (y ∷ xs) zero x e = let same : y ≡ x = same_some y x e in ap (λ (z : A). let o : Option B = Some (f z) in o) same
 get_map f (y ∷ xs) (suc i) x e = get_map f xs i x e
 
-takings_next : (xs rest : List TypedStream) (one : TypedStream) (t : Taking) → taking_of one.op ≡ Some t → slice_get (takings (xs ++ one ∷ rest)) (length (takings xs)) ≡ Some t
+takings_next : (xs rest : List TypedStream) (one : TypedStream) (t : Taking) → taking_of one.op ≡ Some t
+    → slice_get (takings (xs ++ one ∷ rest)) (length (takings xs)) ≡ Some t
 takings_next xs rest one t is =
     let split = filter_map-append (λ (stream : TypedStream). taking_of stream.op) xs (one ∷ rest) in
     let head : takings (one ∷ rest) ≡ t ∷ takings rest = rw is refl in
-    ap (λ (l : List Taking). slice_get l (length (takings xs))) (split ∙ ap (λ l. takings xs ++ l) head) ∙ get_next (takings xs) (takings rest) t
+    ap (λ (l : List Taking). slice_get l (length (takings xs))) (split ∙ ap (λ l. takings xs ++ l) head)
+    ∙ get_next (takings xs) (takings rest) t
 
 -- one list goes on as another
 pub past : {A : Type 0} (whole xs later : List A) (x : A) → whole ≡ (xs ++ x ∷ []) ++ later → whole ≡ xs ++ x ∷ later
@@ -108,7 +125,8 @@ final_part w e name made p =
     }
 
 -- where the items up to some place are part of the query, those before them are
-pub item_part : (w : Whole) (given : Given) (e after : Earlier) (one : Item) → item_checked given e one ≡ Ok after → IsPart w after → IsPart w e
+pub item_part : (w : Whole) (given : Given) (e after : Earlier) (one : Item) → item_checked given e one ≡ Ok after → IsPart w after
+    → IsPart w e
 item_part w given e after (item.Fold d) h p =
     let free = must_not_ok (is_some (meaning_of e.known d.name.id)) NameTaken d.name.span _ after h in
     let f = found_first (fold_checked d) _ after free.1 in
@@ -129,25 +147,40 @@ item_part w given e after (item.Print name) h p =
     let new = must_not_ok (is_among name.id e.printed) NameTaken name.span _ after table.2 in
     let P : Earlier → Type 0 = λ z. IsPart w z in
     let q = subst P (sym (same_ok _ after new.1)) p in
-    record { later_folds = q.later_folds; folds = q.folds; later_streams = q.later_streams; streams = q.streams; later_finals = q.later_finals; finals = q.finals }
+    record {
+      later_folds = q.later_folds;
+      folds = q.folds;
+      later_streams = q.later_streams;
+      streams = q.streams;
+      later_finals =
+          q.later_finals;
+      finals = q.finals;
+    }
 
-pub items_part : (w : Whole) (given : Given) (items : List Item) (e after : Earlier) → items_checked given e items ≡ Ok after → IsPart w after → IsPart w e
+pub items_part : (w : Whole) (given : Given) (items : List Item) (e after : Earlier) → items_checked given e items ≡ Ok after
+    → IsPart w after → IsPart w e
 items_part w given [] e after h p = let P : Earlier → Type 0 = λ z. IsPart w z in subst P (sym (same_ok e after h)) p
 items_part w given (one ∷ rest) e after h p =
     let first = found_first (item_checked given e one) _ after h in
     item_part w given e first.0 one first.1 (items_part w given rest first.0 after first.2 p)
 
-pub made_table : (w : Whole) (e : Earlier) (later : List TypedStream) (one : TypedStream) (finals : ℕ) (o : Option TableView) → w.streams ≡ e.streams ++ one ∷ later → e.groups ≡ length (takings e.streams)
+pub made_table : (w : Whole) (e : Earlier) (later : List TypedStream) (one : TypedStream) (finals : ℕ) (o : Option TableView)
+    → w.streams ≡ e.streams ++ one ∷ later → e.groups ≡ length (takings e.streams)
     → IsMadeTable w e one.op o → IfSome o (IsTable w finals)
 made_table w e later one finals None is count v = tt
 made_table w e later one finals (Some t) is count v =
     let next : slice_get (takings w.streams) e.groups ≡ Some v.0 =
-    ap (λ (l : List TypedStream). slice_get (takings l) e.groups) is ∙ ap (slice_get (takings (e.streams ++ one ∷ later))) count ∙ takings_next e.streams later one v.0 v.1 in
-    let shape = get_map (group_shape w.folds) (takings w.streams) e.groups v.0 next ∙ ap (λ (s : Shape). let o : Option Shape = Some s in o) v.2 in
+    ap (λ (l : List TypedStream). slice_get (takings l) e.groups) is ∙ ap (slice_get (takings (e.streams ++ one ∷ later))) count
+    ∙ takings_next e.streams later one v.0 v.1 in
+    let shape = get_map (group_shape w.folds) (takings w.streams) e.groups v.0 next
+    ∙ ap (λ (s : Shape). let o : Option Shape = Some s in o) v.2 in
     let T : PrintOf → Type 0 = λ p. table_shape w p ≡ Some (record { width = length t.columns; keys = t.keys }) in
     let B : PrintOf → Type 0 = λ p. IsBelow finals p in
     record { shape = subst T (sym v.5) shape; names = v.3; keys = v.4; below = subst B (sym v.5) tt }
 
-pub next_width : (streams later : List TypedStream) (one : TypedStream) (whole : List TypedStream) → whole ≡ streams ++ one ∷ later → stream_width whole (length streams + 1) ≡ length one.columns
+pub next_width : (streams later : List TypedStream) (one : TypedStream) (whole : List TypedStream) → whole ≡ streams ++ one ∷ later
+    → stream_width whole (length streams + 1) ≡ length one.columns
 next_width streams later one whole is =
-    ap (stream_width whole) (add-one (length streams)) ∙ ap (λ (o : Option TypedStream). unwrap_or (option_map (λ (x : TypedStream). length x.columns) o) 0) (ap (λ (l : List TypedStream). slice_get l (length streams)) is ∙ get_next streams later one)
+    ap (stream_width whole) (add-one (length streams)) ∙ ap (λ (o : Option TypedStream). unwrap_or
+    (option_map (λ (x : TypedStream). length x.columns) o) 0) (ap (λ (l : List TypedStream). slice_get l (length streams)) is
+    ∙ get_next streams later one)

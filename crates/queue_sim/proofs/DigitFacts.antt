@@ -13,7 +13,8 @@ use Rattle.csv.specs.Writing.{default_writer}
 use Rattle.trace_reader.specs.Numbers.{before_last_blanks, decimal_word, is_blank, without_blanks, without_last_blanks, word_of}
 use Rattle.trace_reader.proofs.NumberFacts.{number_some}
 use Rattle.marple_base.specs.declared.field.Field.{Field}
-use Rattle.marple_base.specs.declared.field.Field.TheVariants.{Switch, Qid, Uid, SrcIp, DstIp, SrcPort, DstPort, Proto, PktLen, PayloadLen, TcpSeq, Tin, Tout, QSize}
+use Rattle.marple_base.specs.declared.field.Field.TheVariants.{Switch, Qid, Uid, SrcIp, DstIp, SrcPort, DstPort, Proto, PktLen, PayloadLen}
+use Rattle.marple_base.specs.declared.field.Field.TheVariants.{TcpSeq, Tin, Tout, QSize}
 use Rattle.queue_sim.specs.TraceText.{word_text}
 use Rattle.queue_sim.proofs.QueueFacts.{by_test}
 
@@ -34,7 +35,13 @@ digit_blank c d = rw (ne_eqb c 32 (λ e. absurd (omega (arith, d, e))), ne_eqb c
 
 digit_plain : (c : ℕ) → IsDigit c → needs_byte default_writer c ≡ false
 digit_plain c d =
-    rw (ne_eqb c 44 (λ e. absurd (omega (arith, d, e))), ne_eqb c 34 (λ e. absurd (omega (arith, d, e))), ne_eqb c 13 (λ e. absurd (omega (arith, d, e))), ne_eqb c 10 (λ e. absurd (omega (arith, d, e)))) refl
+    rw (
+      ne_eqb c 44 (λ e. absurd (omega (arith, d, e))),
+      ne_eqb c 34 (λ e. absurd (omega (arith, d, e))),
+      ne_eqb c 13
+          (λ e. absurd (omega (arith, d, e))),
+      ne_eqb c 10 (λ e. absurd (omega (arith, d, e))),
+    ) refl
 
 all_digits : (ds : List ℕ) → AllDigits 10 ds → list_all is_ascii_digit ds ≡ true
 all_digits [] all = refl
@@ -61,7 +68,8 @@ decimal_read n word =
     let numeral = decimal_is_IsNumeral n word in
     let small : digits_value 10 (decimal n) < 2 ^ 64 = omega (arith, numeral.1) in
     rw (digits_kept (decimal n) numeral.0.1)
-    (number_some 20 (2 ^ 64) (decimal n) numeral.0.0 (length-decimal-le 20 n (omega arith) (omega arith) word) (all_digits (decimal n) numeral.0.1) small ∙ ap Some numeral.1)
+    (number_some 20 (2 ^ 64) (decimal n) numeral.0.0 (length-decimal-le 20 n (omega arith) (omega arith) word)
+    (all_digits (decimal n) numeral.0.1) small ∙ ap Some numeral.1)
 
 -- what is written for a word of a field is read as that word
 pub word_read : (field : Field) (n : ℕ) → n < 2 ^ 64 → word_of field (without_blanks (word_text field n)) ≡ Some n

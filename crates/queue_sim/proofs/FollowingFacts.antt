@@ -1,5 +1,6 @@
 -- How the generator goes on from packet to packet.
-use Rattle.std.proofs.Common.{◌≡◌, ℕ, suc, zero, ◌+◌, ◌*◌, ◌/◌, ◌<◌, ◌≤◌, List, [], ◌∷◌, ◌++◌, length, get_or, set, slice_get, replicate, Option, Some, None, refl, sym, ap, ◌∙◌, inl, inr, arith, add-one, max}
+use Rattle.std.proofs.Common.{◌≡◌, ℕ, suc, zero, ◌+◌, ◌*◌, ◌/◌, ◌<◌, ◌≤◌, List, [], ◌∷◌, ◌++◌, length, get_or, set, slice_get, replicate}
+use Rattle.std.proofs.Common.{Option, Some, None, refl, sym, ap, ◌∙◌, inl, inr, arith, add-one, max}
 use Rattle.std.specs.Prelude.{if◌then◌else◌, nat_lt}
 use Rattle.std.proofs.lemmas.Bool.Decides.{eqb_tells}
 use Rattle.std.proofs.lemmas.List.{get_or-set_other, get_or-set_same}
@@ -7,7 +8,8 @@ use Rattle.std.proofs.lemmas.Option.{same_Some}
 use Rattle.queue_sim.specs.Draws.{IsDrawn}
 use Rattle.queue_sim.specs.Following.{AreEmpty, nth_packet}
 use Rattle.queue_sim.specs.Generator as Generator
-use Rattle.queue_sim.specs.Generator.{Arrival, arrival_by, arrivals, drawn_after, first_or_0, last_time, next_number, simulated, still_there, switch_of, touts_at, with_some}
+use Rattle.queue_sim.specs.Generator.{Arrival, arrival_by, arrivals, drawn_after, first_or_0, last_time, next_number, simulated}
+use Rattle.queue_sim.specs.Generator.{still_there, switch_of, touts_at, with_some}
 use Rattle.queue_sim.specs.declared.draws.Drawn.{Drawn}
 use Rattle.queue_sim.specs.Queue.{Holds}
 use Rattle.queue_sim.specs.declared.queue.Queue.{Queue}
@@ -55,7 +57,8 @@ holds_later queue touts before now from holds =
 pub queues_next : (queues : List Queue) (queue : Queue) (earlier : List Arrival) (a : Arrival) (before : ℕ) → before ≤ a.time
     → ((switch : ℕ) (q : Queue) → slice_get queues switch ≡ Some q → Holds q (touts_at switch earlier) before)
     → Holds queue (with_some a.tout (touts_at (switch_of a.flow) earlier)) a.time
-    → (switch : ℕ) (q : Queue) → slice_get (set queues (switch_of a.flow) queue) switch ≡ Some q → Holds q (touts_at switch (a ∷ earlier)) a.time
+    → (switch : ℕ) (q : Queue) → slice_get (set queues (switch_of a.flow) queue) switch ≡ Some q
+    → Holds q (touts_at switch (a ∷ earlier)) a.time
 queues_next queues queue earlier a before from so_far new switch q here = elim (eqb_tells (switch_of a.flow) switch) [
   | inl same ↦
       let at : slice_get (set queues (switch_of a.flow) queue) (switch_of a.flow) ≡ Some q = rw (← same.1) at here in
@@ -66,14 +69,18 @@ queues_next queues queue earlier a before from so_far new switch q here = elim (
 ]
 
 -- a packet as the code has it is the one that the draws and the earlier packets say
-pub arrived : (earlier : List Arrival) (capacity : ℕ) (d : Drawn) (meant : Generator.Drawn) (time seq qsize last : ℕ) (tout : Option ℕ) → IsDrawn d meant
-    → time ≡ last_time earlier + d.gap → seq ≡ next_number d.flow earlier + d.skipped → qsize ≡ still_there time (touts_at (switch_of d.flow) earlier)
-    → tout ≡ (if nat_lt qsize capacity then Some (max time last + (d.payload + 40) / 8) else None) → last ≡ first_or_0 (touts_at (switch_of d.flow) earlier)
+pub arrived : (earlier : List Arrival) (capacity : ℕ) (d : Drawn) (meant : Generator.Drawn) (time seq qsize last : ℕ) (tout : Option ℕ)
+    → IsDrawn d meant
+    → time ≡ last_time earlier + d.gap → seq ≡ next_number d.flow earlier + d.skipped
+    → qsize ≡ still_there time (touts_at (switch_of d.flow) earlier)
+    → tout ≡ (if nat_lt qsize capacity then Some (max time last + (d.payload + 40) / 8) else None)
+    → last ≡ first_or_0 (touts_at (switch_of d.flow) earlier)
     → record { time = time; flow = d.flow; payload = d.payload; seq = seq; qsize = qsize; tout = tout } ≡ arrival_by meant capacity earlier
 arrived earlier capacity d meant time seq qsize last tout is at numbered waiting leaves after =
     rw (leaves, waiting, numbered, at, after, is.gap, is.flow, is.payload, is.skipped) refl
 
-pub arrivals_more : (start capacity n : ℕ) → arrivals start capacity (n + 1) ≡ arrival_by (drawn_after start (4 * n)) capacity (arrivals start capacity n) ∷ arrivals start capacity n
+pub arrivals_more : (start capacity n : ℕ) → arrivals start capacity (n + 1) ≡ arrival_by (drawn_after start (4 * n)) capacity
+    (arrivals start capacity n) ∷ arrivals start capacity n
 unfolding arrivals
 arrivals_more start capacity n = rw (add-one n) refl
 
@@ -82,7 +89,8 @@ unfolding arrivals
 length-arrivals start capacity zero = refl
 length-arrivals start capacity (suc n) = ap suc (length-arrivals start capacity n)
 
-pub simulated_more : (start capacity n : ℕ) → simulated (n + 1) start capacity ≡ simulated n start capacity ++ nth_packet start capacity n ∷ []
+pub simulated_more : (start capacity n : ℕ) → simulated (n + 1) start capacity ≡ simulated n start capacity ++ nth_packet start capacity n
+    ∷ []
 simulated_more start capacity n = rw (arrivals_more start capacity n, length-arrivals start capacity n) refl
 
 pub simulated_none : (start capacity : ℕ) → simulated 0 start capacity ≡ []

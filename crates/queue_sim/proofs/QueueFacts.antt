@@ -1,5 +1,6 @@
 -- Times at which the packets of a queue leave.
-use Rattle.std.proofs.Common.{◌≡◌, ℕ, suc, ◌<◌, ◌≤◌, Bool, true, false, List, [], ◌∷◌, ◌++◌, length, get_or, drop, refl, sym, ap, ◌∙◌, arith}
+use Rattle.std.proofs.Common.{◌≡◌, ℕ, suc, ◌<◌, ◌≤◌, Bool, true, false, List, [], ◌∷◌, ◌++◌, length, get_or, drop, refl, sym, ap, ◌∙◌}
+use Rattle.std.proofs.Common.{arith}
 use Rattle.std.specs.Prelude.{nat_lt}
 use Rattle.std.proofs.lemmas.Bool.Decides.{nat_tests}
 use Rattle.queue_sim.specs.Generator.{still_there}
@@ -50,9 +51,12 @@ still_push time [] x = refl
 still_push time (y ∷ xs) x =
     let more = still_push time xs x in
     by_test (nat_lt time y)
-    (λ later. by_test (nat_lt time x) (λ also. rw (later, also) (omega (arith, rw also at more))) (λ not_so. rw (later, not_so) (omega (arith, rw not_so at more))))
+    (λ later. by_test (nat_lt time x) (λ also. rw (later, also) (omega (arith, rw also at more)))
+    (λ not_so. rw (later, not_so) (omega (arith, rw not_so at more))))
     (λ past. by_test (nat_lt time x) (λ also. rw (past, also) (rw also at more)) (λ not_so. rw (past, not_so) (rw not_so at more)))
 
 -- one more, which is listed first among those that were accepted
-pub still_more : (xs touts : List ℕ) (later x : ℕ) → still_there later xs ≡ still_there later touts → still_there later (xs ++ x ∷ []) ≡ still_there later (x ∷ touts)
-still_more xs touts later x same = still_push later xs x ∙ by_test (nat_lt later x) (λ also. rw also (ap suc same)) (λ not_so. rw not_so same)
+pub still_more : (xs touts : List ℕ) (later x : ℕ) → still_there later xs ≡ still_there later touts
+    → still_there later (xs ++ x ∷ []) ≡ still_there later (x ∷ touts)
+still_more xs touts later x same = still_push later xs x ∙ by_test (nat_lt later x) (λ also. rw also (ap suc same))
+    (λ not_so. rw not_so same)

@@ -1,5 +1,6 @@
 -- The records of a written trace, and what a reader finds in them.
-use Rattle.std.proofs.Common.{◌≡◌, ℕ, ◌+◌, ◌≤◌, true, false, List, [], ◌∷◌, ◌++◌, length, map, Ok, Option, Some, None, refl, sym, ap, ◌∙◌, eq-eqb, arith}
+use Rattle.std.proofs.Common.{◌≡◌, ℕ, ◌+◌, ◌≤◌, true, false, List, [], ◌∷◌, ◌++◌, length, map, Ok, Option, Some, None, refl, sym, ap, ◌∙◌}
+use Rattle.std.proofs.Common.{eq-eqb, arith}
 use Rattle.std.specs.Prelude.{⊤, ◌==◌, flat_map, nat_lt}
 use Rattle.std.specs.List.{list_any}
 use Rattle.std.proofs.lemmas.Bool.Decides.{nat_tests}
@@ -10,7 +11,8 @@ use Rattle.csv.specs.Writing.{default_writer, fields_text, is_blank, row_text}
 use Rattle.csv.proofs.RoundTrip.{rows_text}
 use Rattle.marple_base.specs.Field.{HasField, all_fields, field_name}
 use Rattle.marple_base.specs.declared.field.Field.{Field}
-use Rattle.marple_base.specs.declared.field.Field.TheVariants.{Switch, Qid, Uid, SrcIp, DstIp, SrcPort, DstPort, Proto, PktLen, PayloadLen, TcpSeq, Tin, Tout, QSize}
+use Rattle.marple_base.specs.declared.field.Field.TheVariants.{Switch, Qid, Uid, SrcIp, DstIp, SrcPort, DstPort, Proto, PktLen, PayloadLen}
+use Rattle.marple_base.specs.declared.field.Field.TheVariants.{TcpSeq, Tin, Tout, QSize}
 use Rattle.marple_base.specs.declared.field.FieldSet.{FieldSet}
 use Rattle.marple_base.specs.declared.field.Packet.{Packet}
 use Rattle.trace_reader.specs.Reading.{records}
@@ -42,7 +44,8 @@ plain_texts (f ∷ fields) [] small = tt
 plain_texts (f ∷ fields) (w ∷ words) small = (word_plain f w small.0, plain_texts fields words small.1)
 
 -- the line of a packet is the text of its record
-packet_row : (words : List ℕ) → length words ≡ 14 → AreWords words → row_text default_writer (texts_of all_fields words) ≡ line (texts_of all_fields words)
+packet_row : (words : List ℕ) → length words ≡ 14 → AreWords words → row_text default_writer (texts_of all_fields words) ≡ line
+    (texts_of all_fields words)
 packet_row [] size small = absurd (omega arith)
 packet_row (w ∷ []) size small = absurd (omega (arith, size))
 packet_row (v ∷ w ∷ words) size small = plain_row _ _ _ (plain_texts all_fields (v ∷ w ∷ words) small)
@@ -89,12 +92,29 @@ text_records sent are =
 
 -- the places of the fields in the header
 abbrev places : List (Option ℕ)
-places = Some 0 ∷ Some 1 ∷ Some 2 ∷ Some 3 ∷ Some 4 ∷ Some 5 ∷ Some 6 ∷ Some 7 ∷ Some 8 ∷ Some 9 ∷ Some 10 ∷ Some 11 ∷ Some 12 ∷ Some 13 ∷ []
+places = Some 0 ∷ Some 1 ∷ Some 2 ∷ Some 3 ∷ Some 4 ∷ Some 5 ∷ Some 6 ∷ Some 7 ∷ Some 8 ∷ Some 9 ∷ Some 10 ∷ Some 11 ∷ Some 12 ∷ Some 13
+    ∷ []
 
 header_columns : (reads : FieldSet) → ((field : Field) → HasField reads field) → Ok places ≡ columns_of reads header
 unfolding each
 header_columns reads all =
-    rw (all Switch, all Qid, all Uid, all SrcIp, all DstIp, all SrcPort, all DstPort, all Proto, all PktLen, all PayloadLen, all TcpSeq, all Tin, all Tout, all QSize) refl
+    rw (
+      all Switch,
+      all Qid,
+      all Uid,
+      all SrcIp,
+      all DstIp,
+      all SrcPort,
+      all DstPort,
+      all Proto,
+      all PktLen,
+      all PayloadLen,
+      all TcpSeq,
+      all
+          Tin,
+      all Tout,
+      all QSize,
+    ) refl
 
 -- the words that a record gives
 row_words : (words : List ℕ) → length words ≡ 14 → AreWords words → words_of places (texts_of all_fields words) ≡ Ok words
@@ -113,21 +133,41 @@ row_words (a ∷ b ∷ c ∷ d ∷ e ∷ f ∷ g ∷ h ∷ i ∷ j ∷ k ∷ l �
     let rest11 = rest10.1 in
     let rest12 = rest11.1 in
     let rest13 = rest12.1 in
-    rw (word_read Switch a small.0, word_read Qid b rest1.0, word_read Uid c rest2.0, word_read SrcIp d rest3.0, word_read DstIp e rest4.0, word_read SrcPort f rest5.0, word_read DstPort g rest6.0, word_read Proto h rest7.0, word_read PktLen i rest8.0, word_read PayloadLen j rest9.0, word_read TcpSeq k rest10.0, word_read Tin l rest11.0, word_read Tout m rest12.0, word_read QSize n rest13.0) refl
+    rw (
+      word_read Switch a small.0,
+      word_read Qid b rest1.0,
+      word_read Uid c rest2.0,
+      word_read SrcIp d rest3.0,
+      word_read DstIp e rest4.0,
+      word_read SrcPort f rest5.0,
+      word_read DstPort g rest6.0,
+      word_read Proto h rest7.0,
+      word_read PktLen i rest8.0,
+      word_read
+          PayloadLen j rest9.0,
+      word_read TcpSeq k rest10.0,
+      word_read Tin l rest11.0,
+      word_read Tout m rest12.0,
+      word_read QSize n rest13.0,
+    )
+    refl
 row_words words size small = absurd (omega (arith, size))
 
 -- the layout of a trace with the whole header
 abbrev full : Layout
 full = record { width = 14; columns = places }
 
-packet_read : (packet : Packet) (n : ℕ) → length packet.words ≡ 14 → AreWords packet.words → n ≤ most_records → packet_of full n (packet_texts packet) ≡ Ok packet
+packet_read : (packet : Packet) (n : ℕ) → length packet.words ≡ 14 → AreWords packet.words → n ≤ most_records
+    → packet_of full n (packet_texts packet) ≡ Ok packet
 unfolding packet_of
 packet_read packet n size small within =
     let few : nat_lt most_records n ≡ false = grind (arith, nat_tests) in
-    let width : (length (packet_texts packet) == 14) ≡ true = eq-eqb (length (packet_texts packet)) 14 (length-texts all_fields packet.words (sym size)) in
+    let width : (length (packet_texts packet) == 14) ≡ true = eq-eqb (length (packet_texts packet)) 14
+    (length-texts all_fields packet.words (sym size)) in
     rw (few, width, row_words packet.words size small) refl
 
-sent_read : (sent : List Packet) (n : ℕ) → ArePackets sent → n + length sent ≤ most_records + 1 → contents_from full n (rows_of sent) ≡ record { packets = sent; fault = None }
+sent_read : (sent : List Packet) (n : ℕ) → ArePackets sent → n + length sent ≤ most_records + 1
+    → contents_from full n (rows_of sent) ≡ record { packets = sent; fault = None }
 unfolding contents_from
 sent_read [] n are within = refl
 sent_read (packet ∷ sent) n are within =
@@ -136,5 +176,6 @@ sent_read (packet ∷ sent) n are within =
 pub texts_read_back_lem : TextsReadBack
 texts_read_back_lem sent reads are all few short =
     let is : contents (trace_text sent) reads ≡ record { packets = sent; fault = None } =
-    contents_good (trace_text sent) reads header (rows_of sent) places short (text_records sent are) (header_columns reads all) ∙ sent_read sent 1 are (omega arith) in
+    contents_good (trace_text sent) reads header (rows_of sent) places short (text_records sent are) (header_columns reads all)
+    ∙ sent_read sent 1 are (omega arith) in
     (ap (λ (c : Contents). c.packets) is, ap (λ (c : Contents). c.fault) is)

@@ -1,5 +1,6 @@
 -- The line of a packet from its end to its beginning, and the text of packets.
-use Rattle.std.proofs.Common.{◌≡◌, ℕ, suc, zero, ◌+◌, ◌<◌, List, [], ◌∷◌, ◌++◌, length, get_or, drop, refl, sym, ap, ◌∙◌, append_assoc, append-nil, arith}
+use Rattle.std.proofs.Common.{◌≡◌, ℕ, suc, zero, ◌+◌, ◌<◌, List, [], ◌∷◌, ◌++◌, length, get_or, drop, refl, sym, ap, ◌∙◌, append_assoc}
+use Rattle.std.proofs.Common.{append-nil, arith}
 use Rattle.std.specs.Prelude.{flat_map}
 use Rattle.std.proofs.lemmas.List.{drop_all}
 use Rattle.marple_base.specs.Field.{all_fields}
@@ -29,7 +30,8 @@ text_from i words = continued (drop i (texts_of all_fields words)) ++ 10 ∷ []
 
 -- nothing but the end
 pub none_left : (words : List ℕ) → length words ≡ 14 → text_from 14 words ≡ 10 ∷ []
-none_left words size = ap (λ parts. continued parts ++ 10 ∷ []) (drop_all 14 (texts_of all_fields words) (omega (arith, length-texts all_fields words (sym size))))
+none_left words size = ap (λ parts. continued parts ++ 10 ∷ []) (drop_all 14 (texts_of all_fields words)
+    (omega (arith, length-texts all_fields words (sym size))))
 
 -- one word more, and a comma before it
 pub one_before : (words : List ℕ) (i : ℕ) → length words ≡ 14 → i < 14
@@ -40,15 +42,20 @@ one_before words i size within =
     ∙ ap (λ rest. 44 ∷ rest) (append_assoc text (continued (drop (i + 1) (texts_of all_fields words))) (10 ∷ []))
 
 -- the first word, and the line is whole
-pub whole_line : (words : List ℕ) → length words ≡ 14 → word_text Switch (get_or words 0 0) ++ text_from 1 words ≡ line (texts_of all_fields words)
+pub whole_line : (words : List ℕ) → length words ≡ 14 → word_text Switch (get_or words 0 0)
+    ++ text_from 1 words ≡ line (texts_of all_fields words)
 whole_line [] size = absurd (omega arith)
 whole_line (w ∷ words) size = sym (append_assoc (word_text Switch w) (continued (drop 1 (texts_of all_fields (w ∷ words)))) (10 ∷ []))
 
 -- one packet more
-pub trace_push : (packets : List Packet) (packet : Packet) → trace_text (packets ++ packet ∷ []) ≡ trace_text packets ++ line (packet_texts packet)
+pub trace_push : (packets : List Packet) (packet : Packet) → trace_text (packets ++ packet ∷ []) ≡ trace_text packets
+    ++ line (packet_texts packet)
 trace_push packets packet =
-    ap (λ rest. line header ++ rest) (lines packets) ∙ sym (append_assoc (line header) (flat_map (λ p. line (packet_texts p)) packets) (line (packet_texts packet)))
+    ap (λ rest. line header ++ rest) (lines packets) ∙ sym (append_assoc (line header) (flat_map (λ p. line (packet_texts p)) packets)
+    (line (packet_texts packet)))
   where
-    lines : (ps : List Packet) → flat_map (λ p. line (packet_texts p)) (ps ++ packet ∷ []) ≡ flat_map (λ p. line (packet_texts p)) ps ++ line (packet_texts packet)
+    lines : (ps : List Packet) → flat_map (λ p. line (packet_texts p)) (ps ++ packet ∷ []) ≡ flat_map (λ p. line (packet_texts p)) ps
+        ++ line (packet_texts packet)
     lines [] = append-nil (line (packet_texts packet))
-    lines (p ∷ ps) = ap (λ rest. line (packet_texts p) ++ rest) (lines ps) ∙ sym (append_assoc (line (packet_texts p)) (flat_map (λ p. line (packet_texts p)) ps) (line (packet_texts packet)))
+    lines (p ∷ ps) = ap (λ rest. line (packet_texts p) ++ rest) (lines ps)
+        ∙ sym (append_assoc (line (packet_texts p)) (flat_map (λ p. line (packet_texts p)) ps) (line (packet_texts packet)))

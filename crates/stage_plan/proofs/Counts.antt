@@ -1,5 +1,6 @@
 -- What a valid query's operators name is there, and few operations are made for each.
-use Rattle.std.proofs.Common.{◌≡◌, ℕ, zero, suc, ◌+◌, ◌<◌, ◌≤◌, List, [], ◌∷◌, ◌++◌, length, get_or, Some, None, Option, sym, ap, subst, ◌∙◌, inl, inr, arith}
+use Rattle.std.proofs.Common.{◌≡◌, ℕ, zero, suc, ◌+◌, ◌<◌, ◌≤◌, List, [], ◌∷◌, ◌++◌, length, get_or, Some, None, Option, sym, ap, subst}
+use Rattle.std.proofs.Common.{◌∙◌, inl, inr, arith}
 use Rattle.std.specs.Prelude.{All, IfSome, slice_get, option_and_then}
 use Rattle.std.proofs.lemmas.List.{length_push}
 use Rattle.std.proofs.lemmas.List.Elements.{All-get_or}
@@ -25,27 +26,33 @@ record IsAfter (names : ℕ) (folds : List TypedFold) (streams : ℕ) (one : Typ
   pub long : length before ≡ streams
   pub valid : IsValidStream names folds before one
 
-beyond : (names : ℕ) (folds : List TypedFold) (before list : List TypedStream) (i : ℕ) (d : TypedStream) → AreValidStreams names folds before list → i < length list →
+beyond : (names : ℕ) (folds : List TypedFold) (before list : List TypedStream) (i : ℕ) (d : TypedStream)
+    → AreValidStreams names folds before list → i < length list →
     IsAfter names folds (length before + i) (get_or list i d)
 beyond names folds before [] i d all lt = absurd (omega arith)
 beyond names folds before (one ∷ rest) zero d all lt = record { before = before; long = omega arith; valid = all.0 }
 beyond names folds before (one ∷ rest) (suc i) d all lt =
-    let r : IsAfter names folds (length (before ++ one ∷ []) + i) (get_or rest i d) = beyond names folds (before ++ one ∷ []) rest i d all.1 (omega arith) in
+    let r : IsAfter names folds (length (before ++ one ∷ []) + i) (get_or rest i d) =
+    beyond names folds (before ++ one ∷ []) rest i d all.1 (omega arith) in
     let same : length (before ++ one ∷ []) + i ≡ length before + suc i = omega (arith, length_push before one) in
     subst (λ n. IsAfter names folds n (get_or rest i d)) same r
 
-after_none : (q : TypedQuery) → IsValidQuery q → (i : ℕ) (d : TypedStream) → i < length q.streams → IsAfter (length q.names) q.folds i (get_or q.streams i d)
+after_none : (q : TypedQuery) → IsValidQuery q → (i : ℕ) (d : TypedStream) → i < length q.streams
+    → IsAfter (length q.names) q.folds i (get_or q.streams i d)
 after_none q valid i d lt =
     let same : 0 + i ≡ i = omega arith in
-    subst (λ n. IsAfter (length q.names) q.folds n (get_or q.streams i d)) same (beyond (length q.names) q.folds [] q.streams i d valid.streams lt)
+    subst (λ n. IsAfter (length q.names) q.folds n (get_or q.streams i d)) same
+    (beyond (length q.names) q.folds [] q.streams i d valid.streams lt)
 
-inputs_there : (folds : List TypedFold) (before : List TypedStream) (width : ℕ) (op : TypedOp) → IsValidOp folds before width op → HasInputs (length before + 1) op
+inputs_there : (folds : List TypedFold) (before : List TypedStream) (width : ℕ) (op : TypedOp) → IsValidOp folds before width op
+    → HasInputs (length before + 1) op
 inputs_there folds before width (Filter input condition) v = let h = v.0 in omega arith
 inputs_there folds before width (Map input values) v = let h = v.0 in omega arith
 inputs_there folds before width (Zip left right slots) v = let l = v.0 in let r = v.1 in (omega arith, omega arith)
 inputs_there folds before width (Group input keys f args) v = let h = v.0 in omega arith
 
-fold_there : (folds : List TypedFold) (before : List TypedStream) (width : ℕ) (op : TypedOp) → IsValidOp folds before width op → HasFold (length folds) op
+fold_there : (folds : List TypedFold) (before : List TypedStream) (width : ℕ) (op : TypedOp) → IsValidOp folds before width op
+    → HasFold (length folds) op
 fold_there folds before width (Filter input condition) v = tt
 fold_there folds before width (Map input values) v = tt
 fold_there folds before width (Zip left right slots) v = tt
@@ -55,7 +62,8 @@ emit_few : (states args : ℕ) (o : Option TypedExpr) → IfSome o (λ e. IsVali
 emit_few states args None h = omega arith
 emit_few states args (Some e) h = let n = h.nodes in omega arith
 
-fold_few : (folds : List TypedFold) (number : ℕ) → All IsValidFold folds → emit_most (option_and_then (λ f. f.emit) (slice_get folds number)) ≤ 641
+fold_few : (folds : List TypedFold) (number : ℕ) → All IsValidFold folds
+    → emit_most (option_and_then (λ f. f.emit) (slice_get folds number)) ≤ 641
 fold_few folds number all = elim ((slice_get_cases folds number).1) [
   | inl found ↦
       let f : TypedFold = found.0 in
@@ -67,7 +75,8 @@ fold_few folds number all = elim ((slice_get_cases folds number).1) [
       subst (λ (o : Option TypedFold). emit_most (option_and_then (λ (g : TypedFold). g.emit) o) ≤ 641) (sym past.1) none
 ]
 
-op_few : (folds : List TypedFold) (before : List TypedStream) (width : ℕ) (op : TypedOp) → All IsValidFold folds → IsValidOp folds before width op → op_most folds op ≤ 641
+op_few : (folds : List TypedFold) (before : List TypedStream) (width : ℕ) (op : TypedOp) → All IsValidFold folds
+    → IsValidOp folds before width op → op_most folds op ≤ 641
 op_few folds before width (Filter input condition) all v = let n = v.1.0.1 in omega arith
 op_few folds before width (Map input values) all v = let n = v.1.1 in omega arith
 op_few folds before width (Zip left right slots) all v = omega arith
@@ -89,7 +98,8 @@ stands_at q valid i d lt =
       few = op_few q.folds b.before _ _ valid.folds v;
     }
 
-pub stands : (q : TypedQuery) (list : List TypedStream) (i : ℕ) (one : TypedStream) → IsValidQuery q → list ≡ q.streams → i < length list → one ≡ get_or list i one → Stands q i one.op
+pub stands : (q : TypedQuery) (list : List TypedStream) (i : ℕ) (one : TypedStream) → IsValidQuery q → list ≡ q.streams → i < length list
+    → one ≡ get_or list i one → Stands q i one.op
 stands q list i one valid same lt is =
     let here : one ≡ get_or q.streams i one = is ∙ ap (λ l. get_or l i one) same in
     subst (λ (x : TypedStream). Stands q i x.op) (sym here) (stands_at q valid i one (omega (arith, ap length same)))
@@ -98,7 +108,8 @@ stands q list i one valid same lt is =
 pub op_fits : (q : TypedQuery) (folds : List TypedFold) (i : ℕ) (op : TypedOp) → folds ≡ q.folds → Stands q i op → op_most folds op ≤ 641
 op_fits q folds i op same s = subst (λ (l : List TypedFold). op_most l op ≤ 641) (sym same) s.few
 
-pub fold_fits : (q : TypedQuery) (folds : List TypedFold) (i : ℕ) (op : TypedOp) → folds ≡ q.folds → Stands q i op → HasFold (length folds) op
+pub fold_fits : (q : TypedQuery) (folds : List TypedFold) (i : ℕ) (op : TypedOp) → folds ≡ q.folds → Stands q i op
+    → HasFold (length folds) op
 fold_fits q folds i op same s = subst (λ (l : List TypedFold). HasFold (length l) op) (sym same) s.fold
 
 pub inputs_at : (n m : ℕ) (op : TypedOp) → n ≡ m → HasInputs n op → HasInputs m op
@@ -111,23 +122,28 @@ inputs_more n m (Zip left right slots) le h = let l = h.0 in let r = h.1 in (ome
 inputs_more n m (Group input keys f args) le h = omega arith
 
 -- every stream is made of those that are made
-made_long : (folds : List TypedFold) (ops : List PlanOp) (streams : List StreamWires) (list : List TypedStream) → length (all_made folds ops streams list).streams ≡ length streams + length list
+made_long : (folds : List TypedFold) (ops : List PlanOp) (streams : List StreamWires) (list : List TypedStream)
+    → length (all_made folds ops streams list).streams ≡ length streams + length list
 made_long folds ops streams [] = omega arith
 made_long folds ops streams (one ∷ rest) =
     let wires : StreamWires = (made_by folds streams one.op ops).wires in
     let later = made_long folds (made_by folds streams one.op ops).ops (streams ++ wires ∷ []) rest in
     omega (arith, later, length_push streams wires)
 
-pub all_inputs : (q : TypedQuery) (streams wires : List StreamWires) (start : StreamWires) (list : List TypedStream) → IsValidQuery q → streams ≡ (all_made q.folds [] (start ∷ []) q.streams).streams → wires ≡ streams →
+pub all_inputs : (q : TypedQuery) (streams wires : List StreamWires) (start : StreamWires) (list : List TypedStream) → IsValidQuery q
+    → streams ≡ (all_made q.folds [] (start ∷ []) q.streams).streams → wires ≡ streams →
     list ≡ q.streams → All (λ one. HasInputs (length wires) one.op) list
 all_inputs q streams wires start list valid made there same = λ k d lt.
-    let long : length wires ≡ 1 + length q.streams = (let l = made_long q.folds [] (start ∷ []) q.streams in omega (arith, ap length there, ap length made)) in
+    let long : length wires ≡ 1 + length q.streams = (let l = made_long q.folds [] (start ∷ []) q.streams in omega
+    (arith, ap length there, ap length made)) in
     let few : k < length q.streams = omega (arith, ap length same) in
     let one : HasInputs (k + 1) (get_or q.streams k d).op = (stands_at q valid k d few).inputs in
-    let more : HasInputs (length wires) (get_or q.streams k d).op = inputs_more (k + 1) (length wires) (get_or q.streams k d).op (omega arith) one in
+    let more : HasInputs (length wires) (get_or q.streams k d).op = inputs_more (k + 1) (length wires) (get_or q.streams k d).op
+    (omega arith) one in
     subst (λ (l : List TypedStream). HasInputs (length wires) (get_or l k d).op) (sym same) more
 
-group_fits : (q : TypedQuery) (one : TypedStream) (before : List TypedStream) → IsValidStream (length q.names) q.folds before one → (op : TypedOp) → IsValidOp q.folds before (length one.columns) op → FitsGroup q one op
+group_fits : (q : TypedQuery) (one : TypedStream) (before : List TypedStream) → IsValidStream (length q.names) q.folds before one
+    → (op : TypedOp) → IsValidOp q.folds before (length one.columns) op → FitsGroup q one op
 group_fits q one before s (Filter input condition) v = tt
 group_fits q one before s (Map input values) v = tt
 group_fits q one before s (Zip left right slots) v = tt

@@ -1,5 +1,6 @@
 -- The stages of operations that are made are the depths of the query, and each reads what is before it.
-use Rattle.std.proofs.Common.{◌≡◌, ℕ, zero, suc, ◌+◌, ◌-◌, ◌<◌, max, min, true, List, [], ◌∷◌, ◌++◌, length, Some, None, Option, refl, sym, ap, subst, ◌∙◌, inl, inr, arith, append_assoc, append-nil}
+use Rattle.std.proofs.Common.{◌≡◌, ℕ, zero, suc, ◌+◌, ◌-◌, ◌<◌, max, min, true, List, [], ◌∷◌, ◌++◌, length, Some, None, Option, refl, sym}
+use Rattle.std.proofs.Common.{ap, subst, ◌∙◌, inl, inr, arith, append_assoc, append-nil}
 use Rattle.std.specs.Prelude.{map, fold, flat_map, replicate, nat_lt, slice_get, slice_index, option_map, unwrap_or, if◌then◌else◌}
 use Rattle.std.proofs.lemmas.Bool.{cases_eq, cases_lt}
 use Rattle.std.proofs.lemmas.Bool.Decides.{nat_tests}
@@ -21,8 +22,10 @@ use Rattle.stage_plan.specs.declared.op.Operation.TheVariants.{Not, Two}
 use Rattle.stage_plan.specs.declared.op.PlanOp.{PlanOp}
 use Rattle.stage_plan.specs.declared.wires.StreamWires.{StreamWires}
 use Rattle.stage_plan.specs.Registers.{operand_stage}
-use Rattle.stage_plan.specs.Depths.{term_depth, term_depths, StreamDepths, packet_depths, depths_at, joined_depths, emit_depths, group_depths, depths_made, all_depths}
-use Rattle.stage_plan.specs.Making.{stage_after, compiled, compiled_all, op_on, operand_at, wires_at, conditioned, emit_columns, emitted, grouped, made_by, all_made}
+use Rattle.stage_plan.specs.Depths.{term_depth, term_depths, StreamDepths, packet_depths, depths_at, joined_depths, emit_depths}
+use Rattle.stage_plan.specs.Depths.{group_depths, depths_made, all_depths}
+use Rattle.stage_plan.specs.Making.{stage_after, compiled, compiled_all, op_on, operand_at, wires_at, conditioned, emit_columns, emitted}
+use Rattle.stage_plan.specs.Making.{grouped, made_by, all_made}
 use Rattle.stage_plan.specs.Sound.{IsWithin}
 use Rattle.stage_plan.proofs.Lists.{push_cases, slice_get-last}
 use Rattle.stage_plan.proofs.Runs.{within_more, stage_of_register}
@@ -30,7 +33,8 @@ use Rattle.stage_plan.proofs.StreamRows.{at_earlier, at_last, at_past}
 use Rattle.stage_plan.proofs.Values.{Extends, same_ops, and_more, one_more}
 
 -- an operand that is there keeps its stage while operations are added
-pub same_stage : (ops more : List PlanOp) (o : Operand) → Extends ops more → IsWithin (14 + length ops) o → operand_stage more o ≡ operand_stage ops o
+pub same_stage : (ops more : List PlanOp) (o : Operand) → Extends ops more → IsWithin (14 + length ops) o
+    → operand_stage more o ≡ operand_stage ops o
 same_stage ops more (Number n) e w = refl
 same_stage ops more (Register r) e w =
     elim (cases_lt r 14) [
@@ -69,24 +73,28 @@ AreAt ops [] [] = Unit {0}
 AreAt ops (o ∷ columns) (d ∷ depths) = IsAt ops o d × AreAt ops columns depths
 AreAt ops _ _ = ⊥
 
-pub are_more : (ops more : List PlanOp) (columns : List Operand) (depths : List ℕ) → Extends ops more → AreAt ops columns depths → AreAt more columns depths
+pub are_more : (ops more : List PlanOp) (columns : List Operand) (depths : List ℕ) → Extends ops more → AreAt ops columns depths
+    → AreAt more columns depths
 are_more ops more [] [] e h = tt
 are_more ops more (o ∷ columns) (d ∷ depths) e h = (is_more ops more o d e h.0, are_more ops more columns depths e h.1)
 are_more ops more [] (d ∷ depths) e h = absurd h
 are_more ops more (o ∷ columns) [] e h = absurd h
 
-pub column_is : (ops : List PlanOp) (columns : List Operand) (depths : List ℕ) (slot : ℕ) → AreAt ops columns depths → IsAt ops (operand_at columns slot) (slice_index depths slot)
+pub column_is : (ops : List PlanOp) (columns : List Operand) (depths : List ℕ) (slot : ℕ) → AreAt ops columns depths
+    → IsAt ops (operand_at columns slot) (slice_index depths slot)
 column_is ops [] [] slot h = number_at ops 0
 column_is ops (o ∷ columns) (d ∷ depths) zero h = h.0
 column_is ops (o ∷ columns) (d ∷ depths) (suc slot) h = column_is ops columns depths slot h.1
 column_is ops [] (d ∷ depths) slot h = absurd h
 column_is ops (o ∷ columns) [] slot h = absurd h
 
-are_picked : (ops : List PlanOp) (columns : List Operand) (depths : List ℕ) (slots : List ℕ) → AreAt ops columns depths → AreAt ops (map (operand_at columns) slots) (values_at depths slots)
+are_picked : (ops : List PlanOp) (columns : List Operand) (depths : List ℕ) (slots : List ℕ) → AreAt ops columns depths
+    → AreAt ops (map (operand_at columns) slots) (values_at depths slots)
 are_picked ops columns depths [] h = tt
 are_picked ops columns depths (slot ∷ slots) h = (column_is ops columns depths slot h, are_picked ops columns depths slots h)
 
-are_append : (ops : List PlanOp) (xs ys : List Operand) (ds es : List ℕ) → AreAt ops xs ds → AreAt ops ys es → AreAt ops (xs ++ ys) (ds ++ es)
+are_append : (ops : List PlanOp) (xs ys : List Operand) (ds es : List ℕ) → AreAt ops xs ds → AreAt ops ys es
+    → AreAt ops (xs ++ ys) (ds ++ es)
 are_append ops [] ys [] es h k = k
 are_append ops (x ∷ xs) ys (d ∷ ds) es h k = (h.0, are_append ops xs ys ds es h.1 k)
 are_append ops [] ys (d ∷ ds) es h k = absurd h
@@ -105,7 +113,8 @@ pub record IsMade (ops : List PlanOp) (i : ℕ) (one : PlanOp) : Type 0 where
 pub record AreMade (ops : List PlanOp) : Type 0 where
   pub each : (i : ℕ) (one : PlanOp) → slice_get ops i ≡ Some one → IsMade ops i one
 
-made_more : (ops : List PlanOp) (op : operation.Operation) (left right : Operand) → AreMade ops → IsWithin (14 + length ops) left → IsWithin (14 + length ops) right →
+made_more : (ops : List PlanOp) (op : operation.Operation) (left right : Operand) → AreMade ops → IsWithin (14 + length ops) left
+    → IsWithin (14 + length ops) right →
     AreMade (ops ++ op_on ops op left right ∷ [])
 made_more ops op left right made l r = record {
   each = λ i one found. elim (push_cases ops new i one found) [
@@ -116,15 +125,20 @@ made_more ops op left right made l r = record {
           left = h.left;
           right = h.right;
           stage = h.stage
-              ∙ ap (λ s. stage_after s (operand_stage ops one.right)) (sym (same_stage ops (ops ++ new ∷ []) one.left (one_more ops new) (within_more (14 + i) (14 + length ops) one.left (omega arith) h.left)))
-              ∙ ap (λ s. stage_after (operand_stage (ops ++ new ∷ []) one.left) s) (sym (same_stage ops (ops ++ new ∷ []) one.right (one_more ops new) (within_more (14 + i) (14 + length ops) one.right (omega arith) h.right)));
+              ∙ ap (λ s. stage_after s (operand_stage ops one.right)) (sym
+              (same_stage ops (ops ++ new ∷ []) one.left (one_more ops new)
+              (within_more (14 + i) (14 + length ops) one.left (omega arith) h.left)))
+              ∙ ap (λ s. stage_after (operand_stage (ops ++ new ∷ []) one.left) s)
+              (sym (same_stage ops (ops ++ new ∷ []) one.right (one_more ops new)
+              (within_more (14 + i) (14 + length ops) one.right (omega arith) h.right)));
         }
     | inr last ↦ subst (IsMade (ops ++ new ∷ []) i) last.1 (subst (λ k. IsMade (ops ++ new ∷ []) k new) (sym last.0) (record {
       left = l;
       right = r;
       stage =
           ap (λ s. stage_after s (operand_stage ops right)) (sym (same_stage ops (ops ++ new ∷ []) left (one_more ops new) l))
-          ∙ ap (λ s. stage_after (operand_stage (ops ++ new ∷ []) left) s) (sym (same_stage ops (ops ++ new ∷ []) right (one_more ops new) r));
+          ∙ ap (λ s. stage_after (operand_stage (ops ++ new ∷ []) left) s)
+          (sym (same_stage ops (ops ++ new ∷ []) right (one_more ops new) r));
     }))
   ];
 }
@@ -151,12 +165,15 @@ added_then : (a b c : List PlanOp) (ds es : List ℕ) → Added a b ds → Added
 added_then a b c ds es p q = record {
   extends = and_more a b c p.extends q.extends;
   made = q.made;
-  stages_are = q.stages_are ∙ ap (λ l. l ++ capped es) p.stages_are ∙ append_assoc (stages a) (capped ds) (capped es) ∙ ap (λ l. stages a ++ l) (sym (map-append (λ depth. min 65 depth) ds es));
+  stages_are = q.stages_are ∙ ap (λ l. l ++ capped es) p.stages_are ∙ append_assoc (stages a) (capped ds) (capped es)
+      ∙ ap (λ l. stages a ++ l) (sym (map-append (λ depth. min 65 depth) ds es));
 }
 
-added_one : (ops : List PlanOp) (op : operation.Operation) (left right : Operand) (d e : ℕ) → AreMade ops → IsAt ops left d → IsAt ops right e → Added ops (ops ++ op_on ops op left right ∷ []) ((1 + max d e) ∷ [])
+added_one : (ops : List PlanOp) (op : operation.Operation) (left right : Operand) (d e : ℕ) → AreMade ops → IsAt ops left d
+    → IsAt ops right e → Added ops (ops ++ op_on ops op left right ∷ []) ((1 + max d e) ∷ [])
 added_one ops op left right d e made l r =
-    let stage : stage_after (operand_stage ops left) (operand_stage ops right) ≡ min 65 (1 + max d e) = (let a = l.stage in let b = r.stage in omega arith) in
+    let stage : stage_after (operand_stage ops left) (operand_stage ops right) ≡ min 65 (1 + max d e) =
+    (let a = l.stage in let b = r.stage in omega arith) in
     record {
       extends = one_more ops (op_on ops op left right);
       made = made_more ops op left right made l.within r.within;
@@ -168,7 +185,8 @@ last_at : (ops : List PlanOp) (op : operation.Operation) (left right : Operand) 
 last_at ops op left right d e l r = record {
   within = (let n = length_push ops (op_on ops op left right) in omega arith);
   stage =
-      stage_of_register (ops ++ op_on ops op left right ∷ []) (length ops) (op_on ops op left right) (slice_get-last ops (op_on ops op left right))
+      stage_of_register (ops ++ op_on ops op left right ∷ []) (length ops) (op_on ops op left right)
+      (slice_get-last ops (op_on ops op left right))
       ∙ (let a = l.stage in let b = r.stage in omega arith);
 }
 
@@ -177,7 +195,8 @@ pub record Compiles (ops : List PlanOp) (columns : List Operand) (depths : List 
   pub added : Added ops (compiled columns e ops).ops (term_depths depths e)
   pub value : IsAt (compiled columns e ops).ops (compiled columns e ops).value (term_depth depths e)
 
-compiles : (ops : List PlanOp) (columns : List Operand) (depths : List ℕ) (e : Term) → AreMade ops → AreAt ops columns depths → Compiles ops columns depths e
+compiles : (ops : List PlanOp) (columns : List Operand) (depths : List ℕ) (e : Term) → AreMade ops → AreAt ops columns depths
+    → Compiles ops columns depths e
 compiles ops columns depths (Literal n) made at = record { added = added_none ops made; value = number_at ops n }
 compiles ops columns depths (Read s) made at = record { added = added_none ops made; value = column_is ops columns depths s at }
 compiles ops columns depths (Negation e) made at =
@@ -186,20 +205,29 @@ compiles ops columns depths (Negation e) made at =
     let same : 1 + max (term_depth depths e) 0 ≡ 1 + term_depth depths e = omega arith in
     record {
       added = added_then ops more (compiled columns (Negation e) ops).ops (term_depths depths e) ((1 + term_depth depths e) ∷ []) c.added
-          (subst (λ d. Added more (compiled columns (Negation e) ops).ops (d ∷ [])) same (added_one more Not (compiled columns e ops).value (Number 0) (term_depth depths e) 0 c.added.made c.value (number_at more 0)));
-      value = subst (λ d. IsAt (compiled columns (Negation e) ops).ops (compiled columns (Negation e) ops).value d) same (last_at more Not (compiled columns e ops).value (Number 0) (term_depth depths e) 0 c.value (number_at more 0));
+          (subst (λ d. Added more (compiled columns (Negation e) ops).ops (d ∷ [])) same
+          (added_one more Not (compiled columns e ops).value (Number 0) (term_depth depths e) 0 c.added.made c.value
+          (number_at more 0)));
+      value = subst (λ d. IsAt (compiled columns (Negation e) ops).ops (compiled columns (Negation e) ops).value d) same
+          (last_at more Not (compiled columns e ops).value (Number 0) (term_depth depths e) 0 c.value (number_at more 0));
     }
 compiles ops columns depths (Operation op a b) made at =
     let c : Compiles ops columns depths a = compiles ops columns depths a made at in
     let more : List PlanOp = (compiled columns a ops).ops in
-    let d : Compiles more columns depths b = compiles more columns depths b c.added.made (are_more ops more columns depths c.added.extends at) in
+    let d : Compiles more columns depths b = compiles more columns depths b c.added.made
+    (are_more ops more columns depths c.added.extends at) in
     let most : List PlanOp = (compiled columns b more).ops in
-    let left : IsAt most (compiled columns a ops).value (term_depth depths a) = is_more more most (compiled columns a ops).value (term_depth depths a) d.added.extends c.value in
+    let left : IsAt most (compiled columns a ops).value (term_depth depths a) =
+    is_more more most (compiled columns a ops).value (term_depth depths a) d.added.extends c.value in
     record {
-      added = added_then ops more (compiled columns (Operation op a b) ops).ops (term_depths depths a) (term_depths depths b ++ (1 + max (term_depth depths a) (term_depth depths b)) ∷ []) c.added
-          (added_then more most (compiled columns (Operation op a b) ops).ops (term_depths depths b) ((1 + max (term_depth depths a) (term_depth depths b)) ∷ []) d.added
-          (added_one most (Two op) (compiled columns a ops).value (compiled columns b more).value (term_depth depths a) (term_depth depths b) d.added.made left d.value));
-      value = last_at most (Two op) (compiled columns a ops).value (compiled columns b more).value (term_depth depths a) (term_depth depths b) left d.value;
+      added = added_then ops more (compiled columns (Operation op a b) ops).ops (term_depths depths a)
+          (term_depths depths b ++ (1 + max (term_depth depths a) (term_depth depths b)) ∷ []) c.added
+          (added_then more most (compiled columns (Operation op a b) ops).ops (term_depths depths b)
+          ((1 + max (term_depth depths a) (term_depth depths b)) ∷ []) d.added
+          (added_one most (Two op) (compiled columns a ops).value (compiled columns b more).value (term_depth depths a)
+          (term_depth depths b) d.added.made left d.value));
+      value = last_at most (Two op) (compiled columns a ops).value (compiled columns b more).value (term_depth depths a)
+          (term_depth depths b) left d.value;
     }
 
 -- a stream's operands
@@ -207,25 +235,35 @@ pub record WiresAt (ops : List PlanOp) (wires : StreamWires) (depths : StreamDep
   pub present : IsAt ops wires.present depths.present
   pub columns : AreAt ops wires.columns depths.columns
 
-wires_more : (ops more : List PlanOp) (wires : StreamWires) (depths : StreamDepths) → Extends ops more → WiresAt ops wires depths → WiresAt more wires depths
-wires_more ops more wires depths e h = record { present = is_more ops more wires.present depths.present e h.present; columns = are_more ops more wires.columns depths.columns e h.columns }
+wires_more : (ops more : List PlanOp) (wires : StreamWires) (depths : StreamDepths) → Extends ops more → WiresAt ops wires depths
+    → WiresAt more wires depths
+wires_more ops more wires depths e h = record {
+  present = is_more ops more wires.present depths.present e h.present;
+  columns =
+      are_more ops more wires.columns depths.columns e h.columns;
+}
 
 -- what an operator adds
 pub record Makes (ops more : List PlanOp) (wires : StreamWires) (depths : StreamDepths) : Type 0 where
   pub added : Added ops more depths.operations
   pub wires_are : WiresAt more wires depths
 
-conditioned_makes : (ops : List PlanOp) (over : List Operand) (over_depths : List ℕ) (condition : Term) (present : Operand) (depth : ℕ) (columns : List Operand) (depths : List ℕ) →
+conditioned_makes : (ops : List PlanOp) (over : List Operand) (over_depths : List ℕ) (condition : Term) (present : Operand) (depth : ℕ)
+    (columns : List Operand) (depths : List ℕ) →
     AreMade ops → AreAt ops over over_depths → IsAt ops present depth → AreAt ops columns depths →
-    Makes ops (conditioned over condition ops present columns).ops (conditioned over condition ops present columns).wires (joined_depths over_depths condition depth depths)
+    Makes ops (conditioned over condition ops present columns).ops (conditioned over condition ops present columns).wires
+    (joined_depths over_depths condition depth depths)
 conditioned_makes ops over over_depths condition present depth columns depths made over_at present_at columns_at =
     let c : Compiles ops over over_depths condition = compiles ops over over_depths condition made over_at in
     let more : List PlanOp = (compiled over condition ops).ops in
     let value : Operand = (compiled over condition ops).value in
     let joined_at : IsAt more present depth = is_more ops more present depth c.added.extends present_at in
-    let last : Added more (more ++ op_on more (Two Both) present value ∷ []) ((1 + max depth (term_depth over_depths condition)) ∷ []) = added_one more (Two Both) present value depth (term_depth over_depths condition) c.added.made joined_at c.value in
-    let all : Added ops (more ++ op_on more (Two Both) present value ∷ []) (term_depths over_depths condition ++ (1 + max depth (term_depth over_depths condition)) ∷ []) =
-    added_then ops more (more ++ op_on more (Two Both) present value ∷ []) (term_depths over_depths condition) ((1 + max depth (term_depth over_depths condition)) ∷ []) c.added last
+    let last : Added more (more ++ op_on more (Two Both) present value ∷ []) ((1 + max depth (term_depth over_depths condition)) ∷ []) =
+    added_one more (Two Both) present value depth (term_depth over_depths condition) c.added.made joined_at c.value in
+    let all : Added ops (more ++ op_on more (Two Both) present value ∷ [])
+    (term_depths over_depths condition ++ (1 + max depth (term_depth over_depths condition)) ∷ []) =
+    added_then ops more (more ++ op_on more (Two Both) present value ∷ []) (term_depths over_depths condition)
+    ((1 + max depth (term_depth over_depths condition)) ∷ []) c.added last
     in
     record {
       added = all;
@@ -240,77 +278,109 @@ record MakesColumns (ops more : List PlanOp) (values : List Operand) (operations
   added : Added ops more operations
   values_at' : AreAt more values depths
 
-columns_make : (ops : List PlanOp) (columns : List Operand) (depths : List ℕ) (found : List Operand) (found_depths : List ℕ) (values : List TypedExpr) → AreMade ops → AreAt ops columns depths → AreAt ops found found_depths →
+columns_make : (ops : List PlanOp) (columns : List Operand) (depths : List ℕ) (found : List Operand) (found_depths : List ℕ)
+    (values : List TypedExpr) → AreMade ops → AreAt ops columns depths → AreAt ops found found_depths →
     MakesColumns ops (compiled_all columns found (map term_of values) ops).ops (compiled_all columns found (map term_of values) ops).values
     (flat_map (λ e. term_depths depths (term_of e)) values) (found_depths ++ map (λ e. term_depth depths (term_of e)) values)
-columns_make ops columns depths found found_depths [] made at found_at = record { added = added_none ops made; values_at' = subst (AreAt ops found) (sym (append-nil found_depths)) found_at }
+columns_make ops columns depths found found_depths [] made at found_at =
+    record { added = added_none ops made; values_at' = subst (AreAt ops found) (sym (append-nil found_depths)) found_at }
 columns_make ops columns depths found found_depths (e ∷ values) made at found_at =
     let c : Compiles ops columns depths (term_of e) = compiles ops columns depths (term_of e) made at in
     let more : List PlanOp = (compiled columns (term_of e) ops).ops in
     let value : Operand = (compiled columns (term_of e) ops).value in
-    let rest : MakesColumns more (compiled_all columns (found ++ value ∷ []) (map term_of values) more).ops (compiled_all columns (found ++ value ∷ []) (map term_of values) more).values
-    (flat_map (λ e. term_depths depths (term_of e)) values) ((found_depths ++ term_depth depths (term_of e) ∷ []) ++ map (λ e. term_depth depths (term_of e)) values) =
-    columns_make more columns depths (found ++ value ∷ []) (found_depths ++ term_depth depths (term_of e) ∷ []) values c.added.made (are_more ops more columns depths c.added.extends at)
-    (are_append more found (value ∷ []) found_depths (term_depth depths (term_of e) ∷ []) (are_more ops more found found_depths c.added.extends found_at) (c.value, tt))
+    let rest : MakesColumns more (compiled_all columns (found ++ value ∷ []) (map term_of values) more).ops
+    (compiled_all columns (found ++ value ∷ []) (map term_of values) more).values
+    (flat_map (λ e. term_depths depths (term_of e)) values) ((found_depths ++ term_depth depths (term_of e) ∷ [])
+    ++ map (λ e. term_depth depths (term_of e)) values) =
+    columns_make more columns depths (found ++ value ∷ []) (found_depths ++ term_depth depths (term_of e) ∷ []) values c.added.made
+    (are_more ops more columns depths c.added.extends at)
+    (are_append more found (value ∷ []) found_depths (term_depth depths (term_of e) ∷ [])
+    (are_more ops more found found_depths c.added.extends found_at) (c.value, tt))
     in
     record {
-      added = added_then ops more (compiled_all columns found (map term_of (e ∷ values)) ops).ops (term_depths depths (term_of e)) (flat_map (λ e. term_depths depths (term_of e)) values) c.added rest.added;
-      values_at' = subst (AreAt (compiled_all columns found (map term_of (e ∷ values)) ops).ops (compiled_all columns found (map term_of (e ∷ values)) ops).values)
-          (append_assoc found_depths (term_depth depths (term_of e) ∷ []) (map (λ e. term_depth depths (term_of e)) values)) rest.values_at';
+      added = added_then ops more (compiled_all columns found (map term_of (e ∷ values)) ops).ops (term_depths depths (term_of e))
+          (flat_map (λ e. term_depths depths (term_of e)) values) c.added rest.added;
+      values_at' = subst (AreAt (compiled_all columns found (map term_of (e ∷ values)) ops).ops
+          (compiled_all columns found (map term_of (e ∷ values)) ops).values)
+          (append_assoc found_depths (term_depth depths (term_of e) ∷ []) (map (λ e. term_depth depths (term_of e)) values))
+          rest.values_at';
     }
 
-emit_makes : (ops : List PlanOp) (o : Option TypedExpr) (initial : List ℕ) (source : StreamWires) (depths : StreamDepths) (keys args : List ℕ) → AreMade ops → WiresAt ops source depths →
-    Makes ops (emitted o (emit_columns initial source.columns args) source (map (operand_at source.columns) keys) ops).ops (emitted o (emit_columns initial source.columns args) source (map (operand_at source.columns) keys) ops).wires
+emit_makes : (ops : List PlanOp) (o : Option TypedExpr) (initial : List ℕ) (source : StreamWires) (depths : StreamDepths)
+    (keys args : List ℕ) → AreMade ops → WiresAt ops source depths →
+    Makes ops (emitted o (emit_columns initial source.columns args) source (map (operand_at source.columns) keys) ops).ops
+    (emitted o (emit_columns initial source.columns args) source (map (operand_at source.columns) keys) ops).wires
     (emit_depths o (length initial) (values_at depths.columns args) depths.present (values_at depths.columns keys))
-emit_makes ops None initial source depths keys args made at = record { added = added_none ops made; wires_are = record { present = number_at ops 0; columns = are_picked ops source.columns depths.columns keys at.columns } }
+emit_makes ops None initial source depths keys args made at = record {
+  added = added_none ops made;
+  wires_are =
+      record { present = number_at ops 0; columns = are_picked ops source.columns depths.columns keys at.columns };
+}
 emit_makes ops (Some condition) initial source depths keys args made at =
-    conditioned_makes ops (emit_columns initial source.columns args) (replicate (length initial) 0 ++ values_at depths.columns args) (term_of condition) source.present depths.present
+    conditioned_makes ops (emit_columns initial source.columns args) (replicate (length initial) 0 ++ values_at depths.columns args)
+    (term_of condition) source.present depths.present
     (map (operand_at source.columns) keys) (values_at depths.columns keys) made
-    (are_append ops (map Number initial) (map (operand_at source.columns) args) (replicate (length initial) 0) (values_at depths.columns args) (are_numbers ops initial) (are_picked ops source.columns depths.columns args at.columns))
+    (are_append ops (map Number initial) (map (operand_at source.columns) args) (replicate (length initial) 0)
+    (values_at depths.columns args) (are_numbers ops initial) (are_picked ops source.columns depths.columns args at.columns))
     at.present (are_picked ops source.columns depths.columns keys at.columns)
 
-group_makes : (ops : List PlanOp) (o : Option TypedFold) (source : StreamWires) (depths : StreamDepths) (keys args : List ℕ) → AreMade ops → WiresAt ops source depths →
+group_makes : (ops : List PlanOp) (o : Option TypedFold) (source : StreamWires) (depths : StreamDepths) (keys args : List ℕ) → AreMade ops
+    → WiresAt ops source depths →
     Makes ops (grouped o source keys args ops).ops (grouped o source keys args ops).wires (group_depths o depths keys args)
-group_makes ops None source depths keys args made at = record { added = added_none ops made; wires_are = record { present = number_at ops 0; columns = are_picked ops source.columns depths.columns keys at.columns } }
+group_makes ops None source depths keys args made at = record {
+  added = added_none ops made;
+  wires_are =
+      record { present = number_at ops 0; columns = are_picked ops source.columns depths.columns keys at.columns };
+}
 group_makes ops (Some f) source depths keys args made at = emit_makes ops f.emit f.initial source depths keys args made at
 
 abbrev pub AllAt : List PlanOp → List StreamWires → List StreamDepths → Type 0
 AllAt ops streams depths = (j : ℕ) → WiresAt ops (wires_at streams j) (depths_at depths j)
 
-pub op_makes : (folds : List TypedFold) (ops : List PlanOp) (streams : List StreamWires) (depths : List StreamDepths) (op : TypedOp) → AreMade ops → AllAt ops streams depths →
+pub op_makes : (folds : List TypedFold) (ops : List PlanOp) (streams : List StreamWires) (depths : List StreamDepths) (op : TypedOp)
+    → AreMade ops → AllAt ops streams depths →
     Makes ops (made_by folds streams op ops).ops (made_by folds streams op ops).wires (depths_made folds depths op)
 op_makes folds ops streams depths (Filter input condition) made at =
-    conditioned_makes ops (wires_at streams input).columns (depths_at depths input).columns (term_of condition) (wires_at streams input).present (depths_at depths input).present
+    conditioned_makes ops (wires_at streams input).columns (depths_at depths input).columns (term_of condition)
+    (wires_at streams input).present (depths_at depths input).present
     (wires_at streams input).columns (depths_at depths input).columns made (at input).columns (at input).present (at input).columns
 op_makes folds ops streams depths (Map input values) made at =
-    let c = columns_make ops (wires_at streams input).columns (depths_at depths input).columns (wires_at streams input).columns (depths_at depths input).columns values made (at input).columns (at input).columns in
+    let c = columns_make ops (wires_at streams input).columns (depths_at depths input).columns (wires_at streams input).columns
+    (depths_at depths input).columns values made (at input).columns (at input).columns in
     record {
       added = c.added;
       wires_are = record {
-        present = is_more ops (made_by folds streams (Map input values) ops).ops (wires_at streams input).present (depths_at depths input).present c.added.extends (at input).present;
+        present = is_more ops (made_by folds streams (Map input values) ops).ops (wires_at streams input).present
+            (depths_at depths input).present c.added.extends (at input).present;
         columns = c.values_at';
       };
     }
 op_makes folds ops streams depths (Zip left right slots) made at =
     let l = (at left).present in
     let r = (at right).present in
-    let last = added_one ops (Two Both) (wires_at streams left).present (wires_at streams right).present (depths_at depths left).present (depths_at depths right).present made l r in
+    let last = added_one ops (Two Both) (wires_at streams left).present (wires_at streams right).present (depths_at depths left).present
+    (depths_at depths right).present made l r in
     record {
       added = last;
       wires_are = record {
-        present = last_at ops (Two Both) (wires_at streams left).present (wires_at streams right).present (depths_at depths left).present (depths_at depths right).present l r;
-        columns = are_more ops (made_by folds streams (Zip left right slots) ops).ops ((wires_at streams left).columns ++ map (operand_at (wires_at streams right).columns) slots)
+        present = last_at ops (Two Both) (wires_at streams left).present (wires_at streams right).present (depths_at depths left).present
+            (depths_at depths right).present l r;
+        columns = are_more ops (made_by folds streams (Zip left right slots) ops).ops
+            ((wires_at streams left).columns ++ map (operand_at (wires_at streams right).columns) slots)
             ((depths_at depths left).columns ++ values_at (depths_at depths right).columns slots) last.extends
-            (are_append ops (wires_at streams left).columns (map (operand_at (wires_at streams right).columns) slots) (depths_at depths left).columns (values_at (depths_at depths right).columns slots)
+            (are_append ops (wires_at streams left).columns (map (operand_at (wires_at streams right).columns) slots)
+            (depths_at depths left).columns (values_at (depths_at depths right).columns slots)
             (at left).columns (are_picked ops (wires_at streams right).columns (depths_at depths right).columns slots (at right).columns));
       };
     }
-op_makes folds ops streams depths (Group input keys f args) made at = group_makes ops (slice_get folds f) (wires_at streams input) (depths_at depths input) keys args made (at input)
+op_makes folds ops streams depths (Group input keys f args) made at = group_makes ops (slice_get folds f) (wires_at streams input)
+    (depths_at depths input) keys args made (at input)
 
 -- the depths of the streams that follow others
 abbrev pub depths_after : List TypedFold → List StreamDepths → List TypedStream → List StreamDepths
 depths_after folds depths [] = []
-depths_after folds depths (one ∷ list) = depths_made folds depths one.op ∷ depths_after folds (depths ++ depths_made folds depths one.op ∷ []) list
+depths_after folds depths (one ∷ list) = depths_made folds depths one.op
+    ∷ depths_after folds (depths ++ depths_made folds depths one.op ∷ []) list
 
 folded_after : (folds : List TypedFold) (depths : List StreamDepths) (list : List TypedStream) →
     fold (λ streams one. streams ++ depths_made folds streams one.op ∷ []) depths list ≡ depths ++ depths_after folds depths list
@@ -322,14 +392,17 @@ folded_after folds depths (one ∷ list) =
 pub depths_are : (q : TypedQuery) → all_depths q ≡ packet_depths ∷ depths_after q.folds (packet_depths ∷ []) q.streams
 depths_are q = folded_after q.folds (packet_depths ∷ []) q.streams
 
-pub all_more : (ops more : List PlanOp) (streams : List StreamWires) (depths : List StreamDepths) (wires : StreamWires) (d : StreamDepths) → length streams ≡ length depths → Extends ops more → AllAt ops streams depths →
+pub all_more : (ops more : List PlanOp) (streams : List StreamWires) (depths : List StreamDepths) (wires : StreamWires) (d : StreamDepths)
+    → length streams ≡ length depths → Extends ops more → AllAt ops streams depths →
     WiresAt more wires d → AllAt more (streams ++ wires ∷ []) (depths ++ d ∷ [])
 all_more ops more streams depths wires d long e at new = λ j. elim (cases_lt j (length streams)) [
-  | inl lt ↦ place j (wires_at streams j) (depths_at depths j) (at_earlier streams wires none j lt) (at_earlier depths d no_depths j (omega arith)) (wires_more ops more (wires_at streams j) (depths_at depths j) e (at j))
+  | inl lt ↦ place j (wires_at streams j) (depths_at depths j) (at_earlier streams wires none j lt)
+      (at_earlier depths d no_depths j (omega arith)) (wires_more ops more (wires_at streams j) (depths_at depths j) e (at j))
   | inr le ↦ elim (cases_eq j (length streams)) [
     | inl here ↦ place j wires d (at_last streams wires none j here) (at_last depths d no_depths j (here ∙ long)) new
     | inr past ↦
-        place j none no_depths (at_past (streams ++ wires ∷ []) none j (let l = length_push streams wires in omega arith)) (at_past (depths ++ d ∷ []) no_depths j (let l = length_push depths d in omega arith))
+        place j none no_depths (at_past (streams ++ wires ∷ []) none j (let l = length_push streams wires in omega arith))
+        (at_past (depths ++ d ∷ []) no_depths j (let l = length_push depths d in omega arith))
         (record { present = number_at more 0; columns = tt })
   ]
 ]
@@ -340,15 +413,19 @@ all_more ops more streams depths wires d long e at new = λ j. elim (cases_lt j 
     no_depths : StreamDepths
     no_depths = record { operations = []; present = 0; columns = [] }
 
-    place : (j : ℕ) (w : StreamWires) (s : StreamDepths) → wires_at (streams ++ wires ∷ []) j ≡ w → depths_at (depths ++ d ∷ []) j ≡ s → WiresAt more w s → WiresAt more (wires_at (streams ++ wires ∷ []) j) (depths_at (depths ++ d ∷ []) j)
+    place : (j : ℕ) (w : StreamWires) (s : StreamDepths) → wires_at (streams ++ wires ∷ []) j ≡ w → depths_at (depths ++ d ∷ []) j ≡ s
+        → WiresAt more w s → WiresAt more (wires_at (streams ++ wires ∷ []) j) (depths_at (depths ++ d ∷ []) j)
     place j w s p q h = subst (λ x. WiresAt more x (depths_at (depths ++ d ∷ []) j)) (sym p) (subst (WiresAt more w) (sym q) h)
 
 -- all operations of streams, whose wires are somewhere
-pub record AllMakes (folds : List TypedFold) (ops : List PlanOp) (streams : List StreamWires) (depths : List StreamDepths) (list : List TypedStream) : Type 0 where
+pub record AllMakes (folds : List TypedFold) (ops : List PlanOp) (streams : List StreamWires) (depths : List StreamDepths)
+    (list : List TypedStream) : Type 0 where
   pub added : Added ops (all_made folds ops streams list).ops (flat_map (λ d. d.operations) (depths_after folds depths list))
-  pub within : (j : ℕ) → (d : StreamDepths) × WiresAt (all_made folds ops streams list).ops (wires_at (all_made folds ops streams list).streams j) d
+  pub within : (j : ℕ) → (d : StreamDepths) × WiresAt (all_made folds ops streams list).ops
+      (wires_at (all_made folds ops streams list).streams j) d
 
-pub all_make : (folds : List TypedFold) (ops : List PlanOp) (streams : List StreamWires) (depths : List StreamDepths) (list : List TypedStream) → AreMade ops → length streams ≡ length depths → AllAt ops streams depths →
+pub all_make : (folds : List TypedFold) (ops : List PlanOp) (streams : List StreamWires) (depths : List StreamDepths)
+    (list : List TypedStream) → AreMade ops → length streams ≡ length depths → AllAt ops streams depths →
     AllMakes folds ops streams depths list
 all_make folds ops streams depths [] made long at = record { added = added_none ops made; within = λ j. (depths_at depths j, at j) }
 all_make folds ops streams depths (one ∷ list) made long at =
@@ -357,9 +434,12 @@ all_make folds ops streams depths (one ∷ list) made long at =
     let wires : StreamWires = (made_by folds streams one.op ops).wires in
     let m : Makes ops more wires d = op_makes folds ops streams depths one.op made at in
     let rest : AllMakes folds more (streams ++ wires ∷ []) (depths ++ d ∷ []) list =
-    all_make folds more (streams ++ wires ∷ []) (depths ++ d ∷ []) list m.added.made (length_push streams wires ∙ ap (λ n. n + 1) long ∙ sym (length_push depths d)) (all_more ops more streams depths wires d long m.added.extends at m.wires_are)
+    all_make folds more (streams ++ wires ∷ []) (depths ++ d ∷ []) list m.added.made
+    (length_push streams wires ∙ ap (λ n. n + 1) long ∙ sym (length_push depths d))
+    (all_more ops more streams depths wires d long m.added.extends at m.wires_are)
     in
     record {
-      added = added_then ops more (all_made folds ops streams (one ∷ list)).ops d.operations (flat_map (λ d. d.operations) (depths_after folds (depths ++ d ∷ []) list)) m.added rest.added;
+      added = added_then ops more (all_made folds ops streams (one ∷ list)).ops d.operations
+          (flat_map (λ d. d.operations) (depths_after folds (depths ++ d ∷ []) list)) m.added rest.added;
       within = rest.within;
     }

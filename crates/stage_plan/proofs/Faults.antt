@@ -1,5 +1,6 @@
 -- A query is too deep exactly where an operation that is made for it is, and else the stages are its depths.
-use Rattle.std.proofs.Common.{◌≡◌, ℕ, zero, suc, ◌+◌, ◌-◌, ◌<◌, ◌≤◌, min, Bool, true, false, cond, List, [], ◌∷◌, ◌++◌, length, drop, Some, None, refl, sym, ap, subst, ◌∙◌, inl, inr, arith, lit<}
+use Rattle.std.proofs.Common.{◌≡◌, ℕ, zero, suc, ◌+◌, ◌-◌, ◌<◌, ◌≤◌, min, Bool, true, false, cond, List, [], ◌∷◌, ◌++◌, length, drop, Some}
+use Rattle.std.proofs.Common.{None, refl, sym, ap, subst, ◌∙◌, inl, inr, arith, lit<}
 use Rattle.std.specs.Prelude.{flat_map, nat_lt, ◌||◌, slice_get, option_map, unwrap_or, if◌then◌else◌}
 use Rattle.std.specs.List.{list_any}
 use Rattle.std.proofs.lemmas.Bool.{cases_lt}
@@ -15,9 +16,11 @@ use Rattle.query_lang.specs.declared.typed.TypedStream.{TypedStream}
 use Rattle.stage_plan.specs.declared.op.Operand.TheVariants.{Register}
 use Rattle.stage_plan.specs.declared.op.PlanOp.{PlanOp}
 use Rattle.stage_plan.specs.declared.wires.StreamWires.{StreamWires}
-use Rattle.stage_plan.specs.Depths.{StreamDepths, packet_depths, depths_at, depths_made, query_depths, is_too_deep, first_too_deep, stage_fault}
+use Rattle.stage_plan.specs.Depths.{StreamDepths, packet_depths, depths_at, depths_made, query_depths, is_too_deep, first_too_deep}
+use Rattle.stage_plan.specs.Depths.{stage_fault}
 use Rattle.stage_plan.specs.Making.{wires_at, packet_wires, made_by, all_made, are_deep, made_fault}
-use Rattle.stage_plan.proofs.Deep.{IsAt, number_at, AreMade, capped, stages, Added, WiresAt, Makes, AllAt, op_makes, depths_after, depths_are, all_more, AllMakes, all_make}
+use Rattle.stage_plan.proofs.Deep.{IsAt, number_at, AreMade, capped, stages, Added, WiresAt, Makes, AllAt, op_makes, depths_after}
+use Rattle.stage_plan.proofs.Deep.{depths_are, all_more, AllMakes, all_make}
 
 -- where an operation is too deep, some depth is
 deep_stages : (ops : List PlanOp) → are_deep ops ≡ list_any (λ s. nat_lt 64 s) (stages ops)
@@ -26,20 +29,24 @@ deep_stages (one ∷ ops) = ap (λ b. nat_lt 64 one.stage || b) (deep_stages ops
 
 deep_one : (d : ℕ) → nat_lt 64 (min 65 d) ≡ nat_lt 64 d
 deep_one d = elim (cases_lt 64 d) [
-  | inl lt ↦ (let a : nat_lt 64 (min 65 d) ≡ true = (let m : 64 < min 65 d = omega arith in grind (arith, nat_tests)) in let b : nat_lt 64 d ≡ true = grind (arith, nat_tests) in a ∙ sym b)
-  | inr le ↦ (let a : nat_lt 64 (min 65 d) ≡ false = (let m : min 65 d ≤ 64 = omega arith in grind (arith, nat_tests)) in let b : nat_lt 64 d ≡ false = grind (arith, nat_tests) in a ∙ sym b)
+  | inl lt ↦ (let a : nat_lt 64 (min 65 d) ≡ true = (let m : 64 < min 65 d = omega arith in grind (arith, nat_tests)) in let b : nat_lt 64 d
+      ≡ true = grind (arith, nat_tests) in a ∙ sym b)
+  | inr le ↦ (let a : nat_lt 64 (min 65 d) ≡ false = (let m : min 65 d ≤ 64 = omega arith in grind (arith, nat_tests)) in let b : nat_lt 64
+      d ≡ false = grind (arith, nat_tests) in a ∙ sym b)
 ]
 
 deep_capped : (depths : List ℕ) → list_any (λ s. nat_lt 64 s) (capped depths) ≡ is_too_deep depths
 deep_capped [] = refl
-deep_capped (d ∷ depths) = ap (λ b. b || list_any (λ s. nat_lt 64 s) (capped depths)) (deep_one d) ∙ ap (λ b. nat_lt 64 d || b) (deep_capped depths)
+deep_capped (d ∷ depths) = ap (λ b. b || list_any (λ s. nat_lt 64 s) (capped depths)) (deep_one d)
+    ∙ ap (λ b. nat_lt 64 d || b) (deep_capped depths)
 
 added_deep : (ops more : List PlanOp) (depths : List ℕ) → Added ops more depths → are_deep ops ≡ false → are_deep more ≡ is_too_deep depths
 added_deep ops more depths a none =
     deep_stages more ∙ ap (list_any (λ s. nat_lt 64 s)) a.stages_are ∙ list_any-append (λ s. nat_lt 64 s) (stages ops) (capped depths)
     ∙ ap (λ b. b || list_any (λ s. nat_lt 64 s) (capped depths)) (sym (deep_stages ops) ∙ none) ∙ deep_capped depths
 
-pub faults_are : (folds : List TypedFold) (ops : List PlanOp) (streams : List StreamWires) (depths : List StreamDepths) (list : List TypedStream) → AreMade ops → length streams ≡ length depths → AllAt ops streams depths →
+pub faults_are : (folds : List TypedFold) (ops : List PlanOp) (streams : List StreamWires) (depths : List StreamDepths)
+    (list : List TypedStream) → AreMade ops → length streams ≡ length depths → AllAt ops streams depths →
     are_deep ops ≡ false → made_fault folds ops streams list ≡ first_too_deep list (depths_after folds depths list)
 faults_are folds ops streams depths [] made long at none = refl
 faults_are folds ops streams depths (one ∷ list) made long at none =
@@ -48,30 +55,48 @@ faults_are folds ops streams depths (one ∷ list) made long at none =
     let wires : StreamWires = (made_by folds streams one.op ops).wires in
     let m : Makes ops more wires d = op_makes folds ops streams depths one.op made at in
     go (are_deep more) refl (added_deep ops more d.operations m.added none)
-    (λ none. faults_are folds more (streams ++ wires ∷ []) (depths ++ d ∷ []) list m.added.made (length_push streams wires ∙ ap (λ n. n + 1) long ∙ sym (length_push depths d)) (all_more ops more streams depths wires d long m.added.extends at m.wires_are) none)
+    (λ none. faults_are folds more (streams ++ wires ∷ []) (depths ++ d ∷ []) list m.added.made
+    (length_push streams wires ∙ ap (λ n. n + 1) long ∙ sym (length_push depths d))
+    (all_more ops more streams depths wires d long m.added.extends at m.wires_are) none)
   where
-    go : (b : Bool) → are_deep (made_by folds streams one.op ops).ops ≡ b → are_deep (made_by folds streams one.op ops).ops ≡ is_too_deep (depths_made folds depths one.op).operations →
-        (are_deep (made_by folds streams one.op ops).ops ≡ false → made_fault folds (made_by folds streams one.op ops).ops (streams ++ (made_by folds streams one.op ops).wires ∷ []) list ≡ first_too_deep list (depths_after folds (depths ++ depths_made folds depths one.op ∷ []) list)) →
+    go : (b : Bool) → are_deep (made_by folds streams one.op ops).ops ≡ b
+        → are_deep (made_by folds streams one.op ops).ops ≡ is_too_deep (depths_made folds depths one.op).operations →
+        (are_deep (made_by folds streams one.op ops).ops ≡ false → made_fault folds (made_by folds streams one.op ops).ops
+        (streams ++ (made_by folds streams one.op ops).wires ∷ []) list ≡ first_too_deep list
+        (depths_after folds (depths ++ depths_made folds depths one.op ∷ []) list)) →
         made_fault folds ops streams (one ∷ list) ≡ first_too_deep (one ∷ list) (depths_after folds depths (one ∷ list))
     go true is same rest =
-        ap (λ b. cond b (Some (record { kind = OverLimit Stages; span = one.name.span })) (made_fault folds (made_by folds streams one.op ops).ops (streams ++ (made_by folds streams one.op ops).wires ∷ []) list)) is
-        ∙ ap (λ b. cond b (Some (record { kind = OverLimit Stages; span = one.name.span })) (first_too_deep list (depths_after folds (depths ++ depths_made folds depths one.op ∷ []) list))) (sym is ∙ same)
+        ap (λ b. cond b (Some (record { kind = OverLimit Stages; span = one.name.span }))
+        (made_fault folds (made_by folds streams one.op ops).ops (streams ++ (made_by folds streams one.op ops).wires ∷ []) list)) is
+        ∙ ap (λ b. cond b (Some (record { kind = OverLimit Stages; span = one.name.span }))
+        (first_too_deep list (depths_after folds (depths ++ depths_made folds depths one.op ∷ []) list))) (sym is ∙ same)
     go false is same rest =
-        ap (λ b. cond b (Some (record { kind = OverLimit Stages; span = one.name.span })) (made_fault folds (made_by folds streams one.op ops).ops (streams ++ (made_by folds streams one.op ops).wires ∷ []) list)) is
+        ap (λ b. cond b (Some (record { kind = OverLimit Stages; span = one.name.span }))
+        (made_fault folds (made_by folds streams one.op ops).ops (streams ++ (made_by folds streams one.op ops).wires ∷ []) list)) is
         ∙ rest is
-        ∙ ap (λ b. cond b (Some (record { kind = OverLimit Stages; span = one.name.span })) (first_too_deep list (depths_after folds (depths ++ depths_made folds depths one.op ∷ []) list))) (sym is ∙ same)
+        ∙ ap (λ b. cond b (Some (record { kind = OverLimit Stages; span = one.name.span }))
+        (first_too_deep list (depths_after folds (depths ++ depths_made folds depths one.op ∷ []) list))) (sym is ∙ same)
 
-no_deep : (folds : List TypedFold) (ops : List PlanOp) (streams : List StreamWires) (list : List TypedStream) → are_deep ops ≡ false → made_fault folds ops streams list ≡ None → are_deep (all_made folds ops streams list).ops ≡ false
+no_deep : (folds : List TypedFold) (ops : List PlanOp) (streams : List StreamWires) (list : List TypedStream) → are_deep ops ≡ false
+    → made_fault folds ops streams list ≡ None → are_deep (all_made folds ops streams list).ops ≡ false
 no_deep folds ops streams [] none e = none
-no_deep folds ops streams (one ∷ list) none e = go (are_deep (made_by folds streams one.op ops).ops) refl (no_deep folds (made_by folds streams one.op ops).ops (streams ++ (made_by folds streams one.op ops).wires ∷ []) list)
+no_deep folds ops streams (one ∷ list) none e = go (are_deep (made_by folds streams one.op ops).ops) refl
+    (no_deep folds (made_by folds streams one.op ops).ops (streams ++ (made_by folds streams one.op ops).wires ∷ []) list)
   where
     go : (b : Bool) → are_deep (made_by folds streams one.op ops).ops ≡ b →
-        (are_deep (made_by folds streams one.op ops).ops ≡ false → made_fault folds (made_by folds streams one.op ops).ops (streams ++ (made_by folds streams one.op ops).wires ∷ []) list ≡ None → are_deep (all_made folds ops streams (one ∷ list)).ops ≡ false) →
+        (are_deep (made_by folds streams one.op ops).ops ≡ false → made_fault folds (made_by folds streams one.op ops).ops
+        (streams ++ (made_by folds streams one.op ops).wires ∷ []) list ≡ None
+        → are_deep (all_made folds ops streams (one ∷ list)).ops ≡ false) →
         are_deep (all_made folds ops streams (one ∷ list)).ops ≡ false
     go true is rest =
-        let fault : QueryFault = record { kind = OverLimit Stages; span = one.name.span } in let f : Some fault ≡ None = sym (ap (λ b. cond b (Some (record { kind = OverLimit Stages; span = one.name.span })) (made_fault folds (made_by folds streams one.op ops).ops (streams ++ (made_by folds streams one.op ops).wires ∷ []) list)) is) ∙ e in cc
+        let fault : QueryFault = record { kind = OverLimit Stages; span = one.name.span } in let f : Some fault ≡ None =
+        sym (ap (λ b. cond b (Some (record { kind = OverLimit Stages; span = one.name.span }))
+        (made_fault folds (made_by folds streams one.op ops).ops (streams ++ (made_by folds streams one.op ops).wires ∷ []) list)) is)
+        ∙ e in cc
     go false is rest =
-        rest is (sym (ap (λ b. cond b (Some (record { kind = OverLimit Stages; span = one.name.span })) (made_fault folds (made_by folds streams one.op ops).ops (streams ++ (made_by folds streams one.op ops).wires ∷ []) list)) is) ∙ e)
+        rest is (sym (ap (λ b. cond b (Some (record { kind = OverLimit Stages; span = one.name.span }))
+        (made_fault folds (made_by folds streams one.op ops).ops (streams ++ (made_by folds streams one.op ops).wires ∷ []) list)) is)
+        ∙ e)
 
 field_at : (k : ℕ) → k < 14 → IsAt [] (Register k) 0
 field_at k lt =
@@ -85,7 +110,43 @@ field_at k lt =
 packets_at : (j : ℕ) → WiresAt [] (wires_at (packet_wires ∷ []) j) (depths_at (packet_depths ∷ []) j)
 packets_at zero = record {
   present = number_at [] 1;
-  columns = (field_at 0 (lit< tt), (field_at 1 (lit< tt), (field_at 2 (lit< tt), (field_at 3 (lit< tt), (field_at 4 (lit< tt), (field_at 5 (lit< tt), (field_at 6 (lit< tt), (field_at 7 (lit< tt), (field_at 8 (lit< tt), (field_at 9 (lit< tt), (field_at 10 (lit< tt), (field_at 11 (lit< tt), (field_at 12 (lit< tt), (field_at 13 (lit< tt), tt))))))))))))));
+  columns = (
+    field_at 0 (lit< tt),
+    (
+      field_at 1 (lit< tt),
+      (
+        field_at 2 (lit< tt),
+        (
+          field_at 3 (lit< tt),
+          (
+            field_at 4 (lit< tt),
+            (
+              field_at 5 (lit< tt),
+              (
+                field_at 6 (lit< tt),
+                (
+                  field_at 7 (lit< tt),
+                  (
+                    field_at 8 (lit< tt),
+                    (
+                      field_at 9 (lit< tt),
+                      (
+                        field_at 10 (lit< tt),
+                        (
+                          field_at 11 (lit< tt),
+                          (field_at 12 (lit< tt), (field_at 13 (lit< tt), tt)),
+                        ),
+                      ),
+                    ),
+                  ),
+                ),
+              ),
+            ),
+          ),
+        ),
+      ),
+    ),
+  );
 }
 packets_at (suc j) = record { present = number_at [] 0; columns = tt }
 
@@ -96,7 +157,8 @@ capped_none : (depths : List ℕ) → list_any (λ s. nat_lt 64 s) (capped depth
 capped_none [] e = refl
 capped_none (d ∷ depths) e = go (nat_lt 64 (min 65 d)) refl (capped_none depths)
   where
-    go : (b : Bool) → nat_lt 64 (min 65 d) ≡ b → (list_any (λ s. nat_lt 64 s) (capped depths) ≡ false → capped depths ≡ depths) → capped (d ∷ depths) ≡ d ∷ depths
+    go : (b : Bool) → nat_lt 64 (min 65 d) ≡ b → (list_any (λ s. nat_lt 64 s) (capped depths) ≡ false → capped depths ≡ depths)
+        → capped (d ∷ depths) ≡ d ∷ depths
     go true is rest =
         let f : true ≡ false = sym (ap (λ b. b || list_any (λ s. nat_lt 64 s) (capped depths)) is) ∙ e in cc
     go false is rest =
@@ -116,13 +178,17 @@ query_fault q =
     faults_are q.folds [] (packet_wires ∷ []) (packet_depths ∷ []) q.streams made_none refl packets_at refl
     ∙ sym (ap (λ l. first_too_deep q.streams (drop 1 l)) (depths_are q))
 
-pub query_made : (q : TypedQuery) (ops : List PlanOp) (streams : List StreamWires) → ops ≡ (all_made q.folds [] (packet_wires ∷ []) q.streams).ops → streams ≡ (all_made q.folds [] (packet_wires ∷ []) q.streams).streams →
+pub query_made : (q : TypedQuery) (ops : List PlanOp) (streams : List StreamWires)
+    → ops ≡ (all_made q.folds [] (packet_wires ∷ []) q.streams).ops → streams ≡ (all_made q.folds [] (packet_wires ∷ []) q.streams).streams
+    →
     made_fault q.folds [] (packet_wires ∷ []) q.streams ≡ None → QueryMade q ops streams
 query_made q ops streams e f fits =
-    subst (λ o. QueryMade q o streams) (sym e) (subst (QueryMade q (all_made q.folds [] (packet_wires ∷ []) q.streams).ops) (sym f) (record {
+    subst (λ o. QueryMade q o streams) (sym e) (subst (QueryMade q (all_made q.folds [] (packet_wires ∷ []) q.streams).ops) (sym f)
+    (record {
       made = all.added.made;
       within = all.within;
-      stages_are = capped_are ∙ capped_none (query_depths q) (ap (list_any (λ s. nat_lt 64 s)) (sym capped_are) ∙ sym (deep_stages (all_made q.folds [] (packet_wires ∷ []) q.streams).ops) ∙ shallow);
+      stages_are = capped_are ∙ capped_none (query_depths q) (ap (list_any (λ s. nat_lt 64 s)) (sym capped_are)
+          ∙ sym (deep_stages (all_made q.folds [] (packet_wires ∷ []) q.streams).ops) ∙ shallow);
       none = shallow;
     }))
   where

@@ -1,5 +1,6 @@
 -- No placement of sound operations has fewer stages than they have.
-use Rattle.std.proofs.Common.{◌≡◌, ℕ, zero, suc, ◌+◌, ◌-◌, ◌<◌, ◌≤◌, max, true, false, List, [], ◌∷◌, length, get_or, Some, Option, refl, sym, ap, subst, ◌∙◌, inl, inr, arith}
+use Rattle.std.proofs.Common.{◌≡◌, ℕ, zero, suc, ◌+◌, ◌-◌, ◌<◌, ◌≤◌, max, true, false, List, [], ◌∷◌, length, get_or, Some, Option, refl}
+use Rattle.std.proofs.Common.{sym, ap, subst, ◌∙◌, inl, inr, arith}
 use Rattle.std.specs.Prelude.{map, nat_lt, slice_get, slice_index, option_map, unwrap_or, if◌then◌else◌}
 use Rattle.std.proofs.lemmas.Bool.{cases_lt}
 use Rattle.std.proofs.lemmas.Bool.Decides.{nat_tests}
@@ -28,12 +29,14 @@ greatest_above (s ∷ stages) (suc i) = omega (arith, greatest_above stages i)
 module _ (ops : List PlanOp) (stages : List ℕ) (p : IsPlacement ops stages) where
   waits : (i bound : ℕ) (o : Operand) → i ≤ bound → 0 < slice_index stages i → IsWithin (14 + i) o →
       ((number : ℕ) → o ≡ Register (14 + number) → slice_index stages number < slice_index stages i) →
-      ((k : ℕ) (one : PlanOp) → k < bound → slice_get ops k ≡ Some one → one.stage ≤ slice_index stages k) → operand_stage ops o < slice_index stages i
+      ((k : ℕ) (one : PlanOp) → k < bound → slice_get ops k ≡ Some one → one.stage ≤ slice_index stages k)
+      → operand_stage ops o < slice_index stages i
   waits i bound (Number n) most some within later before = omega arith
   waits i bound (Register r) most some within later before = elim (cases_lt r 14) [
     | inl field ↦
         let early : nat_lt r 14 ≡ true = grind (arith, nat_tests) in
-        let none : operand_stage ops (Register r) ≡ 0 = ap (λ b. if b then 0 else unwrap_or (option_map (λ (x : PlanOp). x.stage) (slice_get ops (r - 14))) 0) early in
+        let none : operand_stage ops (Register r) ≡ 0 = ap (λ b. if b then 0 else unwrap_or
+        (option_map (λ (x : PlanOp). x.stage) (slice_get ops (r - 14))) 0) early in
         omega arith
     | inr beyond ↦
         let number : ℕ = r - 14 in
@@ -46,10 +49,12 @@ module _ (ops : List PlanOp) (stages : List ℕ) (p : IsPlacement ops stages) wh
         elim ((slice_get_cases ops number).1) [
           | inl found ↦
               let low : found.0.stage ≤ slice_index stages number = before number found.0 (omega arith) found.2 in
-              let is : operand_stage ops (Register r) ≡ found.0.stage = there ∙ ap (λ (x : Option PlanOp). unwrap_or (option_map (λ (y : PlanOp). y.stage) x) 0) found.2 in
+              let is : operand_stage ops (Register r) ≡ found.0.stage = there
+              ∙ ap (λ (x : Option PlanOp). unwrap_or (option_map (λ (y : PlanOp). y.stage) x) 0) found.2 in
               omega arith
           | inr past ↦
-              let is : operand_stage ops (Register r) ≡ 0 = there ∙ ap (λ (x : Option PlanOp). unwrap_or (option_map (λ (y : PlanOp). y.stage) x) 0) past.1 in
+              let is : operand_stage ops (Register r) ≡ 0 = there ∙ ap
+              (λ (x : Option PlanOp). unwrap_or (option_map (λ (y : PlanOp). y.stage) x) 0) past.1 in
               omega arith
         ]
   ]
@@ -60,13 +65,15 @@ module _ (ops : List PlanOp) (stages : List ℕ) (p : IsPlacement ops stages) wh
       let m : IsSoundOp ops i one = sound.each i one found in
       let here : i < length ops = slice_get_within ops i one found in
       let some : 0 < slice_index stages i = p.some i 0 (omega (arith, p.all)) in
-      let before : (k : ℕ) (other : PlanOp) → k < n → slice_get ops k ≡ Some other → other.stage ≤ slice_index stages k = λ k other less there. each_waits sound n k other less there in
+      let before : (k : ℕ) (other : PlanOp) → k < n → slice_get ops k ≡ Some other → other.stage ≤ slice_index stages k =
+      λ k other less there. each_waits sound n k other less there in
       let P : Option PlanOp → ℕ → Type 0 = λ o number. Follows o number in
       let left : operand_stage ops one.left < slice_index stages i =
       waits i n one.left (omega arith) some m.left (λ number e. p.beyond i number here (subst (λ o. P o number) (sym found) (inl e))) before
       in
       let right : operand_stage ops one.right < slice_index stages i =
-      waits i n one.right (omega arith) some m.right (λ number e. p.beyond i number here (subst (λ o. P o number) (sym found) (inr e))) before
+      waits i n one.right (omega arith) some m.right (λ number e. p.beyond i number here (subst (λ o. P o number) (sym found) (inr e)))
+      before
       in
       let s = m.stage in
       omega arith
@@ -76,7 +83,8 @@ module _ (ops : List PlanOp) (stages : List ℕ) (p : IsPlacement ops stages) wh
       let low = each_waits sound (i + 1) i one (omega arith) found in
       omega (arith, greatest_above stages i))
 
-stage_index : (ops : List PlanOp) (i : ℕ) (one : PlanOp) → slice_get ops i ≡ Some one → slice_index (map (λ (x : PlanOp). x.stage) ops) i ≡ one.stage
+stage_index : (ops : List PlanOp) (i : ℕ) (one : PlanOp) → slice_get ops i ≡ Some one
+    → slice_index (map (λ (x : PlanOp). x.stage) ops) i ≡ one.stage
 stage_index [] i one e = cc
 stage_index (first ∷ ops) zero one e = ap (λ (x : PlanOp). x.stage) (same_Some first one e)
 stage_index (first ∷ ops) (suc i) one e = stage_index ops i one e
@@ -93,13 +101,15 @@ placed ops sound = record {
     each_some i d lt = elim ((slice_get_cases ops i).1) [
       | inl found ↦
           let s = (sound.each i found.0 found.2).stage in
-          let is : get_or (map (λ (one : PlanOp). one.stage) ops) i d ≡ (get_or ops i found.0).stage = get_or-map (λ (one : PlanOp). one.stage) ops i found.0 d lt in
+          let is : get_or (map (λ (one : PlanOp). one.stage) ops) i d ≡ (get_or ops i found.0).stage =
+          get_or-map (λ (one : PlanOp). one.stage) ops i found.0 d lt in
           let same = ap (λ (x : PlanOp). x.stage) found.3 in
           omega arith
       | inr past ↦ absurd (omega arith)
     ]
 
-    reads : (i number : ℕ) (one : PlanOp) (o : Operand) → slice_get ops i ≡ Some one → o ≡ Register (14 + number) → IsWithin (14 + i) o → operand_stage ops o < one.stage →
+    reads : (i number : ℕ) (one : PlanOp) (o : Operand) → slice_get ops i ≡ Some one → o ≡ Register (14 + number) → IsWithin (14 + i) o
+        → operand_stage ops o < one.stage →
         slice_index (map (λ (x : PlanOp). x.stage) ops) number < slice_index (map (λ (x : PlanOp). x.stage) ops) i
     reads i number one o found e within less =
         let near : 14 + number < 14 + i = subst (IsWithin (14 + i)) e within in
@@ -113,7 +123,8 @@ placed ops sound = record {
           | inr past ↦ absurd (omega arith)
         ]
 
-    each_after : (i number : ℕ) → i < length ops → Follows (slice_get ops i) number → slice_index (map (λ (x : PlanOp). x.stage) ops) number < slice_index (map (λ (x : PlanOp). x.stage) ops) i
+    each_after : (i number : ℕ) → i < length ops → Follows (slice_get ops i) number
+        → slice_index (map (λ (x : PlanOp). x.stage) ops) number < slice_index (map (λ (x : PlanOp). x.stage) ops) i
     each_after i number lt follows = elim ((slice_get_cases ops i).1) [
       | inl found ↦
           let P : Option PlanOp → Type 0 = λ o. Follows o number in

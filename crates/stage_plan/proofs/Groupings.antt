@@ -1,5 +1,6 @@
 -- The groupby of a stream has the shape that the query gives it.
-use Rattle.std.proofs.Common.{◌≡◌, ℕ, zero, suc, ◌+◌, ◌<◌, ◌≤◌, Bool, true, false, List, [], ◌∷◌, ◌++◌, length, get_or, drop, Some, None, Option, refl, sym, ap, subst, ◌∙◌, inl, inr, arith, append_assoc, append-nil, length-drop}
+use Rattle.std.proofs.Common.{◌≡◌, ℕ, zero, suc, ◌+◌, ◌<◌, ◌≤◌, Bool, true, false, List, [], ◌∷◌, ◌++◌, length, get_or, drop, Some, None}
+use Rattle.std.proofs.Common.{Option, refl, sym, ap, subst, ◌∙◌, inl, inr, arith, append_assoc, append-nil, length-drop}
 use Rattle.std.specs.Prelude.{map, filter_map, slice_get, option_map, option_to_list, if◌then◌else◌}
 use Rattle.std.specs.List.{cons_option}
 use Rattle.std.proofs.lemmas.List.{map-append, length-map, drop_more, drop_all, length_push}
@@ -18,11 +19,14 @@ use Rattle.stage_plan.specs.declared.group.GroupPlan.{GroupPlan}
 use Rattle.stage_plan.specs.Shape.{GroupShape, text_at, shape_with, group_shape}
 use Rattle.stage_plan.specs.Grouping.{IsGroupShape, IsGroupFor, IsGroupOf, AreGroupsOf}
 
-found_from : (f : TypedFold) (tries d : ℕ) → ((e : ℕ) → e < d → is_enough f e ≡ false) → is_enough f (d + tries) ≡ true → IsDepth f (least_from f tries d)
-found_from f zero d before enough = let same : d + 0 ≡ d = omega arith in depth_found f d (subst (λ n. is_enough f n ≡ true) same enough) before
+found_from : (f : TypedFold) (tries d : ℕ) → ((e : ℕ) → e < d → is_enough f e ≡ false) → is_enough f (d + tries) ≡ true
+    → IsDepth f (least_from f tries d)
+found_from f zero d before enough = let same : d + 0 ≡ d = omega arith in depth_found f d (subst (λ n. is_enough f n ≡ true) same enough)
+    before
 found_from f (suc tries) d before enough = pick (is_enough f d) refl (found_from f tries (suc d))
   where
-    pick : (b : Bool) → is_enough f d ≡ b → (((e : ℕ) → e < suc d → is_enough f e ≡ false) → is_enough f (suc d + tries) ≡ true → IsDepth f (least_from f tries (suc d))) →
+    pick : (b : Bool) → is_enough f d ≡ b → (((e : ℕ) → e < suc d → is_enough f e ≡ false) → is_enough f (suc d + tries) ≡ true
+        → IsDepth f (least_from f tries (suc d))) →
         IsDepth f (if b then d else least_from f tries (suc d))
     pick true now later = depth_found f d now before
     pick false now later =
@@ -34,11 +38,13 @@ found_from f (suc tries) d before enough = pick (is_enough f d) refl (found_from
 
 pub depth_is : (f : TypedFold) (d : ℕ) → IsDepth f d → d ≡ depth_of f
 depth_is f d h =
-    let found : IsDepth f (depth_of f) = found_from f (fold_states f) 0 (λ e lt. absurd (omega arith)) (let all : 0 + fold_states f ≡ fold_states f = omega arith in subst (λ n. is_enough f n ≡ true) (sym all) (covered_last f)) in
+    let found : IsDepth f (depth_of f) = found_from f (fold_states f) 0 (λ e lt. absurd (omega arith))
+    (let all : 0 + fold_states f ≡ fold_states f = omega arith in subst (λ n. is_enough f n ≡ true) (sym all) (covered_last f)) in
     omega (arith, h.least (depth_of f) found.enough, found.least d h.enough)
 
 pub shape_is : (names : List (List ℕ)) (one : TypedStream) (args : ℕ) (f : TypedFold) (group : GroupPlan) → IsProgramOf f group.program →
-    group.name ≡ text_at names one.name.id → group.key_names ≡ map (text_at names) one.columns → group.state_names ≡ map (text_at names) f.state_names →
+    group.name ≡ text_at names one.name.id → group.key_names ≡ map (text_at names) one.columns
+    → group.state_names ≡ map (text_at names) f.state_names →
     length f.arg_names ≡ args → group_shape group ≡ shape_with names one.name.id one.columns args f
 shape_is names one args f group is name keys states count =
     let class = is.class in
@@ -50,16 +56,21 @@ shape_is names one args f group is name keys states count =
     cc
 
 -- a fold that takes this many arguments
-pub args_are : (folds : List TypedFold) (number args : ℕ) (f : TypedFold) → slice_get folds number ≡ Some f → option_map fold_args (slice_get folds number) ≡ Some args → length f.arg_names ≡ args
+pub args_are : (folds : List TypedFold) (number args : ℕ) (f : TypedFold) → slice_get folds number ≡ Some f
+    → option_map fold_args (slice_get folds number) ≡ Some args → length f.arg_names ≡ args
 args_are folds number args f found all = same_Some (fold_args f) args (sym (ap (option_map fold_args) found) ∙ all)
 
-pub fitting_shape : (q : TypedQuery) (one : TypedStream) (number args : ℕ) (f : TypedFold) (group : GroupPlan) → slice_get q.folds number ≡ Some f → IsProgramOf f group.program →
-    group.name ≡ text_at q.names one.name.id → group.key_names ≡ map (text_at q.names) one.columns → group.state_names ≡ map (text_at q.names) f.state_names →
+pub fitting_shape : (q : TypedQuery) (one : TypedStream) (number args : ℕ) (f : TypedFold) (group : GroupPlan)
+    → slice_get q.folds number ≡ Some f → IsProgramOf f group.program →
+    group.name ≡ text_at q.names one.name.id → group.key_names ≡ map (text_at q.names) one.columns
+    → group.state_names ≡ map (text_at q.names) f.state_names →
     length f.arg_names ≡ args → IsGroupShape q one number args group
 fitting_shape q one number args f group found is name keys states count =
-    ap Some (shape_is q.names one args f group is name keys states count) ∙ ap (option_map (shape_with q.names one.name.id one.columns args)) (sym found)
+    ap Some (shape_is q.names one args f group is name keys states count)
+    ∙ ap (option_map (shape_with q.names one.name.id one.columns args)) (sym found)
 
-pub fitting_sound : (folds : List TypedFold) (names : List (List ℕ)) (number keys args : ℕ) (ids : List ℕ) (f : TypedFold) (group : GroupPlan) → slice_get folds number ≡ Some f →
+pub fitting_sound : (folds : List TypedFold) (names : List (List ℕ)) (number keys args : ℕ) (ids : List ℕ) (f : TypedFold)
+    (group : GroupPlan) → slice_get folds number ≡ Some f →
     IsProgramOf f group.program → group.key_names ≡ map (text_at names) ids → group.state_names ≡ map (text_at names) f.state_names →
     0 < length ids → length ids ≤ 8 → length ids ≡ keys → length f.arg_names ≡ args → IsGroupFor folds number keys args group
 fitting_sound folds names number keys args ids f group found is key_names state_names some most count row =
@@ -77,7 +88,8 @@ fitting_sound folds names number keys args ids f group found is key_names state_
       most_args = omega (arith, row, is.valid.args);
     }
 
-pub shapes_more : (shape : TypedStream → Option GroupShape) (old : List GroupPlan) (xs : List TypedStream) (i : ℕ) (x : TypedStream) (o : Option GroupPlan) → i < length xs → x ≡ get_or xs i x →
+pub shapes_more : (shape : TypedStream → Option GroupShape) (old : List GroupPlan) (xs : List TypedStream) (i : ℕ) (x : TypedStream)
+    (o : Option GroupPlan) → i < length xs → x ≡ get_or xs i x →
     option_map group_shape o ≡ shape x →
     map group_shape (old ++ option_to_list o) ++ filter_map shape (drop (i + 1) xs) ≡ map group_shape old ++ filter_map shape (drop i xs)
 shapes_more shape old xs i x o lt is same = go (filter_map shape (drop (i + 1) xs)) front o same
@@ -85,9 +97,11 @@ shapes_more shape old xs i x o lt is same = go (filter_map shape (drop (i + 1) x
     front : filter_map shape (drop i xs) ≡ cons_option (shape x) (filter_map shape (drop (i + 1) xs))
     front = ap (filter_map shape) (drop_more xs i x lt) ∙ ap (λ z. cons_option (shape z) (filter_map shape (drop (i + 1) xs))) (sym is)
 
-    go : (rest : List GroupShape) → filter_map shape (drop i xs) ≡ cons_option (shape x) rest → (p : Option GroupPlan) → option_map group_shape p ≡ shape x →
+    go : (rest : List GroupShape) → filter_map shape (drop i xs) ≡ cons_option (shape x) rest → (p : Option GroupPlan)
+        → option_map group_shape p ≡ shape x →
         map group_shape (old ++ option_to_list p) ++ rest ≡ map group_shape old ++ filter_map shape (drop i xs)
-    go rest f None e = ap (λ l. map group_shape l ++ rest) (append-nil old) ∙ ap (λ s. map group_shape old ++ cons_option s rest) e ∙ ap (λ l. map group_shape old ++ l) (sym f)
+    go rest f None e = ap (λ l. map group_shape l ++ rest) (append-nil old) ∙ ap (λ s. map group_shape old ++ cons_option s rest) e
+        ∙ ap (λ l. map group_shape old ++ l) (sym f)
     go rest f (Some group) e =
         ap (λ l. l ++ rest) (map-append group_shape old (group ∷ []))
         ∙ append_assoc (map group_shape old) (group_shape group ∷ []) rest
@@ -99,16 +113,21 @@ pub record Grouped (folds : List TypedFold) (all left : List Taking) (groups : L
   pub sound : AreGroupsOf folds all groups
   pub few : length groups ≤ length all
 
-pub grouped_more : (folds : List TypedFold) (all : List Taking) (old : List GroupPlan) (xs : List TypedStream) (i : ℕ) (x : TypedStream) (o : Option GroupPlan) → i < length xs → x ≡ get_or xs i x →
-    IsGroupOf folds (taking_of x.op) o → Grouped folds all (takings (drop i xs)) old → Grouped folds all (takings (drop (i + 1) xs)) (old ++ option_to_list o)
+pub grouped_more : (folds : List TypedFold) (all : List Taking) (old : List GroupPlan) (xs : List TypedStream) (i : ℕ) (x : TypedStream)
+    (o : Option GroupPlan) → i < length xs → x ≡ get_or xs i x →
+    IsGroupOf folds (taking_of x.op) o → Grouped folds all (takings (drop i xs)) old
+    → Grouped folds all (takings (drop (i + 1) xs)) (old ++ option_to_list o)
 grouped_more folds all old xs i x o lt is one before = go (taking_of x.op) o refl one
   where
     front : (m : Option Taking) → taking_of x.op ≡ m → drop (length old) all ≡ cons_option m (takings (drop (i + 1) xs))
     front m e =
-        before.rest ∙ ap takings (drop_more xs i x lt) ∙ ap (λ z. cons_option (taking_of z.op) (takings (drop (i + 1) xs))) (sym is) ∙ ap (λ z. cons_option z (takings (drop (i + 1) xs))) e
+        before.rest ∙ ap takings (drop_more xs i x lt) ∙ ap (λ z. cons_option (taking_of z.op) (takings (drop (i + 1) xs))) (sym is)
+        ∙ ap (λ z. cons_option z (takings (drop (i + 1) xs))) e
 
-    go : (m : Option Taking) (p : Option GroupPlan) → taking_of x.op ≡ m → IsGroupOf folds m p → Grouped folds all (takings (drop (i + 1) xs)) (old ++ option_to_list p)
-    go None None e h = subst (Grouped folds all (takings (drop (i + 1) xs))) (sym (append-nil old)) (record { rest = front None e; sound = before.sound; few = before.few })
+    go : (m : Option Taking) (p : Option GroupPlan) → taking_of x.op ≡ m → IsGroupOf folds m p
+        → Grouped folds all (takings (drop (i + 1) xs)) (old ++ option_to_list p)
+    go None None e h = subst (Grouped folds all (takings (drop (i + 1) xs))) (sym (append-nil old))
+        (record { rest = front None e; sound = before.sound; few = before.few })
     go (Some t) (Some group) e h =
         let at = stands_at all (length old) t (takings (drop (i + 1) xs)) (front (Some t) e) in
         let long : length (old ++ group ∷ []) ≡ length old + 1 = length_push old group in
@@ -126,7 +145,8 @@ grouped_more folds all old xs i x o lt is one before = go (taking_of x.op) o ref
     go None (Some group) e h = absurd h
     go (Some t) None e h = absurd h
 
-pub all_grouped : (folds : List TypedFold) (all : List Taking) (groups : List GroupPlan) (xs : List TypedStream) (i : ℕ) → length xs ≤ i → Grouped folds all (takings (drop i xs)) groups →
+pub all_grouped : (folds : List TypedFold) (all : List Taking) (groups : List GroupPlan) (xs : List TypedStream) (i : ℕ) → length xs ≤ i
+    → Grouped folds all (takings (drop i xs)) groups →
     length groups ≡ length all
 all_grouped folds all groups xs i le g =
     let none : length (drop (length groups) all) ≡ 0 = ap length (g.rest ∙ ap takings (drop_all i xs le)) in

@@ -4,7 +4,8 @@ use Rattle.std.specs.Prelude.{slice_get}
 use Rattle.std.proofs.lemmas.Option.{same_Some}
 
 -- an element of a list with one more is an earlier one, or the last
-pub push_cases : {A : Type 0} (xs : List A) (y : A) (j : ℕ) (x : A) → slice_get (xs ++ y ∷ []) j ≡ Some x → (slice_get xs j ≡ Some x) ⊎ ((j ≡ length xs) × (y ≡ x))
+pub push_cases : {A : Type 0} (xs : List A) (y : A) (j : ℕ) (x : A) → slice_get (xs ++ y ∷ []) j ≡ Some x
+    → (slice_get xs j ≡ Some x) ⊎ ((j ≡ length xs) × (y ≡ x))
 push_cases [] y zero x e = inr (refl, same_Some y x e)
 push_cases [] y (suc j) x e = inl e
 push_cases (z ∷ xs) y zero x e = inl e

@@ -10,22 +10,27 @@ use Rattle.stage_plan.specs.declared.wires.StreamWires.{StreamWires}
 use Rattle.stage_plan.specs.Making.{made_by, all_made, are_deep, made_fault}
 
 -- the stream at a place is made of those before it
-pub record IsNext (folds : List TypedFold) (ops more : List PlanOp) (streams others : List StreamWires) (list : List TypedStream) (i : ℕ) (one : TypedStream) : Type 0 where
+pub record IsNext (folds : List TypedFold) (ops more : List PlanOp) (streams others : List StreamWires) (list : List TypedStream) (i : ℕ)
+    (one : TypedStream) : Type 0 where
   pub front : drop i list ≡ one ∷ drop (i + 1) list
   pub ops_are : more ≡ (made_by folds streams one.op ops).ops
   pub streams_are : others ≡ streams ++ (made_by folds streams one.op ops).wires ∷ []
 
-pub is_next : (folds given : List TypedFold) (ops more : List PlanOp) (streams before others : List StreamWires) (wires : StreamWires) (list : List TypedStream) (i : ℕ) (one : TypedStream) →
-    i < length list → one ≡ get_or list i one → given ≡ folds → before ≡ streams → more ≡ (made_by given before one.op ops).ops → wires ≡ (made_by given before one.op ops).wires →
+pub is_next : (folds given : List TypedFold) (ops more : List PlanOp) (streams before others : List StreamWires) (wires : StreamWires)
+    (list : List TypedStream) (i : ℕ) (one : TypedStream) →
+    i < length list → one ≡ get_or list i one → given ≡ folds → before ≡ streams → more ≡ (made_by given before one.op ops).ops
+    → wires ≡ (made_by given before one.op ops).wires →
     others ≡ streams ++ wires ∷ [] → IsNext folds ops more streams others list i one
 is_next folds given ops more streams before others wires list i one lt is same known made wired pushed = record {
   front = drop_more list i one lt ∙ ap (λ x. x ∷ drop (i + 1) list) (sym is);
   ops_are = made ∙ ap (λ f. (made_by f before one.op ops).ops) same ∙ ap (λ s. (made_by folds s one.op ops).ops) known;
   streams_are =
-      pushed ∙ ap (λ w. streams ++ w ∷ []) (wired ∙ ap (λ f. (made_by f before one.op ops).wires) same ∙ ap (λ s. (made_by folds s one.op ops).wires) known);
+      pushed ∙ ap (λ w. streams ++ w ∷ []) (wired ∙ ap (λ f. (made_by f before one.op ops).wires) same
+      ∙ ap (λ s. (made_by folds s one.op ops).wires) known);
 }
 
-module _ (folds : List TypedFold) (ops more : List PlanOp) (streams others : List StreamWires) (list : List TypedStream) (i : ℕ) (one : TypedStream) (next : IsNext folds ops more streams others list i one) where
+module _ (folds : List TypedFold) (ops more : List PlanOp) (streams others : List StreamWires) (list : List TypedStream) (i : ℕ)
+    (one : TypedStream) (next : IsNext folds ops more streams others list i one) where
   pub next_made : all_made folds more others (drop (i + 1) list) ≡ all_made folds ops streams (drop i list)
   next_made =
       ap (λ o. all_made folds o others (drop (i + 1) list)) next.ops_are
@@ -37,5 +42,7 @@ module _ (folds : List TypedFold) (ops more : List PlanOp) (streams others : Lis
       let none : are_deep (made_by folds streams one.op ops).ops ≡ false = ap are_deep (sym next.ops_are) ∙ shallow in
       ap (λ o. made_fault folds o others (drop (i + 1) list)) next.ops_are
       ∙ ap (λ s. made_fault folds (made_by folds streams one.op ops).ops s (drop (i + 1) list)) next.streams_are
-      ∙ sym (ap (λ b. cond b (Some (record { kind = OverLimit Stages; span = one.name.span })) (made_fault folds (made_by folds streams one.op ops).ops (streams ++ (made_by folds streams one.op ops).wires ∷ []) (drop (i + 1) list))) none)
+      ∙ sym (ap (λ b. cond b (Some (record { kind = OverLimit Stages; span = one.name.span }))
+      (made_fault folds (made_by folds streams one.op ops).ops (streams ++ (made_by folds streams one.op ops).wires ∷ [])
+      (drop (i + 1) list))) none)
       ∙ sym (ap (made_fault folds ops streams) next.front)

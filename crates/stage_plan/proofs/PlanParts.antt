@@ -1,6 +1,8 @@
 -- The parts that are made for a query are its plan.
-use Rattle.std.proofs.Common.{◌≡◌, ℕ, zero, suc, ◌+◌, ◌<◌, ◌≤◌, max, Bool, true, false, cond, List, [], ◌∷◌, length, get_or, Some, None, Option, refl, sym, ap, subst, ◌∙◌, inl, inr, arith}
-use Rattle.std.specs.Prelude.{All, map, sum_by, count_by, nat_lt, ◌||◌, ◌==◌, slice_get, slice_index, option_map, option_and_then, unwrap_or, if◌then◌else◌}
+use Rattle.std.proofs.Common.{◌≡◌, ℕ, zero, suc, ◌+◌, ◌<◌, ◌≤◌, max, Bool, true, false, cond, List, [], ◌∷◌, length, get_or, Some, None}
+use Rattle.std.proofs.Common.{Option, refl, sym, ap, subst, ◌∙◌, inl, inr, arith}
+use Rattle.std.specs.Prelude.{All, map, sum_by, count_by, nat_lt, ◌||◌, ◌==◌, slice_get, slice_index, option_map, option_and_then}
+use Rattle.std.specs.Prelude.{unwrap_or, if◌then◌else◌}
 use Rattle.std.specs.List.{list_any}
 use Rattle.std.proofs.lemmas.Bool.Decides.{nat_tests}
 use Rattle.std.proofs.lemmas.List.{length-map, get_or-map}
@@ -34,7 +36,8 @@ use Rattle.stage_plan.proofs.Deep.{IsMade, column_is, stages}
 use Rattle.stage_plan.proofs.Faults.{QueryMade}
 use Rattle.stage_plan.proofs.Runs.{within_more, stage_below, Filled, after_filled}
 use Rattle.stage_plan.proofs.Sorted.{Staged, whole_sum}
-use Rattle.stage_plan.proofs.Reordered.{all, all_long, Stands, stands, Comes, comes, Keeps, keeps, all_ascends, stands_before, unmoved, moved_value, unmoved_front, unmoved_long, unmoved_solved}
+use Rattle.stage_plan.proofs.Reordered.{all, all_long, Stands, stands, Comes, comes, Keeps, keeps, all_ascends, stands_before, unmoved}
+use Rattle.stage_plan.proofs.Reordered.{moved_value, unmoved_front, unmoved_long, unmoved_solved}
 use Rattle.stage_plan.proofs.StreamRows.{Row, row_at, all_rows, row_taken, uses_are}
 use Rattle.stage_plan.proofs.Values.{column_value, Solved, Matches, Matched, all_matched, packets_matched}
 
@@ -54,7 +57,8 @@ each_shallow (first ∷ ops) zero one none e =
     let same : first.stage ≡ one.stage = ap (λ (x : PlanOp). x.stage) (same_Some first one e) in
     let test : nat_lt 64 first.stage ≡ false = (or_false (nat_lt 64 first.stage) (list_any (λ x. nat_lt 64 x.stage) ops) none).0 in
     grind (arith, nat_tests)
-each_shallow (first ∷ ops) (suc i) one none e = each_shallow ops i one ((or_false (nat_lt 64 first.stage) (list_any (λ x. nat_lt 64 x.stage) ops) none).1) e
+each_shallow (first ∷ ops) (suc i) one none e = each_shallow ops i one
+    ((or_false (nat_lt 64 first.stage) (list_any (λ x. nat_lt 64 x.stage) ops) none).1) e
 
 pub stages_within : (xs : List PlanOp) (b : ℕ) → ((i : ℕ) (x : PlanOp) → slice_get xs i ≡ Some x → x.stage ≤ b) → stages_of xs ≤ b
 stages_within [] b h = omega arith
@@ -84,8 +88,11 @@ made_taken : (x y z w : List ℕ) → x ≡ z → y ≡ w → Some (taken_with x
 made_taken x y z w p r = ap (λ k. Some (taken_with k y)) p ∙ ap (λ k. Some (taken_with z k)) r
 
 -- the parts of a plan before they are put together
-module _ (q : TypedQuery) (valid : IsValidQuery q) (ops : List PlanOp) (streams : List StreamWires) (made : QueryMade q ops streams) (ops_are : ops ≡ (all_made q.folds [] (packet_wires ∷ []) q.streams).ops) (streams_are : streams ≡ (all_made q.folds [] (packet_wires ∷ []) q.streams).streams) (few : length ops ≤ 32768)
-    (registers : List ℕ) (placed : ArePlaced (order_of ops (stages_of ops)) registers (length (order_of ops (stages_of ops)))) (long : length registers ≡ length ops) where
+module _ (q : TypedQuery) (valid : IsValidQuery q) (ops : List PlanOp) (streams : List StreamWires) (made : QueryMade q ops streams)
+    (ops_are : ops ≡ (all_made q.folds [] (packet_wires ∷ []) q.streams).ops)
+    (streams_are : streams ≡ (all_made q.folds [] (packet_wires ∷ []) q.streams).streams) (few : length ops ≤ 32768)
+    (registers : List ℕ) (placed : ArePlaced (order_of ops (stages_of ops)) registers (length (order_of ops (stages_of ops))))
+    (long : length registers ≡ length ops) where
   pub staged : Staged ops (stages_of ops)
   staged = record {
     some = λ i one e. omega (arith, (made.made.each i one e).stage);
@@ -103,19 +110,23 @@ module _ (q : TypedQuery) (valid : IsValidQuery q) (ops : List PlanOp) (streams 
 
   sound_op : (k : ℕ) (new : PlanOp) → slice_get sorted k ≡ Some new → IsSoundOp sorted k new
   sound_op k new e =
-      let c : Comes ops (stages_of ops) staged registers placed long k new = comes ops (stages_of ops) staged registers placed long k new e in
+      let c : Comes ops (stages_of ops) staged registers placed long k new =
+      comes ops (stages_of ops) staged registers placed long k new e in
       let m : IsMade ops c.number c.one = made.made.each c.number c.one c.found in
       let lt : c.number < length ops = slice_get_within ops c.number c.one c.found in
       let l = kept c.one.left (within_more (14 + c.number) (14 + length ops) c.one.left (omega arith) m.left) in
       let r = kept c.one.right (within_more (14 + c.number) (14 + length ops) c.one.right (omega arith) m.right) in
       let low : c.one.stage ≤ 64 = each_shallow ops c.number c.one made.none c.found in
-      let stage : c.one.stage ≡ suc (max (operand_stage sorted (moved registers c.one.left)) (operand_stage sorted (moved registers c.one.right))) =
+      let stage : c.one.stage ≡ suc (max (operand_stage sorted (moved registers c.one.left))
+      (operand_stage sorted (moved registers c.one.right))) =
       (let a = m.stage in let b = l.stage in let d = r.stage in omega arith)
       in
       let here : slice_get sorted k ≡ Some (moved_op registers c.one) = e ∙ ap Some c.is in
       subst (IsSoundOp sorted k) (sym c.is) (record {
-        left = stands_before ops (stages_of ops) staged registers placed long k (moved_op registers c.one) (moved registers c.one.left) here l.within (omega arith);
-        right = stands_before ops (stages_of ops) staged registers placed long k (moved_op registers c.one) (moved registers c.one.right) here r.within (omega arith);
+        left = stands_before ops (stages_of ops) staged registers placed long k (moved_op registers c.one) (moved registers c.one.left) here
+            l.within (omega arith);
+        right = stands_before ops (stages_of ops) staged registers placed long k (moved_op registers c.one) (moved registers c.one.right)
+            here r.within (omega arith);
         stage = stage;
         most = low;
       })
@@ -128,52 +139,83 @@ module _ (q : TypedQuery) (valid : IsValidQuery q) (ops : List PlanOp) (streams 
   }
 
   -- what a groupby takes
-  taken_is : (row : List ℕ) (t : Taking) (source : StreamWires) (r : Row) → 14 ≤ length row → Matches (unmoved ops (stages_of ops) staged registers placed long row) source r →
+  taken_is : (row : List ℕ) (t : Taking) (source : StreamWires) (r : Row) → 14 ≤ length row
+      → Matches (unmoved ops (stages_of ops) staged registers placed long row) source r →
       option_map (row_taken t) r ≡ taken_at (wired registers source t.keys t.args) row
   taken_is row t source r fields m = go r m
     where
-      value : (o : Operand) → operand_value row (moved registers o) ≡ operand_value (unmoved ops (stages_of ops) staged registers placed long row) o
+      value : (o : Operand) → operand_value row (moved registers o) ≡ operand_value
+          (unmoved ops (stages_of ops) staged registers placed long row) o
       value = moved_value ops (stages_of ops) staged registers placed long row fields
 
-      present : (b : Bool) → holds (operand_value (unmoved ops (stages_of ops) staged registers placed long row) source.present) ≡ b → holds (operand_value row (moved registers source.present)) ≡ b
+      present : (b : Bool) → holds (operand_value (unmoved ops (stages_of ops) staged registers placed long row) source.present) ≡ b
+          → holds (operand_value row (moved registers source.present)) ≡ b
       present b e = ap holds (value source.present) ∙ e
 
-      column : (columns : List Operand) (slot : ℕ) → operand_value row (moved registers (operand_at columns slot)) ≡ slice_index (map (operand_value (unmoved ops (stages_of ops) staged registers placed long row)) columns) slot
-      column columns slot = value (operand_at columns slot) ∙ column_value (unmoved ops (stages_of ops) staged registers placed long row) columns slot
+      column : (columns : List Operand) (slot : ℕ) → operand_value row (moved registers (operand_at columns slot)) ≡ slice_index
+          (map (operand_value (unmoved ops (stages_of ops) staged registers placed long row)) columns) slot
+      column columns slot = value (operand_at columns slot) ∙ column_value (unmoved ops (stages_of ops) staged registers placed long row)
+          columns slot
 
       words : (slots : List ℕ) → map (operand_value row) (map (λ slot. moved registers (operand_at source.columns slot)) slots)
           ≡ values_at (map (operand_value (unmoved ops (stages_of ops) staged registers placed long row)) source.columns) slots
       words [] = refl
       words (slot ∷ slots) =
-          ap (λ x. x ∷ map (operand_value row) (map (λ slot. moved registers (operand_at source.columns slot)) slots)) (column source.columns slot)
-          ∙ ap (λ l. slice_index (map (operand_value (unmoved ops (stages_of ops) staged registers placed long row)) source.columns) slot ∷ l) (words slots)
+          ap (λ x. x ∷ map (operand_value row) (map (λ slot. moved registers (operand_at source.columns slot)) slots))
+          (column source.columns slot)
+          ∙ ap (λ l. slice_index (map (operand_value (unmoved ops (stages_of ops) staged registers placed long row)) source.columns) slot
+          ∷ l) (words slots)
 
-      go : (r : Row) → Matches (unmoved ops (stages_of ops) staged registers placed long row) source r → option_map (row_taken t) r ≡ taken_at (wired registers source t.keys t.args) row
+      go : (r : Row) → Matches (unmoved ops (stages_of ops) staged registers placed long row) source r
+          → option_map (row_taken t) r ≡ taken_at (wired registers source t.keys t.args) row
       go None m =
-          sym (ap (λ b. if b then Some (record { key = map (operand_value row) (map (λ slot. moved registers (operand_at source.columns slot)) t.keys); row = map (operand_value row) (map (λ slot. moved registers (operand_at source.columns slot)) t.args) }) else None) (present false m))
+          sym (ap (λ b. if b then Some (record {
+            key = map (operand_value row)
+                (map (λ slot. moved registers (operand_at source.columns slot)) t.keys);
+            row =
+                map (operand_value row) (map (λ slot. moved registers (operand_at source.columns slot)) t.args);
+          }) else None)
+          (present false m))
       go (Some values) m =
-          let a : map (operand_value row) (map (λ slot. moved registers (operand_at source.columns slot)) t.keys) ≡ values_at values t.keys = words t.keys ∙ ap (λ l. values_at l t.keys) m.1 in
-          let b : map (operand_value row) (map (λ slot. moved registers (operand_at source.columns slot)) t.args) ≡ values_at values t.args = words t.args ∙ ap (λ l. values_at l t.args) m.1 in
+          let a : map (operand_value row) (map (λ slot. moved registers (operand_at source.columns slot)) t.keys) ≡ values_at values
+          t.keys = words t.keys ∙ ap (λ l. values_at l t.keys) m.1 in
+          let b : map (operand_value row) (map (λ slot. moved registers (operand_at source.columns slot)) t.args) ≡ values_at values
+          t.args = words t.args ∙ ap (λ l. values_at l t.args) m.1 in
           sym (
-          ap (λ b. if b then Some (record { key = map (operand_value row) (map (λ slot. moved registers (operand_at source.columns slot)) t.keys); row = map (operand_value row) (map (λ slot. moved registers (operand_at source.columns slot)) t.args) }) else None) (present true m.0)
+          ap (λ b. if b then Some (record {
+            key = map (operand_value row)
+                (map (λ slot. moved registers (operand_at source.columns slot)) t.keys);
+            row =
+                map (operand_value row) (map (λ slot. moved registers (operand_at source.columns slot)) t.args);
+          }) else None)
+          (present true m.0)
           ∙ made_taken _ _ _ _ a b
           )
 
-  packet_taken : (t : Taking) (words : List ℕ) → length words ≡ 14 → option_map (row_taken t) (row_at (all_rows q words) t.input) ≡ taken_at (wiring_of registers streams t) (after sorted words (stages_of sorted))
+  packet_taken : (t : Taking) (words : List ℕ) → length words ≡ 14 → option_map (row_taken t) (row_at (all_rows q words) t.input) ≡ taken_at
+      (wiring_of registers streams t) (after sorted words (stages_of sorted))
   packet_taken t words words_long =
       let filled : Filled sorted words (after sorted words (stages_of sorted)) = after_filled sorted words sound_ops words_long in
       let row : List ℕ = after sorted words (stages_of sorted) in
       let fields : 14 ≤ length row = (let l = filled.long in omega arith) in
-      let solved : Solved ops (unmoved ops (stages_of ops) staged registers placed long row) = unmoved_solved ops (stages_of ops) staged registers placed long row fields (record { each = filled.each }) in
+      let solved : Solved ops (unmoved ops (stages_of ops) staged registers placed long row) =
+      unmoved_solved ops (stages_of ops) staged registers placed long row fields (record { each = filled.each }) in
       let start : Matched (unmoved ops (stages_of ops) staged registers placed long row) (packet_wires ∷ []) (Some words ∷ []) =
-      packets_matched (unmoved ops (stages_of ops) staged registers placed long row) words (unmoved_long ops (stages_of ops) staged registers placed long row fields) (unmoved_front ops (stages_of ops) staged registers placed long row fields ∙ filled.front)
+      packets_matched (unmoved ops (stages_of ops) staged registers placed long row) words
+      (unmoved_long ops (stages_of ops) staged registers placed long row fields)
+      (unmoved_front ops (stages_of ops) staged registers placed long row fields ∙ filled.front)
       in
-      let matched : Matched (unmoved ops (stages_of ops) staged registers placed long row) (all_made q.folds [] (packet_wires ∷ []) q.streams).streams (all_rows q words) =
-      all_matched (unmoved ops (stages_of ops) staged registers placed long row) q.folds q.streams [] (packet_wires ∷ []) (Some words ∷ []) start
-      (let P : List PlanOp → Type 0 = λ l. Solved l (unmoved ops (stages_of ops) staged registers placed long row) in subst P ops_are solved)
+      let matched : Matched (unmoved ops (stages_of ops) staged registers placed long row)
+      (all_made q.folds [] (packet_wires ∷ []) q.streams).streams (all_rows q words) =
+      all_matched (unmoved ops (stages_of ops) staged registers placed long row) q.folds q.streams [] (packet_wires ∷ []) (Some words ∷ [])
+      start
+      (let P : List PlanOp → Type 0 = λ l. Solved l (unmoved ops (stages_of ops) staged registers placed long row) in subst P ops_are
+      solved)
       in
-      let here : Matches (unmoved ops (stages_of ops) staged registers placed long row) (wires_at streams t.input) (row_at (all_rows q words) t.input) =
-      (let P : List StreamWires → Type 0 = λ l. Matches (unmoved ops (stages_of ops) staged registers placed long row) (wires_at l t.input) (row_at (all_rows q words) t.input) in subst P (sym streams_are) (matched.each t.input))
+      let here : Matches (unmoved ops (stages_of ops) staged registers placed long row) (wires_at streams t.input)
+      (row_at (all_rows q words) t.input) =
+      (let P : List StreamWires → Type 0 = λ l. Matches (unmoved ops (stages_of ops) staged registers placed long row) (wires_at l t.input)
+      (row_at (all_rows q words) t.input) in subst P (sym streams_are) (matched.each t.input))
       in
       taken_is row t (wires_at streams t.input) (row_at (all_rows q words) t.input) fields here
 
@@ -181,32 +223,38 @@ module _ (q : TypedQuery) (valid : IsValidQuery q) (ops : List PlanOp) (streams 
   same_stages : stages_of sorted ≡ stages_of ops
   same_stages =
       let a : stages_of sorted ≤ stages_of ops = stages_within sorted (stages_of ops) (λ k new e.
-      let c : Comes ops (stages_of ops) staged registers placed long k new = comes ops (stages_of ops) staged registers placed long k new e in
+      let c : Comes ops (stages_of ops) staged registers placed long k new =
+      comes ops (stages_of ops) staged registers placed long k new e in
       let s : new.stage ≡ c.one.stage = ap (λ (x : PlanOp). x.stage) c.is in
       omega (arith, stage_below ops c.number c.one c.found)) in
       let b : stages_of ops ≤ stages_of sorted = stages_within ops (stages_of sorted) (λ i one e.
-      let st : Stands ops (stages_of ops) staged registers placed long i one = stands ops (stages_of ops) staged registers placed long i one e in
+      let st : Stands ops (stages_of ops) staged registers placed long i one =
+      stands ops (stages_of ops) staged registers placed long i one e in
       stage_below sorted st.place (moved_op registers one) st.found) in
       omega arith
 
   same_count : (stage : ℕ) → count_by (λ depth. depth == stage) (stages sorted) ≡ count_by (λ depth. depth == stage) (query_depths q)
   same_count stage =
       sum_map (λ depth. cond (depth == stage) 1 0) (λ (one : PlanOp). one.stage) sorted
-      ∙ sum_map (λ (one : PlanOp). cond (one.stage == stage) 1 0) (λ number. moved_op registers (op_numbered ops number)) (order_of ops (stages_of ops))
+      ∙ sum_map (λ (one : PlanOp). cond (one.stage == stage) 1 0) (λ number. moved_op registers (op_numbered ops number))
+      (order_of ops (stages_of ops))
       ∙ whole_sum (λ one. cond (one.stage == stage) 1 0) ops (stages_of ops) staged
       ∙ sym (sum_map (λ depth. cond (depth == stage) 1 0) (λ (one : PlanOp). one.stage) ops)
       ∙ ap (count_by (λ depth. depth == stage)) made.stages_are
 
   same_sizes : sizes_of (stages_of sorted) (stages sorted) ≡ sizes_of (greatest (query_depths q)) (query_depths q)
   same_sizes =
-      same_map (λ stage. count_by (λ depth. depth == stage) (stages sorted)) (λ stage. count_by (λ depth. depth == stage) (query_depths q)) (up_to (stages_of sorted)) same_count
+      same_map (λ stage. count_by (λ depth. depth == stage) (stages sorted)) (λ stage. count_by (λ depth. depth == stage) (query_depths q))
+      (up_to (stages_of sorted)) same_count
       ∙ ap (λ n. sizes_of n (query_depths q)) (same_stages ∙ greatest_is ops ∙ ap greatest made.stages_are)
 
   same_operations : length sorted ≡ length (query_depths q)
   same_operations = sorted_long ∙ sym (length-map ops (λ (one : PlanOp). one.stage)) ∙ ap length made.stages_are
 
   -- the groupbys
-  module _ (groups : List GroupPlan) (shapes : map group_shape groups ≡ query_groups q) (sound : AreGroupsOf q.folds (takings q.streams) groups) (count : length groups ≡ length (takings q.streams)) (reads : FieldSet) (reads_are : reads ≡ reads_of q) where
+  module _ (groups : List GroupPlan) (shapes : map group_shape groups ≡ query_groups q)
+      (sound : AreGroupsOf q.folds (takings q.streams) groups) (count : length groups ≡ length (takings q.streams)) (reads : FieldSet)
+      (reads_are : reads ≡ reads_of q) where
     abbrev pub parts : PlanParts
     parts = record { reads = reads; ops = sorted; groups = groups; wiring = map (wiring_of registers streams) (takings q.streams) }
 
@@ -220,23 +268,29 @@ module _ (q : TypedQuery) (valid : IsValidQuery q) (ops : List PlanOp) (streams 
         ∙ ap (λ sizes. shape_with (length (query_depths q)) sizes (map group_shape groups)) same_sizes
         ∙ ap (λ list. shape_with (length (query_depths q)) (sizes_of (greatest (query_depths q)) (query_depths q)) list) shapes
 
-    wiring_is : (i : ℕ) (t : Taking) → slice_get (takings q.streams) i ≡ Some t → slice_get parts.wiring i ≡ Some (wiring_of registers streams t)
+    wiring_is : (i : ℕ) (t : Taking) → slice_get (takings q.streams) i ≡ Some t
+        → slice_get parts.wiring i ≡ Some (wiring_of registers streams t)
     wiring_is i t e = slice_get-map (wiring_of registers streams) (takings q.streams) i ∙ ap (option_map (wiring_of registers streams)) e
 
-    takes_are : (i : ℕ) (packets : List (List ℕ)) → i < length groups → All (λ words. length words ≡ 14) packets → uses q i packets ≡ uses_taken 1 (map (taken parts i) packets)
+    takes_are : (i : ℕ) (packets : List (List ℕ)) → i < length groups → All (λ words. length words ≡ 14) packets
+        → uses q i packets ≡ uses_taken 1 (map (taken parts i) packets)
     takes_are i packets lt all14 = elim ((slice_get_cases (takings q.streams) i).1) [
       | inl found ↦
           let t : Taking = found.0 in
-          let w : wiring_at parts i ≡ wiring_of registers streams t = ap (λ o. unwrap_or o (record { present = Number 0; keys = []; args = [] })) (wiring_is i t found.2) in
-          uses_are q i t (taken parts i) found.2 (λ words words_long. packet_taken t words words_long ∙ ap (λ x. taken_at x (after sorted words (stages_of sorted))) (sym w)) packets all14
+          let w : wiring_at parts i ≡ wiring_of registers streams t = ap
+          (λ o. unwrap_or o (record { present = Number 0; keys = []; args = [] })) (wiring_is i t found.2) in
+          uses_are q i t (taken parts i) found.2 (λ words words_long. packet_taken t words words_long
+          ∙ ap (λ x. taken_at x (after sorted words (stages_of sorted))) (sym w)) packets all14
       | inr past ↦ absurd (omega arith)
     ]
 
-    programs_are : (i : ℕ) (f : TypedFold) (group : GroupPlan) → fold_at q i ≡ Some f → slice_get groups i ≡ Some group → IsProgramOf f group.program
+    programs_are : (i : ℕ) (f : TypedFold) (group : GroupPlan) → fold_at q i ≡ Some f → slice_get groups i ≡ Some group
+        → IsProgramOf f group.program
     programs_are i f group e g = go (slice_get (takings q.streams) i) refl
       where
         go : (o : Option Taking) → slice_get (takings q.streams) i ≡ o → IsProgramOf f group.program
-        go None h = let none : None ≡ Some f = sym (ap (option_and_then (λ (t : Taking). slice_get q.folds t.fold_number)) h) ∙ e in absurd (no none)
+        go None h = let none : None ≡ Some f = sym (ap (option_and_then (λ (t : Taking). slice_get q.folds t.fold_number)) h)
+            ∙ e in absurd (no none)
           where
             no : None ≡ Some f → ⊥
             no z = cc
@@ -245,10 +299,14 @@ module _ (q : TypedQuery) (valid : IsValidQuery q) (ops : List PlanOp) (streams 
     staged_here : IsStaged ops streams (takings q.streams) sorted (map (wiring_of registers streams) (takings q.streams))
     staged_here = record { registers = registers; placed = placed; all = long; ops_are = refl; wiring_is = refl }
 
-    staged_parts : IsStaged (all_made q.folds [] (packet_wires ∷ []) q.streams).ops (all_made q.folds [] (packet_wires ∷ []) q.streams).streams (takings q.streams) sorted (map (wiring_of registers streams) (takings q.streams))
+    staged_parts : IsStaged (all_made q.folds [] (packet_wires ∷ []) q.streams).ops
+        (all_made q.folds [] (packet_wires ∷ []) q.streams).streams (takings q.streams) sorted
+        (map (wiring_of registers streams) (takings q.streams))
     staged_parts =
-        let P : List PlanOp → Type 0 = λ o. IsStaged o streams (takings q.streams) sorted (map (wiring_of registers streams) (takings q.streams)) in
-        let Q : List StreamWires → Type 0 = λ s. IsStaged (all_made q.folds [] (packet_wires ∷ []) q.streams).ops s (takings q.streams) sorted (map (wiring_of registers streams) (takings q.streams)) in
+        let P : List PlanOp → Type 0 = λ o. IsStaged o streams (takings q.streams) sorted
+        (map (wiring_of registers streams) (takings q.streams)) in
+        let Q : List StreamWires → Type 0 = λ s. IsStaged (all_made q.folds [] (packet_wires ∷ []) q.streams).ops s (takings q.streams)
+        sorted (map (wiring_of registers streams) (takings q.streams)) in
         subst Q streams_are (subst P ops_are staged_here)
 
     pub is_plan : IsPlanOf q parts
@@ -261,19 +319,23 @@ module _ (q : TypedQuery) (valid : IsValidQuery q) (ops : List PlanOp) (streams 
       shape = same_shape;
     }
 
-    sound_group : (i : ℕ) (group : GroupPlan) (wiring : GroupWiring) → slice_get groups i ≡ Some group → slice_get parts.wiring i ≡ Some wiring → IsSoundGroup (14 + length sorted) group wiring
+    sound_group : (i : ℕ) (group : GroupPlan) (wiring : GroupWiring) → slice_get groups i ≡ Some group
+        → slice_get parts.wiring i ≡ Some wiring → IsSoundGroup (14 + length sorted) group wiring
     sound_group i group wiring g e = elim ((slice_get_cases (takings q.streams) i).1) [
       | inl found ↦
           let t : Taking = found.0 in
-          let w : wiring ≡ wiring_of registers streams t = same_Some wiring (wiring_of registers streams t) (sym e ∙ wiring_is i t found.2) in
+          let w : wiring ≡ wiring_of registers streams t = same_Some wiring (wiring_of registers streams t)
+          (sym e ∙ wiring_is i t found.2) in
           let h : IsGroupFor q.folds t.fold_number (length t.keys) (length t.args) group = sound i t group found.2 g in
           let at = made.within t.input in
           let source : StreamWires = wires_at streams t.input in
           let column : (slot : ℕ) → IsWithin (14 + length sorted) (moved registers (operand_at source.columns slot)) =
           λ slot. (kept (operand_at source.columns slot) (column_is ops source.columns at.0.columns slot at.1.columns).within).within
           in
-          let keys : length (wiring_of registers streams t).keys ≡ length t.keys = length-map t.keys (λ slot. moved registers (operand_at source.columns slot)) in
-          let args : length (wiring_of registers streams t).args ≡ length t.args = length-map t.args (λ slot. moved registers (operand_at source.columns slot)) in
+          let keys : length (wiring_of registers streams t).keys ≡ length t.keys =
+          length-map t.keys (λ slot. moved registers (operand_at source.columns slot)) in
+          let args : length (wiring_of registers streams t).args ≡ length t.args =
+          length-map t.args (λ slot. moved registers (operand_at source.columns slot)) in
           subst (IsSoundGroup (14 + length sorted) group) (sym w) (record {
             program = h.is_program;
             some_keys = h.some_keys;
@@ -284,8 +346,10 @@ module _ (q : TypedQuery) (valid : IsValidQuery q) (ops : List PlanOp) (streams 
             args = args ∙ sym h.args;
             most_args = (let m = h.most_args in omega arith);
             present = (kept source.present at.1.present.within).within;
-            key_registers = all_map (IsWithin (14 + length sorted)) (λ slot. moved registers (operand_at source.columns slot)) t.keys column;
-            arg_registers = all_map (IsWithin (14 + length sorted)) (λ slot. moved registers (operand_at source.columns slot)) t.args column;
+            key_registers = all_map (IsWithin (14 + length sorted)) (λ slot. moved registers (operand_at source.columns slot)) t.keys
+                column;
+            arg_registers = all_map (IsWithin (14 + length sorted)) (λ slot. moved registers (operand_at source.columns slot)) t.args
+                column;
           })
       | inr past ↦ absurd (let n = slice_get_within groups i group g in omega arith)
     ]

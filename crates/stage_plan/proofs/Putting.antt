@@ -38,14 +38,16 @@ made_query : (q : TypedQuery) (ops : List PlanOp) (streams : List StreamWires) �
 made_query q ops streams m = query_made q ops streams m.ops_are m.streams_are m.fits
 
 -- the order's numbers are there, and there are few
-pub numbers_within : (ops : List PlanOp) (order : List ℕ) (n : ℕ) → order ≡ order_of ops (stages_of ops) → n ≡ length ops → All (λ number. number < n) order
+pub numbers_within : (ops : List PlanOp) (order : List ℕ) (n : ℕ) → order ≡ order_of ops (stages_of ops) → n ≡ length ops
+    → All (λ number. number < n) order
 numbers_within ops order n e len =
     let P : List ℕ → Type 0 = λ l. All (λ number. number < n) l in
     let Q : ℕ → Type 0 = λ m. All (λ number. number < m) (order_of ops (stages_of ops)) in
     subst P (sym e) (subst Q (sym len) (order_within ops (stages_of ops)))
 
 -- the parts that were made
-pub record PartsOf (q : TypedQuery) (ops : List PlanOp) (streams : List StreamWires) (order registers : List ℕ) (sorted : List PlanOp) (wiring : List GroupWiring) (groups : List GroupPlan) (reads : FieldSet) : Type 0 where
+pub record PartsOf (q : TypedQuery) (ops : List PlanOp) (streams : List StreamWires) (order registers : List ℕ) (sorted : List PlanOp)
+    (wiring : List GroupWiring) (groups : List GroupPlan) (reads : FieldSet) : Type 0 where
   pub made : MadeOf q ops streams
   pub order_is : order ≡ order_of ops (stages_of ops)
   pub placed : ArePlaced order registers (length order)
@@ -65,11 +67,15 @@ pub record IsPut (q : TypedQuery) (plan : PlanParts) : Type 0 where
   pub is_plan : IsPlanOf q plan
   pub is_sound : IsSoundPlan plan
 
-pub put : (q : TypedQuery) (ops : List PlanOp) (streams : List StreamWires) (order registers : List ℕ) (new : List PlanOp) (wiring : List GroupWiring) (groups : List GroupPlan) (reads : FieldSet) →
-    PartsOf q ops streams order registers new wiring groups reads → IsPut q (record { reads = reads; ops = new; groups = groups; wiring = wiring })
+pub put : (q : TypedQuery) (ops : List PlanOp) (streams : List StreamWires) (order registers : List ℕ) (new : List PlanOp)
+    (wiring : List GroupWiring) (groups : List GroupPlan) (reads : FieldSet) →
+    PartsOf q ops streams order registers new wiring groups reads → IsPut q
+    (record { reads = reads; ops = new; groups = groups; wiring = wiring })
 put q ops streams order registers new wiring groups reads p = subst (IsPut q) same (record {
-  is_plan = is_plan q p.made.valid ops streams made p.made.ops_are p.made.streams_are p.made.few registers placed p.long groups p.shapes p.sound p.count reads p.reads_are;
-  is_sound = sound_plan q p.made.valid ops streams made p.made.ops_are p.made.streams_are p.made.few registers placed p.long groups p.shapes p.sound p.count reads p.reads_are;
+  is_plan = is_plan q p.made.valid ops streams made p.made.ops_are p.made.streams_are p.made.few registers placed p.long groups p.shapes
+      p.sound p.count reads p.reads_are;
+  is_sound = sound_plan q p.made.valid ops streams made p.made.ops_are p.made.streams_are p.made.few registers placed p.long groups p.shapes
+      p.sound p.count reads p.reads_are;
 })
   where
     made : QueryMade q ops streams
@@ -78,14 +84,17 @@ put q ops streams order registers new wiring groups reads p = subst (IsPut q) sa
     placed : ArePlaced (order_of ops (stages_of ops)) registers (length (order_of ops (stages_of ops)))
     placed = let P : List ℕ → Type 0 = λ o. ArePlaced o registers (length o) in subst P p.order_is p.placed
 
-    same : parts_with reads groups (map (λ number. moved_op registers (op_numbered ops number)) (order_of ops (stages_of ops))) (map (wiring_of registers streams) (takings q.streams))
+    same : parts_with reads groups (map (λ number. moved_op registers (op_numbered ops number)) (order_of ops (stages_of ops)))
+        (map (wiring_of registers streams) (takings q.streams))
         ≡ record { reads = reads; ops = new; groups = groups; wiring = wiring }
     same =
-        ap (λ o. parts_with reads groups (map (λ number. moved_op registers (op_numbered ops number)) o) (map (wiring_of registers streams) (takings q.streams))) (sym p.order_is)
+        ap (λ o. parts_with reads groups (map (λ number. moved_op registers (op_numbered ops number)) o)
+        (map (wiring_of registers streams) (takings q.streams))) (sym p.order_is)
         ∙ ap (λ o. parts_with reads groups o (map (wiring_of registers streams) (takings q.streams))) (sym p.sorted_are)
         ∙ ap (λ w. parts_with reads groups new w) (sym p.wiring_is)
 
-pub few_numbers : (q : TypedQuery) (ops : List PlanOp) (streams : List StreamWires) (order : List ℕ) → MadeOf q ops streams → order ≡ order_of ops (stages_of ops) → length order ≤ 32768
+pub few_numbers : (q : TypedQuery) (ops : List PlanOp) (streams : List StreamWires) (order : List ℕ) → MadeOf q ops streams
+    → order ≡ order_of ops (stages_of ops) → length order ≤ 32768
 few_numbers q ops streams order m e =
     let made : QueryMade q ops streams = made_query q ops streams m in
     let n : length (order_of ops (stages_of ops)) ≡ length ops = order_long ops (stages_of ops) (record {
@@ -95,13 +104,17 @@ few_numbers q ops streams order m e =
     omega (arith, ap length e, n, m.few)
 
 -- from what each step gives
-pub put_from : (q : TypedQuery) (ops o1 : List PlanOp) (streams s1 : List StreamWires) (t1 : List TypedStream) (stages : ℕ) (order a1 a2 registers r1 r2 : List ℕ) (new : List PlanOp) (wiring : List GroupWiring) (groups : List GroupPlan) (reads : FieldSet) →
-    MadeOf q ops streams → o1 ≡ ops → stages ≡ stages_of o1 → order ≡ order_of o1 stages → a1 ≡ order → ArePlaced a1 registers (length a1) → length registers ≡ length o1 →
+pub put_from : (q : TypedQuery) (ops o1 : List PlanOp) (streams s1 : List StreamWires) (t1 : List TypedStream) (stages : ℕ)
+    (order a1 a2 registers r1 r2 : List ℕ) (new : List PlanOp) (wiring : List GroupWiring) (groups : List GroupPlan) (reads : FieldSet) →
+    MadeOf q ops streams → o1 ≡ ops → stages ≡ stages_of o1 → order ≡ order_of o1 stages → a1 ≡ order → ArePlaced a1 registers (length a1)
+    → length registers ≡ length o1 →
     a2 ≡ order → r1 ≡ registers → new ≡ map (λ number. moved_op r1 (op_numbered o1 number)) a2 →
     t1 ≡ q.streams → s1 ≡ streams → r2 ≡ registers → wiring ≡ map (wiring_of r2 s1) (takings t1) →
-    map group_shape groups ≡ query_groups q → AreGroupsOf q.folds (takings q.streams) groups → length groups ≡ length (takings q.streams) → reads ≡ reads_of q →
+    map group_shape groups ≡ query_groups q → AreGroupsOf q.folds (takings q.streams) groups → length groups ≡ length (takings q.streams)
+    → reads ≡ reads_of q →
     IsPut q (record { reads = reads; ops = new; groups = groups; wiring = wiring })
-put_from q ops o1 streams s1 t1 stages order a1 a2 registers r1 r2 new wiring groups reads made eo es eorder ea1 placed long ea2 er1 enew et est er2 ewiring shapes sound count ereads =
+put_from q ops o1 streams s1 t1 stages order a1 a2 registers r1 r2 new wiring groups reads made eo es eorder ea1 placed long ea2 er1 enew et
+    est er2 ewiring shapes sound count ereads =
     put q ops streams order registers new wiring groups reads (record {
       made = made;
       order_is = eorder ∙ ap (order_of o1) es ∙ ap (λ o. order_of o (stages_of o)) eo;
@@ -121,12 +134,14 @@ put_from q ops o1 streams s1 t1 stages order a1 a2 registers r1 r2 new wiring gr
     })
 
 -- the order that a step gives
-pub order_from : (ops o1 : List PlanOp) (stages : ℕ) (order a1 : List ℕ) → o1 ≡ ops → stages ≡ stages_of o1 → order ≡ order_of o1 stages → a1 ≡ order → a1 ≡ order_of ops (stages_of ops)
+pub order_from : (ops o1 : List PlanOp) (stages : ℕ) (order a1 : List ℕ) → o1 ≡ ops → stages ≡ stages_of o1 → order ≡ order_of o1 stages
+    → a1 ≡ order → a1 ≡ order_of ops (stages_of ops)
 order_from ops o1 stages order a1 eo es eorder ea1 = ea1 ∙ eorder ∙ ap (order_of o1) es ∙ ap (λ o. order_of o (stages_of o)) eo
 
 told : (q : TypedQuery) (answer : PlanAnswer) → IsTold (stage_fault q) answer → IsRefusal q answer
 told q (Refused fault) h = h
 told q Memory h = tt
 
-pub refusal : (q : TypedQuery) (answer : PlanAnswer) → IsTold (made_fault q.folds [] (packet_wires ∷ []) q.streams) answer → IsRefusal q answer
+pub refusal : (q : TypedQuery) (answer : PlanAnswer) → IsTold (made_fault q.folds [] (packet_wires ∷ []) q.streams) answer
+    → IsRefusal q answer
 refusal q answer h = told q answer (subst (λ o. IsTold o answer) (query_fault q) h)

@@ -1,7 +1,9 @@
 -- Registers in which each operation's own holds its result: there is one way to fill them, and the stages fill them so.
-use Rattle.std.proofs.Common.{◌≡◌, ℕ, zero, suc, ◌+◌, ◌-◌, ◌<◌, ◌≤◌, ◌≢◌, true, false, eqb, ltb, List, [], ◌∷◌, ◌++◌, length, get_or, set, take, drop, Some, refl, sym, ap, ◌∙◌, inl, inr, arith, length-append, length-drop}
+use Rattle.std.proofs.Common.{◌≡◌, ℕ, zero, suc, ◌+◌, ◌-◌, ◌<◌, ◌≤◌, ◌≢◌, true, false, eqb, ltb, List, [], ◌∷◌, ◌++◌, length, get_or, set}
+use Rattle.std.proofs.Common.{take, drop, Some, refl, sym, ap, ◌∙◌, inl, inr, arith, length-append, length-drop}
 use Rattle.std.specs.Prelude.{slice_get, option_map, unwrap_or, if◌then◌else◌, ◌==◌, replicate}
-use Rattle.std.proofs.lemmas.List.{ext_get_or, get_or-set_same, get_or-set_other, get_or-take, get_or-drop, length-replicate, take_at, get_or-append_right, length-take-le}
+use Rattle.std.proofs.lemmas.List.{ext_get_or, get_or-set_same, get_or-set_other, get_or-take, get_or-drop, length-replicate, take_at}
+use Rattle.std.proofs.lemmas.List.{get_or-append_right, length-take-le}
 use Rattle.std.proofs.lemmas.Option.{slice_get_within, same_Some, slice_get_cases, slice_get-get_or}
 use Rattle.std.proofs.lemmas.Bool.{cases_eq, cases_lt}
 use Rattle.std.proofs.lemmas.Bool.Decides.{nat_tests}
@@ -12,11 +14,13 @@ use Rattle.stage_plan.specs.Registers.{operand_value, operation_value, result_of
 use Rattle.stage_plan.specs.Sound.{IsWithin, IsSoundOp, AreSoundOps}
 
 -- two lists of registers that agree below a number give an operand below it one value
-pub same_operand : (r s : List ℕ) (n : ℕ) (o : Operand) → ((k : ℕ) → k < n → get_or r k 0 ≡ get_or s k 0) → IsWithin n o → operand_value r o ≡ operand_value s o
+pub same_operand : (r s : List ℕ) (n : ℕ) (o : Operand) → ((k : ℕ) → k < n → get_or r k 0 ≡ get_or s k 0) → IsWithin n o
+    → operand_value r o ≡ operand_value s o
 same_operand r s n (Register k) same within = same k within
 same_operand r s n (Number v) same within = refl
 
-pub same_result : (r s : List ℕ) (n : ℕ) (one : PlanOp) → ((k : ℕ) → k < n → get_or r k 0 ≡ get_or s k 0) → IsWithin n one.left → IsWithin n one.right → result_of r one ≡ result_of s one
+pub same_result : (r s : List ℕ) (n : ℕ) (one : PlanOp) → ((k : ℕ) → k < n → get_or r k 0 ≡ get_or s k 0) → IsWithin n one.left
+    → IsWithin n one.right → result_of r one ≡ result_of s one
 same_result r s n one same left right =
     let a = same_operand r s n one.left same left in
     let b = same_operand r s n one.right same right in
@@ -29,7 +33,8 @@ pub record Filled (ops : List PlanOp) (words registers : List ℕ) : Type 0 wher
   pub each : (i : ℕ) (one : PlanOp) → slice_get ops i ≡ Some one → get_or registers (14 + i) 0 ≡ result_of registers one
 
 -- the registers of the first operations are determined
-agree : (ops : List PlanOp) (words r s : List ℕ) → AreSoundOps ops → Filled ops words r → Filled ops words s → (n : ℕ) → n ≤ length ops → (k : ℕ) → k < 14 + n → get_or r k 0 ≡ get_or s k 0
+agree : (ops : List PlanOp) (words r s : List ℕ) → AreSoundOps ops → Filled ops words r → Filled ops words s → (n : ℕ) → n ≤ length ops
+    → (k : ℕ) → k < 14 + n → get_or r k 0 ≡ get_or s k 0
 agree ops words r s sound fr fs zero le k lt =
     let lt' : k < 14 = omega arith in
     sym (get_or-take 14 r k 0 lt') ∙ ap (λ l. get_or l k 0) (fr.front ∙ sym fs.front) ∙ get_or-take 14 s k 0 lt'
@@ -40,7 +45,8 @@ agree ops words r s sound fr fs (suc n) le k lt =
           elim (cases_eq k (14 + n)) [
             | inl same ↦
                 let one = found.0 in let here = sound.each n one found.2 in
-                ap (λ j. get_or r j 0) same ∙ fr.each n one found.2 ∙ same_result r s (14 + n) one before here.left here.right ∙ sym (fs.each n one found.2) ∙ ap (λ j. get_or s j 0) (sym same)
+                ap (λ j. get_or r j 0) same ∙ fr.each n one found.2 ∙ same_result r s (14 + n) one before here.left here.right
+                ∙ sym (fs.each n one found.2) ∙ ap (λ j. get_or s j 0) (sym same)
             | inr other ↦ before k (omega arith)
           ]
       | inr past ↦ before k (omega arith)
@@ -55,37 +61,47 @@ within_more m n (Register r) le h = omega arith
 within_more m n (Number v) le h = tt
 
 -- the operation at a place of the list reads registers that are there
-pub reads_left : (ops : List PlanOp) (i n : ℕ) (d : PlanOp) → AreSoundOps ops → i < length ops → 14 + length ops ≤ n → IsWithin n (get_or ops i d).left
-reads_left ops i n d sound lt le = within_more (14 + i) n (get_or ops i d).left (omega arith) (sound.each i (get_or ops i d) (slice_get-get_or ops i d lt)).left
+pub reads_left : (ops : List PlanOp) (i n : ℕ) (d : PlanOp) → AreSoundOps ops → i < length ops → 14 + length ops ≤ n
+    → IsWithin n (get_or ops i d).left
+reads_left ops i n d sound lt le = within_more (14 + i) n (get_or ops i d).left (omega arith)
+    (sound.each i (get_or ops i d) (slice_get-get_or ops i d lt)).left
 
-pub reads_right : (ops : List PlanOp) (i n : ℕ) (d : PlanOp) → AreSoundOps ops → i < length ops → 14 + length ops ≤ n → IsWithin n (get_or ops i d).right
-reads_right ops i n d sound lt le = within_more (14 + i) n (get_or ops i d).right (omega arith) (sound.each i (get_or ops i d) (slice_get-get_or ops i d lt)).right
+pub reads_right : (ops : List PlanOp) (i n : ℕ) (d : PlanOp) → AreSoundOps ops → i < length ops → 14 + length ops ≤ n
+    → IsWithin n (get_or ops i d).right
+reads_right ops i n d sound lt le = within_more (14 + i) n (get_or ops i d).right (omega arith)
+    (sound.each i (get_or ops i d) (slice_get-get_or ops i d lt)).right
 
 -- one more result, which no earlier one reads
 pub results_more : (ops : List PlanOp) (r : List ℕ) (n v : ℕ) (d : PlanOp) → AreSoundOps ops → n < length ops → length r ≡ 14 + length ops →
     ((i : ℕ) (one : PlanOp) → i < n → slice_get ops i ≡ Some one → get_or r (14 + i) 0 ≡ result_of r one) →
     v ≡ result_of r (get_or ops n d) →
-    (i : ℕ) (one : PlanOp) → i < n + 1 → slice_get ops i ≡ Some one → get_or (set r (14 + n) v) (14 + i) 0 ≡ result_of (set r (14 + n) v) one
+    (i : ℕ) (one : PlanOp) → i < n + 1 → slice_get ops i ≡ Some one → get_or (set r (14 + n) v) (14 + i) 0 ≡ result_of (set r (14 + n) v)
+    one
 results_more ops r n v d sound lt long before is i one below found =
     let here = sound.each i one found in
-    let other : (k : ℕ) → k < 14 + i → get_or (set r (14 + n) v) k 0 ≡ get_or r k 0 = λ k h. (let ne : k ≢ 14 + n = omega arith in get_or-set_other r (14 + n) k v 0 ne) in
-    let same : result_of (set r (14 + n) v) one ≡ result_of r one = same_result (set r (14 + n) v) r (14 + i) one other here.left here.right in
+    let other : (k : ℕ) → k < 14 + i → get_or (set r (14 + n) v) k 0 ≡ get_or r k 0 =
+    λ k h. (let ne : k ≢ 14 + n = omega arith in get_or-set_other r (14 + n) k v 0 ne) in
+    let same : result_of (set r (14 + n) v) one ≡ result_of r one = same_result (set r (14 + n) v) r (14 + i) one other here.left
+    here.right in
     elim (cases_eq i n) [
       | inl at ↦
           let room : 14 + n < length r = omega arith in
           let there : one ≡ get_or ops n d = same_Some _ _ (sym found ∙ ap (slice_get ops) at ∙ slice_get-get_or ops n d lt) in
-          ap (λ j. get_or (set r (14 + n) v) (14 + j) 0) at ∙ get_or-set_same r (14 + n) v 0 room ∙ is ∙ ap (result_of r) (sym there) ∙ sym same
+          ap (λ j. get_or (set r (14 + n) v) (14 + j) 0) at ∙ get_or-set_same r (14 + n) v 0 room ∙ is ∙ ap (result_of r) (sym there)
+          ∙ sym same
       | inr apart ↦
           let ne : 14 + i ≢ 14 + n = omega arith in
           get_or-set_other r (14 + n) (14 + i) v 0 ne ∙ before i one (omega arith) found ∙ sym same
     ]
 
-pub length_results : (stage : ℕ) (r : List ℕ) (ops : List PlanOp) (olds : List ℕ) → length olds ≡ length ops → length (stage_results stage r ops olds) ≡ length ops
+pub length_results : (stage : ℕ) (r : List ℕ) (ops : List PlanOp) (olds : List ℕ) → length olds ≡ length ops
+    → length (stage_results stage r ops olds) ≡ length ops
 length_results stage r [] olds e = refl
 length_results stage r (one ∷ ops) [] e = absurd (omega arith)
 length_results stage r (one ∷ ops) (old ∷ olds) e = ap suc (length_results stage r ops olds (omega arith))
 
-pub at_results : (stage : ℕ) (r : List ℕ) (ops : List PlanOp) (olds : List ℕ) (i : ℕ) (one : PlanOp) → length olds ≡ length ops → slice_get ops i ≡ Some one →
+pub at_results : (stage : ℕ) (r : List ℕ) (ops : List PlanOp) (olds : List ℕ) (i : ℕ) (one : PlanOp) → length olds ≡ length ops
+    → slice_get ops i ≡ Some one →
     get_or (stage_results stage r ops olds) i 0 ≡ (if one.stage == stage then result_of r one else get_or olds i 0)
 at_results stage r [] olds i one e found = cc
 at_results stage r (first ∷ ops) [] i one e found = absurd (omega arith)
@@ -105,7 +121,13 @@ module _ (ops : List PlanOp) (r : List ℕ) (stage : ℕ) (long : length r ≡ 1
   olds_long = omega (arith, length-drop 14 r)
 
   pub length_stage : length next ≡ 14 + length ops
-  length_stage = omega (arith, length-append (take 14 r) (stage_results stage r ops (drop 14 r)), front_long, length_results stage r ops (drop 14 r) olds_long)
+  length_stage = omega (
+    arith,
+    length-append (take 14 r) (stage_results stage r ops (drop 14 r)),
+    front_long,
+    length_results stage r ops
+        (drop 14 r) olds_long,
+  )
 
   pub front_stage : take 14 next ≡ take 14 r
   front_stage = take_at (take 14 r) (stage_results stage r ops (drop 14 r)) 14 front_long
@@ -120,7 +142,8 @@ module _ (ops : List PlanOp) (r : List ℕ) (stage : ℕ) (long : length r ≡ 1
       ∙ ap (λ old. if one.stage == stage then result_of r one else old) (get_or-drop 14 r i 0)
 
 -- the stage of a register that an operation writes
-pub stage_of_register : (ops : List PlanOp) (j : ℕ) (one : PlanOp) → slice_get ops j ≡ Some one → operand_stage ops (Register (14 + j)) ≡ one.stage
+pub stage_of_register : (ops : List PlanOp) (j : ℕ) (one : PlanOp) → slice_get ops j ≡ Some one
+    → operand_stage ops (Register (14 + j)) ≡ one.stage
 stage_of_register ops j one found =
     let late : ltb (14 + j) 14 ≡ false = grind (arith, nat_tests) in
     let back : 14 + j - 14 ≡ j = omega arith in
@@ -135,7 +158,8 @@ kept_operand ops r stage long (Number v) within below = refl
 kept_operand ops r stage long (Register k) within below =
     elim (cases_lt k 14) [
       | inl field ↦
-          sym (get_or-take 14 (next ops r stage long) k 0 field) ∙ ap (λ l. get_or l k 0) (front_stage ops r stage long) ∙ get_or-take 14 r k 0 field
+          sym (get_or-take 14 (next ops r stage long) k 0 field) ∙ ap (λ l. get_or l k 0) (front_stage ops r stage long)
+          ∙ get_or-take 14 r k 0 field
       | inr later ↦
           let j : ℕ = k - 14 in
           let at : k ≡ 14 + j = omega arith in
@@ -143,7 +167,8 @@ kept_operand ops r stage long (Register k) within below =
           elim ((slice_get_cases ops j).1) [
             | inl found ↦
                 let other : PlanOp = found.0 in
-                let same : operand_stage ops (Register k) ≡ other.stage = ap (λ n. operand_stage ops (Register n)) at ∙ stage_of_register ops j other found.2 in
+                let same : operand_stage ops (Register k) ≡ other.stage = ap (λ n. operand_stage ops (Register n)) at
+                ∙ stage_of_register ops j other found.2 in
                 let earlier : eqb other.stage stage ≡ false = grind (arith, nat_tests) in
                 ap (λ n. get_or (next ops r stage long) n 0) at
                 ∙ at_stage ops r stage long j other found.2
@@ -156,9 +181,12 @@ kept_operand ops r stage long (Register k) within below =
 pub kept_result : (ops : List PlanOp) (r : List ℕ) (stage : ℕ) (long : length r ≡ 14 + length ops) (i : ℕ) (one : PlanOp) →
     i < length ops → IsSoundOp ops i one → one.stage ≤ stage → result_of (next ops r stage long) one ≡ result_of r one
 kept_result ops r stage long i one lt sound le =
-    let a = kept_operand ops r stage long one.left (within_more (14 + i) (14 + length ops) one.left (omega arith) sound.left) (omega (arith, sound.stage)) in
-    let b = kept_operand ops r stage long one.right (within_more (14 + i) (14 + length ops) one.right (omega arith) sound.right) (omega (arith, sound.stage)) in
-    ap (λ x. operation_value one.op x (operand_value (next ops r stage long) one.right)) a ∙ ap (λ y. operation_value one.op (operand_value r one.left) y) b
+    let a = kept_operand ops r stage long one.left (within_more (14 + i) (14 + length ops) one.left (omega arith) sound.left)
+    (omega (arith, sound.stage)) in
+    let b = kept_operand ops r stage long one.right (within_more (14 + i) (14 + length ops) one.right (omega arith) sound.right)
+    (omega (arith, sound.stage)) in
+    ap (λ x. operation_value one.op x (operand_value (next ops r stage long) one.right)) a
+    ∙ ap (λ y. operation_value one.op (operand_value r one.left) y) b
 
 pub length_after : (ops : List PlanOp) (words : List ℕ) → length words ≡ 14 → (s : ℕ) → length (after ops words s) ≡ 14 + length ops
 length_after ops words long zero = omega (arith, length-append words (replicate (length ops) 0), length-replicate {A = ℕ} (length ops) 0)
@@ -166,25 +194,30 @@ length_after ops words long (suc s) = length_stage ops (after ops words s) (suc 
 
 pub front_after : (ops : List PlanOp) (words : List ℕ) → length words ≡ 14 → (s : ℕ) → take 14 (after ops words s) ≡ words
 front_after ops words long zero = take_at words (replicate (length ops) 0) 14 long
-front_after ops words long (suc s) = front_stage ops (after ops words s) (suc s) (length_after ops words long s) ∙ front_after ops words long s
+front_after ops words long (suc s) = front_stage ops (after ops words s) (suc s) (length_after ops words long s)
+    ∙ front_after ops words long s
 
 -- once an operation's stage is over, its register holds its result
-pub settled : (ops : List PlanOp) (words : List ℕ) → AreSoundOps ops → length words ≡ 14 → (s i : ℕ) (one : PlanOp) → slice_get ops i ≡ Some one → one.stage ≤ s →
+pub settled : (ops : List PlanOp) (words : List ℕ) → AreSoundOps ops → length words ≡ 14 → (s i : ℕ) (one : PlanOp)
+    → slice_get ops i ≡ Some one → one.stage ≤ s →
     get_or (after ops words s) (14 + i) 0 ≡ result_of (after ops words s) one
 settled ops words sound long zero i one found le = absurd (omega (arith, (sound.each i one found).stage))
 settled ops words sound long (suc s) i one found le =
     let lt : i < length ops = slice_get_within ops i one found in
     let r : List ℕ = after ops words s in
     let size : length r ≡ 14 + length ops = length_after ops words long s in
-    let here : get_or (next ops r (suc s) size) (14 + i) 0 ≡ (if one.stage == suc s then result_of r one else get_or r (14 + i) 0) = at_stage ops r (suc s) size i one found in
-    let kept : result_of (next ops r (suc s) size) one ≡ result_of r one = kept_result ops r (suc s) size i one lt (sound.each i one found) le in
+    let here : get_or (next ops r (suc s) size) (14 + i) 0 ≡ (if one.stage == suc s then result_of r one else get_or r (14 + i) 0) =
+    at_stage ops r (suc s) size i one found in
+    let kept : result_of (next ops r (suc s) size) one ≡ result_of r one =
+    kept_result ops r (suc s) size i one lt (sound.each i one found) le in
     elim (cases_eq one.stage (suc s)) [
       | inl now ↦
           let test : eqb one.stage (suc s) ≡ true = grind (arith, nat_tests) in
           here ∙ ap (λ b. if b then result_of r one else get_or r (14 + i) 0) test ∙ sym kept
       | inr earlier ↦
           let test : eqb one.stage (suc s) ≡ false = grind (arith, nat_tests) in
-          here ∙ ap (λ b. if b then result_of r one else get_or r (14 + i) 0) test ∙ settled ops words sound long s i one found (omega arith) ∙ sym kept
+          here ∙ ap (λ b. if b then result_of r one else get_or r (14 + i) 0) test
+          ∙ settled ops words sound long s i one found (omega arith) ∙ sym kept
     ]
 
 pub stage_below : (ops : List PlanOp) (i : ℕ) (one : PlanOp) → slice_get ops i ≡ Some one → one.stage ≤ stages_of ops
@@ -194,7 +227,8 @@ stage_below (first ∷ ops) zero one found =
 stage_below (first ∷ ops) (suc i) one found = omega (arith, stage_below ops i one found)
 
 -- after the last stage each operation's register holds its result
-pub after_filled : (ops : List PlanOp) (words : List ℕ) → AreSoundOps ops → length words ≡ 14 → Filled ops words (after ops words (stages_of ops))
+pub after_filled : (ops : List PlanOp) (words : List ℕ) → AreSoundOps ops → length words ≡ 14
+    → Filled ops words (after ops words (stages_of ops))
 after_filled ops words sound long = record {
   long = length_after ops words long (stages_of ops);
   front = front_after ops words long (stages_of ops);
@@ -202,5 +236,7 @@ after_filled ops words sound long = record {
 }
 
 -- registers that were filled in turn are those after the last stage
-pub filled_is_after : (ops : List PlanOp) (words r : List ℕ) → AreSoundOps ops → length words ≡ 14 → Filled ops words r → r ≡ after ops words (stages_of ops)
-filled_is_after ops words r sound long filled = one_filling ops words r (after ops words (stages_of ops)) sound filled (after_filled ops words sound long)
+pub filled_is_after : (ops : List PlanOp) (words r : List ℕ) → AreSoundOps ops → length words ≡ 14 → Filled ops words r
+    → r ≡ after ops words (stages_of ops)
+filled_is_after ops words r sound long filled = one_filling ops words r (after ops words (stages_of ops)) sound filled
+    (after_filled ops words sound long)

@@ -1,5 +1,6 @@
 -- The streams of a query packet by packet: each has one row or none for a packet.
-use Rattle.std.proofs.Common.{◌≡◌, ℕ, zero, suc, ◌+◌, ◌<◌, ◌≤◌, Bool, true, false, cond, eqb, List, [], ◌∷◌, ◌++◌, length, get_or, Some, None, Option, refl, sym, ap, ◌∙◌, inl, inr, arith, append_assoc}
+use Rattle.std.proofs.Common.{◌≡◌, ℕ, zero, suc, ◌+◌, ◌<◌, ◌≤◌, Bool, true, false, cond, eqb, List, [], ◌∷◌, ◌++◌, length, get_or, Some}
+use Rattle.std.proofs.Common.{None, Option, refl, sym, ap, ◌∙◌, inl, inr, arith, append_assoc}
 use Rattle.std.specs.Prelude.{All, map, filter, find, fold, slice_get, option_map, unwrap_or, if◌then◌else◌, ◌==◌}
 use Rattle.std.specs.List.{cons_option}
 use Rattle.std.proofs.lemmas.Bool.{cases_eq, cases_lt}
@@ -14,7 +15,8 @@ use Rattle.query_lang.specs.declared.typed.TypedOp.{TypedOp}
 use Rattle.query_lang.specs.declared.typed.TypedOp.TheVariants.{Filter, Map, Zip, Group}
 use Rattle.query_lang.specs.declared.typed.TypedQuery.{TypedQuery}
 use Rattle.query_lang.specs.declared.typed.TypedStream.{TypedStream}
-use Rattle.query_lang.specs.Streams.{Tuple, numbered, values_at, expr_value, emits_at, filter_stream, map_stream, zip_stream, group_stream, list_at, made_of, stream, Taking, takings}
+use Rattle.query_lang.specs.Streams.{Tuple, numbered, values_at, expr_value, emits_at, filter_stream, map_stream, zip_stream, group_stream}
+use Rattle.query_lang.specs.Streams.{list_at, made_of, stream, Taking, takings}
 use Rattle.query_types.specs.Uses.{use_of, taken_by, uses}
 use Rattle.stage_plan.proofs.Lists.{slice_get-last}
 
@@ -68,10 +70,12 @@ abbrev pub tuples : (List ℕ → Row) → ℕ → List (List ℕ) → List Tupl
 tuples f n [] = []
 tuples f n (words ∷ packets) = tuple_of n (f words) ++ tuples f (suc n) packets
 
-same_tuples : (f g : List ℕ → Row) → ((words : List ℕ) → f words ≡ g words) → (n : ℕ) (packets : List (List ℕ)) → tuples f n packets ≡ tuples g n packets
+same_tuples : (f g : List ℕ → Row) → ((words : List ℕ) → f words ≡ g words) → (n : ℕ) (packets : List (List ℕ))
+    → tuples f n packets ≡ tuples g n packets
 same_tuples f g same n [] = refl
 same_tuples f g same n (words ∷ packets) =
-    ap (λ o. tuple_of n o ++ tuples f (suc n) packets) (same words) ∙ ap (λ l. tuple_of n (g words) ++ l) (same_tuples f g same (suc n) packets)
+    ap (λ o. tuple_of n o ++ tuples f (suc n) packets) (same words) ∙ ap (λ l. tuple_of n (g words) ++ l)
+    (same_tuples f g same (suc n) packets)
 
 numbered_are : (n : ℕ) (packets : List (List ℕ)) → numbered n packets ≡ tuples (λ words. Some words) n packets
 numbered_are n [] = refl
@@ -84,11 +88,13 @@ filter_are condition f n (words ∷ packets) = go (f words)
     (filter_are condition f (suc n) packets)
   where
     go : (o : Row) → filter_stream condition (tuples f (suc n) packets) ≡ tuples (λ words. filter_row condition (f words)) (suc n) packets →
-        filter_stream condition (tuple_of n o ++ tuples f (suc n) packets) ≡ tuple_of n (filter_row condition o) ++ tuples (λ words. filter_row condition (f words)) (suc n) packets
+        filter_stream condition (tuple_of n o ++ tuples f (suc n) packets) ≡ tuple_of n (filter_row condition o)
+        ++ tuples (λ words. filter_row condition (f words)) (suc n) packets
     go None rest = rest
     go (Some row) rest = pick (holds (expr_value condition row))
       where
-        pick : (b : Bool) → cond b (record { packet = n; row = row } ∷ filter_stream condition (tuples f (suc n) packets)) (filter_stream condition (tuples f (suc n) packets))
+        pick : (b : Bool) → cond b (record { packet = n; row = row } ∷ filter_stream condition (tuples f (suc n) packets))
+            (filter_stream condition (tuples f (suc n) packets))
             ≡ tuple_of n (cond b (Some row) None) ++ tuples (λ words. filter_row condition (f words)) (suc n) packets
         pick true = ap (λ l. record { packet = n; row = row } ∷ l) rest
         pick false = rest
@@ -99,7 +105,8 @@ map_are values f n [] = refl
 map_are values f n (words ∷ packets) = go (f words) (map_are values f (suc n) packets)
   where
     go : (o : Row) → map_stream values (tuples f (suc n) packets) ≡ tuples (λ words. map_row values (f words)) (suc n) packets →
-        map_stream values (tuple_of n o ++ tuples f (suc n) packets) ≡ tuple_of n (map_row values o) ++ tuples (λ words. map_row values (f words)) (suc n) packets
+        map_stream values (tuple_of n o ++ tuples f (suc n) packets) ≡ tuple_of n (map_row values o)
+        ++ tuples (λ words. map_row values (f words)) (suc n) packets
     go None rest = rest
     go (Some row) rest = ap (λ l. record { packet = n; row = row ++ map (λ e. expr_value e row) values } ∷ l) rest
 
@@ -108,13 +115,17 @@ emit_are : (f : TypedFold) (keys args : List ℕ) (g : List ℕ → Row) (n : �
 emit_are f keys args g n [] = refl
 emit_are f keys args g n (words ∷ packets) = go (g words) (emit_are f keys args g (suc n) packets)
   where
-    go : (o : Row) → group_stream (Some f) keys args (tuples g (suc n) packets) ≡ tuples (λ words. emit_row f keys args (g words)) (suc n) packets →
-        group_stream (Some f) keys args (tuple_of n o ++ tuples g (suc n) packets) ≡ tuple_of n (emit_row f keys args o) ++ tuples (λ words. emit_row f keys args (g words)) (suc n) packets
+    go : (o : Row) → group_stream (Some f) keys args (tuples g (suc n) packets) ≡ tuples (λ words. emit_row f keys args (g words)) (suc n)
+        packets →
+        group_stream (Some f) keys args (tuple_of n o ++ tuples g (suc n) packets) ≡ tuple_of n (emit_row f keys args o)
+        ++ tuples (λ words. emit_row f keys args (g words)) (suc n) packets
     go None rest = rest
     go (Some row) rest = pick (emits_at f (values_at row args))
       where
         pick : (b : Bool) →
-            map (λ t. record { packet = t.packet; row = values_at t.row keys }) (cond b (record { packet = n; row = row } ∷ filter (λ t. emits_at f (values_at t.row args)) (tuples g (suc n) packets)) (filter (λ t. emits_at f (values_at t.row args)) (tuples g (suc n) packets)))
+            map (λ t. record { packet = t.packet; row = values_at t.row keys })
+            (cond b (record { packet = n; row = row } ∷ filter (λ t. emits_at f (values_at t.row args)) (tuples g (suc n) packets))
+            (filter (λ t. emits_at f (values_at t.row args)) (tuples g (suc n) packets)))
             ≡ tuple_of n (cond b (Some (values_at row keys)) None) ++ tuples (λ words. emit_row f keys args (g words)) (suc n) packets
         pick true = ap (λ l. record { packet = n; row = values_at row keys } ∷ l) rest
         pick false = rest
@@ -138,7 +149,8 @@ before_more n [] None h = tt
 before_more n [] (Some row) h = (omega arith, tt)
 before_more n (t ∷ list) o h = (omega (arith, h.0), before_more n list o h.1)
 
-find_after : (n : ℕ) (list rest : List Tuple) → AreBefore n list → find (λ other. other.packet == n) (list ++ rest) ≡ find (λ other. other.packet == n) rest
+find_after : (n : ℕ) (list rest : List Tuple) → AreBefore n list → find (λ other. other.packet == n) (list ++ rest) ≡ find
+    (λ other. other.packet == n) rest
 find_after n [] rest h = refl
 find_after n (t ∷ list) rest h =
     let other : eqb t.packet n ≡ false = (let lt = h.0 in grind (arith, nat_tests)) in
@@ -148,17 +160,20 @@ find_later : (f : List ℕ → Row) (n m : ℕ) (packets : List (List ℕ)) → 
 find_later f n m [] lt = refl
 find_later f n m (words ∷ packets) lt = go (f words) (find_later f n (suc m) packets (omega arith))
   where
-    go : (o : Row) → find (λ other. other.packet == n) (tuples f (suc m) packets) ≡ None → find (λ other. other.packet == n) (tuple_of m o ++ tuples f (suc m) packets) ≡ None
+    go : (o : Row) → find (λ other. other.packet == n) (tuples f (suc m) packets) ≡ None
+        → find (λ other. other.packet == n) (tuple_of m o ++ tuples f (suc m) packets) ≡ None
     go None rest = rest
     go (Some row) rest =
         let other : eqb m n ≡ false = grind (arith, nat_tests) in
-        ap (λ b. cond b (Some (record { packet = m; row = row })) (find (λ other. other.packet == n) (tuples f (suc m) packets))) other ∙ rest
+        ap (λ b. cond b (Some (record { packet = m; row = row })) (find (λ other. other.packet == n) (tuples f (suc m) packets))) other
+        ∙ rest
 
 find_here : (f : List ℕ → Row) (n : ℕ) (words : List ℕ) (packets : List (List ℕ)) →
     find (λ other. other.packet == n) (tuples f n (words ∷ packets)) ≡ option_map (λ row. record { packet = n; row = row }) (f words)
 find_here f n words packets = go (f words)
   where
-    go : (o : Row) → find (λ other. other.packet == n) (tuple_of n o ++ tuples f (suc n) packets) ≡ option_map (λ row. record { packet = n; row = row }) o
+    go : (o : Row) → find (λ other. other.packet == n) (tuple_of n o ++ tuples f (suc n) packets) ≡ option_map
+        (λ row. record { packet = n; row = row }) o
     go None = find_later f n (suc n) packets (omega arith)
     go (Some row) =
         let here : eqb n n ≡ true = grind (arith, nat_tests) in
@@ -177,20 +192,27 @@ zip_are slots f g n before (words ∷ packets) h =
     joined row None = []
     joined row (Some other) = record { packet = n; row = row ++ values_at other slots } ∷ []
 
-    found : find (λ other. other.packet == n) (before ++ tuples g n (words ∷ packets)) ≡ option_map (λ row. record { packet = n; row = row }) (g words)
+    found : find (λ other. other.packet == n) (before ++ tuples g n (words ∷ packets)) ≡ option_map
+        (λ row. record { packet = n; row = row }) (g words)
     found = find_after n before (tuples g n (words ∷ packets)) h ∙ find_here g n words packets
 
-    go : (o : Row) → zip_stream slots (tuples f (suc n) packets) ((before ++ tuple_of n (g words)) ++ tuples g (suc n) packets) ≡ tuples (λ words. zip_row slots (f words) (g words)) (suc n) packets →
-        zip_stream slots (tuple_of n o ++ tuples f (suc n) packets) (before ++ tuples g n (words ∷ packets)) ≡ tuple_of n (zip_row slots o (g words)) ++ tuples (λ words. zip_row slots (f words) (g words)) (suc n) packets
+    go : (o : Row) → zip_stream slots (tuples f (suc n) packets) ((before ++ tuple_of n (g words)) ++ tuples g (suc n) packets) ≡ tuples
+        (λ words. zip_row slots (f words) (g words)) (suc n) packets →
+        zip_stream slots (tuple_of n o ++ tuples f (suc n) packets) (before ++ tuples g n (words ∷ packets)) ≡ tuple_of n
+        (zip_row slots o (g words)) ++ tuples (λ words. zip_row slots (f words) (g words)) (suc n) packets
     go None rest = ap (zip_stream slots (tuples f (suc n) packets)) (sym right) ∙ rest
     go (Some row) rest =
-        ap (λ o. cons_option (option_map (λ other. record { packet = n; row = row ++ values_at other.row slots }) o) (zip_stream slots (tuples f (suc n) packets) (before ++ tuples g n (words ∷ packets)))) found
+        ap (λ o. cons_option (option_map (λ other. record { packet = n; row = row ++ values_at other.row slots }) o)
+        (zip_stream slots (tuples f (suc n) packets) (before ++ tuples g n (words ∷ packets)))) found
         ∙ last (g words)
       where
-        tail : zip_stream slots (tuples f (suc n) packets) (before ++ tuples g n (words ∷ packets)) ≡ tuples (λ words. zip_row slots (f words) (g words)) (suc n) packets
+        tail : zip_stream slots (tuples f (suc n) packets) (before ++ tuples g n (words ∷ packets)) ≡ tuples
+            (λ words. zip_row slots (f words) (g words)) (suc n) packets
         tail = ap (zip_stream slots (tuples f (suc n) packets)) (sym right) ∙ rest
 
-        last : (p : Row) → cons_option (option_map (λ (other : Tuple). record { packet = n; row = row ++ values_at other.row slots }) (option_map (λ row. record { packet = n; row = row }) p)) (zip_stream slots (tuples f (suc n) packets) (before ++ tuples g n (words ∷ packets)))
+        last : (p : Row) → cons_option (option_map (λ (other : Tuple). record { packet = n; row = row ++ values_at other.row slots })
+            (option_map (λ row. record { packet = n; row = row }) p)) (zip_stream slots (tuples f (suc n) packets)
+            (before ++ tuples g n (words ∷ packets)))
             ≡ tuple_of n (zip_row slots (Some row) p) ++ tuples (λ words. zip_row slots (f words) (g words)) (suc n) packets
         last None = tail
         last (Some other) = ap (λ l. record { packet = n; row = row ++ values_at other slots } ∷ l) tail
@@ -200,7 +222,8 @@ pub record AreRows (packets : List (List ℕ)) (streams : List (List Tuple)) (ro
   pub long : (words : List ℕ) → length (rows words) ≡ length streams
   pub each : (j : ℕ) → list_at streams j ≡ tuples (λ words. row_at (rows words) j) 1 packets
 
-rows_of_op : (folds : List TypedFold) (packets : List (List ℕ)) (streams : List (List Tuple)) (rows : List ℕ → List Row) (op : TypedOp) → AreRows packets streams rows →
+rows_of_op : (folds : List TypedFold) (packets : List (List ℕ)) (streams : List (List Tuple)) (rows : List ℕ → List Row) (op : TypedOp)
+    → AreRows packets streams rows →
     made_of folds streams op ≡ tuples (λ words. row_made folds (rows words) op) 1 packets
 rows_of_op folds packets streams rows (Filter input condition) are =
     ap (filter_stream condition) (are.each input) ∙ filter_are condition (λ words. row_at (rows words) input) 1 packets
@@ -211,10 +234,12 @@ rows_of_op folds packets streams rows (Zip left right slots) are =
     ∙ ap (zip_stream slots (tuples (λ words. row_at (rows words) left) 1 packets)) (are.each right)
     ∙ zip_are slots (λ words. row_at (rows words) left) (λ words. row_at (rows words) right) 1 [] packets tt
 rows_of_op folds packets streams rows (Group input keys f args) are =
-    ap (group_stream (slice_get folds f) keys args) (are.each input) ∙ group_are (slice_get folds f) keys args (λ words. row_at (rows words) input) 1 packets
+    ap (group_stream (slice_get folds f) keys args) (are.each input) ∙ group_are (slice_get folds f) keys args
+    (λ words. row_at (rows words) input) 1 packets
 
 -- the item at a place of a list with one more
-pub at_earlier : {A : Type 0} (xs : List A) (y d : A) (j : ℕ) → j < length xs → unwrap_or (slice_get (xs ++ y ∷ []) j) d ≡ unwrap_or (slice_get xs j) d
+pub at_earlier : {A : Type 0} (xs : List A) (y d : A) (j : ℕ) → j < length xs
+    → unwrap_or (slice_get (xs ++ y ∷ []) j) d ≡ unwrap_or (slice_get xs j) d
 at_earlier [] y d j lt = absurd (omega arith)
 at_earlier (x ∷ xs) y d zero lt = refl
 at_earlier (x ∷ xs) y d (suc j) lt = at_earlier xs y d j (omega arith)
@@ -226,31 +251,40 @@ pub at_past : {A : Type 0} (xs : List A) (d : A) (j : ℕ) → length xs ≤ j �
 at_past xs d j le = ap (λ o. unwrap_or o d) (slice_get_past xs j le)
 
 rows_more : (packets : List (List ℕ)) (streams : List (List Tuple)) (rows : List ℕ → List Row) (made : List Tuple) (row : List ℕ → Row) →
-    AreRows packets streams rows → made ≡ tuples row 1 packets → AreRows packets (streams ++ made ∷ []) (λ words. rows words ++ row words ∷ [])
+    AreRows packets streams rows → made ≡ tuples row 1 packets → AreRows packets (streams ++ made ∷ [])
+    (λ words. rows words ++ row words ∷ [])
 rows_more packets streams rows made row are is = record {
   long = λ words. length_push (rows words) (row words) ∙ ap (λ n. n + 1) (are.long words) ∙ sym (length_push streams made);
   each = λ j. elim (cases_lt j (length streams)) [
     | inl lt ↦
         at_earlier streams made [] j lt ∙ are.each j
-        ∙ same_tuples (λ words. row_at (rows words) j) (λ words. row_at (rows words ++ row words ∷ []) j) (λ words. sym (at_earlier (rows words) (row words) None j (let l = are.long words in omega arith))) 1 packets
+        ∙ same_tuples (λ words. row_at (rows words) j) (λ words. row_at (rows words ++ row words ∷ []) j)
+        (λ words. sym (at_earlier (rows words) (row words) None j (let l = are.long words in omega arith))) 1 packets
     | inr le ↦ elim (cases_eq j (length streams)) [
       | inl here ↦
           at_last streams made [] j here ∙ is
-          ∙ same_tuples row (λ words. row_at (rows words ++ row words ∷ []) j) (λ words. sym (at_last (rows words) (row words) None j (here ∙ sym (are.long words)))) 1 packets
+          ∙ same_tuples row (λ words. row_at (rows words ++ row words ∷ []) j)
+          (λ words. sym (at_last (rows words) (row words) None j (here ∙ sym (are.long words)))) 1 packets
       | inr past ↦
           at_past (streams ++ made ∷ []) [] j (let l = length_push streams made in omega arith)
           ∙ none_are 1 packets
-          ∙ same_tuples (λ words. None) (λ words. row_at (rows words ++ row words ∷ []) j) (λ words. sym (at_past (rows words ++ row words ∷ []) None j (let l = length_push (rows words) (row words) in let k = are.long words in omega arith))) 1 packets
+          ∙ same_tuples (λ words. None) (λ words. row_at (rows words ++ row words ∷ []) j)
+          (λ words. sym (at_past (rows words ++ row words ∷ []) None j
+          (let l = length_push (rows words) (row words) in let k = are.long words in omega arith))) 1 packets
     ]
   ];
 }
 
-rows_along : (folds : List TypedFold) (packets : List (List ℕ)) (list : List TypedStream) (streams : List (List Tuple)) (rows : List ℕ → List Row) → AreRows packets streams rows →
-    AreRows packets (fold (λ streams one. streams ++ made_of folds streams one.op ∷ []) streams list) (λ words. rows_from folds (rows words) list)
+rows_along : (folds : List TypedFold) (packets : List (List ℕ)) (list : List TypedStream) (streams : List (List Tuple))
+    (rows : List ℕ → List Row) → AreRows packets streams rows →
+    AreRows packets (fold (λ streams one. streams ++ made_of folds streams one.op ∷ []) streams list)
+    (λ words. rows_from folds (rows words) list)
 rows_along folds packets [] streams rows are = are
 rows_along folds packets (one ∷ list) streams rows are =
-    rows_along folds packets list (streams ++ made_of folds streams one.op ∷ []) (λ words. rows words ++ row_made folds (rows words) one.op ∷ [])
-    (rows_more packets streams rows (made_of folds streams one.op) (λ words. row_made folds (rows words) one.op) are (rows_of_op folds packets streams rows one.op are))
+    rows_along folds packets list (streams ++ made_of folds streams one.op ∷ [])
+    (λ words. rows words ++ row_made folds (rows words) one.op ∷ [])
+    (rows_more packets streams rows (made_of folds streams one.op) (λ words. row_made folds (rows words) one.op) are
+    (rows_of_op folds packets streams rows one.op are))
 
 first_rows : (packets : List (List ℕ)) → AreRows packets (numbered 1 packets ∷ []) (λ words. Some words ∷ [])
 first_rows packets = record {
@@ -263,14 +297,17 @@ first_rows packets = record {
     first (suc j) = none_are 1 packets
 
 -- a stream is its rows, packet by packet
-pub stream_rows : (q : TypedQuery) (i : ℕ) (packets : List (List ℕ)) → stream q i packets ≡ tuples (λ words. row_at (all_rows q words) i) 1 packets
-stream_rows q i packets = (rows_along q.folds packets q.streams (numbered 1 packets ∷ []) (λ words. Some words ∷ []) (first_rows packets)).each i
+pub stream_rows : (q : TypedQuery) (i : ℕ) (packets : List (List ℕ)) → stream q i packets ≡ tuples (λ words. row_at (all_rows q words) i) 1
+    packets
+stream_rows q i packets = (rows_along q.folds packets q.streams (numbered 1 packets ∷ []) (λ words. Some words ∷ [])
+    (first_rows packets)).each i
 
 -- what a groupby takes of a row
 abbrev pub row_taken : Taking → List ℕ → Taken
 row_taken t row = record { key = values_at row t.keys; row = values_at row t.args }
 
-uses_along : (t : Taking) (f : List ℕ → Row) (g : List ℕ → Option Taken) → ((words : List ℕ) → length words ≡ 14 → option_map (row_taken t) (f words) ≡ g words) →
+uses_along : (t : Taking) (f : List ℕ → Row) (g : List ℕ → Option Taken)
+    → ((words : List ℕ) → length words ≡ 14 → option_map (row_taken t) (f words) ≡ g words) →
     (n : ℕ) (packets : List (List ℕ)) → ((k : ℕ) (d : List ℕ) → k < length packets → length (get_or packets k d) ≡ 14) →
     map (use_of t) (tuples f n packets) ≡ uses_taken n (map g packets)
 uses_along t f g same n [] all = refl
@@ -280,7 +317,8 @@ uses_along t f g same n (words ∷ packets) all =
     go : (o : Row) → option_map (row_taken t) o ≡ g words → map (use_of t) (tuples f (suc n) packets) ≡ uses_taken (suc n) (map g packets) →
         map (use_of t) (tuple_of n o ++ tuples f (suc n) packets) ≡ uses_taken n (g words ∷ map g packets)
     go None e rest = rest ∙ ap (λ z. uses_taken n (z ∷ map g packets)) e
-    go (Some row) e rest = ap (λ l. record { packet = n; key = values_at row t.keys; row = values_at row t.args } ∷ l) rest ∙ ap (λ z. uses_taken n (z ∷ map g packets)) e
+    go (Some row) e rest = ap (λ l. record { packet = n; key = values_at row t.keys; row = values_at row t.args } ∷ l) rest
+        ∙ ap (λ z. uses_taken n (z ∷ map g packets)) e
 
 -- what a groupby takes, packet by packet
 pub uses_are : (q : TypedQuery) (i : ℕ) (t : Taking) (g : List ℕ → Option Taken) → slice_get (takings q.streams) i ≡ Some t →

@@ -34,14 +34,16 @@ pub stage_more : (ops : List PlanOp) (b size : ℕ) → size ≡ count_by (λ on
 stage_more ops b size is =
     let next : b + 1 ≡ suc b = omega arith in
     let place : b + 1 ≡ 1 + length (sizes_of b (stages ops)) = (let e = sizes_long b (stages ops) in omega arith) in
-    let count : size ≡ count_by (λ depth. depth == suc b) (stages ops) = is ∙ ap (λ k. count_by (λ (one : PlanOp). one.stage == k) ops) next ∙ sym (sum_map (λ depth. cond (depth == suc b) 1 0) (λ (one : PlanOp). one.stage) ops) in
+    let count : size ≡ count_by (λ depth. depth == suc b) (stages ops) = is ∙ ap (λ k. count_by (λ (one : PlanOp). one.stage == k) ops) next
+    ∙ sym (sum_map (λ depth. cond (depth == suc b) 1 0) (λ (one : PlanOp). one.stage) ops) in
     ap (λ k. stage_lines 1 (sizes_of b (stages ops)) ++ line (counted (counted (codes "stage") k) size)) place
     ∙ ap (λ x. stage_lines 1 (sizes_of b (stages ops)) ++ line (counted (counted (codes "stage") (1 + length (sizes_of b (stages ops)))) x)) count
     ∙ sym (lines_push 1 (sizes_of b (stages ops)) (count_by (λ depth. depth == suc b) (stages ops)))
     ∙ ap (stage_lines 1) (sym (map-append (λ stage. count_by (λ depth. depth == stage) (stages ops)) (up_to b) (suc b ∷ [])))
     ∙ ap (λ k. stage_lines 1 (sizes_of k (stages ops))) (sym next)
 
-five : (t0 t1 t2 t3 t4 t5 a b c d e : List ℕ) → t0 ≡ [] → t1 ≡ t0 ++ a → t2 ≡ t1 ++ b → t3 ≡ t2 ++ c → t4 ≡ t3 ++ d → t5 ≡ t4 ++ e → t5 ≡ a ++ (b ++ (c ++ (d ++ e)))
+five : (t0 t1 t2 t3 t4 t5 a b c d e : List ℕ) → t0 ≡ [] → t1 ≡ t0 ++ a → t2 ≡ t1 ++ b → t3 ≡ t2 ++ c → t4 ≡ t3 ++ d → t5 ≡ t4 ++ e → t5 ≡ a
+    ++ (b ++ (c ++ (d ++ e)))
 five t0 t1 t2 t3 t4 t5 a b c d e e0 e1 e2 e3 e4 e5 =
     let whole : t5 ≡ ((((([] ++ a) ++ b) ++ c) ++ d) ++ e) = cc in
     whole ∙ simp (append_assoc)
@@ -57,6 +59,7 @@ text_is p ways s o r b ops groups t0 t1 t2 t3 t4 t5 es eo er eb eops egroups e0 
     (flat_map group_line (map group_shape p.groups)) (line (counted (codes "bound") (plan_bound p ways))) e0
     (e1 ∙ ap (λ n. t0 ++ line (counted (codes "stages") n)) (es ∙ sym (sizes_long (stages_of p.ops) (stages p.ops))))
     (e2 ∙ ap (λ n. t1 ++ line (counted (codes "operations") n)) eo)
-    (e3 ∙ ap (λ n. t2 ++ stage_lines 1 (sizes_of n (stages ops))) er ∙ ap (λ l. t2 ++ stage_lines 1 (sizes_of (stages_of p.ops) (stages l))) eops)
+    (e3 ∙ ap (λ n. t2 ++ stage_lines 1 (sizes_of n (stages ops))) er ∙ ap (λ l. t2 ++ stage_lines 1 (sizes_of (stages_of p.ops) (stages l)))
+    eops)
     (e4 ∙ ap (λ l. t3 ++ flat_map group_line (map group_shape l)) egroups)
     (e5 ∙ ap (λ n. t4 ++ line (counted (codes "bound") n)) eb)

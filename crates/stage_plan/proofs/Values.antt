@@ -1,5 +1,6 @@
 -- Registers that hold each operation's result have the values of expressions and streams.
-use Rattle.std.proofs.Common.{◌≡◌, ℕ, zero, suc, ◌+◌, ◌<◌, ◌≤◌, Bool, true, false, List, [], ◌∷◌, ◌++◌, length, get_or, take, drop, Some, None, Option, refl, sym, ap, subst, ◌∙◌, inl, inr, arith, append_assoc, append-nil, drop-cons}
+use Rattle.std.proofs.Common.{◌≡◌, ℕ, zero, suc, ◌+◌, ◌<◌, ◌≤◌, Bool, true, false, List, [], ◌∷◌, ◌++◌, length, get_or, take, drop, Some}
+use Rattle.std.proofs.Common.{None, Option, refl, sym, ap, subst, ◌∙◌, inl, inr, arith, append_assoc, append-nil, drop-cons}
 use Rattle.std.specs.Prelude.{map, not, ◌&&◌, slice_get, slice_index, if◌then◌else◌}
 use Rattle.std.proofs.lemmas.Bool.{cases_eq, cases_lt}
 use Rattle.std.proofs.lemmas.List.{length_push, map-append}
@@ -19,9 +20,11 @@ use Rattle.stage_plan.specs.declared.op.Operation.TheVariants.{Not, Two}
 use Rattle.stage_plan.specs.declared.op.PlanOp.{PlanOp}
 use Rattle.stage_plan.specs.declared.wires.StreamWires.{StreamWires}
 use Rattle.stage_plan.specs.Registers.{operand_value, result_of}
-use Rattle.stage_plan.specs.Making.{compiled, compiled_all, op_on, operand_at, wires_at, packet_wires, joined, conditioned, mapped, zipped, emit_columns, emitted, grouped, made_by, all_made}
+use Rattle.stage_plan.specs.Making.{compiled, compiled_all, op_on, operand_at, wires_at, packet_wires, joined, conditioned, mapped, zipped}
+use Rattle.stage_plan.specs.Making.{emit_columns, emitted, grouped, made_by, all_made}
 use Rattle.stage_plan.proofs.Lists.{slice_get-left, slice_get-last}
-use Rattle.stage_plan.proofs.StreamRows.{Row, row_at, filter_row, map_row, zip_row, emit_row, group_row, row_made, rows_from, at_earlier, at_last, at_past}
+use Rattle.stage_plan.proofs.StreamRows.{Row, row_at, filter_row, map_row, zip_row, emit_row, group_row, row_made, rows_from, at_earlier}
+use Rattle.stage_plan.proofs.StreamRows.{at_last, at_past}
 
 -- a list of operations goes on from another
 pub record Extends (ops more : List PlanOp) : Type 0 where
@@ -45,39 +48,54 @@ compiled_extends columns (Negation e) ops =
     (one_more (compiled columns e ops).ops (op_on (compiled columns e ops).ops Not (compiled columns e ops).value (Number 0)))
 compiled_extends columns (Operation op a b) ops =
     and_more ops (compiled columns a ops).ops (compiled columns (Operation op a b) ops).ops (compiled_extends columns a ops)
-    (and_more (compiled columns a ops).ops (compiled columns b (compiled columns a ops).ops).ops (compiled columns (Operation op a b) ops).ops (compiled_extends columns b (compiled columns a ops).ops)
-    (one_more (compiled columns b (compiled columns a ops).ops).ops (op_on (compiled columns b (compiled columns a ops).ops).ops (Two op) (compiled columns a ops).value (compiled columns b (compiled columns a ops).ops).value)))
+    (and_more (compiled columns a ops).ops (compiled columns b (compiled columns a ops).ops).ops
+    (compiled columns (Operation op a b) ops).ops (compiled_extends columns b (compiled columns a ops).ops)
+    (one_more (compiled columns b (compiled columns a ops).ops).ops (op_on (compiled columns b (compiled columns a ops).ops).ops (Two op)
+    (compiled columns a ops).value (compiled columns b (compiled columns a ops).ops).value)))
 
-pub all_extend : (columns found : List Operand) (list : List Term) (ops : List PlanOp) → Extends ops (compiled_all columns found list ops).ops
+pub all_extend : (columns found : List Operand) (list : List Term) (ops : List PlanOp)
+    → Extends ops (compiled_all columns found list ops).ops
 all_extend columns found [] ops = same_ops ops
 all_extend columns found (e ∷ list) ops =
     and_more ops (compiled columns e ops).ops (compiled_all columns found (e ∷ list) ops).ops (compiled_extends columns e ops)
     (all_extend columns (found ++ (compiled columns e ops).value ∷ []) list (compiled columns e ops).ops)
 
-pub conditioned_extends : (over : List Operand) (condition : Term) (ops : List PlanOp) (present : Operand) (columns : List Operand) → Extends ops (conditioned over condition ops present columns).ops
+pub conditioned_extends : (over : List Operand) (condition : Term) (ops : List PlanOp) (present : Operand) (columns : List Operand)
+    → Extends ops (conditioned over condition ops present columns).ops
 conditioned_extends over condition ops present columns =
-    and_more ops (compiled over condition ops).ops (conditioned over condition ops present columns).ops (compiled_extends over condition ops)
-    (one_more (compiled over condition ops).ops (op_on (compiled over condition ops).ops (Two Both) present (compiled over condition ops).value))
+    and_more ops (compiled over condition ops).ops (conditioned over condition ops present columns).ops
+    (compiled_extends over condition ops)
+    (one_more (compiled over condition ops).ops (op_on (compiled over condition ops).ops (Two Both) present
+    (compiled over condition ops).value))
 
-emitted_extends : (o : Option TypedExpr) (over : List Operand) (input : StreamWires) (keys : List Operand) (ops : List PlanOp) → Extends ops (emitted o over input keys ops).ops
+emitted_extends : (o : Option TypedExpr) (over : List Operand) (input : StreamWires) (keys : List Operand) (ops : List PlanOp)
+    → Extends ops (emitted o over input keys ops).ops
 emitted_extends None over input keys ops = same_ops ops
 emitted_extends (Some condition) over input keys ops = conditioned_extends over (term_of condition) ops input.present keys
 
-grouped_extends : (o : Option TypedFold) (input : StreamWires) (keys args : List ℕ) (ops : List PlanOp) → Extends ops (grouped o input keys args ops).ops
+grouped_extends : (o : Option TypedFold) (input : StreamWires) (keys args : List ℕ) (ops : List PlanOp)
+    → Extends ops (grouped o input keys args ops).ops
 grouped_extends None input keys args ops = same_ops ops
-grouped_extends (Some f) input keys args ops = emitted_extends f.emit (emit_columns f.initial input.columns args) input (map (operand_at input.columns) keys) ops
+grouped_extends (Some f) input keys args ops = emitted_extends f.emit (emit_columns f.initial input.columns args) input
+    (map (operand_at input.columns) keys) ops
 
-pub made_extends : (folds : List TypedFold) (streams : List StreamWires) (op : TypedOp) (ops : List PlanOp) → Extends ops (made_by folds streams op ops).ops
+pub made_extends : (folds : List TypedFold) (streams : List StreamWires) (op : TypedOp) (ops : List PlanOp)
+    → Extends ops (made_by folds streams op ops).ops
 made_extends folds streams (Filter input condition) ops =
-    conditioned_extends (wires_at streams input).columns (term_of condition) ops (wires_at streams input).present (wires_at streams input).columns
-made_extends folds streams (Map input values) ops = all_extend (wires_at streams input).columns (wires_at streams input).columns (map term_of values) ops
-made_extends folds streams (Zip left right slots) ops = one_more ops (op_on ops (Two Both) (wires_at streams left).present (wires_at streams right).present)
+    conditioned_extends (wires_at streams input).columns (term_of condition) ops (wires_at streams input).present
+    (wires_at streams input).columns
+made_extends folds streams (Map input values) ops = all_extend (wires_at streams input).columns (wires_at streams input).columns
+    (map term_of values) ops
+made_extends folds streams (Zip left right slots) ops = one_more ops (op_on ops (Two Both) (wires_at streams left).present
+    (wires_at streams right).present)
 made_extends folds streams (Group input keys f args) ops = grouped_extends (slice_get folds f) (wires_at streams input) keys args ops
 
-pub all_made_extends : (folds : List TypedFold) (ops : List PlanOp) (streams : List StreamWires) (list : List TypedStream) → Extends ops (all_made folds ops streams list).ops
+pub all_made_extends : (folds : List TypedFold) (ops : List PlanOp) (streams : List StreamWires) (list : List TypedStream)
+    → Extends ops (all_made folds ops streams list).ops
 all_made_extends folds ops streams [] = same_ops ops
 all_made_extends folds ops streams (one ∷ list) =
-    and_more ops (made_by folds streams one.op ops).ops (all_made folds ops streams (one ∷ list)).ops (made_extends folds streams one.op ops)
+    and_more ops (made_by folds streams one.op ops).ops (all_made folds ops streams (one ∷ list)).ops
+    (made_extends folds streams one.op ops)
     (all_made_extends folds (made_by folds streams one.op ops).ops (streams ++ (made_by folds streams one.op ops).wires ∷ []) list)
 
 -- each operation's register holds its result
@@ -87,57 +105,73 @@ pub record Solved (ops : List PlanOp) (registers : List ℕ) : Type 0 where
 pub solved_before : (ops more : List PlanOp) (registers : List ℕ) → Extends ops more → Solved more registers → Solved ops registers
 solved_before ops more registers e s = record { each = λ i one f. s.each i one (e.keeps i one f) }
 
-pub solved_last : (ops : List PlanOp) (one : PlanOp) (registers : List ℕ) → Solved (ops ++ one ∷ []) registers → get_or registers (14 + length ops) 0 ≡ result_of registers one
+pub solved_last : (ops : List PlanOp) (one : PlanOp) (registers : List ℕ) → Solved (ops ++ one ∷ []) registers
+    → get_or registers (14 + length ops) 0 ≡ result_of registers one
 solved_last ops one registers s = s.each (length ops) one (slice_get-last ops one)
 
-pub column_value : (registers : List ℕ) (columns : List Operand) (slot : ℕ) → operand_value registers (operand_at columns slot) ≡ slice_index (map (operand_value registers) columns) slot
+pub column_value : (registers : List ℕ) (columns : List Operand) (slot : ℕ)
+    → operand_value registers (operand_at columns slot) ≡ slice_index (map (operand_value registers) columns) slot
 column_value registers [] slot = refl
 column_value registers (o ∷ columns) zero = refl
 column_value registers (o ∷ columns) (suc slot) = column_value registers columns slot
 
-pub columns_value : (registers : List ℕ) (columns : List Operand) (slots : List ℕ) → map (operand_value registers) (map (operand_at columns) slots) ≡ values_at (map (operand_value registers) columns) slots
+pub columns_value : (registers : List ℕ) (columns : List Operand) (slots : List ℕ)
+    → map (operand_value registers) (map (operand_at columns) slots) ≡ values_at (map (operand_value registers) columns) slots
 columns_value registers columns [] = refl
 columns_value registers columns (slot ∷ slots) =
     ap (λ x. x ∷ map (operand_value registers) (map (operand_at columns) slots)) (column_value registers columns slot)
     ∙ ap (λ l. slice_index (map (operand_value registers) columns) slot ∷ l) (columns_value registers columns slots)
 
-pub compiled_value : (registers : List ℕ) (columns : List Operand) (e : Term) (ops : List PlanOp) → Solved (compiled columns e ops).ops registers →
+pub compiled_value : (registers : List ℕ) (columns : List Operand) (e : Term) (ops : List PlanOp)
+    → Solved (compiled columns e ops).ops registers →
     operand_value registers (compiled columns e ops).value ≡ term_value e (map (operand_value registers) columns)
 compiled_value registers columns (Literal n) ops s = refl
 compiled_value registers columns (Read slot) ops s = column_value registers columns slot
 compiled_value registers columns (Negation e) ops s =
     solved_last (compiled columns e ops).ops (op_on (compiled columns e ops).ops Not (compiled columns e ops).value (Number 0)) registers s
     ∙ ap (λ x. flag (not (holds x))) (compiled_value registers columns e ops
-    (solved_before (compiled columns e ops).ops (compiled columns (Negation e) ops).ops registers (one_more (compiled columns e ops).ops (op_on (compiled columns e ops).ops Not (compiled columns e ops).value (Number 0))) s))
+    (solved_before (compiled columns e ops).ops (compiled columns (Negation e) ops).ops registers
+    (one_more (compiled columns e ops).ops (op_on (compiled columns e ops).ops Not (compiled columns e ops).value (Number 0))) s))
 compiled_value registers columns (Operation op a b) ops s =
     solved_last after_b last registers s
-    ∙ ap (λ x. op_value op x (operand_value registers (compiled columns b (compiled columns a ops).ops).value)) (compiled_value registers columns a ops (solved_before (compiled columns a ops).ops after_b registers (compiled_extends columns b (compiled columns a ops).ops) at_b))
-    ∙ ap (λ y. op_value op (term_value a (map (operand_value registers) columns)) y) (compiled_value registers columns b (compiled columns a ops).ops at_b)
+    ∙ ap (λ x. op_value op x (operand_value registers (compiled columns b (compiled columns a ops).ops).value))
+    (compiled_value registers columns a ops (solved_before (compiled columns a ops).ops after_b registers
+    (compiled_extends columns b (compiled columns a ops).ops) at_b))
+    ∙ ap (λ y. op_value op (term_value a (map (operand_value registers) columns)) y)
+    (compiled_value registers columns b (compiled columns a ops).ops at_b)
   where
     after_b : List PlanOp
     after_b = (compiled columns b (compiled columns a ops).ops).ops
 
     last : PlanOp
-    last = op_on (compiled columns b (compiled columns a ops).ops).ops (Two op) (compiled columns a ops).value (compiled columns b (compiled columns a ops).ops).value
+    last = op_on (compiled columns b (compiled columns a ops).ops).ops (Two op) (compiled columns a ops).value
+        (compiled columns b (compiled columns a ops).ops).value
 
     at_b : Solved after_b registers
     at_b = solved_before after_b (compiled columns (Operation op a b) ops).ops registers (one_more after_b last) s
 
-pub all_values : (registers : List ℕ) (columns found : List Operand) (values : List TypedExpr) (ops : List PlanOp) → Solved (compiled_all columns found (map term_of values) ops).ops registers →
+pub all_values : (registers : List ℕ) (columns found : List Operand) (values : List TypedExpr) (ops : List PlanOp)
+    → Solved (compiled_all columns found (map term_of values) ops).ops registers →
     map (operand_value registers) (compiled_all columns found (map term_of values) ops).values
     ≡ map (operand_value registers) found ++ map (λ e. expr_value e (map (operand_value registers) columns)) values
 all_values registers columns found [] ops s = sym (append-nil (map (operand_value registers) found))
 all_values registers columns found (e ∷ values) ops s =
     all_values registers columns (found ++ (compiled columns (term_of e) ops).value ∷ []) values (compiled columns (term_of e) ops).ops s
-    ∙ ap (λ l. l ++ map (λ e. expr_value e (map (operand_value registers) columns)) values) (map-append (operand_value registers) found ((compiled columns (term_of e) ops).value ∷ []))
-    ∙ append_assoc (map (operand_value registers) found) (operand_value registers (compiled columns (term_of e) ops).value ∷ []) (map (λ e. expr_value e (map (operand_value registers) columns)) values)
-    ∙ ap (λ x. map (operand_value registers) found ++ x ∷ map (λ e. expr_value e (map (operand_value registers) columns)) values) (compiled_value registers columns (term_of e) ops
-    (solved_before (compiled columns (term_of e) ops).ops (compiled_all columns found (map term_of (e ∷ values)) ops).ops registers (all_extend columns (found ++ (compiled columns (term_of e) ops).value ∷ []) (map term_of values) (compiled columns (term_of e) ops).ops) s))
+    ∙ ap (λ l. l ++ map (λ e. expr_value e (map (operand_value registers) columns)) values)
+    (map-append (operand_value registers) found ((compiled columns (term_of e) ops).value ∷ []))
+    ∙ append_assoc (map (operand_value registers) found) (operand_value registers (compiled columns (term_of e) ops).value ∷ [])
+    (map (λ e. expr_value e (map (operand_value registers) columns)) values)
+    ∙ ap (λ x. map (operand_value registers) found ++ x ∷ map (λ e. expr_value e (map (operand_value registers) columns)) values)
+    (compiled_value registers columns (term_of e) ops
+    (solved_before (compiled columns (term_of e) ops).ops (compiled_all columns found (map term_of (e ∷ values)) ops).ops registers
+    (all_extend columns (found ++ (compiled columns (term_of e) ops).value ∷ []) (map term_of values)
+    (compiled columns (term_of e) ops).ops) s))
 
 -- a stream's operands against its row for the packet
 abbrev pub Matches : List ℕ → StreamWires → Row → Type 0
 Matches registers wires None = holds (operand_value registers wires.present) ≡ false
-Matches registers wires (Some row) = (holds (operand_value registers wires.present) ≡ true) × (map (operand_value registers) wires.columns ≡ row)
+Matches registers wires (Some row) = (holds (operand_value registers wires.present) ≡ true)
+    × (map (operand_value registers) wires.columns ≡ row)
 
 holds_flag : (b : Bool) → holds (flag b) ≡ b
 holds_flag true = refl
@@ -147,17 +181,24 @@ both_holds : (x y : ℕ) → holds (op_value Both x y) ≡ (holds x && holds y)
 unfolding op_value
 both_holds x y = holds_flag (holds x && holds y)
 
-joined_holds : (registers : List ℕ) (ops : List PlanOp) (present condition : Operand) (columns : List Operand) → Solved (joined ops present condition columns).ops registers →
-    holds (operand_value registers (joined ops present condition columns).wires.present) ≡ (holds (operand_value registers present) && holds (operand_value registers condition))
+joined_holds : (registers : List ℕ) (ops : List PlanOp) (present condition : Operand) (columns : List Operand)
+    → Solved (joined ops present condition columns).ops registers →
+    holds (operand_value registers (joined ops present condition columns).wires.present)
+    ≡ (holds (operand_value registers present) && holds (operand_value registers condition))
 joined_holds registers ops present condition columns s =
-    ap holds (solved_last ops (op_on ops (Two Both) present condition) registers s) ∙ both_holds (operand_value registers present) (operand_value registers condition)
+    ap holds (solved_last ops (op_on ops (Two Both) present condition) registers s)
+    ∙ both_holds (operand_value registers present) (operand_value registers condition)
 
-conditioned_holds : (registers : List ℕ) (over : List Operand) (condition : Term) (ops : List PlanOp) (present : Operand) (columns : List Operand) → Solved (conditioned over condition ops present columns).ops registers →
-    holds (operand_value registers (conditioned over condition ops present columns).wires.present) ≡ (holds (operand_value registers present) && holds (term_value condition (map (operand_value registers) over)))
+conditioned_holds : (registers : List ℕ) (over : List Operand) (condition : Term) (ops : List PlanOp) (present : Operand)
+    (columns : List Operand) → Solved (conditioned over condition ops present columns).ops registers →
+    holds (operand_value registers (conditioned over condition ops present columns).wires.present)
+    ≡ (holds (operand_value registers present) && holds (term_value condition (map (operand_value registers) over)))
 conditioned_holds registers over condition ops present columns s =
     joined_holds registers (compiled over condition ops).ops present (compiled over condition ops).value columns s
     ∙ ap (λ x. holds (operand_value registers present) && holds x) (compiled_value registers over condition ops
-    (solved_before (compiled over condition ops).ops (conditioned over condition ops present columns).ops registers (one_more (compiled over condition ops).ops (op_on (compiled over condition ops).ops (Two Both) present (compiled over condition ops).value)) s))
+    (solved_before (compiled over condition ops).ops (conditioned over condition ops present columns).ops registers
+    (one_more (compiled over condition ops).ops (op_on (compiled over condition ops).ops (Two Both) present
+    (compiled over condition ops).value)) s))
 
 and_false : (a b : Bool) → a ≡ false → (a && b) ≡ false
 and_false true b e = cc
@@ -167,24 +208,29 @@ and_true : (a b : Bool) → a ≡ true → (a && b) ≡ b
 and_true true b e = refl
 and_true false b e = cc
 
-filter_matches : (registers : List ℕ) (source : StreamWires) (condition : TypedExpr) (ops : List PlanOp) (row : Row) → Matches registers source row →
+filter_matches : (registers : List ℕ) (source : StreamWires) (condition : TypedExpr) (ops : List PlanOp) (row : Row)
+    → Matches registers source row →
     Solved (conditioned source.columns (term_of condition) ops source.present source.columns).ops registers →
     Matches registers (conditioned source.columns (term_of condition) ops source.present source.columns).wires (filter_row condition row)
 filter_matches registers source condition ops None m s =
     conditioned_holds registers source.columns (term_of condition) ops source.present source.columns s ∙ and_false _ _ m
 filter_matches registers source condition ops (Some row) m s = pick (holds (expr_value condition row)) test
   where
-    test : holds (operand_value registers (conditioned source.columns (term_of condition) ops source.present source.columns).wires.present) ≡ holds (expr_value condition row)
+    test : holds (operand_value registers (conditioned source.columns (term_of condition) ops source.present source.columns).wires.present)
+        ≡ holds (expr_value condition row)
     test =
         conditioned_holds registers source.columns (term_of condition) ops source.present source.columns s ∙ and_true _ _ m.0
         ∙ ap (λ l. holds (term_value (term_of condition) l)) m.1
 
-    pick : (b : Bool) → holds (operand_value registers (conditioned source.columns (term_of condition) ops source.present source.columns).wires.present) ≡ b →
-        Matches registers (conditioned source.columns (term_of condition) ops source.present source.columns).wires (if b then Some row else None)
+    pick : (b : Bool) → holds (operand_value registers (conditioned source.columns (term_of condition) ops source.present
+        source.columns).wires.present) ≡ b →
+        Matches registers (conditioned source.columns (term_of condition) ops source.present source.columns).wires
+        (if b then Some row else None)
     pick true e = (e, m.1)
     pick false e = e
 
-map_matches : (registers : List ℕ) (source : StreamWires) (values : List TypedExpr) (ops : List PlanOp) (row : Row) → Matches registers source row →
+map_matches : (registers : List ℕ) (source : StreamWires) (values : List TypedExpr) (ops : List PlanOp) (row : Row)
+    → Matches registers source row →
     Solved (mapped source values ops).ops registers → Matches registers (mapped source values ops).wires (map_row values row)
 map_matches registers source values ops None m s = m
 map_matches registers source values ops (Some row) m s = (
@@ -192,7 +238,8 @@ map_matches registers source values ops (Some row) m s = (
   all_values registers source.columns source.columns values ops s ∙ ap (λ l. l ++ map (λ e. expr_value e l) values) m.1,
 )
 
-zip_matches : (registers : List ℕ) (left right : StreamWires) (slots : List ℕ) (ops : List PlanOp) (row other : Row) → Matches registers left row → Matches registers right other →
+zip_matches : (registers : List ℕ) (left right : StreamWires) (slots : List ℕ) (ops : List PlanOp) (row other : Row)
+    → Matches registers left row → Matches registers right other →
     Solved (zipped left right slots ops).ops registers → Matches registers (zipped left right slots ops).wires (zip_row slots row other)
 zip_matches registers left right slots ops None other m n s =
     joined_holds registers ops left.present right.present (left.columns ++ map (operand_at right.columns) slots) s ∙ and_false _ _ m
@@ -221,67 +268,90 @@ emit_row_with o initial keys args None = None
 emit_row_with o initial keys args (Some row) = if holds_at o (initial ++ values_at row args) then Some (values_at row keys) else None
 
 none_matches : (registers initial : List ℕ) (source : StreamWires) (keys args : List ℕ) (row : Row) →
-    Matches registers (record { present = Number 0; columns = map (operand_at source.columns) keys }) (emit_row_with None initial keys args row)
+    Matches registers (record { present = Number 0; columns = map (operand_at source.columns) keys })
+    (emit_row_with None initial keys args row)
 unfolding emit_row_with
 none_matches registers initial source keys args None = refl
 none_matches registers initial source keys args (Some row) = refl
 
-some_matches : (registers initial : List ℕ) (source : StreamWires) (condition : TypedExpr) (keys args : List ℕ) (ops : List PlanOp) (row : Row) → Matches registers source row →
-    Solved (conditioned (emit_columns initial source.columns args) (term_of condition) ops source.present (map (operand_at source.columns) keys)).ops registers →
-    Matches registers (conditioned (emit_columns initial source.columns args) (term_of condition) ops source.present (map (operand_at source.columns) keys)).wires (emit_row_with (Some condition) initial keys args row)
+some_matches : (registers initial : List ℕ) (source : StreamWires) (condition : TypedExpr) (keys args : List ℕ) (ops : List PlanOp)
+    (row : Row) → Matches registers source row →
+    Solved (conditioned (emit_columns initial source.columns args) (term_of condition) ops source.present
+    (map (operand_at source.columns) keys)).ops registers →
+    Matches registers (conditioned (emit_columns initial source.columns args) (term_of condition) ops source.present
+    (map (operand_at source.columns) keys)).wires (emit_row_with (Some condition) initial keys args row)
 unfolding emit_row_with
 some_matches registers initial source condition keys args ops None m s =
-    conditioned_holds registers (emit_columns initial source.columns args) (term_of condition) ops source.present (map (operand_at source.columns) keys) s ∙ and_false _ _ m
-some_matches registers initial source condition keys args ops (Some row) m s = pick (holds (expr_value condition (initial ++ values_at row args))) test
+    conditioned_holds registers (emit_columns initial source.columns args) (term_of condition) ops source.present
+    (map (operand_at source.columns) keys) s ∙ and_false _ _ m
+some_matches registers initial source condition keys args ops (Some row) m s =
+    pick (holds (expr_value condition (initial ++ values_at row args))) test
   where
-    test : holds (operand_value registers (conditioned (emit_columns initial source.columns args) (term_of condition) ops source.present (map (operand_at source.columns) keys)).wires.present)
+    test : holds (operand_value registers (conditioned (emit_columns initial source.columns args) (term_of condition) ops source.present
+        (map (operand_at source.columns) keys)).wires.present)
         ≡ holds (expr_value condition (initial ++ values_at row args))
     test =
-        conditioned_holds registers (emit_columns initial source.columns args) (term_of condition) ops source.present (map (operand_at source.columns) keys) s ∙ and_true _ _ m.0
-        ∙ ap (λ l. holds (term_value (term_of condition) l)) (emit_value registers initial source.columns args ∙ ap (λ l. initial ++ values_at l args) m.1)
+        conditioned_holds registers (emit_columns initial source.columns args) (term_of condition) ops source.present
+        (map (operand_at source.columns) keys) s ∙ and_true _ _ m.0
+        ∙ ap (λ l. holds (term_value (term_of condition) l)) (emit_value registers initial source.columns args
+        ∙ ap (λ l. initial ++ values_at l args) m.1)
 
-    pick : (b : Bool) → holds (operand_value registers (conditioned (emit_columns initial source.columns args) (term_of condition) ops source.present (map (operand_at source.columns) keys)).wires.present) ≡ b →
-        Matches registers (conditioned (emit_columns initial source.columns args) (term_of condition) ops source.present (map (operand_at source.columns) keys)).wires (if b then Some (values_at row keys) else None)
+    pick : (b : Bool) → holds (operand_value registers (conditioned (emit_columns initial source.columns args) (term_of condition) ops
+        source.present (map (operand_at source.columns) keys)).wires.present) ≡ b →
+        Matches registers (conditioned (emit_columns initial source.columns args) (term_of condition) ops source.present
+        (map (operand_at source.columns) keys)).wires (if b then Some (values_at row keys) else None)
     pick true e = (e, columns_value registers source.columns keys ∙ ap (λ l. values_at l keys) m.1)
     pick false e = e
 
-emitted_matches : (registers initial : List ℕ) (source : StreamWires) (o : Option TypedExpr) (keys args : List ℕ) (ops : List PlanOp) (row : Row) → Matches registers source row →
+emitted_matches : (registers initial : List ℕ) (source : StreamWires) (o : Option TypedExpr) (keys args : List ℕ) (ops : List PlanOp)
+    (row : Row) → Matches registers source row →
     Solved (emitted o (emit_columns initial source.columns args) source (map (operand_at source.columns) keys) ops).ops registers →
-    Matches registers (emitted o (emit_columns initial source.columns args) source (map (operand_at source.columns) keys) ops).wires (emit_row_with o initial keys args row)
+    Matches registers (emitted o (emit_columns initial source.columns args) source (map (operand_at source.columns) keys) ops).wires
+    (emit_row_with o initial keys args row)
 emitted_matches registers initial source None keys args ops row m s = none_matches registers initial source keys args row
-emitted_matches registers initial source (Some condition) keys args ops row m s = some_matches registers initial source condition keys args ops row m s
+emitted_matches registers initial source (Some condition) keys args ops row m s =
+    some_matches registers initial source condition keys args ops row m s
 
 emit_rows : (f : TypedFold) (keys args : List ℕ) (row : Row) → emit_row_with f.emit f.initial keys args row ≡ emit_row f keys args row
 unfolding emit_row_with
 emit_rows f keys args None = refl
 emit_rows f keys args (Some row) = refl
 
-group_matches : (registers : List ℕ) (o : Option TypedFold) (source : StreamWires) (keys args : List ℕ) (ops : List PlanOp) (row : Row) → Matches registers source row →
-    Solved (grouped o source keys args ops).ops registers → Matches registers (grouped o source keys args ops).wires (group_row o keys args row)
+group_matches : (registers : List ℕ) (o : Option TypedFold) (source : StreamWires) (keys args : List ℕ) (ops : List PlanOp) (row : Row)
+    → Matches registers source row →
+    Solved (grouped o source keys args ops).ops registers → Matches registers (grouped o source keys args ops).wires
+    (group_row o keys args row)
 group_matches registers None source keys args ops row m s = refl
 group_matches registers (Some f) source keys args ops row m s =
-    subst (Matches registers (grouped (Some f) source keys args ops).wires) (emit_rows f keys args row) (emitted_matches registers f.initial source f.emit keys args ops row m s)
+    subst (Matches registers (grouped (Some f) source keys args ops).wires) (emit_rows f keys args row)
+    (emitted_matches registers f.initial source f.emit keys args ops row m s)
 
 -- all streams so far against their rows
 pub record Matched (registers : List ℕ) (streams : List StreamWires) (rows : List Row) : Type 0 where
   pub long : length streams ≡ length rows
   pub each : (j : ℕ) → Matches registers (wires_at streams j) (row_at rows j)
 
-made_matches : (registers : List ℕ) (folds : List TypedFold) (streams : List StreamWires) (rows : List Row) (op : TypedOp) (ops : List PlanOp) → Matched registers streams rows →
+made_matches : (registers : List ℕ) (folds : List TypedFold) (streams : List StreamWires) (rows : List Row) (op : TypedOp)
+    (ops : List PlanOp) → Matched registers streams rows →
     Solved (made_by folds streams op ops).ops registers → Matches registers (made_by folds streams op ops).wires (row_made folds rows op)
-made_matches registers folds streams rows (Filter input condition) ops m s = filter_matches registers (wires_at streams input) condition ops (row_at rows input) (m.each input) s
-made_matches registers folds streams rows (Map input values) ops m s = map_matches registers (wires_at streams input) values ops (row_at rows input) (m.each input) s
+made_matches registers folds streams rows (Filter input condition) ops m s =
+    filter_matches registers (wires_at streams input) condition ops (row_at rows input) (m.each input) s
+made_matches registers folds streams rows (Map input values) ops m s =
+    map_matches registers (wires_at streams input) values ops (row_at rows input) (m.each input) s
 made_matches registers folds streams rows (Zip left right slots) ops m s =
-    zip_matches registers (wires_at streams left) (wires_at streams right) slots ops (row_at rows left) (row_at rows right) (m.each left) (m.each right) s
+    zip_matches registers (wires_at streams left) (wires_at streams right) slots ops (row_at rows left) (row_at rows right) (m.each left)
+    (m.each right) s
 made_matches registers folds streams rows (Group input keys f args) ops m s =
     group_matches registers (slice_get folds f) (wires_at streams input) keys args ops (row_at rows input) (m.each input) s
 
-matched_more : (registers : List ℕ) (streams : List StreamWires) (rows : List Row) (wires : StreamWires) (row : Row) → Matched registers streams rows → Matches registers wires row →
+matched_more : (registers : List ℕ) (streams : List StreamWires) (rows : List Row) (wires : StreamWires) (row : Row)
+    → Matched registers streams rows → Matches registers wires row →
     Matched registers (streams ++ wires ∷ []) (rows ++ row ∷ [])
 matched_more registers streams rows wires row m new = record {
   long = length_push streams wires ∙ ap (λ n. n + 1) m.long ∙ sym (length_push rows row);
   each = λ j. elim (cases_lt j (length rows)) [
-    | inl lt ↦ at j (wires_at streams j) (row_at rows j) (at_earlier streams wires none j (let l = m.long in omega arith)) (at_earlier rows row None j lt) (m.each j)
+    | inl lt ↦ at j (wires_at streams j) (row_at rows j) (at_earlier streams wires none j (let l = m.long in omega arith))
+        (at_earlier rows row None j lt) (m.each j)
     | inr le ↦ elim (cases_eq j (length rows)) [
       | inl here ↦ at j wires row (at_last streams wires none j (here ∙ sym m.long)) (at_last rows row None j here) new
       | inr past ↦
@@ -294,16 +364,21 @@ matched_more registers streams rows wires row m new = record {
     none : StreamWires
     none = record { present = Number 0; columns = [] }
 
-    at : (j : ℕ) (w : StreamWires) (r : Row) → wires_at (streams ++ wires ∷ []) j ≡ w → row_at (rows ++ row ∷ []) j ≡ r → Matches registers w r →
+    at : (j : ℕ) (w : StreamWires) (r : Row) → wires_at (streams ++ wires ∷ []) j ≡ w → row_at (rows ++ row ∷ []) j ≡ r
+        → Matches registers w r →
         Matches registers (wires_at (streams ++ wires ∷ []) j) (row_at (rows ++ row ∷ []) j)
     at j w r e f h = subst (λ x. Matches registers x (row_at (rows ++ row ∷ []) j)) (sym e) (subst (λ x. Matches registers w x) (sym f) h)
 
-pub all_matched : (registers : List ℕ) (folds : List TypedFold) (list : List TypedStream) (ops : List PlanOp) (streams : List StreamWires) (rows : List Row) → Matched registers streams rows →
-    Solved (all_made folds ops streams list).ops registers → Matched registers (all_made folds ops streams list).streams (rows_from folds rows list)
+pub all_matched : (registers : List ℕ) (folds : List TypedFold) (list : List TypedStream) (ops : List PlanOp) (streams : List StreamWires)
+    (rows : List Row) → Matched registers streams rows →
+    Solved (all_made folds ops streams list).ops registers → Matched registers (all_made folds ops streams list).streams
+    (rows_from folds rows list)
 all_matched registers folds [] ops streams rows m s = m
 all_matched registers folds (one ∷ list) ops streams rows m s =
-    all_matched registers folds list (made_by folds streams one.op ops).ops (streams ++ (made_by folds streams one.op ops).wires ∷ []) (rows ++ row_made folds rows one.op ∷ [])
-    (matched_more registers streams rows (made_by folds streams one.op ops).wires (row_made folds rows one.op) m (made_matches registers folds streams rows one.op ops m
+    all_matched registers folds list (made_by folds streams one.op ops).ops (streams ++ (made_by folds streams one.op ops).wires ∷ [])
+    (rows ++ row_made folds rows one.op ∷ [])
+    (matched_more registers streams rows (made_by folds streams one.op ops).wires (row_made folds rows one.op) m
+    (made_matches registers folds streams rows one.op ops m
     (solved_before (made_by folds streams one.op ops).ops (all_made folds ops streams (one ∷ list)).ops registers
     (all_made_extends folds (made_by folds streams one.op ops).ops (streams ++ (made_by folds streams one.op ops).wires ∷ []) list) s)))
     s
@@ -313,14 +388,17 @@ registers_from : ℕ → ℕ → List Operand
 registers_from k zero = []
 registers_from k (suc n) = Register k ∷ registers_from (suc k) n
 
-first_registers : (registers : List ℕ) (k n : ℕ) → k + n ≤ length registers → map (operand_value registers) (registers_from k n) ≡ take n (drop k registers)
+first_registers : (registers : List ℕ) (k n : ℕ) → k + n ≤ length registers
+    → map (operand_value registers) (registers_from k n) ≡ take n (drop k registers)
 unfolding registers_from
 first_registers registers k zero le = refl
 first_registers registers k (suc n) le =
     let lt : k < length registers = omega arith in
-    ap (λ l. get_or registers k 0 ∷ l) (first_registers registers (suc k) n (omega arith)) ∙ ap (take (suc n)) (sym (drop-cons registers k 0 lt))
+    ap (λ l. get_or registers k 0 ∷ l) (first_registers registers (suc k) n (omega arith))
+    ∙ ap (take (suc n)) (sym (drop-cons registers k 0 lt))
 
-pub packets_matched : (registers words : List ℕ) → 14 ≤ length registers → take 14 registers ≡ words → Matched registers (packet_wires ∷ []) (Some words ∷ [])
+pub packets_matched : (registers words : List ℕ) → 14 ≤ length registers → take 14 registers ≡ words
+    → Matched registers (packet_wires ∷ []) (Some words ∷ [])
 unfolding registers_from
 packets_matched registers words le is = record {
   long = refl;

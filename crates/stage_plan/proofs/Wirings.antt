@@ -8,7 +8,8 @@ use Rattle.stage_plan.specs.Sound.{PlanParts, IsSoundPlan, IsSoundGroup, IsWithi
 use Rattle.stage_plan.specs.declared.op.Operand.{Operand}
 use Rattle.stage_plan.proofs.Runs.{within_more}
 
-pub sound_wiring : (plan : PlanParts) (i : ℕ) (w : GroupWiring) → IsSoundPlan plan → i < length plan.groups → slice_get plan.wiring i ≡ Some w →
+pub sound_wiring : (plan : PlanParts) (i : ℕ) (w : GroupWiring) → IsSoundPlan plan → i < length plan.groups
+    → slice_get plan.wiring i ≡ Some w →
     (group : GroupPlan) × IsSoundGroup (14 + length plan.ops) group w
 sound_wiring plan i w sound lt found =
     elim ((slice_get_cases plan.groups i).1) [
@@ -22,14 +23,16 @@ all_within n m xs ys same le all = λ k d lt.
     within_more n m (get_or xs k d) le (let P : List Operand → Type 0 = λ l. IsWithin n (get_or l k d) in subst P (sym same) (all k d lt'))
 
 -- the same of a plan that is seen as its parts
-pub seen_wiring : (inside plan : PlanParts) (i : ℕ) (w : GroupWiring) → inside ≡ plan → IsSoundPlan inside → i < length plan.groups → slice_get inside.wiring i ≡ Some w →
+pub seen_wiring : (inside plan : PlanParts) (i : ℕ) (w : GroupWiring) → inside ≡ plan → IsSoundPlan inside → i < length plan.groups
+    → slice_get inside.wiring i ≡ Some w →
     (group : GroupPlan) × IsSoundGroup (14 + length plan.ops) group w
 seen_wiring inside plan i w same sound lt found =
     let P : PlanParts → Type 0 = λ p. slice_get p.wiring i ≡ Some w in
     sound_wiring plan i w (subst IsSoundPlan same sound) lt (subst P same found)
 
 -- a groupby of a plan
-pub sound_group : (plan : PlanParts) (groups : List GroupPlan) (i : ℕ) (group : GroupPlan) → IsSoundPlan plan → groups ≡ plan.groups → slice_get groups i ≡ Some group →
+pub sound_group : (plan : PlanParts) (groups : List GroupPlan) (i : ℕ) (group : GroupPlan) → IsSoundPlan plan → groups ≡ plan.groups
+    → slice_get groups i ≡ Some group →
     (w : GroupWiring) × IsSoundGroup (14 + length plan.ops) group w
 sound_group plan groups i group sound same found =
     let here : slice_get plan.groups i ≡ Some group = ap (λ l. slice_get l i) (sym same) ∙ found in

@@ -11,7 +11,8 @@ use Rattle.bucket_cache.specs.Caches.{list_at, with_list}
 use Rattle.backing_store.specs.Store.{Store}
 use Rattle.backing_store.specs.Merged.{StoreHolds}
 use Rattle.switch_core.specs.FrontParts.{FitsStore, FrontOf, LaneOf}
-use Rattle.switch_core.specs.FrontEvents.{Carries, CarriesAll, CarriesFirst, CarriesUpTo, FrontMakes, KeepsSizes, MergesNext, merges_of, with_store}
+use Rattle.switch_core.specs.FrontEvents.{Carries, CarriesAll, CarriesFirst, CarriesUpTo, FrontMakes, KeepsSizes, MergesNext, merges_of}
+use Rattle.switch_core.specs.FrontEvents.{with_store}
 use Rattle.switch_core.specs.LaneEvents.{Makes, MakesAll, parts}
 use Rattle.switch_core.specs.Lanes.{Standing, FrontStands, StoreStands, geometry}
 use Rattle.switch_core.proofs.LaneSteps.{evict_merged_same, packet_merged_same}

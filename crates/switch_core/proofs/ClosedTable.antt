@@ -11,11 +11,21 @@ use Rattle.final_queries.specs.declared.table.TableKind.TheVariants.{Group}
 use Rattle.final_queries.specs.GroupTable.{Heading, closed_table}
 
 -- with all closed epochs merged the store holds them
-pub all_held : (f : Folding) (store : Store) (m : Machine) → m.merged ≡ length m.closed → StoreHolds f store (take m.merged m.closed) → StoreHolds f store m.closed
+pub all_held : (f : Folding) (store : Store) (m : Machine) → m.merged ≡ length m.closed → StoreHolds f store (take m.merged m.closed)
+    → StoreHolds f store m.closed
 all_held f store m e h = subst (StoreHolds f store) (ap (λ n. take n m.closed) e ∙ take-length m.closed) h
 
 -- A table is determined by its parts.
-pub table_is : (heading : Heading) (f : Folding) (closed : List Epoch) (name : List ℕ) (columns : List (List ℕ)) (keys epochs : ℕ) (rows : List Row)
-    → name ≡ heading.name → columns ≡ heading.key_names ++ heading.state_names → keys ≡ length heading.key_names → epochs ≡ closed_epochs closed → rows ≡ closed_rows f closed
-    → let table : Table = record { name = name; columns = columns; keys = keys; kind = Group heading.class heading.depth epochs; rows = rows } in table ≡ closed_table heading f closed
+pub table_is : (heading : Heading) (f : Folding) (closed : List Epoch) (name : List ℕ) (columns : List (List ℕ)) (keys epochs : ℕ)
+    (rows : List Row)
+    → name ≡ heading.name → columns ≡ heading.key_names ++ heading.state_names → keys ≡ length heading.key_names
+    → epochs ≡ closed_epochs closed → rows ≡ closed_rows f closed
+    → let table : Table = record {
+      name = name;
+      columns = columns;
+      keys = keys;
+      kind = Group heading.class heading.depth epochs;
+      rows =
+          rows;
+    } in table ≡ closed_table heading f closed
 table_is heading f closed name columns keys epochs rows a b d e r = rw (a, b, d, e, r) refl

@@ -17,7 +17,8 @@ use Rattle.switch_core.proofs.MergeSteps.{none_piped}
 none_held : (lists : List (List Pair)) (bucket : ℕ) → sum_by (λ pairs. length pairs) lists ≡ 0 → length (get_or lists bucket []) ≡ 0
 none_held [] bucket e = refl
 none_held (pairs ∷ lists) zero e = let s = sum_by-cons (λ (ps : List Pair). length ps) pairs lists in omega arith
-none_held (pairs ∷ lists) (suc bucket) e = none_held lists bucket (let s = sum_by-cons (λ (ps : List Pair). length ps) pairs lists in omega arith)
+none_held (pairs ∷ lists) (suc bucket) e = none_held lists bucket (let s =
+    sum_by-cons (λ (ps : List Pair). length ps) pairs lists in omega arith)
 
 no_epochs : (epochs : List Epoch) → length epochs ≡ 0 → epochs ≡ []
 no_epochs [] e = refl
@@ -30,22 +31,26 @@ no_pairs (x ∷ pairs) e = absurd (omega arith)
 pub drained_parts : (cache : Cache) (pipe : Pipe) → is_drained cache pipe ≡ true → (held_in cache ≡ 0) × (length pipe.records ≡ 0)
 drained_parts cache pipe d = (grind (arith, nat_tests), grind (arith, nat_tests))
 
-pub drained_is_done : (stands : Standing) (cache : Cache) (pipe : Pipe) → is_drained cache pipe ≡ true → (m : Machine) → FrontStands stands cache pipe m → IsSwept m × (m.merged ≡ length m.closed)
+pub drained_is_done : (stands : Standing) (cache : Cache) (pipe : Pipe) → is_drained cache pipe ≡ true → (m : Machine)
+    → FrontStands stands cache pipe m → IsSwept m × (m.merged ≡ length m.closed)
 drained_is_done stands cache pipe d m s =
     let parts = drained_parts cache pipe d in (
-      λ bucket. no_epochs (open_in m bucket) (sym (pairs_long (PairStands stands cache) (list_at cache bucket) (open_in m bucket) (s.cached.each bucket)) ∙ none_held cache.lists bucket parts.0),
+      λ bucket. no_epochs (open_in m bucket) (sym (pairs_long (PairStands stands cache) (list_at cache bucket) (open_in m bucket)
+          (s.cached.each bucket)) ∙ none_held cache.lists bucket parts.0),
       none_piped stands cache pipe m s parts.1,
     )
 
 -- where a bucket is empty nothing is taken of it
-pub nothing_taken : (cache : Cache) (bucket : ℕ) → length (list_at cache bucket) ≡ 0 → cache ≡ with_list cache bucket (take (length (list_at cache bucket) - 1) (list_at cache bucket))
+pub nothing_taken : (cache : Cache) (bucket : ℕ) → length (list_at cache bucket) ≡ 0
+    → cache ≡ with_list cache bucket (take (length (list_at cache bucket) - 1) (list_at cache bucket))
 nothing_taken cache bucket e =
     let none = no_pairs (list_at cache bucket) e in
     let same : take (length (list_at cache bucket) - 1) (list_at cache bucket) ≡ list_at cache bucket = rw none refl in
     sym (ap (with_list cache bucket) same ∙ ap (λ ls. record cache { lists = ls }) (set-get_or cache.lists bucket []))
 
 -- with empty buckets alone the cache is empty
-pub empty_held : (lists : List (List Pair)) → ((bucket : ℕ) → bucket < length lists → length (get_or lists bucket []) ≡ 0) → sum_by (λ pairs. length pairs) lists ≡ 0
+pub empty_held : (lists : List (List Pair)) → ((bucket : ℕ) → bucket < length lists → length (get_or lists bucket []) ≡ 0)
+    → sum_by (λ pairs. length pairs) lists ≡ 0
 empty_held [] h = refl
 empty_held (pairs ∷ lists) h =
     let s = sum_by-cons (λ (ps : List Pair). length ps) pairs lists in

@@ -1,5 +1,6 @@
 -- What holds of each lane of a plan.
-use Rattle.std.proofs.Common.{◌≡◌, ℕ, zero, suc, ◌+◌, ◌<◌, ◌≤◌, ◌&&◌, ◌==◌, Bool, true, false, List, [], ◌∷◌, Some, Result, Ok, Err, OnOk, OnErr, length, take, set, ◌++◌, refl, sym, ap, ◌∙◌, subst, arith}
+use Rattle.std.proofs.Common.{◌≡◌, ℕ, zero, suc, ◌+◌, ◌<◌, ◌≤◌, ◌&&◌, ◌==◌, Bool, true, false, List, [], ◌∷◌, Some, Result, Ok, Err, OnOk}
+use Rattle.std.proofs.Common.{OnErr, length, take, set, ◌++◌, refl, sym, ap, ◌∙◌, subst, arith}
 use Rattle.std.specs.List.{list_all}
 use Rattle.std.proofs.Math.Seq.{take-append_seam}
 use Rattle.std.specs.Prelude.{slice_get}
@@ -31,9 +32,11 @@ pub record FitsWiring (plan : PlanParts) (i : ℕ) (lane : LaneView) : Type 0 wh
   pub few_keys : length (wiring_at plan i).keys ≤ 8
   pub few_args : length (wiring_at plan i).args ≤ 16
 
-pub lane_fits : (entries : Entries) (plan : PlanParts) (buckets i : ℕ) (lanes : List LaneView) (lane : LaneView) → IsSoundPlan plan → AreLanesOf entries plan buckets lanes → slice_get lanes i ≡ Some lane → FitsWiring plan i lane
+pub lane_fits : (entries : Entries) (plan : PlanParts) (buckets i : ℕ) (lanes : List LaneView) (lane : LaneView) → IsSoundPlan plan
+    → AreLanesOf entries plan buckets lanes → slice_get lanes i ≡ Some lane → FitsWiring plan i lane
 lane_fits entries plan buckets i lanes lane sound are at =
-    let R = λ (n : ℕ) (l : LaneView) (group : _). IsLaneOf entries buckets l.cache (ghosts.sizes l.kind) (ghosts.folding l.kind) (ghosts.open_bound l.kind) (ghosts.absorb_bound l.kind) group (wiring_at plan n) in
+    let R = λ (n : ℕ) (l : LaneView) (group : _). IsLaneOf entries buckets l.cache (ghosts.sizes l.kind) (ghosts.folding l.kind)
+    (ghosts.open_bound l.kind) (ghosts.absorb_bound l.kind) group (wiring_at plan n) in
     let found = each_at R 0 i lanes plan.groups lane are at in
     let below = got_below plan.groups i found.0 found.1 in
     let wired = got_some plan.wiring i (let w = sound.wired in omega arith) in
@@ -71,7 +74,8 @@ set_same (y ∷ xs) zero x h = let same : y ≡ x = cc in ap (λ z. z ∷ xs) (s
 set_same (y ∷ xs) (suc i) x h = ap (λ zs. y ∷ zs) (set_same xs i x h)
 
 -- one lane alone has an event
-pub make_one : (ways at : ℕ) (event : Event) (lanes : List LaneView) (lane new : LaneView) → slice_get lanes at ≡ Some lane → LaneMakes ways (event ∷ []) lane new → LanesMake ways (event_at at event) lanes (set lanes at new)
+pub make_one : (ways at : ℕ) (event : Event) (lanes : List LaneView) (lane new : LaneView) → slice_get lanes at ≡ Some lane
+    → LaneMakes ways (event ∷ []) lane new → LanesMake ways (event_at at event) lanes (set lanes at new)
 make_one ways at event lanes lane new here made =
     each_set (λ n a b. 0 ≤ n → b ≡ a) (λ n. LaneMakes ways (event_at at event n)) 0 at lanes lanes new
     (λ j n a b q apart r.
@@ -88,13 +92,16 @@ whole_written xs rest n e = subst (λ k. take k (xs ++ rest) ≡ xs) e (take-app
 
 -- a test of all items, one item more
 
-pub all_next : {X : Type 0} (p : X → Bool) (xs : List X) (i : ℕ) (x : X) → list_all p (take i xs) ≡ true → slice_get xs i ≡ Some x → p x ≡ true → list_all p (take (i + 1) xs) ≡ true
+pub all_next : {X : Type 0} (p : X → Bool) (xs : List X) (i : ℕ) (x : X) → list_all p (take i xs) ≡ true → slice_get xs i ≡ Some x
+    → p x ≡ true → list_all p (take (i + 1) xs) ≡ true
 all_next {X = X} p xs i x a e t = ap (λ n. list_all p (take n xs)) (let q : i + 1 ≡ suc i = omega arith in q) ∙ next p xs i x a e t
   where
-    next : (p : X → Bool) (xs : List X) (i : ℕ) (x : X) → list_all p (take i xs) ≡ true → slice_get xs i ≡ Some x → p x ≡ true → list_all p (take (suc i) xs) ≡ true
+    next : (p : X → Bool) (xs : List X) (i : ℕ) (x : X) → list_all p (take i xs) ≡ true → slice_get xs i ≡ Some x → p x ≡ true
+        → list_all p (take (suc i) xs) ≡ true
     next p [] i x a e t = refl
     next p (y ∷ xs) zero x a e t = let same : y ≡ x = cc in let u : p y ≡ true = ap p same ∙ t in rw u refl
-    next p (y ∷ xs) (suc i) x a e t = let both = both_pass (p y) (list_all p (take i xs)) a in let u = both.0 in rw u (next p xs i x both.1 e t)
+    next p (y ∷ xs) (suc i) x a e t = let both = both_pass (p y) (list_all p (take i xs)) a in let u =
+        both.0 in rw u (next p xs i x both.1 e t)
 
 pub all_fails : {X : Type 0} (p : X → Bool) (xs : List X) (i : ℕ) (x : X) → slice_get xs i ≡ Some x → p x ≡ false → list_all p xs ≡ false
 all_fails p [] i x e f = cc

@@ -11,28 +11,36 @@ use Rattle.switch_core.specs.Lanes.{Standing, geometry}
 use Rattle.switch_core.proofs.LaneSteps.{evict_merged_same, packet_merged_same, store_same}
 use Rattle.switch_core.proofs.MergeSteps.{kept_next}
 
-pub lane_packet : {K : Type 0} (means : Standing) (f : Folding) (ways : ℕ) (key : Key) (row : ArgRow) (old new : FrontOf K) (store : Store) → FrontMakes means ways (Packet key row) old new
+pub lane_packet : {K : Type 0} (means : Standing) (f : Folding) (ways : ℕ) (key : Key) (row : ArgRow) (old new : FrontOf K) (store : Store)
+    → FrontMakes means ways (Packet key row) old new
     → Makes means f ways (Packet key row) (parts old.cache old.pipe store) (parts new.cache new.pipe store)
 lane_packet means f ways key row old new store made = record {
   stands = λ m s. record {
     front = made.stands m s.front;
-    kept = store_same f store m (packet (geometry ways old.cache) m key row) (packet_merged_same (geometry ways old.cache) m key row s.front.few) s.kept;
+    kept = store_same f store m (packet (geometry ways old.cache) m key row)
+        (packet_merged_same (geometry ways old.cache) m key row s.front.few) s.kept;
   };
   buckets = made.buckets;
   key_words = made.key_words;
   places = made.places;
 }
 
-pub lane_evict : {K : Type 0} (means : Standing) (f : Folding) (ways bucket : ℕ) (old new : FrontOf K) (store : Store) → FrontMakes means ways (Evict bucket) old new
+pub lane_evict : {K : Type 0} (means : Standing) (f : Folding) (ways bucket : ℕ) (old new : FrontOf K) (store : Store)
+    → FrontMakes means ways (Evict bucket) old new
     → Makes means f ways (Evict bucket) (parts old.cache old.pipe store) (parts new.cache new.pipe store)
 lane_evict means f ways bucket old new store made = record {
-  stands = λ m s. record { front = made.stands m s.front; kept = store_same f store m (evict m bucket) (evict_merged_same m bucket s.front.few) s.kept };
+  stands = λ m s. record {
+    front = made.stands m s.front;
+    kept = store_same f store m (evict m bucket)
+        (evict_merged_same m bucket s.front.few) s.kept;
+  };
   buckets = made.buckets;
   key_words = made.key_words;
   places = made.places;
 }
 
-pub lane_merge : {K : Type 0} (means : Standing) (f : Folding) (ways : ℕ) (old new : FrontOf K) (before after : Store) → FrontMakes means ways Merge old new → MergesNext means f old before after
+pub lane_merge : {K : Type 0} (means : Standing) (f : Folding) (ways : ℕ) (old new : FrontOf K) (before after : Store)
+    → FrontMakes means ways Merge old new → MergesNext means f old before after
     → Makes means f ways Merge (parts old.cache old.pipe before) (parts new.cache new.pipe after)
 lane_merge means f ways old new before after made next = record {
   stands = λ m s. record { front = made.stands m s.front; kept = kept_next f after m s.front.few (next m _ s.front s.kept) };

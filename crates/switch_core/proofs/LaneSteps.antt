@@ -19,10 +19,12 @@ SameMerged m n = (take n.merged n.closed ≡ take m.merged m.closed) × (n.merge
 
 pub evict_merged_same : (m : Machine) (bucket : ℕ) → m.merged ≤ length m.closed → SameMerged m (evict m bucket)
 evict_merged_same m bucket few = by_test (nat_lt 0 (length (open_in m bucket)))
-    (λ t. let longer = length-append m.closed (last_alone (open_in m bucket)) in rw t (take-append-le m.merged m.closed (last_alone (open_in m bucket)) few, omega arith))
+    (λ t. let longer = length-append m.closed (last_alone (open_in m bucket)) in rw t
+    (take-append-le m.merged m.closed (last_alone (open_in m bucket)) few, omega arith))
     (λ t. rw t (refl, few))
 
-pub packet_merged_same : (g : Geometry) (m : Machine) (key : Key) (row : ArgRow) → m.merged ≤ length m.closed → SameMerged m (packet g m key row)
+pub packet_merged_same : (g : Geometry) (m : Machine) (key : Key) (row : ArgRow) → m.merged ≤ length m.closed
+    → SameMerged m (packet g m key row)
 packet_merged_same g m key row few =
     let bucket = bucket_of g.buckets key in
     by_test (is_open key (open_in m bucket))
@@ -41,12 +43,14 @@ none_at zero i d = refl
 none_at (suc n) zero d = refl
 none_at (suc n) (suc i) d = none_at n i d
 
-pub front_empty : (stands : Standing) (ways buckets kw ew : ℕ) (cache : Cache) (pipe : Pipe) → cache ≡ empty_cache buckets ways kw ew → pipe.records ≡ [] → FrontStands stands cache pipe (empty_machine (geometry ways cache))
+pub front_empty : (stands : Standing) (ways buckets kw ew : ℕ) (cache : Cache) (pipe : Pipe) → cache ≡ empty_cache buckets ways kw ew
+    → pipe.records ≡ [] → FrontStands stands cache pipe (empty_machine (geometry ways cache))
 front_empty stands ways buckets kw ew cache pipe c p = record {
   cached = record {
     buckets = sym (length-replicate (length cache.lists) []);
     each = λ b.
-        subst (λ ps. PairsStand (PairStands stands cache) ps (get_or (replicate (length cache.lists) []) b [])) (sym (ap (λ x. get_or x.lists b []) c ∙ none_at buckets b []))
+        subst (λ ps. PairsStand (PairStands stands cache) ps (get_or (replicate (length cache.lists) []) b []))
+        (sym (ap (λ x. get_or x.lists b []) c ∙ none_at buckets b []))
         (subst (λ es. PairsStand (PairStands stands cache) [] es) (sym (none_at (length cache.lists) b [])) tt);
   };
   piped = subst (λ rs. RecordsStand stands cache.key_words rs []) (sym p) tt;

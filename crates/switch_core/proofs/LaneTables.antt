@@ -23,9 +23,11 @@ drained_holds lane m drained stood =
     let none = (drained_parts lane.cache lane.pipe drained).1 in
     all_held (folding_at lane) lane.store m (none_piped (ghosts.stands lane.kind) lane.cache lane.pipe m stood.front none) stood.kept
 
-tables_next_at : (groups : List GroupPlan) (lanes : List LaneView) (ms : List Machine) (i : ℕ) (group : GroupPlan) (lane : LaneView) (m : Machine)
+tables_next_at : (groups : List GroupPlan) (lanes : List LaneView) (ms : List Machine) (i : ℕ) (group : GroupPlan) (lane : LaneView)
+    (m : Machine)
     → slice_get groups i ≡ Some group → slice_get lanes i ≡ Some lane → slice_get ms i ≡ Some m
-    → take (suc i) (tables_of groups (map folding_at lanes) ms) ≡ take i (tables_of groups (map folding_at lanes) ms) ++ closed_table (heading_of group) (folding_at lane) m.closed ∷ []
+    → take (suc i) (tables_of groups (map folding_at lanes) ms) ≡ take i (tables_of groups (map folding_at lanes) ms)
+    ++ closed_table (heading_of group) (folding_at lane) m.closed ∷ []
 tables_next_at [] lanes ms i group lane m a b e = cc
 tables_next_at (g ∷ groups) [] ms i group lane m a b e = cc
 tables_next_at (g ∷ groups) (l ∷ lanes) [] i group lane m a b e = cc
@@ -34,13 +36,17 @@ tables_next_at (g ∷ groups) (l ∷ lanes) (n ∷ ms) zero group lane m a b e =
 tables_next_at (g ∷ groups) (l ∷ lanes) (n ∷ ms) (suc i) group lane m a b e =
     ap (λ ts. closed_table (heading_of g) (folding_at l) n.closed ∷ ts) (tables_next_at groups lanes ms i group lane m a b e)
 
-pub tables_next : (groups : List GroupPlan) (lanes : List LaneView) (ms : List Machine) (i : ℕ) (group : GroupPlan) (lane : LaneView) (m : Machine)
+pub tables_next : (groups : List GroupPlan) (lanes : List LaneView) (ms : List Machine) (i : ℕ) (group : GroupPlan) (lane : LaneView)
+    (m : Machine)
     → slice_get groups i ≡ Some group → slice_get lanes i ≡ Some lane → slice_get ms i ≡ Some m
-    → take (i + 1) (tables_of groups (map folding_at lanes) ms) ≡ take i (tables_of groups (map folding_at lanes) ms) ++ closed_table (heading_of group) (folding_at lane) m.closed ∷ []
+    → take (i + 1) (tables_of groups (map folding_at lanes) ms) ≡ take i (tables_of groups (map folding_at lanes) ms)
+    ++ closed_table (heading_of group) (folding_at lane) m.closed ∷ []
 tables_next groups lanes ms i group lane m a b e =
-    ap (λ n. take n (tables_of groups (map folding_at lanes) ms)) (let q : i + 1 ≡ suc i = omega arith in q) ∙ tables_next_at groups lanes ms i group lane m a b e
+    ap (λ n. take n (tables_of groups (map folding_at lanes) ms)) (let q : i + 1 ≡ suc i = omega arith in q)
+    ∙ tables_next_at groups lanes ms i group lane m a b e
 
-pub tables_whole : (groups : List GroupPlan) (lanes : List LaneView) (ms : List Machine) (i : ℕ) → length lanes ≤ i → take i (tables_of groups (map folding_at lanes) ms) ≡ tables_of groups (map folding_at lanes) ms
+pub tables_whole : (groups : List GroupPlan) (lanes : List LaneView) (ms : List Machine) (i : ℕ) → length lanes ≤ i
+    → take i (tables_of groups (map folding_at lanes) ms) ≡ tables_of groups (map folding_at lanes) ms
 tables_whole [] lanes ms zero h = refl
 tables_whole [] lanes ms (suc i) h = refl
 tables_whole (g ∷ groups) [] ms zero h = refl
@@ -48,10 +54,12 @@ tables_whole (g ∷ groups) [] ms (suc i) h = refl
 tables_whole (g ∷ groups) (l ∷ lanes) [] zero h = refl
 tables_whole (g ∷ groups) (l ∷ lanes) [] (suc i) h = refl
 tables_whole (g ∷ groups) (l ∷ lanes) (m ∷ ms) zero h = absurd (omega arith)
-tables_whole (g ∷ groups) (l ∷ lanes) (m ∷ ms) (suc i) h = ap (λ ts. closed_table (heading_of g) (folding_at l) m.closed ∷ ts) (tables_whole groups lanes ms i (omega arith))
+tables_whole (g ∷ groups) (l ∷ lanes) (m ∷ ms) (suc i) h = ap (λ ts. closed_table (heading_of g) (folding_at l) m.closed ∷ ts)
+    (tables_whole groups lanes ms i (omega arith))
 
 -- drained lanes have no open epoch, and all closed ones are merged
-pub all_done : (k : ℕ) (lanes : List LaneView) (ms : List Machine) → list_all lane_is_drained lanes ≡ true → EachFrom (λ n. StandsFor) k lanes ms → EachFrom (λ n lane m. IsSwept m × (m.merged ≡ length m.closed)) k lanes ms
+pub all_done : (k : ℕ) (lanes : List LaneView) (ms : List Machine) → list_all lane_is_drained lanes ≡ true
+    → EachFrom (λ n. StandsFor) k lanes ms → EachFrom (λ n lane m. IsSwept m × (m.merged ≡ length m.closed)) k lanes ms
 all_done k [] [] d s = tt
 all_done k [] (m ∷ ms) d s = absurd s
 all_done k (l ∷ lanes) [] d s = absurd s

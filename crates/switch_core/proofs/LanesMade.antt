@@ -20,7 +20,8 @@ use Rattle.switch_core.specs.Pipelines.{IsLaneOf, empty_machines}
 use Rattle.switch_core.specs.PlanLanes.{LaneView}
 use Rattle.switch_core.proofs.SideBySide.{got_some, got_below}
 
-pub each_push : {X Y : Type 0} (R : ℕ → X → Y → Type 0) (k : ℕ) (xs : List X) (ys : List Y) (x : X) (y : Y) → EachFrom R k xs ys → ((n : ℕ) → n ≡ k + length xs → R n x y) → EachFrom R k (xs ++ x ∷ []) (ys ++ y ∷ [])
+pub each_push : {X Y : Type 0} (R : ℕ → X → Y → Type 0) (k : ℕ) (xs : List X) (ys : List Y) (x : X) (y : Y) → EachFrom R k xs ys
+    → ((n : ℕ) → n ≡ k + length xs → R n x y) → EachFrom R k (xs ++ x ∷ []) (ys ++ y ∷ [])
 each_push R k [] [] x y e r = (r k (omega arith), tt)
 each_push R k [] (b ∷ ys) x y e r = absurd e
 each_push R k (a ∷ xs) [] x y e r = absurd e
@@ -34,7 +35,8 @@ take_next {X = X} xs i x e = ap (λ n. take n xs) (let q : i + 1 ≡ suc i = ome
     next (y ∷ xs) zero x e = let same : y ≡ x = cc in ap (λ z. z ∷ []) same
     next (y ∷ xs) (suc i) x e = ap (λ zs. y ∷ zs) (next xs i x e)
 
-pub empties_push : (g : Geometry) (groups : List GroupPlan) (group : GroupPlan) → empty_machines g (groups ++ group ∷ []) ≡ empty_machines g groups ++ empty_machine g ∷ []
+pub empties_push : (g : Geometry) (groups : List GroupPlan) (group : GroupPlan)
+    → empty_machines g (groups ++ group ∷ []) ≡ empty_machines g groups ++ empty_machine g ∷ []
 empties_push g [] group = refl
 empties_push g (x ∷ groups) group = ap (λ ms. empty_machine g ∷ ms) (empties_push g groups group)
 
@@ -46,15 +48,21 @@ group_sound plan i group sound at =
     let wired = got_some plan.wiring i (let w = sound.wired in omega arith) in
     (wired.0, rw wired.1 refl, sound.each i group wired.0 at wired.1)
 
-pub lane_made : EntriesSuitFolds → (entries : Entries) (plan : PlanParts) (buckets i : ℕ) (lane : LaneView) (group : GroupPlan) → IsSoundPlan plan → slice_get plan.groups i ≡ Some group
+pub lane_made : EntriesSuitFolds → (entries : Entries) (plan : PlanParts) (buckets i : ℕ) (lane : LaneView) (group : GroupPlan)
+    → IsSoundPlan plan → slice_get plan.groups i ≡ Some group
     → length lane.cache.lists ≡ buckets → lane.cache.key_words ≡ length group.key_names
-    → ((f : TypedFold) → IsProgramOf f group.program → IsKindFor entries f (ghosts.sizes lane.kind) (ghosts.folding lane.kind) (ghosts.open_bound lane.kind) (ghosts.absorb_bound lane.kind))
-    → IsLaneOf entries buckets lane.cache (ghosts.sizes lane.kind) (ghosts.folding lane.kind) (ghosts.open_bound lane.kind) (ghosts.absorb_bound lane.kind) group (wiring_at plan i)
+    → ((f : TypedFold) → IsProgramOf f group.program → IsKindFor entries f (ghosts.sizes lane.kind) (ghosts.folding lane.kind)
+    (ghosts.open_bound lane.kind) (ghosts.absorb_bound lane.kind))
+    → IsLaneOf entries buckets lane.cache (ghosts.sizes lane.kind) (ghosts.folding lane.kind) (ghosts.open_bound lane.kind)
+    (ghosts.absorb_bound lane.kind) group (wiring_at plan i)
 lane_made suit entries plan buckets i lane group sound at many keys kind =
     let own = group_sound plan i group sound at in
-    let suits = λ (f : TypedFold) (is : IsProgramOf f group.program). suit entries f (ghosts.sizes lane.kind) (ghosts.folding lane.kind) (ghosts.open_bound lane.kind) (ghosts.absorb_bound lane.kind) (kind f is) in
-    let args : (ghosts.sizes lane.kind).args ≡ group.program.layout.args = ∥∥₁_elim own.2.program (hlevel props) (λ h. (suits h.0 h.1).args ∙ sym h.1.layout.args) in
-    let class : (ghosts.folding lane.kind).row_per_epoch ≡ per_epoch group.program.class = ∥∥₁_elim own.2.program (hlevel props) (λ h. (suits h.0 h.1).row_per_epoch ∙ ap per_epoch (sym h.1.class)) in
+    let suits = λ (f : TypedFold) (is : IsProgramOf f group.program). suit entries f (ghosts.sizes lane.kind) (ghosts.folding lane.kind)
+    (ghosts.open_bound lane.kind) (ghosts.absorb_bound lane.kind) (kind f is) in
+    let args : (ghosts.sizes lane.kind).args ≡ group.program.layout.args =
+    ∥∥₁_elim own.2.program (hlevel props) (λ h. (suits h.0 h.1).args ∙ sym h.1.layout.args) in
+    let class : (ghosts.folding lane.kind).row_per_epoch ≡ per_epoch group.program.class =
+    ∥∥₁_elim own.2.program (hlevel props) (λ h. (suits h.0 h.1).row_per_epoch ∙ ap per_epoch (sym h.1.class)) in
     record {
       many = many;
       keys = keys;

@@ -1,5 +1,6 @@
 -- A front whose oldest record was merged represents the machine after the merge, and the store holds the merged epoch.
-use Rattle.std.proofs.Common.{◌≡◌, ℕ, zero, suc, ◌+◌, ◌<◌, ◌≤◌, Bool, true, false, if◌then◌else◌, List, [], ◌∷◌, ◌++◌, length, take, drop, get_or, refl, sym, ap, ◌∙◌, subst, arith, append-nil, length-drop}
+use Rattle.std.proofs.Common.{◌≡◌, ℕ, zero, suc, ◌+◌, ◌<◌, ◌≤◌, Bool, true, false, if◌then◌else◌, List, [], ◌∷◌, ◌++◌, length, take, drop}
+use Rattle.std.proofs.Common.{get_or, refl, sym, ap, ◌∙◌, subst, arith, append-nil, length-drop}
 use Rattle.std.specs.Prelude.{nat_lt}
 use Rattle.std.proofs.lemmas.Bool.{lt-ltb, le-ltb}
 use Rattle.std.proofs.lemmas.Bool.Decides.{nat_tests}
@@ -14,7 +15,8 @@ use Rattle.switch_core.specs.Lanes.{Standing, RecordStands, RecordsStand, StoreS
 use Rattle.switch_core.specs.FrontEvents.{next_merged}
 use Rattle.switch_core.proofs.Standing.{by_test}
 
-pub records_none : (stands : Standing) (kw : ℕ) (records : List (List ℕ)) (epochs : List Epoch) → RecordsStand stands kw records epochs → length records ≡ 0 → epochs ≡ []
+pub records_none : (stands : Standing) (kw : ℕ) (records : List (List ℕ)) (epochs : List Epoch) → RecordsStand stands kw records epochs
+    → length records ≡ 0 → epochs ≡ []
 records_none stands kw [] [] s e = refl
 records_none stands kw [] (x ∷ epochs) s e = absurd s
 records_none stands kw (r ∷ records) epochs s e = absurd (omega arith)
@@ -28,21 +30,26 @@ none_dropped [] e = refl
 none_dropped (r ∷ records) e = absurd (omega arith)
 
 -- With no record in the pipe every closed epoch is merged.
-pub none_piped : (stands : Standing) (cache : Cache) (pipe : Pipe) (m : Machine) → FrontStands stands cache pipe m → length pipe.records ≡ 0 → m.merged ≡ length m.closed
-none_piped stands cache pipe m s e = all_merged m s.few (records_none stands cache.key_words pipe.records (drop m.merged m.closed) s.piped e)
+pub none_piped : (stands : Standing) (cache : Cache) (pipe : Pipe) (m : Machine) → FrontStands stands cache pipe m → length pipe.records ≡ 0
+    → m.merged ≡ length m.closed
+none_piped stands cache pipe m s e = all_merged m s.few (records_none stands cache.key_words pipe.records (drop m.merged m.closed) s.piped
+    e)
 
 pub merge_none : (m : Machine) → m.merged ≡ length m.closed → merge m ≡ m
 merge_none m e = let shut : nat_lt m.merged (length m.closed) ≡ false = le-ltb m.merged (length m.closed) (omega arith) in rw shut refl
 
 -- the first record represents the first epoch
-records_first : (stands : Standing) (kw : ℕ) (records : List (List ℕ)) (epochs : List Epoch) → RecordsStand stands kw records epochs → 0 < length records
-    → (e : Epoch) × (es : List Epoch) × (epochs ≡ e ∷ es) × RecordStands stands kw (get_or records 0 []) e × RecordsStand stands kw (drop 1 records) es
+records_first : (stands : Standing) (kw : ℕ) (records : List (List ℕ)) (epochs : List Epoch) → RecordsStand stands kw records epochs
+    → 0 < length records
+    → (e : Epoch) × (es : List Epoch) × (epochs ≡ e ∷ es) × RecordStands stands kw (get_or records 0 []) e
+    × RecordsStand stands kw (drop 1 records) es
 records_first stands kw [] epochs s h = absurd (omega arith)
 records_first stands kw (r ∷ records) [] s h = absurd s
 records_first stands kw (r ∷ records) (e ∷ es) s h = (e, es, refl, s.0, s.1)
 
 -- one epoch more on the way through a list
-one_on : (n : ℕ) (xs : List Epoch) (e : Epoch) (es : List Epoch) → drop n xs ≡ e ∷ es → (take (suc n) xs ≡ take n xs ++ e ∷ []) × (drop (suc n) xs ≡ es) × (n < length xs)
+one_on : (n : ℕ) (xs : List Epoch) (e : Epoch) (es : List Epoch) → drop n xs ≡ e ∷ es → (take (suc n) xs ≡ take n xs ++ e ∷ [])
+    × (drop (suc n) xs ≡ es) × (n < length xs)
 one_on zero [] e es h = absurd (nothing h)
   where
     nothing : [] ≡ e ∷ es → ⊥
@@ -55,7 +62,8 @@ one_on (suc n) [] e es h = absurd (nothing h)
 one_on (suc n) (x ∷ xs) e es h = let rest = one_on n xs e es h in (ap (λ ys. x ∷ ys) rest.0, rest.1, let l = rest.2 in omega arith)
 
 -- the pipe's first record is dropped
-pub front_merged : (stands : Standing) (cache : Cache) (old new : Pipe) (m : Machine) → 0 < length old.records → new.records ≡ drop 1 old.records → FrontStands stands cache old m → FrontStands stands cache new (merge m)
+pub front_merged : (stands : Standing) (cache : Cache) (old new : Pipe) (m : Machine) → 0 < length old.records
+    → new.records ≡ drop 1 old.records → FrontStands stands cache old m → FrontStands stands cache new (merge m)
 front_merged stands cache old new m some dropped s =
     let first = records_first stands cache.key_words old.records (drop m.merged m.closed) s.piped some in
     let on = one_on m.merged m.closed first.0 first.1 first.2 in
@@ -71,8 +79,10 @@ front_merged stands cache old new m some dropped s =
     }
 
 -- the first record represents the oldest epoch that isn't merged
-pub next_held : (stands : Standing) (f : Folding) (cache : Cache) (pipe : Pipe) (before after : Store) (m : Machine) (epochs : List Epoch) → 0 < length pipe.records
-    → ((epoch : Epoch) → RecordStands stands cache.key_words (get_or pipe.records 0 []) epoch → StoreHolds f before epochs → StoreHolds f after (epochs ++ epoch ∷ []))
+pub next_held : (stands : Standing) (f : Folding) (cache : Cache) (pipe : Pipe) (before after : Store) (m : Machine) (epochs : List Epoch)
+    → 0 < length pipe.records
+    → ((epoch : Epoch) → RecordStands stands cache.key_words (get_or pipe.records 0 []) epoch → StoreHolds f before epochs
+    → StoreHolds f after (epochs ++ epoch ∷ []))
     → FrontStands stands cache pipe m → StoreHolds f before epochs → StoreHolds f after (epochs ++ next_merged m)
 next_held stands f cache pipe before after m epochs some held s kept =
     let first = records_first stands cache.key_words pipe.records (drop m.merged m.closed) s.piped some in
@@ -83,10 +93,12 @@ pub none_next : (m : Machine) → m.merged ≡ length m.closed → next_merged m
 none_next m e = ap (λ n. take 1 (drop n m.closed)) e ∙ rw (drop-length m.closed) refl
 
 -- after a merge the oldest unmerged epoch is the latest merged one
-pub merged_next : (m : Machine) → m.merged ≤ length m.closed → take (merge m).merged (merge m).closed ≡ take m.merged m.closed ++ next_merged m
+pub merged_next : (m : Machine) → m.merged ≤ length m.closed → take (merge m).merged (merge m).closed ≡ take m.merged m.closed
+    ++ next_merged m
 merged_next m few = by_test (nat_lt m.merged (length m.closed))
     (λ t. rw t (ap (λ k. take k m.closed) (let q : m.merged + 1 ≡ suc m.merged = omega arith in q) ∙ next m.merged m.closed))
-    (λ t. let end : m.merged ≡ length m.closed = grind (arith, nat_tests) in rw t (sym (ap (λ es. take m.merged m.closed ++ es) (none_next m end) ∙ append-nil (take m.merged m.closed))))
+    (λ t. let end : m.merged ≡ length m.closed = grind (arith, nat_tests) in rw t
+    (sym (ap (λ es. take m.merged m.closed ++ es) (none_next m end) ∙ append-nil (take m.merged m.closed))))
   where
     next : (n : ℕ) (xs : List Epoch) → take (suc n) xs ≡ take n xs ++ take 1 (drop n xs)
     next zero xs = refl
@@ -94,7 +106,8 @@ merged_next m few = by_test (nat_lt m.merged (length m.closed))
     next (suc n) (x ∷ xs) = ap (λ ys. x ∷ ys) (next n xs)
 
 -- a lane's store holds the merged epochs after a merge
-pub kept_next : (f : Folding) (store : Store) (m : Machine) → m.merged ≤ length m.closed → StoreHolds f store (take m.merged m.closed ++ next_merged m) → StoreStands f store (merge m)
+pub kept_next : (f : Folding) (store : Store) (m : Machine) → m.merged ≤ length m.closed
+    → StoreHolds f store (take m.merged m.closed ++ next_merged m) → StoreStands f store (merge m)
 kept_next f store m few held = subst (StoreHolds f store) (sym (merged_next m few)) held
 
 -- a record that is copied or not takes its words at most

@@ -38,19 +38,25 @@ same_words Sums = refl
 same_words Maxima = refl
 
 -- the cost of a lane by the numbers of its kind, and the bound of a groupby by those of its plan
-numbers_within : (entries : Entries) (keys names args row entry opening absorbing most affine history log walk walk' runs runs' composes composes' : ℕ)
+numbers_within : (entries : Entries) (keys names args row entry opening absorbing most affine history log walk walk' runs runs' composes
+    composes' : ℕ)
     → keys ≡ names → args ≡ row → walk ≡ walk' → runs ≡ runs' → composes ≡ composes' → most ≡ affine + history + log + 2
     → entry ≤ runs_of entries * most → opening ≤ runs_of entries * most → absorbing ≤ runs_of entries * (runs + composes + 4 * most)
-    → (keys + args) + (keys + walk + (keys + entry) + opening + absorbing) ≤ runs_of entries * (walk' + runs' + composes' + 6 * (names + affine + history + log + 2) + 2 * (names + row))
-numbers_within Folds keys names args row entry opening absorbing most affine history log walk walk' runs runs' composes composes' k a w r c m e o b = omega arith
-numbers_within Bounds keys names args row entry opening absorbing most affine history log walk walk' runs runs' composes composes' k a w r c m e o b = omega arith
+    → (keys + args) + (keys + walk + (keys + entry) + opening + absorbing) ≤ runs_of entries
+    * (walk' + runs' + composes' + 6 * (names + affine + history + log + 2) + 2 * (names + row))
+numbers_within Folds keys names args row entry opening absorbing most affine history log walk walk' runs runs' composes composes' k a w r c
+    m e o b = omega arith
+numbers_within Bounds keys names args row entry opening absorbing most affine history log walk walk' runs runs' composes composes' k a w r c
+    m e o b = omega arith
 
-program_within : HasOneDepth → EntriesSuitFolds → (entries : Entries) (ways : ℕ) (lane : LaneView) (group : GroupPlan) (f : TypedFold) → IsProgramOf f group.program
+program_within : HasOneDepth → EntriesSuitFolds → (entries : Entries) (ways : ℕ) (lane : LaneView) (group : GroupPlan) (f : TypedFold)
+    → IsProgramOf f group.program
     → lane.cache.key_words ≡ length group.key_names → length group.state_names ≡ length group.program.layout.initial
     → IsKindFor entries f (ghosts.sizes lane.kind) (ghosts.folding lane.kind) (ghosts.open_bound lane.kind) (ghosts.absorb_bound lane.kind)
     → lane_cost ways lane ≤ runs_of entries * group_bound ways (group_shape group)
 program_within one suit entries ways lane group f is keys named own =
-    let kind = suit entries f (ghosts.sizes lane.kind) (ghosts.folding lane.kind) (ghosts.open_bound lane.kind) (ghosts.absorb_bound lane.kind) own in
+    let kind = suit entries f (ghosts.sizes lane.kind) (ghosts.folding lane.kind) (ghosts.open_bound lane.kind)
+    (ghosts.absorb_bound lane.kind) own in
     let names = length group.key_names in
     let states = length group.state_names in
     let layout = group.program.layout in
@@ -64,20 +70,25 @@ program_within one suit entries ways lane group f is keys named own =
     let most : entry_bound f ≡ words * states * (states + 1) + states + group.program.depth * layout.args + 2 = cc in
     let runs : (fold_states f + 1) * (f.nodes + 4 * f.statements + 1) ≡ (states + 1) * (layout.nodes + 4 * layout.statements + 1) = cc in
     let composes : fold_states f * fold_states f * (fold_states f + 1) ≡ states * states * (states + 1) = cc in
-    numbers_within entries lane.cache.key_words names (ghosts.sizes lane.kind).args layout.args (ghosts.sizes lane.kind).entry (ghosts.open_bound lane.kind) (ghosts.absorb_bound lane.kind)
+    numbers_within entries lane.cache.key_words names (ghosts.sizes lane.kind).args layout.args (ghosts.sizes lane.kind).entry
+    (ghosts.open_bound lane.kind) (ghosts.absorb_bound lane.kind)
     (entry_bound f) (words * states * (states + 1)) states (group.program.depth * layout.args)
     (2 * ways * (lane.cache.key_words + 1)) (2 * ways * (names + 1))
     ((fold_states f + 1) * (f.nodes + 4 * f.statements + 1)) ((states + 1) * (layout.nodes + 4 * layout.statements + 1))
     (fold_states f * fold_states f * (fold_states f + 1)) (states * states * (states + 1))
     keys (kind.args ∙ row) (ap (λ k. 2 * ways * (k + 1)) keys) runs composes most kind.entry kind.«open» kind.absorb
 
-lane_within : HasOneDepth → EntriesSuitFolds → (entries : Entries) (ways buckets registers : ℕ) (lane : LaneView) (group : GroupPlan) (wiring other : GroupWiring) → IsSoundGroup registers group wiring
-    → IsLaneOf entries buckets lane.cache (ghosts.sizes lane.kind) (ghosts.folding lane.kind) (ghosts.open_bound lane.kind) (ghosts.absorb_bound lane.kind) group other
+lane_within : HasOneDepth → EntriesSuitFolds → (entries : Entries) (ways buckets registers : ℕ) (lane : LaneView) (group : GroupPlan)
+    (wiring other : GroupWiring) → IsSoundGroup registers group wiring
+    → IsLaneOf entries buckets lane.cache (ghosts.sizes lane.kind) (ghosts.folding lane.kind) (ghosts.open_bound lane.kind)
+    (ghosts.absorb_bound lane.kind) group other
     → lane_cost ways lane ≤ runs_of entries * group_bound ways (group_shape group)
 lane_within one suit entries ways buckets registers lane group wiring other sound own =
-    ∥∥₁_elim sound.program (hlevel props) (λ h. program_within one suit entries ways lane group h.0 h.1 own.keys sound.states (own.kind h.0 h.1))
+    ∥∥₁_elim sound.program (hlevel props) (λ h. program_within one suit entries ways lane group h.0 h.1 own.keys sound.states
+    (own.kind h.0 h.1))
 
-each_sum : {X Y Z : Type 0} (r : ℕ) (f : X → ℕ) (g : Z → ℕ) (shape : Y → Z) (k : ℕ) (xs : List X) (ys : List Y) → EachFrom (λ n x y. f x ≤ r * g (shape y)) k xs ys → sum_by f xs ≤ r * sum (map g (map shape ys))
+each_sum : {X Y Z : Type 0} (r : ℕ) (f : X → ℕ) (g : Z → ℕ) (shape : Y → Z) (k : ℕ) (xs : List X) (ys : List Y)
+    → EachFrom (λ n x y. f x ≤ r * g (shape y)) k xs ys → sum_by f xs ≤ r * sum (map g (map shape ys))
 each_sum r f g shape k [] [] e = omega arith
 each_sum r f g shape k [] (y ∷ ys) e = absurd e
 each_sum r f g shape k (x ∷ xs) [] e = absurd e
@@ -85,7 +96,8 @@ each_sum r f g shape k (x ∷ xs) (y ∷ ys) e =
     let first : f x ≤ r * g (shape y) = e.0 in
     let rest : sum_by f xs ≤ r * sum (map g (map shape ys)) = each_sum r f g shape (suc k) xs ys e.1 in
     let left : sum_by f (x ∷ xs) ≡ f x + sum_by f xs = sum_by-cons f x xs in
-    let right : sum (g (shape y) ∷ map g (map shape ys)) ≡ g (shape y) + sum (map g (map shape ys)) = sum_by-cons (λ n. n) (g (shape y)) (map g (map shape ys)) in
+    let right : sum (g (shape y) ∷ map g (map shape ys)) ≡ g (shape y) + sum (map g (map shape ys)) =
+    sum_by-cons (λ n. n) (g (shape y)) (map g (map shape ys)) in
     let split = mul-add r (g (shape y)) (sum (map g (map shape ys))) in
     let whole : r * sum (g (shape y) ∷ map g (map shape ys)) ≡ r * (g (shape y) + sum (map g (map shape ys))) = ap (λ n. r * n) right in
     omega arith
@@ -94,11 +106,14 @@ after : (entries : Entries) (registers a b : ℕ) → a ≤ runs_of entries * b 
 after Folds registers a b le = omega arith
 after Bounds registers a b le = omega arith
 
-pub packet_within : HasOneDepth → EntriesSuitFolds → (ways : ℕ) (p : PipelineView) → IsSoundPlan p.plan → AreLanesOf p.entries p.plan p.buckets p.lanes → pipeline_cost ways p ≤ runs_of p.entries * plan_bound p.plan ways
+pub packet_within : HasOneDepth → EntriesSuitFolds → (ways : ℕ) (p : PipelineView) → IsSoundPlan p.plan
+    → AreLanesOf p.entries p.plan p.buckets p.lanes → pipeline_cost ways p ≤ runs_of p.entries * plan_bound p.plan ways
 packet_within one suit ways p sound are =
-    after p.entries (14 + length p.plan.ops) (sum_by (lane_cost ways) p.lanes) (sum (map (group_bound ways) (map group_shape p.plan.groups)))
+    after p.entries (14 + length p.plan.ops) (sum_by (lane_cost ways) p.lanes)
+    (sum (map (group_bound ways) (map group_shape p.plan.groups)))
     (each_sum (runs_of p.entries) (lane_cost ways) (group_bound ways) group_shape 0 p.lanes p.plan.groups
-    (each_map (λ n lane group. IsLaneOf p.entries p.buckets lane.cache (ghosts.sizes lane.kind) (ghosts.folding lane.kind) (ghosts.open_bound lane.kind) (ghosts.absorb_bound lane.kind) group (wiring_at p.plan n))
+    (each_map (λ n lane group. IsLaneOf p.entries p.buckets lane.cache (ghosts.sizes lane.kind) (ghosts.folding lane.kind)
+    (ghosts.open_bound lane.kind) (ghosts.absorb_bound lane.kind) group (wiring_at p.plan n))
     (λ n lane group. lane_cost ways lane ≤ runs_of p.entries * group_bound ways (group_shape group)) 0 p.lanes p.plan.groups
     (λ j n lane group at here there own.
     let known = group_sound p.plan j group sound there in

@@ -39,7 +39,12 @@ sizes_kept : (means : Standing) (f : Folding) (ways : ℕ) (events : List Event)
     → (length b.cache.lists ≡ length a.cache.lists) × (b.cache.key_words ≡ a.cache.key_words) × (b.pipe.places ≡ a.pipe.places)
 sizes_kept means f ways [] a b e = (ap (λ p. length p.cache.lists) e, ap (λ p. p.cache.key_words) e, ap (λ p. p.pipe.places) e)
 sizes_kept means f ways (event ∷ events) a b made =
-    let rest = sizes_kept means f ways events made.0 b made.2 in (rest.0 ∙ made.1.buckets, rest.1 ∙ made.1.key_words, rest.2 ∙ made.1.places)
+    let rest = sizes_kept means f ways events made.0 b made.2 in (
+      rest.0 ∙ made.1.buckets,
+      rest.1 ∙ made.1.key_words,
+      rest.2
+          ∙ made.1.places,
+    )
 
 pub makes_sizes : (ways : ℕ) (events : List Event) (old new : LaneView) → LaneMakes ways events old new → SameSizes old new
 makes_sizes ways events old new m =
@@ -49,8 +54,10 @@ makes_sizes ways events old new m =
 -- they are still the lanes of the plan's groupbys
 pub lanes_kept : (R : ℕ → LaneView → LaneView → Type 0) → ((n : ℕ) (a b : LaneView) → R n a b → SameSizes a b)
     → (entries : Entries) (plan : PlanParts) (buckets k : ℕ) (old new : List LaneView) (groups : List GroupPlan) → EachFrom R k old new
-    → EachFrom (λ n lane group. IsLaneOf entries buckets lane.cache (ghosts.sizes lane.kind) (ghosts.folding lane.kind) (ghosts.open_bound lane.kind) (ghosts.absorb_bound lane.kind) group (wiring_at plan n)) k old groups
-    → EachFrom (λ n lane group. IsLaneOf entries buckets lane.cache (ghosts.sizes lane.kind) (ghosts.folding lane.kind) (ghosts.open_bound lane.kind) (ghosts.absorb_bound lane.kind) group (wiring_at plan n)) k new groups
+    → EachFrom (λ n lane group. IsLaneOf entries buckets lane.cache (ghosts.sizes lane.kind) (ghosts.folding lane.kind)
+    (ghosts.open_bound lane.kind) (ghosts.absorb_bound lane.kind) group (wiring_at plan n)) k old groups
+    → EachFrom (λ n lane group. IsLaneOf entries buckets lane.cache (ghosts.sizes lane.kind) (ghosts.folding lane.kind)
+    (ghosts.open_bound lane.kind) (ghosts.absorb_bound lane.kind) group (wiring_at plan n)) k new groups
 lanes_kept R sizes entries plan buckets k [] [] [] e f = tt
 lanes_kept R sizes entries plan buckets k [] [] (g ∷ groups) e f = absurd f
 lanes_kept R sizes entries plan buckets k [] (b ∷ new) groups e f = absurd e
@@ -59,14 +66,16 @@ lanes_kept R sizes entries plan buckets k (a ∷ old) (b ∷ new) [] e f = absur
 lanes_kept R sizes entries plan buckets k (a ∷ old) (b ∷ new) (g ∷ groups) e f =
     let s = sizes k a b e.0 in
     let own = f.0 in (
-      subst (λ kind. IsLaneOf entries buckets b.cache (ghosts.sizes kind) (ghosts.folding kind) (ghosts.open_bound kind) (ghosts.absorb_bound kind) g (wiring_at plan k)) (sym s.kind)
+      subst (λ kind. IsLaneOf entries buckets b.cache (ghosts.sizes kind) (ghosts.folding kind) (ghosts.open_bound kind)
+          (ghosts.absorb_bound kind) g (wiring_at plan k)) (sym s.kind)
           (record { many = s.buckets ∙ own.many; keys = s.key_words ∙ own.keys; args = own.args; class = own.class; kind = own.kind }),
       lanes_kept R sizes entries plan buckets (suc k) old new groups e.1 f.1,
     )
 
 -- the bounds on their merges stay
 pub merges_kept : (R : ℕ → LaneView → LaneView → Type 0) → ((n : ℕ) (a b : LaneView) → R n a b → SameSizes a b)
-    → (k : ℕ) (old new : List LaneView) (groups : List GroupPlan) → EachFrom R k old new → EachFrom (λ n. MergesWithin) k old groups → EachFrom (λ n. MergesWithin) k new groups
+    → (k : ℕ) (old new : List LaneView) (groups : List GroupPlan) → EachFrom R k old new → EachFrom (λ n. MergesWithin) k old groups
+    → EachFrom (λ n. MergesWithin) k new groups
 merges_kept R sizes k [] [] [] e f = tt
 merges_kept R sizes k [] [] (g ∷ groups) e f = absurd f
 merges_kept R sizes k [] (b ∷ new) groups e f = absurd e
@@ -80,17 +89,22 @@ merges_kept R sizes k (a ∷ old) (b ∷ new) (g ∷ groups) e f =
 
 -- all lanes have this many buckets
 pub lanes_many : (entries : Entries) (plan : PlanParts) (buckets k : ℕ) (lanes : List LaneView) (groups : List GroupPlan)
-    → EachFrom (λ n lane group. IsLaneOf entries buckets lane.cache (ghosts.sizes lane.kind) (ghosts.folding lane.kind) (ghosts.open_bound lane.kind) (ghosts.absorb_bound lane.kind) group (wiring_at plan n)) k lanes groups
+    → EachFrom (λ n lane group. IsLaneOf entries buckets lane.cache (ghosts.sizes lane.kind) (ghosts.folding lane.kind)
+    (ghosts.open_bound lane.kind) (ghosts.absorb_bound lane.kind) group (wiring_at plan n)) k lanes groups
     → (n : ℕ) (lane : LaneView) → slice_get lanes n ≡ Some lane → length lane.cache.lists ≡ buckets
 lanes_many entries plan buckets k [] groups f n lane h = cc
 lanes_many entries plan buckets k (a ∷ lanes) [] f n lane h = absurd f
-lanes_many entries plan buckets k (a ∷ lanes) (g ∷ groups) f zero lane h = let same : a ≡ lane = cc in subst (λ l. length l.cache.lists ≡ buckets) same f.0.many
-lanes_many entries plan buckets k (a ∷ lanes) (g ∷ groups) f (suc n) lane h = lanes_many entries plan buckets (suc k) lanes groups f.1 n lane h
+lanes_many entries plan buckets k (a ∷ lanes) (g ∷ groups) f zero lane h = let same : a ≡ lane =
+    cc in subst (λ l. length l.cache.lists ≡ buckets) same f.0.many
+lanes_many entries plan buckets k (a ∷ lanes) (g ∷ groups) f (suc n) lane h =
+    lanes_many entries plan buckets (suc k) lanes groups f.1 n lane h
 
 -- the machines after the events
 
-stand_after : (ways buckets : ℕ) (events : ℕ → List Event) (k : ℕ) (old new : List LaneView) (ms : List Machine) → ((n : ℕ) (lane : LaneView) → slice_get old n ≡ Some lane → length lane.cache.lists ≡ buckets)
-    → EachFrom (λ n. LaneMakes ways (events n)) k old new → EachFrom (λ n. StandsFor) k old ms → EachFrom (λ n. StandsFor) k new (after_events (geometry_of ways buckets) events k ms)
+stand_after : (ways buckets : ℕ) (events : ℕ → List Event) (k : ℕ) (old new : List LaneView) (ms : List Machine)
+    → ((n : ℕ) (lane : LaneView) → slice_get old n ≡ Some lane → length lane.cache.lists ≡ buckets)
+    → EachFrom (λ n. LaneMakes ways (events n)) k old new → EachFrom (λ n. StandsFor) k old ms
+    → EachFrom (λ n. StandsFor) k new (after_events (geometry_of ways buckets) events k ms)
 stand_after ways buckets events k [] [] [] many e s = tt
 stand_after ways buckets events k [] [] (m ∷ ms) many e s = absurd s
 stand_after ways buckets events k [] (b ∷ new) ms many e s = absurd e
@@ -98,39 +112,49 @@ stand_after ways buckets events k (a ∷ old) [] ms many e s = absurd e
 stand_after ways buckets events k (a ∷ old) (b ∷ new) [] many e s = absurd s
 stand_after ways buckets events k (a ∷ old) (b ∷ new) (m ∷ ms) many e s =
     let after = followed (ghosts.stands a.kind) (ghosts.folding a.kind) ways (events k) (parts_of a) (parts_of b) m s.0 e.0.made in
-    let same = subst (λ n. PartsStand (ghosts.stands a.kind) (ghosts.folding a.kind) (parts_of b) (run (geometry_of ways n) (events k) m)) (many 0 a refl) after in (
-      subst (λ kind. PartsStand (ghosts.stands kind) (ghosts.folding kind) (parts_of b) (run (geometry_of ways buckets) (events k) m)) (sym e.0.kind) same,
+    let same = subst (λ n. PartsStand (ghosts.stands a.kind) (ghosts.folding a.kind) (parts_of b) (run (geometry_of ways n) (events k) m))
+    (many 0 a refl) after in (
+      subst (λ kind. PartsStand (ghosts.stands kind) (ghosts.folding kind) (parts_of b) (run (geometry_of ways buckets) (events k) m))
+          (sym e.0.kind) same,
       stand_after ways buckets events (suc k) old new ms (λ n lane h. many (suc n) lane h) e.1 s.1,
     )
 
-same_others : (ways : ℕ) (events : ℕ → List Event) (k : ℕ) (old new : List LaneView) → EachFrom (λ n. LaneMakes ways (events n)) k old new → (i n : ℕ) → n ≡ k + i → events n ≡ [] → slice_get new i ≡ slice_get old i
+same_others : (ways : ℕ) (events : ℕ → List Event) (k : ℕ) (old new : List LaneView) → EachFrom (λ n. LaneMakes ways (events n)) k old new
+    → (i n : ℕ) → n ≡ k + i → events n ≡ [] → slice_get new i ≡ slice_get old i
 same_others ways events k [] [] e i n q none = refl
 same_others ways events k [] (b ∷ new) e i n q none = absurd e
 same_others ways events k (a ∷ old) [] e i n q none = absurd e
 same_others ways events k (a ∷ old) (b ∷ new) e zero n q none =
     let is : k ≡ n = omega arith in
     let made : MakesAll (ghosts.stands a.kind) (ghosts.folding a.kind) ways [] (parts_of a) (parts_of b) =
-    subst (λ es. MakesAll (ghosts.stands a.kind) (ghosts.folding a.kind) ways es (parts_of a) (parts_of b)) (ap events is ∙ none) e.0.made in
+    subst (λ es. MakesAll (ghosts.stands a.kind) (ghosts.folding a.kind) ways es (parts_of a) (parts_of b)) (ap events is ∙ none)
+    e.0.made in
     ap Some (view_is a b e.0.kind made)
   where
     view_is : (a b : LaneView) → b.kind ≡ a.kind → parts_of b ≡ parts_of a → b ≡ a
     view_is a b k p = let c = ap (λ x. x.cache) p in let d = ap (λ x. x.pipe) p in let f = ap (λ x. x.store) p in rw (k, c, d, f) refl
 same_others ways events k (a ∷ old) (b ∷ new) e (suc i) n q none = same_others ways events (suc k) old new e.1 i n (omega arith) none
 
-pub same_kinds : (R : ℕ → LaneView → LaneView → Type 0) → ((n : ℕ) (a b : LaneView) → R n a b → SameSizes a b) → (k : ℕ) (old new : List LaneView) → EachFrom R k old new → map (λ lane. lane.kind) new ≡ map (λ lane. lane.kind) old
+pub same_kinds : (R : ℕ → LaneView → LaneView → Type 0) → ((n : ℕ) (a b : LaneView) → R n a b → SameSizes a b)
+    → (k : ℕ) (old new : List LaneView) → EachFrom R k old new → map (λ lane. lane.kind) new ≡ map (λ lane. lane.kind) old
 same_kinds R sizes k [] [] e = refl
 same_kinds R sizes k [] (b ∷ new) e = absurd e
 same_kinds R sizes k (a ∷ old) [] e = absurd e
-same_kinds R sizes k (a ∷ old) (b ∷ new) e = let s = sizes k a b e.0 in let rest = same_kinds R sizes (suc k) old new e.1 in rw (s.kind, rest) refl
+same_kinds R sizes k (a ∷ old) (b ∷ new) e = let s = sizes k a b e.0 in let rest =
+    same_kinds R sizes (suc k) old new e.1 in rw (s.kind, rest) refl
 
-pub same_places : (R : ℕ → LaneView → LaneView → Type 0) → ((n : ℕ) (a b : LaneView) → R n a b → SameSizes a b) → (k : ℕ) (old new : List LaneView) → EachFrom R k old new → places_of new ≡ places_of old
+pub same_places : (R : ℕ → LaneView → LaneView → Type 0) → ((n : ℕ) (a b : LaneView) → R n a b → SameSizes a b)
+    → (k : ℕ) (old new : List LaneView) → EachFrom R k old new → places_of new ≡ places_of old
 same_places R sizes k [] [] e = refl
 same_places R sizes k [] (b ∷ new) e = absurd e
 same_places R sizes k (a ∷ old) [] e = absurd e
-same_places R sizes k (a ∷ old) (b ∷ new) e = let s = sizes k a b e.0 in let rest = same_places R sizes (suc k) old new e.1 in rw (s.places, rest) refl
+same_places R sizes k (a ∷ old) (b ∷ new) e = let s = sizes k a b e.0 in let rest =
+    same_places R sizes (suc k) old new e.1 in rw (s.places, rest) refl
 
-pub pipeline_makes : (ways : ℕ) (events : ℕ → List Event) (entries : Entries) (plan : PlanParts) (buckets : ℕ) (old new : List LaneView) → AreLanesOf entries plan buckets old → LanesMake ways events old new
-    → PipelineMakes ways events (record { plan = plan; entries = entries; buckets = buckets; lanes = old }) (record { plan = plan; entries = entries; buckets = buckets; lanes = new })
+pub pipeline_makes : (ways : ℕ) (events : ℕ → List Event) (entries : Entries) (plan : PlanParts) (buckets : ℕ) (old new : List LaneView)
+    → AreLanesOf entries plan buckets old → LanesMake ways events old new
+    → PipelineMakes ways events (record { plan = plan; entries = entries; buckets = buckets; lanes = old })
+    (record { plan = plan; entries = entries; buckets = buckets; lanes = new })
 pipeline_makes ways events entries plan buckets old new are e = record {
   stands = λ ms s. stand_after ways buckets events 0 old new ms (lanes_many entries plan buckets 0 old plan.groups are) e s;
   others = λ n none. same_others ways events 0 old new e n n (omega arith) none;
@@ -184,11 +208,14 @@ pipeline_is_swept alike emptied ways old new are made kept = record {
 }
 
 -- the lane of a groupby has entries of the groupby's kind
-pub kind_at : (p : PipelineView) (n : ℕ) (lane : LaneView) (group : GroupPlan) (f : TypedFold) → AreLanesOf p.entries p.plan p.buckets p.lanes
+pub kind_at : (p : PipelineView) (n : ℕ) (lane : LaneView) (group : GroupPlan) (f : TypedFold)
+    → AreLanesOf p.entries p.plan p.buckets p.lanes
     → slice_get p.lanes n ≡ Some lane → slice_get p.plan.groups n ≡ Some group → IsProgramOf f group.program
-    → IsKindFor p.entries f (ghosts.sizes lane.kind) (ghosts.folding lane.kind) (ghosts.open_bound lane.kind) (ghosts.absorb_bound lane.kind)
+    → IsKindFor p.entries f (ghosts.sizes lane.kind) (ghosts.folding lane.kind) (ghosts.open_bound lane.kind)
+    (ghosts.absorb_bound lane.kind)
 kind_at p n lane group f are here at is =
-    let R = λ (i : ℕ) (l : LaneView) (x : GroupPlan). IsLaneOf p.entries p.buckets l.cache (ghosts.sizes l.kind) (ghosts.folding l.kind) (ghosts.open_bound l.kind) (ghosts.absorb_bound l.kind) x (wiring_at p.plan i) in
+    let R = λ (i : ℕ) (l : LaneView) (x : GroupPlan). IsLaneOf p.entries p.buckets l.cache (ghosts.sizes l.kind) (ghosts.folding l.kind)
+    (ghosts.open_bound l.kind) (ghosts.absorb_bound l.kind) x (wiring_at p.plan i) in
     let found = each_at R 0 n p.lanes p.plan.groups lane are here in
     let same : found.0 ≡ group = same_some found.0 group (sym found.1 ∙ at) in
     (subst (R n lane) same (found.2 n (omega arith))).kind f is

@@ -10,13 +10,15 @@ no_parts true = refl
 no_parts false = refl
 
 -- one part, and then the others
-pub part_first : (begins : Bool) (part : List ℕ) (rest : List (List ℕ)) → parts_from begins (part ∷ rest) ≡ parts_from begins (part ∷ []) ++ parts_from false rest
+pub part_first : (begins : Bool) (part : List ℕ) (rest : List (List ℕ)) → parts_from begins (part ∷ rest) ≡ parts_from begins (part ∷ [])
+    ++ parts_from false rest
 part_first true part rest = ap (λ p. p ++ continued rest) (sym (append-nil part))
 part_first false part rest = ap (λ p. p ++ continued rest) (sym (append-nil (44 ∷ part)))
 
 -- A part is written: what is still to be written after it makes the whole.
 pub written : (whole before after : List ℕ) (begins : Bool) (part : List ℕ) (left rest : List (List ℕ))
-    → left ≡ part ∷ rest → before ++ parts_from begins left ≡ whole → after ≡ before ++ parts_from begins (part ∷ []) → after ++ parts_from false rest ≡ whole
+    → left ≡ part ∷ rest → before ++ parts_from begins left ≡ whole → after ≡ before ++ parts_from begins (part ∷ []) → after
+    ++ parts_from false rest ≡ whole
 written whole before after begins part left rest split so_far wrote =
     ap (λ text. text ++ parts_from false rest) wrote
     ∙ append_assoc before (parts_from begins (part ∷ [])) (parts_from false rest)
@@ -24,13 +26,15 @@ written whole before after begins part left rest split so_far wrote =
     ∙ so_far
 
 -- Nothing is left to be written.
-pub all_written : (whole before : List ℕ) (begins : Bool) (left : List (List ℕ)) → left ≡ [] → before ++ parts_from begins left ≡ whole → before ≡ whole
+pub all_written : (whole before : List ℕ) (begins : Bool) (left : List (List ℕ)) → left ≡ [] → before ++ parts_from begins left ≡ whole
+    → before ≡ whole
 all_written whole before begins left none so_far =
     sym (append-nil before) ∙ ap (λ text. before ++ text) (sym (no_parts begins) ∙ ap (parts_from begins) (sym none)) ∙ so_far
 
 pub continued_append : (a b : List (List ℕ)) → continued (a ++ b) ≡ continued a ++ continued b
 continued_append [] b = refl
-continued_append (part ∷ a) b = ap (λ rest. (44 ∷ part) ++ rest) (continued_append a b) ∙ sym (append_assoc (44 ∷ part) (continued a) (continued b))
+continued_append (part ∷ a) b = ap (λ rest. (44 ∷ part) ++ rest) (continued_append a b)
+    ∙ sym (append_assoc (44 ∷ part) (continued a) (continued b))
 
 abbrev is_none : List (List ℕ) → Bool
 is_none [] = true
@@ -45,9 +49,11 @@ no_length (part ∷ parts) = elim (eqb_tells (length (part ∷ parts)) 0) [
 
 three : (keys middle others : List (List ℕ)) (part : List ℕ)
     → joined ((keys ++ (part ∷ middle)) ++ others) ≡ (joined keys ++ parts_from (is_none keys) (part ∷ middle)) ++ continued others
-three [] middle others part = ap (λ rest. part ++ rest) (continued_append middle others) ∙ sym (append_assoc part (continued middle) (continued others))
+three [] middle others part = ap (λ rest. part ++ rest) (continued_append middle others)
+    ∙ sym (append_assoc part (continued middle) (continued others))
 three (key ∷ keys) middle others part =
-    ap (λ rest. key ++ rest) (continued_append (keys ++ (part ∷ middle)) others ∙ ap (λ rest. rest ++ continued others) (continued_append keys (part ∷ middle)))
+    ap (λ rest. key ++ rest) (continued_append (keys ++ (part ∷ middle)) others
+    ∙ ap (λ rest. rest ++ continued others) (continued_append keys (part ∷ middle)))
     ∙ sym (append_assoc key (continued keys ++ continued (part ∷ middle)) (continued others))
     ∙ ap (λ rest. rest ++ continued others) (sym (append_assoc key (continued keys) (continued (part ∷ middle))))
 
@@ -55,4 +61,5 @@ three (key ∷ keys) middle others part =
 pub joined_three : (keys middle others : List (List ℕ)) (part : List ℕ) (begins : Bool) → begins ≡ (length keys == 0)
     → joined ((keys ++ (part ∷ middle)) ++ others) ≡ (joined keys ++ parts_from begins (part ∷ middle)) ++ continued others
 joined_three keys middle others part begins empty =
-    three keys middle others part ∙ ap (λ first. (joined keys ++ parts_from first (part ∷ middle)) ++ continued others) (sym (empty ∙ no_length keys))
+    three keys middle others part ∙ ap (λ first. (joined keys ++ parts_from first (part ∷ middle)) ++ continued others)
+    (sym (empty ∙ no_length keys))

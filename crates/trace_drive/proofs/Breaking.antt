@@ -1,5 +1,6 @@
 -- How a run breaks off, at whatever step.
-use Rattle.std.proofs.Common.{◌≡◌, ℕ, ◌≤◌, List, [], ◌++◌, Option, None, Some, length, refl, sym, subst, arith, inl, inr, length-append, Result, Ok, Err, IfErr, OnOk}
+use Rattle.std.proofs.Common.{◌≡◌, ℕ, ◌≤◌, List, [], ◌++◌, Option, None, Some, length, refl, sym, subst, arith, inl, inr, length-append}
+use Rattle.std.proofs.Common.{Result, Ok, Err, IfErr, OnOk}
 use Rattle.std.specs.Result.{IsErrAnd}
 use Rattle.std.proofs.Math.Seq.{take-append_seam}
 use Rattle.std.proofs.KnownBytes.{Appends-nil}
@@ -18,7 +19,8 @@ use Rattle.trace_drive.specs.declared.answer.RunError.TheVariants.{Refused, Memo
 use Rattle.trace_drive.proofs.Pieces.{TakesFront-more}
 
 -- a fact about the answer in a result
-pub err_is : {A E : Type 0} (P : E → Type 0) (result : Result A E) (answer : E) → IsErrAnd result (λ found. found ≡ answer) → P answer → IfErr result P
+pub err_is : {A E : Type 0} (P : E → Type 0) (result : Result A E) (answer : E) → IsErrAnd result (λ found. found ≡ answer) → P answer
+    → IfErr result P
 err_is P (Ok done) answer is known = tt
 err_is P (Err found) answer is known = subst P (sym is) known
 
@@ -27,7 +29,8 @@ pub then_ok : {A E : Type 0} (result : Result A E) (P Q : Type 0) → (P → Q) 
 then_ok (Ok done) P Q so known = so known
 then_ok (Err found) P Q so known = tt
 
-pub then_err : {A E : Type 0} (result : Result A E) (P Q : E → Type 0) → ((answer : E) → P answer → Q answer) → IfErr result P → IfErr result Q
+pub then_err : {A E : Type 0} (result : Result A E) (P Q : E → Type 0) → ((answer : E) → P answer → Q answer) → IfErr result P
+    → IfErr result Q
 then_err (Ok done) P Q so known = tt
 then_err (Err found) P Q so known = so found known
 
@@ -55,7 +58,8 @@ module _ {O : Type 0} (taken : O → Option (List ℕ)) (faults : O → ℕ) (te
   out_of_memory out = nothing_taken (taken out) (text_unless fault text)
 
   -- out of memory after some of a sound trace's text was written; of a trace that may have a fault nothing was written
-  pub memory_after : (old new : O) (done rest : List ℕ) → text ≡ done ++ rest → ((found : TraceFault) → fault ≡ Some found → done ≡ []) → Appends (taken old) (taken new) done
+  pub memory_after : (old new : O) (done rest : List ℕ) → text ≡ done ++ rest → ((found : TraceFault) → fault ≡ Some found → done ≡ [])
+      → Appends (taken old) (taken new) done
       → BreaksOff taken faults text fault old new Memory
   memory_after old new done rest is none whole = by_fault fault refl
     where
@@ -64,28 +68,39 @@ module _ {O : Type 0} (taken : O → Option (List ℕ)) (faults : O → ℕ) (te
       by_fault (Some found) e = part_taken (taken old) (taken new) [] [] (subst (Appends (taken old) (taken new)) (none found e) whole)
 
   -- the reader broke off; of a trace that may have a fault nothing was written
-  pub reader_breaks : (old new : O) (done rest : List ℕ) → text ≡ done ++ rest → ((found : TraceFault) → fault ≡ Some found → (done ≡ []) × (new ≡ old)) → Appends (taken old) (taken new) done
-      → (answer : TraceAnswer) → IfRefused answer (λ found. fault ≡ Some found) → BreaksOff taken faults text fault old new (answer_for answer)
+  pub reader_breaks : (old new : O) (done rest : List ℕ) → text ≡ done ++ rest
+      → ((found : TraceFault) → fault ≡ Some found → (done ≡ []) × (new ≡ old)) → Appends (taken old) (taken new) done
+      → (answer : TraceAnswer) → IfRefused answer (λ found. fault ≡ Some found)
+      → BreaksOff taken faults text fault old new (answer_for answer)
   reader_breaks old new done rest is none whole (answers.Refused found) e = (e, (none found e).1)
   reader_breaks old new done rest is none whole answers.Memory e = memory_after old new done rest is (λ found f. (none found f).0) whole
 
   -- a write failed after what was written
-  pub write_breaks : (old mid new : O) (done piece rest : List ℕ) → text ≡ done ++ (piece ++ rest) → fault ≡ None → Appends (taken old) (taken mid) done → faults old ≤ faults mid
+  pub write_breaks : (old mid new : O) (done piece rest : List ℕ) → text ≡ done ++ (piece ++ rest) → fault ≡ None
+      → Appends (taken old) (taken mid) done → faults old ≤ faults mid
       → Rose (faults mid) (faults new) → TakesFront (taken mid) (taken new) piece → BreaksOff taken faults text fault old new Failed
-  write_breaks old mid new done piece rest is sound whole later rose front =
-      (sound, rose_since (faults old) (faults mid) (faults new) later rose, subst (TakesFront (taken old) (taken new)) (sym is) (TakesFront-more (taken old) (taken mid) (taken new) done piece rest whole front))
+  write_breaks old mid new done piece rest is sound whole later rose front = (
+    sound,
+    rose_since (faults old) (faults mid) (faults new) later rose,
+    subst (TakesFront (taken old) (taken new)) (sym is)
+        (TakesFront-more (taken old) (taken mid) (taken new) done piece rest whole front),
+  )
 
   -- a part of the text broke off after what was written
-  pub part_breaks : (old mid new : O) (done piece rest : List ℕ) → text ≡ done ++ (piece ++ rest) → fault ≡ None → Appends (taken old) (taken mid) done → faults old ≤ faults mid
+  pub part_breaks : (old mid new : O) (done piece rest : List ℕ) → text ≡ done ++ (piece ++ rest) → fault ≡ None
+      → Appends (taken old) (taken mid) done → faults old ≤ faults mid
       → (answer : RunError) → BreaksOff taken faults piece None mid new answer → BreaksOff taken faults text fault old new answer
   part_breaks old mid new done piece rest is sound whole later (Refused found) broke = absurd (none_some found None refl broke.0)
   part_breaks old mid new done piece rest is sound whole later Memory broke =
-      subst (λ f. TakesFront (taken old) (taken new) (text_unless f text)) (sym sound) (subst (TakesFront (taken old) (taken new)) (sym is) (TakesFront-more (taken old) (taken mid) (taken new) done piece rest whole broke))
+      subst (λ f. TakesFront (taken old) (taken new) (text_unless f text)) (sym sound)
+      (subst (TakesFront (taken old) (taken new)) (sym is) (TakesFront-more (taken old) (taken mid) (taken new) done piece rest whole
+      broke))
   part_breaks old mid new done piece rest is sound whole later Failed broke =
       write_breaks old mid new done piece rest is sound whole later broke.1 broke.2
 
   -- a sound trace's text wasn't written whole
-  pub unwritten : (old new : O) → fault ≡ None → (answer : WriteError) → (answer ≡ writes.Failed → Rose (faults old) (faults new)) → TakesFront (taken old) (taken new) text
+  pub unwritten : (old new : O) → fault ≡ None → (answer : WriteError) → (answer ≡ writes.Failed → Rose (faults old) (faults new))
+      → TakesFront (taken old) (taken new) text
       → BreaksOff taken faults text fault old new (answer_of answer)
   unwritten old new sound writes.Failed rose front = (sound, rose refl, front)
   unwritten old new sound writes.Memory rose front = subst (λ f. TakesFront (taken old) (taken new) (text_unless f text)) (sym sound) front

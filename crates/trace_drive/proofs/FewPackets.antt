@@ -4,7 +4,8 @@ use Rattle.std.proofs.lemmas.Bool.Decides.{nat_tests}
 use Rattle.epoch_model.proofs.KeyLists.{by_test}
 use Rattle.marple_base.specs.declared.field.Packet.{Packet}
 use Rattle.trace_reader.specs.Reading.{records}
-use Rattle.trace_reader.specs.Traces.{Layout, contents_from, contents_with, contents, most_records, opening, packet_of, rest_of, with_packet}
+use Rattle.trace_reader.specs.Traces.{Layout, contents_from, contents_with, contents, most_records, opening, packet_of, rest_of}
+use Rattle.trace_reader.specs.Traces.{with_packet}
 use Rattle.trace_reader.specs.declared.fault.TraceFault.{TraceFault}
 use Rattle.trace_drive.specs.ReadPackets.{ReadPacketsAreFew}
 
@@ -16,10 +17,12 @@ none_beyond layout n fields p beyond is = let test : nat_lt most_records n ≡ t
     no_packet : {fault : TraceFault} → Err fault ≡ Ok p → ⊥
     no_packet e = cc
 
-few_from : (layout : Layout) (n : ℕ) (rows : List (List (List ℕ))) → n ≤ most_records + 1 → length (contents_from layout n rows).packets + n ≤ most_records + 1
+few_from : (layout : Layout) (n : ℕ) (rows : List (List (List ℕ))) → n ≤ most_records + 1 → length (contents_from layout n rows).packets
+    + n ≤ most_records + 1
 unfolding contents_from
 few_from layout n [] within = omega arith
-few_from layout n (fields ∷ rows) within = by_packet (packet_of layout n fields) (λ p is beyond. none_beyond layout n fields p beyond is) (λ below. few_from layout (n + 1) rows below)
+few_from layout n (fields ∷ rows) within = by_packet (packet_of layout n fields) (λ p is beyond. none_beyond layout n fields p beyond is)
+    (λ below. few_from layout (n + 1) rows below)
   where
     by_packet : (found : Result Packet TraceFault) → ((p : Packet) → found ≡ Ok p → most_records + 1 ≤ n → ⊥)
         → (n + 1 ≤ most_records + 1 → length (contents_from layout (n + 1) rows).packets + (n + 1) ≤ most_records + 1)

@@ -1,5 +1,6 @@
 -- Packets of which only some fields are kept.
-use Rattle.std.proofs.Common.{◌≡◌, ℕ, zero, suc, ◌+◌, ◌*◌, ◌<◌, ◌≤◌, Bool, true, false, List, [], ◌∷◌, ◌++◌, Some, length, map, drop, get_or, set, refl, sym, ap, ap₂, ◌∙◌, subst, arith, append_assoc, length-append, if◌then◌else◌}
+use Rattle.std.proofs.Common.{◌≡◌, ℕ, zero, suc, ◌+◌, ◌*◌, ◌<◌, ◌≤◌, Bool, true, false, List, [], ◌∷◌, ◌++◌, Some, length, map, drop}
+use Rattle.std.proofs.Common.{get_or, set, refl, sym, ap, ap₂, ◌∙◌, subst, arith, append_assoc, length-append, if◌then◌else◌}
 use Rattle.std.specs.Prelude.{replicate}
 use Rattle.std.specs.List.{slice_get, zip}
 use Rattle.std.proofs.lemmas.List.{drop-append-le, drop-drop, drop_more, get_or_at, length-drop, nil_from_length, set_at}
@@ -24,7 +25,8 @@ one_longer n front word at = omega (arith, length-append front (word ∷ []))
 -- where all words after those so far are 0, the words of fields among these are written
 spread_one : (is_in : Bool) (f : Field) (fs : List Field) (h : Field → ℕ) (front zeros rest : List ℕ) → number_of f ≡ length front
     → ((word : ℕ) → written fs (map h fs) ((front ++ word ∷ []) ++ zeros) ≡ (front ++ word ∷ []) ++ rest)
-    → written (if is_in then f ∷ fs else fs) (map h (if is_in then f ∷ fs else fs)) (front ++ 0 ∷ zeros) ≡ front ++ (if is_in then h f else 0) ∷ rest
+    → written (if is_in then f ∷ fs else fs) (map h (if is_in then f ∷ fs else fs)) (front ++ 0 ∷ zeros) ≡ front
+    ++ (if is_in then h f else 0) ∷ rest
 spread_one true f fs h front zeros rest at more =
     ap (written fs (map h fs)) (set_at front 0 zeros (h f) (number_of f) (sym at) ∙ sym (append_assoc front (h f ∷ []) zeros))
     ∙ more (h f) ∙ append_assoc front (h f ∷ []) rest
@@ -32,17 +34,20 @@ spread_one false f fs h front zeros rest at more =
     ap (written fs (map h fs)) (sym (append_assoc front (0 ∷ []) zeros)) ∙ more 0 ∙ append_assoc front (0 ∷ []) rest
 
 spread : (set : FieldSet) (h : Field → ℕ) (fs : List Field) (n : ℕ) (front : List ℕ) → n ≡ length front → AreFrom n fs
-    → written (fields_among fs set) (map h (fields_among fs set)) (front ++ replicate (length fs) 0) ≡ front ++ map (λ f. if has_field set f then h f else 0) fs
+    → written (fields_among fs set) (map h (fields_among fs set)) (front ++ replicate (length fs) 0) ≡ front
+    ++ map (λ f. if has_field set f then h f else 0) fs
 unfolding fields_among
 spread set h [] n front at from = refl
 spread set h (f ∷ fs) n front at from =
-    spread_one (has_field set f) f (fields_among fs set) h front (replicate (length fs) 0) (map (λ f. if has_field set f then h f else 0) fs) (from.0 ∙ at)
+    spread_one (has_field set f) f (fields_among fs set) h front (replicate (length fs) 0)
+    (map (λ f. if has_field set f then h f else 0) fs) (from.0 ∙ at)
     (λ word. spread set h fs (n + 1) (front ++ word ∷ []) (one_longer n front word at) from.1)
 
 -- of a packet whose words are kept, the fields that aren't kept are 0
 pub kept_is : (set : FieldSet) (packet : Packet) → packet_in (fields_in set) (map (word_in packet) (fields_in set)) ≡ kept_of set packet
 unfolding kept_of
-kept_is set packet = ap (λ words. let p : Packet = record { words = words } in p) (spread set (word_in packet) all_fields 0 [] refl all_from)
+kept_is set packet = ap (λ words. let p : Packet = record { words = words } in p)
+    (spread set (word_in packet) all_fields 0 [] refl all_from)
 
 -- words by the numbers of their fields, and by their places
 by_place : (m : Field → ℕ → ℕ) (fs : List Field) (n : ℕ) (front rest : List ℕ) → n ≡ length front → AreFrom n fs → length rest ≡ length fs
@@ -53,20 +58,25 @@ by_place m (f ∷ fs) n front (word ∷ rest) at from long =
     let here : get_or (front ++ word ∷ rest) (number_of f) 0 ≡ word = get_or_at front word rest 0 (number_of f) (sym (from.0 ∙ at)) in
     let later = by_place m fs (n + 1) (front ++ word ∷ []) rest (one_longer n front word at) from.1 (omega arith) in
     ap₂ (λ x xs. m f x ∷ xs) here
-    (subst (λ words. map (λ f. m f (get_or words (number_of f) 0)) fs ≡ map (λ p. m p.0 p.1) (zip fs rest)) (append_assoc front (word ∷ []) rest) later)
+    (subst (λ words. map (λ f. m f (get_or words (number_of f) 0)) fs ≡ map (λ p. m p.0 p.1) (zip fs rest))
+    (append_assoc front (word ∷ []) rest) later)
 
 -- where a packet has a word for each field, the words that are kept are those of the fields beside them
-pub kept_words_are : (set : FieldSet) (packet : Packet) → length packet.words ≡ 14 → kept_of set packet ≡ record { words = map (λ p. if has_field set p.0 then p.1 else 0) (zip all_fields packet.words) }
+pub kept_words_are : (set : FieldSet) (packet : Packet) → length packet.words ≡ 14
+    → kept_of set packet ≡ record { words = map (λ p. if has_field set p.0 then p.1 else 0) (zip all_fields packet.words) }
 unfolding kept_of
 kept_words_are set packet long =
-    ap (λ words. let p : Packet = record { words = words } in p) (by_place (λ f word. if has_field set f then word else 0) all_fields 0 [] packet.words refl all_from long)
+    ap (λ words. let p : Packet = record { words = words } in p) (by_place (λ f word. if has_field set f then word else 0) all_fields 0 []
+    packet.words refl all_from long)
 
 -- the next field is in the set, or isn't
-pub among_one : (set : FieldSet) (fs : List Field) (i : ℕ) (d : Field) → i < length fs → has_field set (get_or fs i d) ≡ true → fields_among (drop i fs) set ≡ get_or fs i d ∷ fields_among (drop (i + 1) fs) set
+pub among_one : (set : FieldSet) (fs : List Field) (i : ℕ) (d : Field) → i < length fs → has_field set (get_or fs i d) ≡ true
+    → fields_among (drop i fs) set ≡ get_or fs i d ∷ fields_among (drop (i + 1) fs) set
 unfolding fields_among
 among_one set fs i d within is_in = rw (drop_more fs i d within, is_in) refl
 
-pub among_other : (set : FieldSet) (fs : List Field) (i : ℕ) (d : Field) → i < length fs → has_field set (get_or fs i d) ≡ false → fields_among (drop i fs) set ≡ fields_among (drop (i + 1) fs) set
+pub among_other : (set : FieldSet) (fs : List Field) (i : ℕ) (d : Field) → i < length fs → has_field set (get_or fs i d) ≡ false
+    → fields_among (drop i fs) set ≡ fields_among (drop (i + 1) fs) set
 unfolding fields_among
 among_other set fs i d within is_in = rw (drop_more fs i d within, is_in) refl
 
@@ -81,7 +91,8 @@ unfolding packets_in
 packets_long fields zero words = refl
 packets_long fields (suc count) words = ap (λ n. suc n) (packets_long fields count (drop (length fields) words))
 
-written_before : (fields : List Field) (words more old : List ℕ) → length fields ≤ length words → written fields (words ++ more) old ≡ written fields words old
+written_before : (fields : List Field) (words more old : List ℕ) → length fields ≤ length words
+    → written fields (words ++ more) old ≡ written fields words old
 written_before [] words more old enough = refl
 written_before (f ∷ fields) [] more old enough = absurd (omega arith)
 written_before (f ∷ fields) (word ∷ words) more old enough = written_before fields words more (set old (number_of f) word) (omega arith)
@@ -101,12 +112,14 @@ packets_more fields (suc count) words row long =
     let all = one_times count width in
     let enough : width ≤ length words = omega arith in
     let rest : length (drop width words) ≡ count * width = omega (arith, length-drop width words) in
-    let first : packet_in fields (words ++ row) ≡ packet_in fields words = ap (λ ws. let p : Packet = record { words = ws } in p) (written_before fields words row (replicate 14 0) enough) in
+    let first : packet_in fields (words ++ row) ≡ packet_in fields words =
+    ap (λ ws. let p : Packet = record { words = ws } in p) (written_before fields words row (replicate 14 0) enough) in
     ap₂ (λ x xs. x ∷ xs) first
     (ap (packets_in fields (suc count)) (drop-append-le width words row enough) ∙ packets_more fields count (drop width words) row rest)
 
 -- the packet at a place
-pub packet_at : (fields : List Field) (count : ℕ) (words : List ℕ) (at : ℕ) → at < count → slice_get (packets_in fields count words) at ≡ Some (packet_in fields (drop (at * length fields) words))
+pub packet_at : (fields : List Field) (count : ℕ) (words : List ℕ) (at : ℕ) → at < count
+    → slice_get (packets_in fields count words) at ≡ Some (packet_in fields (drop (at * length fields) words))
 unfolding packets_in
 packet_at fields zero words at within = absurd (omega arith)
 packet_at fields (suc count) words zero within = let none : 0 * length fields ≡ 0 = omega arith in rw none refl
@@ -119,10 +132,17 @@ packet_at fields (suc count) words (suc at) within =
 pub place_within : (at count width : ℕ) → at < count → at * width + width ≤ count * width
 place_within at zero width within = absurd (omega arith)
 place_within zero (suc count) width within = omega (arith, one_times count width)
-place_within (suc at) (suc count) width within = omega (arith, one_times at width, one_times count width, place_within at count width (omega arith))
+place_within (suc at) (suc count) width within = omega (
+  arith,
+  one_times at width,
+  one_times count width,
+  place_within at count width
+      (omega arith),
+)
 
 -- a packet more, with 0 in the fields that aren't kept
-pub kept_more : (set : FieldSet) (fields : List Field) (count : ℕ) (words : List ℕ) (packet : Packet) → fields ≡ fields_in set → length words ≡ count * length fields
+pub kept_more : (set : FieldSet) (fields : List Field) (count : ℕ) (words : List ℕ) (packet : Packet) → fields ≡ fields_in set
+    → length words ≡ count * length fields
     → packets_in fields (count + 1) (words ++ map (word_in packet) fields) ≡ packets_in fields count words ++ kept_of set packet ∷ []
 kept_more set fields count words packet all long =
     let next : count + 1 ≡ suc count = omega arith in

@@ -17,7 +17,8 @@ use Rattle.trace_drive.proofs.WholePackets.{is_long}
 abbrev word_if : FieldSet → Field → ℕ → ℕ
 word_if reads f word = if has_field reads f then word else 0
 
-unread : (is_read : Bool) (column : Result (Option ℕ) TraceFault) (fields : List (List ℕ)) (f : Field) (o : Option ℕ) (word : ℕ) → (if is_read then column else Ok None) ≡ Ok o → word_at fields f o ≡ Ok word → (if is_read then word else 0) ≡ word
+unread : (is_read : Bool) (column : Result (Option ℕ) TraceFault) (fields : List (List ℕ)) (f : Field) (o : Option ℕ) (word : ℕ)
+    → (if is_read then column else Ok None) ≡ Ok o → word_at fields f o ≡ Ok word → (if is_read then word else 0) ≡ word
 unread true column fields f o word c w = refl
 unread false column fields f o word c w =
     let none : o ≡ None = cc in
@@ -25,7 +26,8 @@ unread false column fields f o word c w =
     let is : 0 ≡ word = cc in
     is
 
-words_if : (reads : FieldSet) (header fields : List (List ℕ)) (fs : List Field) (columns : List (Option ℕ)) (words : List ℕ) → each (column_of reads header) fs ≡ Ok columns
+words_if : (reads : FieldSet) (header fields : List (List ℕ)) (fs : List Field) (columns : List (Option ℕ)) (words : List ℕ)
+    → each (column_of reads header) fs ≡ Ok columns
     → each (λ p. word_at fields p.0 p.1) (zip fs columns) ≡ Ok words → map (λ p. word_if reads p.0 p.1) (zip fs words) ≡ words
 unfolding each
 words_if reads header fields [] columns words c w = let none : [] ≡ words = cc in none
@@ -39,7 +41,8 @@ words_if reads header fields (f ∷ fs) columns words c w =
 kept_all : (reads : FieldSet) → HoldsOfRead reads (λ packet. kept_of reads packet ≡ packet)
 kept_all reads header fields columns packet c w =
     let long = is_long reads header fields columns packet c w in
-    kept_words_are reads packet long ∙ ap (λ words. let p : Packet = record { words = words } in p) (words_if reads header fields all_fields columns packet.words c w)
+    kept_words_are reads packet long ∙ ap (λ words. let p : Packet = record { words = words } in p)
+    (words_if reads header fields all_fields columns packet.words c w)
 
 pub read_kept : ReadPacketsAreKept
 read_kept text reads = each_packet (λ packet. kept_of reads packet ≡ packet) text reads (kept_all reads)

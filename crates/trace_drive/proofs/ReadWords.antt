@@ -1,5 +1,6 @@
 -- The packets of a trace are of words.
-use Rattle.std.proofs.Common.{◌≡◌, ℕ, ◌+◌, ◌-◌, ◌*◌, ◌^◌, ◌<◌, Bool, true, false, ◌&&◌, nat_le, nat_lt, if◌then◌else◌, List, [], ◌∷◌, length, Option, Some, None, Result, Ok, Err, IfOk, refl, subst, arith}
+use Rattle.std.proofs.Common.{◌≡◌, ℕ, ◌+◌, ◌-◌, ◌*◌, ◌^◌, ◌<◌, Bool, true, false, ◌&&◌, nat_le, nat_lt, if◌then◌else◌, List, [], ◌∷◌}
+use Rattle.std.proofs.Common.{length, Option, Some, None, Result, Ok, Err, IfOk, refl, subst, arith}
 use Rattle.std.specs.Prelude.{IfSome, codes, option_and_then, option_map}
 use Rattle.std.specs.Char.{is_ascii_digit}
 use Rattle.std.specs.List.{All, list_all, slice_split, zip}
@@ -16,7 +17,8 @@ use Rattle.query_lang.specs.Words.{AreWords, IsWord}
 use Rattle.trace_drive.proofs.EachPacket.{HoldsOfRead, each_packet}
 use Rattle.marple_base.specs.declared.field.FieldSet.{FieldSet}
 use Rattle.trace_drive.specs.ReadPackets.{ReadPacketsAreOfWords}
-use Rattle.trace_reader.specs.Numbers.{decimal_word, first_some, further_word, infinity_word, is_dot, number_in, octet_word, quad_of, without_blanks, word_of}
+use Rattle.trace_reader.specs.Numbers.{decimal_word, first_some, further_word, infinity_word, is_dot, number_in, octet_word, quad_of}
+use Rattle.trace_reader.specs.Numbers.{without_blanks, word_of}
 use Rattle.trace_reader.specs.Traces.{each, packets, text_at, with_first, word_at}
 
 -- numbers
@@ -31,10 +33,12 @@ last_of false b e = absurd cc
 
 below_limit : (most limit : ℕ) (text : List ℕ) → IfSome (number_in most limit text) (λ n. n < limit)
 below_limit most limit text =
-    if_there (nat_lt 0 (length text) && nat_le (length text) most && list_all is_ascii_digit text && nat_lt (digits_value 10 text) limit) (digits_value 10 text) limit
+    if_there (nat_lt 0 (length text) && nat_le (length text) most && list_all is_ascii_digit text && nat_lt (digits_value 10 text) limit)
+    (digits_value 10 text) limit
     (λ e. let below : nat_lt (digits_value 10 text) limit ≡ true = grind (arith, last_of, e) in grind (arith, nat_tests))
 
-then_some : (o : Option ℕ) (f : ℕ → Option ℕ) (P Q : ℕ → Type 0) → IfSome o P → ((n : ℕ) → P n → IfSome (f n) Q) → IfSome (option_and_then f o) Q
+then_some : (o : Option ℕ) (f : ℕ → Option ℕ) (P Q : ℕ → Type 0) → IfSome o P → ((n : ℕ) → P n → IfSome (f n) Q)
+    → IfSome (option_and_then f o) Q
 then_some None f P Q h next = tt
 then_some (Some n) f P Q h next = next n h
 
@@ -55,9 +59,13 @@ quad_small (a ∷ []) = tt
 quad_small (a ∷ b ∷ []) = tt
 quad_small (a ∷ b ∷ c ∷ []) = tt
 quad_small (a ∷ b ∷ c ∷ d ∷ []) =
-    then_some (octet_word a) (λ w. option_and_then (λ x. option_and_then (λ y. option_map (λ z. ((w * 256 + x) * 256 + y) * 256 + z) (octet_word d)) (octet_word c)) (octet_word b)) IsOctet IsWord (below_limit 3 256 a)
-    (λ w hw. then_some (octet_word b) (λ x. option_and_then (λ y. option_map (λ z. ((w * 256 + x) * 256 + y) * 256 + z) (octet_word d)) (octet_word c)) IsOctet IsWord (below_limit 3 256 b)
-    (λ x hx. then_some (octet_word c) (λ y. option_map (λ z. ((w * 256 + x) * 256 + y) * 256 + z) (octet_word d)) IsOctet IsWord (below_limit 3 256 c)
+    then_some (octet_word a) (λ w. option_and_then (λ x. option_and_then
+    (λ y. option_map (λ z. ((w * 256 + x) * 256 + y) * 256 + z) (octet_word d)) (octet_word c)) (octet_word b)) IsOctet IsWord
+    (below_limit 3 256 a)
+    (λ w hw. then_some (octet_word b) (λ x. option_and_then (λ y. option_map (λ z. ((w * 256 + x) * 256 + y) * 256 + z) (octet_word d))
+    (octet_word c)) IsOctet IsWord (below_limit 3 256 b)
+    (λ x hx. then_some (octet_word c) (λ y. option_map (λ z. ((w * 256 + x) * 256 + y) * 256 + z) (octet_word d)) IsOctet IsWord
+    (below_limit 3 256 c)
     (λ y hy. map_some (octet_word d) (λ z. ((w * 256 + x) * 256 + y) * 256 + z) IsOctet IsWord (below_limit 3 256 d)
     (λ z hz. omega arith))))
 quad_small (a ∷ b ∷ c ∷ d ∷ e ∷ rest) = tt
@@ -92,9 +100,11 @@ or_field (Some n) of h = h
 
 at_column : (fields : List (List ℕ)) (of : Field) (column : Option ℕ) → IfOk (word_at fields of column) IsWord
 at_column fields of None = omega arith
-at_column fields of (Some column) = or_field (word_of of (without_blanks (text_at fields column))) of (field_small of (without_blanks (text_at fields column)))
+at_column fields of (Some column) = or_field (word_of of (without_blanks (text_at fields column))) of
+    (field_small of (without_blanks (text_at fields column)))
 
-first_ok : {A E : Type 0} (P : A → Type 0) (a : Result A E) (b : Result (List A) E) → IfOk a P → IfOk b (All P) → IfOk (with_first a b) (All P)
+first_ok : {A E : Type 0} (P : A → Type 0) (a : Result A E) (b : Result (List A) E) → IfOk a P → IfOk b (All P)
+    → IfOk (with_first a b) (All P)
 first_ok P (Err e) b ha hb = tt
 first_ok P (Ok x) (Err e) ha hb = tt
 first_ok P (Ok x) (Ok xs) ha hb = All-cons P x xs ha hb
@@ -106,8 +116,10 @@ each_ok P f (x ∷ xs) h = first_ok P (f x) (each f xs) (h x) (each_ok P f xs h)
 
 is_of_words : (reads : FieldSet) → HoldsOfRead reads (λ packet. AreWords packet.words)
 is_of_words reads header fields columns packet c w =
-    subst (λ words. IfOk words AreWords) w (each_ok IsWord (λ p. word_at fields p.0 p.1) (zip all_fields columns) (λ p. at_column fields p.0 p.1))
+    subst (λ words. IfOk words AreWords) w (each_ok IsWord (λ p. word_at fields p.0 p.1) (zip all_fields columns)
+    (λ p. at_column fields p.0 p.1))
 
 pub read_words : ReadPacketsAreOfWords
 read_words text reads =
-    All-map AreWords (λ (packet : Packet). packet.words) (packets text reads) (each_packet (λ packet. AreWords packet.words) text reads (is_of_words reads))
+    All-map AreWords (λ (packet : Packet). packet.words) (packets text reads)
+    (each_packet (λ packet. AreWords packet.words) text reads (is_of_words reads))

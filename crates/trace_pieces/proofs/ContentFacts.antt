@@ -1,11 +1,14 @@
 -- What a trace contains, in terms of what its pieces contain.
-use Rattle.std.proofs.Common.{◌≡◌, ◌≢◌, ℕ, suc, ◌+◌, Bool, true, false, cond, not, List, [], ◌∷◌, ◌++◌, length, Option, None, Some, Result, Ok, Err, refl, sym, ap, ◌∙◌, append_assoc, length-append, arith}
+use Rattle.std.proofs.Common.{◌≡◌, ◌≢◌, ℕ, suc, ◌+◌, Bool, true, false, cond, not, List, [], ◌∷◌, ◌++◌, length, Option, None, Some, Result}
+use Rattle.std.proofs.Common.{Ok, Err, refl, sym, ap, ◌∙◌, append_assoc, length-append, arith}
 use Rattle.std.specs.Prelude.{◌==◌, nat_lt, option_map}
 use Rattle.marple_base.specs.declared.field.Field.{Field}
 use Rattle.marple_base.specs.declared.field.FieldSet.{FieldSet}
 use Rattle.marple_base.specs.declared.field.Packet.{Packet}
 use Rattle.trace_reader.specs.Reading.{records}
-use Rattle.trace_reader.specs.Traces.{Contents, Layout, columns_of, contents, contents_from, contents_with, layout_of, layout_with, most_bytes, most_records, opening, packet_of, packet_with, rest_of, trace_fault, with_packet, words_of}
+use Rattle.trace_reader.specs.Traces.{Contents, Layout, columns_of, contents, contents_from, contents_with, layout_of, layout_with}
+use Rattle.trace_reader.specs.Traces.{most_bytes, most_records, opening, packet_of, packet_with, rest_of, trace_fault, with_packet}
+use Rattle.trace_reader.specs.Traces.{words_of}
 use Rattle.trace_reader.specs.declared.fault.TraceFault.{TraceFault}
 use Rattle.trace_reader.specs.declared.fault.TraceFault.TheVariants as fault
 use Rattle.trace_pieces.specs.Faults.{after_records}
@@ -23,14 +26,18 @@ run_rows layout n [] few = refl
 run_rows layout n (fields ∷ rest) few = limit (nat_lt most_records n) few (run_rows layout (n + 1) rest)
   where
     one : (o : Result Packet TraceFault) → (with_packet o (contents_from layout (n + 1) rest)).fault ≢ Some fault.TooManyPackets
-        → ((contents_from layout (n + 1) rest).fault ≢ Some fault.TooManyPackets → contents_of layout (n + 1) rest ≡ contents_from layout (n + 1) rest)
+        → ((contents_from layout (n + 1) rest).fault ≢ Some fault.TooManyPackets
+        → contents_of layout (n + 1) rest ≡ contents_from layout (n + 1) rest)
         → with_packet o (contents_of layout (n + 1) rest) ≡ with_packet o (contents_from layout (n + 1) rest)
     one (Err found) few more = refl
     one (Ok packet) few more = ap (with_packet (Ok packet)) (more few)
 
-    limit : (b : Bool) → (with_packet (cond b (Err fault.TooManyPackets) (record_packet layout n fields)) (contents_from layout (n + 1) rest)).fault ≢ Some fault.TooManyPackets
-        → ((contents_from layout (n + 1) rest).fault ≢ Some fault.TooManyPackets → contents_of layout (n + 1) rest ≡ contents_from layout (n + 1) rest)
-        → with_packet (record_packet layout n fields) (contents_of layout (n + 1) rest) ≡ with_packet (cond b (Err fault.TooManyPackets) (record_packet layout n fields)) (contents_from layout (n + 1) rest)
+    limit : (b : Bool) → (with_packet (cond b (Err fault.TooManyPackets) (record_packet layout n fields))
+        (contents_from layout (n + 1) rest)).fault ≢ Some fault.TooManyPackets
+        → ((contents_from layout (n + 1) rest).fault ≢ Some fault.TooManyPackets
+        → contents_of layout (n + 1) rest ≡ contents_from layout (n + 1) rest)
+        → with_packet (record_packet layout n fields) (contents_of layout (n + 1) rest) ≡ with_packet
+        (cond b (Err fault.TooManyPackets) (record_packet layout n fields)) (contents_from layout (n + 1) rest)
     limit true few more = absurd (few refl)
     limit false few more = one (record_packet layout n fields) few more
 
@@ -43,8 +50,10 @@ runs_read_the_whole_lem text reads short few = by (nat_lt most_bytes (length tex
     laid (Err found) few = refl
     laid (Ok layout) few = run_rows layout 1 (rest_of (records text)) few
 
-    by : (b : Bool) → (contents_with (cond b (Err fault.TraceTooLong) (layout_of (records text) reads)) (rest_of (records text))).fault ≢ Some fault.TraceTooLong
-        → (contents_with (cond b (Err fault.TraceTooLong) (layout_of (records text) reads)) (rest_of (records text))).fault ≢ Some fault.TooManyPackets
+    by : (b : Bool) → (contents_with (cond b (Err fault.TraceTooLong) (layout_of (records text) reads)) (rest_of (records text))).fault ≢
+        Some fault.TraceTooLong
+        → (contents_with (cond b (Err fault.TraceTooLong) (layout_of (records text) reads)) (rest_of (records text))).fault ≢ Some
+        fault.TooManyPackets
         → contents_by (layout_of (records text) reads) (rest_of (records text))
         ≡ contents_with (cond b (Err fault.TraceTooLong) (layout_of (records text) reads)) (rest_of (records text))
     by true short few = absurd (short refl)
@@ -126,7 +135,8 @@ after sent c = record { packets = sent ++ c.packets; fault = option_map (after_r
 abbrev laid : List (List ℕ) → FieldSet → Result Layout TraceFault
 laid header reads = layout_with (length header) (columns_of reads header)
 
-head_contents : (h more : List ℕ) (reads : FieldSet) (head : IsHead h) → all_contents (h ++ more) reads ≡ contents_by (laid head.header reads) (rows more)
+head_contents : (h more : List ℕ) (reads : FieldSet) (head : IsHead h)
+    → all_contents (h ++ more) reads ≡ contents_by (laid head.header reads) (rows more)
 unfolding all_contents
 head_contents h more reads head = ap (λ (rest : List (List (List ℕ))). contents_by (layout_of rest reads) (rest_of rest)) (head.all more)
 
@@ -177,16 +187,19 @@ piece_refused h c b reads found head between is =
 
 -- ---- packets after packets
 
-shift_shift : (i k : ℕ) (o : Option TraceFault) → option_map (after_records i) (option_map (after_records k) o) ≡ option_map (after_records (i + k)) o
+shift_shift : (i k : ℕ) (o : Option TraceFault) → option_map (after_records i) (option_map (after_records k) o) ≡ option_map
+    (after_records (i + k)) o
 shift_shift i k None = refl
 shift_shift i k (Some fault.TraceTooLong) = refl
 shift_shift i k (Some fault.NoHeader) = refl
 shift_shift i k (Some (fault.FieldTwice field)) = refl
 shift_shift i k (Some (fault.FieldMissing field)) = refl
 shift_shift i k (Some (fault.FieldCount n)) = let e : i + (k + n) ≡ i + k + n = omega arith in ap (λ m. Some (fault.FieldCount m)) e
-shift_shift i k (Some (fault.BadNumber n field)) = let e : i + (k + n) ≡ i + k + n = omega arith in ap (λ m. Some (fault.BadNumber m field)) e
+shift_shift i k (Some (fault.BadNumber n field)) = let e : i + (k + n) ≡ i + k + n =
+    omega arith in ap (λ m. Some (fault.BadNumber m field)) e
 shift_shift i k (Some fault.TooManyPackets) = refl
-shift_shift i k (Some (fault.TooManySwitches n)) = let e : i + (k + n) ≡ i + k + n = omega arith in ap (λ m. Some (fault.TooManySwitches m)) e
+shift_shift i k (Some (fault.TooManySwitches n)) = let e : i + (k + n) ≡ i + k + n =
+    omega arith in ap (λ m. Some (fault.TooManySwitches m)) e
 
 shift_none : (o : Option TraceFault) → option_map (after_records 0) o ≡ o
 shift_none None = refl
@@ -204,7 +217,11 @@ after_none c = ap (λ (f : Option TraceFault). record { packets = c.packets; fau
 
 pub after_after : (sent more : List Packet) (c : Contents) → after sent (after more c) ≡ after (sent ++ more) c
 after_after sent more c =
-    ap (λ (ps : List Packet). record { packets = ps; fault = option_map (after_records (length sent)) (option_map (after_records (length more)) c.fault) })
+    ap (λ (ps : List Packet). record {
+      packets = ps;
+      fault = option_map (after_records (length sent))
+          (option_map (after_records (length more)) c.fault);
+    })
     (sym (append_assoc sent more c.packets))
     ∙ ap (λ (f : Option TraceFault). record { packets = (sent ++ more) ++ c.packets; fault = f })
     (shift_shift (length sent) (length more) c.fault ∙ ap (λ k. option_map (after_records k) c.fault) (sym (length-append sent more)))

@@ -1,5 +1,6 @@
 -- Where a text can be cut.
-use Rattle.std.proofs.Common.{◌≡◌, ℕ, suc, zero, ◌+◌, ◌<◌, ◌≤◌, Bool, true, false, cond, List, [], ◌∷◌, ◌++◌, length, get_or, take, Option, None, Some, refl, sym, ap, subst, inl, inr, ◌∙◌, add-one, arith}
+use Rattle.std.proofs.Common.{◌≡◌, ℕ, suc, zero, ◌+◌, ◌<◌, ◌≤◌, Bool, true, false, cond, List, [], ◌∷◌, ◌++◌, length, get_or, take, Option}
+use Rattle.std.proofs.Common.{None, Some, refl, sym, ap, subst, inl, inr, ◌∙◌, add-one, arith}
 use Rattle.std.specs.Prelude.{◌||◌, ◌==◌, is_some}
 use Rattle.std.proofs.lemmas.Bool.Decides.{eqb_tells}
 use Rattle.std.proofs.lemmas.List.{take_more}
@@ -19,7 +20,8 @@ over_push s [] c = refl
 over_push s (b ∷ text) c = over_push (next_state s b) text c
 
 -- the state after one byte more
-pub over_more : (s : State) (text : List ℕ) (n : ℕ) → n < length text → state_over s (take (n + 1) text) ≡ next_state (state_over s (take n text)) (get_or text n 0)
+pub over_more : (s : State) (text : List ℕ) (n : ℕ) → n < length text → state_over s (take (n + 1) text) ≡ next_state
+    (state_over s (take n text)) (get_or text n 0)
 over_more s text n within = ap (state_over s) (take_more text n 0 within) ∙ over_push s (take n text) (get_or text n 0)
 
 -- ---- texts without quotes

@@ -1,5 +1,6 @@
 -- Where the first record of a text ends.
-use Rattle.std.proofs.Common.{◌≡◌, ◌↔◌, ℕ, suc, zero, ◌+◌, ◌<◌, ◌≤◌, Bool, true, false, cond, List, [], ◌∷◌, ◌++◌, length, get_or, take, drop, refl, sym, ap, subst, ◌∙◌, inl, inr, append_assoc, arith}
+use Rattle.std.proofs.Common.{◌≡◌, ◌↔◌, ℕ, suc, zero, ◌+◌, ◌<◌, ◌≤◌, Bool, true, false, cond, List, [], ◌∷◌, ◌++◌, length, get_or, take}
+use Rattle.std.proofs.Common.{drop, refl, sym, ap, subst, ◌∙◌, inl, inr, append_assoc, arith}
 use Rattle.std.specs.Prelude.{◌||◌, ◌&&◌, ◌==◌}
 use Rattle.std.proofs.lemmas.Bool.Decides.{eqb_tells}
 use Rattle.std.proofs.lemmas.List.{take_more}
@@ -22,7 +23,9 @@ begins : (c : ℕ) → is_end (does st.StartRecord c).1 ≡ false
 begins c = by ((c == 13) || (c == 10)) (c == 34) (c == 44) (after_end term.CRLF c)
   where
     by : (t q d : Bool) (e : State)
-        → is_end (cond {A = State × Action} t (st.StartRecord, act.Skip) (cond q (st.InQuoted, act.Skip) (cond d (st.StartField, act.EndField) (cond t (e, act.EndRecord) (st.InField, act.Copy))))).1 ≡ false
+        → is_end (cond {A = State × Action} t (st.StartRecord, act.Skip)
+        (cond q (st.InQuoted, act.Skip) (cond d (st.StartField, act.EndField) (cond t (e, act.EndRecord) (st.InField, act.Copy))))).1
+        ≡ false
     by true q d e = refl
     by false true d e = refl
     by false false true e = refl
@@ -167,14 +170,17 @@ inside_more text s c h goes = record {
 }
 
 -- the record ends with the next byte
-pub head_here : (text rest : List ℕ) (n : ℕ) (s : State) → 3 ≤ length text → rest ≡ drop (mark_len text) text → n < length rest → Inside (take n rest) s
+pub head_here : (text rest : List ℕ) (n : ℕ) (s : State) → 3 ≤ length text → rest ≡ drop (mark_len text) text → n < length rest
+    → Inside (take n rest) s
     → ends_at_end s ≡ true → ends_at_end (does s (get_or rest n 0)).0 ≡ false → IsHead (take (mark_len text + n + 1) text)
 head_here text rest n s long is within h inside between =
     let c = get_or rest n 0 in
     let end = some_end s c h.tidy.plain inside between in
     let header = fields_after (does s c).1 h.fields h.field in
-    let e187 : (get_or (drop (mark_len text) text) n 0 == 187) ≡ false = subst (λ (r : List ℕ). (get_or r n 0 == 187) ≡ false) is (ends_not s c 187 (keeps_187 s) end) in
-    let e239 : (get_or (drop (mark_len text) text) n 0 == 239) ≡ false = subst (λ (r : List ℕ). (get_or r n 0 == 239) ≡ false) is (ends_not s c 239 (keeps_239 s) end) in
+    let e187 : (get_or (drop (mark_len text) text) n 0 == 187) ≡ false =
+    subst (λ (r : List ℕ). (get_or r n 0 == 187) ≡ false) is (ends_not s c 187 (keeps_187 s) end) in
+    let e239 : (get_or (drop (mark_len text) text) n 0 == 239) ≡ false =
+    subst (λ (r : List ℕ). (get_or r n 0 == 239) ≡ false) is (ends_not s c 239 (keeps_239 s) end) in
     record {
       header = header;
       all = λ more.

@@ -1,7 +1,9 @@
 -- The records of a text that is cut between two of them.
-use Rattle.std.proofs.Common.{◌≡◌, ℕ, suc, zero, ◌+◌, ◌≤◌, Bool, true, false, cond, List, [], ◌∷◌, ◌++◌, length, Some, None, refl, sym, ap, ◌∙◌, add-one, arith}
+use Rattle.std.proofs.Common.{◌≡◌, ℕ, suc, zero, ◌+◌, ◌≤◌, Bool, true, false, cond, List, [], ◌∷◌, ◌++◌, length, Some, None, refl, sym, ap}
+use Rattle.std.proofs.Common.{◌∙◌, add-one, arith}
 use Rattle.std.specs.Prelude.{◌||◌, ◌==◌}
-use Rattle.csv.specs.Machine.{after_end, ends_at_end, ends_with, field_after, fields_after, in_field, is_end, next_record, start_field, start_record, step}
+use Rattle.csv.specs.Machine.{after_end, ends_at_end, ends_with, field_after, fields_after, in_field, is_end, next_record, start_field}
+use Rattle.csv.specs.Machine.{start_record, step}
 use Rattle.csv.specs.Reading.{default_config, records_from, records_next}
 use Rattle.csv.specs.declared.parser.Action.{Action}
 use Rattle.csv.specs.declared.parser.Action.TheVariants as act
@@ -27,7 +29,8 @@ pub next_rows : (n : ℕ) (s : State) (f : List (List ℕ)) (p text : List ℕ) 
 unfolding next_record records_from rows_from
 next_rows n s f p [] short = by (ends_at_end s) n
   where
-    by : (b : Bool) (n : ℕ) → records_next (records_from default_config n) (cond b (Some (f ++ (p ∷ []), st.StartRecord, [])) None) ≡ cond b ((f ++ (p ∷ [])) ∷ []) []
+    by : (b : Bool) (n : ℕ) → records_next (records_from default_config n) (cond b (Some (f ++ (p ∷ []), st.StartRecord, [])) None) ≡ cond b
+        ((f ++ (p ∷ [])) ∷ []) []
     by true zero = refl
     by true (suc n) = refl
     by false n = refl
@@ -37,10 +40,12 @@ next_rows (suc m) s f p (c ∷ rest) short =
     (next_rows (suc m) (does s c).0 (fields_after (does s c).1 f p) (field_after (does s c).1 c p) rest (omega arith))
   where
     by : (b : Bool) → records_from default_config (suc m) (does s c).0 rest ≡ rows_from (does s c).0 [] [] rest
-        → records_next (records_from default_config (suc m)) (next_record default_config (does s c).0 (fields_after (does s c).1 f p) (field_after (does s c).1 c p) rest)
+        → records_next (records_from default_config (suc m)) (next_record default_config (does s c).0 (fields_after (does s c).1 f p)
+        (field_after (does s c).1 c p) rest)
         ≡ rows_from (does s c).0 (fields_after (does s c).1 f p) (field_after (does s c).1 c p) rest
         → records_next (records_from default_config (suc m))
-        (cond b (Some (fields_after (does s c).1 f p, (does s c).0, rest)) (next_record default_config (does s c).0 (fields_after (does s c).1 f p) (field_after (does s c).1 c p) rest))
+        (cond b (Some (fields_after (does s c).1 f p, (does s c).0, rest))
+        (next_record default_config (does s c).0 (fields_after (does s c).1 f p) (field_after (does s c).1 c p) rest))
         ≡ cond b (fields_after (does s c).1 f p ∷ rows_from (does s c).0 [] [] rest)
         (rows_from (does s c).0 (fields_after (does s c).1 f p) (field_after (does s c).1 c p) rest)
     by true ended goes = ap (λ later. fields_after (does s c).1 f p ∷ later) ended

@@ -32,7 +32,8 @@ front_more text i j n within next range front =
 clear_bit : (a b m k : ℕ) → bit_and (bit_or a b) m ≡ 0 → bit_at m k ≡ 1 → (bit_at a k ≡ 0) × (bit_at b k ≡ 0)
 clear_bit a b m k none one =
     let both : min (max (bit_at a k) (bit_at b k)) (bit_at m k) ≡ 0 =
-    ap (λ n. min n (bit_at m k)) (sym (bit_at_or a b k)) ∙ (sym (bit_at_and (bit_or a b) m k) ∙ (ap (λ n. bit_at n k) none ∙ bit_at-zero k)) in
+    ap (λ n. min n (bit_at m k)) (sym (bit_at_or a b k)) ∙ (sym (bit_at_and (bit_or a b) m k)
+    ∙ (ap (λ n. bit_at n k) none ∙ bit_at-zero k)) in
     (omega (arith, both, one), omega (arith, both, one))
 
 -- the lowest byte is a digit, and the sum and the difference go on with the others
@@ -47,7 +48,8 @@ low_byte b r a c x y m n byte sum rest no_sum no_rest =
     record { digit = (omega arith, omega arith); sum = omega arith; rest = omega arith }
 
 -- the same of the byte at this place
-byte_at : (b r a c x y m n p q k : ℕ) → b < 256 → a / p + 256 * m ≡ b + 256 * r + (70 + 256 * x) → c / p + 256 * n ≡ b + 256 * r + (208 + 256 * y)
+byte_at : (b r a c x y m n p q k : ℕ) → b < 256 → a / p + 256 * m ≡ b + 256 * r + (70 + 256 * x) → c / p + 256 * n ≡ b + 256 * r
+    + (208 + 256 * y)
     → (bit_at a k ≡ 0) × (bit_at c k ≡ 0) → p * 256 ≡ q → p * 128 ≡ 2 ^ k → GoesOn b r (a / q) (c / q) x y m n
 byte_at b r a c x y m n p q k byte sum rest bits next half =
     let no_sum : a / p / 128 % 2 ≡ 0 = ap (λ z. z % 2) (div-div-eq-div-mul a p 128 ∙ ap (λ z. a / z) half) ∙ bits.0 in
@@ -60,7 +62,8 @@ byte_at b r a c x y m n p q k byte sum rest bits next half =
     }
 
 -- where no sum with 70 and no difference from 48 sets the highest bit of one of eight bytes, these are digits
-eight_bytes : (b : ℕ → ℕ) (v a c k j : ℕ) → ((i : ℕ) → b i < 256) → v ≡ b 0 + 256 * (b 1 + 256 * (b 2 + 256 * (b 3 + 256 * (b 4 + 256 * (b 5 + 256 * (b 6 + 256 * b 7))))))
+eight_bytes : (b : ℕ → ℕ) (v a c k j : ℕ) → ((i : ℕ) → b i < 256) → v ≡ b 0 + 256
+    * (b 1 + 256 * (b 2 + 256 * (b 3 + 256 * (b 4 + 256 * (b 5 + 256 * (b 6 + 256 * b 7))))))
     → a + 2 ^ 64 * k ≡ v + 5063812098665367110 → c + 2 ^ 64 * j ≡ v + 14974415777481871312 → bit_and (bit_or a c) 9259542123273814144 ≡ 0
     → IsDigit (b 0) × IsDigit (b 1) × IsDigit (b 2) × IsDigit (b 3) × IsDigit (b 4) × IsDigit (b 5) × IsDigit (b 6) × IsDigit (b 7)
 eight_bytes b v a c k j byte is sum rest none =
@@ -72,14 +75,22 @@ eight_bytes b v a c k j byte is sum rest none =
     let r3 : ℕ = b 3 + 256 * r4 in
     let r2 : ℕ = b 2 + 256 * r3 in
     let r1 : ℕ = b 1 + 256 * r2 in
-    let s0 = byte_at (b 0) r1 a c 19780516010411590 58493811630788559 (2 ^ 56 * k) (2 ^ 56 * j) (2 ^ 0) (2 ^ 8) 7 (byte 0) (omega (arith, is, sum)) (omega (arith, is, rest)) (clear_bit a c 9259542123273814144 7 none refl) refl refl in
-    let s1 = byte_at (b 1) r2 a c 77267640665670 228491451682767 (2 ^ 48 * k) (2 ^ 48 * j) (2 ^ 8) (2 ^ 16) 15 (byte 1) (omega (arith, s0.sum)) (omega (arith, s0.rest)) (clear_bit a c 9259542123273814144 15 none refl) refl refl in
-    let s2 = byte_at (b 2) r3 a c 301826721350 892544733135 (2 ^ 40 * k) (2 ^ 40 * j) (2 ^ 16) (2 ^ 24) 23 (byte 2) (omega (arith, s1.sum)) (omega (arith, s1.rest)) (clear_bit a c 9259542123273814144 23 none refl) refl refl in
-    let s3 = byte_at (b 3) r4 a c 1179010630 3486502863 (2 ^ 32 * k) (2 ^ 32 * j) (2 ^ 24) (2 ^ 32) 31 (byte 3) (omega (arith, s2.sum)) (omega (arith, s2.rest)) (clear_bit a c 9259542123273814144 31 none refl) refl refl in
-    let s4 = byte_at (b 4) r5 a c 4605510 13619151 (2 ^ 24 * k) (2 ^ 24 * j) (2 ^ 32) (2 ^ 40) 39 (byte 4) (omega (arith, s3.sum)) (omega (arith, s3.rest)) (clear_bit a c 9259542123273814144 39 none refl) refl refl in
-    let s5 = byte_at (b 5) r6 a c 17990 53199 (2 ^ 16 * k) (2 ^ 16 * j) (2 ^ 40) (2 ^ 48) 47 (byte 5) (omega (arith, s4.sum)) (omega (arith, s4.rest)) (clear_bit a c 9259542123273814144 47 none refl) refl refl in
-    let s6 = byte_at (b 6) r7 a c 70 207 (2 ^ 8 * k) (2 ^ 8 * j) (2 ^ 48) (2 ^ 56) 55 (byte 6) (omega (arith, s5.sum)) (omega (arith, s5.rest)) (clear_bit a c 9259542123273814144 55 none refl) refl refl in
-    let s7 = byte_at (b 7) r8 a c 0 0 (2 ^ 0 * k) (2 ^ 0 * j) (2 ^ 56) (2 ^ 64) 63 (byte 7) (omega (arith, s6.sum)) (omega (arith, s6.rest)) (clear_bit a c 9259542123273814144 63 none refl) refl refl in
+    let s0 = byte_at (b 0) r1 a c 19780516010411590 58493811630788559 (2 ^ 56 * k) (2 ^ 56 * j) (2 ^ 0) (2 ^ 8) 7 (byte 0)
+    (omega (arith, is, sum)) (omega (arith, is, rest)) (clear_bit a c 9259542123273814144 7 none refl) refl refl in
+    let s1 = byte_at (b 1) r2 a c 77267640665670 228491451682767 (2 ^ 48 * k) (2 ^ 48 * j) (2 ^ 8) (2 ^ 16) 15 (byte 1)
+    (omega (arith, s0.sum)) (omega (arith, s0.rest)) (clear_bit a c 9259542123273814144 15 none refl) refl refl in
+    let s2 = byte_at (b 2) r3 a c 301826721350 892544733135 (2 ^ 40 * k) (2 ^ 40 * j) (2 ^ 16) (2 ^ 24) 23 (byte 2) (omega (arith, s1.sum))
+    (omega (arith, s1.rest)) (clear_bit a c 9259542123273814144 23 none refl) refl refl in
+    let s3 = byte_at (b 3) r4 a c 1179010630 3486502863 (2 ^ 32 * k) (2 ^ 32 * j) (2 ^ 24) (2 ^ 32) 31 (byte 3) (omega (arith, s2.sum))
+    (omega (arith, s2.rest)) (clear_bit a c 9259542123273814144 31 none refl) refl refl in
+    let s4 = byte_at (b 4) r5 a c 4605510 13619151 (2 ^ 24 * k) (2 ^ 24 * j) (2 ^ 32) (2 ^ 40) 39 (byte 4) (omega (arith, s3.sum))
+    (omega (arith, s3.rest)) (clear_bit a c 9259542123273814144 39 none refl) refl refl in
+    let s5 = byte_at (b 5) r6 a c 17990 53199 (2 ^ 16 * k) (2 ^ 16 * j) (2 ^ 40) (2 ^ 48) 47 (byte 5) (omega (arith, s4.sum))
+    (omega (arith, s4.rest)) (clear_bit a c 9259542123273814144 47 none refl) refl refl in
+    let s6 = byte_at (b 6) r7 a c 70 207 (2 ^ 8 * k) (2 ^ 8 * j) (2 ^ 48) (2 ^ 56) 55 (byte 6) (omega (arith, s5.sum))
+    (omega (arith, s5.rest)) (clear_bit a c 9259542123273814144 55 none refl) refl refl in
+    let s7 = byte_at (b 7) r8 a c 0 0 (2 ^ 0 * k) (2 ^ 0 * j) (2 ^ 56) (2 ^ 64) 63 (byte 7) (omega (arith, s6.sum)) (omega (arith, s6.rest))
+    (clear_bit a c 9259542123273814144 63 none refl) refl refl in
     (s0.digit, s1.digit, s2.digit, s3.digit, s4.digit, s5.digit, s6.digit, s7.digit)
 
 -- where no sum with 70 and no difference from 48 sets the highest bit of one of four bytes, these are digits
@@ -91,21 +102,29 @@ four_bytes b v a c k j byte is sum rest none =
     let r3 : ℕ = b 3 + 256 * r4 in
     let r2 : ℕ = b 2 + 256 * r3 in
     let r1 : ℕ = b 1 + 256 * r2 in
-    let s0 = byte_at (b 0) r1 a c 4605510 13619151 (2 ^ 24 * k) (2 ^ 24 * j) (2 ^ 0) (2 ^ 8) 7 (byte 0) (omega (arith, is, sum)) (omega (arith, is, rest)) (clear_bit a c 2155905152 7 none refl) refl refl in
-    let s1 = byte_at (b 1) r2 a c 17990 53199 (2 ^ 16 * k) (2 ^ 16 * j) (2 ^ 8) (2 ^ 16) 15 (byte 1) (omega (arith, s0.sum)) (omega (arith, s0.rest)) (clear_bit a c 2155905152 15 none refl) refl refl in
-    let s2 = byte_at (b 2) r3 a c 70 207 (2 ^ 8 * k) (2 ^ 8 * j) (2 ^ 16) (2 ^ 24) 23 (byte 2) (omega (arith, s1.sum)) (omega (arith, s1.rest)) (clear_bit a c 2155905152 23 none refl) refl refl in
-    let s3 = byte_at (b 3) r4 a c 0 0 (2 ^ 0 * k) (2 ^ 0 * j) (2 ^ 24) (2 ^ 32) 31 (byte 3) (omega (arith, s2.sum)) (omega (arith, s2.rest)) (clear_bit a c 2155905152 31 none refl) refl refl in
+    let s0 = byte_at (b 0) r1 a c 4605510 13619151 (2 ^ 24 * k) (2 ^ 24 * j) (2 ^ 0) (2 ^ 8) 7 (byte 0) (omega (arith, is, sum))
+    (omega (arith, is, rest)) (clear_bit a c 2155905152 7 none refl) refl refl in
+    let s1 = byte_at (b 1) r2 a c 17990 53199 (2 ^ 16 * k) (2 ^ 16 * j) (2 ^ 8) (2 ^ 16) 15 (byte 1) (omega (arith, s0.sum))
+    (omega (arith, s0.rest)) (clear_bit a c 2155905152 15 none refl) refl refl in
+    let s2 = byte_at (b 2) r3 a c 70 207 (2 ^ 8 * k) (2 ^ 8 * j) (2 ^ 16) (2 ^ 24) 23 (byte 2) (omega (arith, s1.sum))
+    (omega (arith, s1.rest)) (clear_bit a c 2155905152 23 none refl) refl refl in
+    let s3 = byte_at (b 3) r4 a c 0 0 (2 ^ 0 * k) (2 ^ 0 * j) (2 ^ 24) (2 ^ 32) 31 (byte 3) (omega (arith, s2.sum)) (omega (arith, s2.rest))
+    (clear_bit a c 2155905152 31 none refl) refl refl in
     (s0.digit, s1.digit, s2.digit, s3.digit)
 
 -- the lowest bytes of both halves
 two_bytes : (high low : ℕ) → low < 2 ^ 32 → bit_and (high * 2 ^ 32 + low) 1095216660735 ≡ high % 256 * 2 ^ 32 + low % 256
 two_bytes high low small =
-    and_block 32 high 255 low 255 small (omega arith) ∙ (ap (λ n. n * 2 ^ 32 + bit_and low 255) (and_mask high 8) ∙ ap (λ n. high % 256 * 2 ^ 32 + n) (and_mask low 8))
+    and_block 32 high 255 low 255 small (omega arith) ∙ (ap (λ n. n * 2 ^ 32 + bit_and low 255) (and_mask high 8)
+    ∙ ap (λ n. high % 256 * 2 ^ 32 + n) (and_mask low 8))
 
 -- the number of eight digits: of pairs of them, and of pairs of these
-eight_pairs : (d : ℕ → ℕ) (w p first second : ℕ) → (d 0 ≤ 9) × (d 1 ≤ 9) × (d 2 ≤ 9) × (d 3 ≤ 9) × (d 4 ≤ 9) × (d 5 ≤ 9) × (d 6 ≤ 9) × (d 7 ≤ 9) → w ≡ d 0 + 256 * (d 1 + 256 * (d 2 + 256 * (d 3 + 256 * (d 4 + 256 * (d 5 + 256 * (d 6 + 256 * d 7))))))
-    → p ≡ (w * 10 % 2 ^ 64 + w / 2 ^ 8) % 2 ^ 64 → first ≡ bit_and p 1095216660735 * 4294967296000100 % 2 ^ 64 → second ≡ bit_and (p / 2 ^ 16) 1095216660735 * 42949672960001 % 2 ^ 64
-    → (first + second) % 2 ^ 64 / 2 ^ 32 ≡ (((((((0 * 10 + d 0) * 10 + d 1) * 10 + d 2) * 10 + d 3) * 10 + d 4) * 10 + d 5) * 10 + d 6) * 10 + d 7
+eight_pairs : (d : ℕ → ℕ) (w p first second : ℕ) → (d 0 ≤ 9) × (d 1 ≤ 9) × (d 2 ≤ 9) × (d 3 ≤ 9) × (d 4 ≤ 9) × (d 5 ≤ 9) × (d 6 ≤ 9)
+    × (d 7 ≤ 9) → w ≡ d 0 + 256 * (d 1 + 256 * (d 2 + 256 * (d 3 + 256 * (d 4 + 256 * (d 5 + 256 * (d 6 + 256 * d 7))))))
+    → p ≡ (w * 10 % 2 ^ 64 + w / 2 ^ 8) % 2 ^ 64 → first ≡ bit_and p 1095216660735 * 4294967296000100 % 2 ^ 64
+    → second ≡ bit_and (p / 2 ^ 16) 1095216660735 * 42949672960001 % 2 ^ 64
+    → (first + second) % 2 ^ 64 / 2 ^ 32 ≡ (((((((0 * 10 + d 0) * 10 + d 1) * 10 + d 2) * 10 + d 3) * 10 + d 4) * 10 + d 5) * 10 + d 6) * 10
+    + d 7
 eight_pairs d w p first second few is p_is first_is second_is =
     let low : ℕ = (d 0 * 10 + d 1) + 256 * (d 1 * 10 + d 2) + 65536 * (d 2 * 10 + d 3) + 16777216 * (d 3 * 10 + d 4) in
     let high : ℕ = (d 4 * 10 + d 5) + 256 * (d 5 * 10 + d 6) + 65536 * (d 6 * 10 + d 7) + 16777216 * (d 7 * 10) in
@@ -120,24 +139,57 @@ eight_pairs d w p first second few is p_is first_is second_is =
     omega (arith, even, odd, first_is, second_is)
 
 -- eight digits less 48 each
-eight_rest : (b d : ℕ → ℕ) (word rest : ℕ) → (b 0 ≡ d 0 + 48) × (b 1 ≡ d 1 + 48) × (b 2 ≡ d 2 + 48) × (b 3 ≡ d 3 + 48) × (b 4 ≡ d 4 + 48) × (b 5 ≡ d 5 + 48) × (b 6 ≡ d 6 + 48) × (b 7 ≡ d 7 + 48) → (d 0 ≤ 9) × (d 1 ≤ 9) × (d 2 ≤ 9) × (d 3 ≤ 9) × (d 4 ≤ 9) × (d 5 ≤ 9) × (d 6 ≤ 9) × (d 7 ≤ 9) → word ≡ b 0 + 256 * (b 1 + 256 * (b 2 + 256 * (b 3 + 256 * (b 4 + 256 * (b 5 + 256 * (b 6 + 256 * b 7)))))) → rest ≡ (word + 14974415777481871312) % 2 ^ 64 → rest ≡ d 0 + 256 * (d 1 + 256 * (d 2 + 256 * (d 3 + 256 * (d 4 + 256 * (d 5 + 256 * (d 6 + 256 * d 7))))))
+eight_rest : (b d : ℕ → ℕ) (word rest : ℕ) → (b 0 ≡ d 0 + 48) × (b 1 ≡ d 1 + 48) × (b 2 ≡ d 2 + 48) × (b 3 ≡ d 3 + 48) × (b 4 ≡ d 4 + 48)
+    × (b 5 ≡ d 5 + 48) × (b 6 ≡ d 6 + 48) × (b 7 ≡ d 7 + 48) → (d 0 ≤ 9) × (d 1 ≤ 9) × (d 2 ≤ 9) × (d 3 ≤ 9) × (d 4 ≤ 9) × (d 5 ≤ 9)
+    × (d 6 ≤ 9) × (d 7 ≤ 9) → word ≡ b 0 + 256 * (b 1 + 256 * (b 2 + 256 * (b 3 + 256 * (b 4 + 256 * (b 5 + 256 * (b 6 + 256 * b 7))))))
+    → rest ≡ (word + 14974415777481871312) % 2 ^ 64 → rest ≡ d 0 + 256
+    * (d 1 + 256 * (d 2 + 256 * (d 3 + 256 * (d 4 + 256 * (d 5 + 256 * (d 6 + 256 * d 7))))))
 eight_rest b d word rest same few is rest_is = omega arith
 
 -- the number of four digits
-four_pairs : (d : ℕ → ℕ) (w p : ℕ) → (d 0 ≤ 9) × (d 1 ≤ 9) × (d 2 ≤ 9) × (d 3 ≤ 9) → w ≡ d 0 + 256 * (d 1 + 256 * (d 2 + 256 * d 3)) → p ≡ (w * 10 % 2 ^ 32 + w / 2 ^ 8) % 2 ^ 32
+four_pairs : (d : ℕ → ℕ) (w p : ℕ) → (d 0 ≤ 9) × (d 1 ≤ 9) × (d 2 ≤ 9) × (d 3 ≤ 9) → w ≡ d 0 + 256 * (d 1 + 256 * (d 2 + 256 * d 3))
+    → p ≡ (w * 10 % 2 ^ 32 + w / 2 ^ 8) % 2 ^ 32
     → p % 256 * 100 + p / 2 ^ 16 % 256 ≡ ((d 0 * 10 + d 1) * 10 + d 2) * 10 + d 3
 four_pairs d w p few is p_is = omega arith
 
 -- the first eight bytes of a text
 pub eight_read : (text : List ℕ) (word sum rest pairs : ℕ) → 8 ≤ length text → ((i : ℕ) → get_or text i 0 < 256)
-    → word ≡ get_or text 0 0 + 256 * (get_or text 1 0 + 256 * (get_or text 2 0 + 256 * (get_or text 3 0 + 256 * (get_or text 4 0 + 256 * (get_or text 5 0 + 256 * (get_or text 6 0 + 256 * get_or text 7 0))))))
-    → sum ≡ (word + 5063812098665367110) % 2 ^ 64 → rest ≡ (word + 14974415777481871312) % 2 ^ 64 → bit_and (bit_or sum rest) 9259542123273814144 ≡ 0 → pairs ≡ (rest * 10 % 2 ^ 64 + rest / 2 ^ 8) % 2 ^ 64
-    → IsFront text 8 ((bit_and pairs 1095216660735 * 4294967296000100 % 2 ^ 64 + bit_and (pairs / 2 ^ 16) 1095216660735 * 42949672960001 % 2 ^ 64) % 2 ^ 64 / 2 ^ 32)
+    → word ≡ get_or text 0 0 + 256 * (get_or text 1 0 + 256 * (get_or text 2 0 + 256
+    * (get_or text 3 0 + 256 * (get_or text 4 0 + 256 * (get_or text 5 0 + 256 * (get_or text 6 0 + 256 * get_or text 7 0))))))
+    → sum ≡ (word + 5063812098665367110) % 2 ^ 64 → rest ≡ (word + 14974415777481871312) % 2 ^ 64
+    → bit_and (bit_or sum rest) 9259542123273814144 ≡ 0 → pairs ≡ (rest * 10 % 2 ^ 64 + rest / 2 ^ 8) % 2 ^ 64
+    → IsFront text 8 ((bit_and pairs 1095216660735 * 4294967296000100 % 2 ^ 64 + bit_and (pairs / 2 ^ 16) 1095216660735
+    * 42949672960001 % 2 ^ 64) % 2 ^ 64 / 2 ^ 32)
 eight_read text word sum rest pairs room byte is sum_is rest_is none pairs_is =
-    let digits = eight_bytes (λ i. get_or text i 0) word sum rest ((word + 5063812098665367110) / 2 ^ 64) ((word + 14974415777481871312) / 2 ^ 64) byte is (omega (arith, sum_is)) (omega (arith, rest_is)) none in
+    let digits = eight_bytes (λ i. get_or text i 0) word sum rest ((word + 5063812098665367110) / 2 ^ 64)
+    ((word + 14974415777481871312) / 2 ^ 64) byte is (omega (arith, sum_is)) (omega (arith, rest_is)) none in
     let front = front_none text in
-    let few : (get_or text 0 0 - 48 ≤ 9) × (get_or text 1 0 - 48 ≤ 9) × (get_or text 2 0 - 48 ≤ 9) × (get_or text 3 0 - 48 ≤ 9) × (get_or text 4 0 - 48 ≤ 9) × (get_or text 5 0 - 48 ≤ 9) × (get_or text 6 0 - 48 ≤ 9) × (get_or text 7 0 - 48 ≤ 9) = (omega (arith, digits.0), omega (arith, digits.1), omega (arith, digits.2), omega (arith, digits.3), omega (arith, digits.4), omega (arith, digits.5), omega (arith, digits.6), omega (arith, digits.7)) in
-    let same : (get_or text 0 0 ≡ get_or text 0 0 - 48 + 48) × (get_or text 1 0 ≡ get_or text 1 0 - 48 + 48) × (get_or text 2 0 ≡ get_or text 2 0 - 48 + 48) × (get_or text 3 0 ≡ get_or text 3 0 - 48 + 48) × (get_or text 4 0 ≡ get_or text 4 0 - 48 + 48) × (get_or text 5 0 ≡ get_or text 5 0 - 48 + 48) × (get_or text 6 0 ≡ get_or text 6 0 - 48 + 48) × (get_or text 7 0 ≡ get_or text 7 0 - 48 + 48) = (omega (arith, digits.0), omega (arith, digits.1), omega (arith, digits.2), omega (arith, digits.3), omega (arith, digits.4), omega (arith, digits.5), omega (arith, digits.6), omega (arith, digits.7)) in
+    let few : (get_or text 0 0 - 48 ≤ 9) × (get_or text 1 0 - 48 ≤ 9) × (get_or text 2 0 - 48 ≤ 9) × (get_or text 3 0 - 48 ≤ 9)
+    × (get_or text 4 0 - 48 ≤ 9) × (get_or text 5 0 - 48 ≤ 9) × (get_or text 6 0 - 48 ≤ 9) × (get_or text 7 0 - 48 ≤ 9) = (
+      omega (arith, digits.0),
+      omega (arith, digits.1),
+      omega (arith, digits.2),
+      omega (arith, digits.3),
+      omega (arith, digits.4),
+      omega
+          (arith, digits.5),
+      omega (arith, digits.6),
+      omega (arith, digits.7),
+    ) in
+    let same : (get_or text 0 0 ≡ get_or text 0 0 - 48 + 48) × (get_or text 1 0 ≡ get_or text 1 0 - 48 + 48)
+    × (get_or text 2 0 ≡ get_or text 2 0 - 48 + 48) × (get_or text 3 0 ≡ get_or text 3 0 - 48 + 48)
+    × (get_or text 4 0 ≡ get_or text 4 0 - 48 + 48) × (get_or text 5 0 ≡ get_or text 5 0 - 48 + 48)
+    × (get_or text 6 0 ≡ get_or text 6 0 - 48 + 48) × (get_or text 7 0 ≡ get_or text 7 0 - 48 + 48) = (
+      omega (arith, digits.0),
+      omega (arith, digits.1),
+      omega (arith, digits.2),
+      omega (arith, digits.3),
+      omega (arith, digits.4),
+      omega
+          (arith, digits.5),
+      omega (arith, digits.6),
+      omega (arith, digits.7),
+    ) in
     let f1 = front_more text 0 1 _ (omega (arith, room)) (omega arith) digits.0 front in
     let f2 = front_more text 1 2 _ (omega (arith, room)) (omega arith) digits.1 f1 in
     let f3 = front_more text 2 3 _ (omega (arith, room)) (omega arith) digits.2 f2 in
@@ -146,22 +198,28 @@ eight_read text word sum rest pairs room byte is sum_is rest_is none pairs_is =
     let f6 = front_more text 5 6 _ (omega (arith, room)) (omega arith) digits.5 f5 in
     let f7 = front_more text 6 7 _ (omega (arith, room)) (omega arith) digits.6 f6 in
     let f8 = front_more text 7 8 _ (omega (arith, room)) (omega arith) digits.7 f7 in
-    let value = eight_pairs (λ i. get_or text i 0 - 48) rest pairs _ _ few (eight_rest (λ i. get_or text i 0) (λ i. get_or text i 0 - 48) word rest same few is rest_is) pairs_is refl refl in
+    let value = eight_pairs (λ i. get_or text i 0 - 48) rest pairs _ _ few
+    (eight_rest (λ i. get_or text i 0) (λ i. get_or text i 0 - 48) word rest same few is rest_is) pairs_is refl refl in
     record { digits = f8.digits; value = value ∙ f8.value }
 
 -- four bytes of a text
-pub four_read : (text : List ℕ) (read number word sum rest pairs : ℕ) → IsFront text read number → read + 4 ≤ length text → ((i : ℕ) → get_or text i 0 < 256)
+pub four_read : (text : List ℕ) (read number word sum rest pairs : ℕ) → IsFront text read number → read + 4 ≤ length text
+    → ((i : ℕ) → get_or text i 0 < 256)
     → word ≡ get_or text read 0 + 256 * (get_or text (read + 1) 0 + 256 * (get_or text (read + 2) 0 + 256 * get_or text (read + 3) 0))
-    → sum ≡ (word + 1179010630) % 2 ^ 32 → rest ≡ (word + 3486502864) % 2 ^ 32 → bit_and (bit_or sum rest) 2155905152 ≡ 0 → pairs ≡ (rest * 10 % 2 ^ 32 + rest / 2 ^ 8) % 2 ^ 32
+    → sum ≡ (word + 1179010630) % 2 ^ 32 → rest ≡ (word + 3486502864) % 2 ^ 32 → bit_and (bit_or sum rest) 2155905152 ≡ 0
+    → pairs ≡ (rest * 10 % 2 ^ 32 + rest / 2 ^ 8) % 2 ^ 32
     → IsFront text (read + 4) (number * 10000 + (pairs % 256 * 100 + pairs / 2 ^ 16 % 256))
 four_read text read number word sum rest pairs front room byte is sum_is rest_is none pairs_is =
     let b : ℕ → ℕ = λ i. get_or text (read + i) 0 in
     let here : read + 0 ≡ read = omega arith in
     let first : get_or text (read + 0) 0 ≡ get_or text read 0 = ap (λ i. get_or text i 0) here in
-    let digits = four_bytes b word sum rest ((word + 1179010630) / 2 ^ 32) ((word + 3486502864) / 2 ^ 32) (λ i. byte (read + i)) (omega (arith, is, first)) (omega (arith, sum_is)) (omega (arith, rest_is)) none in
-    let f1 = front_more text read (read + 1) _ (omega (arith, room)) (omega arith) (subst (λ i. IsDigit (get_or text i 0)) here digits.0) front in
+    let digits = four_bytes b word sum rest ((word + 1179010630) / 2 ^ 32) ((word + 3486502864) / 2 ^ 32) (λ i. byte (read + i))
+    (omega (arith, is, first)) (omega (arith, sum_is)) (omega (arith, rest_is)) none in
+    let f1 = front_more text read (read + 1) _ (omega (arith, room)) (omega arith) (subst (λ i. IsDigit (get_or text i 0)) here digits.0)
+    front in
     let f2 = front_more text (read + 1) (read + 2) _ (omega (arith, room)) (omega arith) digits.1 f1 in
     let f3 = front_more text (read + 2) (read + 3) _ (omega (arith, room)) (omega arith) digits.2 f2 in
     let f4 = front_more text (read + 3) (read + 4) _ (omega (arith, room)) (omega arith) digits.3 f3 in
-    let value = four_pairs (λ i. b i - 48) rest pairs (omega arith, omega arith, omega arith, omega arith) (omega (arith, is, first, rest_is, digits)) pairs_is in
+    let value = four_pairs (λ i. b i - 48) rest pairs (omega arith, omega arith, omega arith, omega arith)
+    (omega (arith, is, first, rest_is, digits)) pairs_is in
     record { digits = f4.digits; value = omega (arith, value, first, f4.value) }

@@ -1,11 +1,13 @@
 -- What one call of `next` takes off what is still to come.
-use Rattle.std.proofs.Common.{◌≡◌, ℕ, ◌+◌, ◌<◌, ◌≤◌, Bool, true, false, cond, length, List, [], ◌∷◌, Option, Some, None, Ok, Err, refl, sym, ap, ◌∙◌, arith}
+use Rattle.std.proofs.Common.{◌≡◌, ℕ, ◌+◌, ◌<◌, ◌≤◌, Bool, true, false, cond, length, List, [], ◌∷◌, Option, Some, None, Ok, Err, refl, sym}
+use Rattle.std.proofs.Common.{ap, ◌∙◌, arith}
 use Rattle.std.specs.Prelude.{nat_lt}
 use Rattle.std.proofs.lemmas.Bool.Decides.{nat_tests}
 use Rattle.marple_base.specs.declared.field.Packet.{Packet}
 use Rattle.marple_base.specs.declared.field.FieldSet.{FieldSet}
 use Rattle.trace_reader.specs.Reading.{records}
-use Rattle.trace_reader.specs.Traces.{Contents, Layout, columns_of, contents, contents_from, contents_with, layout_of, layout_with, most_bytes, most_records, opening, packet_of, rest_of, trace_fault}
+use Rattle.trace_reader.specs.Traces.{Contents, Layout, columns_of, contents, contents_from, contents_with, layout_of, layout_with}
+use Rattle.trace_reader.specs.Traces.{most_bytes, most_records, opening, packet_of, rest_of, trace_fault}
 use Rattle.trace_reader.specs.TraceView.{upcoming_by}
 use Rattle.trace_reader.specs.Upcoming.{Gives, IsAtEnd, IsAtFault, Upcoming, upcoming_of}
 use Rattle.trace_reader.specs.declared.fault.TraceFault.{TraceFault}
@@ -14,15 +16,20 @@ use Rattle.trace_reader.specs.declared.trace.Progress.{Progress}
 use Rattle.trace_reader.specs.declared.trace.Progress.TheVariants as progress
 
 -- a record that is a packet
-pub taken : (old : Upcoming) (at : Progress) (layout : Layout) (n : ℕ) (left rest : List (List (List ℕ))) (fields : List (List ℕ)) (packet : Packet)
-    → upcoming_by at (contents_from layout n left) ≡ old → at ≡ progress.Reading → left ≡ fields ∷ rest → packet_of layout n fields ≡ Ok packet
+pub taken : (old : Upcoming) (at : Progress) (layout : Layout) (n : ℕ) (left rest : List (List (List ℕ))) (fields : List (List ℕ))
+    (packet : Packet)
+    → upcoming_by at (contents_from layout n left) ≡ old → at ≡ progress.Reading → left ≡ fields ∷ rest
+    → packet_of layout n fields ≡ Ok packet
     → Gives old packet (upcoming_by at (contents_from layout (n + 1) rest))
 unfolding contents_from
-taken old at layout n left rest fields packet view reading has is = rw (← view, reading, has, is) (record { packets = refl; fault = refl; going = refl })
+taken old at layout n left rest fields packet view reading has is = rw (← view, reading, has, is)
+    (record { packets = refl; fault = refl; going = refl })
 
 -- a record with a fault
-pub refused : (old : Upcoming) (at : Progress) (layout : Layout) (n : ℕ) (left rest : List (List (List ℕ))) (fields : List (List ℕ)) (found : TraceFault)
-    → upcoming_by at (contents_from layout n left) ≡ old → at ≡ progress.Reading → left ≡ fields ∷ rest → packet_of layout n fields ≡ Err found
+pub refused : (old : Upcoming) (at : Progress) (layout : Layout) (n : ℕ) (left rest : List (List (List ℕ))) (fields : List (List ℕ))
+    (found : TraceFault)
+    → upcoming_by at (contents_from layout n left) ≡ old → at ≡ progress.Reading → left ≡ fields ∷ rest
+    → packet_of layout n fields ≡ Err found
     → IsAtFault old found
 unfolding contents_from
 refused old at layout n left rest fields found view reading has is = rw (← view, reading, has, is) (record { packets = refl; fault = refl })
@@ -35,7 +42,8 @@ unfolding contents_from
 ended old at layout n left view reading none = rw (← view, reading, none) (record { packets = refl; fault = refl }, refl)
 
 -- a packet's record is one of those that a trace may have
-pub packet_within : (layout : Layout) (n : ℕ) (fields : List (List ℕ)) (packet : Packet) → packet_of layout n fields ≡ Ok packet → n ≤ most_records
+pub packet_within : (layout : Layout) (n : ℕ) (fields : List (List ℕ)) (packet : Packet) → packet_of layout n fields ≡ Ok packet
+    → n ≤ most_records
 unfolding packet_of
 packet_within layout n fields packet is = by (nat_lt most_records n) refl is
   where
@@ -43,7 +51,8 @@ packet_within layout n fields packet is = by (nat_lt most_records n) refl is
     by true e is = absurd (cc (rw e at is))
     by false e is = grind (arith, nat_tests)
 
-too_long_test : (text : List ℕ) (b : Bool) → nat_lt most_bytes (length text) ≡ b → (reads : FieldSet) → opening text reads ≡ cond b (Err fault.TraceTooLong) (layout_of (records text) reads)
+too_long_test : (text : List ℕ) (b : Bool) → nat_lt most_bytes (length text) ≡ b → (reads : FieldSet)
+    → opening text reads ≡ cond b (Err fault.TraceTooLong) (layout_of (records text) reads)
 unfolding opening
 too_long_test text b e reads = rw e refl
 
@@ -53,16 +62,20 @@ opening_long text reads long = too_long_test text true (grind (arith, nat_tests)
 pub opening_short : (text : List ℕ) (reads : FieldSet) → length text ≤ most_bytes → opening text reads ≡ layout_of (records text) reads
 opening_short text reads short = too_long_test text false (grind (arith, nat_tests)) reads
 
-pub opening_empty : (text : List ℕ) (reads : FieldSet) → length text ≤ most_bytes → records text ≡ [] → opening text reads ≡ Err fault.NoHeader
+pub opening_empty : (text : List ℕ) (reads : FieldSet) → length text ≤ most_bytes → records text ≡ []
+    → opening text reads ≡ Err fault.NoHeader
 opening_empty text reads short none = opening_short text reads short ∙ ap (λ rows. layout_of rows reads) none
 
 pub opening_bad : (text : List ℕ) (reads : FieldSet) (header : List (List ℕ)) (rest : List (List (List ℕ))) (found : TraceFault)
     → length text ≤ most_bytes → records text ≡ header ∷ rest → Err found ≡ columns_of reads header → opening text reads ≡ Err found
-opening_bad text reads header rest found short all bad = opening_short text reads short ∙ ap (λ rows. layout_of rows reads) all ∙ ap (layout_with (length header)) (sym bad)
+opening_bad text reads header rest found short all bad = opening_short text reads short ∙ ap (λ rows. layout_of rows reads) all
+    ∙ ap (layout_with (length header)) (sym bad)
 
 pub opening_good : (text : List ℕ) (reads : FieldSet) (header : List (List ℕ)) (rest : List (List (List ℕ))) (columns : List (Option ℕ))
-    → length text ≤ most_bytes → records text ≡ header ∷ rest → Ok columns ≡ columns_of reads header → opening text reads ≡ Ok (record { width = length header; columns = columns })
-opening_good text reads header rest columns short all good = opening_short text reads short ∙ ap (λ rows. layout_of rows reads) all ∙ ap (layout_with (length header)) (sym good)
+    → length text ≤ most_bytes → records text ≡ header ∷ rest → Ok columns ≡ columns_of reads header
+    → opening text reads ≡ Ok (record { width = length header; columns = columns })
+opening_good text reads header rest columns short all good = opening_short text reads short ∙ ap (λ rows. layout_of rows reads) all
+    ∙ ap (layout_with (length header)) (sym good)
 
 pub contents_good : (text : List ℕ) (reads : FieldSet) (header : List (List ℕ)) (rest : List (List (List ℕ))) (columns : List (Option ℕ))
     → length text ≤ most_bytes → records text ≡ header ∷ rest → Ok columns ≡ columns_of reads header
@@ -74,13 +87,16 @@ contents_good text reads header rest columns short all good = rw (opening_good t
 abbrev seen : Contents → Upcoming
 seen rest = record { packets = rest.packets; fault = rest.fault; stopped = None }
 
-pub upcoming_good : (text : List ℕ) (reads : FieldSet) (header : List (List ℕ)) (rest : List (List (List ℕ))) (columns : List (Option ℕ)) (width : ℕ)
+pub upcoming_good : (text : List ℕ) (reads : FieldSet) (header : List (List ℕ)) (rest : List (List (List ℕ))) (columns : List (Option ℕ))
+    (width : ℕ)
     → length text ≤ most_bytes → records text ≡ header ∷ rest → Ok columns ≡ columns_of reads header → width ≡ length header
     → upcoming_by progress.Reading (contents_from (record { width = width; columns = columns }) 1 rest) ≡ upcoming_of text reads
 upcoming_good text reads header rest columns width short all good size =
-    ap (λ w. seen (contents_from (record { width = w; columns = columns }) 1 rest)) size ∙ ap seen (sym (contents_good text reads header rest columns short all good))
+    ap (λ w. seen (contents_from (record { width = w; columns = columns }) 1 rest)) size
+    ∙ ap seen (sym (contents_good text reads header rest columns short all good))
 
 -- a fault of a trace as a whole or of its header is the trace's first
-pub fault_early : (text : List ℕ) (reads : FieldSet) (found : TraceFault) → opening text reads ≡ Err found → trace_fault text reads ≡ Some found
+pub fault_early : (text : List ℕ) (reads : FieldSet) (found : TraceFault) → opening text reads ≡ Err found
+    → trace_fault text reads ≡ Some found
 unfolding contents
 fault_early text reads found bad = ap (λ o. (contents_with o (rest_of (records text))).fault) bad

@@ -1,5 +1,6 @@
 -- The words of a record, written at the fields that are read.
-use Rattle.std.proofs.Common.{◌≡◌, ℕ, ◌+◌, ◌<◌, ◌≤◌, List, [], ◌∷◌, ◌++◌, length, get_or, drop, set, Option, Some, None, Result, Ok, Err, refl, sym, ap, subst, ◌∙◌, append_assoc, arith, length-append}
+use Rattle.std.proofs.Common.{◌≡◌, ℕ, ◌+◌, ◌<◌, ◌≤◌, List, [], ◌∷◌, ◌++◌, length, get_or, drop, set, Option, Some, None, Result, Ok, Err}
+use Rattle.std.proofs.Common.{refl, sym, ap, subst, ◌∙◌, append_assoc, arith, length-append}
 use Rattle.std.specs.Prelude.{replicate}
 use Rattle.std.specs.List.{zip}
 use Rattle.std.proofs.lemmas.List.{drop_all, drop_more}
@@ -42,21 +43,26 @@ word_filled next rest front zeros n at more (Ok x) =
     ap (λ k. next (set (front ++ 0 ∷ zeros) k x)) at ∙ ap next (set_here front zeros 0 x) ∙ word_after next rest front zeros x (more x)
 word_filled next rest front zeros n at more (Err e) = refl
 
-column_filled : (fields : List (List ℕ)) (f : Field) (reads : List (Field × ℕ)) (rest : Result (List ℕ) Field) (front zeros : List ℕ) → number_of f ≡ length front
+column_filled : (fields : List (List ℕ)) (f : Field) (reads : List (Field × ℕ)) (rest : Result (List ℕ) Field) (front zeros : List ℕ)
+    → number_of f ≡ length front
     → ((x : ℕ) → fill fields reads ((front ++ x ∷ []) ++ zeros) ≡ onto (front ++ x ∷ []) rest) → (o : Option ℕ)
     → fill fields (with_column f o reads) (front ++ 0 ∷ zeros) ≡ onto front (with_first (word_at fields f o) rest)
 unfolding fill
 column_filled fields f reads rest front zeros at more None = word_after (fill fields reads) rest front zeros 0 (more 0)
-column_filled fields f reads rest front zeros at more (Some c) = word_filled (fill fields reads) rest front zeros (number_of f) at more (word_at fields f (Some c))
+column_filled fields f reads rest front zeros at more (Some c) = word_filled (fill fields reads) rest front zeros (number_of f) at more
+    (word_at fields f (Some c))
 
 -- where all words after those so far are 0, the words that are read are written
-filled : (fields : List (List ℕ)) (front : List ℕ) (fs : List Field) (columns : List (Option ℕ)) → AreFrom (length front) fs → length columns ≡ length fs
-    → fill fields (read_of (zip fs columns)) (front ++ replicate (length fs) 0) ≡ onto front (each (λ p. word_at fields p.0 p.1) (zip fs columns))
+filled : (fields : List (List ℕ)) (front : List ℕ) (fs : List Field) (columns : List (Option ℕ)) → AreFrom (length front) fs
+    → length columns ≡ length fs
+    → fill fields (read_of (zip fs columns)) (front ++ replicate (length fs) 0) ≡ onto front
+    (each (λ p. word_at fields p.0 p.1) (zip fs columns))
 unfolding fill each
 filled fields front [] columns from size = refl
 filled fields front (f ∷ fs) [] from size = absurd (omega arith)
 filled fields front (f ∷ fs) (column ∷ columns) from size =
-    column_filled fields f (read_of (zip fs columns)) (each (λ p. word_at fields p.0 p.1) (zip fs columns)) front (replicate (length fs) 0) from.0 (
+    column_filled fields f (read_of (zip fs columns)) (each (λ p. word_at fields p.0 p.1) (zip fs columns)) front (replicate (length fs) 0)
+    from.0 (
     λ x.
     let one : length front + 1 ≡ length (front ++ x ∷ []) = omega (arith, length-append front (x ∷ [])) in
     let P : ℕ → Type 0 = λ n. AreFrom n fs in
@@ -75,14 +81,16 @@ words_filled fields columns size =
     sym (filled fields [] all_fields columns all_from size ∙ onto_nothing (words_of columns fields))
 
 -- the turn that writes a word
-pub word_written : (all : Result (List ℕ) Field) (fields : List (List ℕ)) (read : List (Field × ℕ)) (i : ℕ) (d : Field × ℕ) (words : List ℕ) (x : ℕ) → i < length read
+pub word_written : (all : Result (List ℕ) Field) (fields : List (List ℕ)) (read : List (Field × ℕ)) (i : ℕ) (d : Field × ℕ) (words : List ℕ)
+    (x : ℕ) → i < length read
     → all ≡ fill fields (drop i read) words → Ok x ≡ word_at fields (get_or read i d).0 (Some (get_or read i d).1)
     → all ≡ fill fields (drop (i + 1) read) (set words (number_of (get_or read i d).0) x)
 unfolding fill
 word_written all fields read i d words x within so_far is = so_far ∙ rw (drop_more read i d within, ← is) refl
 
 -- the turn that meets a field that is no number
-pub field_met : (all : Result (List ℕ) Field) (fields : List (List ℕ)) (read : List (Field × ℕ)) (i : ℕ) (d : Field × ℕ) (words : List ℕ) (e : Field) → i < length read
+pub field_met : (all : Result (List ℕ) Field) (fields : List (List ℕ)) (read : List (Field × ℕ)) (i : ℕ) (d : Field × ℕ) (words : List ℕ)
+    (e : Field) → i < length read
     → all ≡ fill fields (drop i read) words → Err e ≡ word_at fields (get_or read i d).0 (Some (get_or read i d).1) → all ≡ Err e
 unfolding fill
 field_met all fields read i d words e within so_far is = so_far ∙ rw (drop_more read i d within, ← is) refl
@@ -94,11 +102,13 @@ unfolding fill
 words_are all fields read i words past so_far = so_far ∙ rw (drop_all i read past) refl
 
 -- the fields that are read, as they are found in turn
-pub read_none : (columns : List (Option ℕ)) (fs : List Field) (i : ℕ) (f : Field) → i < length fs → i < length columns → get_or columns i None ≡ None
+pub read_none : (columns : List (Option ℕ)) (fs : List Field) (i : ℕ) (f : Field) → i < length fs → i < length columns
+    → get_or columns i None ≡ None
     → read_of (zip (drop i fs) (drop i columns)) ≡ read_of (zip (drop (i + 1) fs) (drop (i + 1) columns))
 read_none columns fs i f in_fields in_columns is = rw (drop_more fs i f in_fields, drop_more columns i None in_columns, is) refl
 
-pub read_one : (columns : List (Option ℕ)) (fs : List Field) (i : ℕ) (f : Field) (c : ℕ) → i < length fs → i < length columns → get_or columns i None ≡ Some c
+pub read_one : (columns : List (Option ℕ)) (fs : List Field) (i : ℕ) (f : Field) (c : ℕ) → i < length fs → i < length columns
+    → get_or columns i None ≡ Some c
     → read_of (zip (drop i fs) (drop i columns)) ≡ (get_or fs i f, c) ∷ read_of (zip (drop (i + 1) fs) (drop (i + 1) columns))
 read_one columns fs i f c in_fields in_columns is = rw (drop_more fs i f in_fields, drop_more columns i None in_columns, is) refl
 
@@ -107,6 +117,7 @@ not_some None other = refl
 not_some (Some x) other = absurd (other x refl)
 
 -- one more that is read
-pub found_more : {A : Type 0} (all items more now rest : List A) (x : A) → all ≡ items ++ now → now ≡ x ∷ rest → more ≡ items ++ x ∷ [] → all ≡ more ++ rest
+pub found_more : {A : Type 0} (all items more now rest : List A) (x : A) → all ≡ items ++ now → now ≡ x ∷ rest → more ≡ items ++ x ∷ []
+    → all ≡ more ++ rest
 found_more all items more now rest x so_far is grown =
     so_far ∙ ap (λ xs. items ++ xs) is ∙ sym (append_assoc items (x ∷ []) rest) ∙ ap (λ xs. xs ++ rest) (sym grown)

@@ -6,7 +6,8 @@ use Rattle.bucket_cache.specs.Bounds.{UsesAreBounded}
 use Rattle.bucket_cache.proofs.FlatRows.{row_fits}
 use Rattle.bucket_cache.proofs.uses_are_bounded.Goals as goal
 
-touch_bound : (ways key_words : ℕ) (answer : Touch) → key_words ≤ ways * key_words → touch_cost ways key_words answer ≤ 2 * ways * (key_words + 1)
+touch_bound : (ways key_words : ℕ) (answer : Touch) → key_words ≤ ways * key_words → touch_cost ways key_words answer ≤ 2 * ways
+    * (key_words + 1)
 touch_bound ways key_words (Hit place) h = omega arith
 touch_bound ways key_words (Free place) h = omega arith
 touch_bound ways key_words (Full place) h = omega arith

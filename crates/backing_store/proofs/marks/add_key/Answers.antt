@@ -12,12 +12,15 @@ pub returns-clause-keys : goal.returns-clause-keys
 returns-clause-keys c =
     let marks = c.args.marks.now.keys in
     let mark = c.args.mark in
-    let new : c.insert.new.self.keys ≡ marks ++ mark ∷ [] = c.in_ok-insert.ensures.keys ∙ (ap (λ ks. insert_key eqb ks mark) c.in_ok-reserve.ensures.keys ∙ inserted marks mark c.requires.mark.free) in
-    rw (c.in_ok-extend_from_slice.ensures.items, new) (keys_more c.args.width c.args.words.now.items marks c.args.key.now mark c.requires.keys c.requires.width c.requires.mark.of)
+    let new : c.insert.new.self.keys ≡ marks ++ mark ∷ [] = c.in_ok-insert.ensures.keys
+    ∙ (ap (λ ks. insert_key eqb ks mark) c.in_ok-reserve.ensures.keys ∙ inserted marks mark c.requires.mark.free) in
+    rw (c.in_ok-extend_from_slice.ensures.items, new) (keys_more c.args.width c.args.words.now.items marks c.args.key.now mark
+    c.requires.keys c.requires.width c.requires.mark.of)
 
 pub returns-clause-ok : goal.returns-clause-ok
 returns-clause-ok c =
     let marks = c.args.marks.now.keys in
     let mark = c.args.mark in
-    let new : c.insert.new.self.keys ≡ marks ++ mark ∷ [] = c.in_ok-insert.ensures.keys ∙ (ap (λ ks. insert_key eqb ks mark) c.in_ok-reserve.ensures.keys ∙ inserted marks mark c.requires.mark.free) in
+    let new : c.insert.new.self.keys ≡ marks ++ mark ∷ [] = c.in_ok-insert.ensures.keys
+    ∙ (ap (λ ks. insert_key eqb ks mark) c.in_ok-reserve.ensures.keys ∙ inserted marks mark c.requires.mark.free) in
     (c.in_ok-extend_from_slice.ensures.items, new)

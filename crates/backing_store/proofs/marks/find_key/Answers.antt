@@ -5,8 +5,11 @@ use Rattle.backing_store.proofs.MarkFacts.{found_at, not_before_more, not_found,
 use Rattle.backing_store.proofs.marks.find_key.Goals as goal
 
 pub returns-in-Some : goal.returns-in-Some
-returns-in-Some c =
-    (omega (arith, c.in-Some.ensures.within), sym c.row.ensures ∙ key_eq-true c.row.result.now c.args.key.now (sym c.is_same.ensures ∙ c.if-is_same.true))
+returns-in-Some c = (
+  omega (arith, c.in-Some.ensures.within),
+  sym c.row.ensures ∙ key_eq-true c.row.result.now c.args.key.now
+      (sym c.is_same.ensures ∙ c.if-is_same.true),
+)
 
 pub returns-in-None : goal.returns-in-None
 returns-in-None c =
@@ -36,13 +39,19 @@ loop-step-preserved c =
     let here = found_at marks mark c.in-Some.at (sym c.in-Some.ensures.index) in
     record {
       taken = taken_more marks c.fingerprint-first.result c.loop-step.step c.loop-step.invariant.taken (c.in-Some.at, here);
-      before = not_before_more c.args.width c.args.words.now marks key c.loop-step.step c.in-Some.at c.len-step-end.ensures.unique c.loop-step.invariant.before
+      before = not_before_more c.args.width c.args.words.now marks key c.loop-step.step c.in-Some.at c.len-step-end.ensures.unique
+          c.loop-step.invariant.before
           (here ∙ ap Some same) (λ e. key_eq-not c.row.result.now key (sym c.is_same.ensures ∙ c.if-is_same.false) (c.row.ensures ∙ e));
     }
 
 pub returns : goal.returns
 returns c =
     let marks = c.args.marks.now.keys in
-    let all : c.loop-step.step ≡ length marks + 1 = omega (arith, c.len-step-end.ensures.len, c.loop-step-test.false, c.loop-step.auto.step-end) in
+    let all : c.loop-step.step ≡ length marks + 1 = omega (
+      arith,
+      c.len-step-end.ensures.len,
+      c.loop-step-test.false,
+      c.loop-step.auto.step-end,
+    ) in
     absurd (too_many marks c.fingerprint-first.result (omega (arith, c.len-step-end.ensures.len, c.len-step-end.ensures.small))
     (subst (λ n. AreTaken marks c.fingerprint-first.result n) all c.loop-step.invariant.taken))

@@ -14,7 +14,8 @@ loop-at-preserved c =
     let G = epochs_in c.args.row_per_epoch in
     let found = row_at stored at (omega (arith, c.loop-at-test.true, c.loop-at.auto.at-end, c.len-at-end.ensures)) in
     let row = found.0 in
-    let here = subst (λ (rows : List Row). slice_get rows at ≡ Some row) (sym c.loop-at.invariant.rows) (here_stored F stored at row found.1) in
+    let here = subst (λ (rows : List Row). slice_get rows at ≡ Some row) (sym c.loop-at.invariant.rows)
+    (here_stored F stored at row found.1) in
     let next : at + 1 ≡ suc at = omega arith in
     let one : sum_by G (row ∷ []) ≡ G row = sum_by-cons G row [] ∙ (let e : G row + 0 ≡ G row = omega arith in e) in
     let sum : sum_by G (take (at + 1) stored) ≡ sum_by G (take at stored) + G row =

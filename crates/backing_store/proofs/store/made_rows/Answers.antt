@@ -48,7 +48,8 @@ overflow_add-epoch c =
     let of = c.of-of.result in
     let within = of_within (length keys) c.args.states.now.width rows c.loop-at.at of c.requires.rows c.of-of.ensures in
     let given = c.loop-at.given.items in
-    let count = same_default given of c.index.result.now 0 (omega (arith, c.loop-at.invariant.size, within)) ∙ c.loop-at.invariant.counts of within in
+    let count = same_default given of c.index.result.now 0 (omega (arith, c.loop-at.invariant.size, within))
+    ∙ c.loop-at.invariant.counts of within in
     let few = states_few (take c.loop-at.at rows) of in
     let front = length-take c.loop-at.at rows in
     omega (arith, c.index.ensures, c.loop-at-test.true)
@@ -65,12 +66,15 @@ loop-at-preserved c =
     let kept = c.index-kept.result.now in
     let here = row_is rows at of c.row.result.now c.of-of.ensures c.row.ensures in
     let count : c.index.result.now ≡ length (states_at (take at rows) of) =
-    c.index.ensures ∙ (same_default given of c.index.result.now 0 (omega (arith, c.loop-at.invariant.size, within)) ∙ c.loop-at.invariant.counts of within) in
+    c.index.ensures ∙ (same_default given of c.index.result.now 0 (omega (arith, c.loop-at.invariant.size, within))
+    ∙ c.loop-at.invariant.counts of within) in
     let low : of < length merged = omega (arith, within, c.requires.many) in
-    let there = zip-stored keys merged of c.key.result.now kept c.key.ensures (slice_get_read merged (length merged) of kept refl low c.index-kept.ensures) in
+    let there = zip-stored keys merged of c.key.result.now kept c.key.ensures
+    (slice_get_read merged (length merged) of kept refl low c.index-kept.ensures) in
     let row : StoredRow = record { key = of; words = c.row.result.now } in
     record {
       size = length-set given of (c.index.result.now + 1) ∙ c.loop-at.invariant.size;
       counts = rw count (turn_counts rows at row given (length keys) here c.loop-at.invariant.size within c.loop-at.invariant.counts);
-      made = rw (c.in_ok-push.ensures.ok, count) (turn_made (map stored (zip keys merged)) rows at row (record { key = c.key.result.now; epochs = kept.epochs }) c.loop-at.made c.requires.once there here c.loop-at.invariant.made);
+      made = rw (c.in_ok-push.ensures.ok, count) (turn_made (map stored (zip keys merged)) rows at row
+          (record { key = c.key.result.now; epochs = kept.epochs }) c.loop-at.made c.requires.once there here c.loop-at.invariant.made);
     }

@@ -39,7 +39,8 @@ replace_way-requires-clause-absent g c =
     let w = take m (drop (b * (ways * kw)) words) in
     let eo : o ≡ take ways (drop (b * ways) order) = ap (λ x. take x (drop (b * ways) order)) en in
     let ew : w ≡ take (ways * kw) (drop (b * (ways * kw)) words) = ap (λ x. take x (drop (b * (ways * kw)) words)) em in
-    subst (λ ps. has_key c.args.key.now ps ≡ false) (full-list ways kw b used order words o w c.requires.buckets c.requires.range eo ew c.requires.full) c.requires.absent
+    subst (λ ps. has_key c.args.key.now ps ≡ false) (full-list ways kw b used order words o w c.requires.buckets c.requires.range eo ew
+    c.requires.full) c.requires.absent
 
 pub returns-clause-buckets : goal.returns-clause-buckets
 returns-clause-buckets g c =
@@ -58,7 +59,8 @@ returns-clause-buckets g c =
     let eo : o ≡ take ways (drop (b * ways) order) = ap (λ x. take x (drop (b * ways) order)) en in
     let ew : w ≡ take (ways * kw) (drop (b * (ways * kw)) words) = ap (λ x. take x (drop (b * (ways * kw)) words)) em in
     by_width (λ x y. AreBuckets ways kw used x y) b ways (ways * kw) n m c.replace_way.new.order c.replace_way.new.words order words en em
-    (full-buckets ways kw b o w c.replace_way.new.order c.replace_way.new.words used order words c.requires.buckets c.requires.range eo ew c.requires.full
+    (full-buckets ways kw b o w c.replace_way.new.order c.replace_way.new.words used order words c.requires.buckets c.requires.range eo ew
+    c.requires.full
     c.replace_way.auto.order c.replace_way.auto.words c.replace_way.ensures.bucket)
 
 pub returns-clause-place : goal.returns-clause-place
@@ -77,7 +79,8 @@ returns-clause-place g c =
     let w = take m (drop (b * (ways * kw)) words) in
     let eo : o ≡ take ways (drop (b * ways) order) = ap (λ x. take x (drop (b * ways) order)) en in
     let ew : w ≡ take (ways * kw) (drop (b * (ways * kw)) words) = ap (λ x. take x (drop (b * (ways * kw)) words)) em in
-    subst (λ ps. IsLeast ps c.replace_way.result) (sym (full-list ways kw b used order words o w c.requires.buckets c.requires.range eo ew c.requires.full)) c.replace_way.ensures.place
+    subst (λ ps. IsLeast ps c.replace_way.result) (sym (full-list ways kw b used order words o w c.requires.buckets c.requires.range eo ew
+    c.requires.full)) c.replace_way.ensures.place
 
 pub returns-clause-pairs : goal.returns-clause-pairs
 returns-clause-pairs g c =
@@ -98,5 +101,6 @@ returns-clause-pairs g c =
     let change : List Pair → List Pair = λ ps. with_front c.args.key.now c.replace_way.result (take (length ps - 1) ps) in
     by_width (λ x y. lists_in ways kw used x y ≡ set (lists_in ways kw used order words) b (change (list_in ways kw used order words b)))
     b ways (ways * kw) n m c.replace_way.new.order c.replace_way.new.words order words en em
-    (full-lists ways kw b change o w c.replace_way.new.order c.replace_way.new.words used order words c.requires.buckets c.requires.range eo ew c.requires.full
+    (full-lists ways kw b change o w c.replace_way.new.order c.replace_way.new.words used order words c.requires.buckets c.requires.range eo
+    ew c.requires.full
     c.replace_way.auto.order c.replace_way.auto.words c.replace_way.ensures.pairs)

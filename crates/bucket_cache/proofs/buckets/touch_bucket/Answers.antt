@@ -15,7 +15,8 @@ touch_ways-requires-clause-bucket g c =
     let m = b * (ways * kw) + ways * kw - b * (ways * kw) in
     let en : n ≡ ways = omega arith in
     let em : m ≡ ways * kw = omega arith in
-    lent-bucket ways kw b c.args.used.now order words (take n (drop (b * ways) order)) (take m (drop (b * (ways * kw)) words)) c.requires.buckets c.requires.range
+    lent-bucket ways kw b c.args.used.now order words (take n (drop (b * ways) order)) (take m (drop (b * (ways * kw)) words))
+    c.requires.buckets c.requires.range
     (ap (λ x. take x (drop (b * ways) order)) en) (ap (λ x. take x (drop (b * (ways * kw)) words)) em)
 
 pub returns-clause-buckets : goal.returns-clause-buckets
@@ -29,8 +30,10 @@ returns-clause-buckets g c =
     let m = b * (ways * kw) + ways * kw - b * (ways * kw) in
     let en : n ≡ ways = omega arith in
     let em : m ≡ ways * kw = omega arith in
-    by_width (λ o w. AreBuckets ways kw (set c.args.used.now b c.touch_ways.new.used) o w) b ways (ways * kw) n m c.touch_ways.new.order c.touch_ways.new.words order words en em
-    (lent-buckets ways kw b c.touch_ways.new.used (take n (drop (b * ways) order)) (take m (drop (b * (ways * kw)) words)) c.touch_ways.new.order c.touch_ways.new.words c.args.used.now order words
+    by_width (λ o w. AreBuckets ways kw (set c.args.used.now b c.touch_ways.new.used) o w) b ways (ways * kw) n m c.touch_ways.new.order
+    c.touch_ways.new.words order words en em
+    (lent-buckets ways kw b c.touch_ways.new.used (take n (drop (b * ways) order)) (take m (drop (b * (ways * kw)) words))
+    c.touch_ways.new.order c.touch_ways.new.words c.args.used.now order words
     c.requires.buckets c.requires.range (ap (λ x. take x (drop (b * ways) order)) en) (ap (λ x. take x (drop (b * (ways * kw)) words)) em)
     c.touch_ways.auto.order c.touch_ways.auto.words c.touch_ways.ensures.bucket)
 
@@ -45,10 +48,13 @@ returns-clause-touched g c =
     let m = b * (ways * kw) + ways * kw - b * (ways * kw) in
     let en : n ≡ ways = omega arith in
     let em : m ≡ ways * kw = omega arith in
-    by_width (λ o w. Touches ways c.args.key.now (list_in ways kw c.args.used.now order words b) c.touch_ways.result (list_in ways kw (set c.args.used.now b c.touch_ways.new.used) o w b))
+    by_width (λ o w. Touches ways c.args.key.now (list_in ways kw c.args.used.now order words b) c.touch_ways.result
+    (list_in ways kw (set c.args.used.now b c.touch_ways.new.used) o w b))
     b ways (ways * kw) n m c.touch_ways.new.order c.touch_ways.new.words order words en em
-    (lent-touched ways kw b c.touch_ways.new.used c.args.key.now c.touch_ways.result (take n (drop (b * ways) order)) (take m (drop (b * (ways * kw)) words)) c.touch_ways.new.order c.touch_ways.new.words
-    c.args.used.now order words c.requires.buckets c.requires.range (ap (λ x. take x (drop (b * ways) order)) en) (ap (λ x. take x (drop (b * (ways * kw)) words)) em)
+    (lent-touched ways kw b c.touch_ways.new.used c.args.key.now c.touch_ways.result (take n (drop (b * ways) order))
+    (take m (drop (b * (ways * kw)) words)) c.touch_ways.new.order c.touch_ways.new.words
+    c.args.used.now order words c.requires.buckets c.requires.range (ap (λ x. take x (drop (b * ways) order)) en)
+    (ap (λ x. take x (drop (b * (ways * kw)) words)) em)
     c.touch_ways.auto.order c.touch_ways.auto.words c.touch_ways.ensures.touched)
 
 pub returns-clause-rest : goal.returns-clause-rest
@@ -65,6 +71,7 @@ returns-clause-rest g c =
     let em : m ≡ ways * kw = omega arith in
     by_width (λ o w. lists_in ways kw used o w ≡ set (lists_in ways kw c.args.used.now order words) b (list_in ways kw used o w b))
     b ways (ways * kw) n m c.touch_ways.new.order c.touch_ways.new.words order words en em
-    (lent-rest ways kw b c.touch_ways.new.used (take n (drop (b * ways) order)) (take m (drop (b * (ways * kw)) words)) c.touch_ways.new.order c.touch_ways.new.words c.args.used.now order words
+    (lent-rest ways kw b c.touch_ways.new.used (take n (drop (b * ways) order)) (take m (drop (b * (ways * kw)) words))
+    c.touch_ways.new.order c.touch_ways.new.words c.args.used.now order words
     c.requires.buckets c.requires.range (ap (λ x. take x (drop (b * ways) order)) en) (ap (λ x. take x (drop (b * (ways * kw)) words)) em)
     c.touch_ways.auto.order c.touch_ways.auto.words)

@@ -7,17 +7,20 @@ use Rattle.bucket_cache.proofs.ways.find_key.Goals as goal
 
 pub row-held-requires : goal.row-held-requires
 row-held-requires g c =
-    let fits = row_fits (get_or c.args.order.now c.loop-i.i 0) (length c.args.order.now) (length c.args.key.now) (c.requires.ways c.loop-i.i 0 (omega arith)) in
+    let fits = row_fits (get_or c.args.order.now c.loop-i.i 0) (length c.args.order.now) (length c.args.key.now)
+    (c.requires.ways c.loop-i.i 0 (omega arith)) in
     let flat = c.requires.flat in
     omega arith
 
 pub compare-compared-requires : goal.compare-compared-requires
-compare-compared-requires g c = row_width (length c.args.order.now) (get_or c.args.order.now c.loop-i.i 0) (length c.args.key.now) c.args.words.now c.row-held.result.now (c.requires.ways c.loop-i.i 0 (omega arith)) c.requires.flat c.row-held.ensures
+compare-compared-requires g c = row_width (length c.args.order.now) (get_or c.args.order.now c.loop-i.i 0) (length c.args.key.now)
+    c.args.words.now c.row-held.result.now (c.requires.ways c.loop-i.i 0 (omega arith)) c.requires.flat c.row-held.ensures
 
 pub returns-then-compared-clause-same : goal.returns-then-compared-clause-same
 returns-then-compared-clause-same g c =
     let way = get_or c.args.order.now c.loop-i.i 0 in
-    ap (λ k. key_eq k c.args.key.now) (get-rows_of (length c.args.key.now) (length c.args.order.now) c.args.words.now way [] (c.requires.ways c.loop-i.i 0 (omega arith)) ∙ sym c.row-held.ensures)
+    ap (λ k. key_eq k c.args.key.now) (get-rows_of (length c.args.key.now) (length c.args.order.now) c.args.words.now way []
+    (c.requires.ways c.loop-i.i 0 (omega arith)) ∙ sym c.row-held.ensures)
     ∙ (sym c.compare-compared.ensures.answer ∙ c.if-compared.true)
 
 pub loop-i-preserved : goal.loop-i-preserved
@@ -27,9 +30,11 @@ loop-i-preserved g c =
     let rows = rows_of (length key) (length order) c.args.words.now in
     let i = c.loop-i.i in
     let this : key_eq (get_or rows (get_or order i 0) []) key ≡ false =
-    ap (λ k. key_eq k key) (get-rows_of (length key) (length order) c.args.words.now (get_or order i 0) [] (c.requires.ways i 0 (omega arith)) ∙ sym c.row-held.ensures)
+    ap (λ k. key_eq k key) (get-rows_of (length key) (length order) c.args.words.now (get_or order i 0) []
+    (c.requires.ways i 0 (omega arith)) ∙ sym c.row-held.ensures)
     ∙ (sym c.compare-compared.ensures.answer ∙ c.if-compared.false) in
-    let short = row_width (length order) (get_or order i 0) (length key) c.args.words.now c.row-held.result.now (c.requires.ways i 0 (omega arith)) c.requires.flat c.row-held.ensures in
+    let short = row_width (length order) (get_or order i 0) (length key) c.args.words.now c.row-held.result.now
+    (c.requires.ways i 0 (omega arith)) c.requires.flat c.row-held.ensures in
     let more = c.compare-compared.ensures.looked in
     let kept = c.loop-i.invariant.looked in
     record {

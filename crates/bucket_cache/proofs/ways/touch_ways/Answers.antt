@@ -2,7 +2,8 @@ use Rattle.std.proofs.Common.{◌≡◌, ◌∙◌, ◌+◌, ◌<◌, true, leng
 use Rattle.bucket_cache.specs.Slices.{rows_of}
 use Rattle.bucket_cache.specs.Buckets.{pairs_at, IsBucket}
 use Rattle.bucket_cache.specs.Touches.{with_front}
-use Rattle.bucket_cache.proofs.BucketLists.{Matches, matches-front, in-front, hit-has, hit-place, hit-pairs, hit-bucket, none-in-front, free-pairs, free-bucket, least-pair, few-pairs}
+use Rattle.bucket_cache.proofs.BucketLists.{Matches, matches-front, in-front, hit-has, hit-place, hit-pairs, hit-bucket, none-in-front}
+use Rattle.bucket_cache.proofs.BucketLists.{free-pairs, free-bucket, least-pair, few-pairs}
 use Rattle.bucket_cache.proofs.ways.touch_ways.Goals as goal
 
 pub returns-in-Some-clause-bucket : goal.returns-in-Some-clause-bucket
@@ -13,7 +14,8 @@ returns-in-Some-clause-bucket g c =
     let at = c.in-Some.at in
     let found = c.in-Some.ensures.found in
     subst (λ o. IsBucket c.args.first (length key) c.args.used.now o keys) (sym c.move_to_front.ensures.moved)
-    (hit-bucket c.args.first (length key) c.args.used.now at order keys key c.requires.bucket (in-front c.args.used.now at order c.requires.bucket.within found) found
+    (hit-bucket c.args.first (length key) c.args.used.now at order keys key c.requires.bucket
+    (in-front c.args.used.now at order c.requires.bucket.within found) found
     (matches-front c.args.used.now at order keys key true found c.in-Some.ensures.same))
 
 pub returns-in-Some-clause-touched : goal.returns-in-Some-clause-touched

@@ -8,7 +8,8 @@ loop-row-preserved g c =
     let m = g.C.Coeff in
     let later = table_of m.from_words m.WORDS c.args.n c.args.later.now in
     let earlier = table_of m.from_words m.WORDS c.args.n c.args.earlier.now in record {
-      entries = rows_step (stored_at m.WORDS c.loop-row.scratch) (stored_at m.WORDS c.compose_row.new.scratch) (λ i j. m.words (map_compose m.elements c.args.n later earlier i j))
+      entries = rows_step (stored_at m.WORDS c.loop-row.scratch) (stored_at m.WORDS c.compose_row.new.scratch)
+          (λ i j. m.words (map_compose m.elements c.args.n later earlier i j))
           c.args.n c.loop-row.row c.loop-row.invariant.entries c.compose_row.ensures.before c.compose_row.ensures.entries;
       steps = omega (arith, c.loop-row.invariant.steps, c.compose_row.ensures.steps);
     }
@@ -19,4 +20,5 @@ returns-clause-composed g c i j hi hj =
     let later = table_of m.from_words m.WORDS c.args.n c.args.later.now in
     let earlier = table_of m.from_words m.WORDS c.args.n c.args.earlier.now in
     ap (λ ws. m.from_words (stored_entry m.WORDS c.args.n ws i j)) c.copy_words.ensures.words
-    ∙ ap m.from_words (c.loop-row.invariant.entries i j (omega arith) hj) ∙ g.met.C.Coeff.storage.load_store (map_compose m.elements c.args.n later earlier i j)
+    ∙ ap m.from_words (c.loop-row.invariant.entries i j (omega arith) hj)
+    ∙ g.met.C.Coeff.storage.load_store (map_compose m.elements c.args.n later earlier i j)

@@ -16,7 +16,8 @@ returns-in_err-query-clause-err g c =
 
 pub returns-in-Some-clause-err : goal.returns-in-Some-clause-err
 returns-in-Some-clause-err g c =
-    own_refused net_fault (g.I.Inputs.input c.args.inputs.now Query).left c.in_ok-query.query.typed c.in-Some.fault c.in_ok-query.ensures.ok (sym c.net_check.ensures ∙ c.in-Some.is)
+    own_refused net_fault (g.I.Inputs.input c.args.inputs.now Query).left c.in_ok-query.query.typed c.in-Some.fault c.in_ok-query.ensures.ok
+    (sym c.net_check.ensures ∙ c.in-Some.is)
 
 pub returns-in-None-clause-tells : goal.returns-in-None-clause-tells
 returns-in-None-clause-tells g c =

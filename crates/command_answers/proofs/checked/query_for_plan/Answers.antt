@@ -16,4 +16,5 @@ returns-in_err-query-clause-err g c =
 
 pub returns-in-Some-clause-err : goal.returns-in-Some-clause-err
 returns-in-Some-clause-err g c =
-    own_refused final_fault (g.I.Inputs.input c.args.inputs.now Query).left c.in_ok-query.query.typed c.in-Some.fault c.in_ok-query.ensures.ok (sym c.final_in_plan.ensures ∙ c.in-Some.is)
+    own_refused final_fault (g.I.Inputs.input c.args.inputs.now Query).left c.in_ok-query.query.typed c.in-Some.fault
+    c.in_ok-query.ensures.ok (sym c.final_in_plan.ensures ∙ c.in-Some.is)

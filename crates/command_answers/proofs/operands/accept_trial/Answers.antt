@@ -9,7 +9,8 @@ use Rattle.accepted_query.specs.declared.answer.QueryError.TheVariants.{Refused}
 use Rattle.command_answers.proofs.operands.accept_trial.Goals as goal
 
 -- the trial's query isn't refused
-never : (text : List ℕ) (answer : QueryError) (fault : QueryFault) → text ≡ trial_query → (q : TypedQuery) × (accepted trial_query ≡ Ok q) → answer ≡ Refused fault → IsAnswerTo text answer → ⊥
+never : (text : List ℕ) (answer : QueryError) (fault : QueryFault) → text ≡ trial_query → (q : TypedQuery) × (accepted trial_query ≡ Ok q)
+    → answer ≡ Refused fault → IsAnswerTo text answer → ⊥
 never text answer fault same trial is told =
     let refused : accepted text ≡ Err fault = subst (IsAnswerTo text) is told in
     let both : Ok trial.0 ≡ Err fault = sym trial.1 ∙ ap accepted (sym same) ∙ refused in

@@ -18,7 +18,8 @@ returns-in_err-write_tables-clause-breaks_off g c =
     let answer = c.in_err-write_tables.field-0.0 in
     err_is (BreaksOff g.O.Sink.taken g.O.Sink.faults whole None old new) c.from_residual.result (answer_of answer) c.from_residual.ensures.1
     (unwritten g.O.Sink.taken g.O.Sink.faults whole None old new refl answer (λ is. c.in_err-write_tables.ensures.failed (ap Err is))
-    (subst (λ first. TakesFront (g.O.Sink.taken old) (g.O.Sink.taken new) (first ++ whole)) c.new-text.ensures c.in_err-write_tables.ensures.err))
+    (subst (λ first. TakesFront (g.O.Sink.taken old) (g.O.Sink.taken new) (first ++ whole)) c.new-text.ensures
+    c.in_err-write_tables.ensures.err))
 
 pub returns-in_err-write_rest-clause-breaks_off : goal.returns-in_err-write_rest-clause-breaks_off
 returns-in_err-write_rest-clause-breaks_off g c =
@@ -28,11 +29,14 @@ returns-in_err-write_rest-clause-breaks_off g c =
     let mid = c.write_tables.new.out in
     let new = c.write_rest.new.out in
     let waits = c.write_tables.new.text in
-    err_is (BreaksOff g.O.Sink.taken g.O.Sink.faults whole None old new) c.from_residual-in_err-write_rest.result Failed c.from_residual-in_err-write_rest.ensures.1 (
+    err_is (BreaksOff g.O.Sink.taken g.O.Sink.faults whole None old new) c.from_residual-in_err-write_rest.result Failed
+    c.from_residual-in_err-write_rest.ensures.1 (
       refl,
-      rose_since (g.O.Sink.faults old) (g.O.Sink.faults mid) (g.O.Sink.faults new) c.write_tables.ensures.out_later c.in_err-write_rest.ensures.cause.failed,
+      rose_since (g.O.Sink.faults old) (g.O.Sink.faults mid) (g.O.Sink.faults new) c.write_tables.ensures.out_later
+          c.in_err-write_rest.ensures.cause.failed,
       front_taken (g.O.Sink.taken old) (g.O.Sink.taken mid) (g.O.Sink.taken new) waits whole
-          (subst (λ first. TakesAllBut (g.O.Sink.taken old) (g.O.Sink.taken mid) waits (first ++ whole)) c.new-text.ensures c.in_ok-write_tables.ensures.ok) c.in_err-write_rest.ensures.front,
+          (subst (λ first. TakesAllBut (g.O.Sink.taken old) (g.O.Sink.taken mid) waits (first ++ whole)) c.new-text.ensures
+          c.in_ok-write_tables.ensures.ok) c.in_err-write_rest.ensures.front,
     )
 
 pub returns-clause-written : goal.returns-clause-written
@@ -43,4 +47,5 @@ returns-clause-written g c =
     let mid = g.O.Sink.taken c.write_tables.new.out in
     let waits = c.write_tables.new.text in
     rest_taken old mid (g.O.Sink.taken c.write_rest.new.out) waits whole
-    (subst (λ first. TakesAllBut old mid waits (first ++ whole)) c.new-text.ensures c.in_ok-write_tables.ensures.ok) c.in_ok-write_rest.ensures.ok
+    (subst (λ first. TakesAllBut old mid waits (first ++ whole)) c.new-text.ensures c.in_ok-write_tables.ensures.ok)
+    c.in_ok-write_rest.ensures.ok

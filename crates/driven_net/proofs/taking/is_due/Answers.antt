@@ -25,7 +25,8 @@ returns-clause-clocks c lag are =
     let clocks = c.args.clocks.now in
     let at = c.args.at in
     let below : at < length clocks = subst (λ n. at < n) (sym are.count) c.requires.at in
-    still_clocks clocks at (get_or clocks at none) c.is_due.new.self (got_here clocks at none below) c.is_due.ensures.counted lag c.is_due.ensures.every are
+    still_clocks clocks at (get_or clocks at none) c.is_due.new.self (got_here clocks at none below) c.is_due.ensures.counted lag
+    c.is_due.ensures.every are
 
 pub returns-clause-counts : goal.returns-clause-counts
 returns-clause-counts c =

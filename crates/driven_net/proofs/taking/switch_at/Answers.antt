@@ -52,7 +52,8 @@ returns-else-at-before-clause-follows g c lag packets f =
     let test = c.if-at-before.false in
     let apart : at ≢ length known = grind (arith, nat_tests) in
     let same = known_same known s (λ e. apart (sym place ∙ e)) in
-    subst (λ ks. (n : NetFollows g.row.WAYS lag ks packets c.args.network.now) × (n.events ≡ f.events)) (sym (c.in-Ok.ensures.known ∙ same)) (f, refl)
+    subst (λ ks. (n : NetFollows g.row.WAYS lag ks packets c.args.network.now) × (n.events ≡ f.events)) (sym (c.in-Ok.ensures.known ∙ same))
+    (f, refl)
 
 pub returns-in-Ok-add_switch-clause-switches : goal.returns-in-Ok-add_switch-clause-switches
 returns-in-Ok-add_switch-clause-switches g c =
@@ -68,4 +69,5 @@ returns-in-Ok-add_switch-clause-switches g c =
     let end : at ≡ length known = grind (arith, nat_tests) in
     let last : place_among known s ≡ length known = place ∙ end in
     let after = c.in-Ok.ensures.known ∙ known_more known s last (omega arith) in
-    c.in-Ok-add_switch.ensures.grows.switches ∙ (ap (λ n. n + 1) c.requires.switches ∙ (sym (length-append known (s ∷ [])) ∙ ap length (sym after)))
+    c.in-Ok-add_switch.ensures.grows.switches ∙ (ap (λ n. n + 1) c.requires.switches
+    ∙ (sym (length-append known (s ∷ [])) ∙ ap length (sym after)))

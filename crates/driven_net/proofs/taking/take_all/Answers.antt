@@ -1,4 +1,5 @@
-use Rattle.std.proofs.Common.{◌≡◌, ◌+◌, ◌++◌, suc, Ok, [], ◌∷◌, length, replicate, refl, sym, ap, ◌∙◌, subst, arith, append_assoc, length-append}
+use Rattle.std.proofs.Common.{◌≡◌, ◌+◌, ◌++◌, suc, Ok, [], ◌∷◌, length, replicate, refl, sym, ap, ◌∙◌, subst, arith, append_assoc}
+use Rattle.std.proofs.Common.{length-append}
 use Rattle.std.proofs.Math.Facts.{Fits-below}
 use Rattle.std.proofs.lemmas.List.{length-map}
 use Rattle.trace_drive.specs.Drives.{words_of}
@@ -15,9 +16,14 @@ pub packets-init : goal.packets-init
 packets-init g c =
     let trace = c.args.trace in
     let start = follows_start g.row.WAYS c.args.lag c.args.network c.requires.switches c.requires.fresh in
-    let fresh : (f : NetFollows g.row.WAYS c.args.lag c.new-known.result [] c.args.network) × HaveCounted f.events (replicate 64 c.new-clocks.result) =
-    subst (λ ks. (f : NetFollows g.row.WAYS c.args.lag ks [] c.args.network) × HaveCounted f.events (replicate 64 c.new-clocks.result)) (sym c.new-known.ensures)
-    (start.0, subst (λ es. HaveCounted es (replicate 64 c.new-clocks.result)) (sym start.1) (none_counted c.new-clocks.result c.new-clocks.ensures.counted)) in
+    let fresh : (f : NetFollows g.row.WAYS c.args.lag c.new-known.result [] c.args.network)
+    × HaveCounted f.events (replicate 64 c.new-clocks.result) =
+    subst (λ ks. (f : NetFollows g.row.WAYS c.args.lag ks [] c.args.network) × HaveCounted f.events (replicate 64 c.new-clocks.result))
+    (sym c.new-known.ensures) (
+      start.0,
+      subst (λ es. HaveCounted es (replicate 64 c.new-clocks.result)) (sym start.1)
+          (none_counted c.new-clocks.result c.new-clocks.ensures.counted),
+    ) in
     record {
       fault = ap (λ ks. first_fault ks 1 (words_of trace.packets) trace.fault) (sym c.new-known.ensures);
       follows = ([], refl, refl, fresh.0, fresh.1);
@@ -69,7 +75,12 @@ packets-preserved g c =
         next.0,
         next.1,
       );
-      keeps = record { plan = one.keeps.plan ∙ was.keeps.plan; buckets = one.keeps.buckets ∙ was.keeps.buckets; pipe_records = one.keeps.pipe_records ∙ was.keeps.pipe_records };
+      keeps = record {
+        plan = one.keeps.plan ∙ was.keeps.plan;
+        buckets = one.keeps.buckets ∙ was.keeps.buckets;
+        pipe_records =
+            one.keeps.pipe_records ∙ was.keeps.pipe_records;
+      };
       clocks = c.take_one.ensures.clocks c.args.lag was.clocks;
       later = let a = c.take_one.ensures.steps in let b = was.later in omega arith;
     }

@@ -9,8 +9,10 @@ use Rattle.driven_net.proofs.taking.take_all.Given as goal
 -- the network follows the packets so far, and the fault of the others is that of all
 abbrev pub invariant-packets : goal.invariant-packets
 invariant-packets g l = record {
-  fault : first_fault [] 1 (words_of l.fn.trace.packets) l.fn.trace.fault ≡ first_fault l.known (suc l.number) (words_of l.trace.packets) l.trace.fault;
-  follows : (done : List (List ℕ)) × (words_of l.fn.trace.packets ≡ done ++ words_of l.trace.packets) × (l.number ≡ length done) × (f : NetFollows g.row.WAYS l.lag l.known done l.network) × HaveCounted f.events l.clocks;
+  fault : first_fault [] 1 (words_of l.fn.trace.packets) l.fn.trace.fault ≡ first_fault l.known (suc l.number) (words_of l.trace.packets)
+      l.trace.fault;
+  follows : (done : List (List ℕ)) × (words_of l.fn.trace.packets ≡ done ++ words_of l.trace.packets) × (l.number ≡ length done)
+      × (f : NetFollows g.row.WAYS l.lag l.known done l.network) × HaveCounted f.events l.clocks;
   keeps : Keeps l.fn.network l.network;
   clocks : AreLagClocks l.lag l.clocks;
   later : l.initial.steps ≤ l.steps;

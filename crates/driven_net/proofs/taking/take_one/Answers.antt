@@ -18,9 +18,11 @@ turn-requires g c =
     let words = c.args.packet.now.words in
     let at = c.in_ok-at.at in
     let same : c.get.result ≡ switch_in words = switch_is words c.get.result c.get.ensures in
-    let number : switch_number known (switch_in words) ≡ Some at = subst (λ s. switch_number known s ≡ Some at) same c.in_ok-at.ensures.at in
+    let number : switch_number known (switch_in words) ≡ Some at = subst (λ s. switch_number known s ≡ Some at) same
+    c.in_ok-at.ensures.at in
     let after : c.switch_at.new.known ≡ with_switch known (switch_in words) = c.in_ok-at.ensures.known ∙ ap (with_switch known) same in
-    let within : at < length c.switch_at.new.known = subst (λ ks. at < length ks) (sym after) (number_stays known (switch_in words) at number).1 in
+    let within : at < length c.switch_at.new.known = subst (λ ks. at < length ks) (sym after)
+    (number_stays known (switch_in words) at number).1 in
     (lit< tt, subst (λ n. at < n) (sym c.in_ok-at.ensures.switches) within)
 
 pub returns-in-Ok-clause-numbered : goal.returns-in-Ok-clause-numbered
@@ -39,19 +41,22 @@ returns-in-Ok-clause-follows g c lag packets f are counted =
     let mid = c.switch_at.new.network in
     let over = c.is_due-lag_over.result in
     let same : c.get.result ≡ switch_in words = switch_is words c.get.result c.get.ensures in
-    let number : switch_number known (switch_in words) ≡ Some at = subst (λ s. switch_number known s ≡ Some at) same c.in_ok-at.ensures.at in
+    let number : switch_number known (switch_in words) ≡ Some at = subst (λ s. switch_number known s ≡ Some at) same
+    c.in_ok-at.ensures.at in
     let after : now ≡ with_switch known (switch_in words) = c.in_ok-at.ensures.known ∙ ap (with_switch known) same in
     let stays = number_stays known (switch_in words) at number in
     let few = (number_is known (switch_in words) at number).1 in
     let m = c.in_ok-at.ensures.follows lag packets f in
     let clock = got_some clocks at (subst (λ n. at < n) (sym are.count) few) in
     let struck : is_refresh lag (suc (taken_by at (m.0).events)) ≡ over =
-    sym (c.is_due-lag_over.ensures.is_due lag (taken_by at (m.0).events) clock.0 are clock.1 (subst (λ es. HasCounted (taken_by at es) clock.0) (sym m.1) (counted at clock.0 clock.1))) in
+    sym (c.is_due-lag_over.ensures.is_due lag (taken_by at (m.0).events) clock.0 are clock.1
+    (subst (λ es. HasCounted (taken_by at es) clock.0) (sym m.1) (counted at clock.0 clock.1))) in
     let n = follows_turn c.runs_follow_events.ensures g.row.WAYS lag now packets words at over mid c.turn.new.self c.in-Ok.ensures.runs
     (ap (λ ks. place_among ks (switch_in words)) after ∙ stays.0) (subst (λ ks. at < length ks) (sym after) stays.1) m.0 struck in (
       n.0,
       subst (λ es. HaveCounted es c.is_due-lag_over.new.clocks) (sym n.1)
-          (counted_on at words over mid (m.0).events clocks c.is_due-lag_over.new.clocks clock.0 clock.1 (subst (λ es. HaveCounted es clocks) (sym m.1) counted) c.is_due-lag_over.ensures.counts),
+          (counted_on at words over mid (m.0).events clocks c.is_due-lag_over.new.clocks clock.0 clock.1
+          (subst (λ es. HaveCounted es clocks) (sym m.1) counted) c.is_due-lag_over.ensures.counts),
     )
 
 pub returns-in-Ok-clause-keeps : goal.returns-in-Ok-clause-keeps

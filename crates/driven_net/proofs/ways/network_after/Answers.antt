@@ -11,6 +11,7 @@ if_ok_two P Q R (Err e) h p q = tt
 pub returns-clause-pipe_places : goal.returns-clause-pipe_places
 returns-clause-pipe_places g c =
     let fresh = c.in-Ok.fresh in
-    if_ok_two (Keeps fresh) (IsNetwork g.row.WAYS) (λ (found : NetworkView). AllHavePlaces c.args.setting.pipe found.groups) c.take_all.result
+    if_ok_two (Keeps fresh) (IsNetwork g.row.WAYS) (λ (found : NetworkView). AllHavePlaces c.args.setting.pipe found.groups)
+    c.take_all.result
     (λ found keeps is. subst (λ n. AllHavePlaces n found.groups) (keeps.pipe_records ∙ c.in-Ok.ensures.pipe) is.pipes)
     c.take_all.ensures.keeps c.take_all.ensures.known

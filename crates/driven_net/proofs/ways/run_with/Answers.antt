@@ -15,10 +15,12 @@ use Rattle.driven_net.proofs.Ends.{text_is}
 use Rattle.driven_net.proofs.ways.run_with.Goals as goal
 
 -- what is printed of the tables of a network with these buckets
-text_of : (q : TypedQuery) (buckets set ways : ℕ) (packets : List (List ℕ)) (tables : List Table) → buckets ≡ set → tables ≡ net_tables q (caches_of buckets ways) packets
+text_of : (q : TypedQuery) (buckets set ways : ℕ) (packets : List (List ℕ)) (tables : List Table) → buckets ≡ set
+    → tables ≡ net_tables q (caches_of buckets ways) packets
     → printed q (with_finals q.names q.folds tables q.finals) ≡ net_text q set ways packets
 text_of q buckets set ways packets tables same are =
-    text_is q buckets ways packets tables (printed q (with_finals q.names q.folds tables q.finals)) are refl ∙ ap (λ b. net_text q b ways packets) same
+    text_is q buckets ways packets tables (printed q (with_finals q.names q.folds tables q.finals)) are refl
+    ∙ ap (λ b. net_text q b ways packets) same
 
 pub returns-in_err-network-clause-breaks_off : goal.returns-in_err-network-clause-breaks_off
 returns-in_err-network-clause-breaks_off g c =
@@ -27,8 +29,10 @@ returns-in_err-network-clause-breaks_off g c =
     let answer = c.in_err-network.field-0.0 in
     let text = net_text c.args.query.typed c.args.setting.buckets g.row.WAYS (words_of trace.packets) in
     let fault = first_fault [] 1 (words_of trace.packets) trace.fault in
-    err_is (BreaksOff g.O.Sink.taken g.O.Sink.faults text fault out out) c.from_residual.result (answer_for answer) c.from_residual.ensures.1
-    (reader_breaks g.O.Sink.taken g.O.Sink.faults text fault out out [] text refl (λ found is. (refl, refl)) (Appends-nil (g.O.Sink.taken out)) answer c.in_err-network.ensures.refused)
+    err_is (BreaksOff g.O.Sink.taken g.O.Sink.faults text fault out out) c.from_residual.result (answer_for answer)
+    c.from_residual.ensures.1
+    (reader_breaks g.O.Sink.taken g.O.Sink.faults text fault out out [] text refl (λ found is. (refl, refl))
+    (Appends-nil (g.O.Sink.taken out)) answer c.in_err-network.ensures.refused)
 
 pub returns-in_err-tables-clause-breaks_off : goal.returns-in_err-tables-clause-breaks_off
 returns-in_err-tables-clause-breaks_off g c =
@@ -36,7 +40,8 @@ returns-in_err-tables-clause-breaks_off g c =
     let trace = c.args.trace in
     let text = net_text c.args.query.typed c.args.setting.buckets g.row.WAYS (words_of trace.packets) in
     let fault = first_fault [] 1 (words_of trace.packets) trace.fault in
-    err_is (BreaksOff g.O.Sink.taken g.O.Sink.faults text fault out out) c.from_residual-in_err-tables.result Memory c.from_residual-in_err-tables.ensures.1
+    err_is (BreaksOff g.O.Sink.taken g.O.Sink.faults text fault out out) c.from_residual-in_err-tables.result Memory
+    c.from_residual-in_err-tables.ensures.1
     (out_of_memory g.O.Sink.taken g.O.Sink.faults text fault out)
 
 pub returns-clause-accepted : goal.returns-clause-accepted
@@ -49,8 +54,10 @@ returns-clause-written g c =
     let f = c.in_ok-network.ensures.follows in
     let network = c.in_ok-network.network in
     let tables = c.in_ok-tables.tables in
-    let is = text_of q network.buckets c.args.setting.buckets g.row.WAYS packets tables c.in_ok-network.ensures.buckets (c.in_ok-tables.ensures.tables c.args.setting.lag f.0 packets c.requires.whole f.1) in
-    subst (λ text. OnOk c.write_text.result (Appends (g.O.Sink.taken c.args.out.now) (g.O.Sink.taken c.write_text.new.out) text)) is c.write_text.ensures.written
+    let is = text_of q network.buckets c.args.setting.buckets g.row.WAYS packets tables c.in_ok-network.ensures.buckets
+    (c.in_ok-tables.ensures.tables c.args.setting.lag f.0 packets c.requires.whole f.1) in
+    subst (λ text. OnOk c.write_text.result (Appends (g.O.Sink.taken c.args.out.now) (g.O.Sink.taken c.write_text.new.out) text)) is
+    c.write_text.ensures.written
 
 pub returns-clause-breaks_off : goal.returns-clause-breaks_off
 returns-clause-breaks_off g c =
@@ -62,6 +69,9 @@ returns-clause-breaks_off g c =
     let old = c.args.out.now in
     let new = c.write_text.new.out in
     let text = net_text q c.args.setting.buckets g.row.WAYS packets in
-    let is = text_of q network.buckets c.args.setting.buckets g.row.WAYS packets tables c.in_ok-network.ensures.buckets (c.in_ok-tables.ensures.tables c.args.setting.lag f.0 packets c.requires.whole f.1) in
-    subst (λ fault. IfErr c.write_text.result (BreaksOff g.O.Sink.taken g.O.Sink.faults text fault old new)) (sym c.in_ok-network.ensures.accepted)
-    (subst (λ text. IfErr c.write_text.result (BreaksOff g.O.Sink.taken g.O.Sink.faults text None old new)) is c.write_text.ensures.breaks_off)
+    let is = text_of q network.buckets c.args.setting.buckets g.row.WAYS packets tables c.in_ok-network.ensures.buckets
+    (c.in_ok-tables.ensures.tables c.args.setting.lag f.0 packets c.requires.whole f.1) in
+    subst (λ fault. IfErr c.write_text.result (BreaksOff g.O.Sink.taken g.O.Sink.faults text fault old new))
+    (sym c.in_ok-network.ensures.accepted)
+    (subst (λ text. IfErr c.write_text.result (BreaksOff g.O.Sink.taken g.O.Sink.faults text None old new)) is
+    c.write_text.ensures.breaks_off)

@@ -13,9 +13,11 @@ returns-clause-ok g c =
     let number = c.args.number in
     let none : bounds_at bounds number ≡ None = elim c.if-number-len.branch [
       | then-number-len+in_default w ↦ ap (option_and_then (λ one. one)) (w.get.ensures ∙ ap Some w.in_default.is)
-      | else-number-len w ↦ ap (option_and_then (λ one. one)) (slice_get_past bounds number (omega (arith, w.if-number-len.false, c.len.ensures)))
+      | else-number-len w ↦ ap (option_and_then (λ one. one)) (slice_get_past bounds number
+          (omega (arith, w.if-number-len.false, c.len.ensures)))
     ] in
-    subst (λ text. OnOk c.write_table.result (TakesAllBut (g.O.Sink.taken c.args.out.now) (g.O.Sink.taken c.write_table.new.out) c.write_table.new.text (c.args.text.now ++ text)))
+    subst (λ text. OnOk c.write_table.result (TakesAllBut (g.O.Sink.taken c.args.out.now) (g.O.Sink.taken c.write_table.new.out)
+    c.write_table.new.text (c.args.text.now ++ text)))
     (sym (table_text_at bounds c.args.tables.now number c.get-2.result.now c.get-2.ensures none)) c.write_table.ensures.ok
 
 pub returns-clause-err : goal.returns-clause-err
@@ -24,7 +26,9 @@ returns-clause-err g c =
     let number = c.args.number in
     let none : bounds_at bounds number ≡ None = elim c.if-number-len.branch [
       | then-number-len+in_default w ↦ ap (option_and_then (λ one. one)) (w.get.ensures ∙ ap Some w.in_default.is)
-      | else-number-len w ↦ ap (option_and_then (λ one. one)) (slice_get_past bounds number (omega (arith, w.if-number-len.false, c.len.ensures)))
+      | else-number-len w ↦ ap (option_and_then (λ one. one)) (slice_get_past bounds number
+          (omega (arith, w.if-number-len.false, c.len.ensures)))
     ] in
-    subst (λ text. OnErr c.write_table.result (TakesFront (g.O.Sink.taken c.args.out.now) (g.O.Sink.taken c.write_table.new.out) (c.args.text.now ++ text)))
+    subst (λ text. OnErr c.write_table.result (TakesFront (g.O.Sink.taken c.args.out.now) (g.O.Sink.taken c.write_table.new.out)
+    (c.args.text.now ++ text)))
     (sym (table_text_at bounds c.args.tables.now number c.get-2.result.now c.get-2.ensures none)) c.write_table.ensures.err

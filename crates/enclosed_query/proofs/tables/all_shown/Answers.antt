@@ -5,4 +5,5 @@ use Rattle.enclosed_query.proofs.ReadTables.{all_whole}
 use Rattle.enclosed_query.proofs.tables.all_shown.Goals as goal
 
 pub returns-clause-whole : goal.returns-clause-whole
-returns-clause-whole c = subst (All IsWhole) (sym c.in_ok-made.ensures) (all_whole c.triples_give_whole_tables.ensures c.args.tables c.requires)
+returns-clause-whole c = subst (All IsWhole) (sym c.in_ok-made.ensures)
+    (all_whole c.triples_give_whole_tables.ensures c.args.tables c.requires)

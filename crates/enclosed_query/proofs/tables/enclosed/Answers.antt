@@ -26,5 +26,6 @@ pub returns-clause-tables : goal.returns-clause-tables
 returns-clause-tables g c q of packets ends =
     let p = c.args.pipeline.now in
     c.in_ok-made.ensures.made ∙ ap (map shown) (c.in_ok-tables.ensures (end_machines p.plan of packets) ends.stands)
-    ∙ c.ends_give_enclosed_tables.ensures.tables q p.plan p.buckets p.lanes of packets ends.valid ends.plan (subst IsSoundPlan c.plan.ensures c.invariant-2.ensures)
+    ∙ c.ends_give_enclosed_tables.ensures.tables q p.plan p.buckets p.lanes of packets ends.valid ends.plan
+    (subst IsSoundPlan c.plan.ensures c.invariant-2.ensures)
     (subst (λ entries. AreLanesOf entries p.plan p.buckets p.lanes) c.requires.entries c.invariant.ensures) ends.room ends.whole

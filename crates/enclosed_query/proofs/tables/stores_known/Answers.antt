@@ -15,8 +15,13 @@ loop-i-preserved g c n lane below at =
     (λ e.
     let least = ltb-false n i e in
     let same : n ≡ i = omega (arith, below, least) in
-    let is : c.lane-lane.result.now ≡ lane = same_some c.lane-lane.result.now lane (sym c.lane-lane.ensures.lane ∙ (ap (slice_get c.args.pipeline.now.lanes) (sym same) ∙ at)) in
-    subst HasStoredKeys is (record { store = subst IsStore c.store.ensures c.invariant-in-loop-i.ensures; words = c.invariant.ensures.store.key }))
+    let is : c.lane-lane.result.now ≡ lane = same_some c.lane-lane.result.now lane
+    (sym c.lane-lane.ensures.lane ∙ (ap (slice_get c.args.pipeline.now.lanes) (sym same) ∙ at)) in
+    subst HasStoredKeys is (record {
+      store = subst IsStore c.store.ensures c.invariant-in-loop-i.ensures;
+      words =
+          c.invariant.ensures.store.key;
+    }))
 
 pub returns : goal.returns
 returns g c n lane at =

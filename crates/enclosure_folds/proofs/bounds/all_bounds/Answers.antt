@@ -18,7 +18,8 @@ loop-at-preserved c =
           let last : goes_on row.key rest ≡ false = search rules in
           let first = next ∙ rw last refl in
           let made = w.in_ok-push.ensures.ok ∙ ap (λ bounds. c.loop-at.made ++ bounds ∷ []) w.in_ok-row_bounds.ensures in
-          rw w.made-is (ap (λ all. all ++ bounds_in states rest) made ∙ (append_assoc c.loop-at.made (row_bounds states row ∷ []) (bounds_in states rest)
+          rw w.made-is (ap (λ all. all ++ bounds_in states rest) made ∙ (append_assoc c.loop-at.made (row_bounds states row ∷ [])
+          (bounds_in states rest)
           ∙ (ap (λ all. c.loop-at.made ++ all) (sym first) ∙ c.loop-at.invariant)))
       | else-not-goes_on w ↦
           let more : goes_on row.key rest ≡ true = search rules in

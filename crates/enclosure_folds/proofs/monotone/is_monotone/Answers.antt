@@ -8,4 +8,5 @@ use Rattle.enclosure_folds.proofs.monotone.is_monotone.Goals as goal
 pub returns : goal.returns
 returns c =
     c.has_no_other.ensures
-    ∙ same_fixed role c.args.f.now (flag_in (replicate 8 false)) none_fixed (λ v lt. get_or-replicate 8 v false false (omega (arith, lt, c.requires.states)))
+    ∙ same_fixed role c.args.f.now (flag_in (replicate 8 false)) none_fixed
+    (λ v lt. get_or-replicate 8 v false false (omega (arith, lt, c.requires.states)))

@@ -1,4 +1,6 @@
-use Rattle.enclosure_folds.proofs.MonotoneExampleFacts.{decayed_sum_found, clamped_found, wrapping_sum_found, shifted_left_found, choice_by_argument_found, choice_by_state_found, overwritten_found, decayed_sum_bounds, clamped_bounds}
+use Rattle.enclosure_folds.proofs.MonotoneExampleFacts.{decayed_sum_found, clamped_found, wrapping_sum_found, shifted_left_found}
+use Rattle.enclosure_folds.proofs.MonotoneExampleFacts.{choice_by_argument_found, choice_by_state_found, overwritten_found}
+use Rattle.enclosure_folds.proofs.MonotoneExampleFacts.{decayed_sum_bounds, clamped_bounds}
 use Rattle.enclosure_folds.proofs.monotone_laws.small_folds.Goals as goal
 
 pub returns : goal.returns

@@ -6,4 +6,5 @@ use Rattle.enclosure_folds.proofs.printer.push_states.Given as goal
 
 -- what is written, and then what is left, make the whole
 abbrev pub invariant-loop-name : goal.invariant-loop-name
-invariant-loop-name l = l.text ++ continued (flat_map bound_names (drop l.name-index l.names)) ≡ l.fn.text ++ continued (flat_map bound_names l.names)
+invariant-loop-name l = l.text ++ continued (flat_map bound_names (drop l.name-index l.names)) ≡ l.fn.text
+    ++ continued (flat_map bound_names l.names)

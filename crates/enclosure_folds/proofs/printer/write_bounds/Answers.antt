@@ -24,7 +24,8 @@ loop-row-init g c =
     let lines = flat_map line_of t.rows in
     let waiting = c.push_head.new.text ++ lines in
     let whole : waiting ≡ c.args.text.now ++ bounds_text t =
-    ap (λ text. text ++ lines) (c.in_ok-push_head.ensures ∙ append_assoc c.args.text.now (bounds_title t) head) ∙ append_assoc c.args.text.now (bounds_title t ++ head) lines in
+    ap (λ text. text ++ lines) (c.in_ok-push_head.ensures ∙ append_assoc c.args.text.now (bounds_title t) head)
+    ∙ append_assoc c.args.text.now (bounds_title t ++ head) lines in
     record {
       written = subst (TakesAllBut bytes bytes waiting) whole (all_waits bytes waiting);
       out_later = omega arith;
@@ -33,7 +34,8 @@ loop-row-init g c =
 pub returns-in_err-push_row-clause-err : goal.returns-in_err-push_row-clause-err
 returns-in_err-push_row-clause-err g c =
     on_err c.from_residual-in_err-push_row.result _
-    (front_is_taken (g.O.Sink.taken c.args.out.now) (g.O.Sink.taken c.loop-row.out) _ (c.args.text.now ++ bounds_text c.args.t.now) c.loop-row.invariant.written)
+    (front_is_taken (g.O.Sink.taken c.args.out.now) (g.O.Sink.taken c.loop-row.out) _ (c.args.text.now ++ bounds_text c.args.t.now)
+    c.loop-row.invariant.written)
 
 pub returns-in_err-write_when_full-clause-err : goal.returns-in_err-write_when_full-clause-err
 returns-in_err-write_when_full-clause-err g c =
@@ -45,9 +47,11 @@ returns-in_err-write_when_full-clause-err g c =
     let mid = g.O.Sink.taken c.loop-row.out in
     let new = g.O.Sink.taken c.write_when_full.new.out in
     let whole = c.args.text.now ++ bounds_text c.args.t.now in
-    let next = ap (flat_map line_of) (subst (λ rs. drop i rs ≡ row ∷ drop (i + 1) rs) c.as_slice-row-items.ensures (drop_more items i row c.loop-row-test.true ∙ ap (λ r. r ∷ drop (i + 1) items) (sym c.row-item.is))) in
+    let next = ap (flat_map line_of) (subst (λ rs. drop i rs ≡ row ∷ drop (i + 1) rs) c.as_slice-row-items.ensures
+    (drop_more items i row c.loop-row-test.true ∙ ap (λ r. r ∷ drop (i + 1) items) (sym c.row-item.is))) in
     on_err c.from_residual-in_err-write_when_full.result _
-    (part_broke old mid new c.loop-row.text (line_of row) (flat_map line_of (drop (i + 1) rows)) whole (subst (λ left. TakesAllBut old mid (c.loop-row.text ++ left) whole) next c.loop-row.invariant.written)
+    (part_broke old mid new c.loop-row.text (line_of row) (flat_map line_of (drop (i + 1) rows)) whole
+    (subst (λ left. TakesAllBut old mid (c.loop-row.text ++ left) whole) next c.loop-row.invariant.written)
     (subst (TakesFront mid new) c.in_ok-push_row.ensures c.in_err-write_when_full.ensures.front))
 
 pub loop-row-preserved : goal.loop-row-preserved
@@ -61,9 +65,11 @@ loop-row-preserved g c =
     let new = g.O.Sink.taken c.write_when_full.new.out in
     let later = c.write_when_full.new.self in
     let whole = c.args.text.now ++ bounds_text c.args.t.now in
-    let next = ap (flat_map line_of) (subst (λ rs. drop i rs ≡ row ∷ drop (i + 1) rs) c.as_slice-row-items.ensures (drop_more items i row c.loop-row-test.true ∙ ap (λ r. r ∷ drop (i + 1) items) (sym c.row-item.is))) in
+    let next = ap (flat_map line_of) (subst (λ rs. drop i rs ≡ row ∷ drop (i + 1) rs) c.as_slice-row-items.ensures
+    (drop_more items i row c.loop-row-test.true ∙ ap (λ r. r ∷ drop (i + 1) items) (sym c.row-item.is))) in
     record {
-      written = part_more old mid new c.loop-row.text later (line_of row) (flat_map line_of (drop (i + 1) rows)) whole (subst (λ left. TakesAllBut old mid (c.loop-row.text ++ left) whole) next c.loop-row.invariant.written)
+      written = part_more old mid new c.loop-row.text later (line_of row) (flat_map line_of (drop (i + 1) rows)) whole
+          (subst (λ left. TakesAllBut old mid (c.loop-row.text ++ left) whole) next c.loop-row.invariant.written)
           (subst (TakesAllBut mid new later) c.in_ok-push_row.ensures c.in_ok-write_when_full.ensures.ok);
       out_later = omega (arith, c.loop-row.invariant.out_later, c.write_when_full.ensures.cause.later);
     }
@@ -71,6 +77,8 @@ loop-row-preserved g c =
 pub returns-clause-ok : goal.returns-clause-ok
 returns-clause-ok g c =
     let t = c.args.t.now in
-    let none = ap (flat_map line_of) (subst (λ rs. drop c.loop-row.row-index rs ≡ []) c.as_slice-row-items.ensures (drop_all c.loop-row.row-index c.as_slice-row-items.result.now c.loop-row-test.false)) in
-    subst (λ waiting. TakesAllBut (g.O.Sink.taken c.args.out.now) (g.O.Sink.taken c.loop-row.out) waiting (c.args.text.now ++ bounds_text t))
+    let none = ap (flat_map line_of) (subst (λ rs. drop c.loop-row.row-index rs ≡ []) c.as_slice-row-items.ensures
+    (drop_all c.loop-row.row-index c.as_slice-row-items.result.now c.loop-row-test.false)) in
+    subst (λ waiting. TakesAllBut (g.O.Sink.taken c.args.out.now) (g.O.Sink.taken c.loop-row.out) waiting
+    (c.args.text.now ++ bounds_text t))
     (ap (λ text. c.loop-row.text ++ text) none ∙ append-nil c.loop-row.text) c.loop-row.invariant.written

@@ -7,7 +7,8 @@ use Rattle.epoch_entry.proofs.identity.identity_into.Goals as goal
 pub loop-row-preserved : goal.loop-row-preserved
 loop-row-preserved g c =
     let m = g.C.Coeff in record {
-      entries = rows_step (stored_at m.WORDS c.loop-row.map) (stored_at m.WORDS c.identity_row.new.map) (λ i j. m.words (unit_at m.elements i j))
+      entries = rows_step (stored_at m.WORDS c.loop-row.map) (stored_at m.WORDS c.identity_row.new.map)
+          (λ i j. m.words (unit_at m.elements i j))
           c.args.n c.loop-row.row c.loop-row.invariant.entries c.identity_row.ensures.before c.identity_row.ensures.entries;
       steps = omega (arith, c.loop-row.invariant.steps, c.identity_row.ensures.steps);
     }

@@ -16,14 +16,20 @@ returns-clause-moves g c =
     let el = c.as_slice-linear.ensures in
     let eh = c.as_slice-places.ensures in (
       state,
-      column_moved g.met.C.Coeff.algebra m.from_words m.WORDS g.met.C.Coeff.storage p c.requires.shape c.args.args.now c.args.history.now map' c.gather.new.to map'' first state after
+      column_moved g.met.C.Coeff.algebra m.from_words m.WORDS g.met.C.Coeff.storage p c.requires.shape c.args.args.now c.args.history.now
+          map' c.gather.new.to map'' first state after
           c.requires.history
           (c.column_to_state.auto.state ∙ c.scatter.auto.state ∙ c.requires.state)
-          (subst (λ (l : List ℕ). (i : ℕ) → i < length l → slice_index first (slice_index l i) ≡ slice_index c.args.history.now i) eh c.scatter.ensures.written)
-          (subst (λ (l : List ℕ). (i : ℕ) → i < length l → slice_index state (slice_index l i) ≡ m.elements.to_word (table_of m.from_words m.WORDS (length l) map' i (length l))) el c.column_to_state.ensures.written)
-          (subst (λ (l : List ℕ). (v : ℕ) → ((i : ℕ) → i < length l → slice_index l i ≢ v) → slice_index state v ≡ slice_index first v) el c.column_to_state.ensures.others)
+          (subst (λ (l : List ℕ). (i : ℕ) → i < length l → slice_index first (slice_index l i) ≡ slice_index c.args.history.now i) eh
+          c.scatter.ensures.written)
+          (subst (λ (l : List ℕ). (i : ℕ) → i < length l → slice_index state (slice_index l i) ≡ m.elements.to_word
+          (table_of m.from_words m.WORDS (length l) map' i (length l))) el c.column_to_state.ensures.written)
+          (subst (λ (l : List ℕ). (v : ℕ) → ((i : ℕ) → i < length l → slice_index l i ≢ v) → slice_index state v ≡ slice_index first v) el
+          c.column_to_state.ensures.others)
           c.exec.ensures.step
           (c.gather.ensures.words ∙ ap (words_at after) eh)
-          (subst (λ (l : List ℕ). (i : ℕ) → i < length l → stored_entry m.WORDS (length l) map'' i (length l) ≡ m.words (m.elements.embed (slice_index after (slice_index l i)))) el c.state_to_column.ensures.written)
-          (subst (λ (l : List ℕ). (i k : ℕ) → i < length l → k < length l → stored_entry m.WORDS (length l) map'' i k ≡ stored_entry m.WORDS (length l) map' i k) el c.state_to_column.ensures.others),
+          (subst (λ (l : List ℕ). (i : ℕ) → i < length l → stored_entry m.WORDS (length l) map'' i (length l) ≡ m.words
+          (m.elements.embed (slice_index after (slice_index l i)))) el c.state_to_column.ensures.written)
+          (subst (λ (l : List ℕ). (i k : ℕ) → i < length l → k < length l
+          → stored_entry m.WORDS (length l) map'' i k ≡ stored_entry m.WORDS (length l) map' i k) el c.state_to_column.ensures.others),
     )

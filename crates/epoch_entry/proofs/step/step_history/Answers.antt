@@ -10,6 +10,7 @@ returns-clause-remembers g c =
     let eh = c.as_slice-places.ensures in (
       state,
       history_written p c.args.history.now state c.requires.history (c.scatter.auto.state ∙ c.requires.state)
-          (subst (λ (l : List ℕ). (i : ℕ) → i < length l → slice_index state (slice_index l i) ≡ slice_index c.args.history.now i) eh c.scatter.ensures.written),
+          (subst (λ (l : List ℕ). (i : ℕ) → i < length l → slice_index state (slice_index l i) ≡ slice_index c.args.history.now i) eh
+          c.scatter.ensures.written),
       c.gather.ensures.words ∙ ap (words_at c.exec.new.state) eh ∙ ap (λ s. words_at s p.layout.history) c.exec.ensures.step,
     )

@@ -10,12 +10,14 @@ use Rattle.final_queries.proofs.grouped.fold_rows.Goals as goal
 
 pub fold_row-requires-clause-keys : goal.fold_row-requires-clause-keys
 fold_row-requires-clause-keys g c =
-    let wide = holds_at (λ row. length (columns_of row) ≡ c.args.width) c.args.rows.now c.loop-at.at (row_of c.get-row.result) c.requires.rows c.get-row.ensures in
+    let wide = holds_at (λ row. length (columns_of row) ≡ c.args.width) c.args.rows.now c.loop-at.at (row_of c.get-row.result)
+    c.requires.rows c.get-row.ensures in
     subst (λ width. AreSlots width c.args.keys.now) (sym (ap length c.get-row.result.joined ∙ wide)) c.requires.keys
 
 pub fold_row-requires-clause-args : goal.fold_row-requires-clause-args
 fold_row-requires-clause-args g c =
-    let wide = holds_at (λ row. length (columns_of row) ≡ c.args.width) c.args.rows.now c.loop-at.at (row_of c.get-row.result) c.requires.rows c.get-row.ensures in
+    let wide = holds_at (λ row. length (columns_of row) ≡ c.args.width) c.args.rows.now c.loop-at.at (row_of c.get-row.result)
+    c.requires.rows c.get-row.ensures in
     subst (λ width. AreSlots width c.args.args.now) (sym (ap length c.get-row.result.joined ∙ wide)) c.requires.args
 
 pub loop-at-preserved : goal.loop-at-preserved
@@ -24,9 +26,11 @@ loop-at-preserved g c =
     let more = epochs_more c.args.keys.now c.args.args.now c.args.rows.now c.loop-at.at row c.get-row.ensures in
     let now = c.loop-at.invariant in
     record {
-      holds = λ f code start. subst (StoreHolds (whole_folding f) c.fold_row.new.store) more (c.in_ok-fold_row.ensures.ok f _ code start (now.holds f code start));
+      holds = λ f code start. subst (StoreHolds (whole_folding f) c.fold_row.new.store) more
+          (c.in_ok-fold_row.ensures.ok f _ code start (now.holds f code start));
       key_words = now.key_words ∙ sym c.fold_row.ensures.key_words;
       state_words = now.state_words ∙ sym c.fold_row.ensures.state_words;
-      scratch = let kept = c.fold_row.auto.scratch in let lent = c.deref_mut.ensures.len in let all = c.loop-at.scratch.ok in let same = ap length c.deref_mut.ensures.value in simp (length-take, length-append, length-drop) (omega (arith, now.scratch));
+      scratch = let kept = c.fold_row.auto.scratch in let lent = c.deref_mut.ensures.len in let all = c.loop-at.scratch.ok in let same =
+          ap length c.deref_mut.ensures.value in simp (length-take, length-append, length-drop) (omega (arith, now.scratch));
       steps = let s = c.fold_row.ensures.steps in omega (arith, now.steps);
     }

@@ -10,7 +10,8 @@ use Rattle.final_queries.proofs.grouped.fold_rows.Given as goal
 -- the store holds the rows so far
 abbrev pub invariant-loop-at : goal.invariant-loop-at
 invariant-loop-at g l = record {
-  holds : (f : TypedFold) → IsCodeOf f l.code → initial_state f ≡ l.start → StoreHolds (whole_folding f) l.store (row_epochs l.keys l.args (reads (take l.at l.rows)));
+  holds : (f : TypedFold) → IsCodeOf f l.code → initial_state f ≡ l.start
+      → StoreHolds (whole_folding f) l.store (row_epochs l.keys l.args (reads (take l.at l.rows)));
   key_words : length l.keys ≡ l.store.key_words;
   state_words : length l.start ≡ l.store.state_words;
   scratch : length l.scratch.items ≡ code_scratch l.code;

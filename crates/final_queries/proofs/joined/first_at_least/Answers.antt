@@ -7,7 +7,8 @@ use Rattle.table_rows.proofs.LentFacts.{rows_from}
 use Rattle.final_queries.specs.Finals.{is_read}
 use Rattle.final_queries.specs.Joining.{AreSmaller, StartsAtLeast}
 use Rattle.final_queries.proofs.JoinSteps.{smaller_more}
-use Rattle.final_queries.proofs.joined.first_at_least.Goals.{else-is_read-via-then-is_read+else-not-is_smaller_key, else-is_read-via-else-is_read}
+use Rattle.final_queries.proofs.joined.first_at_least.Goals.{else-is_read-via-then-is_read+else-not-is_smaller_key}
+use Rattle.final_queries.proofs.joined.first_at_least.Goals.{else-is_read-via-else-is_read}
 use Rattle.final_queries.proofs.joined.first_at_least.Goals as goal
 
 pub returns-then-not-is_smaller_key-clause-least :
@@ -30,9 +31,10 @@ loop-at-preserved g c =
     let one_more : passed + 1 ≡ at + 1 - from = omega arith in
     let next = drop-drop passed from rows ∙ (ap (λ k. drop k rows) here ∙ rows_from rows at row c.get-row.ensures) in
     record {
-      smaller = subst (λ k. AreSmaller key (take k (drop from rows))) one_more (smaller_more key (drop from rows) passed row (drop (at + 1) rows) next (elim c.else-is_read.branch [
-        | else-is_read-via-then-is_read+else-not-is_smaller_key w ↦ λ h. search rules
-        | else-is_read-via-else-is_read w ↦ λ h. search rules
-      ]) c.loop-at.invariant.smaller);
+      smaller = subst (λ k. AreSmaller key (take k (drop from rows))) one_more
+          (smaller_more key (drop from rows) passed row (drop (at + 1) rows) next (elim c.else-is_read.branch [
+            | else-is_read-via-then-is_read+else-not-is_smaller_key w ↦ λ h. search rules
+            | else-is_read-via-else-is_read w ↦ λ h. search rules
+          ]) c.loop-at.invariant.smaller);
       steps = let i = c.loop-at.invariant.steps in let t = c.tick_many.ensures in omega arith;
     }

@@ -19,18 +19,23 @@ loop-at-preserved g c =
           let to = w.first_at_least-next.result in
           let passed : ℕ = to - from in
           let here : from + passed ≡ to = let after = w.first_at_least-next.ensures.after in omega arith in
-          let split = sym (take-append-drop passed (drop from right)) ∙ ap (λ rows. take passed (drop from right) ++ rows) (drop-drop passed from right ∙ ap (λ k. drop k right) here) in
-          let turn = joined_turn _ c.loop-at.made w.push_joined.new.made left (drop from right) (take passed (drop from right)) (drop to right) i row next
+          let split = sym (take-append-drop passed (drop from right)) ∙ ap (λ rows. take passed (drop from right) ++ rows)
+          (drop-drop passed from right ∙ ap (λ k. drop k right) here) in
+          let turn = joined_turn _ c.loop-at.made w.push_joined.new.made left (drop from right) (take passed (drop from right))
+          (drop to right) i row next
           (sym c.is_read.ensures ∙ w.if-is_read.true) c.requires.left c.loop-at.invariant.order split
-          w.first_at_least-next.ensures.smaller w.first_at_least-next.ensures.least w.in_ok-push_joined.ensures.made c.loop-at.invariant.made in
+          w.first_at_least-next.ensures.smaller w.first_at_least-next.ensures.least w.in_ok-push_joined.ensures.made
+          c.loop-at.invariant.made in
           rw (w.made-is, w.next-is, w.steps-is) record {
             made = turn.0;
             within = w.first_at_least-next.ensures.within;
             order = turn.1;
-            steps = let a = w.first_at_least-next.ensures.steps in let b = w.push_joined.ensures.steps in let s = c.loop-at.invariant.steps in omega arith;
+            steps = let a = w.first_at_least-next.ensures.steps in let b = w.push_joined.ensures.steps in let s =
+                c.loop-at.invariant.steps in omega arith;
           }
       | else-is_read w ↦ rw (w.made-is, w.next-is, w.steps-is) record {
-        made = unread_turn _ c.loop-at.made left (drop from right) i row next (sym c.is_read.ensures ∙ w.if-is_read.false) c.loop-at.invariant.made;
+        made = unread_turn _ c.loop-at.made left (drop from right) i row next (sym c.is_read.ensures ∙ w.if-is_read.false)
+            c.loop-at.invariant.made;
         within = c.loop-at.invariant.within;
         order = c.loop-at.invariant.order;
         steps = c.loop-at.invariant.steps;

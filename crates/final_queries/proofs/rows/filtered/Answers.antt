@@ -4,7 +4,8 @@ use Rattle.query_lang.specs.Words.{holds}
 use Rattle.table_rows.specs.LentRows.{row_of}
 use Rattle.final_queries.specs.Finals.{columns_of, filtered_rows}
 use Rattle.final_queries.proofs.ReadRows.{left_out, some_more, filtered_first, filtered_out}
-use Rattle.final_queries.proofs.rows.filtered.Goals.{then-is_read+then-value_of-ne0+in_ok-push_plain, else-is_read, else-is_read-via-then-is_read+else-value_of-ne0, else-is_read-via-else-is_read}
+use Rattle.final_queries.proofs.rows.filtered.Goals.{then-is_read+then-value_of-ne0+in_ok-push_plain, else-is_read}
+use Rattle.final_queries.proofs.rows.filtered.Goals.{else-is_read-via-then-is_read+else-value_of-ne0, else-is_read-via-else-is_read}
 use Rattle.final_queries.proofs.rows.filtered.Goals as goal
 
 pub loop-at-preserved : goal.loop-at-preserved

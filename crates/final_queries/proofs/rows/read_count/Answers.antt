@@ -14,7 +14,8 @@ loop-at-preserved c =
     let small = c.loop-at.invariant.small in
     elim c.if-is_read.branch [
       | then-is_read w ↦
-          let one : length (reads (drop i rows)) ≡ length (row ∷ reads (drop (i + 1) rows)) = ap length (read_first rows i row c.get.ensures (sym c.is_read.ensures ∙ w.if-is_read.true)) in
+          let one : length (reads (drop i rows)) ≡ length (row ∷ reads (drop (i + 1) rows)) =
+          ap length (read_first rows i row c.get.ensures (sym c.is_read.ensures ∙ w.if-is_read.true)) in
           rw w.count-is record { count = omega arith; small = omega arith }
       | else-is_read w ↦
           let none = ap length (left_out rows i row c.get.ensures (sym c.is_read.ensures ∙ w.if-is_read.false)) in

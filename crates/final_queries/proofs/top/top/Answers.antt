@@ -17,9 +17,11 @@ returns-clause-rows g c =
     let rows = c.args.rows.now in
     let past : length rows ≤ c.loop-place.place = omega (arith, c.loop-place-test.false, c.len-place-end.ensures) in
     let none = drop_all c.loop-place.place rows past in
-    let whole = sym (append-nil c.loop-place.made) ∙ ap (λ xs. c.loop-place.made ++ kept_from last c.args.column c.loop-place.place xs) (sym none) ∙ c.loop-place.invariant.rows in
+    let whole = sym (append-nil c.loop-place.made) ∙ ap (λ xs. c.loop-place.made ++ kept_from last c.args.column c.loop-place.place xs)
+    (sym none) ∙ c.loop-place.invariant.rows in
     let ranks = c.as_mut_slice.ensures.value ∙ c.in_ok-ranks.ensures.ranks in
-    whole ∙ kept_top last c.args.column c.args.kept rows (λ rank. c.last_kept-last.ensures rank ∙ ap (λ rs. nat_lt (count_by (λ o. is_before o rank) rs) c.args.kept) ranks) c.requires.order
+    whole ∙ kept_top last c.args.column c.args.kept rows (λ rank. c.last_kept-last.ensures rank
+    ∙ ap (λ rs. nat_lt (count_by (λ o. is_before o rank) rs) c.args.kept) ranks) c.requires.order
 
 pub loop-place-preserved : goal.loop-place-preserved
 loop-place-preserved g c =

@@ -7,12 +7,28 @@ use Rattle.fold_class.proofs.classifier.rows_of.Goals as goal
 pub new-requires : goal.new-requires
 new-requires c =
     let p = c.in_ok-places.places in
-    let rows : Rows = record { code = c.in_ok-code.code; algebra = c.args.algebra; origins = p.origins; linear = p.linear; history = p.history } in
-    sound_rows c.args.f.now rows c.requires.valid c.in_ok-code.ensures.meaning c.in_ok-code.ensures.instrs c.requires.algebra c.in_ok-places.ensures.origins c.in_ok-places.ensures.linear c.in_ok-places.ensures.history
+    let rows : Rows = record {
+      code = c.in_ok-code.code;
+      algebra = c.args.algebra;
+      origins = p.origins;
+      linear = p.linear;
+      history =
+          p.history;
+    } in
+    sound_rows c.args.f.now rows c.requires.valid c.in_ok-code.ensures.meaning c.in_ok-code.ensures.instrs c.requires.algebra
+    c.in_ok-places.ensures.origins c.in_ok-places.ensures.linear c.in_ok-places.ensures.history
 
 pub returns : goal.returns
 returns c =
     let p = c.in_ok-places.places in
-    let rows : Rows = record { code = c.in_ok-code.code; algebra = c.args.algebra; origins = p.origins; linear = p.linear; history = p.history } in
+    let rows : Rows = record {
+      code = c.in_ok-code.code;
+      algebra = c.args.algebra;
+      origins = p.origins;
+      linear = p.linear;
+      history =
+          p.history;
+    } in
     subst (IsRowsOf c.args.f.now) (sym c.new.ensures)
-    (rows_are c.args.f.now rows c.requires.valid c.in_ok-code.ensures.meaning c.in_ok-code.ensures.instrs c.requires.algebra c.in_ok-places.ensures.origins c.in_ok-places.ensures.linear c.in_ok-places.ensures.history)
+    (rows_are c.args.f.now rows c.requires.valid c.in_ok-code.ensures.meaning c.in_ok-code.ensures.instrs c.requires.algebra
+    c.in_ok-places.ensures.origins c.in_ok-places.ensures.linear c.in_ok-places.ensures.history)

@@ -9,10 +9,12 @@ returns-clause-here g c =
     let m = g.C.Coeff in
     let copied = c.put_words in
     let stored = copied.ensures ∙ three_words c.args.words.now (c.args.from * 3) c.requires.from in
-    ap (part_of m.from_words m.WORDS) (same_words 3 3 3 c.args.to c.args.words.now copied.new.to refl refl c.requires.to (ap (λ l. length l) copied.ensures) ∙ stored)
+    ap (part_of m.from_words m.WORDS) (same_words 3 3 3 c.args.to c.args.words.now copied.new.to refl refl c.requires.to
+    (ap (λ l. length l) copied.ensures) ∙ stored)
 
 pub returns-clause-others : goal.returns-clause-others
 returns-clause-others g c other ne =
     let m = g.C.Coeff in
     let copied = c.put_words in
-    ap (part_of m.from_words m.WORDS) (other_words 3 3 3 c.args.to c.args.words.now copied.new.to refl refl c.requires.to (ap (λ l. length l) copied.ensures) other ne)
+    ap (part_of m.from_words m.WORDS) (other_words 3 3 3 c.args.to c.args.words.now copied.new.to refl refl c.requires.to
+    (ap (λ l. length l) copied.ensures) other ne)

@@ -11,7 +11,9 @@ invariant-loop-number g l =
     let m = g.C.Coeff in
     let dom = parts (column_shares m.elements l.dimension l.column) l.algebra in
     let args = map (λ w. Fixed w) l.args in record {
-      vars : run dom (drop l.number l.instrs) args (list_of l.states (part_at m.from_words m.WORDS l.scratch)) (list_of l.number (λ i. part_at m.from_words m.WORDS l.scratch (l.states + i))) ≡ run dom l.instrs args (list_of l.states (part_at m.from_words m.WORDS l.initial.scratch)) [];
+      vars : run dom (drop l.number l.instrs) args (list_of l.states (part_at m.from_words m.WORDS l.scratch))
+          (list_of l.number (λ i. part_at m.from_words m.WORDS l.scratch (l.states + i))) ≡ run dom l.instrs args
+          (list_of l.states (part_at m.from_words m.WORDS l.initial.scratch)) [];
       fits : AllFit l.states (length l.args) l.number (drop l.number l.instrs);
       steps : l.steps + steps_of (drop l.number l.instrs) ≡ l.initial.steps + steps_of l.instrs;
     }

@@ -20,7 +20,8 @@ pub returns-clause-values : goal.returns-clause-values
 returns-clause-values g c =
     let m = g.C.Coeff in
     let states = c.args.states in
-    list_more c.args.number (λ i. part_at m.from_words m.WORDS c.args.scratch.now (states + i)) (λ i. part_at m.from_words m.WORDS c.store_variable.new.scratch (states + i)) _
+    list_more c.args.number (λ i. part_at m.from_words m.WORDS c.args.scratch.now (states + i))
+    (λ i. part_at m.from_words m.WORDS c.store_variable.new.scratch (states + i)) _
     (λ i lt. let ne : states + i ≢ states + c.args.number = omega arith in
     c.store_variable.ensures.others (states + i) (omega arith) ∙ c.write_value.ensures.others (states + i) ne)
     (c.store_variable.ensures.others (states + c.args.number) (omega arith) ∙ c.write_value.ensures.here)

@@ -6,9 +6,11 @@ use Rattle.fold_class.proofs.column.store_part.Goals as goal
 pub returns-clause-here : goal.returns-clause-here
 returns-clause-here g c =
     let m = g.C.Coeff in
-    ap (part_of m.from_words m.WORDS) (same_words 3 3 3 c.args.place c.args.words.now c.put_part.new.to refl refl c.requires c.put_part.ensures.length) ∙ c.put_part.ensures.part
+    ap (part_of m.from_words m.WORDS) (same_words 3 3 3 c.args.place c.args.words.now c.put_part.new.to refl refl c.requires
+    c.put_part.ensures.length) ∙ c.put_part.ensures.part
 
 pub returns-clause-others : goal.returns-clause-others
 returns-clause-others g c other ne =
     let m = g.C.Coeff in
-    ap (part_of m.from_words m.WORDS) (other_words 3 3 3 c.args.place c.args.words.now c.put_part.new.to refl refl c.requires c.put_part.ensures.length other ne)
+    ap (part_of m.from_words m.WORDS) (other_words 3 3 3 c.args.place c.args.words.now c.put_part.new.to refl refl c.requires
+    c.put_part.ensures.length other ne)

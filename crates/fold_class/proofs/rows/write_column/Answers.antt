@@ -11,8 +11,12 @@ loop-row-preserved g c =
     let r = c.loop-row.row in
     let col = c.args.column in record {
       entries = below_more _ _
-          (λ i h. let ne : i * (n + 1) + col ≢ r * (n + 1) + col = λ e. let same : i ≡ r = same_row n i r col e in omega arith in c.store_at.ensures.others (i * (n + 1) + col) ne ∙ c.loop-row.invariant.entries i h)
-          (c.store_at.ensures.here ∙ ap m.words (c.share.ensures ∙ ap (share_of (column_shares m.elements n col)) c.load_part-part.ensures));
-      others = λ i k hi hk off. let ne : i * (n + 1) + k ≢ r * (n + 1) + col = λ e. off (same_column n i k r col hk c.requires.column e) in c.store_at.ensures.others (i * (n + 1) + k) ne ∙ c.loop-row.invariant.others i k hi hk off;
+          (λ i h. let ne : i * (n + 1) + col ≢ r * (n + 1) + col = λ e. let same : i ≡ r =
+          same_row n i r col e in omega arith in c.store_at.ensures.others (i * (n + 1) + col) ne ∙ c.loop-row.invariant.entries i h)
+          (c.store_at.ensures.here ∙ ap m.words (c.share.ensures ∙ ap (share_of (column_shares m.elements n col))
+          c.load_part-part.ensures));
+      others = λ i k hi hk off. let ne : i * (n + 1) + k ≢ r * (n + 1) + col =
+          λ e. off (same_column n i k r col hk c.requires.column e) in c.store_at.ensures.others (i * (n + 1) + k) ne
+          ∙ c.loop-row.invariant.others i k hi hk off;
       steps = omega (arith, c.loop-row.invariant.steps, c.tick_words.ensures, c.WORDS.ensures);
     }

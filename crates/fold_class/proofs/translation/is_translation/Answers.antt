@@ -7,4 +7,5 @@ use Rattle.fold_class.proofs.translation.is_translation.Goals as goal
 pub returns : goal.returns
 returns c =
     let f = c.args.f.now in
-    c.body_passes.ensures ∙ ap (λ known. is_moving c.args.algebra (fold_states f) known true (fold_block f)) (listed f c.args.history.now c.requires.history)
+    c.body_passes.ensures ∙ ap (λ known. is_moving c.args.algebra (fold_states f) known true (fold_block f))
+    (listed f c.args.history.now c.requires.history)

@@ -6,12 +6,14 @@ use Rattle.fold_class.proofs.walk.+walk_stmt.Given as goal
 
 abbrev pub invariant-then_block : goal.invariant-then_block
 invariant-then_block g l = record {
-  kinds : kinds_after (g.O.Operators.roles l.operators) (block_of (drop l.inner-index l.inner-items)) (kinds_in l.kinds) ≡ kinds_after (g.O.Operators.roles l.operators) (block_of l.inner-items) (kinds_in l.initial.kinds);
+  kinds : kinds_after (g.O.Operators.roles l.operators) (block_of (drop l.inner-index l.inner-items)) (kinds_in l.kinds) ≡ kinds_after
+      (g.O.Operators.roles l.operators) (block_of l.inner-items) (kinds_in l.initial.kinds);
   below : AssignsBelow 8 (block_of (drop l.inner-index l.inner-items));
 }
 
 abbrev pub invariant-else_block : goal.invariant-else_block
 invariant-else_block g l = record {
-  kinds : kinds_after (g.O.Operators.roles l.operators) (block_of (drop l.inner-index l.inner-items)) (kinds_in l.others) ≡ kinds_after (g.O.Operators.roles l.operators) (block_of l.inner-items) (kinds_in l.initial.others);
+  kinds : kinds_after (g.O.Operators.roles l.operators) (block_of (drop l.inner-index l.inner-items)) (kinds_in l.others) ≡ kinds_after
+      (g.O.Operators.roles l.operators) (block_of l.inner-items) (kinds_in l.initial.others);
   below : AssignsBelow 8 (block_of (drop l.inner-index l.inner-items));
 }

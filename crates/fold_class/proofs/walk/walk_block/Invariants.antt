@@ -6,6 +6,7 @@ use Rattle.fold_class.proofs.walk.walk_block.Given as goal
 
 abbrev pub invariant-loop-s : goal.invariant-loop-s
 invariant-loop-s g l = record {
-  kinds : kinds_after (g.O.Operators.roles l.operators) (block_of (drop l.s-index l.block)) (kinds_in l.kinds) ≡ kinds_after (g.O.Operators.roles l.operators) (block_of l.block) (kinds_in l.initial.kinds);
+  kinds : kinds_after (g.O.Operators.roles l.operators) (block_of (drop l.s-index l.block)) (kinds_in l.kinds) ≡ kinds_after
+      (g.O.Operators.roles l.operators) (block_of l.block) (kinds_in l.initial.kinds);
   below : AssignsBelow 8 (block_of (drop l.s-index l.block));
 }

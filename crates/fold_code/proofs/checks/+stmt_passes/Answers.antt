@@ -9,7 +9,8 @@ then_block-preserved g t c =
     let known = is_in c.args.known.now in
     let passes = g.C.Checks.passes c.args.checks.now c.args.states known in
     let p = c.as_slice-inner-items.result.now in
-    pass_rest c.args.states known passes c.stays_known-inside.result p c.then_block.inner-index c.inner-item.result (all_pass c.args.states known passes c.stays_known-inside.result (block_of p)) c.then_block-test.true c.inner-item.is
+    pass_rest c.args.states known passes c.stays_known-inside.result p c.then_block.inner-index c.inner-item.result
+    (all_pass c.args.states known passes c.stays_known-inside.result (block_of p)) c.then_block-test.true c.inner-item.is
     (sym c.if-not-stmt_passes.false ∙ c.stmt_passes.ensures) c.then_block.invariant
 
 pub returns-then-not-stmt_passes-2 : goal.returns-then-not-stmt_passes-2
@@ -18,10 +19,13 @@ returns-then-not-stmt_passes-2 g t c =
     let passes = g.C.Checks.passes c.args.checks.now c.args.states known in
     let p = c.as_slice-inner-items.result.now in
     let q = c.as_slice-inner-items-in-If.result.now in
-    sym (pass_if c.args.states known passes c.args.free c.stays_known-inside.result c.args.s.now c.in-If.c c.in-If.a c.in-If.b p q true false
+    sym (pass_if c.args.states known passes c.args.free c.stays_known-inside.result c.args.s.now c.in-If.c c.in-If.a c.in-If.b p q true
+    false
     c.in-If.is c.as_slice-inner-items.ensures c.as_slice-inner-items-in-If.ensures c.stays_known-inside.ensures
-    (pass_end c.args.states known passes c.stays_known-inside.result p c.then_block.inner-index (all_pass c.args.states known passes c.stays_known-inside.result (block_of p)) c.then_block-test.false c.then_block.invariant)
-    (pass_stop c.args.states known passes c.stays_known-inside.result q c.else_block.inner-index c.inner-item-in-else_block.result (all_pass c.args.states known passes c.stays_known-inside.result (block_of q)) c.else_block-test.true c.inner-item-in-else_block.is
+    (pass_end c.args.states known passes c.stays_known-inside.result p c.then_block.inner-index
+    (all_pass c.args.states known passes c.stays_known-inside.result (block_of p)) c.then_block-test.false c.then_block.invariant)
+    (pass_stop c.args.states known passes c.stays_known-inside.result q c.else_block.inner-index c.inner-item-in-else_block.result
+    (all_pass c.args.states known passes c.stays_known-inside.result (block_of q)) c.else_block-test.true c.inner-item-in-else_block.is
     (sym c.if-not-stmt_passes-2.true ∙ c.stmt_passes-in-else_block.ensures) c.else_block.invariant))
 
 pub else_block-preserved : goal.else_block-preserved
@@ -29,7 +33,8 @@ else_block-preserved g t c =
     let known = is_in c.args.known.now in
     let passes = g.C.Checks.passes c.args.checks.now c.args.states known in
     let q = c.as_slice-inner-items-in-If.result.now in
-    pass_rest c.args.states known passes c.stays_known-inside.result q c.else_block.inner-index c.inner-item-in-else_block.result (all_pass c.args.states known passes c.stays_known-inside.result (block_of q)) c.else_block-test.true c.inner-item-in-else_block.is
+    pass_rest c.args.states known passes c.stays_known-inside.result q c.else_block.inner-index c.inner-item-in-else_block.result
+    (all_pass c.args.states known passes c.stays_known-inside.result (block_of q)) c.else_block-test.true c.inner-item-in-else_block.is
     (sym c.if-not-stmt_passes-2.false ∙ c.stmt_passes-in-else_block.ensures) c.else_block.invariant
 
 pub returns-after-else_block : goal.returns-after-else_block
@@ -40,5 +45,7 @@ returns-after-else_block g t c =
     let q = c.as_slice-inner-items-in-If.result.now in
     sym (pass_if c.args.states known passes c.args.free c.stays_known-inside.result c.args.s.now c.in-If.c c.in-If.a c.in-If.b p q true true
     c.in-If.is c.as_slice-inner-items.ensures c.as_slice-inner-items-in-If.ensures c.stays_known-inside.ensures
-    (pass_end c.args.states known passes c.stays_known-inside.result p c.then_block.inner-index (all_pass c.args.states known passes c.stays_known-inside.result (block_of p)) c.then_block-test.false c.then_block.invariant)
-    (pass_end c.args.states known passes c.stays_known-inside.result q c.else_block.inner-index (all_pass c.args.states known passes c.stays_known-inside.result (block_of q)) c.else_block-test.false c.else_block.invariant))
+    (pass_end c.args.states known passes c.stays_known-inside.result p c.then_block.inner-index
+    (all_pass c.args.states known passes c.stays_known-inside.result (block_of p)) c.then_block-test.false c.then_block.invariant)
+    (pass_end c.args.states known passes c.stays_known-inside.result q c.else_block.inner-index
+    (all_pass c.args.states known passes c.stays_known-inside.result (block_of q)) c.else_block-test.false c.else_block.invariant))

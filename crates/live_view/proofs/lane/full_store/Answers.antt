@@ -13,13 +13,17 @@ returns-clause-holds g c m s =
     let start = c.in_ok-store.store in
     let copied : start ≡ lane.store = c.in_ok-store.ensures ∙ c.store.ensures in
     let same : LaneStands stands f lane.cache lane.pipe lane.store m =
-    subst (λ k. LaneStands (g.K.EpochKind.stands k) (g.K.EpochKind.folding k) lane.cache lane.pipe lane.store m) (sym c.kind-kind.ensures) s in
+    subst (λ k. LaneStands (g.K.EpochKind.stands k) (g.K.EpochKind.folding k) lane.cache lane.pipe lane.store m) (sym c.kind-kind.ensures)
+    s in
     let kept : StoreHolds f start (take m.merged m.closed) = subst (λ x. StoreHolds f x (take m.merged m.closed)) (sym copied) same.kept in
     let key_words : start.key_words ≡ lane.cache.key_words = ap (λ x. x.key_words) copied ∙ c.invariant.ensures.store.key in
     let piped : RecordsStand stands start.key_words c.pipe-pipe.result.now.records (drop m.merged m.closed) =
     subst (λ n. RecordsStand stands n c.pipe-pipe.result.now.records (drop m.merged m.closed)) (sym key_words)
     (subst (λ p. RecordsStand stands lane.cache.key_words p.records (drop m.merged m.closed)) (sym c.pipe-pipe.ensures) same.front.piped) in
-    let cached : CacheStands stands c.cache-cache.result.now m = subst (λ x. CacheStands stands x m) (sym c.cache-cache.ensures) same.front.cached in
-    let closed : StoreHolds f c.merge_pipe.new.store m.closed = subst (StoreHolds f c.merge_pipe.new.store) (take-append-drop m.merged m.closed)
+    let cached : CacheStands stands c.cache-cache.result.now m = subst (λ x. CacheStands stands x m) (sym c.cache-cache.ensures)
+    same.front.cached in
+    let closed : StoreHolds f c.merge_pipe.new.store m.closed = subst (StoreHolds f c.merge_pipe.new.store)
+    (take-append-drop m.merged m.closed)
     (c.in_ok-merge_pipe.ensures.held (drop m.merged m.closed) (take m.merged m.closed) piped kept) in
-    subst (λ k. StoreHolds (g.K.EpochKind.folding k) c.merge_cache.new.store (all_epochs m)) c.kind-kind.ensures (c.in_ok-merge_cache.ensures.held m m.closed cached closed)
+    subst (λ k. StoreHolds (g.K.EpochKind.folding k) c.merge_cache.new.store (all_epochs m)) c.kind-kind.ensures
+    (c.in_ok-merge_cache.ensures.held m m.closed cached closed)

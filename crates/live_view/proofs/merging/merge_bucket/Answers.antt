@@ -14,7 +14,8 @@ loop-i-init g c =
       held = λ opened epochs stand holds.
           let few = c.requires.sound.few c.args.bucket in
           let long = pairs_long (PairStands (g.K.EpochKind.stands c.args.kind.now) cache) (list_at cache c.args.bucket) opened stand in
-          subst (StoreHolds f c.args.store.now) (sym (ap (λ es. epochs ++ reverse es) (drop_all g.row.WAYS opened (omega arith)) ∙ append-nil epochs)) holds;
+          subst (StoreHolds f c.args.store.now) (sym (ap (λ es. epochs ++ reverse es) (drop_all g.row.WAYS opened (omega arith))
+          ∙ append-nil epochs)) holds;
       key_words = refl;
       state_words = refl;
       steps = omega arith;
@@ -22,13 +23,19 @@ loop-i-init g c =
 
 pub key-key-requires : goal.key-key-requires
 key-key-requires g c =
-    let cache = c.args.cache.now in
-    (lit< tt, place_is_there (list_at cache c.args.bucket) (length cache.entries) (c.loop-i.i - 1) c.in-Some.place (c.requires.sound.within c.args.bucket) (sym c.in-Some.ensures))
+    let cache = c.args.cache.now in (
+      lit< tt,
+      place_is_there (list_at cache c.args.bucket) (length cache.entries) (c.loop-i.i - 1) c.in-Some.place
+          (c.requires.sound.within c.args.bucket) (sym c.in-Some.ensures),
+    )
 
 pub entry-entry-requires : goal.entry-entry-requires
 entry-entry-requires g c =
-    let cache = c.args.cache.now in
-    (lit< tt, place_is_there (list_at cache c.args.bucket) (length cache.entries) (c.loop-i.i - 1) c.in-Some.place (c.requires.sound.within c.args.bucket) (sym c.in-Some.ensures))
+    let cache = c.args.cache.now in (
+      lit< tt,
+      place_is_there (list_at cache c.args.bucket) (length cache.entries) (c.loop-i.i - 1) c.in-Some.place
+          (c.requires.sound.within c.args.bucket) (sym c.in-Some.ensures),
+    )
 
 pub loop-i-preserved : goal.loop-i-preserved
 loop-i-preserved g c =
@@ -43,9 +50,12 @@ loop-i-preserved g c =
           let found = pair_before (PairStands stands cache) pairs opened (i - 1) c.in-Some.place stand (sym c.in-Some.ensures) in
           let e = found.1 in
           let key = c.key-key.ensures.key c.args.bucket (i - 1) found.0 found.2 found.3 ∙ found.4.0 in
-          let stood : stands c.entry-entry.result.now e.rows = subst (λ ws. stands ws e.rows) (sym (c.entry-entry.ensures.words ∙ ap (entry_at cache) (sym found.3))) found.4.1 in
-          let merged = c.in_ok-merge_entry.ensures.ok e.rows (epochs ++ reverse (drop i opened)) stood (c.loop-i.invariant.held opened epochs stand holds) in
-          subst (StoreHolds f c.merge_entry.new.store) (one_before epochs opened i (i - 1) e c.key-key.result.now key (found.5 ∙ ap (λ n. e ∷ drop n opened) back)) merged;
+          let stood : stands c.entry-entry.result.now e.rows = subst (λ ws. stands ws e.rows)
+          (sym (c.entry-entry.ensures.words ∙ ap (entry_at cache) (sym found.3))) found.4.1 in
+          let merged = c.in_ok-merge_entry.ensures.ok e.rows (epochs ++ reverse (drop i opened)) stood
+          (c.loop-i.invariant.held opened epochs stand holds) in
+          subst (StoreHolds f c.merge_entry.new.store) (one_before epochs opened i (i - 1) e c.key-key.result.now key
+          (found.5 ∙ ap (λ n. e ∷ drop n opened) back)) merged;
       key_words = c.merge_entry.ensures.key_words ∙ c.loop-i.invariant.key_words;
       state_words = c.merge_entry.ensures.state_words ∙ c.loop-i.invariant.state_words;
       steps = let a = c.merge_entry.ensures.steps in let b = c.loop-i.invariant.steps in omega arith;

@@ -11,7 +11,8 @@ invariant-loop-i g l =
     let first = l.initial.store in
     let f = g.K.EpochKind.folding l.kind in
     record {
-      held : (opened epochs : List Epoch) → PairsStand (PairStands (g.K.EpochKind.stands l.kind) l.cache) (list_at l.cache l.bucket) opened → StoreHolds f first epochs
+      held : (opened epochs : List Epoch) → PairsStand (PairStands (g.K.EpochKind.stands l.kind) l.cache) (list_at l.cache l.bucket) opened
+          → StoreHolds f first epochs
           → StoreHolds f l.store (epochs ++ reverse (drop l.i opened));
       key_words : l.store.key_words ≡ first.key_words;
       state_words : l.store.state_words ≡ first.state_words;

@@ -9,11 +9,13 @@ pub loop-bucket-preserved : goal.loop-bucket-preserved
 loop-bucket-preserved g c =
     let f = g.K.EpochKind.folding c.args.kind.now in
     let bucket = c.loop-bucket.bucket in
-    let below : bucket < length c.args.cache.now.lists = let a = c.loop-bucket-test.true in let b = c.loop-bucket.auto.bucket-end in let n = c.buckets-bucket-end.ensures.number in omega arith in
+    let below : bucket < length c.args.cache.now.lists = let a = c.loop-bucket-test.true in let b = c.loop-bucket.auto.bucket-end in let n =
+    c.buckets-bucket-end.ensures.number in omega arith in
     record {
       held = λ m epochs stand holds.
           let there : bucket < length m.recent = let s = stand.buckets in omega arith in
-          let merged = c.in_ok-merge_bucket.ensures.held (open_in m bucket) (epochs ++ flat_map (λ es. reverse es) (take bucket m.recent)) (stand.each bucket) (c.loop-bucket.invariant.held m epochs stand holds) in
+          let merged = c.in_ok-merge_bucket.ensures.held (open_in m bucket) (epochs ++ flat_map (λ es. reverse es) (take bucket m.recent))
+          (stand.each bucket) (c.loop-bucket.invariant.held m epochs stand holds) in
           subst (StoreHolds f c.merge_bucket.new.store) (bucket_after epochs m.recent bucket there) merged;
       key_words = c.merge_bucket.ensures.key_words ∙ c.loop-bucket.invariant.key_words;
       state_words = c.merge_bucket.ensures.state_words ∙ c.loop-bucket.invariant.state_words;
@@ -24,5 +26,7 @@ pub returns-clause-held : goal.returns-clause-held
 returns-clause-held g c m epochs stand holds =
     let f = g.K.EpochKind.folding c.args.kind.now in
     let bucket = c.loop-bucket.bucket in
-    let all : length m.recent ≡ bucket = let a = c.loop-bucket-test.false in let b = c.loop-bucket.auto.bucket-end in let n = c.buckets-bucket-end.ensures.number in let s = stand.buckets in omega arith in
-    subst (λ rs. StoreHolds f c.loop-bucket.store (epochs ++ flat_map (λ es. reverse es) rs)) (take_all bucket m.recent (omega arith)) (c.loop-bucket.invariant.held m epochs stand holds)
+    let all : length m.recent ≡ bucket = let a = c.loop-bucket-test.false in let b = c.loop-bucket.auto.bucket-end in let n =
+    c.buckets-bucket-end.ensures.number in let s = stand.buckets in omega arith in
+    subst (λ rs. StoreHolds f c.loop-bucket.store (epochs ++ flat_map (λ es. reverse es) rs)) (take_all bucket m.recent (omega arith))
+    (c.loop-bucket.invariant.held m epochs stand holds)

@@ -11,11 +11,13 @@ loop-i-preserved g c =
     let first = c.args.store.now in
     let records = c.args.pipe.now.records in
     let i = c.loop-i.i in
-    let below : i < length records = let a = c.loop-i-test.true in let b = c.loop-i.auto.i-end in let n = c.len-i-end.ensures.number in omega arith in
+    let below : i < length records = let a = c.loop-i-test.true in let b = c.loop-i.auto.i-end in let n =
+    c.len-i-end.ensures.number in omega arith in
     let room = c.nth_into.new.into in
     let words : room ≡ get_or records i [] = c.nth_into.ensures in
     let split : length room - c.entry_words.result ≡ first.key_words =
-    let a = c.nth_into.auto.into in let b = c.loop-i.auto.room in let r = c.requires.room in let s = c.requires.records in let e = c.entry_words.ensures in omega arith in
+    let a = c.nth_into.auto.into in let b = c.loop-i.auto.room in let r = c.requires.room in let s = c.requires.records in let e =
+    c.entry_words.ensures in omega arith in
     record {
       held = λ waiting epochs stand holds.
           let found = record_next stands first.key_words records waiting i stand below in
@@ -25,7 +27,8 @@ loop-i-preserved g c =
           let key : c.split_at.result.0.now ≡ e.key = c.split_at.ensures.front ∙ (front ∙ found.2.0) in
           let entry : c.split_at.result.1.now ≡ drop first.key_words (get_or records i []) = c.split_at.ensures.back ∙ back in
           let stood : stands c.split_at.result.1.now e.rows = subst (λ ws. stands ws e.rows) (sym entry) found.2.1 in
-          let merged = c.in_ok-merge_entry.ensures.ok e.rows (epochs ++ take i waiting) stood (c.loop-i.invariant.held waiting epochs stand holds) in
+          let merged = c.in_ok-merge_entry.ensures.ok e.rows (epochs ++ take i waiting) stood
+          (c.loop-i.invariant.held waiting epochs stand holds) in
           subst (StoreHolds f c.merge_entry.new.store) (one_after epochs waiting i e c.split_at.result.0.now key found.1) merged;
       key_words = c.merge_entry.ensures.key_words ∙ c.loop-i.invariant.key_words;
       state_words = c.merge_entry.ensures.state_words ∙ c.loop-i.invariant.state_words;

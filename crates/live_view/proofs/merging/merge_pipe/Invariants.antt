@@ -10,7 +10,8 @@ invariant-loop-i g l =
     let first = l.initial.store in
     let f = g.K.EpochKind.folding l.kind in
     record {
-      held : (waiting epochs : List Epoch) → RecordsStand (g.K.EpochKind.stands l.kind) first.key_words l.pipe.records waiting → StoreHolds f first epochs → StoreHolds f l.store (epochs ++ take l.i waiting);
+      held : (waiting epochs : List Epoch) → RecordsStand (g.K.EpochKind.stands l.kind) first.key_words l.pipe.records waiting
+          → StoreHolds f first epochs → StoreHolds f l.store (epochs ++ take l.i waiting);
       key_words : l.store.key_words ≡ first.key_words;
       state_words : l.store.state_words ≡ first.state_words;
       steps : l.initial.steps ≤ l.steps;

@@ -20,8 +20,10 @@ view_lane-requires g c =
     let p = c.args.p.now in
     let i = c.loop-i.i in
     let lane = c.lane.result.now in
-    let at : slice_get p.plan.groups i ≡ Some c.group.result.now = ap (λ x. slice_get x.groups i) (sym c.plan-plan.ensures) ∙ c.group.ensures in
-    let fits = lane_fits p.entries p.plan p.buckets i p.lanes c.group.result.now lane c.entries_are_small.ensures (subst IsSoundPlan c.plan-plan.ensures c.invariant-2.ensures) c.invariant.ensures at c.lane.ensures.lane in
+    let at : slice_get p.plan.groups i ≡ Some c.group.result.now = ap (λ x. slice_get x.groups i) (sym c.plan-plan.ensures)
+    ∙ c.group.ensures in
+    let fits = lane_fits p.entries p.plan p.buckets i p.lanes c.group.result.now lane c.entries_are_small.ensures
+    (subst IsSoundPlan c.plan-plan.ensures c.invariant-2.ensures) c.invariant.ensures at c.lane.ensures.lane in
     (lit< tt, (sym fits.keys, fits.small))
 
 pub loop-i-preserved : goal.loop-i-preserved
@@ -29,7 +31,8 @@ loop-i-preserved g c =
     let p = c.args.p.now in
     let i = c.loop-i.i in
     let lane = c.lane.result.now in
-    let at : slice_get p.plan.groups i ≡ Some c.group.result.now = ap (λ x. slice_get x.groups i) (sym c.plan-plan.ensures) ∙ c.group.ensures in
+    let at : slice_get p.plan.groups i ≡ Some c.group.result.now = ap (λ x. slice_get x.groups i) (sym c.plan-plan.ensures)
+    ∙ c.group.ensures in
     record {
       tables = λ machines stand.
           let found = each_at (λ n. StandsFor) 0 i p.lanes machines lane stand c.lane.ensures.lane in

@@ -27,7 +27,8 @@ returns-in_err-query-clause-ends g c =
 
 pub returns-in_err-query-clause-lost : goal.returns-in_err-query-clause-lost
 returns-in_err-query-clause-lost g c =
-    query_lost (Some (Enclose c.args.setting)) (g.I.Inputs.input c.args.inputs.now) (g.I.Inputs.input c.query_for_bounds.new.inputs) c.query_for_bounds.ensures.lost
+    query_lost (Some (Enclose c.args.setting)) (g.I.Inputs.input c.args.inputs.now) (g.I.Inputs.input c.query_for_bounds.new.inputs)
+    c.query_for_bounds.ensures.lost
     c.query_for_bounds.ensures.trace_kept
 
 pub returns-in_err-left-clause-ends : goal.returns-in_err-left-clause-ends

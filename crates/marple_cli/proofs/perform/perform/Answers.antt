@@ -18,10 +18,12 @@ pub returns-in-Compile-clause-ends : goal.returns-in-Compile-clause-ends
 returns-in-Compile-clause-ends g c = rw c.in-Compile.is c.compile.ensures.ends
 
 pub returns-in-Gen-clause-lost : goal.returns-in-Gen-clause-lost
-returns-in-Gen-clause-lost g c = none_lost (Some c.args.command) (g.I.Inputs.input c.args.inputs.now) (g.I.Inputs.input c.args.inputs.now) (λ which. refl)
+returns-in-Gen-clause-lost g c = none_lost (Some c.args.command) (g.I.Inputs.input c.args.inputs.now) (g.I.Inputs.input c.args.inputs.now)
+    (λ which. refl)
 
 pub returns-in-Trial-clause-lost : goal.returns-in-Trial-clause-lost
-returns-in-Trial-clause-lost g c = none_lost (Some c.args.command) (g.I.Inputs.input c.args.inputs.now) (g.I.Inputs.input c.args.inputs.now) (λ which. refl)
+returns-in-Trial-clause-lost g c = none_lost (Some c.args.command) (g.I.Inputs.input c.args.inputs.now) (g.I.Inputs.input c.args.inputs.now)
+    (λ which. refl)
 
 pub returns-in-Run-clause-lost : goal.returns-in-Run-clause-lost
 returns-in-Run-clause-lost g c = rw c.in-Run.is c.run.ensures.lost

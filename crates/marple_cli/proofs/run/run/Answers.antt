@@ -28,7 +28,8 @@ returns-in_err-query-clause-ends g c =
 
 pub returns-in_err-query-clause-lost : goal.returns-in_err-query-clause-lost
 returns-in_err-query-clause-lost g c =
-    query_lost (Some (Run c.args.setting c.args.every)) (g.I.Inputs.input c.args.inputs.now) (g.I.Inputs.input c.read_query.new.inputs) c.read_query.ensures.lost
+    query_lost (Some (Run c.args.setting c.args.every)) (g.I.Inputs.input c.args.inputs.now) (g.I.Inputs.input c.read_query.new.inputs)
+    c.read_query.ensures.lost
     c.read_query.ensures.trace_kept
 
 pub returns-in_err-query-clause-driven : goal.returns-in_err-query-clause-driven
@@ -54,7 +55,8 @@ returns-in_err-left-clause-ends g c =
 
 pub returns-in_err-left-clause-lost : goal.returns-in_err-left-clause-lost
 returns-in_err-left-clause-lost g c =
-    both_lost (Some (Run c.args.setting c.args.every)) (g.I.Inputs.input c.args.inputs.now) (g.I.Inputs.input c.report_over.new.inputs) (g.I.Inputs.input c.read_query.new.inputs)
+    both_lost (Some (Run c.args.setting c.args.every)) (g.I.Inputs.input c.args.inputs.now) (g.I.Inputs.input c.report_over.new.inputs)
+    (g.I.Inputs.input c.read_query.new.inputs)
     c.read_query.ensures.lost c.read_query.ensures.trace_kept c.report_over.ensures.lost c.report_over.ensures.query_kept
 
 pub returns-in_err-left-clause-driven : goal.returns-in_err-left-clause-driven
@@ -77,7 +79,8 @@ returns-clause-ends g c =
     let run = Run c.args.setting c.args.every in
     let known = c.in_ok-query.ensures.ok in
     let text = λ (found : Contents). views_text (query_text q (geometry_of c.args.setting)) c.args.every (words_of found.packets) in
-    written_by g.O.Sink.taken g.O.Sink.faults run before (g.I.Inputs.input c.read_query.new.inputs) (g.I.Inputs.input c.report_over.new.inputs)
+    written_by g.O.Sink.taken g.O.Sink.faults run before (g.I.Inputs.input c.read_query.new.inputs)
+    (g.I.Inputs.input c.report_over.new.inputs)
     (query_told run before q (λ bytes. refl) known) plan.reads (λ found. found.fault) text refl refl
     (run_is c.args.setting c.args.every before q known plan.reads c.in_ok-query.ensures.plan.reads) c.in_ok-query.ensures.trace_kept
     c.args.out.now c.report_over.new.out c.in_ok-left.ensures.accepted
@@ -85,7 +88,8 @@ returns-clause-ends g c =
 
 pub returns-clause-lost : goal.returns-clause-lost
 returns-clause-lost g c =
-    both_lost (Some (Run c.args.setting c.args.every)) (g.I.Inputs.input c.args.inputs.now) (g.I.Inputs.input c.report_over.new.inputs) (g.I.Inputs.input c.read_query.new.inputs)
+    both_lost (Some (Run c.args.setting c.args.every)) (g.I.Inputs.input c.args.inputs.now) (g.I.Inputs.input c.report_over.new.inputs)
+    (g.I.Inputs.input c.read_query.new.inputs)
     c.read_query.ensures.lost c.read_query.ensures.trace_kept c.report_over.ensures.lost c.report_over.ensures.query_kept
 
 pub returns-clause-driven : goal.returns-clause-driven

@@ -32,7 +32,8 @@ returns-in_err-loaded-clause-ends g c =
 
 pub returns-in_err-loaded-clause-lost : goal.returns-in_err-loaded-clause-lost
 returns-in_err-loaded-clause-lost g c =
-    query_lost (Some (RunPlan c.args.setting)) (g.I.Inputs.input c.args.inputs.now) (g.I.Inputs.input c.read_plan_text.new.inputs) c.read_plan_text.ensures.lost
+    query_lost (Some (RunPlan c.args.setting)) (g.I.Inputs.input c.args.inputs.now) (g.I.Inputs.input c.read_plan_text.new.inputs)
+    c.read_plan_text.ensures.lost
     c.read_plan_text.ensures.trace_kept
 
 pub returns-in_err-loaded-clause-driven : goal.returns-in_err-loaded-clause-driven

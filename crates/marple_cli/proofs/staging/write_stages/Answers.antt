@@ -10,44 +10,57 @@ use Rattle.marple_cli.proofs.staging.write_stages.Goals as goal
 
 pub returns-in_err-query-clause-ends : goal.returns-in_err-query-clause-ends
 returns-in_err-query-clause-ends g c =
-    query_ends_it g.O.Sink.taken g.O.Sink.faults (Plan c.args.ways) (g.I.Inputs.input c.args.inputs.now) (g.I.Inputs.input c.read_query.new.inputs) query_fault (λ query. refl) c.args.out.now refl
+    query_ends_it g.O.Sink.taken g.O.Sink.faults (Plan c.args.ways) (g.I.Inputs.input c.args.inputs.now)
+    (g.I.Inputs.input c.read_query.new.inputs) query_fault (λ query. refl) c.args.out.now refl
     c.in_err-query.ensures.trace_kept c.from_residual.result c.in_err-query.field-0.0 c.from_residual.ensures.1 c.in_err-query.ensures.err
 
 pub returns-in_err-text-clause-ends : goal.returns-in_err-text-clause-ends
 returns-in_err-text-clause-ends g c =
-    memory_ends g.O.Sink.taken g.O.Sink.faults (Plan c.args.ways) (g.I.Inputs.input c.args.inputs.now) (g.I.Inputs.input c.read_query.new.inputs) c.args.out.now c.in_ok-query.ensures.trace_kept
+    memory_ends g.O.Sink.taken g.O.Sink.faults (Plan c.args.ways) (g.I.Inputs.input c.args.inputs.now)
+    (g.I.Inputs.input c.read_query.new.inputs) c.args.out.now c.in_ok-query.ensures.trace_kept
     c.from_residual-in_err-text.result c.from_residual-in_err-text.ensures.1
 
 pub returns-in_err-write_all-clause-ends : goal.returns-in_err-write_all-clause-ends
 returns-in_err-write_all-clause-ends g c =
     let before = g.I.Inputs.input c.args.inputs.now in
     let found = c.in_ok-query.query.typed in
-    let text = c.as_slice.ensures ∙ c.in_ok-text.ensures ∙ ap (plan_text_of (shape_of c.in_ok-query.query.plan)) c.number.ensures ∙ ap (λ shape. plan_text_of shape (ways_number c.args.ways)) c.in_ok-query.ensures.plan.shape in
-    cut_off g.O.Sink.taken g.O.Sink.faults (Plan c.args.ways) before (g.I.Inputs.input c.read_query.new.inputs) c.args.out.now c.write_all.new.out
-    (query_told (Plan c.args.ways) before found (λ bytes. refl) c.in_ok-query.ensures.ok) c.as_slice.result.now (stages_are_text c.args.ways before found c.as_slice.result.now c.in_ok-query.ensures.ok text)
-    c.from_residual-in_err-write_all.result c.from_residual-in_err-write_all.ensures.1 c.in_err-write_all.ensures.cause.failed c.in_err-write_all.ensures.front
+    let text = c.as_slice.ensures ∙ c.in_ok-text.ensures ∙ ap (plan_text_of (shape_of c.in_ok-query.query.plan)) c.number.ensures
+    ∙ ap (λ shape. plan_text_of shape (ways_number c.args.ways)) c.in_ok-query.ensures.plan.shape in
+    cut_off g.O.Sink.taken g.O.Sink.faults (Plan c.args.ways) before (g.I.Inputs.input c.read_query.new.inputs) c.args.out.now
+    c.write_all.new.out
+    (query_told (Plan c.args.ways) before found (λ bytes. refl) c.in_ok-query.ensures.ok) c.as_slice.result.now
+    (stages_are_text c.args.ways before found c.as_slice.result.now c.in_ok-query.ensures.ok text)
+    c.from_residual-in_err-write_all.result c.from_residual-in_err-write_all.ensures.1 c.in_err-write_all.ensures.cause.failed
+    c.in_err-write_all.ensures.front
 
 pub returns-clause-ends : goal.returns-clause-ends
 returns-clause-ends g c =
     let before = g.I.Inputs.input c.args.inputs.now in
     let found = c.in_ok-query.query.typed in
-    let text = c.as_slice.ensures ∙ c.in_ok-text.ensures ∙ ap (plan_text_of (shape_of c.in_ok-query.query.plan)) c.number.ensures ∙ ap (λ shape. plan_text_of shape (ways_number c.args.ways)) c.in_ok-query.ensures.plan.shape in
-    all_written g.O.Sink.taken g.O.Sink.faults (Plan c.args.ways) before (g.I.Inputs.input c.read_query.new.inputs) c.args.out.now c.write_all.new.out
-    (query_told (Plan c.args.ways) before found (λ bytes. refl) c.in_ok-query.ensures.ok) c.as_slice.result.now (stages_are_text c.args.ways before found c.as_slice.result.now c.in_ok-query.ensures.ok text)
+    let text = c.as_slice.ensures ∙ c.in_ok-text.ensures ∙ ap (plan_text_of (shape_of c.in_ok-query.query.plan)) c.number.ensures
+    ∙ ap (λ shape. plan_text_of shape (ways_number c.args.ways)) c.in_ok-query.ensures.plan.shape in
+    all_written g.O.Sink.taken g.O.Sink.faults (Plan c.args.ways) before (g.I.Inputs.input c.read_query.new.inputs) c.args.out.now
+    c.write_all.new.out
+    (query_told (Plan c.args.ways) before found (λ bytes. refl) c.in_ok-query.ensures.ok) c.as_slice.result.now
+    (stages_are_text c.args.ways before found c.as_slice.result.now c.in_ok-query.ensures.ok text)
     c.in_ok-write_all.ensures.ok
 
 pub returns-in_err-query-clause-lost : goal.returns-in_err-query-clause-lost
 returns-in_err-query-clause-lost g c =
-    query_lost (Some (Plan c.args.ways)) (g.I.Inputs.input c.args.inputs.now) (g.I.Inputs.input c.read_query.new.inputs) c.read_query.ensures.lost c.read_query.ensures.trace_kept
+    query_lost (Some (Plan c.args.ways)) (g.I.Inputs.input c.args.inputs.now) (g.I.Inputs.input c.read_query.new.inputs)
+    c.read_query.ensures.lost c.read_query.ensures.trace_kept
 
 pub returns-in_err-text-clause-lost : goal.returns-in_err-text-clause-lost
 returns-in_err-text-clause-lost g c =
-    query_lost (Some (Plan c.args.ways)) (g.I.Inputs.input c.args.inputs.now) (g.I.Inputs.input c.read_query.new.inputs) c.read_query.ensures.lost c.read_query.ensures.trace_kept
+    query_lost (Some (Plan c.args.ways)) (g.I.Inputs.input c.args.inputs.now) (g.I.Inputs.input c.read_query.new.inputs)
+    c.read_query.ensures.lost c.read_query.ensures.trace_kept
 
 pub returns-in_err-write_all-clause-lost : goal.returns-in_err-write_all-clause-lost
 returns-in_err-write_all-clause-lost g c =
-    query_lost (Some (Plan c.args.ways)) (g.I.Inputs.input c.args.inputs.now) (g.I.Inputs.input c.read_query.new.inputs) c.read_query.ensures.lost c.read_query.ensures.trace_kept
+    query_lost (Some (Plan c.args.ways)) (g.I.Inputs.input c.args.inputs.now) (g.I.Inputs.input c.read_query.new.inputs)
+    c.read_query.ensures.lost c.read_query.ensures.trace_kept
 
 pub returns-clause-lost : goal.returns-clause-lost
 returns-clause-lost g c =
-    query_lost (Some (Plan c.args.ways)) (g.I.Inputs.input c.args.inputs.now) (g.I.Inputs.input c.read_query.new.inputs) c.read_query.ensures.lost c.read_query.ensures.trace_kept
+    query_lost (Some (Plan c.args.ways)) (g.I.Inputs.input c.args.inputs.now) (g.I.Inputs.input c.read_query.new.inputs)
+    c.read_query.ensures.lost c.read_query.ensures.trace_kept

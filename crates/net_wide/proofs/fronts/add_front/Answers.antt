@@ -6,8 +6,10 @@ use Rattle.net_wide.proofs.fronts.add_front.Goals as goal
 pub returns-clause-stand : goal.returns-clause-stand
 returns-clause-stand g c events merged stand =
     let made = c.in_ok-front.ensures in
-    subst (λ fronts. FrontsStand (λ kind. g.K.EpochKind.stands kind) g.row.WAYS c.args.buckets fronts events merged) (sym c.in_ok-push.ensures.items)
-    (one_more_stands (λ kind. g.K.EpochKind.stands kind) g.row.WAYS c.args.buckets c.args.fronts.now.items c.in_ok-front.front events merged made.buckets made.stands stand)
+    subst (λ fronts. FrontsStand (λ kind. g.K.EpochKind.stands kind) g.row.WAYS c.args.buckets fronts events merged)
+    (sym c.in_ok-push.ensures.items)
+    (one_more_stands (λ kind. g.K.EpochKind.stands kind) g.row.WAYS c.args.buckets c.args.fronts.now.items c.in_ok-front.front events merged
+    made.buckets made.stands stand)
 
 pub returns-clause-adds : goal.returns-clause-adds
 returns-clause-adds g c =

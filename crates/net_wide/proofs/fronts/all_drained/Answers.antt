@@ -11,7 +11,9 @@ loop-front-preserved g c =
     let fronts = c.args.fronts.now in
     let i = c.loop-front.front-index in
     let below : i < length fronts = c.loop-front-test.true in
-    all_next (λ front. is_drained front.cache front.pipe) fronts i c.front-item.result c.loop-front.invariant (got_here fronts i c.front-item.result below ∙ ap (λ l. Some l) (sym c.front-item.is)) (sym c.drained.ensures.value ∙ c.if-not-drained.false)
+    all_next (λ front. is_drained front.cache front.pipe) fronts i c.front-item.result c.loop-front.invariant
+    (got_here fronts i c.front-item.result below ∙ ap (λ l. Some l) (sym c.front-item.is))
+    (sym c.drained.ensures.value ∙ c.if-not-drained.false)
 
 pub returns-clause-done : goal.returns-clause-done
 returns-clause-done g c t buckets events merged stand =
@@ -19,5 +21,6 @@ returns-clause-done g c t buckets events merged stand =
     let i = c.loop-front.front-index in
     let end : i ≡ length fronts = omega (arith, c.loop-front-test.false, c.loop-front.auto.front-index-end) in
     let all : list_all (λ front. is_drained front.cache front.pipe) fronts ≡ true =
-    ap (list_all (λ front. is_drained front.cache front.pipe)) (sym (ap (λ n. take n fronts) end ∙ take-length fronts)) ∙ c.loop-front.invariant in
+    ap (list_all (λ front. is_drained front.cache front.pipe)) (sym (ap (λ n. take n fronts) end ∙ take-length fronts))
+    ∙ c.loop-front.invariant in
     all_done (λ kind. g.K.EpochKind.stands kind) g.row.WAYS buckets fronts events merged all stand

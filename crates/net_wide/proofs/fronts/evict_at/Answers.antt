@@ -10,13 +10,15 @@ pub returns-clause-makes : goal.returns-clause-makes
 returns-clause-makes g c =
     let fronts = c.args.fronts.now in
     let first = c.index-fronts-at.result in
-    one_makes (λ kind. g.K.EpochKind.stands kind) g.row.WAYS c.args.at (Evict c.args.bucket) fronts (get_or fronts c.args.at first) c.evict.new.self
+    one_makes (λ kind. g.K.EpochKind.stands kind) g.row.WAYS c.args.at (Evict c.args.bucket) fronts (get_or fronts c.args.at first)
+    c.evict.new.self
     c.requires.switch (got_here fronts c.args.at first c.requires.switch) c.evict.ensures.makes
     (c.evict.ensures.cache, λ none. c.evict.ensures.same (c.evict.ensures.some ∙ ap (λ n. not (n == 0)) none))
 
 pub returns-clause-leads : goal.returns-clause-leads
 returns-clause-leads g c =
-    evict_leads (λ kind. g.K.EpochKind.stands kind) g.row.WAYS c.args.at c.args.bucket c.args.fronts.now (set c.args.fronts.now c.args.at c.evict.new.self)
+    evict_leads (λ kind. g.K.EpochKind.stands kind) g.row.WAYS c.args.at c.args.bucket c.args.fronts.now
+    (set c.args.fronts.now c.args.at c.evict.new.self)
     c.requires.switch (returns-clause-makes g c)
 
 pub returns-clause-some : goal.returns-clause-some
@@ -31,4 +33,5 @@ returns-clause-cost g c x e =
     let fronts = c.args.fronts.now in
     let first = c.index-fronts-at.result in
     let same = same_some (get_or fronts c.args.at first) x (sym (got_here fronts c.args.at first c.requires.switch) ∙ e) in
-    subst (λ v. c.evict.new.steps ≡ c.args.steps.now + (if c.evict.result then evict_cost v.cache.key_words v.cache.entry_words else 0)) same c.evict.ensures.cost
+    subst (λ v. c.evict.new.steps ≡ c.args.steps.now + (if c.evict.result then evict_cost v.cache.key_words v.cache.entry_words else 0))
+    same c.evict.ensures.cost

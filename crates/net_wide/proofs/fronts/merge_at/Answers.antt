@@ -16,8 +16,10 @@ returns-clause-makes g c =
     let at = c.args.at in
     let was = get_or fronts at c.index-fronts-at.result in
     let new = c.merge_into.new.self in
-    on_both (FrontMakes (g.K.EpochKind.stands was.kind) g.row.WAYS Merge was new) (new.pipe.records ≡ drop 1 was.pipe.records) (SwitchMakes (λ kind. g.K.EpochKind.stands kind) g.row.WAYS at Merge fronts (set fronts at new)) c.merge_into.result
-    (λ made records. one_makes (λ kind. g.K.EpochKind.stands kind) g.row.WAYS at Merge fronts was new c.requires.switch (got_here fronts at c.index-fronts-at.result c.requires.switch) made
+    on_both (FrontMakes (g.K.EpochKind.stands was.kind) g.row.WAYS Merge was new) (new.pipe.records ≡ drop 1 was.pipe.records)
+    (SwitchMakes (λ kind. g.K.EpochKind.stands kind) g.row.WAYS at Merge fronts (set fronts at new)) c.merge_into.result
+    (λ made records. one_makes (λ kind. g.K.EpochKind.stands kind) g.row.WAYS at Merge fronts was new c.requires.switch
+    (got_here fronts at c.index-fronts-at.result c.requires.switch) made
     (c.merge_into.ensures.cache, records))
     c.merge_into.ensures.makes c.merge_into.ensures.records
 
@@ -26,7 +28,8 @@ returns-clause-leads g c =
     let fronts = c.args.fronts.now in
     let at = c.args.at in
     let after = set fronts at c.merge_into.new.self in
-    on_ok (SwitchMakes (λ kind. g.K.EpochKind.stands kind) g.row.WAYS at Merge fronts after) (LeadsByMerge (λ kind. g.K.EpochKind.stands kind) g.row.WAYS at fronts after) c.merge_into.result
+    on_ok (SwitchMakes (λ kind. g.K.EpochKind.stands kind) g.row.WAYS at Merge fronts after)
+    (LeadsByMerge (λ kind. g.K.EpochKind.stands kind) g.row.WAYS at fronts after) c.merge_into.result
     (λ made. merge_leads (λ kind. g.K.EpochKind.stands kind) g.row.WAYS at fronts after c.requires.switch made)
     (returns-clause-makes g c)
 
@@ -39,8 +42,10 @@ returns-clause-takes g c =
     let before = c.args.store.now in
     let after = c.merge_into.new.store in
     on_ok (MergesNext (g.K.EpochKind.stands was.kind) (g.K.EpochKind.folding was.kind) was before after)
-    (AtSwitch (λ front. StoreTakes (λ kind. g.K.EpochKind.stands kind) (g.K.EpochKind.folding front.kind) g.row.WAYS at fronts before after) fronts at) c.merge_into.result
-    (λ next x e. subst (λ y. StoreTakes (λ kind. g.K.EpochKind.stands kind) (g.K.EpochKind.folding y.kind) g.row.WAYS at fronts before after) (same_some was x (sym here ∙ e))
+    (AtSwitch (λ front. StoreTakes (λ kind. g.K.EpochKind.stands kind) (g.K.EpochKind.folding front.kind) g.row.WAYS at fronts before after)
+    fronts at) c.merge_into.result
+    (λ next x e. subst (λ y. StoreTakes (λ kind. g.K.EpochKind.stands kind) (g.K.EpochKind.folding y.kind) g.row.WAYS at fronts before
+    after) (same_some was x (sym here ∙ e))
     (store_takes (λ kind. g.K.EpochKind.stands kind) (g.K.EpochKind.folding was.kind) g.row.WAYS at fronts was before after here next))
     c.merge_into.ensures.held
 
@@ -50,7 +55,8 @@ returns-clause-ready g c =
     let at = c.args.at in
     let new = c.merge_into.new.self in
     let there = got_set fronts at new c.requires.switch in
-    on_ok (length new.pipe.records < new.pipe.places) (AtSwitch (λ front. length front.pipe.records < front.pipe.places) (set fronts at new) at) c.merge_into.result
+    on_ok (length new.pipe.records < new.pipe.places) (AtSwitch (λ front. length front.pipe.records < front.pipe.places) (set fronts at new)
+    at) c.merge_into.result
     (λ room x e. subst (λ v. length v.pipe.records < v.pipe.places) (same_some new x (sym there ∙ e)) room)
     c.merge_into.ensures.ready
 
@@ -76,7 +82,8 @@ returns-clause-err g c =
     let at = c.args.at in
     let was = get_or fronts at c.index-fronts-at.result in
     let new = c.merge_into.new.self in
-    on_err ((new ≡ was) × (c.merge_into.new.store ≡ c.args.store.now)) ((set fronts at new ≡ fronts) × (c.merge_into.new.store ≡ c.args.store.now)) c.merge_into.result
+    on_err ((new ≡ was) × (c.merge_into.new.store ≡ c.args.store.now))
+    ((set fronts at new ≡ fronts) × (c.merge_into.new.store ≡ c.args.store.now)) c.merge_into.result
     (λ same. (ap (set fronts at) same.0 ∙ set_same fronts at was (got_here fronts at c.index-fronts-at.result c.requires.switch), same.1))
     c.merge_into.ensures.err
 
@@ -85,7 +92,8 @@ returns-clause-cost g c x e =
     let fronts = c.args.fronts.now in
     let first = c.index-fronts-at.result in
     let same = same_some (get_or fronts c.args.at first) x (sym (got_here fronts c.args.at first c.requires.switch) ∙ e) in
-    subst (λ v. c.merge_into.new.steps ≤ c.args.steps.now + merge_cost v.cache.key_words v.cache.entry_words (g.K.EpochKind.merge_bound v.kind)) same c.merge_into.ensures.cost
+    subst (λ v. c.merge_into.new.steps ≤ c.args.steps.now + merge_cost v.cache.key_words v.cache.entry_words
+    (g.K.EpochKind.merge_bound v.kind)) same c.merge_into.ensures.cost
 
 pub returns-clause-known : goal.returns-clause-known
 returns-clause-known g c x e =

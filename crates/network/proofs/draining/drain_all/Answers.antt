@@ -12,7 +12,13 @@ use Rattle.network.proofs.Runs.{merging_breaks, merging_is, merging_kept, mergin
 use Rattle.network.proofs.draining.drain_all.Goals as goal
 
 pub loop-at-init : goal.loop-at-init
-loop-at-init g c = record { runs = merging_none g.row.WAYS c.args.network.now; same = λ n s h. refl; drained = λ n s less. absurd (omega arith); later = omega arith }
+loop-at-init g c = record {
+  runs = merging_none g.row.WAYS c.args.network.now;
+  same = λ n s h. refl;
+  drained =
+      λ n s less. absurd (omega arith);
+  later = omega arith;
+}
 
 pub drain_switch-requires : goal.drain_switch-requires
 drain_switch-requires g c =
@@ -38,13 +44,16 @@ loop-at-preserved g c =
     let kept = merging_kept ways (joined_below at (switch_evictions old)) old cur was.runs in
     let stay = c.drain_switch.ensures.others in
     let drained : FrontOf AnyEpochs → Type 0 = λ front. is_drained front.cache front.pipe ≡ true in
-    let ran = subst (λ es. RunsWithMerges ways es cur new) (switch_same at old cur kept (λ lane. was.same lane at (omega arith))) c.in_ok-drain_switch.ensures.runs in
+    let ran = subst (λ es. RunsWithMerges ways es cur new) (switch_same at old cur kept (λ lane. was.same lane at (omega arith)))
+    c.in_ok-drain_switch.ensures.runs in
     record {
       runs = merging_next ways (switch_evictions old) at old cur new was.runs ran;
       same = λ n s h. stay n s (let d : s ≢ at = λ e. omega arith in d) ∙ was.same n s (omega arith);
       drained = λ n s h. by_test (s == at)
-          (λ t. let it : s ≡ at = grind (arith, nat_tests) in subst (λ k. AtFront drained new.groups k n) (sym it) (c.in_ok-drain_switch.ensures.drained n))
-          (λ t. let far : s ≢ at = grind (arith, nat_tests) in front_stays drained s n cur new (stay n s far) (was.drained n s (let a = far in omega arith)));
+          (λ t. let it : s ≡ at = grind (arith, nat_tests) in subst (λ k. AtFront drained new.groups k n) (sym it)
+          (c.in_ok-drain_switch.ensures.drained n))
+          (λ t. let far : s ≢ at = grind (arith, nat_tests) in front_stays drained s n cur new (stay n s far)
+          (was.drained n s (let a = far in omega arith)));
       later = let a = was.later in let b = c.drain_switch.ensures.steps in omega arith;
     }
 
@@ -85,5 +94,7 @@ returns-in_err-drain_switch-clause-breaks_off g c =
     let kept = merging_kept ways (joined_below at (switch_evictions old)) old cur was.runs in
     let end = c.switches-at-end.ensures in
     let less = c.loop-at-test.true in
-    let broke = subst (λ es. MergingBreaksOff ways es cur new) (switch_same at old cur kept (λ lane. was.same lane at (omega arith))) c.in_err-drain_switch.ensures.breaks_off in
-    if_err (MergingBreaksOff ways (all_evictions old) old new) c.from_residual.result (merging_breaks ways (switch_evictions old) at old.switches old cur new (omega arith) was.runs broke)
+    let broke = subst (λ es. MergingBreaksOff ways es cur new) (switch_same at old cur kept (λ lane. was.same lane at (omega arith)))
+    c.in_err-drain_switch.ensures.breaks_off in
+    if_err (MergingBreaksOff ways (all_evictions old) old new) c.from_residual.result
+    (merging_breaks ways (switch_evictions old) at old.switches old cur new (omega arith) was.runs broke)

@@ -14,7 +14,14 @@ use Rattle.network.proofs.draining.drain_switch.Goals as goal
 
 pub loop-lane-init : goal.loop-lane-init
 loop-lane-init g c =
-    record { runs = merging_none g.row.WAYS c.args.network.now; same = λ n h. refl; drained = λ n less. absurd (omega arith); others = λ n other apart. refl; later = omega arith }
+    record {
+      runs = merging_none g.row.WAYS c.args.network.now;
+      same = λ n h. refl;
+      drained = λ n less. absurd (omega arith);
+      others =
+          λ n other apart. refl;
+      later = omega arith;
+    }
 
 pub drain_lane-requires : goal.drain_lane-requires
 drain_lane-requires g c =
@@ -45,13 +52,16 @@ loop-lane-preserved g c =
     let stay = c.drain_lane.ensures.others in
     let drained : FrontOf AnyEpochs → Type 0 = λ front. is_drained front.cache front.pipe ≡ true in
     let ran = subst (λ o. RunsWithMerges ways (cache_evictions old.buckets at lane o) cur new) (was.same lane (omega arith))
-    (subst (λ n. RunsWithMerges ways (cache_evictions n at lane (front_at cur lane at)) cur new) kept.keeps.buckets c.in_ok-drain_lane.ensures.runs) in
+    (subst (λ n. RunsWithMerges ways (cache_evictions n at lane (front_at cur lane at)) cur new) kept.keeps.buckets
+    c.in_ok-drain_lane.ensures.runs) in
     record {
       runs = merging_next ways f lane old cur new was.runs ran;
       same = λ n h. stay n at (λ e. (let it = e.0 in omega arith)) ∙ was.same n (omega arith);
       drained = λ n h. by_test (n == lane)
-          (λ t. let it : n ≡ lane = grind (arith, nat_tests) in subst (λ k. AtFront drained new.groups at k) (sym it) c.in_ok-drain_lane.ensures.drained)
-          (λ t. let far : n ≢ lane = grind (arith, nat_tests) in front_stays drained at n cur new (stay n at (λ e. far e.0)) (was.drained n (let a = far in omega arith)));
+          (λ t. let it : n ≡ lane = grind (arith, nat_tests) in subst (λ k. AtFront drained new.groups at k) (sym it)
+          c.in_ok-drain_lane.ensures.drained)
+          (λ t. let far : n ≢ lane = grind (arith, nat_tests) in front_stays drained at n cur new (stay n at (λ e. far e.0))
+          (was.drained n (let a = far in omega arith)));
       others = λ n other apart. stay n other (λ e. apart e.1) ∙ was.others n other apart;
       later = let a = was.later in let b = c.drain_lane.ensures.steps in omega arith;
     }
@@ -100,8 +110,10 @@ returns-in_err-drain_lane-clause-breaks_off g c =
     let end = c.lanes-lane-end.ensures in
     let less = c.loop-lane-test.true in
     let broke = subst (λ o. MergingBreaksOff ways (cache_evictions old.buckets at lane o) cur new) (was.same lane (omega arith))
-    (subst (λ n. MergingBreaksOff ways (cache_evictions n at lane (front_at cur lane at)) cur new) kept.keeps.buckets c.in_err-drain_lane.ensures.breaks_off) in
-    if_err (MergingBreaksOff ways (switch_evictions old at) old new) c.from_residual.result (merging_breaks ways f lane (length old.groups) old cur new (omega arith) was.runs broke)
+    (subst (λ n. MergingBreaksOff ways (cache_evictions n at lane (front_at cur lane at)) cur new) kept.keeps.buckets
+    c.in_err-drain_lane.ensures.breaks_off) in
+    if_err (MergingBreaksOff ways (switch_evictions old at) old new) c.from_residual.result
+    (merging_breaks ways f lane (length old.groups) old cur new (omega arith) was.runs broke)
 
 pub returns-in_err-drain_lane-clause-others : goal.returns-in_err-drain_lane-clause-others
 returns-in_err-drain_lane-clause-others g c n other apart =

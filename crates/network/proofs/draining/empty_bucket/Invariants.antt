@@ -9,7 +9,8 @@ invariant-epochs g l = record {
   runs : (done : ℕ) × (done + open_in l.bucket (front_at l.network l.lane l.at) ≡ open_in l.bucket (front_at l.initial.network l.lane l.at))
       × RunsWithMerges g.row.WAYS (replicate done (Evicts l.at l.lane l.bucket)) l.initial.network l.network;
   ready : AtGroup (λ group. is_ready_at l.at group ≡ true) l.network.groups l.lane;
-  buckets : (other : ℕ) → other ≢ l.bucket → open_in other (front_at l.network l.lane l.at) ≡ open_in other (front_at l.initial.network l.lane l.at);
+  buckets : (other : ℕ) → other ≢ l.bucket → open_in other (front_at l.network l.lane l.at) ≡ open_in other
+      (front_at l.initial.network l.lane l.at);
   others : FrontsStay l.lane l.at l.initial.network l.network;
   later : l.initial.steps ≤ l.steps;
 }

@@ -1,7 +1,8 @@
 use Rattle.std.proofs.Common.{◌≡◌, ◌≢◌, ◌<◌, ◌==◌, ℕ, List, refl, sym, ap, ◌∙◌, subst, arith, lit<}
 use Rattle.std.proofs.lemmas.Bool.Decides.{nat_tests}
 use Rattle.epoch_model.proofs.KeyLists.{by_test}
-use Rattle.network.specs.Running.{MergingBreaksOff, NetworkEvent, RunsWithMerges, bucket_evictions, cache_evictions, front_at, joined_below, open_in}
+use Rattle.network.specs.Running.{MergingBreaksOff, NetworkEvent, RunsWithMerges, bucket_evictions, cache_evictions, front_at, joined_below}
+use Rattle.network.specs.Running.{open_in}
 use Rattle.network.proofs.EventFronts.{stay_on, stay_same}
 use Rattle.network.proofs.MakeSteps.{if_err}
 use Rattle.network.proofs.Runs.{kept_long, merging_breaks, merging_kept, merging_next, merging_none}
@@ -49,13 +50,16 @@ loop-bucket-preserved g c =
     let f : ℕ → List NetworkEvent = λ k. bucket_evictions at lane k (open_in k (front_at old lane at)) in
     let new = c.empty_bucket.new.network in
     let one = c.empty_bucket.ensures in
-    let ran = subst (λ n. RunsWithMerges ways (bucket_evictions at lane bucket n) cur new) (was.same bucket (omega arith)) c.in_ok-empty_bucket.ensures.runs in
+    let ran = subst (λ n. RunsWithMerges ways (bucket_evictions at lane bucket n) cur new) (was.same bucket (omega arith))
+    c.in_ok-empty_bucket.ensures.runs in
     record {
       runs = merging_next ways f bucket old cur new was.runs ran;
       same = λ other h. one.buckets other (let d : other ≢ bucket = λ e. omega arith in d) ∙ was.same other (omega arith);
       empty = λ other h. by_test (other == bucket)
-          (λ t. let it : other ≡ bucket = grind (arith, nat_tests) in ap (λ k. open_in k (front_at new lane at)) it ∙ c.in_ok-empty_bucket.ensures.empty)
-          (λ t. let far : other ≢ bucket = grind (arith, nat_tests) in one.buckets other far ∙ was.empty other (let a = far in omega arith));
+          (λ t. let it : other ≡ bucket = grind (arith, nat_tests) in ap (λ k. open_in k (front_at new lane at)) it
+          ∙ c.in_ok-empty_bucket.ensures.empty)
+          (λ t. let far : other ≢ bucket = grind (arith, nat_tests) in one.buckets other far
+          ∙ was.empty other (let a = far in omega arith));
       ready = c.in_ok-empty_bucket.ensures.ready;
       others = stay_on lane at old cur new was.others one.others;
       later = let a = was.later in let b = one.steps in omega arith;
@@ -96,10 +100,12 @@ returns-in_err-empty_bucket-clause-breaks_off g c =
     let new = c.empty_bucket.new.network in
     let end = c.buckets-bucket-end.ensures in
     let less = c.loop-bucket-test.true in
-    let ran = subst (λ n. MergingBreaksOff ways (bucket_evictions at lane bucket n) cur new) (was.same bucket (omega arith)) c.in_err-empty_bucket.ensures.breaks_off in
+    let ran = subst (λ n. MergingBreaksOff ways (bucket_evictions at lane bucket n) cur new) (was.same bucket (omega arith))
+    c.in_err-empty_bucket.ensures.breaks_off in
     if_err (MergingBreaksOff ways (cache_evictions old.buckets at lane (front_at old lane at)) old new) c.from_residual.result
     (merging_breaks ways f bucket old.buckets old cur new (omega arith) was.runs ran)
 
 pub returns-in_err-empty_bucket-clause-others : goal.returns-in_err-empty_bucket-clause-others
 returns-in_err-empty_bucket-clause-others g c =
-    stay_on c.args.lane c.args.at c.args.network.now c.loop-bucket.network c.empty_bucket.new.network c.loop-bucket.invariant.others c.empty_bucket.ensures.others
+    stay_on c.args.lane c.args.at c.args.network.now c.loop-bucket.network c.empty_bucket.new.network c.loop-bucket.invariant.others
+    c.empty_bucket.ensures.others

@@ -8,7 +8,13 @@ use Rattle.network.proofs.draining.empty_pipe.Goals as goal
 pub records-init : goal.records-init
 records-init g c =
     let old = c.args.network.now in
-    record { runs = merging_none g.row.WAYS old; buckets = λ bucket. refl; others = stay_same c.args.lane c.args.at old; later = omega arith }
+    record {
+      runs = merging_none g.row.WAYS old;
+      buckets = λ bucket. refl;
+      others = stay_same c.args.lane c.args.at old;
+      later =
+          omega arith;
+    }
 
 pub merge-requires : goal.merge-requires
 merge-requires g c =
@@ -48,11 +54,14 @@ records-smaller g c =
     let kept = merging_kept ways [] old cur was.runs in
     let long = kept_long old cur kept in
     let below = c.requires.lane in
-    let there = front_there ways at lane cur (merging_is ways [] old cur was.runs c.invariant.ensures) (subst (λ n. at < n) (sym kept.switches) c.requires.switch) (omega arith) in
-    let here : waiting_in (front_at cur lane at) ≡ length (there.2).pipe.records = ap waiting_in (front_is at lane cur there.0 there.2 there.1 there.3) in
+    let there = front_there ways at lane cur (merging_is ways [] old cur was.runs c.invariant.ensures)
+    (subst (λ n. at < n) (sym kept.switches) c.requires.switch) (omega arith) in
+    let here : waiting_in (front_at cur lane at) ≡ length (there.2).pipe.records =
+    ap waiting_in (front_is at lane cur there.0 there.2 there.1 there.3) in
     let less = merge_less ways at lane cur new c.in_ok-merge.ensures.makes in
     let empty = c.merge.ensures.empty there.0 there.1 there.2 there.3 in
-    let some : waiting_in (front_at cur lane at) ≡ 0 → ⊥ = λ none. not_empty c.merge.result c.in_ok-merge.field-0 c.in_ok-merge.was c.in-Done.is (empty.1 (sym here ∙ none)) in
+    let some : waiting_in (front_at cur lane at) ≡ 0 → ⊥ = λ none. not_empty c.merge.result c.in_ok-merge.field-0 c.in_ok-merge.was
+    c.in-Done.is (empty.1 (sym here ∙ none)) in
     omega arith
 
 pub returns-clause-runs : goal.returns-clause-runs
@@ -72,15 +81,19 @@ returns-clause-empty g c =
     let kept = merging_kept ways [] old cur was.runs in
     let long = kept_long old cur kept in
     let below = c.requires.lane in
-    let there = front_there ways at lane cur (merging_is ways [] old cur was.runs c.invariant.ensures) (subst (λ n. at < n) (sym kept.switches) c.requires.switch) (omega arith) in
-    let here : waiting_in (front_at cur lane at) ≡ length (there.2).pipe.records = ap waiting_in (front_is at lane cur there.0 there.2 there.1 there.3) in
+    let there = front_there ways at lane cur (merging_is ways [] old cur was.runs c.invariant.ensures)
+    (subst (λ n. at < n) (sym kept.switches) c.requires.switch) (omega arith) in
+    let here : waiting_in (front_at cur lane at) ≡ length (there.2).pipe.records =
+    ap waiting_in (front_is at lane cur there.0 there.2 there.1 there.3) in
     let less = merge_less ways at lane cur new c.in_ok-merge.ensures.makes in
-    let none : length (there.2).pipe.records ≡ 0 = (c.merge.ensures.empty there.0 there.1 there.2 there.3).0 (c.in_ok-merge.was ∙ ap Ok c.in_default.is) in
+    let none : length (there.2).pipe.records ≡ 0 = (c.merge.ensures.empty there.0 there.1 there.2 there.3).0
+    (c.in_ok-merge.was ∙ ap Ok c.in_default.is) in
     omega arith
 
 pub returns-clause-buckets : goal.returns-clause-buckets
 returns-clause-buckets g c bucket =
-    merge_open g.row.WAYS c.args.at c.args.lane c.records.network c.merge.new.self c.in_ok-merge.ensures.makes bucket ∙ c.records.invariant.buckets bucket
+    merge_open g.row.WAYS c.args.at c.args.lane c.records.network c.merge.new.self c.in_ok-merge.ensures.makes bucket
+    ∙ c.records.invariant.buckets bucket
 
 pub returns-clause-others : goal.returns-clause-others
 returns-clause-others g c =
@@ -88,12 +101,15 @@ returns-clause-others g c =
     (merge_stays g.row.WAYS c.args.at c.args.lane c.records.network c.merge.new.self c.in_ok-merge.ensures.makes)
 
 pub returns-in_err-merge-clause-runs : goal.returns-in_err-merge-clause-runs
-returns-in_err-merge-clause-runs g c = subst (RunsWithMerges g.row.WAYS [] c.args.network.now) (sym c.in_err-merge.ensures.err) c.records.invariant.runs
+returns-in_err-merge-clause-runs g c = subst (RunsWithMerges g.row.WAYS [] c.args.network.now) (sym c.in_err-merge.ensures.err)
+    c.records.invariant.runs
 
 pub returns-in_err-merge-clause-buckets : goal.returns-in_err-merge-clause-buckets
 returns-in_err-merge-clause-buckets g c bucket =
-    ap (λ (v : NetworkView). open_in bucket (front_at v c.args.lane c.args.at)) c.in_err-merge.ensures.err ∙ c.records.invariant.buckets bucket
+    ap (λ (v : NetworkView). open_in bucket (front_at v c.args.lane c.args.at)) c.in_err-merge.ensures.err
+    ∙ c.records.invariant.buckets bucket
 
 pub returns-in_err-merge-clause-others : goal.returns-in_err-merge-clause-others
 returns-in_err-merge-clause-others g c =
-    stay_as c.args.lane c.args.at c.args.network.now c.records.network c.merge.new.self c.in_err-merge.ensures.err c.records.invariant.others
+    stay_as c.args.lane c.args.at c.args.network.now c.records.network c.merge.new.self c.in_err-merge.ensures.err
+    c.records.invariant.others

@@ -17,8 +17,10 @@ returns-then-present-clause-makes g c =
     let row = c.args_into.new.args in
     let taking : Key → ArgRow → Option Taken = λ k r. Some (record { key = k; row = r }) in
     let same : taken_at wiring registers ≡ taking key row =
-    rw t (ap (λ k. taking k (map (operand_value registers) wiring.args)) (sym c.key_into.ensures.key) ∙ ap (taking key) (sym c.args_into.ensures.args)) in
-    subst (λ taken. FrontsMakeAll (λ kind. g.K.EpochKind.stands kind) g.row.WAYS c.args.at (event_of taken) c.args.fronts.now new) (sym same) (new, c.packet_at.ensures.makes, refl)
+    rw t (ap (λ k. taking k (map (operand_value registers) wiring.args)) (sym c.key_into.ensures.key)
+    ∙ ap (taking key) (sym c.args_into.ensures.args)) in
+    subst (λ taken. FrontsMakeAll (λ kind. g.K.EpochKind.stands kind) g.row.WAYS c.args.at (event_of taken) c.args.fronts.now new)
+    (sym same) (new, c.packet_at.ensures.makes, refl)
 
 pub returns-else-present-clause-makes : goal.returns-else-present-clause-makes
 returns-else-present-clause-makes g c =
@@ -30,7 +32,8 @@ returns-else-present-clause-makes g c =
     subst (λ events. FrontsMakeAll (λ kind. g.K.EpochKind.stands kind) g.row.WAYS c.args.at events fronts fronts) none refl
 
 -- steps of a key and of a row of arguments, and then of a packet
-copied : (start key args end keys row most : ℕ) → key ≡ start + keys → args ≡ key + row → end ≤ args + most → end ≤ start + ((keys + row) + most)
+copied : (start key args end keys row most : ℕ) → key ≡ start + keys → args ≡ key + row → end ≤ args + most → end ≤ start
+    + ((keys + row) + most)
 copied start key args end keys row most k r e = omega arith
 
 pub returns-then-present-clause-cost : goal.returns-then-present-clause-cost
@@ -39,7 +42,8 @@ returns-then-present-clause-cost g c front e =
     let words = front.cache.key_words in
     let sizes = g.K.EpochKind.sizes front.kind in
     copied start c.key_into.new.steps c.args_into.new.steps c.packet_at.new.steps words sizes.args
-    (words + 2 * g.row.WAYS * (words + 1) + (words + sizes.entry) + g.K.EpochKind.open_bound front.kind + g.K.EpochKind.absorb_bound front.kind)
+    (words + 2 * g.row.WAYS * (words + 1) + (words + sizes.entry) + g.K.EpochKind.open_bound front.kind
+    + g.K.EpochKind.absorb_bound front.kind)
     (c.key_into.ensures.steps ∙ ap (λ n. start + n) (c.requires.key front e))
     (c.args_into.ensures.steps ∙ ap (λ n. c.key_into.new.steps + n) (c.requires.args front e))
     (c.packet_at.ensures.cost front e)

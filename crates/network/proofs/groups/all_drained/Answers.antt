@@ -12,7 +12,8 @@ returns-then-not-drained-clause-value g c =
     let groups = c.args.groups.now in
     let i = c.loop-group.group-index in
     let below : i < length groups = c.loop-group-test.true in
-    sym (all_fails group_is_drained groups i c.group-item.result (got_here groups i c.group-item.result below ∙ ap (λ x. Some x) (sym c.group-item.is))
+    sym (all_fails group_is_drained groups i c.group-item.result (got_here groups i c.group-item.result below
+    ∙ ap (λ x. Some x) (sym c.group-item.is))
     (sym c.drained.ensures.value ∙ c.if-not-drained.true))
 
 pub loop-group-preserved : goal.loop-group-preserved
@@ -20,7 +21,8 @@ loop-group-preserved g c =
     let groups = c.args.groups.now in
     let i = c.loop-group.group-index in
     let below : i < length groups = c.loop-group-test.true in
-    all_next group_is_drained groups i c.group-item.result c.loop-group.invariant (got_here groups i c.group-item.result below ∙ ap (λ x. Some x) (sym c.group-item.is))
+    all_next group_is_drained groups i c.group-item.result c.loop-group.invariant
+    (got_here groups i c.group-item.result below ∙ ap (λ x. Some x) (sym c.group-item.is))
     (sym c.drained.ensures.value ∙ c.if-not-drained.false)
 
 pub returns-clause-done : goal.returns-clause-done
@@ -28,5 +30,6 @@ returns-clause-done g c t n group e =
     let groups = c.args.groups.now in
     let i = c.loop-group.group-index in
     let end : i ≡ length groups = omega (arith, c.loop-group-test.false, c.loop-group.auto.group-index-end) in
-    let all : list_all group_is_drained groups ≡ true = ap (list_all group_is_drained) (sym (ap (λ k. take k groups) end ∙ take-length groups)) ∙ c.loop-group.invariant in
+    let all : list_all group_is_drained groups ≡ true = ap (list_all group_is_drained)
+    (sym (ap (λ k. take k groups) end ∙ take-length groups)) ∙ c.loop-group.invariant in
     all_merged g.row.WAYS group (all_at group_is_drained groups n group all e)

@@ -12,7 +12,8 @@ ready-requires g c =
     let i = c.loop-group.group-index in
     let r = c.requires in
     let below : i < length groups = c.loop-group-test.true in
-    let here : slice_get groups i ≡ Some c.group-item.result = got_here groups i c.group-item.result below ∙ ap (λ x. Some x) (sym c.group-item.is) in
+    let here : slice_get groups i ≡ Some c.group-item.result = got_here groups i c.group-item.result below
+    ∙ ap (λ x. Some x) (sym c.group-item.is) in
     (lit< tt, switch_within r.0 r.1 c.args.at i groups c.group-item.result r.2 r.3 here)
 
 pub returns-then-not-ready : goal.returns-then-not-ready
@@ -20,7 +21,8 @@ returns-then-not-ready g c =
     let groups = c.args.groups.now in
     let i = c.loop-group.group-index in
     let below : i < length groups = c.loop-group-test.true in
-    sym (all_fails (is_ready_at c.args.at) groups i c.group-item.result (got_here groups i c.group-item.result below ∙ ap (λ x. Some x) (sym c.group-item.is))
+    sym (all_fails (is_ready_at c.args.at) groups i c.group-item.result
+    (got_here groups i c.group-item.result below ∙ ap (λ x. Some x) (sym c.group-item.is))
     (sym c.ready.ensures ∙ c.if-not-ready.true))
 
 pub loop-group-preserved : goal.loop-group-preserved
@@ -28,5 +30,6 @@ loop-group-preserved g c =
     let groups = c.args.groups.now in
     let i = c.loop-group.group-index in
     let below : i < length groups = c.loop-group-test.true in
-    all_next (is_ready_at c.args.at) groups i c.group-item.result c.loop-group.invariant (got_here groups i c.group-item.result below ∙ ap (λ x. Some x) (sym c.group-item.is))
+    all_next (is_ready_at c.args.at) groups i c.group-item.result c.loop-group.invariant
+    (got_here groups i c.group-item.result below ∙ ap (λ x. Some x) (sym c.group-item.is))
     (sym c.ready.ensures ∙ c.if-not-ready.false)

@@ -13,15 +13,21 @@ evict-requires g c =
     let lane = c.args.lane in
     let group = get_or groups lane c.index-groups-lane.result in
     let here = got_here groups lane c.index-groups-lane.result c.requires.lane in
-    let r = c.requires.groups in
-    (lit< tt, (switch_within r.0 r.1 c.args.at lane groups group r.2 r.3 here, (c.requires.ready group here, (λ front e. c.requires.range group here front e))))
+    let r = c.requires.groups in (
+      lit< tt,
+      (
+        switch_within r.0 r.1 c.args.at lane groups group r.2 r.3 here,
+        (c.requires.ready group here, (λ front e. c.requires.range group here front e)),
+      ),
+    )
 
 pub returns-clause-makes : goal.returns-clause-makes
 returns-clause-makes g c =
     let groups = c.args.groups.now in
     let lane = c.args.lane in
     let group = get_or groups lane c.index-groups-lane.result in
-    make_one g.row.WAYS c.args.at lane (Evict c.args.bucket) groups group c.evict.new.self (got_here groups lane c.index-groups-lane.result c.requires.lane) c.evict.ensures.makes
+    make_one g.row.WAYS c.args.at lane (Evict c.args.bucket) groups group c.evict.new.self
+    (got_here groups lane c.index-groups-lane.result c.requires.lane) c.evict.ensures.makes
 
 pub returns-clause-stores : goal.returns-clause-stores
 returns-clause-stores g c =

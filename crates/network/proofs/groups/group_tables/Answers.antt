@@ -11,13 +11,15 @@ use Rattle.network.proofs.groups.group_tables.Goals as goal
 pub overflow_cast-i : goal.overflow_cast-i
 overflow_cast-i g c =
     let many = c.invariant.ensures.most_groups in
-    let long : length c.args.groups.now ≡ length c.args.plan.now.groups = each_long _ 0 c.args.groups.now c.args.plan.now.groups c.requires.groups.1 in
+    let long : length c.args.groups.now ≡ length c.args.plan.now.groups =
+    each_long _ 0 c.args.groups.now c.args.plan.now.groups c.requires.groups.1 in
     let below = c.loop-i-test.true in
     Fits-below {n = 8} tt (omega arith)
 
 pub group-requires : goal.group-requires
 group-requires g c =
-    let long : length c.args.groups.now ≡ length c.args.plan.now.groups = each_long _ 0 c.args.groups.now c.args.plan.now.groups c.requires.groups.1 in
+    let long : length c.args.groups.now ≡ length c.args.plan.now.groups =
+    each_long _ 0 c.args.groups.now c.args.plan.now.groups c.requires.groups.1 in
     let below = c.loop-i-test.true in
     omega arith
 
@@ -43,7 +45,8 @@ loop-i-preserved g c epochs hold =
     let found = each_at (λ n x. StoreHolds (folding_in x) x.store) 0 i groups epochs group hold here in
     let table = c.in_ok-table.ensures found.0 (found.2 i (omega arith)) in
     c.in_ok-push.ensures.ok ∙ (ap (λ ts. ts ++ c.in_ok-table.field-0 ∷ []) (c.loop-i.invariant epochs hold)
-    ∙ (ap (λ t. take i (shared_tables parts groups epochs) ++ t ∷ []) table ∙ sym (tables_next parts groups epochs i c.group.result.now group found.0 c.group.ensures here found.1)))
+    ∙ (ap (λ t. take i (shared_tables parts groups epochs) ++ t ∷ []) table
+    ∙ sym (tables_next parts groups epochs i c.group.result.now group found.0 c.group.ensures here found.1)))
 
 pub returns : goal.returns
 returns g c epochs hold =

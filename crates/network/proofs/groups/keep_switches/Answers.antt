@@ -30,4 +30,5 @@ pub returns : goal.returns
 returns g c =
     let kept = c.loop-i.auto.groups in
     let end = c.loop-i-test.false in
-    done_end (λ n (a b : GroupView). b ≡ with_first c.args.switches a) c.loop-i.i c.args.groups.now c.loop-i.groups c.loop-i.invariant.kept (omega arith)
+    done_end (λ n (a b : GroupView). b ≡ with_first c.args.switches a) c.loop-i.i c.args.groups.now c.loop-i.groups c.loop-i.invariant.kept
+    (omega arith)

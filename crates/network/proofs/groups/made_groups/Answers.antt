@@ -22,12 +22,16 @@ loop-i-preserved g c =
     let group = c.in_ok-group.group in
     let pushed = c.in_ok-push.ensures.items in
     let more : take (i + 1) plan.groups ≡ take i plan.groups ++ part ∷ [] = take_next plan.groups i part c.group.ensures in
-    let many : length groups ≡ i = each_long _ 0 groups (take i plan.groups) c.loop-i.invariant.are ∙ length-take-le i plan.groups (let b = got_below plan.groups i part c.group.ensures in omega arith) in
+    let many : length groups ≡ i = each_long _ 0 groups (take i plan.groups) c.loop-i.invariant.are
+    ∙ length-take-le i plan.groups (let b = got_below plan.groups i part c.group.ensures in omega arith) in
     let R : ℕ → GroupView → GroupPlan → Type 0 = λ n x p. IsGroup 0 p (wiring_at plan n) x in
     record {
-      are = subst (λ gs. EachFrom R 0 gs (take (i + 1) plan.groups)) (sym pushed) (subst (λ ps. EachFrom R 0 (groups ++ group ∷ []) ps) (sym more)
-          (each_push R 0 groups (take i plan.groups) group part c.loop-i.invariant.are (λ n q. c.in_ok-group.ensures.is (wiring_at plan n))));
+      are = subst (λ gs. EachFrom R 0 gs (take (i + 1) plan.groups)) (sym pushed)
+          (subst (λ ps. EachFrom R 0 (groups ++ group ∷ []) ps) (sym more)
+          (each_push R 0 groups (take i plan.groups) group part c.loop-i.invariant.are
+          (λ n q. c.in_ok-group.ensures.is (wiring_at plan n))));
       stand = λ buckets. subst (All (λ x. GroupStands g.row.WAYS buckets x [] [])) (sym pushed)
           (All-append (λ x. GroupStands g.row.WAYS buckets x [] []) groups (group ∷ []) (c.loop-i.invariant.stand buckets)
-          (All-cons (λ x. GroupStands g.row.WAYS buckets x [] []) group [] (c.in_ok-group.ensures.stands buckets) (All-nil (λ x. GroupStands g.row.WAYS buckets x [] []))));
+          (All-cons (λ x. GroupStands g.row.WAYS buckets x [] []) group [] (c.in_ok-group.ensures.stands buckets)
+          (All-nil (λ x. GroupStands g.row.WAYS buckets x [] []))));
     }

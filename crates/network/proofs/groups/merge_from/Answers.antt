@@ -18,8 +18,13 @@ merge-requires g c =
     let lane = c.args.lane in
     let group = get_or groups lane c.index-groups-lane.result in
     let here = got_here groups lane c.index-groups-lane.result c.requires.lane in
-    let r = c.requires.groups in
-    (lit< tt, (switch_within r.0 r.1 c.args.at lane groups group r.2 r.3 here, (length (wiring_at r.0 lane).args, shares_at r.0 r.1 lane groups group r.3 here)))
+    let r = c.requires.groups in (
+      lit< tt,
+      (
+        switch_within r.0 r.1 c.args.at lane groups group r.2 r.3 here,
+        (length (wiring_at r.0 lane).args, shares_at r.0 r.1 lane groups group r.3 here),
+      ),
+    )
 
 pub returns-clause-makes : goal.returns-clause-makes
 returns-clause-makes g c =
@@ -27,16 +32,20 @@ returns-clause-makes g c =
     let lane = c.args.lane in
     let group = get_or groups lane c.index-groups-lane.result in
     let new = c.merge.new.self in
-    on_ok (GroupMakes g.row.WAYS c.args.at Merge group new) (GroupsMake g.row.WAYS c.args.at (event_at lane Merge) groups (set groups lane new)) c.merge.result
-    (λ made. make_one g.row.WAYS c.args.at lane Merge groups group new (got_here groups lane c.index-groups-lane.result c.requires.lane) made) c.merge.ensures.makes
+    on_ok (GroupMakes g.row.WAYS c.args.at Merge group new) (GroupsMake g.row.WAYS c.args.at (event_at lane Merge) groups
+    (set groups lane new)) c.merge.result
+    (λ made. make_one g.row.WAYS c.args.at lane Merge groups group new (got_here groups lane c.index-groups-lane.result c.requires.lane)
+    made) c.merge.ensures.makes
 
 pub returns-clause-ready : goal.returns-clause-ready
 returns-clause-ready g c =
     let groups = c.args.groups.now in
     let lane = c.args.lane in
     let new = c.merge.new.self in
-    on_ok (is_ready_at c.args.at new ≡ true) (AtGroup (λ group. is_ready_at c.args.at group ≡ true) (set groups lane new) lane) c.merge.result
-    (λ ready x e. ap (is_ready_at c.args.at) (same_some x new (sym e ∙ got_set groups lane new c.requires.lane)) ∙ ready) c.merge.ensures.ready
+    on_ok (is_ready_at c.args.at new ≡ true) (AtGroup (λ group. is_ready_at c.args.at group ≡ true) (set groups lane new) lane)
+    c.merge.result
+    (λ ready x e. ap (is_ready_at c.args.at) (same_some x new (sym e ∙ got_set groups lane new c.requires.lane)) ∙ ready)
+    c.merge.ensures.ready
 
 pub returns-clause-empty : goal.returns-clause-empty
 returns-clause-empty g c x e front f =
@@ -51,7 +60,8 @@ returns-clause-same g c is =
     let groups = c.args.groups.now in
     let lane = c.args.lane in
     let group = get_or groups lane c.index-groups-lane.result in
-    ap (set groups lane) (c.merge.ensures.same is) ∙ set_same groups lane group (got_here groups lane c.index-groups-lane.result c.requires.lane)
+    ap (set groups lane) (c.merge.ensures.same is) ∙ set_same groups lane group
+    (got_here groups lane c.index-groups-lane.result c.requires.lane)
 
 pub returns-clause-err : goal.returns-clause-err
 returns-clause-err g c =
@@ -60,7 +70,8 @@ returns-clause-err g c =
     let group = get_or groups lane c.index-groups-lane.result in
     let new = c.merge.new.self in
     on_err (new ≡ group) (set groups lane new ≡ groups) c.merge.result
-    (λ same. ap (set groups lane) same ∙ set_same groups lane group (got_here groups lane c.index-groups-lane.result c.requires.lane)) c.merge.ensures.err
+    (λ same. ap (set groups lane) same ∙ set_same groups lane group (got_here groups lane c.index-groups-lane.result c.requires.lane))
+    c.merge.ensures.err
 
 pub returns-clause-cost : goal.returns-clause-cost
 returns-clause-cost g c x e front f =

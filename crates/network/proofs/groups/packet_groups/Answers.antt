@@ -6,7 +6,8 @@ use Rattle.stage_plan.specs.Planned.{wiring_at}
 use Rattle.stage_plan.specs.Registers.{taken_at}
 use Rattle.switch_core.proofs.LaneFacts.{all_at}
 use Rattle.switch_core.proofs.SweepCosts.{sum_within}
-use Rattle.switch_core.proofs.SideBySide.{same_some, each_long, done_start, untouched_start, done_next, untouched_next, untouched_was, done_end, sum_next}
+use Rattle.switch_core.proofs.SideBySide.{same_some, each_long, done_start, untouched_start, done_next, untouched_next, untouched_was}
+use Rattle.switch_core.proofs.SideBySide.{done_end, sum_next}
 use Rattle.net_wide.proofs.Sharing.{got_here}
 use Rattle.network.specs.Groups.{GroupView}
 use Rattle.network.specs.Events.{GroupMakesAll, is_ready_at}
@@ -17,7 +18,8 @@ use Rattle.network.proofs.groups.packet_groups.Goals as goal
 
 pub loop-i-init : goal.loop-i-init
 loop-i-init g c = record {
-  makes = done_start (λ n. GroupMakesAll g.row.WAYS c.args.at (event_of (taken_at (wiring_at c.args.plan.now n) c.args.registers.now))) 0 c.args.groups.now;
+  makes = done_start (λ n. GroupMakesAll g.row.WAYS c.args.at (event_of (taken_at (wiring_at c.args.plan.now n) c.args.registers.now))) 0
+      c.args.groups.now;
   stores = done_start (λ n (a b : GroupView). b.store ≡ a.store) 0 c.args.groups.now;
   same = untouched_start 0 0 c.args.groups.now;
   later = omega arith;
@@ -29,7 +31,8 @@ loop-i-init g c = record {
 pub overflow_cast-i : goal.overflow_cast-i
 overflow_cast-i g c =
     let many = c.invariant.ensures.most_groups in
-    let long : length c.args.groups.now ≡ length c.args.plan.now.groups = each_long _ 0 c.args.groups.now c.args.plan.now.groups c.requires.groups.2 in
+    let long : length c.args.groups.now ≡ length c.args.plan.now.groups =
+    each_long _ 0 c.args.groups.now c.args.plan.now.groups c.requires.groups.2 in
     let kept = c.loop-i.auto.groups in
     let below = c.loop-i-test.true in
     Fits-below {n = 8} tt (omega arith)
@@ -41,7 +44,8 @@ packet-requires g c =
     let group = get_or c.loop-i.groups i c.index-groups-i.result in
     let kept = c.loop-i.auto.groups in
     let below : i < length c.loop-i.groups = let b = c.loop-i-test.true in omega arith in
-    let was = untouched_was i first c.loop-i.groups group c.loop-i.invariant.same (omega arith) (got_here c.loop-i.groups i c.index-groups-i.result below) in
+    let was = untouched_was i first c.loop-i.groups group c.loop-i.invariant.same (omega arith)
+    (got_here c.loop-i.groups i c.index-groups-i.result below) in
     let own = part_of c.args.plan.now c.requires.groups.0 i first group c.invariant.ensures c.requires.groups.2 was in
     let at : c.args.at < length group.fronts = let a = c.requires.groups.1 in let b = own.is.count in omega arith in
     let ready = all_at (is_ready_at c.args.at) first i group c.requires.ready was in
@@ -63,18 +67,21 @@ loop-i-preserved g c =
     let kept = c.loop-i.auto.groups in
     let below : i < length groups = let b = c.loop-i-test.true in omega arith in
     let was = untouched_was i first groups group c.loop-i.invariant.same (omega arith) (got_here groups i c.index-groups-i.result below) in
-    let made : ℕ → GroupView → GroupView → Type 0 = λ n. GroupMakesAll g.row.WAYS c.args.at (event_of (taken_at (wiring_at c.args.plan.now n) c.args.registers.now)) in
+    let made : ℕ → GroupView → GroupView → Type 0 = λ n. GroupMakesAll g.row.WAYS c.args.at
+    (event_of (taken_at (wiring_at c.args.plan.now n) c.args.registers.now)) in
     let own = part_of c.args.plan.now c.requires.groups.0 i first group c.invariant.ensures c.requires.groups.2 was in
     let at : c.args.at < length group.fronts = let a = c.requires.groups.1 in let b = own.is.count in omega arith in
     record {
-      makes = done_next made i first groups new c.loop-i.invariant.makes (λ x e. subst (λ v. made i v new) (same_some group x (sym was ∙ e)) c.packet.ensures.makes);
+      makes = done_next made i first groups new c.loop-i.invariant.makes
+          (λ x e. subst (λ v. made i v new) (same_some group x (sym was ∙ e)) c.packet.ensures.makes);
       stores = done_next (λ n (a b : GroupView). b.store ≡ a.store) i first groups new c.loop-i.invariant.stores
           (λ x e. subst (λ (v : GroupView). new.store ≡ v.store) (same_some group x (sym was ∙ e)) c.packet.ensures.store);
       same = untouched_next i first groups new c.loop-i.invariant.same;
       later = let a = c.packet.ensures.steps in let b = c.loop-i.invariant.later in omega arith;
       cost =
           let most = group_cost g.row.WAYS c.args.at in
-          within_next c.args.steps.now c.loop-i.steps c.packet.new.steps (sum_by most (take i first)) (most group) (sum_by most (take (i + 1) first)) (sum_next most first i group was)
+          within_next c.args.steps.now c.loop-i.steps c.packet.new.steps (sum_by most (take i first)) (most group)
+          (sum_by most (take (i + 1) first)) (sum_next most first i group was)
           c.loop-i.invariant.cost (group_within g.row.WAYS c.args.at c.loop-i.steps c.packet.new.steps group at c.packet.ensures.cost);
       key = c.packet.auto.key ∙ c.loop-i.invariant.key;
       args = c.packet.auto.args ∙ c.loop-i.invariant.args;
@@ -84,7 +91,8 @@ pub returns-clause-makes : goal.returns-clause-makes
 returns-clause-makes g c =
     let kept = c.loop-i.auto.groups in
     let end = c.loop-i-test.false in
-    done_end (λ n. GroupMakesAll g.row.WAYS c.args.at (event_of (taken_at (wiring_at c.args.plan.now n) c.args.registers.now))) c.loop-i.i c.args.groups.now c.loop-i.groups c.loop-i.invariant.makes
+    done_end (λ n. GroupMakesAll g.row.WAYS c.args.at (event_of (taken_at (wiring_at c.args.plan.now n) c.args.registers.now))) c.loop-i.i
+    c.args.groups.now c.loop-i.groups c.loop-i.invariant.makes
     (omega arith)
 
 pub returns-clause-stores : goal.returns-clause-stores

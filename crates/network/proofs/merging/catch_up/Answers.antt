@@ -15,7 +15,14 @@ use Rattle.network.proofs.SharedSteps.{all_pass}
 use Rattle.network.proofs.merging.catch_up.Goals as goal
 
 pub loop-lane-init : goal.loop-lane-init
-loop-lane-init g c = record { runs = refl; same = λ n h. refl; ready = λ n less. absurd (omega arith); later = omega arith; cost = omega arith }
+loop-lane-init g c = record {
+  runs = refl;
+  same = λ n h. refl;
+  ready = λ n less. absurd (omega arith);
+  later = omega arith;
+  cost =
+      omega arith;
+}
 
 pub merge-requires : goal.merge-requires
 merge-requires g c =
@@ -48,12 +55,15 @@ loop-lane-preserved g c =
       runs = runs_next ways f lane old cur new was.runs (runs_one ways (Merges at lane) cur new made);
       same = λ n h. merge_apart ways at lane cur new made n (let d : n ≢ lane = λ e. omega arith in d) ∙ was.same n (omega arith);
       ready = λ n h group e. by_test (n == lane)
-          (λ t. let it : n ≡ lane = grind (arith, nat_tests) in c.in_ok-_merged.ensures.ready group (ap (slice_get new.groups) (sym it) ∙ e))
-          (λ t. let far : n ≢ lane = grind (arith, nat_tests) in was.ready n (let a = far in omega arith) group (sym (merge_apart ways at lane cur new made n far) ∙ e));
+          (λ t. let it : n ≡ lane = grind (arith, nat_tests) in c.in_ok-_merged.ensures.ready group
+          (ap (slice_get new.groups) (sym it) ∙ e))
+          (λ t. let far : n ≢ lane = grind (arith, nat_tests) in was.ready n (let a = far in omega arith) group
+          (sym (merge_apart ways at lane cur new made n far) ∙ e));
       later = let a = c.merge.ensures.steps in let b = was.later in omega arith;
       cost =
           let most = group_merge_cost at in
-          within_next c.args.steps.now c.loop-lane.steps c.merge.new.steps (sum_by most (take lane old.groups)) (most here.0) (sum_by most (take (lane + 1) old.groups)) (sum_next most old.groups lane here.0 here.1)
+          within_next c.args.steps.now c.loop-lane.steps c.merge.new.steps (sum_by most (take lane old.groups)) (most here.0)
+          (sum_by most (take (lane + 1) old.groups)) (sum_next most old.groups lane here.0 here.1)
           was.cost (c.merge.ensures.most here.0 there);
     }
 
@@ -77,10 +87,15 @@ returns-clause-ready g c =
     let long = kept_long old cur (runs_kept g.row.WAYS (joined_below c.loop-lane.lane f) old cur c.loop-lane.invariant.runs) in
     let a = c.loop-lane-test.false in
     let d = c.lanes-lane-end.ensures in
-    all_pass (is_ready_at at) cur.groups (λ n group e. c.loop-lane.invariant.ready n (let b = got_below cur.groups n group e in omega arith) group e)
+    all_pass (is_ready_at at) cur.groups (λ n group e. c.loop-lane.invariant.ready n (let b = got_below cur.groups n group e in omega arith)
+    group e)
 
 pub returns-clause-cost : goal.returns-clause-cost
-returns-clause-cost g c = omega (arith, sum_within (group_merge_cost c.args.at) c.loop-lane.lane c.args.network.now.groups, c.loop-lane.invariant.cost)
+returns-clause-cost g c = omega (
+  arith,
+  sum_within (group_merge_cost c.args.at) c.loop-lane.lane c.args.network.now.groups,
+  c.loop-lane.invariant.cost,
+)
 
 pub returns-in_err-_merged-clause-breaks_off : goal.returns-in_err-_merged-clause-breaks_off
 returns-in_err-_merged-clause-breaks_off g c =
@@ -90,7 +105,8 @@ returns-in_err-_merged-clause-breaks_off g c =
     let f : ℕ → List NetworkEvent = λ k. Merges at k ∷ [] in
     let less = c.loop-lane-test.true in
     let end = c.lanes-lane-end.ensures in
-    if_err _ c.from_residual.result (run_breaks g.row.WAYS f lane (length old.groups) old c.loop-lane.network c.merge.new.self (omega arith) c.loop-lane.invariant.runs c.in_err-_merged.ensures.err)
+    if_err _ c.from_residual.result (run_breaks g.row.WAYS f lane (length old.groups) old c.loop-lane.network c.merge.new.self (omega arith)
+    c.loop-lane.invariant.runs c.in_err-_merged.ensures.err)
 
 pub returns-in_err-_merged-clause-cost : goal.returns-in_err-_merged-clause-cost
 returns-in_err-_merged-clause-cost g c =
@@ -102,7 +118,8 @@ returns-in_err-_merged-clause-cost g c =
     let less = c.loop-lane-test.true in
     let here = got_some old.groups lane (omega arith) in
     let there : slice_get c.loop-lane.network.groups lane ≡ Some here.0 = was.same lane (omega arith) ∙ here.1 in
-    let next = within_next c.args.steps.now c.loop-lane.steps c.merge.new.steps (sum_by most (take lane old.groups)) (most here.0) (sum_by most (take (lane + 1) old.groups)) (sum_next most old.groups lane here.0 here.1)
+    let next = within_next c.args.steps.now c.loop-lane.steps c.merge.new.steps (sum_by most (take lane old.groups)) (most here.0)
+    (sum_by most (take (lane + 1) old.groups)) (sum_next most old.groups lane here.0 here.1)
     was.cost (c.merge.ensures.most here.0 there) in
     let all = sum_within most (lane + 1) old.groups in
     omega arith

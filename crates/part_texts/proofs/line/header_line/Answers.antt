@@ -12,4 +12,5 @@ loop-i-preserved c =
     let pushed =
     c.in_ok-push_slice.ensures.ok ∙ ap (λ name. c.push.new.self ++ name) c.name-in-loop-i.ensures
     ∙ ap (λ text. text ++ field_name (get_or fields i Switch)) c.in_ok-push.ensures.ok in
-    ap (λ text. text ++ continued (drop (i + 1) (map field_name fields))) pushed ∙ names_more fields c.loop-i.text i c.loop-i-test.true c.loop-i.invariant
+    ap (λ text. text ++ continued (drop (i + 1) (map field_name fields))) pushed
+    ∙ names_more fields c.loop-i.text i c.loop-i-test.true c.loop-i.invariant

@@ -3,7 +3,10 @@ use Rattle.std.proofs.lemmas.Fmt.{length-decimal-le}
 use Rattle.part_texts.proofs.line.put_word.Goals as goal
 
 pub write_digits-requires : goal.write_digits-requires
-write_digits-requires c = (omega (arith, c.requires.0, length-decimal-le 20 c.args.word (omega arith) (omega arith) c.ranges.word.fits), search rules)
+write_digits-requires c = (
+  omega (arith, c.requires.0, length-decimal-le 20 c.args.word (omega arith) (omega arith) c.ranges.word.fits),
+  search rules,
+)
 
 pub returns-in_default-clause-place : goal.returns-in_default-clause-place
 returns-in_default-clause-place c = (

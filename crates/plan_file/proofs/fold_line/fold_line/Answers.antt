@@ -11,7 +11,8 @@ pub returns-then-not-is_said : goal.returns-then-not-is_said
 returns-then-not-is_said c after is =
     let f = c.in-Some-2.fold in
     let h = rw c.in-Some-2.is at c.in_ok-fold.ensures in
-    let once = words_once c.args.line.now after.class c.in-Some.words.class after.depth c.in-Some.words.depth after.nodes c.in-Some.words.nodes after.statements c.in-Some.words.statements is.valid c.in-Some.ensures in
+    let once = words_once c.args.line.now after.class c.in-Some.words.class after.depth c.in-Some.words.depth after.nodes
+    c.in-Some.words.nodes after.statements c.in-Some.words.statements is.valid c.in-Some.ensures in
     let states : fold_states is.fold ≡ fold_states c.in-Some-2.fold = is.is_fold.states ∙ sym h.0.states in
     let block = h.5 is.fold is.is_fold in
     c.is_said.ensures.no c.if-not-is_said.true

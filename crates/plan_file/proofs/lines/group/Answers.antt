@@ -17,6 +17,7 @@ returns-in-Some-found c =
 
 pub returns-in-None-found : goal.returns-in-None-found
 returns-in-None-found c after is =
-    let none = rw (c.as_slice.ensures, c.as_slice-in-Some.ensures, c.as_slice-in-Some-2.ensures) at (rw c.in-None-found.is at c.in_ok-found-in-Some.ensures) in
+    let none = rw (c.as_slice.ensures, c.as_slice-in-Some.ensures, c.as_slice-in-Some-2.ensures) at
+    (rw c.in-None-found.is at c.in_ok-found-in-Some.ensures) in
     let same : is.fields ≡ c.in-Some.fields = cc in
     none is.group (subst (λ f. IsGroupLine f c.args.made.now.ops c.args.made.now.groups c.args.line.now is.group) same is.valid)

@@ -12,5 +12,12 @@ returns-then-not-is_text c =
 pub returns-in-Some-cut_at_space : goal.returns-in-Some-cut_at_space
 returns-in-Some-cut_at_space c =
     no_line c.args.fields.now c.args.ops.now c.args.line.now
-    (rw (c.in_ok-word.ensures.parts, c.in_ok-stage.ensures.parts, c.in_ok-function.ensures.parts, c.in-Some.ensures.parts, c.in-Some-cut_at_space.ensures.parts)
-    (six_tokens c.in_ok-word.word.now c.in_ok-stage.stage.now c.in_ok-function.function.now c.in-Some.a.now c.in-Some-cut_at_space.field-0.0.now c.in-Some-cut_at_space.field-0.1.now))
+    (rw (
+      c.in_ok-word.ensures.parts,
+      c.in_ok-stage.ensures.parts,
+      c.in_ok-function.ensures.parts,
+      c.in-Some.ensures.parts,
+      c.in-Some-cut_at_space.ensures.parts,
+    )
+    (six_tokens c.in_ok-word.word.now c.in_ok-stage.stage.now c.in_ok-function.function.now c.in-Some.a.now
+    c.in-Some-cut_at_space.field-0.0.now c.in-Some-cut_at_space.field-0.1.now))

@@ -10,7 +10,8 @@ loop-i-preserved c =
     elim c.if-left.branch [
       | then-left+then-is_text+in_ok-push w ↦
           let words = ap (λ b. tokens_left b c.loop-i.rest.now) w.if-left.true ∙ w.first_token-more.ensures.tokens in
-          let test : bytes_eq w.first_token-more.result.0.now w.name.result.now ≡ true = sym w.is_text-then-left.ensures ∙ w.if-is_text.true in
+          let test : bytes_eq w.first_token-more.result.0.now w.name.result.now ≡ true = sym w.is_text-then-left.ensures
+          ∙ w.if-is_text.true in
           let name = text_same w.first_token-more.result.0.now w.name.result.now test ∙ w.name.ensures in
           rw (w.left-is, w.rest-is)
           (step_with c.args.line.now c.loop-i.found c.if-left.found c.loop-i.i w.field_at-field.result w.first_token-more.result.0.now
@@ -18,11 +19,13 @@ loop-i-preserved c =
           c.loop-i.invariant words w.field_at-field.ensures name (w.found-is ∙ w.in_ok-push.ensures.ok))
       | then-left+else-is_text w ↦
           let words = ap (λ b. tokens_left b c.loop-i.rest.now) w.if-left.true ∙ w.first_token-more.ensures.tokens in
-          let test : bytes_eq w.first_token-more.result.0.now w.name.result.now ≡ false = sym w.is_text-then-left.ensures ∙ w.if-is_text.false in
+          let test : bytes_eq w.first_token-more.result.0.now w.name.result.now ≡ false = sym w.is_text-then-left.ensures
+          ∙ w.if-is_text.false in
           rw (w.found-is, w.left-is, w.rest-is)
           (step_other c.args.line.now c.loop-i.found c.loop-i.i w.field_at-field.result w.first_token-more.result.0.now
           (tokens_left c.loop-i.left c.loop-i.rest.now) (tokens_left w.first_token-more.result.2 w.first_token-more.result.1.now)
-          c.loop-i.invariant words w.field_at-field.ensures (λ e. text_other w.first_token-more.result.0.now w.name.result.now test (e ∙ sym w.name.ensures)))
+          c.loop-i.invariant words w.field_at-field.ensures (λ e. text_other w.first_token-more.result.0.now w.name.result.now test
+          (e ∙ sym w.name.ensures)))
       | else-left w ↦
           rw (w.found-is, w.left-is, w.rest-is)
           (step_end c.args.line.now c.loop-i.found c.loop-i.i (tokens_left c.loop-i.left c.loop-i.rest.now) c.loop-i.invariant

@@ -11,7 +11,8 @@ returns-in-empty-clause-found t c e rest v is = no_words c.args.states c.args.wo
 
 pub returns-in-None-2-clause-found : goal.returns-in-None-2-clause-found
 returns-in-None-2-clause-found t c e rest v is =
-    let f = function_case c.args.states c.args.slots Set c.in-Function.op c.args.words.now e rest c.in-len1-up.len_at_least c.in-Function.is v is in
+    let f = function_case c.args.states c.args.slots Set c.in-Function.op c.args.words.now e rest c.in-len1-up.len_at_least c.in-Function.is
+    v is in
     let whole = take_all (length c.args.words.now - 1) (drop 1 c.args.words.now) (omega (arith, length-drop 1 c.args.words.now)) in
     rw c.in-None-2.is at (c.in_ok-found-in-Function.ensures.found f.0 (written c.args.states f.1 ++ rest) f.3 (whole ∙ f.5))
 
@@ -31,16 +32,21 @@ returns-in-None-clause-found t c e rest v is =
 
 pub returns-in_ok-new-in-Some-3-2-clause-found : goal.returns-in_ok-new-in-Some-3-2-clause-found
 returns-in_ok-new-in-Some-3-2-clause-found t c e rest v is =
-    let f = function_case c.args.states c.args.slots Set c.in-Function.op c.args.words.now e rest c.in-len1-up.len_at_least c.in-Function.is v is in
+    let f = function_case c.args.states c.args.slots Set c.in-Function.op c.args.words.now e rest c.in-len1-up.len_at_least c.in-Function.is
+    v is in
     let whole = take_all (length c.args.words.now - 1) (drop 1 c.args.words.now) (omega (arith, length-drop 1 c.args.words.now)) in
     let h = rw c.in-Some-2.is at (c.in_ok-found-in-Function.ensures.found f.0 (written c.args.states f.1 ++ rest) f.3 (whole ∙ f.5)) in
     let g = rw c.in-Some-3.is at (c.in_ok-right-in-Function.ensures.found f.1 rest f.4 h.1) in
-    let n = term_binary c.in-Function.op c.in_ok-new-in-Some-3.field-0 c.in_ok-new-in-Some-3-2.field-0 in
-    (cc (n, h.0, g.0, c.in-Some-3.right-is, c.in_ok-new-in-Some-3.ensures, c.in_ok-new-in-Some-3-2.ensures, f.2), cc (g.1, c.in-Some-3.past-is))
+    let n = term_binary c.in-Function.op c.in_ok-new-in-Some-3.field-0 c.in_ok-new-in-Some-3-2.field-0 in (
+      cc (n, h.0, g.0, c.in-Some-3.right-is, c.in_ok-new-in-Some-3.ensures, c.in_ok-new-in-Some-3-2.ensures, f.2),
+      cc
+          (g.1, c.in-Some-3.past-is),
+    )
 
 pub returns-in-None-3-clause-found : goal.returns-in-None-3-clause-found
 returns-in-None-3-clause-found t c e rest v is =
-    let f = function_case c.args.states c.args.slots Set c.in-Function.op c.args.words.now e rest c.in-len1-up.len_at_least c.in-Function.is v is in
+    let f = function_case c.args.states c.args.slots Set c.in-Function.op c.args.words.now e rest c.in-len1-up.len_at_least c.in-Function.is
+    v is in
     let whole = take_all (length c.args.words.now - 1) (drop 1 c.args.words.now) (omega (arith, length-drop 1 c.args.words.now)) in
     let h = rw c.in-Some-2.is at (c.in_ok-found-in-Function.ensures.found f.0 (written c.args.states f.1 ++ rest) f.3 (whole ∙ f.5)) in
     rw c.in-None-3.is at (c.in_ok-right-in-Function.ensures.found f.1 rest f.4 h.1)

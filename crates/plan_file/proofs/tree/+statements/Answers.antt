@@ -13,11 +13,15 @@ choice-returns-in-Some-after_brace-4-clause-found t c t' a b rest vc va vb is =
     let wa = written_block st a in
     let wb = written_block st b in
     let e1 = is ∙ choice_front (written st t') wa wb rest in
-    let h1 = rw c.in-Some.is at (c.in_ok-found.ensures.found t' (word.Open ∷ (wa ++ (word.Close ∷ word.Open ∷ (wb ++ word.Close ∷ rest)))) vc e1) in
-    let e2 = tail_same word.Open word.Open c.in-Some-after_brace.rest.now (wa ++ (word.Close ∷ word.Open ∷ (wb ++ word.Close ∷ rest))) (sym c.in-Some-after_brace.ensures ∙ h1.1) in
+    let h1 = rw c.in-Some.is at (c.in_ok-found.ensures.found t' (word.Open ∷ (wa ++ (word.Close ∷ word.Open ∷ (wb ++ word.Close ∷ rest))))
+    vc e1) in
+    let e2 = tail_same word.Open word.Open c.in-Some-after_brace.rest.now (wa ++ (word.Close ∷ word.Open ∷ (wb ++ word.Close ∷ rest)))
+    (sym c.in-Some-after_brace.ensures ∙ h1.1) in
     let h2 = rw c.in-Some-2.is at (c.in_ok-found-2.ensures.found a (word.Close ∷ word.Open ∷ (wb ++ word.Close ∷ rest)) tt va e2) in
-    let e3 = tail_same word.Close word.Close c.in-Some-after_brace-2.rest.now (word.Open ∷ (wb ++ word.Close ∷ rest)) (sym c.in-Some-after_brace-2.ensures ∙ h2.1) in
-    let e4 = tail_same word.Open word.Open c.in-Some-after_brace-3.rest.now (wb ++ word.Close ∷ rest) (sym c.in-Some-after_brace-3.ensures ∙ e3) in
+    let e3 = tail_same word.Close word.Close c.in-Some-after_brace-2.rest.now (word.Open ∷ (wb ++ word.Close ∷ rest))
+    (sym c.in-Some-after_brace-2.ensures ∙ h2.1) in
+    let e4 = tail_same word.Open word.Open c.in-Some-after_brace-3.rest.now (wb ++ word.Close ∷ rest)
+    (sym c.in-Some-after_brace-3.ensures ∙ e3) in
     let h3 = rw c.in-Some-3.is at (c.in_ok-found-3.ensures.found b (word.Close ∷ rest) tt vb e4) in
     let e5 = tail_same word.Close word.Close c.in-Some-after_brace-4.rest.now rest (sym c.in-Some-after_brace-4.ensures ∙ h3.1) in (
       block_if c.in-Some.found.0 c.in-Some-2.found.0 c.in-Some-3.found.0
@@ -33,23 +37,30 @@ choice-returns-in-None-after_brace-4-clause-found t c t' a b rest vc va vb is =
     let wa = written_block st a in
     let wb = written_block st b in
     let e1 = is ∙ choice_front (written st t') wa wb rest in
-    let h1 = rw c.in-Some.is at (c.in_ok-found.ensures.found t' (word.Open ∷ (wa ++ (word.Close ∷ word.Open ∷ (wb ++ word.Close ∷ rest)))) vc e1) in
-    let e2 = tail_same word.Open word.Open c.in-Some-after_brace.rest.now (wa ++ (word.Close ∷ word.Open ∷ (wb ++ word.Close ∷ rest))) (sym c.in-Some-after_brace.ensures ∙ h1.1) in
+    let h1 = rw c.in-Some.is at (c.in_ok-found.ensures.found t' (word.Open ∷ (wa ++ (word.Close ∷ word.Open ∷ (wb ++ word.Close ∷ rest))))
+    vc e1) in
+    let e2 = tail_same word.Open word.Open c.in-Some-after_brace.rest.now (wa ++ (word.Close ∷ word.Open ∷ (wb ++ word.Close ∷ rest)))
+    (sym c.in-Some-after_brace.ensures ∙ h1.1) in
     let h2 = rw c.in-Some-2.is at (c.in_ok-found-2.ensures.found a (word.Close ∷ word.Open ∷ (wb ++ word.Close ∷ rest)) tt va e2) in
-    let e3 = tail_same word.Close word.Close c.in-Some-after_brace-2.rest.now (word.Open ∷ (wb ++ word.Close ∷ rest)) (sym c.in-Some-after_brace-2.ensures ∙ h2.1) in
-    let e4 = tail_same word.Open word.Open c.in-Some-after_brace-3.rest.now (wb ++ word.Close ∷ rest) (sym c.in-Some-after_brace-3.ensures ∙ e3) in
+    let e3 = tail_same word.Close word.Close c.in-Some-after_brace-2.rest.now (word.Open ∷ (wb ++ word.Close ∷ rest))
+    (sym c.in-Some-after_brace-2.ensures ∙ h2.1) in
+    let e4 = tail_same word.Open word.Open c.in-Some-after_brace-3.rest.now (wb ++ word.Close ∷ rest)
+    (sym c.in-Some-after_brace-3.ensures ∙ e3) in
     let h3 = rw c.in-Some-3.is at (c.in_ok-found-3.ensures.found b (word.Close ∷ rest) tt vb e4) in
     c.in-None-after_brace-4.ensures rest h3.1
 
 pub statements-statements-preserved : goal.statements-statements-preserved
 statements-statements-preserved t c = record {
-  size = (let shorter : length c.in-Some.past.now < length c.statements.left.now = (let h = rw c.in-Some.is at c.in_ok-one.ensures.shorter in omega (arith, h, ap (λ l. length l.now) c.in-Some.past-is)) in omega (arith, c.statements.invariant.size, shorter));
+  size = (let shorter : length c.in-Some.past.now < length c.statements.left.now =
+      (let h = rw c.in-Some.is at c.in_ok-one.ensures.shorter in omega (arith, h, ap (λ l. length l.now) c.in-Some.past-is)) in omega
+      (arith, c.statements.invariant.size, shorter));
   goes = λ b rest closes v is.
       let args = c.args.slots - c.args.states in
       let left = c.statements.invariant.goes b rest closes v is in
       let test : begins_statement c.statements.left.now ≡ true = sym c.begins_statement.ensures ∙ c.statements-test.true in
       let a = left_ahead c.args.states args c.statements.found c.statements.left.now b rest closes test left in
-      let h = rw c.in-Some.is at (c.in_ok-one.ensures.found a.one (written_block c.args.states a.next ++ rest) a.is_one a.valid_one a.left_is) in
+      let h = rw c.in-Some.is at (c.in_ok-one.ensures.found a.one (written_block c.args.states a.next ++ rest) a.is_one a.valid_one
+      a.left_is) in
       let one : stmt_block c.in-Some.one ≡ a.one = cc (h.0, c.in-Some.one-is) in
       let past : c.in-Some.past.now ≡ written_block c.args.states a.next ++ rest = cc (h.1, c.in-Some.past-is) in
       subst (λ found. IsLeft c.args.states args found c.in-Some.past.now b rest) (sym c.in_ok-push-in-Some.ensures.ok)
@@ -67,4 +78,5 @@ statements-returns-in-None-clause-found t c b rest closes v is =
 pub statements-returns-clause-found : goal.statements-returns-clause-found
 statements-returns-clause-found t c b rest closes v is =
     let test : begins_statement c.statements.left.now ≡ false = sym c.begins_statement.ensures ∙ c.statements-test.false in
-    left_last c.args.states (c.args.slots - c.args.states) c.statements.found c.statements.left.now b rest test (c.statements.invariant.goes b rest closes v is)
+    left_last c.args.states (c.args.slots - c.args.states) c.statements.found c.statements.left.now b rest test
+    (c.statements.invariant.goes b rest closes v is)

@@ -10,10 +10,13 @@ returns-then-not-are_small c b is n s =
 
 pub returns-in-Some : goal.returns-in-Some
 returns-in-Some c b is =
-    let h = rw c.in-Some.is at (c.in_ok-body.ensures.found b [] tt (same_args c.args.states c.args.args b is.typed) (is.statements ∙ sym (append-nil (written_block c.args.states b)))) in
-    let small = small_body c.args.states c.args.words.now b c.args.nodes c.args.most is.statements (c.are_small.ensures.0 c.if-not-are_small.false) in
+    let h = rw c.in-Some.is at (c.in_ok-body.ensures.found b [] tt (same_args c.args.states c.args.args b is.typed)
+    (is.statements ∙ sym (append-nil (written_block c.args.states b)))) in
+    let small = small_body c.args.states c.args.words.now b c.args.nodes c.args.most is.statements
+    (c.are_small.ensures.0 c.if-not-are_small.false) in
     (h.0, small.0, small.1)
 
 pub returns-in-None : goal.returns-in-None
 returns-in-None c b is n s =
-    absurd (rw c.in-None.is at (c.in_ok-body.ensures.found b [] tt (same_args c.args.states c.args.args b is.typed) (is.statements ∙ sym (append-nil (written_block c.args.states b)))))
+    absurd (rw c.in-None.is at (c.in_ok-body.ensures.found b [] tt (same_args c.args.states c.args.args b is.typed)
+    (is.statements ∙ sym (append-nil (written_block c.args.states b)))))

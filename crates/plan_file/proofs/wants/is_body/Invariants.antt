@@ -6,6 +6,8 @@ use Rattle.plan_file.proofs.wants.is_body.Given as goal
 
 abbrev pub invariant-loop-word : goal.invariant-loop-word
 invariant-loop-word l = record {
-  goes : StackReads l.states l.args (Block 64 ∷ []) (l.words ++ Close ∷ []) → StackReads l.states l.args l.wants.items (drop l.word-index l.words ++ Close ∷ []);
-  back : StackReads l.states l.args l.wants.items (drop l.word-index l.words ++ Close ∷ []) → StackReads l.states l.args (Block 64 ∷ []) (l.words ++ Close ∷ []);
+  goes : StackReads l.states l.args (Block 64 ∷ []) (l.words ++ Close ∷ [])
+      → StackReads l.states l.args l.wants.items (drop l.word-index l.words ++ Close ∷ []);
+  back : StackReads l.states l.args l.wants.items (drop l.word-index l.words ++ Close ∷ [])
+      → StackReads l.states l.args (Block 64 ∷ []) (l.words ++ Close ∷ []);
 }

@@ -18,4 +18,5 @@ returns-in-Err-clause-exact c = only_answer c.args.text.now c.in-Err.answer c.in
 
 pub returns-in_ok-loaded-in-Ok-clause-bound : goal.returns-in_ok-loaded-in-Ok-clause-bound
 returns-in_ok-loaded-in-Ok-clause-bound c = λ made ways says.
-    ap (bound_of ways) (c.in_ok-loaded-in-Ok.ensures.shape ∙ ap text_shape (says_one makes_one c.args.text.now c.in-Ok.made made c.in-Ok.ensures says))
+    ap (bound_of ways) (c.in_ok-loaded-in-Ok.ensures.shape ∙ ap text_shape
+    (says_one makes_one c.args.text.now c.in-Ok.made made c.in-Ok.ensures says))

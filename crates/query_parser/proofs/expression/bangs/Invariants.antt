@@ -8,5 +8,6 @@ use Rattle.query_parser.proofs.expression.bangs.Given as goal
 
 abbrev pub invariant-bangs : goal.invariant-bangs
 invariant-bangs l =
-    finished (later l.found) (turns (length l.fn.rest - l.counter) (among (51 ∷ [])) (word Limited Node (is (sign marks.Bang))) l.counts l.rest)
+    finished (later l.found) (turns (length l.fn.rest - l.counter) (among (51 ∷ [])) (word Limited Node (is (sign marks.Bang))) l.counts
+    l.rest)
     ≡ repeated (among (51 ∷ [])) (word Limited Node (is (sign marks.Bang))) l.fn.counts l.fn.rest

@@ -8,5 +8,6 @@ use Rattle.query_parser.proofs.item.items.Given as goal
 -- what is read so far, and what is left to read, give the whole
 abbrev pub invariant-items : goal.invariant-items
 invariant-items l =
-    finished (later l.found) (turns (length l.fn.rest - l.counter) (among item_starts) (item Limited (stmt_at Limited 63) (expr_at Limited 63) (expr_at Limited 62)) l.counts l.rest)
+    finished (later l.found) (turns (length l.fn.rest - l.counter) (among item_starts)
+    (item Limited (stmt_at Limited 63) (expr_at Limited 63) (expr_at Limited 62)) l.counts l.rest)
     ≡ repeated (among item_starts) (item Limited (stmt_at Limited 63) (expr_at Limited 63) (expr_at Limited 62)) l.fn.counts l.fn.rest

@@ -9,4 +9,11 @@ pub piece_of_word-requires-clause-digits : goal.piece_of_word-requires-clause-di
 piece_of_word-requires-clause-digits c = rw (c.word_len-len.ensures, c.digits_len.ensures) (λ k h. digits_of_word c.args.bytes.now k h)
 
 pub piece_of_word-requires-clause-within : goal.piece_of_word-requires-clause-within
-piece_of_word-requires-clause-within c = omega (arith, c.word_len-len.ensures, c.digits_len.ensures, digits_within c.args.bytes.now, length-take c.word_len-len.result c.args.bytes.now, prefix_len-le-length is_word_byte c.args.bytes.now)
+piece_of_word-requires-clause-within c = omega (
+  arith,
+  c.word_len-len.ensures,
+  c.digits_len.ensures,
+  digits_within c.args.bytes.now,
+  length-take c.word_len-len.result c.args.bytes.now,
+  prefix_len-le-length is_word_byte c.args.bytes.now,
+)

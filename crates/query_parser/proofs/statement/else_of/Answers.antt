@@ -14,4 +14,5 @@ branches-init c = elim c.match-last.branch [
 
 pub branches-preserved : goal.branches-preserved
 branches-preserved c = rw c.in_ok-otherwise.ensures (sym (else_more c.pop.new.self.items c.in-Some-pop.branch c.branches.otherwise)
-    ∙ sym (ap (λ (all : List (Expr × List Stmt)). else_of all (Some c.branches.otherwise)) c.in-Some-pop.ensures.items) ∙ c.branches.invariant)
+    ∙ sym (ap (λ (all : List (Expr × List Stmt)). else_of all (Some c.branches.otherwise)) c.in-Some-pop.ensures.items)
+    ∙ c.branches.invariant)

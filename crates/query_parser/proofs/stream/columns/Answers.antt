@@ -4,7 +4,8 @@ use Rattle.query_parser.proofs.Loops.{later, fails, more_list}
 use Rattle.query_parser.proofs.stream.columns.Goals as goal
 
 pub columns-preserved : goal.columns-preserved
-columns-preserved c = more_list _ _ _ c.columns.found c.push-in-columns.new.self _ c.columns.counter c.columns.counts c.columns.rest.now c.in_ok-next.next c.in_ok-next.after c.in_ok-next.later.now
+columns-preserved c = more_list _ _ _ c.columns.found c.push-in-columns.new.self _ c.columns.counter c.columns.counts c.columns.rest.now
+    c.in_ok-next.next c.in_ok-next.after c.in_ok-next.later.now
     c.columns-test.true (sym c.at_mark.ensures ∙ c.if-not-at_mark.false) c.in_ok-next.ensures c.in_ok-push-2.ensures.ok c.columns.invariant
 
 pub returns-in_err-next : goal.returns-in_err-next

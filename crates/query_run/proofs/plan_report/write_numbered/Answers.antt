@@ -11,7 +11,8 @@ use Rattle.query_run.proofs.plan_report.write_numbered.Goals as goal
 next : (tables : List Table) (prints : List ℕ) (i number : ℕ) → i < length prints → number ≡ get_or prints i 0
     → flat_map (text_at tables) (drop i prints) ≡ text_at tables number ++ flat_map (text_at tables) (drop (i + 1) prints)
 next tables prints i number within is =
-    ap (flat_map (text_at tables)) (drop_more prints i 0 within) ∙ ap (λ n. text_at tables n ++ flat_map (text_at tables) (drop (i + 1) prints)) (sym is)
+    ap (flat_map (text_at tables)) (drop_more prints i 0 within) ∙ ap (λ n. text_at tables n
+    ++ flat_map (text_at tables) (drop (i + 1) prints)) (sym is)
 
 pub loop-number-init : goal.loop-number-init
 loop-number-init g c = record {
@@ -29,8 +30,10 @@ returns-in_err-write_at-clause-err g c =
     let mid = g.O.Sink.taken c.loop-number.out in
     let whole = c.args.text.now ++ flat_map (text_at tables) prints in
     on_err c.from_residual.result _
-    (part_broke old mid (g.O.Sink.taken c.write_at.new.out) c.loop-number.text (text_at tables number) (flat_map (text_at tables) (drop (i + 1) prints)) whole
-    (subst (λ left. TakesAllBut old mid (c.loop-number.text ++ left) whole) (next tables prints i number c.loop-number-test.true c.from.ensures) c.loop-number.invariant.written)
+    (part_broke old mid (g.O.Sink.taken c.write_at.new.out) c.loop-number.text (text_at tables number)
+    (flat_map (text_at tables) (drop (i + 1) prints)) whole
+    (subst (λ left. TakesAllBut old mid (c.loop-number.text ++ left) whole)
+    (next tables prints i number c.loop-number-test.true c.from.ensures) c.loop-number.invariant.written)
     c.in_err-write_at.ensures.err)
 
 pub loop-number-preserved : goal.loop-number-preserved
@@ -43,8 +46,10 @@ loop-number-preserved g c =
     let mid = g.O.Sink.taken c.loop-number.out in
     let whole = c.args.text.now ++ flat_map (text_at tables) prints in
     record {
-      written = part_more old mid (g.O.Sink.taken c.write_at.new.out) c.loop-number.text c.write_at.new.text (text_at tables number) (flat_map (text_at tables) (drop (i + 1) prints)) whole
-          (subst (λ left. TakesAllBut old mid (c.loop-number.text ++ left) whole) (next tables prints i number c.loop-number-test.true c.from.ensures) c.loop-number.invariant.written)
+      written = part_more old mid (g.O.Sink.taken c.write_at.new.out) c.loop-number.text c.write_at.new.text (text_at tables number)
+          (flat_map (text_at tables) (drop (i + 1) prints)) whole
+          (subst (λ left. TakesAllBut old mid (c.loop-number.text ++ left) whole)
+          (next tables prints i number c.loop-number-test.true c.from.ensures) c.loop-number.invariant.written)
           c.in_ok-write_at.ensures.ok;
       out_later = omega (arith, c.loop-number.invariant.out_later, c.write_at.ensures.out_later);
     }
@@ -54,5 +59,6 @@ returns-clause-ok g c =
     let text_of = text_at c.args.tables.now in
     let prints = c.args.prints.now in
     let none = ap (flat_map text_of) (drop_all c.loop-number.number-index prints c.loop-number-test.false) in
-    subst (λ waiting. TakesAllBut (g.O.Sink.taken c.args.out.now) (g.O.Sink.taken c.loop-number.out) waiting (c.args.text.now ++ flat_map text_of prints))
+    subst (λ waiting. TakesAllBut (g.O.Sink.taken c.args.out.now) (g.O.Sink.taken c.loop-number.out) waiting
+    (c.args.text.now ++ flat_map text_of prints))
     (ap (λ text. c.loop-number.text ++ text) none ∙ append-nil c.loop-number.text) c.loop-number.invariant.written

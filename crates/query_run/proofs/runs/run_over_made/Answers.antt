@@ -16,13 +16,16 @@ returns-in_err-left-clause-breaks_off g c =
     let old = c.args.out.now in
     let new = c.run_with_its_ways.new.out in
     let answer = c.in_err-left.field-0.0 in
-    err_is (λ answer. (text : Geometry → List (List ℕ) → List ℕ) → Prints (g.R.Report.entries c.args.report.now) c.args.plan (g.R.Report.printed c.args.report.now) text
+    err_is (λ answer. (text : Geometry → List (List ℕ) → List ℕ) → Prints (g.R.Report.entries c.args.report.now) c.args.plan
+    (g.R.Report.printed c.args.report.now) text
     → BreaksOff g.O.Sink.taken g.O.Sink.faults (text of made) None old new answer)
     c.from_residual.result answer c.from_residual.ensures.1
     (λ text prints.
-    subst (λ written. BreaksOff g.O.Sink.taken g.O.Sink.faults written None old new answer) (tables_alone (text of) made) (c.in_err-left.ensures.breaks_off text prints))
+    subst (λ written. BreaksOff g.O.Sink.taken g.O.Sink.faults written None old new answer) (tables_alone (text of) made)
+    (c.in_err-left.ensures.breaks_off text prints))
 
 pub returns-clause-written : goal.returns-clause-written
 returns-clause-written g c text prints =
-    subst (Appends (g.O.Sink.taken c.args.out.now) (g.O.Sink.taken c.run_with_its_ways.new.out)) (tables_alone (text (geometry_of c.args.setting)) (words_of c.args.made))
+    subst (Appends (g.O.Sink.taken c.args.out.now) (g.O.Sink.taken c.run_with_its_ways.new.out))
+    (tables_alone (text (geometry_of c.args.setting)) (words_of c.args.made))
     (c.in_ok-left.ensures.written text prints)

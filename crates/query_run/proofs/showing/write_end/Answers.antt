@@ -27,8 +27,10 @@ pub returns-in_err-tables-clause-breaks_off : goal.returns-in_err-tables-clause-
 returns-in_err-tables-clause-breaks_off g c =
     let p = c.args.pipeline.now in
     let out = c.args.out.now in
-    err_is (λ answer. (text : Geometry → List (List ℕ) → List ℕ) (of : Geometry) (packets : List (List ℕ)) → Prints (g.R.Report.entries c.args.report.now) p.plan (g.R.Report.printed c.args.report.now) text
-    → HasRoom of → AreWhole packets → PipelineStands p (end_machines p.plan of packets) → BreaksOff g.O.Sink.taken g.O.Sink.faults (text of packets) None out out answer)
+    err_is (λ answer. (text : Geometry → List (List ℕ) → List ℕ) (of : Geometry) (packets : List (List ℕ))
+    → Prints (g.R.Report.entries c.args.report.now) p.plan (g.R.Report.printed c.args.report.now) text
+    → HasRoom of → AreWhole packets → PipelineStands p (end_machines p.plan of packets)
+    → BreaksOff g.O.Sink.taken g.O.Sink.faults (text of packets) None out out answer)
     c.from_residual.result Memory c.from_residual.ensures.1 (λ text of packets prints room whole stands. nothing_taken _ _)
 
 pub returns-clause-written : goal.returns-clause-written

@@ -19,24 +19,30 @@ write_report-requires g c =
     let lanes = subst (λ e. AreLanesOf e p.plan p.buckets p.lanes) c.requires.entries c.invariant.ensures in
     record {
       may_print = subst (g.R.Report.may_print c.args.report.now)
-          (sym (seen_tables c.views_end_the_trace.ensures (g.R.Report.entries c.args.report.now) r.0 r.1 c.args.number p c.in_ok-tables.tables lanes c.in_ok-tables.ensures.tables r.2))
-          (c.requires.may_print p.buckets p.lanes r.0 (take c.args.number r.1) planned lanes r.2.room (seen_whole r.0 r.1 c.args.number p r.2));
+          (sym (seen_tables c.views_end_the_trace.ensures (g.R.Report.entries c.args.report.now) r.0 r.1 c.args.number p
+          c.in_ok-tables.tables lanes c.in_ok-tables.ensures.tables r.2))
+          (c.requires.may_print p.buckets p.lanes r.0 (take c.args.number r.1) planned lanes r.2.room
+          (seen_whole r.0 r.1 c.args.number p r.2));
     }
 
 pub returns-in_err-tables-clause-breaks_off : goal.returns-in_err-tables-clause-breaks_off
 returns-in_err-tables-clause-breaks_off g c =
     let p = c.args.pipeline.now in
     let out = c.args.out.now in
-    err_is (λ answer. (text : Geometry → List (List ℕ) → List ℕ) (of : Geometry) (packets : List (List ℕ)) → Prints (g.R.Report.entries c.args.report.now) p.plan (g.R.Report.printed c.args.report.now) text
-    → IsAsFarAs of packets c.args.number p → BreaksOff g.O.Sink.taken g.O.Sink.faults (view_text (text of) packets c.args.number) None out out answer)
+    err_is (λ answer. (text : Geometry → List (List ℕ) → List ℕ) (of : Geometry) (packets : List (List ℕ))
+    → Prints (g.R.Report.entries c.args.report.now) p.plan (g.R.Report.printed c.args.report.now) text
+    → IsAsFarAs of packets c.args.number p → BreaksOff g.O.Sink.taken g.O.Sink.faults (view_text (text of) packets c.args.number) None out
+    out answer)
     c.from_residual.result Memory c.from_residual.ensures.1 (λ text of packets prints far. nothing_taken _ _)
 
 pub returns-in_err-line-clause-breaks_off : goal.returns-in_err-line-clause-breaks_off
 returns-in_err-line-clause-breaks_off g c =
     let p = c.args.pipeline.now in
     let out = c.args.out.now in
-    err_is (λ answer. (text : Geometry → List (List ℕ) → List ℕ) (of : Geometry) (packets : List (List ℕ)) → Prints (g.R.Report.entries c.args.report.now) p.plan (g.R.Report.printed c.args.report.now) text
-    → IsAsFarAs of packets c.args.number p → BreaksOff g.O.Sink.taken g.O.Sink.faults (view_text (text of) packets c.args.number) None out out answer)
+    err_is (λ answer. (text : Geometry → List (List ℕ) → List ℕ) (of : Geometry) (packets : List (List ℕ))
+    → Prints (g.R.Report.entries c.args.report.now) p.plan (g.R.Report.printed c.args.report.now) text
+    → IsAsFarAs of packets c.args.number p → BreaksOff g.O.Sink.taken g.O.Sink.faults (view_text (text of) packets c.args.number) None out
+    out answer)
     c.from_residual-in_err-line.result Memory c.from_residual-in_err-line.ensures.1 (λ text of packets prints far. nothing_taken _ _)
 
 pub returns-clause-written : goal.returns-clause-written
@@ -52,7 +58,8 @@ returns-clause-written g c =
     (λ written text of packets prints far.
     subst (Appends old new)
     (ap₂ (λ line tables. line ++ tables) c.in_ok-line.ensures
-    (ap (g.R.Report.printed report) (seen_tables c.views_end_the_trace.ensures (g.R.Report.entries report) of packets number p c.in_ok-tables.tables lanes c.in_ok-tables.ensures.tables far)
+    (ap (g.R.Report.printed report) (seen_tables c.views_end_the_trace.ensures (g.R.Report.entries report) of packets number p
+    c.in_ok-tables.tables lanes c.in_ok-tables.ensures.tables far)
     ∙ prints.at_ends p.buckets p.lanes of (take number packets) planned lanes far.room (seen_whole of packets number p far)))
     written)
     c.write_report.ensures.written
@@ -70,7 +77,8 @@ returns-clause-breaks_off g c =
     (λ answer broke text of packets prints far.
     subst (λ written. BreaksOff g.O.Sink.taken g.O.Sink.faults written None old new answer)
     (ap₂ (λ line tables. line ++ tables) c.in_ok-line.ensures
-    (ap (g.R.Report.printed report) (seen_tables c.views_end_the_trace.ensures (g.R.Report.entries report) of packets number p c.in_ok-tables.tables lanes c.in_ok-tables.ensures.tables far)
+    (ap (g.R.Report.printed report) (seen_tables c.views_end_the_trace.ensures (g.R.Report.entries report) of packets number p
+    c.in_ok-tables.tables lanes c.in_ok-tables.ensures.tables far)
     ∙ prints.at_ends p.buckets p.lanes of (take number packets) planned lanes far.room (seen_whole of packets number p far)))
     broke)
     c.write_report.ensures.breaks_off

@@ -21,7 +21,8 @@ returns-then-every-eq0-clause-written g c text prints =
     let all = coming c.args.packets in
     let none : c.args.every ≡ 0 = omega arith in
     let bytes = g.O.Sink.taken c.args.out.now in
-    subst (Appends bytes bytes) (sym (none_asked (text (geometry_for g.row.WAYS c.args.schedule)) c.args.every all (length all) none)) (Appends-nil bytes)
+    subst (Appends bytes bytes) (sym (none_asked (text (geometry_for g.row.WAYS c.args.schedule)) c.args.every all (length all) none))
+    (Appends-nil bytes)
 
 pub views-init : goal.views-init
 views-init g c =
@@ -31,8 +32,10 @@ views-init g c =
       way = c.new-replay.ensures.under_way;
       multiple = first_multiple c.args.every some;
       fault = c.new-replay.ensures.fault;
-      keeps = subst (λ (p : PipelineView). Keeps c.args.pipeline p) (sym c.new-replay.ensures.pipeline) (record { plan = refl; entries = refl; buckets = refl; lanes = refl; places = refl });
-      written = λ text prints. subst (Appends bytes bytes) (sym (none_yet (text (geometry_for g.row.WAYS c.args.schedule)) c.args.every (coming c.args.packets))) (Appends-nil bytes);
+      keeps = subst (λ (p : PipelineView). Keeps c.args.pipeline p) (sym c.new-replay.ensures.pipeline)
+          (record { plan = refl; entries = refl; buckets = refl; lanes = refl; places = refl });
+      written = λ text prints. subst (Appends bytes bytes) (sym (none_yet (text (geometry_for g.row.WAYS c.args.schedule)) c.args.every
+          (coming c.args.packets))) (Appends-nil bytes);
       out_later = omega arith;
       later = omega arith;
     }
@@ -43,11 +46,15 @@ returns-in_err-advance-clause-breaks_off g c =
     let of = geometry_for g.row.WAYS c.args.schedule in
     let some : 0 < c.args.every = omega arith in
     let was = c.views.invariant in
-    err_is (λ answer. (text : Geometry → List (List ℕ) → List ℕ) → Prints (g.R.Report.entries c.args.report.now) c.args.pipeline.plan (g.R.Report.printed c.args.report.now) text
-    → BreaksOff g.O.Sink.taken g.O.Sink.faults (views_text (text of) c.args.every (words_of all)) (fault_of c.args.packets) c.args.out.now c.views.out answer)
+    err_is (λ answer. (text : Geometry → List (List ℕ) → List ℕ) → Prints (g.R.Report.entries c.args.report.now) c.args.pipeline.plan
+    (g.R.Report.printed c.args.report.now) text
+    → BreaksOff g.O.Sink.taken g.O.Sink.faults (views_text (text of) c.args.every (words_of all)) (fault_of c.args.packets) c.args.out.now
+    c.views.out answer)
     c.from_residual.result (answer_for c.in_err-advance.field-0.0) c.from_residual.ensures.1
-    (λ text prints. reader_broke (text of) c.args.every all g.O.Sink.taken g.O.Sink.faults (fault_of c.args.packets) c.args.out.now c.views.out c.views.number (c.requires.viewed some).sound was.way.within (was.written text prints)
-    c.in_err-advance.field-0.0 (subst (λ fault. IfRefused c.in_err-advance.field-0.0 (λ found. fault ≡ Some found)) was.fault c.in_err-advance.ensures.refused))
+    (λ text prints. reader_broke (text of) c.args.every all g.O.Sink.taken g.O.Sink.faults (fault_of c.args.packets) c.args.out.now
+    c.views.out c.views.number (c.requires.viewed some).sound was.way.within (was.written text prints)
+    c.in_err-advance.field-0.0 (subst (λ fault. IfRefused c.in_err-advance.field-0.0 (λ found. fault ≡ Some found)) was.fault
+    c.in_err-advance.ensures.refused))
 
 pub write_view-requires : goal.write_view-requires
 write_view-requires g c =
@@ -56,17 +63,28 @@ write_view-requires g c =
     let done = c.in_ok-advance.ensures in
     let way = done.all (ap Ok c.if-branch.true) c.args.schedule all c.views.number was.way in
     let plan = ap (λ (p : PipelineView). p.plan) c.pipeline.ensures ∙ (done.keeps.plan ∙ was.keeps.plan) in
-    let entries = ap (λ (p : PipelineView). p.entries) c.pipeline.ensures ∙ (done.keeps.entries ∙ (was.keeps.entries ∙ c.requires.entries)) in
-    let far = as_far c.args.schedule all (c.views.number + c.args.every) c.advance.new.self c.requires.room.0 c.requires.room.1 c.requires.whole way in
-    let seen = subst (λ (p : PipelineView). IsAsFarAs (geometry_for g.row.WAYS c.args.schedule) (words_of all) (c.views.number + c.args.every) p) (sym c.pipeline.ensures) far in
-    (lit< tt, (subst (λ plan. MayPrint (g.R.Report.entries c.args.report.now) plan (g.R.Report.may_print c.args.report.now)) (sym plan) c.requires.may_print, (entries, (geometry_for g.row.WAYS c.args.schedule, words_of all, seen))))
+    let entries = ap (λ (p : PipelineView). p.entries) c.pipeline.ensures
+    ∙ (done.keeps.entries ∙ (was.keeps.entries ∙ c.requires.entries)) in
+    let far = as_far c.args.schedule all (c.views.number + c.args.every) c.advance.new.self c.requires.room.0 c.requires.room.1
+    c.requires.whole way in
+    let seen = subst (λ (p : PipelineView). IsAsFarAs (geometry_for g.row.WAYS c.args.schedule) (words_of all)
+    (c.views.number + c.args.every) p) (sym c.pipeline.ensures) far in (
+      lit< tt,
+      (
+        subst (λ plan. MayPrint (g.R.Report.entries c.args.report.now) plan (g.R.Report.may_print c.args.report.now)) (sym plan)
+            c.requires.may_print,
+        (entries, (geometry_for g.row.WAYS c.args.schedule, words_of all, seen)),
+      ),
+    )
 
 pub views-smaller : goal.views-smaller
 views-smaller g c =
     let some : 0 < c.args.every = omega arith in
-    let way = c.in_ok-advance.ensures.all (ap Ok c.if-branch.true) c.args.schedule (coming c.args.packets) c.views.number c.views.invariant.way in
+    let way = c.in_ok-advance.ensures.all (ap Ok c.if-branch.true) c.args.schedule (coming c.args.packets) c.views.number
+    c.views.invariant.way in
     let within : c.views.number + c.args.every ≤ length (coming c.args.packets) = way.within in
-    let less : length (coming c.args.packets) - (c.views.number + c.args.every) < length (coming c.args.packets) - c.views.number = omega arith in
+    let less : length (coming c.args.packets) - (c.views.number + c.args.every) < length (coming c.args.packets) - c.views.number =
+    omega arith in
     less
 
 pub views-preserved : goal.views-preserved
@@ -77,7 +95,8 @@ views-preserved g c =
     let was = c.views.invariant in
     let done = c.in_ok-advance.ensures in
     let way = done.all (ap Ok c.if-branch.true) c.args.schedule all c.views.number was.way in
-    let far = as_far c.args.schedule all (c.views.number + c.args.every) c.advance.new.self c.requires.room.0 c.requires.room.1 c.requires.whole way in
+    let far = as_far c.args.schedule all (c.views.number + c.args.every) c.advance.new.self c.requires.room.0 c.requires.room.1
+    c.requires.whole way in
     let seen = subst (λ (p : PipelineView). IsAsFarAs of (words_of all) (c.views.number + c.args.every) p) (sym c.pipeline.ensures) far in
     let plan = ap (λ (p : PipelineView). p.plan) c.pipeline.ensures ∙ (done.keeps.plan ∙ was.keeps.plan) in
     record {
@@ -86,8 +105,11 @@ views-preserved g c =
       fault = done.fault ∙ was.fault;
       keeps = keeps_along c.args.pipeline (pipeline_in c.views.replay) (pipeline_in c.advance.new.self) was.keeps done.keeps;
       written = λ text prints.
-          one_written (text of) c.args.every all (g.O.Sink.taken c.args.out.now) (g.O.Sink.taken c.views.out) (g.O.Sink.taken c.write_view.new.out) c.views.number was.multiple some (was.written text prints)
-          (c.in_ok-write_view.ensures.written text of (words_of all) (subst (λ plan. Prints (g.R.Report.entries c.args.report.now) plan (g.R.Report.printed c.args.report.now) text) (sym plan) prints) seen);
+          one_written (text of) c.args.every all (g.O.Sink.taken c.args.out.now) (g.O.Sink.taken c.views.out)
+          (g.O.Sink.taken c.write_view.new.out) c.views.number was.multiple some (was.written text prints)
+          (c.in_ok-write_view.ensures.written text of (words_of all) (subst
+          (λ plan. Prints (g.R.Report.entries c.args.report.now) plan (g.R.Report.printed c.args.report.now) text) (sym plan) prints)
+          seen);
       out_later = let a = was.out_later in let b = c.write_view.ensures.out_later in omega arith;
       later = let a = was.later in let b = c.advance.ensures.steps in let d = c.write_view.ensures.steps in omega arith;
     }
@@ -100,16 +122,21 @@ returns-in_err-write_view-clause-breaks_off g c =
     let was = c.views.invariant in
     let done = c.in_ok-advance.ensures in
     let way = done.all (ap Ok c.if-branch.true) c.args.schedule all c.views.number was.way in
-    let far = as_far c.args.schedule all (c.views.number + c.args.every) c.advance.new.self c.requires.room.0 c.requires.room.1 c.requires.whole way in
+    let far = as_far c.args.schedule all (c.views.number + c.args.every) c.advance.new.self c.requires.room.0 c.requires.room.1
+    c.requires.whole way in
     let seen = subst (λ (p : PipelineView). IsAsFarAs of (words_of all) (c.views.number + c.args.every) p) (sym c.pipeline.ensures) far in
     let plan = ap (λ (p : PipelineView). p.plan) c.pipeline.ensures ∙ (done.keeps.plan ∙ was.keeps.plan) in
-    err_is (λ answer. (text : Geometry → List (List ℕ) → List ℕ) → Prints (g.R.Report.entries c.args.report.now) c.args.pipeline.plan (g.R.Report.printed c.args.report.now) text
-    → BreaksOff g.O.Sink.taken g.O.Sink.faults (views_text (text of) c.args.every (words_of all)) (fault_of c.args.packets) c.args.out.now c.write_view.new.out answer)
+    err_is (λ answer. (text : Geometry → List (List ℕ) → List ℕ) → Prints (g.R.Report.entries c.args.report.now) c.args.pipeline.plan
+    (g.R.Report.printed c.args.report.now) text
+    → BreaksOff g.O.Sink.taken g.O.Sink.faults (views_text (text of) c.args.every (words_of all)) (fault_of c.args.packets) c.args.out.now
+    c.write_view.new.out answer)
     c.from_residual-in_err-write_view.result c.in_err-write_view.field-0.0 c.from_residual-in_err-write_view.ensures.1
     (λ text prints.
-    view_broke (text of) c.args.every all g.O.Sink.taken g.O.Sink.faults (fault_of c.args.packets) c.args.out.now c.views.out c.write_view.new.out c.views.number (c.requires.viewed some).sound
+    view_broke (text of) c.args.every all g.O.Sink.taken g.O.Sink.faults (fault_of c.args.packets) c.args.out.now c.views.out
+    c.write_view.new.out c.views.number (c.requires.viewed some).sound
     was.multiple some way.within (was.written text prints) was.out_later c.in_err-write_view.field-0.0
-    (c.in_err-write_view.ensures.breaks_off text of (words_of all) (subst (λ plan. Prints (g.R.Report.entries c.args.report.now) plan (g.R.Report.printed c.args.report.now) text) (sym plan) prints) seen))
+    (c.in_err-write_view.ensures.breaks_off text of (words_of all) (subst
+    (λ plan. Prints (g.R.Report.entries c.args.report.now) plan (g.R.Report.printed c.args.report.now) text) (sym plan) prints) seen))
 
 pub returns-clause-written : goal.returns-clause-written
 returns-clause-written g c text prints =
@@ -117,7 +144,8 @@ returns-clause-written g c text prints =
     let of = geometry_for g.row.WAYS c.args.schedule in
     let was = c.views.invariant in
     let ended = c.in_ok-advance.ensures.end (ap Ok c.if-branch.false) c.args.schedule all c.views.number was.way in
-    subst (Appends (g.O.Sink.taken c.args.out.now) (g.O.Sink.taken c.views.out)) (sym (all_shown (text of) c.args.every all c.views.number was.multiple was.way.within ended.0)) (was.written text prints)
+    subst (Appends (g.O.Sink.taken c.args.out.now) (g.O.Sink.taken c.views.out))
+    (sym (all_shown (text of) c.args.every all c.views.number was.multiple was.way.within ended.0)) (was.written text prints)
 
 pub returns-clause-under_way : goal.returns-clause-under_way
 returns-clause-under_way g c =

@@ -10,9 +10,12 @@ loop-one-preserved g c =
     let i = c.loop-one.one-index in
     let one = c.one-item.result in
     let items = c.as_slice-one-items.result.now in
-    let next = subst (λ fs. drop i fs ≡ one ∷ drop (i + 1) fs) c.as_slice-one-items.ensures (drop_more items i one c.loop-one-test.true ∙ ap (λ f. f ∷ drop (i + 1) items) (sym c.one-item.is)) in
+    let next = subst (λ fs. drop i fs ≡ one ∷ drop (i + 1) fs) c.as_slice-one-items.ensures
+    (drop_more items i one c.loop-one-test.true ∙ ap (λ f. f ∷ drop (i + 1) items) (sym c.one-item.is)) in
     record {
-      way = one_more q.names q.folds (with_finals q.names q.folds c.args.groups q.finals) (length c.args.groups + length q.finals) c.loop-one.tables c.push.new.self c.in_ok-made.made one
-          (drop i q.finals) (drop (i + 1) q.finals) next c.in_ok-made.ensures.table c.in_ok-made.ensures.read c.in_ok-made.ensures.shape c.in_ok-push.ensures.ok c.loop-one.invariant.way;
+      way = one_more q.names q.folds (with_finals q.names q.folds c.args.groups q.finals) (length c.args.groups + length q.finals)
+          c.loop-one.tables c.push.new.self c.in_ok-made.made one
+          (drop i q.finals) (drop (i + 1) q.finals) next c.in_ok-made.ensures.table c.in_ok-made.ensures.read c.in_ok-made.ensures.shape
+          c.in_ok-push.ensures.ok c.loop-one.invariant.way;
       steps = omega arith;
     }

@@ -10,7 +10,8 @@ use Rattle.marple_base.proofs.Pieces.{all_waits, on_err, part_broke, part_more}
 use Rattle.query_tables.proofs.print.write_printed.Goals as goal
 
 -- the text of the next print, and then those after it
-next : (tables : List Table) (groups : ℕ) (prints : List PrintOf) (i number : ℕ) (one : PrintOf) → i < length prints → number ≡ table_number groups (get_or prints i one)
+next : (tables : List Table) (groups : ℕ) (prints : List PrintOf) (i number : ℕ) (one : PrintOf) → i < length prints
+    → number ≡ table_number groups (get_or prints i one)
     → flat_map (λ one. text_at tables (table_number groups one)) (drop i prints)
     ≡ text_at tables number ++ flat_map (λ one. text_at tables (table_number groups one)) (drop (i + 1) prints)
 next tables groups prints i number one within is =
@@ -36,8 +37,10 @@ returns-in_err-write_table_at-clause-err g c =
     let mid = g.O.Sink.taken c.loop-one.out in
     let whole = c.args.text.now ++ flat_map text_of prints in
     on_err c.from_residual.result _
-    (part_broke old mid (g.O.Sink.taken c.write_table_at.new.out) c.loop-one.text (text_at tables number) (flat_map text_of (drop (i + 1) prints)) whole
-    (subst (λ left. TakesAllBut old mid (c.loop-one.text ++ left) whole) (next tables c.args.groups prints i number _ c.loop-one-test.true c.table_number.ensures) c.loop-one.invariant.written)
+    (part_broke old mid (g.O.Sink.taken c.write_table_at.new.out) c.loop-one.text (text_at tables number)
+    (flat_map text_of (drop (i + 1) prints)) whole
+    (subst (λ left. TakesAllBut old mid (c.loop-one.text ++ left) whole)
+    (next tables c.args.groups prints i number _ c.loop-one-test.true c.table_number.ensures) c.loop-one.invariant.written)
     c.in_err-write_table_at.ensures.err)
 
 pub loop-one-preserved : goal.loop-one-preserved
@@ -51,8 +54,10 @@ loop-one-preserved g c =
     let mid = g.O.Sink.taken c.loop-one.out in
     let whole = c.args.text.now ++ flat_map text_of prints in
     record {
-      written = part_more old mid (g.O.Sink.taken c.write_table_at.new.out) c.loop-one.text c.write_table_at.new.text (text_at tables number) (flat_map text_of (drop (i + 1) prints)) whole
-          (subst (λ left. TakesAllBut old mid (c.loop-one.text ++ left) whole) (next tables c.args.groups prints i number _ c.loop-one-test.true c.table_number.ensures) c.loop-one.invariant.written)
+      written = part_more old mid (g.O.Sink.taken c.write_table_at.new.out) c.loop-one.text c.write_table_at.new.text
+          (text_at tables number) (flat_map text_of (drop (i + 1) prints)) whole
+          (subst (λ left. TakesAllBut old mid (c.loop-one.text ++ left) whole)
+          (next tables c.args.groups prints i number _ c.loop-one-test.true c.table_number.ensures) c.loop-one.invariant.written)
           c.in_ok-write_table_at.ensures.ok;
       out_later = omega (arith, c.loop-one.invariant.out_later, c.write_table_at.ensures.out_later);
     }
@@ -62,5 +67,6 @@ returns-clause-ok g c =
     let text_of : PrintOf → List ℕ = λ one. text_at c.args.tables.now (table_number c.args.groups one) in
     let prints = c.args.prints.now in
     let none = ap (flat_map text_of) (drop_all c.loop-one.one-index prints c.loop-one-test.false) in
-    subst (λ waiting. TakesAllBut (g.O.Sink.taken c.args.out.now) (g.O.Sink.taken c.loop-one.out) waiting (c.args.text.now ++ flat_map text_of prints))
+    subst (λ waiting. TakesAllBut (g.O.Sink.taken c.args.out.now) (g.O.Sink.taken c.loop-one.out) waiting
+    (c.args.text.now ++ flat_map text_of prints))
     (ap (λ text. c.loop-one.text ++ text) none ∙ append-nil c.loop-one.text) c.loop-one.invariant.written

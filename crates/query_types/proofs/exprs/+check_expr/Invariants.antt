@@ -6,6 +6,8 @@ use Rattle.query_types.proofs.exprs.+check_expr.Given as goal
 
 abbrev pub invariant-arguments : goal.invariant-arguments
 invariant-arguments l = record {
-  given : collected l.operands (map (expr_checked l.columns l.hidden) (drop l.argument-index l.argument-items)) ≡ collected [] (map (expr_checked l.columns l.hidden) l.argument-items);
-  numbers : greatest_of (map greatest_number (drop l.argument-index l.argument-items)) < 2 ^ 64 → greatest_of (map greatest_number l.argument-items) < 2 ^ 64;
+  given : collected l.operands (map (expr_checked l.columns l.hidden) (drop l.argument-index l.argument-items)) ≡ collected []
+      (map (expr_checked l.columns l.hidden) l.argument-items);
+  numbers : greatest_of (map greatest_number (drop l.argument-index l.argument-items)) < 2 ^ 64
+      → greatest_of (map greatest_number l.argument-items) < 2 ^ 64;
 }

@@ -9,4 +9,5 @@ check_with-requires c = all_ready c.args.q c.in_ok-all.all c.requires c.in_ok-al
 
 pub returns-clause-given : goal.returns-clause-given
 returns-clause-given c =
-    same_checked c.check_with.result (λ names. checked_with names c.args.q.items c.args.q.end) c.in_ok-all.all (typed_names c.args.q.names) c.in_ok-all.ensures c.check_with.ensures.given
+    same_checked c.check_with.result (λ names. checked_with names c.args.q.items c.args.q.end) c.in_ok-all.all (typed_names c.args.q.names)
+    c.in_ok-all.ensures c.check_with.ensures.given

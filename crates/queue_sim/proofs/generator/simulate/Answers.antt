@@ -17,7 +17,8 @@ loop-packet-preserved c =
     let i = c.loop-packet.invariant in
     let done = c.loop-packet._packet in
     let next = c.in_ok-next.ensures in
-    let packet : c.in_ok-next.field-0 ≡ nth_packet c.args.start c.args.capacity done = next.packet ∙ rw (i.start, i.capacity, i.number) refl in
+    let packet : c.in_ok-next.field-0 ≡ nth_packet c.args.start c.args.capacity done = next.packet
+    ∙ rw (i.start, i.capacity, i.number) refl in
     record {
       follows = next.follows;
       number = next.number ∙ ap (λ n. n + 1) i.number;

@@ -15,8 +15,11 @@ loop-packet-preserved c =
     let slice = c.as_slice-packet-items.ensures in
     let none : Packet = record { words = [] } in
     let within : i < length packets = omega (arith, ap length slice, c.loop-packet-test.true) in
-    let written = c.in_ok-push_slice.ensures.ok ∙ ap (λ more. c.loop-packet.text ++ more) c.format.ensures ∙ ap (λ ps. c.loop-packet.text ++ line (packet_texts (get_or ps i none))) slice in
-    written ∙ rw c.loop-packet.invariant (sym (trace_push (take i packets) (get_or packets i none)) ∙ ap trace_text (sym (take_more packets i none within)))
+    let written = c.in_ok-push_slice.ensures.ok ∙ ap (λ more. c.loop-packet.text ++ more) c.format.ensures
+    ∙ ap (λ ps. c.loop-packet.text ++ line (packet_texts (get_or ps i none))) slice in
+    written ∙ rw c.loop-packet.invariant (sym (trace_push (take i packets) (get_or packets i none))
+    ∙ ap trace_text (sym (take_more packets i none within)))
 
 pub returns : goal.returns
-returns c = c.loop-packet.invariant ∙ ap trace_text (take_all c.loop-packet.packet-index c.args.packets.now (omega (arith, ap length c.as_slice-packet-items.ensures, c.loop-packet-test.false)))
+returns c = c.loop-packet.invariant ∙ ap trace_text (take_all c.loop-packet.packet-index c.args.packets.now
+    (omega (arith, ap length c.as_slice-packet-items.ensures, c.loop-packet-test.false)))

@@ -29,13 +29,15 @@ pub returns-in_err-packet-clause-err : goal.returns-in_err-packet-clause-err
 returns-in_err-packet-clause-err g c =
     let mid = g.O.Sink.taken c.loop-packet.out in
     on_err c.from_residual-in_err-packet.result _
-    (broken_off (g.O.Sink.taken c.args.out.now) mid mid c.loop-packet.waiting.items c.args.start c.args.capacity c.loop-packet._packet c.args.packets (omega (arith, c.loop-packet-test.true))
+    (broken_off (g.O.Sink.taken c.args.out.now) mid mid c.loop-packet.waiting.items c.args.start c.args.capacity c.loop-packet._packet
+    c.args.packets (omega (arith, c.loop-packet-test.true))
     c.loop-packet.invariant.written (none_taken mid c.loop-packet.waiting.items))
 
 pub returns-in_err-add_line-clause-err : goal.returns-in_err-add_line-clause-err
 returns-in_err-add_line-clause-err g c =
     on_err c.from_residual-in_err-add_line.result _
-    (broken_off (g.O.Sink.taken c.args.out.now) (g.O.Sink.taken c.loop-packet.out) (g.O.Sink.taken c.add_line.new.out) c.loop-packet.waiting.items c.args.start c.args.capacity c.loop-packet._packet c.args.packets
+    (broken_off (g.O.Sink.taken c.args.out.now) (g.O.Sink.taken c.loop-packet.out) (g.O.Sink.taken c.add_line.new.out)
+    c.loop-packet.waiting.items c.args.start c.args.capacity c.loop-packet._packet c.args.packets
     (omega (arith, c.loop-packet-test.true)) c.loop-packet.invariant.written c.in_err-add_line.ensures.err)
 
 pub loop-packet-preserved : goal.loop-packet-preserved
@@ -44,7 +46,8 @@ loop-packet-preserved g c =
     let done = c.loop-packet._packet in
     let next = c.in_ok-packet.ensures in
     let text = trace_text (simulated done c.args.start c.args.capacity) in
-    let packet : c.in_ok-packet.packet ≡ nth_packet c.args.start c.args.capacity done = next.packet ∙ rw (i.start, i.capacity, i.number) refl in
+    let packet : c.in_ok-packet.packet ≡ nth_packet c.args.start c.args.capacity done = next.packet
+    ∙ rw (i.start, i.capacity, i.number) refl in
     let written = c.format.ensures ∙ ap (λ p. line (packet_texts p)) packet in
     let later = c.add_line.new.waiting.items in
     record {
@@ -52,8 +55,10 @@ loop-packet-preserved g c =
       number = next.number ∙ ap (λ n. n + 1) i.number;
       start = next.same.0 ∙ i.start;
       capacity = next.same.1 ∙ i.capacity;
-      written = subst (TakesAllBut (g.O.Sink.taken c.args.out.now) (g.O.Sink.taken c.add_line.new.out) later) (ap (λ more. text ++ more) written ∙ sym (text_more c.args.start c.args.capacity done))
-          (one_more (g.O.Sink.taken c.args.out.now) (g.O.Sink.taken c.loop-packet.out) (g.O.Sink.taken c.add_line.new.out) c.loop-packet.waiting.items later text c.format.result.now i.written c.in_ok-add_line.ensures.ok);
+      written = subst (TakesAllBut (g.O.Sink.taken c.args.out.now) (g.O.Sink.taken c.add_line.new.out) later)
+          (ap (λ more. text ++ more) written ∙ sym (text_more c.args.start c.args.capacity done))
+          (one_more (g.O.Sink.taken c.args.out.now) (g.O.Sink.taken c.loop-packet.out) (g.O.Sink.taken c.add_line.new.out)
+          c.loop-packet.waiting.items later text c.format.result.now i.written c.in_ok-add_line.ensures.ok);
       out_later = omega (arith, i.out_later, c.add_line.ensures.out_later);
     }
 
@@ -62,7 +67,8 @@ returns-in_err-write_all-clause-err g c =
     let mid = g.O.Sink.taken c.loop-packet.out in
     let new = g.O.Sink.taken c.write_all.new.out in
     on_err c.from_residual-in_err-write_all.result _
-    (broken_off (g.O.Sink.taken c.args.out.now) mid new c.loop-packet.waiting.items c.args.start c.args.capacity c.loop-packet._packet c.args.packets (omega arith)
+    (broken_off (g.O.Sink.taken c.args.out.now) mid new c.loop-packet.waiting.items c.args.start c.args.capacity c.loop-packet._packet
+    c.args.packets (omega arith)
     c.loop-packet.invariant.written (subst (TakesFront mid new) c.as_slice.ensures.value c.in_err-write_all.ensures.front))
 
 pub returns-clause-ok : goal.returns-clause-ok
@@ -71,4 +77,5 @@ returns-clause-ok g c =
     let new = g.O.Sink.taken c.write_all.new.out in
     let all : c.loop-packet._packet ≡ c.args.packets = omega (arith, c.loop-packet-test.false) in
     subst (λ n. Appends (g.O.Sink.taken c.args.out.now) new (trace_text (simulated n c.args.start c.args.capacity))) all
-    (rest_taken (g.O.Sink.taken c.args.out.now) mid new c.loop-packet.waiting.items _ c.loop-packet.invariant.written (subst (Appends mid new) c.as_slice.ensures.value c.in_ok-write_all.ensures.ok))
+    (rest_taken (g.O.Sink.taken c.args.out.now) mid new c.loop-packet.waiting.items _ c.loop-packet.invariant.written
+    (subst (Appends mid new) c.as_slice.ensures.value c.in_ok-write_all.ensures.ok))

@@ -12,6 +12,7 @@ invariant-loop-packet g l = record {
   number : l.generator.number ≡ l._packet;
   start : l.generator.start ≡ l.start;
   capacity : l.generator.capacity ≡ l.capacity;
-  written : TakesAllBut (g.O.Sink.taken l.fn.out) (g.O.Sink.taken l.out) l.waiting.items (trace_text (simulated l._packet l.start l.capacity));
+  written : TakesAllBut (g.O.Sink.taken l.fn.out) (g.O.Sink.taken l.out) l.waiting.items
+      (trace_text (simulated l._packet l.start l.capacity));
   out_later : g.O.Sink.faults l.fn.out ≤ g.O.Sink.faults l.out;
 }

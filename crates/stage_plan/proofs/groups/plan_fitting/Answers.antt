@@ -15,4 +15,5 @@ returns-clause-sound c =
     let found = ap (λ l. slice_get l c.args.number) (sym c.as_slice.ensures) ∙ c.fold_of-f.ensures in
     fitting_sound c.args.q.now.folds c.args.q.now.names _ _ _ c.args.one.now.columns c.fold_of-f.result.now _ found
     c.in_ok-group.ensures.program c.in_ok-group.ensures.key_names c.in_ok-group.ensures.state_names
-    c.requires.fits.some_keys c.requires.fits.most_keys c.requires.fits.all_keys (args_are c.args.q.now.folds c.args.number c.args.args c.fold_of-f.result.now found c.requires.fits.all_args)
+    c.requires.fits.some_keys c.requires.fits.most_keys c.requires.fits.all_keys
+    (args_are c.args.q.now.folds c.args.number c.args.args c.fold_of-f.result.now found c.requires.fits.all_args)

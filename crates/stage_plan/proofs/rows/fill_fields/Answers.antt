@@ -6,4 +6,5 @@ pub returns-clause-fields : goal.returns-clause-fields
 returns-clause-fields g c =
     let words = c.args.words.now in
     ap (λ front. take 14 (front ++ drop 14 c.args.registers.now)) c.copy_from_slice.ensures.after
-    ∙ take-append-le 14 words (drop 14 c.args.registers.now) (omega (arith, c.requires.words)) ∙ take_all 14 words (omega (arith, c.requires.words))
+    ∙ take-append-le 14 words (drop 14 c.args.registers.now) (omega (arith, c.requires.words))
+    ∙ take_all 14 words (omega (arith, c.requires.words))

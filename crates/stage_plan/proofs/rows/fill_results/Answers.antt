@@ -13,8 +13,10 @@ result_in-requires-clause-right g c = reads_right c.args.ops.now c.loop-at.at _ 
 pub loop-at-preserved : goal.loop-at-preserved
 loop-at-preserved g c = record {
   fields = take-set-le 14 c.loop-at.registers _ _ (omega arith) ∙ c.loop-at.invariant.fields;
-  results = results_more c.args.ops.now c.loop-at.registers c.loop-at.at _ _ c.requires.sound c.loop-at-test.true (omega arith) c.loop-at.invariant.results c.result_in.ensures;
+  results = results_more c.args.ops.now c.loop-at.registers c.loop-at.at _ _ c.requires.sound c.loop-at-test.true (omega arith)
+      c.loop-at.invariant.results c.result_in.ensures;
 }
 
 pub returns-clause-results : goal.returns-clause-results
-returns-clause-results g c = λ i one found. c.loop-at.invariant.results i one (omega (arith, slice_get_within c.args.ops.now i one found)) found
+returns-clause-results g c = λ i one found. c.loop-at.invariant.results i one (omega (arith, slice_get_within c.args.ops.now i one found))
+    found

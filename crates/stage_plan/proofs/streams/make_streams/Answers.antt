@@ -11,14 +11,16 @@ make_stream-requires c =
     let q = c.args.q.now in
     let op = c.one-item.result.op in
     let here : Stands q c.loop-one.one-index op =
-    stands q c.as_slice-one-items.result.now c.loop-one.one-index c.one-item.result c.requires c.as_slice-one-items.ensures c.loop-one-test.true c.one-item.is
+    stands q c.as_slice-one-items.result.now c.loop-one.one-index c.one-item.result c.requires c.as_slice-one-items.ensures
+    c.loop-one-test.true c.one-item.is
     in
     let most : op_most c.as_slice.result.now op ≤ 641 = op_fits q c.as_slice.result.now c.loop-one.one-index op c.as_slice.ensures here in
     let before = c.loop-one.invariant.few in
     let bindings = c.requires.most_bindings in
     let long = ap length c.as_slice-one-items.ensures in
     let later = c.loop-one-test.true in
-    let made : c.loop-one.one-index + 1 ≡ length c.as_slice-in-loop-one.result.now = omega (arith, ap length c.as_slice-in-loop-one.ensures, c.loop-one.invariant.long) in
+    let made : c.loop-one.one-index + 1 ≡ length c.as_slice-in-loop-one.result.now =
+    omega (arith, ap length c.as_slice-in-loop-one.ensures, c.loop-one.invariant.long) in
     record {
       inputs = inputs_at (c.loop-one.one-index + 1) (length c.as_slice-in-loop-one.result.now) op made here.inputs;
       fold = fold_fits q c.as_slice.result.now c.loop-one.one-index op c.as_slice.ensures here;
@@ -30,19 +32,31 @@ loop-one-preserved c =
     let q = c.args.q.now in
     let op = c.one-item.result.op in
     let here : Stands q c.loop-one.one-index op =
-    stands q c.as_slice-one-items.result.now c.loop-one.one-index c.one-item.result c.requires c.as_slice-one-items.ensures c.loop-one-test.true c.one-item.is
+    stands q c.as_slice-one-items.result.now c.loop-one.one-index c.one-item.result c.requires c.as_slice-one-items.ensures
+    c.loop-one-test.true c.one-item.is
     in
     let most : op_most c.as_slice.result.now op ≤ 641 = op_fits q c.as_slice.result.now c.loop-one.one-index op c.as_slice.ensures here in
     let items = c.as_slice-one-items.result.now in
     let i = c.loop-one.one-index in
-    let next : IsNext q.folds c.loop-one.ops c.make_stream.new.ops c.loop-one.streams c.push-in-loop-one.new.self items i c.one-item.result =
-    is_next q.folds c.as_slice.result.now c.loop-one.ops c.make_stream.new.ops c.loop-one.streams c.as_slice-in-loop-one.result.now c.push-in-loop-one.new.self c.in_ok-wires.wires items i c.one-item.result
-    c.loop-one-test.true c.one-item.is c.as_slice.ensures c.as_slice-in-loop-one.ensures c.in_ok-wires.ensures.ops c.in_ok-wires.ensures.wires c.in_ok-push-2.ensures.ok
+    let next : IsNext q.folds c.loop-one.ops c.make_stream.new.ops c.loop-one.streams c.push-in-loop-one.new.self items i
+    c.one-item.result =
+    is_next q.folds c.as_slice.result.now c.loop-one.ops c.make_stream.new.ops c.loop-one.streams c.as_slice-in-loop-one.result.now
+    c.push-in-loop-one.new.self c.in_ok-wires.wires items i c.one-item.result
+    c.loop-one-test.true c.one-item.is c.as_slice.ensures c.as_slice-in-loop-one.ensures c.in_ok-wires.ensures.ops
+    c.in_ok-wires.ensures.wires c.in_ok-push-2.ensures.ok
     in
-    let shallow : are_deep c.make_stream.new.ops ≡ false = ap are_deep (sym c.as_slice-in-loop-one-2.ensures) ∙ sym c.has_deep.ensures ∙ c.if-has_deep.false in
+    let shallow : are_deep c.make_stream.new.ops ≡ false = ap are_deep (sym c.as_slice-in-loop-one-2.ensures) ∙ sym c.has_deep.ensures
+    ∙ c.if-has_deep.false in
     record {
-      made = next_made q.folds c.loop-one.ops c.make_stream.new.ops c.loop-one.streams c.push-in-loop-one.new.self items i c.one-item.result next ∙ c.loop-one.invariant.made;
-      fault = next_fault q.folds c.loop-one.ops c.make_stream.new.ops c.loop-one.streams c.push-in-loop-one.new.self items i c.one-item.result next shallow ∙ c.loop-one.invariant.fault;
+      made = next_made q.folds c.loop-one.ops c.make_stream.new.ops c.loop-one.streams c.push-in-loop-one.new.self items i c.one-item.result
+          next ∙ c.loop-one.invariant.made;
+      fault = next_fault q.folds c.loop-one.ops c.make_stream.new.ops c.loop-one.streams c.push-in-loop-one.new.self items i
+          c.one-item.result next shallow ∙ c.loop-one.invariant.fault;
       few = omega (arith, c.loop-one.invariant.few, c.in_ok-wires.ensures.few);
-      long = omega (arith, ap length c.in_ok-push-2.ensures.ok, length_push c.loop-one.streams c.in_ok-wires.wires, c.loop-one.invariant.long);
+      long = omega (
+        arith,
+        ap length c.in_ok-push-2.ensures.ok,
+        length_push c.loop-one.streams c.in_ok-wires.wires,
+        c.loop-one.invariant.long,
+      );
     }

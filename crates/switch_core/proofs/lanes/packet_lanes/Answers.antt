@@ -4,7 +4,8 @@ use Rattle.epoch_model.specs.Driving.{event_of}
 use Rattle.stage_plan.specs.Planned.{wiring_at}
 use Rattle.stage_plan.specs.Registers.{taken_at}
 use Rattle.switch_core.specs.PlanLanes.{LaneView, LaneMakes, lane_cost, lane_is_ready}
-use Rattle.switch_core.proofs.SideBySide.{got_here, same_some, each_long, done_start, untouched_start, done_next, untouched_next, untouched_was, done_end, sum_next}
+use Rattle.switch_core.proofs.SideBySide.{got_here, same_some, each_long, done_start, untouched_start, done_next, untouched_next}
+use Rattle.switch_core.proofs.SideBySide.{untouched_was, done_end, sum_next}
 use Rattle.switch_core.proofs.LaneFacts.{all_at, lane_fits}
 use Rattle.switch_core.proofs.lanes.packet_lanes.Goals as goal
 
@@ -22,7 +23,8 @@ loop-i-init g c = record {
 pub overflow_cast-i : goal.overflow_cast-i
 overflow_cast-i g c =
     let many = c.invariant.ensures.most_groups in
-    let long : length c.args.lanes.now ≡ length c.args.plan.now.groups = each_long _ 0 c.args.lanes.now c.args.plan.now.groups c.requires.lanes.2 in
+    let long : length c.args.lanes.now ≡ length c.args.plan.now.groups =
+    each_long _ 0 c.args.lanes.now c.args.plan.now.groups c.requires.lanes.2 in
     let kept = c.loop-i.auto.lanes in
     let below = c.loop-i-test.true in
     Fits-below {n = 8} tt (omega arith)
@@ -35,7 +37,8 @@ take_packet-requires g c =
     let below : i < length c.loop-i.lanes = let b = c.loop-i-test.true in omega arith in
     let was = untouched_was i c.args.lanes.now c.loop-i.lanes lane c.loop-i.invariant.same (omega arith)
     (got_here c.loop-i.lanes i c.index-lanes-i.result below) in
-    let fits = lane_fits c.requires.lanes.0 c.args.plan.now c.requires.lanes.1 i c.args.lanes.now lane c.invariant.ensures c.requires.lanes.2 was in
+    let fits = lane_fits c.requires.lanes.0 c.args.plan.now c.requires.lanes.1 i c.args.lanes.now lane c.invariant.ensures
+    c.requires.lanes.2 was in
     let ready = all_at lane_is_ready c.args.lanes.now i lane c.requires.ready was in
     let key = c.loop-i.invariant.key in
     let args = c.loop-i.invariant.args in
@@ -63,7 +66,8 @@ loop-i-preserved g c =
           (same_some lane x (sym was ∙ e)) c.take_packet.ensures.makes);
       same = untouched_next i first c.loop-i.lanes c.take_packet.new.lane c.loop-i.invariant.same;
       steps = let a = c.take_packet.ensures.steps in let b = c.loop-i.invariant.steps in omega arith;
-      cost = let s = sum_next (lane_cost g.row.WAYS) first i lane was in let a = c.take_packet.ensures.cost in let b = c.loop-i.invariant.cost in omega arith;
+      cost = let s = sum_next (lane_cost g.row.WAYS) first i lane was in let a = c.take_packet.ensures.cost in let b =
+          c.loop-i.invariant.cost in omega arith;
       key = c.take_packet.auto.key ∙ c.loop-i.invariant.key;
       args = c.take_packet.auto.args ∙ c.loop-i.invariant.args;
     }

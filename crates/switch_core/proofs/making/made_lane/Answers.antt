@@ -14,6 +14,20 @@ new-requires g c =
     let long = c.len.ensures in
     let small : c.len.result + (ghosts.sizes c.for_entries-kind.result).entry ≤ 512 = ∥∥₁_elim c.requires.program (hlevel props) (λ h.
     let kind = c.for_entries-kind.ensures.kind h.0 (subst (IsProgramOf h.0) (sym c.in_ok-copy.ensures) h.1) in
-    let few = c.entries_are_small.ensures c.args.entries h.0 (ghosts.sizes c.for_entries-kind.result) (ghosts.folding c.for_entries-kind.result) (ghosts.open_bound c.for_entries-kind.result) (ghosts.absorb_bound c.for_entries-kind.result) c.len.result h.1.valid kind (let l = c.len.ensures in let k = c.requires.keys.1 in omega arith) in
-    omega arith) in
-    (lit< tt, (c.requires.ways, (c.requires.buckets, (c.requires.places, ((let k = keys.0 in omega arith, let k = keys.1 in omega arith), (small, c.requires.pipe))))))
+    let few = c.entries_are_small.ensures c.args.entries h.0 (ghosts.sizes c.for_entries-kind.result)
+    (ghosts.folding c.for_entries-kind.result) (ghosts.open_bound c.for_entries-kind.result)
+    (ghosts.absorb_bound c.for_entries-kind.result) c.len.result h.1.valid kind
+    (let l = c.len.ensures in let k = c.requires.keys.1 in omega arith) in
+    omega arith) in (
+      lit< tt,
+      (
+        c.requires.ways,
+        (
+          c.requires.buckets,
+          (
+            c.requires.places,
+            ((let k = keys.0 in omega arith, let k = keys.1 in omega arith), (small, c.requires.pipe)),
+          ),
+        ),
+      ),
+    )

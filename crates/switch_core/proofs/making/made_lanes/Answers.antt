@@ -37,7 +37,8 @@ loop-i-preserved g c =
     let more : take (i + 1) plan.groups ≡ take i plan.groups ++ group ∷ [] = take_next plan.groups i group c.group.ensures in
     let many : length lanes ≡ i = each_long _ 0 lanes (take i plan.groups) c.loop-i.invariant.lanes ∙ length-take-le i plan.groups
     (let b = got_below plan.groups i group c.group.ensures in omega arith) in
-    let own = lane_made c.entries_suit_folds.ensures c.args.entries plan c.args.buckets i lane group c.invariant.ensures c.group.ensures made.buckets made.keys made.kind in
+    let own = lane_made c.entries_suit_folds.ensures c.args.entries plan c.args.buckets i lane group c.invariant.ensures c.group.ensures
+    made.buckets made.keys made.kind in
     let R : ℕ → LaneView → GroupPlan → Type 0 = λ n l x. IsLaneOf c.args.entries c.args.buckets l.cache (ghosts.sizes l.kind)
     (ghosts.folding l.kind) (ghosts.open_bound l.kind) (ghosts.absorb_bound l.kind) x (wiring_at plan n) in
     let empties : empty_machines (geometry_of g.row.WAYS c.args.buckets) (take (i + 1) plan.groups) ≡ empty_machines

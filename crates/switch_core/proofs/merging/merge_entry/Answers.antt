@@ -9,7 +9,9 @@ returns-clause-ok g c rows epochs stood held =
     let key = c.args.key.now in
     let middle = c.row_for.new.self in
     let made : middle ≡ counted old key f.initial f.row_per_epoch =
-    c.in_ok-place.ensures.ok ∙ (ap (λ ws. counted old key ws c.row_per_epoch.result) c.requires.initial ∙ ap (counted old key f.initial) c.row_per_epoch.ensures) in
+    c.in_ok-place.ensures.ok ∙ (ap (λ ws. counted old key ws c.row_per_epoch.result) c.requires.initial
+    ∙ ap (counted old key f.initial) c.row_per_epoch.ensures) in
     c.merged_epochs_are_held.ensures f old middle _ key c.in_ok-place.place c.row_mut-state.result.now c.merge.new.state rows
-    c.invariant.ensures c.invariant-2.ensures c.requires.key (subst (λ ws. length ws ≡ old.state_words) c.requires.initial c.requires.initial_words) made c.in_ok-place.ensures.place
+    c.invariant.ensures c.invariant-2.ensures c.requires.key (subst (λ ws. length ws ≡ old.state_words) c.requires.initial
+    c.requires.initial_words) made c.in_ok-place.ensures.place
     c.row_mut-state.ensures.value (c.merge.auto.state ∙ c.row_mut-state.ensures.length) refl (c.merge.ensures.merged rows stood) epochs held

@@ -15,13 +15,15 @@ use Rattle.switch_core.proofs.tables.lane_tables.Goals as goal
 pub overflow_cast-i : goal.overflow_cast-i
 overflow_cast-i g c =
     let many = c.invariant.ensures.most_groups in
-    let long : length c.args.lanes.now ≡ length c.args.plan.now.groups = each_long _ 0 c.args.lanes.now c.args.plan.now.groups c.requires.lanes.2 in
+    let long : length c.args.lanes.now ≡ length c.args.plan.now.groups =
+    each_long _ 0 c.args.lanes.now c.args.plan.now.groups c.requires.lanes.2 in
     let below = c.loop-i-test.true in
     Fits-below {n = 8} tt (omega arith)
 
 pub group-requires : goal.group-requires
 group-requires g c =
-    let long : length c.args.lanes.now ≡ length c.args.plan.now.groups = each_long _ 0 c.args.lanes.now c.args.plan.now.groups c.requires.lanes.2 in
+    let long : length c.args.lanes.now ≡ length c.args.plan.now.groups =
+    each_long _ 0 c.args.lanes.now c.args.plan.now.groups c.requires.lanes.2 in
     let below = c.loop-i-test.true in
     omega arith
 

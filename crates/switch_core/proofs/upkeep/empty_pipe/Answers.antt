@@ -3,7 +3,8 @@ use Rattle.std.proofs.Common.{rules, ◌≡◌, Ok, suc, [], ◌∷◌, length, 
 use Rattle.epoch_model.specs.Machine.{Merge}
 use Rattle.switch_core.specs.Costs.{merge_cost}
 use Rattle.switch_core.specs.FrontEvents.{CarriesFirst, CarriesUpTo, with_store}
-use Rattle.switch_core.proofs.Carrying.{fits_kept, keeps_on, keeps_same, keeps_start, same_store, up_to_first, up_to_on, up_to_start, up_to_whole}
+use Rattle.switch_core.proofs.Carrying.{fits_kept, keeps_on, keeps_same, keeps_start, same_store, up_to_first, up_to_on, up_to_start}
+use Rattle.switch_core.proofs.Carrying.{up_to_whole}
 use Rattle.switch_core.proofs.Emptying.{merges_more, merges_within, not_empty}
 use Rattle.switch_core.proofs.LaneFacts.{err_holds}
 use Rattle.switch_core.proofs.upkeep.empty_pipe.Goals as goal
@@ -49,7 +50,14 @@ records-preserved g c =
       cost = merges_more c.args.steps.now c.records.steps c.merge_into.new.steps (length first.pipe.records) (length was.pipe.records)
           (length new.pipe.records)
           (merge_cost first.cache.key_words first.cache.entry_words (g.K.EpochKind.merge_bound first.kind)) fewer
-          (omega (arith, c.merge_into.ensures.cost, before.sizes.key_words, before.sizes.entry_words, ap g.K.EpochKind.merge_bound before.sizes.kind)) before.cost;
+          (omega (
+            arith,
+            c.merge_into.ensures.cost,
+            before.sizes.key_words,
+            before.sizes.entry_words,
+            ap g.K.EpochKind.merge_bound
+                before.sizes.kind,
+          )) before.cost;
     }
 
 pub records-smaller : goal.records-smaller
@@ -93,7 +101,14 @@ returns-clause-cost g c =
     let before = c.records.invariant in
     merges_within c.args.steps.now c.records.steps c.merge_into.new.steps (length first.pipe.records) (length c.records.front.pipe.records)
     (merge_cost first.cache.key_words first.cache.entry_words (g.K.EpochKind.merge_bound first.kind))
-    (omega (arith, c.merge_into.ensures.cost, before.sizes.key_words, before.sizes.entry_words, ap g.K.EpochKind.merge_bound before.sizes.kind)) before.cost
+    (omega (
+      arith,
+      c.merge_into.ensures.cost,
+      before.sizes.key_words,
+      before.sizes.entry_words,
+      ap g.K.EpochKind.merge_bound
+          before.sizes.kind,
+    )) before.cost
 
 pub returns-in_err-merge_into-clause-breaks_off : goal.returns-in_err-merge_into-clause-breaks_off
 returns-in_err-merge_into-clause-breaks_off g c =
@@ -103,7 +118,8 @@ returns-in_err-merge_into-clause-breaks_off g c =
     let all = replicate (suc (length first.pipe.records)) Merge in
     let means = g.K.EpochKind.stands in
     let folding = g.K.EpochKind.folding in
-    let same : was ≡ new = sym (same_store c.records.front c.merge_into.new.self c.records.store c.merge_into.new.store c.in_err-merge_into.ensures.err) in
+    let same : was ≡ new = sym (same_store c.records.front c.merge_into.new.self c.records.store c.merge_into.new.store
+    c.in_err-merge_into.ensures.err) in
     err_holds c.from_residual.result (CarriesFirst means folding g.row.WAYS all first new)
     (subst (CarriesFirst means folding g.row.WAYS all first) same
     (up_to_first means folding g.row.WAYS all (replicate (suc (length was.pipe.records)) Merge) first was c.records.invariant.carries))
@@ -120,4 +136,11 @@ returns-in_err-merge_into-clause-cost g c =
     let before = c.records.invariant in
     merges_within c.args.steps.now c.records.steps c.merge_into.new.steps (length first.pipe.records) (length c.records.front.pipe.records)
     (merge_cost first.cache.key_words first.cache.entry_words (g.K.EpochKind.merge_bound first.kind))
-    (omega (arith, c.merge_into.ensures.cost, before.sizes.key_words, before.sizes.entry_words, ap g.K.EpochKind.merge_bound before.sizes.kind)) before.cost
+    (omega (
+      arith,
+      c.merge_into.ensures.cost,
+      before.sizes.key_words,
+      before.sizes.entry_words,
+      ap g.K.EpochKind.merge_bound
+          before.sizes.kind,
+    )) before.cost

@@ -12,7 +12,8 @@ returns c =
     let keys = joined c.args.keys.now in
     let middle = parts_from c.is_empty.result (codes "mark" ∷ own) in
     c.in_ok-push_names-2.ensures
-    ∙ ap (λ text. text ++ continued c.args.others.now) (c.in_ok-push_epoch_names.ensures ∙ ap (λ text. text ++ middle) c.in_ok-push_names.ensures)
+    ∙ ap (λ text. text ++ continued c.args.others.now) (c.in_ok-push_epoch_names.ensures
+    ∙ ap (λ text. text ++ middle) c.in_ok-push_names.ensures)
     ∙ ap (λ text. text ++ continued c.args.others.now) (append_assoc c.args.text.now keys middle)
     ∙ append_assoc c.args.text.now (keys ++ middle) (continued c.args.others.now)
     ∙ ap (λ text. c.args.text.now ++ text) (sym (joined_three c.args.keys.now own c.args.others.now (codes "mark") c.is_empty.result c.is_empty.ensures))

@@ -21,7 +21,8 @@ rows-init g c =
     let lines = flat_map (λ (row : Row). line (row_parts table.kind row)) table.rows in
     let waiting = c.push_head.new.text ++ lines in
     let whole : waiting ≡ c.args.text.now ++ table_text table =
-    ap (λ text. text ++ lines) (c.in_ok-push_head.ensures ∙ append_assoc c.args.text.now (title table) head) ∙ append_assoc c.args.text.now (title table ++ head) lines in
+    ap (λ text. text ++ lines) (c.in_ok-push_head.ensures ∙ append_assoc c.args.text.now (title table) head)
+    ∙ append_assoc c.args.text.now (title table ++ head) lines in
     record {
       written = subst (TakesAllBut bytes bytes waiting) whole (all_waits bytes waiting);
       out_later = omega arith;
@@ -30,12 +31,14 @@ rows-init g c =
 pub returns-in_err-take_room-clause-err : goal.returns-in_err-take_room-clause-err
 returns-in_err-take_room-clause-err g c =
     on_err c.from_residual-in_err-take_room.result _
-    (front_is_taken (g.O.Sink.taken c.args.out.now) (g.O.Sink.taken c.rows.out) _ (c.args.text.now ++ table_text c.args.table.now) c.rows.invariant.written)
+    (front_is_taken (g.O.Sink.taken c.args.out.now) (g.O.Sink.taken c.rows.out) _ (c.args.text.now ++ table_text c.args.table.now)
+    c.rows.invariant.written)
 
 pub returns-in_err-push_row-clause-err : goal.returns-in_err-push_row-clause-err
 returns-in_err-push_row-clause-err g c =
     on_err c.from_residual-in_err-push_row.result _
-    (front_is_taken (g.O.Sink.taken c.args.out.now) (g.O.Sink.taken c.rows.out) _ (c.args.text.now ++ table_text c.args.table.now) c.rows.invariant.written)
+    (front_is_taken (g.O.Sink.taken c.args.out.now) (g.O.Sink.taken c.rows.out) _ (c.args.text.now ++ table_text c.args.table.now)
+    c.rows.invariant.written)
 
 pub returns-in_err-write_when_full-clause-err : goal.returns-in_err-write_when_full-clause-err
 returns-in_err-write_when_full-clause-err g c =
@@ -50,8 +53,10 @@ returns-in_err-write_when_full-clause-err g c =
     let rest = flat_map line_of (drop (at + 1) rows) in
     let next = ap (flat_map line_of) (rows_from rows at row c.get.ensures) in
     on_err c.from_residual-in_err-write_when_full.result _
-    (part_broke old mid new c.rows.text (line_of row) rest whole (subst (λ left. TakesAllBut old mid (c.rows.text ++ left) whole) next c.rows.invariant.written)
-    (subst (TakesFront mid new) (c.in_ok-push_row.ensures ∙ ap (λ text. text ++ line_of row) c.take_room.ensures) c.in_err-write_when_full.ensures.front))
+    (part_broke old mid new c.rows.text (line_of row) rest whole (subst (λ left. TakesAllBut old mid (c.rows.text ++ left) whole) next
+    c.rows.invariant.written)
+    (subst (TakesFront mid new) (c.in_ok-push_row.ensures ∙ ap (λ text. text ++ line_of row) c.take_room.ensures)
+    c.in_err-write_when_full.ensures.front))
 
 pub rows-preserved : goal.rows-preserved
 rows-preserved g c =
@@ -67,8 +72,10 @@ rows-preserved g c =
     let rest = flat_map line_of (drop (at + 1) rows) in
     let next = ap (flat_map line_of) (rows_from rows at row c.get.ensures) in
     record {
-      written = part_more old mid new c.rows.text later (line_of row) rest whole (subst (λ left. TakesAllBut old mid (c.rows.text ++ left) whole) next c.rows.invariant.written)
-          (subst (TakesAllBut mid new later) (c.in_ok-push_row.ensures ∙ ap (λ text. text ++ line_of row) c.take_room.ensures) c.in_ok-write_when_full.ensures.ok);
+      written = part_more old mid new c.rows.text later (line_of row) rest whole
+          (subst (λ left. TakesAllBut old mid (c.rows.text ++ left) whole) next c.rows.invariant.written)
+          (subst (TakesAllBut mid new later) (c.in_ok-push_row.ensures ∙ ap (λ text. text ++ line_of row) c.take_room.ensures)
+          c.in_ok-write_when_full.ensures.ok);
       out_later = omega (arith, c.rows.invariant.out_later, c.write_when_full.ensures.cause.later);
     }
 

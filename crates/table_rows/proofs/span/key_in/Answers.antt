@@ -14,9 +14,11 @@ at_start words row start is =
     ap (λ r. get_or r 0 0) (from_start words row start is) ∙ (get_or-drop start words 0 0 ∙ ap (λ n. get_or words n 0) here)
 
 -- and behind the first two come the words that follow the lengths
-behind_two : (words row : List ℕ) (start : ℕ) → row ≡ slice_range words start (length words) → take (length row - 2) (drop 2 row) ≡ drop (start + 2) words
+behind_two : (words row : List ℕ) (start : ℕ) → row ≡ slice_range words start (length words)
+    → take (length row - 2) (drop 2 row) ≡ drop (start + 2) words
 behind_two words row start is =
-    take_all (length row - 2) (drop 2 row) (omega (arith, length-drop 2 row)) ∙ (ap (drop 2) (from_start words row start is) ∙ drop-drop 2 start words)
+    take_all (length row - 2) (drop 2 row) (omega (arith, length-drop 2 row))
+    ∙ (ap (drop 2) (from_start words row start is) ∙ drop-drop 2 start words)
 
 pub returns-in-Some : goal.returns-in-Some
 returns-in-Some c =
@@ -34,4 +36,5 @@ returns-in-None c =
     let row = c.in-Some-len2-up.field-0.now in
     let is = c.in-Some-len2-up.ensures.lookup.0.2 in
     let rest = take (length row - 2) (drop 2 row) in
-    sym (take_all (get_or row 0 0) rest (omega (arith, c.in-None.ensures.lookup.0))) ∙ ap₂ take (at_start words row start is) (behind_two words row start is)
+    sym (take_all (get_or row 0 0) rest (omega (arith, c.in-None.ensures.lookup.0)))
+    ∙ ap₂ take (at_start words row start is) (behind_two words row start is)

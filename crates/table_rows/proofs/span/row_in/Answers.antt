@@ -15,4 +15,5 @@ returns c =
     let columns = ap (λ n. take n (drop start words)) long in
     ap₂ (row_with span)
     (c.split_at.ensures.front ∙ (ap (take keys) columns ∙ take-take keys (keys + values) (drop start words) (omega arith)))
-    (c.split_at.ensures.back ∙ (ap (drop keys) columns ∙ (drop-take keys values (drop start words) ∙ ap (take values) (drop-drop keys start words))))
+    (c.split_at.ensures.back ∙ (ap (drop keys) columns ∙ (drop-take keys values (drop start words)
+    ∙ ap (take values) (drop-drop keys start words))))

@@ -7,4 +7,5 @@ returns-clause-packet c is =
     let kept = c.args.kept.now.packets in
     let at = c.args.at.now in
     let packet = c.packet_into.new.packet in
-    made_next kept at packet (omega arith) c.packet_into.ensures ∙ ap (λ n. packet ∷ drop n kept) (let e : suc at ≡ at + 1 = omega arith in e)
+    made_next kept at packet (omega arith) c.packet_into.ensures ∙ ap (λ n. packet ∷ drop n kept)
+    (let e : suc at ≡ at + 1 = omega arith in e)

@@ -6,4 +6,5 @@ pub returns-clause-packet : goal.returns-clause-packet
 returns-clause-packet c is =
     let made = c.args.made.now in
     let at = c.args.at.now in
-    made_next made at c.get.result.now (omega arith) c.get.ensures ∙ ap (λ n. c.get.result.now ∷ drop n made) (let e : suc at ≡ at + 1 = omega arith in e)
+    made_next made at c.get.result.now (omega arith) c.get.ensures ∙ ap (λ n. c.get.result.now ∷ drop n made)
+    (let e : suc at ≡ at + 1 = omega arith in e)

@@ -30,7 +30,8 @@ returns-clause-follows g c after f =
 
 pub returns-clause-makes : goal.returns-clause-makes
 returns-clause-makes g c =
-    packet_turn g.row.WAYS c.args.packet.now.words c.args.pipeline.now c.keep_up.new.self c.packet.new.self c.in_ok-keep_up.ensures.makes c.packet.ensures.makes
+    packet_turn g.row.WAYS c.args.packet.now.words c.args.pipeline.now c.keep_up.new.self c.packet.new.self c.in_ok-keep_up.ensures.makes
+    c.packet.ensures.makes
 
 pub returns-clause-keeps : goal.returns-clause-keeps
 returns-clause-keeps g c =

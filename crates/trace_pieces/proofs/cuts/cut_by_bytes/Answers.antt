@@ -17,7 +17,11 @@ loop-i-preserved c =
       place = place;
       cut = elim c.if-is_between.branch [
         | then-is_between w ↦
-            rw w.cut-is (record { within = omega arith; between = ap ends_at_end (sym place) ∙ c.is_between.ensures.0 w.if-is_between.true })
+            rw w.cut-is (record {
+              within = omega arith;
+              between = ap ends_at_end (sym place)
+                  ∙ c.is_between.ensures.0 w.if-is_between.true;
+            })
         | else-is_between w ↦ rw w.cut-is c.loop-i.invariant.cut
       ];
     }

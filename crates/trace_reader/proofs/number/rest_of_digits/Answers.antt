@@ -39,4 +39,5 @@ returns c =
     let all = take_all c.loop-i.i text c.loop-i-test.false in
     let digits = rw all at c.loop-i.invariant.digits in
     let value = rw all at c.loop-i.invariant.value in
-    sym (number_some 19 (10 ^ 19) text c.requires.some c.requires.few digits (digits_below text 19 digits c.requires.few) ∙ ap Some (sym value))
+    sym (number_some 19 (10 ^ 19) text c.requires.some c.requires.few digits (digits_below text 19 digits c.requires.few)
+    ∙ ap Some (sym value))

@@ -17,7 +17,8 @@ pub loop-i-preserved : goal.loop-i-preserved
 loop-i-preserved c =
     let step = each_more (column_of c.args.reads (fields_of c.args.header.now)) all_fields c.loop-i.i f.Switch c.loop-i-test.true in
     record {
-      filled = value_written _ _ _ _ c.loop-i.columns c.loop-i.i c.in-Ok.found (omega arith) c.loop-i.invariant.filled step c.in-Ok.ensures.value;
+      filled = value_written _ _ _ _ c.loop-i.columns c.loop-i.i c.in-Ok.found (omega arith) c.loop-i.invariant.filled step
+          c.in-Ok.ensures.value;
       size = simp length-set c.loop-i.invariant.size;
     }
 

@@ -8,6 +8,7 @@ use Rattle.trace_reader.proofs.record.columns.Given as goal
 abbrev pub invariant-loop-i : goal.invariant-loop-i
 invariant-loop-i l =
     record {
-      filled : columns_of l.reads (fields_of l.fn.header) ≡ onto (take l.i l.columns) (each (column_of l.reads (fields_of l.fn.header)) (drop l.i all_fields));
+      filled : columns_of l.reads (fields_of l.fn.header) ≡ onto (take l.i l.columns)
+          (each (column_of l.reads (fields_of l.fn.header)) (drop l.i all_fields));
       size : length l.columns ≡ 14;
     }

@@ -19,10 +19,12 @@ pub loop-field-preserved : goal.loop-field-preserved
 loop-field-preserved c =
     record {
       filled = rw (c.number.ensures.number, c.read-field-items.ensures.read)
-          (word_written _ _ (read_columns c.args.columns.now) c.loop-field.field-index (f.Switch, 0) _ _ (search rules) c.loop-field.invariant.filled
+          (word_written _ _ (read_columns c.args.columns.now) c.loop-field.field-index (f.Switch, 0) _ _ (search rules)
+          c.loop-field.invariant.filled
           (rw (← c.read-field-items.ensures.read) c.in-Ok.ensures));
       size = simp length-set c.loop-field.invariant.size;
     }
 
 pub returns-clause-ok : goal.returns-clause-ok
-returns-clause-ok c = words_are _ _ (read_columns c.args.columns.now) c.loop-field.field-index _ (search rules) c.loop-field.invariant.filled
+returns-clause-ok c = words_are _ _ (read_columns c.args.columns.now) c.loop-field.field-index _ (search rules)
+    c.loop-field.invariant.filled

@@ -15,7 +15,8 @@ returns-in-Ok-false-clause-opening c =
 pub returns-in-Err-columns-clause-opening : goal.returns-in-Err-columns-clause-opening
 returns-in-Err-columns-clause-opening c =
     let all = sym c.reader_of-reader.ensures.all ∙ c.in-Ok-true.ensures.some c.in-Ok-true.field-0-test in
-    opening_bad c.args.bytes.now c.args.reads (fields_of c.next_record.new.row) (records_left c.next_record.new.reader) c.in-Err-columns.fault c.if-bytes-gt-MAX_BYTES.false all c.in-Err-columns.ensures.value
+    opening_bad c.args.bytes.now c.args.reads (fields_of c.next_record.new.row) (records_left c.next_record.new.reader)
+    c.in-Err-columns.fault c.if-bytes-gt-MAX_BYTES.false all c.in-Err-columns.ensures.value
 
 pub returns-then-bytes-gt-MAX_BYTES-clause-refused : goal.returns-then-bytes-gt-MAX_BYTES-clause-refused
 returns-then-bytes-gt-MAX_BYTES-clause-refused c =
@@ -29,15 +30,18 @@ returns-in-Ok-false-clause-refused c =
 pub returns-in-Err-columns-clause-refused : goal.returns-in-Err-columns-clause-refused
 returns-in-Err-columns-clause-refused c =
     let all = sym c.reader_of-reader.ensures.all ∙ c.in-Ok-true.ensures.some c.in-Ok-true.field-0-test in
-    fault_early c.args.bytes.now c.args.reads _ (opening_bad c.args.bytes.now c.args.reads (fields_of c.next_record.new.row) (records_left c.next_record.new.reader) c.in-Err-columns.fault c.if-bytes-gt-MAX_BYTES.false all c.in-Err-columns.ensures.value)
+    fault_early c.args.bytes.now c.args.reads _ (opening_bad c.args.bytes.now c.args.reads (fields_of c.next_record.new.row)
+    (records_left c.next_record.new.reader) c.in-Err-columns.fault c.if-bytes-gt-MAX_BYTES.false all c.in-Err-columns.ensures.value)
 
 pub returns-clause-opened : goal.returns-clause-opened
 returns-clause-opened c =
     let all = sym c.reader_of-reader.ensures.all ∙ c.in-Ok-true.ensures.some c.in-Ok-true.field-0-test in
-    rw c.in-Ok-new.ensures (upcoming_good c.args.bytes.now c.args.reads (fields_of c.next_record.new.row) (records_left c.next_record.new.reader) c.in-Ok.columns c.len-width.result
+    rw c.in-Ok-new.ensures (upcoming_good c.args.bytes.now c.args.reads (fields_of c.next_record.new.row)
+    (records_left c.next_record.new.reader) c.in-Ok.columns c.len-width.result
     c.if-bytes-gt-MAX_BYTES.false all c.in-Ok.ensures.value c.len-width.ensures)
 
 pub returns-clause-accepted : goal.returns-clause-accepted
 returns-clause-accepted c =
     let all = sym c.reader_of-reader.ensures.all ∙ c.in-Ok-true.ensures.some c.in-Ok-true.field-0-test in
-    rw (opening_good c.args.bytes.now c.args.reads (fields_of c.next_record.new.row) (records_left c.next_record.new.reader) c.in-Ok.columns c.if-bytes-gt-MAX_BYTES.false all c.in-Ok.ensures.value) refl
+    rw (opening_good c.args.bytes.now c.args.reads (fields_of c.next_record.new.row) (records_left c.next_record.new.reader) c.in-Ok.columns
+    c.if-bytes-gt-MAX_BYTES.false all c.in-Ok.ensures.value) refl

@@ -10,5 +10,6 @@ returns-clause-ok c =
     let long : length c.args.key.now ≡ a.width = c.requires.width ∙ sym (ap (λ (l : KeyList). l.width) c.self.view_is) in
     on_ok_weaker c.add_key.result
     (λ done. rw (done.0, done.1, length-append a.marks.keys (c.args.mark ∷ []), ← c.self.view_is)
-    (ap (λ keys. record { width = a.width; keys = keys; marks = a.marks.keys ++ c.args.mark ∷ [] }) (rows_more a.width (length a.marks.keys) a.words.items c.args.key.now c.self.invariant.flat long)))
+    (ap (λ keys. record { width = a.width; keys = keys; marks = a.marks.keys ++ c.args.mark ∷ [] })
+    (rows_more a.width (length a.marks.keys) a.words.items c.args.key.now c.self.invariant.flat long)))
     c.add_key.ensures.ok

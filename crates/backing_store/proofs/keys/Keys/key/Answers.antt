@@ -7,11 +7,25 @@ use Rattle.backing_store.proofs.keys.Keys.key.Goals as goal
 pub row-requires : goal.row-requires
 row-requires c =
     let a = c.self.inside in
-    let low : c.args.at < length a.marks.keys = omega (arith, c.requires, length-rows_of a.width (length a.marks.keys) a.words.items, ap (λ l. length l.keys) c.self.view_is) in
-    subst (λ ws. c.args.at * a.width + a.width ≤ length ws) (sym c.as_slice.ensures.value) (row_within c.args.at (length a.marks.keys) a.width a.words.items low c.self.invariant.flat)
+    let low : c.args.at < length a.marks.keys = omega (
+      arith,
+      c.requires,
+      length-rows_of a.width (length a.marks.keys) a.words.items,
+      ap
+          (λ l. length l.keys) c.self.view_is,
+    ) in
+    subst (λ ws. c.args.at * a.width + a.width ≤ length ws) (sym c.as_slice.ensures.value)
+    (row_within c.args.at (length a.marks.keys) a.width a.words.items low c.self.invariant.flat)
 
 pub returns : goal.returns
 returns c =
     let a = c.self.inside in
-    let low : c.args.at < length a.marks.keys = omega (arith, c.requires, length-rows_of a.width (length a.marks.keys) a.words.items, ap (λ l. length l.keys) c.self.view_is) in
-    rw (← c.self.view_is) (got_row a.width (length a.marks.keys) a.words.items c.args.at low ∙ ap Some (sym (c.row.ensures ∙ ap (λ ws. row_at a.width ws c.args.at) c.as_slice.ensures.value)))
+    let low : c.args.at < length a.marks.keys = omega (
+      arith,
+      c.requires,
+      length-rows_of a.width (length a.marks.keys) a.words.items,
+      ap
+          (λ l. length l.keys) c.self.view_is,
+    ) in
+    rw (← c.self.view_is) (got_row a.width (length a.marks.keys) a.words.items c.args.at low
+    ∙ ap Some (sym (c.row.ensures ∙ ap (λ ws. row_at a.width ws c.args.at) c.as_slice.ensures.value)))

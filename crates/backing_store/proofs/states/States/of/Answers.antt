@@ -11,5 +11,12 @@ index-requires c =
 pub returns : goal.returns
 returns c =
     let a = c.self.inside in
-    let low : c.args.at < length a.of.items = omega (arith, c.requires, length-states_in a.width a.of.items a.words.items, ap (λ l. length l.rows) c.self.view_is) in
-    rw (← c.self.view_is) (key_got a.width a.of.items a.words.items c.args.at c.index.result.now (slice_get_read a.of.items (length a.of.items) c.args.at c.index.result.now refl low c.index.ensures))
+    let low : c.args.at < length a.of.items = omega (
+      arith,
+      c.requires,
+      length-states_in a.width a.of.items a.words.items,
+      ap
+          (λ l. length l.rows) c.self.view_is,
+    ) in
+    rw (← c.self.view_is) (key_got a.width a.of.items a.words.items c.args.at c.index.result.now
+    (slice_get_read a.of.items (length a.of.items) c.args.at c.index.result.now refl low c.index.ensures))

@@ -7,6 +7,13 @@ returns c =
     let a = c.self.inside in
     let few : c.len-rows.result - 1 ≤ length a.of.items = omega (arith, c.len-rows.ensures, a.of.ok.0) in
     let same : length (c.args.self.now.rows) - 1 ≡ c.len-rows.result - 1 =
-    omega (arith, c.len-rows.ensures, a.of.ok.0, length-states_in a.width a.of.items a.words.items, ap (λ l. length l.rows) c.self.view_is) in
+    omega (
+      arith,
+      c.len-rows.ensures,
+      a.of.ok.0,
+      length-states_in a.width a.of.items a.words.items,
+      ap (λ l. length l.rows)
+          c.self.view_is,
+    ) in
     rw (same, c.truncate.ensures.items, c.truncate-2.ensures.items, ← c.self.view_is)
     (ap (λ rows. record { width = a.width; rows = rows }) (states_front (c.len-rows.result - 1) a.width a.of.items a.words.items few))

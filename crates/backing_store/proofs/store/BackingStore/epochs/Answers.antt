@@ -27,7 +27,8 @@ returns-in-Found-clause-value c =
     let here = c.in-Found.ensures in
     let low : at < length merged = omega (arith, slice_get_within keys at key here, many) in
     let first = first_of_once keys merged at key many whole.0.once here in
-    let value = zip-value keys merged at c.index.result.now many (slice_get_read merged (length merged) at c.index.result.now refl low c.index.ensures) in
+    let value = zip-value keys merged at c.index.result.now many (slice_get_read merged (length merged) at c.index.result.now refl low
+    c.index.ensures) in
     rw (← c.self.view_is) (sym (epochs_at key (zip keys merged) at c.index.result.now first value))
 
 pub returns-in-Free-clause-value : goal.returns-in-Free-clause-value

@@ -89,7 +89,8 @@ invariant_of-self-then-row_per_epoch c =
     record {
       many = length-set merged at now ∙ many;
       whole = rw (c.in_ok-push-in-Found.ensures.ok, zip-set keys merged at now many)
-          (whole_row key initial (zip keys merged) rows a.keys.width a.states.width at was now first value c.saturating_add-epochs.ensures c.len-last.ensures key_size row_size whole);
+          (whole_row key initial (zip keys merged) rows a.keys.width a.states.width at was now first value c.saturating_add-epochs.ensures
+          c.len-last.ensures key_size row_size whole);
     }
 
 pub returns-in_ok-push-in-Found-clause-ok : goal.returns-in_ok-push-in-Found-clause-ok
@@ -133,8 +134,10 @@ returns-in_ok-push-in-Found-clause-place c =
     let was = c.index.result.now in
     let value = zip-value keys merged at was many (slice_get_read merged (length merged) at was refl low c.index.ensures) in
     let now : Merged = record { epochs = c.saturating_add-epochs.result; last = c.len-last.result } in
-    let after = whole_row key initial (zip keys merged) rows a.keys.width a.states.width at was now first value c.saturating_add-epochs.ensures c.len-last.ensures key_size row_size whole in
-    rw (c.in_ok-push-in-Found.ensures.ok, zip-set keys merged at now many) (place_kept key (zip keys merged) (rows ++ record { key = at; words = initial } ∷ []) at now first after.1)
+    let after = whole_row key initial (zip keys merged) rows a.keys.width a.states.width at was now first value
+    c.saturating_add-epochs.ensures c.len-last.ensures key_size row_size whole in
+    rw (c.in_ok-push-in-Found.ensures.ok, zip-set keys merged at now many)
+    (place_kept key (zip keys merged) (rows ++ record { key = at; words = initial } ∷ []) at now first after.1)
 
 pub invariant_of-self-in-Found-2 : goal.invariant_of-self-in-Found-2
 invariant_of-self-in-Found-2 c =
@@ -158,7 +161,8 @@ invariant_of-self-in-Found-2 c =
     record {
       many = length-set merged at now ∙ many;
       whole = rw (zip-set keys merged at now many)
-          (whole_again key initial (zip keys merged) rows a.keys.width a.states.width at was now first value c.saturating_add-epochs-in-Found-2.ensures refl key_size row_size whole);
+          (whole_again key initial (zip keys merged) rows a.keys.width a.states.width at was now first value
+          c.saturating_add-epochs-in-Found-2.ensures refl key_size row_size whole);
     }
 
 pub returns-in-Found-2-clause-ok : goal.returns-in-Found-2-clause-ok
@@ -181,7 +185,8 @@ returns-in-Found-2-clause-ok c =
     let value = zip-value keys merged at was many (slice_get_read merged (length merged) at was refl low c.index-merged.ensures) in
     let now : Merged = record { epochs = c.saturating_add-epochs-in-Found-2.result; last = c.index-merged.result.now.last } in
     rw (← c.self.view_is, c.if-row_per_epoch.false, zip-set keys merged at now many)
-    (counted_again key initial (zip keys merged) rows a.keys.width a.states.width at was now first value c.saturating_add-epochs-in-Found-2.ensures)
+    (counted_again key initial (zip keys merged) rows a.keys.width a.states.width at was now first value
+    c.saturating_add-epochs-in-Found-2.ensures)
 
 pub returns-in-Found-2-clause-place : goal.returns-in-Found-2-clause-place
 returns-in-Found-2-clause-place c =
@@ -202,11 +207,16 @@ returns-in-Found-2-clause-place c =
     let was = c.index-merged.result.now in
     let value = zip-value keys merged at was many (slice_get_read merged (length merged) at was refl low c.index-merged.ensures) in
     let now : Merged = record { epochs = c.saturating_add-epochs-in-Found-2.result; last = c.index-merged.result.now.last } in
-    let after = whole_again key initial (zip keys merged) rows a.keys.width a.states.width at was now first value c.saturating_add-epochs-in-Found-2.ensures refl key_size row_size whole in
+    let after = whole_again key initial (zip keys merged) rows a.keys.width a.states.width at was now first value
+    c.saturating_add-epochs-in-Found-2.ensures refl key_size row_size whole in
     rw (zip-set keys merged at now many) (place_kept key (zip keys merged) rows at now first after.1)
 
 pub invariant_of-self-in_err-reserve-in-Free : goal.invariant_of-self-in_err-reserve-in-Free
-invariant_of-self-in_err-reserve-in-Free c = record { many = rw c.reserve.ensures.items c.self.invariant.many; whole = rw c.reserve.ensures.items c.self.invariant.whole }
+invariant_of-self-in_err-reserve-in-Free c = record {
+  many = rw c.reserve.ensures.items c.self.invariant.many;
+  whole =
+      rw c.reserve.ensures.items c.self.invariant.whole;
+}
 
 pub invariant_of-self-in_err-push-in-Free : goal.invariant_of-self-in_err-push-in-Free
 invariant_of-self-in_err-push-in-Free c = record {
@@ -220,7 +230,8 @@ invariant_of-self-in-Err c =
     let back = pushed-front a.states.rows (record { key = c.len-number.result; words = c.args.initial.now }) in
     record {
       many = rw (c.reserve.ensures.items, c.in-Err.ensures.err) c.self.invariant.many;
-      whole = rw (c.reserve.ensures.items, c.in-Err.ensures.err, c.pop.ensures, c.in_ok-push-in-Free.ensures.ok, back) c.self.invariant.whole;
+      whole = rw (c.reserve.ensures.items, c.in-Err.ensures.err, c.pop.ensures, c.in_ok-push-in-Free.ensures.ok, back)
+          c.self.invariant.whole;
     }
 
 pub invariant_of-self-in-Ok : goal.invariant_of-self-in-Ok
@@ -238,10 +249,13 @@ invariant_of-self-in-Ok c =
     let none = none_of_absent keys merged key c.in-Free.ensures.0 in
     let number : c.len-number.result ≡ length (zip keys merged) = c.len-number.ensures ∙ sym (length-zip keys merged many) in
     let now : Merged = record { epochs = 1; last = c.len-last-in-Free.result } in
-    let items : c.push_reserved.new.self.items ≡ merged ++ now ∷ [] = c.push_reserved.ensures.items ∙ ap (λ ms. ms ++ now ∷ []) c.reserve.ensures.items in
-    let after = whole_first key initial (zip keys merged) rows a.keys.width a.states.width key c.len-last-in-Free.result none refl c.len-last-in-Free.ensures key_size row_size whole in
+    let items : c.push_reserved.new.self.items ≡ merged ++ now ∷ [] = c.push_reserved.ensures.items
+    ∙ ap (λ ms. ms ++ now ∷ []) c.reserve.ensures.items in
+    let after = whole_first key initial (zip keys merged) rows a.keys.width a.states.width key c.len-last-in-Free.result none refl
+    c.len-last-in-Free.ensures key_size row_size whole in
     record {
-      many = rw (items, c.in-Ok.ensures.ok) (length-append merged (now ∷ []) ∙ (ap (λ n. n + 1) many ∙ sym (length-append keys (key ∷ []))));
+      many = rw (items, c.in-Ok.ensures.ok) (length-append merged (now ∷ [])
+          ∙ (ap (λ n. n + 1) many ∙ sym (length-append keys (key ∷ []))));
       whole = rw (items, c.in-Ok.ensures.ok, c.in_ok-push-in-Free.ensures.ok, zip-push keys merged key now many, number) after;
     }
 
@@ -260,10 +274,13 @@ returns-in-Ok-clause-ok c =
     let none = none_of_absent keys merged key c.in-Free.ensures.0 in
     let number : c.len-number.result ≡ length (zip keys merged) = c.len-number.ensures ∙ sym (length-zip keys merged many) in
     let now : Merged = record { epochs = 1; last = c.len-last-in-Free.result } in
-    let items : c.push_reserved.new.self.items ≡ merged ++ now ∷ [] = c.push_reserved.ensures.items ∙ ap (λ ms. ms ++ now ∷ []) c.reserve.ensures.items in
-    let after = whole_first key initial (zip keys merged) rows a.keys.width a.states.width key c.len-last-in-Free.result none refl c.len-last-in-Free.ensures key_size row_size whole in
+    let items : c.push_reserved.new.self.items ≡ merged ++ now ∷ [] = c.push_reserved.ensures.items
+    ∙ ap (λ ms. ms ++ now ∷ []) c.reserve.ensures.items in
+    let after = whole_first key initial (zip keys merged) rows a.keys.width a.states.width key c.len-last-in-Free.result none refl
+    c.len-last-in-Free.ensures key_size row_size whole in
     rw (← c.self.view_is, items, c.in-Ok.ensures.ok, c.in_ok-push-in-Free.ensures.ok, zip-push keys merged key now many, number)
-    (counted_first key initial (zip keys merged) rows a.keys.width a.states.width c.args.row_per_epoch key c.len-last-in-Free.result none refl)
+    (counted_first key initial (zip keys merged) rows a.keys.width a.states.width c.args.row_per_epoch key c.len-last-in-Free.result none
+    refl)
 
 pub returns-in-Ok-clause-place : goal.returns-in-Ok-clause-place
 returns-in-Ok-clause-place c =
@@ -280,7 +297,9 @@ returns-in-Ok-clause-place c =
     let none = none_of_absent keys merged key c.in-Free.ensures.0 in
     let number : c.len-number.result ≡ length (zip keys merged) = c.len-number.ensures ∙ sym (length-zip keys merged many) in
     let now : Merged = record { epochs = 1; last = c.len-last-in-Free.result } in
-    let items : c.push_reserved.new.self.items ≡ merged ++ now ∷ [] = c.push_reserved.ensures.items ∙ ap (λ ms. ms ++ now ∷ []) c.reserve.ensures.items in
-    let after = whole_first key initial (zip keys merged) rows a.keys.width a.states.width key c.len-last-in-Free.result none refl c.len-last-in-Free.ensures key_size row_size whole in
+    let items : c.push_reserved.new.self.items ≡ merged ++ now ∷ [] = c.push_reserved.ensures.items
+    ∙ ap (λ ms. ms ++ now ∷ []) c.reserve.ensures.items in
+    let after = whole_first key initial (zip keys merged) rows a.keys.width a.states.width key c.len-last-in-Free.result none refl
+    c.len-last-in-Free.ensures key_size row_size whole in
     rw (items, c.in-Ok.ensures.ok, c.in_ok-push-in-Free.ensures.ok, zip-push keys merged key now many, number)
     (place_pushed key (zip keys merged) (rows ++ record { key = length (zip keys merged); words = initial } ∷ []) key now none refl after.1)

@@ -19,11 +19,13 @@ invariant_of-self-lent c w =
 
 pub returns : goal.returns
 returns c =
-    let value : option_map (λ row. row.words) (slice_get c.args.self.now.rows c.args.at) ≡ Some c.row_mut.result.now = rw (← c.self.view_is) c.row_mut.ensures.value in (
+    let value : option_map (λ row. row.words) (slice_get c.args.self.now.rows c.args.at) ≡ Some c.row_mut.result.now =
+    rw (← c.self.view_is) c.row_mut.ensures.value in (
       (refl, (λ w. rw (← c.self.view_is) refl)),
       record {
         writes_back = tt;
         value = value;
-        length = words_length (length c.args.self.now.keys) c.args.self.now.state_words c.args.self.now.rows c.args.at c.row_mut.result.now (rw c.self.view_is at c.self.invariant.whole.0).rows value;
+        length = words_length (length c.args.self.now.keys) c.args.self.now.state_words c.args.self.now.rows c.args.at c.row_mut.result.now
+            (rw c.self.view_is at c.self.invariant.whole.0).rows value;
       },
     )

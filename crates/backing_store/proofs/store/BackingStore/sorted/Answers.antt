@@ -8,7 +8,8 @@ use Rattle.backing_store.proofs.store.BackingStore.sorted.Goals as goal
 pub made_rows-requires-clause-rows : goal.made_rows-requires-clause-rows
 made_rows-requires-clause-rows c =
     let a = c.self.inside in
-    subst (λ n. AreRowsOf n a.states.width a.states.rows) (length-stored (zip a.keys.keys a.merged.items) ∙ length-zip a.keys.keys a.merged.items c.self.invariant.many) c.self.invariant.whole.0.rows
+    subst (λ n. AreRowsOf n a.states.width a.states.rows) (length-stored (zip a.keys.keys a.merged.items)
+    ∙ length-zip a.keys.keys a.merged.items c.self.invariant.many) c.self.invariant.whole.0.rows
 
 pub returns : goal.returns
 returns c =

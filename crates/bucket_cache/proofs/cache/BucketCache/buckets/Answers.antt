@@ -6,7 +6,8 @@ use Rattle.bucket_cache.proofs.cache.BucketCache.buckets.Goals as goal
 pub returns-clause-sound : goal.returns-clause-sound
 returns-clause-sound g c =
     let b = c.self.inside in
-    rw (← c.self.view_is) (flat_sound g.row.WAYS b.key_words b.entry_words b.used.items b.order.items b.words.items b.entries c.self.invariant)
+    rw (← c.self.view_is) (flat_sound g.row.WAYS b.key_words b.entry_words b.used.items b.order.items b.words.items b.entries
+    c.self.invariant)
 
 pub returns-clause-number : goal.returns-clause-number
 returns-clause-number g c =

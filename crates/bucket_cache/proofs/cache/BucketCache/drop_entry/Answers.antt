@@ -13,7 +13,8 @@ index_mut-requires g c =
     let ways = g.row.WAYS in
     let used = b.used.items in
     let are = c.self.invariant.buckets in
-    let h : c.args.bucket < length used = in-flat ways b.key_words b.entry_words c.args.bucket used b.order.items b.words.items b.entries c.args.self.now c.self.view_is c.requires.range in
+    let h : c.args.bucket < length used = in-flat ways b.key_words b.entry_words c.args.bucket used b.order.items b.words.items b.entries
+    c.args.self.now c.self.view_is c.requires.range in
     omega (arith, h, b.used.ok.0)
 
 pub overflow_sub-index_mut : goal.overflow_sub-index_mut
@@ -22,9 +23,12 @@ overflow_sub-index_mut g c =
     let ways = g.row.WAYS in
     let used = b.used.items in
     let are = c.self.invariant.buckets in
-    let h : c.args.bucket < length used = in-flat ways b.key_words b.entry_words c.args.bucket used b.order.items b.words.items b.entries c.args.self.now c.self.view_is c.requires.range in
-    let r : c.index_mut.result.now ≡ get_or used c.args.bucket 0 = get_or_read used c.args.bucket c.index_mut.result.now h c.index_mut.ensures.value 0 in
-    let some : 0 < length (list_in ways b.key_words used b.order.items b.words.items c.args.bucket) = subst (λ cache. 0 < length (list_at cache c.args.bucket)) (sym c.self.view_is) c.requires.some in
+    let h : c.args.bucket < length used = in-flat ways b.key_words b.entry_words c.args.bucket used b.order.items b.words.items b.entries
+    c.args.self.now c.self.view_is c.requires.range in
+    let r : c.index_mut.result.now ≡ get_or used c.args.bucket 0 = get_or_read used c.args.bucket c.index_mut.result.now h
+    c.index_mut.ensures.value 0 in
+    let some : 0 < length (list_in ways b.key_words used b.order.items b.words.items c.args.bucket) =
+    subst (λ cache. 0 < length (list_at cache c.args.bucket)) (sym c.self.view_is) c.requires.some in
     let all = all-used ways b.key_words c.args.bucket used b.order.items b.words.items are h in
     omega arith
 
@@ -34,11 +38,15 @@ invariant_of-self g c =
     let ways = g.row.WAYS in
     let used = b.used.items in
     let are = c.self.invariant.buckets in
-    let h : c.args.bucket < length used = in-flat ways b.key_words b.entry_words c.args.bucket used b.order.items b.words.items b.entries c.args.self.now c.self.view_is c.requires.range in
-    let r : c.index_mut.result.now ≡ get_or used c.args.bucket 0 = get_or_read used c.args.bucket c.index_mut.result.now h c.index_mut.ensures.value 0 in
+    let h : c.args.bucket < length used = in-flat ways b.key_words b.entry_words c.args.bucket used b.order.items b.words.items b.entries
+    c.args.self.now c.self.view_is c.requires.range in
+    let r : c.index_mut.result.now ≡ get_or used c.args.bucket 0 = get_or_read used c.args.bucket c.index_mut.result.now h
+    c.index_mut.ensures.value 0 in
     subst (λ n. IsFlatCache ways b.key_words b.entry_words (set used c.args.bucket (n - 1)) b.order.items b.words.items b.entries) (sym r)
-    (flat-kept ways b.key_words b.entry_words used b.order.items b.words.items (set used c.args.bucket (get_or used c.args.bucket 0 - 1)) b.order.items b.words.items b.entries
-    (fewer-buckets ways b.key_words c.args.bucket used b.order.items b.words.items are h) (length-set used c.args.bucket (get_or used c.args.bucket 0 - 1)) c.self.invariant)
+    (flat-kept ways b.key_words b.entry_words used b.order.items b.words.items (set used c.args.bucket (get_or used c.args.bucket 0 - 1))
+    b.order.items b.words.items b.entries
+    (fewer-buckets ways b.key_words c.args.bucket used b.order.items b.words.items are h)
+    (length-set used c.args.bucket (get_or used c.args.bucket 0 - 1)) c.self.invariant)
 
 pub returns-clause-pairs : goal.returns-clause-pairs
 returns-clause-pairs g c =
@@ -46,8 +54,10 @@ returns-clause-pairs g c =
     let ways = g.row.WAYS in
     let used = b.used.items in
     let are = c.self.invariant.buckets in
-    let h : c.args.bucket < length used = in-flat ways b.key_words b.entry_words c.args.bucket used b.order.items b.words.items b.entries c.args.self.now c.self.view_is c.requires.range in
-    let r : c.index_mut.result.now ≡ get_or used c.args.bucket 0 = get_or_read used c.args.bucket c.index_mut.result.now h c.index_mut.ensures.value 0 in
+    let h : c.args.bucket < length used = in-flat ways b.key_words b.entry_words c.args.bucket used b.order.items b.words.items b.entries
+    c.args.self.now c.self.view_is c.requires.range in
+    let r : c.index_mut.result.now ≡ get_or used c.args.bucket 0 = get_or_read used c.args.bucket c.index_mut.result.now h
+    c.index_mut.ensures.value 0 in
     rw (← c.self.view_is) (ap (λ ls. record { key_words = b.key_words; entry_words = b.entry_words; lists = ls; entries = b.entries })
     (ap (λ n. lists_in ways b.key_words (set used c.args.bucket (n - 1)) b.order.items b.words.items) r
     ∙ fewer-lists ways b.key_words c.args.bucket used b.order.items b.words.items are h))
@@ -58,9 +68,13 @@ returns-clause-sound g c =
     let ways = g.row.WAYS in
     let used = b.used.items in
     let are = c.self.invariant.buckets in
-    let h : c.args.bucket < length used = in-flat ways b.key_words b.entry_words c.args.bucket used b.order.items b.words.items b.entries c.args.self.now c.self.view_is c.requires.range in
-    let r : c.index_mut.result.now ≡ get_or used c.args.bucket 0 = get_or_read used c.args.bucket c.index_mut.result.now h c.index_mut.ensures.value 0 in
-    sound-written ways b.key_words b.entry_words used b.order.items b.words.items (set used c.args.bucket (get_or used c.args.bucket 0 - 1)) b.order.items b.words.items
+    let h : c.args.bucket < length used = in-flat ways b.key_words b.entry_words c.args.bucket used b.order.items b.words.items b.entries
+    c.args.self.now c.self.view_is c.requires.range in
+    let r : c.index_mut.result.now ≡ get_or used c.args.bucket 0 = get_or_read used c.args.bucket c.index_mut.result.now h
+    c.index_mut.ensures.value 0 in
+    sound-written ways b.key_words b.entry_words used b.order.items b.words.items (set used c.args.bucket (get_or used c.args.bucket 0 - 1))
+    b.order.items b.words.items
     (set used c.args.bucket (c.index_mut.result.now - 1)) b.order.items b.words.items b.entries c.self.invariant
-    (fewer-buckets ways b.key_words c.args.bucket used b.order.items b.words.items are h) (length-set used c.args.bucket (get_or used c.args.bucket 0 - 1))
+    (fewer-buckets ways b.key_words c.args.bucket used b.order.items b.words.items are h)
+    (length-set used c.args.bucket (get_or used c.args.bucket 0 - 1))
     (ap (λ n. set used c.args.bucket (n - 1)) r) refl refl

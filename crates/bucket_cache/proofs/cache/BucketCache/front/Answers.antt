@@ -6,13 +6,18 @@ use Rattle.bucket_cache.proofs.PairLists.{first-pair, first-within}
 use Rattle.bucket_cache.proofs.cache.BucketCache.front.Goals as goal
 
 pub key-requires : goal.key-requires
-key-requires g c =
-    (lit< tt, first-within (list_at c.args.self.now c.args.bucket) c.in_ok-place.place (length c.args.self.now.entries) (c.invariant.ensures.within c.args.bucket) c.in_ok-place.ensures)
+key-requires g c = (
+  lit< tt,
+  first-within (list_at c.args.self.now c.args.bucket) c.in_ok-place.place (length c.args.self.now.entries)
+      (c.invariant.ensures.within c.args.bucket) c.in_ok-place.ensures,
+)
 
 pub returns-then-compare : goal.returns-then-compare
 returns-then-compare g c =
     let first = first-pair (list_at c.args.self.now c.args.bucket) c.in_ok-place.place c.in_ok-place.ensures in
     let key : first.0.key ≡ c.args.key.now =
-    sym (c.key.ensures.key c.args.bucket 0 first.0 first.1 first.2) ∙ key_eq-true c.key.result.now c.args.key.now (sym c.compare.ensures.answer ∙ c.if-compare.true) in
-    let pair : first.0 ≡ record { key = c.args.key.now; place = c.in_ok-place.place } = ap₂ (λ key place. record { key = key; place = place }) key first.2 in
+    sym (c.key.ensures.key c.args.bucket 0 first.0 first.1 first.2) ∙ key_eq-true c.key.result.now c.args.key.now
+    (sym c.compare.ensures.answer ∙ c.if-compare.true) in
+    let pair : first.0 ≡ record { key = c.args.key.now; place = c.in_ok-place.place } =
+    ap₂ (λ key place. record { key = key; place = place }) key first.2 in
     first.1 ∙ ap (λ (p : Pair). Some p) pair

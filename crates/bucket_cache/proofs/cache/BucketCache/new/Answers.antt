@@ -14,19 +14,22 @@ invariant_of-result g c =
     let words = c.in_ok-words.words.items in
     let used : c.in_ok-used.used.items ≡ replicate count 0 = c.in_ok-used.ensures.items_if_clones_equal (λ y h. h) in
     let many : length c.in_ok-used.used.items ≡ count = ap length used ∙ length-replicate count 0 in
-    let flat : length words ≡ count * ways * kw = ap length (c.in_ok-words.ensures.items_if_clones_equal (λ y h. h)) ∙ length-replicate (count * ways * kw) 0 in
+    let flat : length words ≡ count * ways * kw = ap length (c.in_ok-words.ensures.items_if_clones_equal (λ y h. h))
+    ∙ length-replicate (count * ways * kw) 0 in
     let all : c.loop-place.place ≡ count * ways = omega arith in
     let entries = c.in_ok-entries.ensures in
     record {
       some = c.requires.ways;
       buckets = subst (λ us. AreBuckets ways kw us order words) (sym used)
-          (new-buckets ways kw count order words c.requires.ways c.requires.key.1 c.requires.places (c.loop-place.invariant.count ∙ all) flat
+          (new-buckets ways kw count order words c.requires.ways c.requires.key.1 c.requires.places (c.loop-place.invariant.count ∙ all)
+          flat
           (λ k l. c.loop-place.invariant.each k (subst (λ n. k < n) (sym all) l)));
       room = subst (λ n. n * ways ≤ 65536) (sym many) c.requires.places;
       places = ap length entries ∙ (length-replicate (count * ways) (replicate ew 0) ∙ ap (λ n. n * ways) (sym many));
       widths = λ k d l.
           let below : k < count * ways = subst (λ n. k < n) (ap length entries ∙ length-replicate (count * ways) (replicate ew 0)) l in
-          ap (λ es. length (get_or es k d)) entries ∙ (ap length (get_or-replicate (count * ways) k (replicate ew 0) d below) ∙ length-replicate ew 0);
+          ap (λ es. length (get_or es k d)) entries ∙ (ap length (get_or-replicate (count * ways) k (replicate ew 0) d below)
+          ∙ length-replicate ew 0);
     }
 
 pub returns : goal.returns

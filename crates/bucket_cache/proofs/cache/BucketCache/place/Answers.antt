@@ -9,7 +9,8 @@ index-requires g c =
     let b = c.self.inside in
     let ways = g.row.WAYS in
     let are = c.self.invariant.buckets in
-    let h : c.args.bucket < length b.used.items = in-flat ways b.key_words b.entry_words c.args.bucket b.used.items b.order.items b.words.items b.entries c.args.self.now c.self.view_is c.requires in
+    let h : c.args.bucket < length b.used.items = in-flat ways b.key_words b.entry_words c.args.bucket b.used.items b.order.items
+    b.words.items b.entries c.args.self.now c.self.view_is c.requires in
     omega (arith, h, b.used.ok.0)
 
 pub overflow_mul-first : goal.overflow_mul-first
@@ -17,8 +18,10 @@ overflow_mul-first g c =
     let b = c.self.inside in
     let ways = g.row.WAYS in
     let are = c.self.invariant.buckets in
-    let h : c.args.bucket < length b.used.items = in-flat ways b.key_words b.entry_words c.args.bucket b.used.items b.order.items b.words.items b.entries c.args.self.now c.self.view_is c.requires in
-    let r : c.index.result.now ≡ get_or b.used.items c.args.bucket 0 = get_or_read b.used.items c.args.bucket c.index.result.now h c.index.ensures 0 in
+    let h : c.args.bucket < length b.used.items = in-flat ways b.key_words b.entry_words c.args.bucket b.used.items b.order.items
+    b.words.items b.entries c.args.self.now c.self.view_is c.requires in
+    let r : c.index.result.now ≡ get_or b.used.items c.args.bucket 0 =
+    get_or_read b.used.items c.args.bucket c.index.result.now h c.index.ensures 0 in
     let l : c.args.i < get_or b.used.items c.args.bucket 0 = subst (λ n. c.args.i < n) r c.if-i-index.true in
     let s = stands ways b.key_words c.args.bucket c.args.i b.used.items b.order.items b.words.items are h l in
     let room = s.room in
@@ -30,8 +33,10 @@ overflow_add-first g c =
     let b = c.self.inside in
     let ways = g.row.WAYS in
     let are = c.self.invariant.buckets in
-    let h : c.args.bucket < length b.used.items = in-flat ways b.key_words b.entry_words c.args.bucket b.used.items b.order.items b.words.items b.entries c.args.self.now c.self.view_is c.requires in
-    let r : c.index.result.now ≡ get_or b.used.items c.args.bucket 0 = get_or_read b.used.items c.args.bucket c.index.result.now h c.index.ensures 0 in
+    let h : c.args.bucket < length b.used.items = in-flat ways b.key_words b.entry_words c.args.bucket b.used.items b.order.items
+    b.words.items b.entries c.args.self.now c.self.view_is c.requires in
+    let r : c.index.result.now ≡ get_or b.used.items c.args.bucket 0 =
+    get_or_read b.used.items c.args.bucket c.index.result.now h c.index.ensures 0 in
     let l : c.args.i < get_or b.used.items c.args.bucket 0 = subst (λ n. c.args.i < n) r c.if-i-index.true in
     let s = stands ways b.key_words c.args.bucket c.args.i b.used.items b.order.items b.words.items are h l in
     let room = s.room in
@@ -43,8 +48,10 @@ index-requires-then-i-index g c =
     let b = c.self.inside in
     let ways = g.row.WAYS in
     let are = c.self.invariant.buckets in
-    let h : c.args.bucket < length b.used.items = in-flat ways b.key_words b.entry_words c.args.bucket b.used.items b.order.items b.words.items b.entries c.args.self.now c.self.view_is c.requires in
-    let r : c.index.result.now ≡ get_or b.used.items c.args.bucket 0 = get_or_read b.used.items c.args.bucket c.index.result.now h c.index.ensures 0 in
+    let h : c.args.bucket < length b.used.items = in-flat ways b.key_words b.entry_words c.args.bucket b.used.items b.order.items
+    b.words.items b.entries c.args.self.now c.self.view_is c.requires in
+    let r : c.index.result.now ≡ get_or b.used.items c.args.bucket 0 =
+    get_or_read b.used.items c.args.bucket c.index.result.now h c.index.ensures 0 in
     let l : c.args.i < get_or b.used.items c.args.bucket 0 = subst (λ n. c.args.i < n) r c.if-i-index.true in
     let s = stands ways b.key_words c.args.bucket c.args.i b.used.items b.order.items b.words.items are h l in
     omega (arith, s.within, b.order.ok.0)
@@ -54,13 +61,17 @@ overflow_add-result g c =
     let b = c.self.inside in
     let ways = g.row.WAYS in
     let are = c.self.invariant.buckets in
-    let h : c.args.bucket < length b.used.items = in-flat ways b.key_words b.entry_words c.args.bucket b.used.items b.order.items b.words.items b.entries c.args.self.now c.self.view_is c.requires in
-    let r : c.index.result.now ≡ get_or b.used.items c.args.bucket 0 = get_or_read b.used.items c.args.bucket c.index.result.now h c.index.ensures 0 in
+    let h : c.args.bucket < length b.used.items = in-flat ways b.key_words b.entry_words c.args.bucket b.used.items b.order.items
+    b.words.items b.entries c.args.self.now c.self.view_is c.requires in
+    let r : c.index.result.now ≡ get_or b.used.items c.args.bucket 0 =
+    get_or_read b.used.items c.args.bucket c.index.result.now h c.index.ensures 0 in
     let l : c.args.i < get_or b.used.items c.args.bucket 0 = subst (λ n. c.args.i < n) r c.if-i-index.true in
     let s = stands ways b.key_words c.args.bucket c.args.i b.used.items b.order.items b.words.items are h l in
     let room = s.room in
     let below = s.below in
-    let way : c.index-then-i-index.result.now ≡ get_or b.order.items (c.args.bucket * ways + c.args.i) 0 = get_or_read b.order.items (c.args.bucket * ways + c.args.i) c.index-then-i-index.result.now s.within c.index-then-i-index.ensures 0 in
+    let way : c.index-then-i-index.result.now ≡ get_or b.order.items (c.args.bucket * ways + c.args.i) 0 =
+    get_or_read b.order.items (c.args.bucket * ways + c.args.i) c.index-then-i-index.result.now s.within c.index-then-i-index.ensures
+    0 in
     let small = s.way in
     record { fits = omega arith }
 
@@ -69,11 +80,15 @@ returns-then-i-index g c =
     let b = c.self.inside in
     let ways = g.row.WAYS in
     let are = c.self.invariant.buckets in
-    let h : c.args.bucket < length b.used.items = in-flat ways b.key_words b.entry_words c.args.bucket b.used.items b.order.items b.words.items b.entries c.args.self.now c.self.view_is c.requires in
-    let r : c.index.result.now ≡ get_or b.used.items c.args.bucket 0 = get_or_read b.used.items c.args.bucket c.index.result.now h c.index.ensures 0 in
+    let h : c.args.bucket < length b.used.items = in-flat ways b.key_words b.entry_words c.args.bucket b.used.items b.order.items
+    b.words.items b.entries c.args.self.now c.self.view_is c.requires in
+    let r : c.index.result.now ≡ get_or b.used.items c.args.bucket 0 =
+    get_or_read b.used.items c.args.bucket c.index.result.now h c.index.ensures 0 in
     let l : c.args.i < get_or b.used.items c.args.bucket 0 = subst (λ n. c.args.i < n) r c.if-i-index.true in
     let s = stands ways b.key_words c.args.bucket c.args.i b.used.items b.order.items b.words.items are h l in
-    let way : c.index-then-i-index.result.now ≡ get_or b.order.items (c.args.bucket * ways + c.args.i) 0 = get_or_read b.order.items (c.args.bucket * ways + c.args.i) c.index-then-i-index.result.now s.within c.index-then-i-index.ensures 0 in
+    let way : c.index-then-i-index.result.now ≡ get_or b.order.items (c.args.bucket * ways + c.args.i) 0 =
+    get_or_read b.order.items (c.args.bucket * ways + c.args.i) c.index-then-i-index.result.now s.within c.index-then-i-index.ensures
+    0 in
     rw (← c.self.view_is) (ap (λ n. Some (c.args.bucket * ways + n)) way
     ∙ sym (flat-place ways b.key_words c.args.bucket c.args.i b.used.items b.order.items b.words.items are h l))
 
@@ -82,6 +97,9 @@ returns-else-i-index g c =
     let b = c.self.inside in
     let ways = g.row.WAYS in
     let are = c.self.invariant.buckets in
-    let h : c.args.bucket < length b.used.items = in-flat ways b.key_words b.entry_words c.args.bucket b.used.items b.order.items b.words.items b.entries c.args.self.now c.self.view_is c.requires in
-    let r : c.index.result.now ≡ get_or b.used.items c.args.bucket 0 = get_or_read b.used.items c.args.bucket c.index.result.now h c.index.ensures 0 in
-    rw (← c.self.view_is) (sym (flat-no-place ways b.key_words c.args.bucket c.args.i b.used.items b.order.items b.words.items are h (let f = c.if-i-index.false in omega arith)))
+    let h : c.args.bucket < length b.used.items = in-flat ways b.key_words b.entry_words c.args.bucket b.used.items b.order.items
+    b.words.items b.entries c.args.self.now c.self.view_is c.requires in
+    let r : c.index.result.now ≡ get_or b.used.items c.args.bucket 0 =
+    get_or_read b.used.items c.args.bucket c.index.result.now h c.index.ensures 0 in
+    rw (← c.self.view_is) (sym (flat-no-place ways b.key_words c.args.bucket c.args.i b.used.items b.order.items b.words.items are h
+    (let f = c.if-i-index.false in omega arith)))

@@ -6,7 +6,8 @@ use Rattle.bucket_cache.proofs.cache.BucketCache.touch.Goals as goal
 
 pub returns-in-Some-clause-touched : goal.returns-in-Some-clause-touched
 returns-in-Some-clause-touched g c =
-    first-stays c.args.key.now c.in-Some.place (list_at c.args.self.now c.args.bucket) (c.invariant.ensures.once c.args.bucket) c.in-Some.ensures
+    first-stays c.args.key.now c.in-Some.place (list_at c.args.self.now c.args.bucket) (c.invariant.ensures.once c.args.bucket)
+    c.in-Some.ensures
 
 one_way : (ways key_words : ℕ) → 0 < ways → key_words + 1 ≤ ways * key_words + ways
 one_way zero key_words h = absurd (omega arith)

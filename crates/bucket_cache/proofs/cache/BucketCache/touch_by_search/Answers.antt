@@ -7,7 +7,8 @@ pub touch_bucket-requires-clause-range : goal.touch_bucket-requires-clause-range
 touch_bucket-requires-clause-range g c =
     let b = c.self.inside in
     subst (λ xs. c.args.bucket < length xs) (sym c.deref_mut.ensures.value)
-    (in-flat g.row.WAYS b.key_words b.entry_words c.args.bucket b.used.items b.order.items b.words.items b.entries c.args.self.now c.self.view_is c.requires.range)
+    (in-flat g.row.WAYS b.key_words b.entry_words c.args.bucket b.used.items b.order.items b.words.items b.entries c.args.self.now
+    c.self.view_is c.requires.range)
 
 pub returns-clause-sound : goal.returns-clause-sound
 returns-clause-sound g c =
@@ -15,7 +16,9 @@ returns-clause-sound g c =
     let new = c.touch_bucket.new in
     let width : length c.args.key.now ≡ b.key_words = c.requires.words ∙ ap (λ x. x.key_words) (sym c.self.view_is) in
     sound-written g.row.WAYS b.key_words b.entry_words b.used.items b.order.items b.words.items new.used new.order new.words
-    (take b.used.len (new.used ++ drop (length new.used) b.used.items)) (take b.order.len (new.order ++ drop (length new.order) b.order.items)) (take b.words.len (new.words ++ drop (length new.words) b.words.items))
+    (take b.used.len (new.used ++ drop (length new.used) b.used.items))
+    (take b.order.len (new.order ++ drop (length new.order) b.order.items))
+    (take b.words.len (new.words ++ drop (length new.words) b.words.items))
     b.entries c.self.invariant (subst (λ n. AreBuckets g.row.WAYS n new.used new.order new.words) width c.touch_bucket.ensures.buckets)
     (c.touch_bucket.auto.used ∙ ap length c.deref_mut.ensures.value)
     (now-holds b.used.len c.deref_mut.result.now b.used.items new.used c.deref_mut.ensures.len c.touch_bucket.auto.used)

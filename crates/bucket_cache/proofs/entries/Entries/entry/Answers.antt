@@ -6,11 +6,13 @@ pub row-requires : goal.row-requires
 row-requires c =
     let a = c.self.inside in
     let low : c.args.at < a.places = omega (arith, c.requires, length-rows_of a.width a.places a.words.items, ap length c.self.view_is) in
-    let within : c.args.at * a.width + a.width ≤ length a.words.items = omega (arith, row_fits c.args.at a.places a.width low, c.self.invariant) in
+    let within : c.args.at * a.width + a.width ≤ length a.words.items =
+    omega (arith, row_fits c.args.at a.places a.width low, c.self.invariant) in
     subst (λ ws. c.args.at * a.width + a.width ≤ length ws) (sym c.as_slice.ensures.value) within
 
 pub returns : goal.returns
 returns c =
     let a = c.self.inside in
     let low : c.args.at < a.places = omega (arith, c.requires, length-rows_of a.width a.places a.words.items, ap length c.self.view_is) in
-    rw (← c.self.view_is) (c.row.ensures ∙ (ap (λ ws. take a.width (drop (c.args.at * a.width) ws)) c.as_slice.ensures.value ∙ sym (get-rows_of a.width a.places a.words.items c.args.at [] low)))
+    rw (← c.self.view_is) (c.row.ensures ∙ (ap (λ ws. take a.width (drop (c.args.at * a.width) ws)) c.as_slice.ensures.value
+    ∙ sym (get-rows_of a.width a.places a.words.items c.args.at [] low)))

@@ -10,10 +10,12 @@ overflow_mul-places c = omega (arith, mul-le-mul_left c.args.places c.requires.w
 
 pub invariant_of-result : goal.invariant_of-result
 invariant_of-result c =
-    let zeros : c.in_ok-vec.field-0.items ≡ replicate (c.args.places * c.args.entry_words) 0 = c.in_ok-vec.ensures.items_if_clones_equal (λ y h. h) in
+    let zeros : c.in_ok-vec.field-0.items ≡ replicate (c.args.places * c.args.entry_words) 0 =
+    c.in_ok-vec.ensures.items_if_clones_equal (λ y h. h) in
     ap length zeros ∙ length-replicate (c.args.places * c.args.entry_words) 0
 
 pub returns : goal.returns
 returns c =
-    let zeros : c.in_ok-vec.field-0.items ≡ replicate (c.args.places * c.args.entry_words) 0 = c.in_ok-vec.ensures.items_if_clones_equal (λ y h. h) in
+    let zeros : c.in_ok-vec.field-0.items ≡ replicate (c.args.places * c.args.entry_words) 0 =
+    c.in_ok-vec.ensures.items_if_clones_equal (λ y h. h) in
     ap (rows_of c.args.entry_words c.args.places) zeros ∙ zero-entries c.args.entry_words c.args.places

@@ -8,7 +8,8 @@ pub returns-in-Linear : goal.returns-in-Linear
 returns-in-Linear c = record {
   kind = λ f is.
       let k = c.of-in-Linear.result in
-      for_bounds f (ghosts.sizes k) (ghosts.folding k) (ghosts.open_bound k) (ghosts.absorb_bound k) c.args.entries c.args.program Linear is c.in-Bounds.is c.in-Linear.is (c.of-in-Linear.ensures.kind f is);
+      for_bounds f (ghosts.sizes k) (ghosts.folding k) (ghosts.open_bound k) (ghosts.absorb_bound k) c.args.entries c.args.program Linear is
+      c.in-Bounds.is c.in-Linear.is (c.of-in-Linear.ensures.kind f is);
   merge = c.of-in-Linear.ensures.merge;
 }
 
@@ -16,7 +17,8 @@ pub returns-in-Other : goal.returns-in-Other
 returns-in-Other c = record {
   kind = λ f is.
       let p = c.of-in-Other.result.program in
-      for_bounds f (bounds_sizes p) (bounds_folding p) (bounds_open p) (bounds_absorb p) c.args.entries c.args.program Other is c.in-Bounds.is c.in-Other.is (c.of-in-Other.ensures.kind f is);
+      for_bounds f (bounds_sizes p) (bounds_folding p) (bounds_open p) (bounds_absorb p) c.args.entries c.args.program Other is
+      c.in-Bounds.is c.in-Other.is (c.of-in-Other.ensures.kind f is);
   merge = c.of-in-Other.ensures.merge;
 }
 

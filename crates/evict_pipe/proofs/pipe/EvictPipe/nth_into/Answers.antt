@@ -11,10 +11,12 @@ copy_from_slice-requires c =
     let rows = map items p.held.items in
     let range : c.args.i < length rows = subst (λ n. c.args.i < n) (ap (λ x. length x.records) (sym c.self.view_is)) c.requires.range in
     c.requires.words ∙ (ap (λ x. x.record_words) (sym c.self.view_is)
-    ∙ (sym (c.self.invariant.held_words c.args.i [] range) ∙ ap length (nth_row items p.held.items c.args.i c.in-Some.row.now c.in-Some.ensures ∙ sym c.deref.ensures.value)))
+    ∙ (sym (c.self.invariant.held_words c.args.i [] range) ∙ ap length
+    (nth_row items p.held.items c.args.i c.in-Some.row.now c.in-Some.ensures ∙ sym c.deref.ensures.value)))
 
 pub returns : goal.returns
 returns c =
     let p = c.self.inside in
     c.copy_from_slice.ensures.after ∙ (c.deref.ensures.value
-    ∙ (sym (nth_row items p.held.items c.args.i c.in-Some.row.now c.in-Some.ensures) ∙ ap (λ x. get_or x.records c.args.i []) c.self.view_is))
+    ∙ (sym (nth_row items p.held.items c.args.i c.in-Some.row.now c.in-Some.ensures)
+    ∙ ap (λ x. get_or x.records c.args.i []) c.self.view_is))

@@ -24,9 +24,22 @@ add_front-requires g c =
     let kind = c.of-kind.result in
     let small : c.len-keys.result + (ghosts.sizes kind).entry ≤ 512 = ∥∥₁_elim c.requires.program (hlevel props) (λ h.
     let of_kind = c.of-kind.ensures.kind h.0 (subst (IsProgramOf h.0) (sym c.in_ok-copy.ensures) h.1) in
-    let few = c.entries_are_small.ensures Folds h.0 (ghosts.sizes kind) (ghosts.folding kind) (ghosts.open_bound kind) (ghosts.absorb_bound kind) c.len-keys.result h.1.valid of_kind (let l = c.len-keys.ensures in let k = c.requires.keys.1 in omega arith) in
-    omega arith) in
-    (lit< tt, (c.requires.ways, (c.requires.buckets, (c.requires.places, ((let k = keys.0 in omega arith, let k = keys.1 in omega arith), (small, c.requires.pipe))))))
+    let few = c.entries_are_small.ensures Folds h.0 (ghosts.sizes kind) (ghosts.folding kind) (ghosts.open_bound kind)
+    (ghosts.absorb_bound kind) c.len-keys.result h.1.valid of_kind
+    (let l = c.len-keys.ensures in let k = c.requires.keys.1 in omega arith) in
+    omega arith) in (
+      lit< tt,
+      (
+        c.requires.ways,
+        (
+          c.requires.buckets,
+          (
+            c.requires.places,
+            ((let k = keys.0 in omega arith, let k = keys.1 in omega arith), (small, c.requires.pipe)),
+          ),
+        ),
+      ),
+    )
 
 pub returns-clause-is : goal.returns-clause-is
 returns-clause-is g c =
@@ -37,10 +50,12 @@ returns-clause-is g c =
     let new = c.add_front.new.fronts.items in
     let after : GroupView = record { kind = p.kind; fronts = new; store = p.store } in
     on_ok (AddsFront kind c.args.buckets c.len-keys.result c.args.pipe_records p.fronts.items new)
-    ((switches registers : ℕ) (wiring : GroupWiring) → IsSoundGroup registers part wiring → IsGroup switches part wiring c.args.self.now → IsGroup (switches + 1) part wiring after) c.add_front.result
+    ((switches registers : ℕ) (wiring : GroupWiring) → IsSoundGroup registers part wiring → IsGroup switches part wiring c.args.self.now
+    → IsGroup (switches + 1) part wiring after) c.add_front.result
     (λ adds switches registers wiring sound is.
     grown_group view part wiring registers switches kind c.args.buckets c.len-keys.result c.args.pipe_records new adds
-    (λ f program. c.of-kind.ensures.kind f (subst (IsProgramOf f) (sym c.in_ok-copy.ensures) program)) c.requires.program c.len-keys.ensures sound
+    (λ f program. c.of-kind.ensures.kind f (subst (IsProgramOf f) (sym c.in_ok-copy.ensures) program)) c.requires.program c.len-keys.ensures
+    sound
     (subst (IsGroup switches part wiring) (sym c.self.view_is) is))
     c.add_front.ensures.adds
 
@@ -50,8 +65,10 @@ returns-clause-grows g c =
     let view : GroupView = record { kind = p.kind; fronts = p.fronts.items; store = p.store } in
     let new = c.add_front.new.fronts.items in
     let after : GroupView = record { kind = p.kind; fronts = new; store = p.store } in
-    on_both ((events : List SwitchEvent) (merged : List SwitchEpoch) → FrontsStand ghosts.stands g.row.WAYS c.args.buckets p.fronts.items events merged → FrontsStand ghosts.stands g.row.WAYS c.args.buckets new events merged)
-    (AddsFront c.of-kind.result c.args.buckets c.len-keys.result c.args.pipe_records p.fronts.items new) (GroupGrows g.row.WAYS c.args.buckets c.args.pipe_records c.args.self.now after) c.add_front.result
+    on_both ((events : List SwitchEvent) (merged : List SwitchEpoch) → FrontsStand ghosts.stands g.row.WAYS c.args.buckets p.fronts.items
+    events merged → FrontsStand ghosts.stands g.row.WAYS c.args.buckets new events merged)
+    (AddsFront c.of-kind.result c.args.buckets c.len-keys.result c.args.pipe_records p.fronts.items new)
+    (GroupGrows g.row.WAYS c.args.buckets c.args.pipe_records c.args.self.now after) c.add_front.result
     (λ stand adds. subst (λ v. GroupGrows g.row.WAYS c.args.buckets c.args.pipe_records v after) c.self.view_is
     (let grows : GroupGrows g.row.WAYS c.args.buckets c.args.pipe_records view after = record {
       kind = refl;

@@ -13,7 +13,8 @@ evict_at-requires g c =
     let at = c.args.at in
     let view : GroupView = record { kind = p.kind; fronts = p.fronts.items; store = p.store } in
     let ready = ap (is_ready_at at) c.self.view_is ∙ c.requires.ready in
-    let range = subst (λ (v : GroupView). AtSwitch (λ front. c.args.bucket < length front.cache.lists) v.fronts at) (sym c.self.view_is) c.requires.range in
+    let range = subst (λ (v : GroupView). AtSwitch (λ front. c.args.bucket < length front.cache.lists) v.fronts at) (sym c.self.view_is)
+    c.requires.range in
     let here = c.deref_mut.ensures.value in (
       lit< tt,
       (
@@ -31,13 +32,16 @@ returns-clause-makes g c =
     let view : GroupView = record { kind = p.kind; fronts = p.fronts.items; store = p.store } in
     let new = c.evict_at.new.fronts in
     let whole = whole_written new (drop (length new) p.fronts.items) p.fronts.len (c.evict_at.auto.fronts ∙ c.deref_mut.ensures.len) in
-    evict_makes g.row.WAYS c.args.at c.args.bucket c.args.self.now view c.deref_mut.result.now new _ c.self.view_is c.deref_mut.ensures.value whole
+    evict_makes g.row.WAYS c.args.at c.args.bucket c.args.self.now view c.deref_mut.result.now new _ c.self.view_is
+    c.deref_mut.ensures.value whole
     c.evict_at.ensures.makes c.evict_at.ensures.leads
 
 pub returns-clause-some : goal.returns-clause-some
 returns-clause-some g c front e =
-    c.evict_at.ensures.some front (ap (λ xs. slice_get xs c.args.at) c.deref_mut.ensures.value ∙ (ap (λ (v : GroupView). slice_get v.fronts c.args.at) c.self.view_is ∙ e))
+    c.evict_at.ensures.some front (ap (λ xs. slice_get xs c.args.at) c.deref_mut.ensures.value
+    ∙ (ap (λ (v : GroupView). slice_get v.fronts c.args.at) c.self.view_is ∙ e))
 
 pub returns-clause-cost : goal.returns-clause-cost
 returns-clause-cost g c front e =
-    c.evict_at.ensures.cost front (ap (λ xs. slice_get xs c.args.at) c.deref_mut.ensures.value ∙ (ap (λ (v : GroupView). slice_get v.fronts c.args.at) c.self.view_is ∙ e))
+    c.evict_at.ensures.cost front (ap (λ xs. slice_get xs c.args.at) c.deref_mut.ensures.value
+    ∙ (ap (λ (v : GroupView). slice_get v.fronts c.args.at) c.self.view_is ∙ e))

@@ -14,7 +14,8 @@ pub returns-clause-is : goal.returns-clause-is
 returns-clause-is g c wiring = record {
   keys = ap (λ s. s.key_words) c.new-store.ensures ∙ c.len.ensures;
   states = ap (λ s. s.state_words) c.new-store.ensures ∙ c.state_words.ensures;
-  class = ∥∥₁_elim c.requires.program (hlevel props) (λ h. (c.of-kind.ensures.kind h.0 (subst (IsProgramOf h.0) (sym c.in_ok-copy.ensures) h.1)).row_per_epoch ∙ ap per_epoch (sym h.1.class));
+  class = ∥∥₁_elim c.requires.program (hlevel props) (λ h. (c.of-kind.ensures.kind h.0
+      (subst (IsProgramOf h.0) (sym c.in_ok-copy.ensures) h.1)).row_per_epoch ∙ ap per_epoch (sym h.1.class));
   kind = λ f program. c.of-kind.ensures.kind f (subst (IsProgramOf f) (sym c.in_ok-copy.ensures) program);
   kinds = λ s front e. absurd (none_there s front (ap (λ xs. slice_get xs s) (sym c.new.ensures.items) ∙ e));
   count = ap length c.new.ensures.items;

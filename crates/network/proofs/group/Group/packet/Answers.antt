@@ -16,7 +16,8 @@ take_packet-requires g c =
     let at = c.args.at in
     let view : GroupView = record { kind = p.kind; fronts = p.fronts.items; store = p.store } in
     let wiring = wiring_at c.args.plan.now c.args.group in
-    let share = subst (λ (v : GroupView). AllShare ghosts.sizes ghosts.folding (folding_in v) (length wiring.args) v.fronts v.store) (sym c.self.view_is) c.requires.shares in
+    let share = subst (λ (v : GroupView). AllShare ghosts.sizes ghosts.folding (folding_in v) (length wiring.args) v.fronts v.store)
+    (sym c.self.view_is) c.requires.shares in
     let within = subst (λ (v : GroupView). at < length v.fronts) (sym c.self.view_is) c.requires.switch in
     let ready = ap (is_ready_at at) c.self.view_is ∙ c.requires.ready in
     let keys = subst (λ (v : GroupView). v.store.key_words ≡ length wiring.keys) (sym c.self.view_is) c.requires.keys in
@@ -32,7 +33,10 @@ take_packet-requires g c =
               (λ front e. room_at at view front ready (ap (λ xs. slice_get xs at) (sym here) ∙ e)),
               (
                 (λ front e. sym keys ∙ (share at front (ap (λ xs. slice_get xs at) (sym here) ∙ e)).fits.key),
-                ((λ front e. sym (share at front (ap (λ xs. slice_get xs at) (sym here) ∙ e)).args), (c.requires.key_room, c.requires.args_room)),
+                (
+                  (λ front e. sym (share at front (ap (λ xs. slice_get xs at) (sym here) ∙ e)).args),
+                  (c.requires.key_room, c.requires.args_room),
+                ),
               ),
             ),
           ),
@@ -46,9 +50,12 @@ returns-clause-makes g c =
     let view : GroupView = record { kind = p.kind; fronts = p.fronts.items; store = p.store } in
     let new = c.take_packet.new.fronts in
     let whole = whole_written new (drop (length new) p.fronts.items) p.fronts.len (c.take_packet.auto.fronts ∙ c.deref_mut.ensures.len) in
-    packet_makes g.row.WAYS c.args.at (taken_at (wiring_at c.args.plan.now c.args.group) c.args.registers.now) c.args.self.now view c.deref_mut.result.now new _
-    c.self.view_is c.deref_mut.ensures.value whole (subst (λ (v : GroupView). c.args.at < length v.fronts) (sym c.self.view_is) c.requires.switch) c.take_packet.ensures.makes
+    packet_makes g.row.WAYS c.args.at (taken_at (wiring_at c.args.plan.now c.args.group) c.args.registers.now) c.args.self.now view
+    c.deref_mut.result.now new _
+    c.self.view_is c.deref_mut.ensures.value whole (subst (λ (v : GroupView). c.args.at < length v.fronts) (sym c.self.view_is)
+    c.requires.switch) c.take_packet.ensures.makes
 
 pub returns-clause-cost : goal.returns-clause-cost
 returns-clause-cost g c front e =
-    c.take_packet.ensures.cost front (ap (λ xs. slice_get xs c.args.at) c.deref_mut.ensures.value ∙ (ap (λ (v : GroupView). slice_get v.fronts c.args.at) c.self.view_is ∙ e))
+    c.take_packet.ensures.cost front (ap (λ xs. slice_get xs c.args.at) c.deref_mut.ensures.value
+    ∙ (ap (λ (v : GroupView). slice_get v.fronts c.args.at) c.self.view_is ∙ e))

@@ -11,36 +11,80 @@ use Rattle.network.proofs.network.Network.add_switch.Goals as goal
 pub add_switch-requires : goal.add_switch-requires
 add_switch-requires g c =
     let p = c.self.inside in
-    let is = c.self.invariant.0 in
-    (lit< tt, (is.some_ways, (is.some_buckets, (is.places, ((is.some_records, is.most_records), subst (AreGroups p.plan p.switches) (sym c.deref_mut.ensures.value) is.groups)))))
+    let is = c.self.invariant.0 in (
+      lit< tt,
+      (
+        is.some_ways,
+        (
+          is.some_buckets,
+          (
+            is.places,
+            (
+              (is.some_records, is.most_records),
+              subst (AreGroups p.plan p.switches)
+                  (sym c.deref_mut.ensures.value) is.groups,
+            ),
+          ),
+        ),
+      ),
+    )
 
 pub invariant_of-self : goal.invariant_of-self
 invariant_of-self g c =
     let p = c.self.inside in
-    let view : NetworkView = record { plan = p.plan; buckets = p.buckets; pipe_records = p.pipe_records; switches = p.switches; groups = p.groups.items } in
+    let view : NetworkView = record {
+      plan = p.plan;
+      buckets = p.buckets;
+      pipe_records = p.pipe_records;
+      switches = p.switches;
+      groups =
+          p.groups.items;
+    } in
     let new = c.add_switch.new.groups in
-    let same = whole_written new (drop (length new) p.groups.items) p.groups.len (c.add_switch.auto.groups ∙ c.deref_mut.ensures.len) ∙ (c.in_err-add_switch.ensures.err ∙ c.deref_mut.ensures.value) in
+    let same = whole_written new (drop (length new) p.groups.items) p.groups.len (c.add_switch.auto.groups ∙ c.deref_mut.ensures.len)
+    ∙ (c.in_err-add_switch.ensures.err ∙ c.deref_mut.ensures.value) in
     (same_network g.row.WAYS view _ same c.self.invariant.0, c.self.invariant.1)
 
 pub invariant_of-self-2 : goal.invariant_of-self-2
 invariant_of-self-2 g c =
     let p = c.self.inside in
-    let view : NetworkView = record { plan = p.plan; buckets = p.buckets; pipe_records = p.pipe_records; switches = p.switches; groups = p.groups.items } in
+    let view : NetworkView = record {
+      plan = p.plan;
+      buckets = p.buckets;
+      pipe_records = p.pipe_records;
+      switches = p.switches;
+      groups =
+          p.groups.items;
+    } in
     let new = c.add_switch.new.groups in
     let long = c.add_switch.auto.groups ∙ c.deref_mut.ensures.len in
-    let grown = ran_whole (Each (GroupGrows g.row.WAYS p.buckets p.pipe_records)) p.groups.items c.deref_mut.result.now new p.groups.len c.deref_mut.ensures.value long c.in_ok-add_switch.ensures.grow in
+    let grown = ran_whole (Each (GroupGrows g.row.WAYS p.buckets p.pipe_records)) p.groups.items c.deref_mut.result.now new p.groups.len
+    c.deref_mut.ensures.value long c.in_ok-add_switch.ensures.grow in
     let are = subst (AreGroups p.plan (p.switches + 1)) (sym (whole_written new (drop (length new) p.groups.items) p.groups.len long))
-    (c.in_ok-add_switch.ensures.are p.switches (subst (AreGroups p.plan p.switches) (sym c.deref_mut.ensures.value) c.self.invariant.0.groups)) in
-    (grown_network g.row.WAYS view _ (subst (λ (v : NetworkView). v.switches < 64) (sym c.self.view_is) c.requires) are grown c.self.invariant.0, c.self.invariant.1)
+    (c.in_ok-add_switch.ensures.are p.switches (subst (AreGroups p.plan p.switches) (sym c.deref_mut.ensures.value)
+    c.self.invariant.0.groups)) in (
+      grown_network g.row.WAYS view _ (subst (λ (v : NetworkView). v.switches < 64) (sym c.self.view_is) c.requires) are grown
+          c.self.invariant.0,
+      c.self.invariant.1,
+    )
 
 pub returns-clause-grows : goal.returns-clause-grows
 returns-clause-grows g c =
     let p = c.self.inside in
     let new = c.add_switch.new.groups in
     let long = c.add_switch.auto.groups ∙ c.deref_mut.ensures.len in
-    let grown = ran_whole (Each (GroupGrows g.row.WAYS p.buckets p.pipe_records)) p.groups.items c.deref_mut.result.now new p.groups.len c.deref_mut.ensures.value long c.in_ok-add_switch.ensures.grow in
-    let after : NetworkView = record { plan = p.plan; buckets = p.buckets; pipe_records = p.pipe_records; switches = p.switches + 1; groups = take p.groups.len (new ++ drop (length new) p.groups.items) } in
-    subst (λ v. NetworkGrows g.row.WAYS v after) c.self.view_is (record { groups = grown; switches = refl; keeps = record { plan = refl; buckets = refl; pipe_records = refl } })
+    let grown = ran_whole (Each (GroupGrows g.row.WAYS p.buckets p.pipe_records)) p.groups.items c.deref_mut.result.now new p.groups.len
+    c.deref_mut.ensures.value long c.in_ok-add_switch.ensures.grow in
+    let after : NetworkView = record {
+      plan = p.plan;
+      buckets = p.buckets;
+      pipe_records = p.pipe_records;
+      switches = p.switches
+          + 1;
+      groups = take p.groups.len (new ++ drop (length new) p.groups.items);
+    } in
+    subst (λ v. NetworkGrows g.row.WAYS v after) c.self.view_is (record
+    { groups = grown; switches = refl; keeps = record { plan = refl; buckets = refl; pipe_records = refl } })
 
 pub returns-clause-stands : goal.returns-clause-stands
 returns-clause-stands g c events stand = grown_stands g.row.WAYS c.args.self.now _ events (returns-clause-grows g c) stand
@@ -48,7 +92,15 @@ returns-clause-stands g c events stand = grown_stands g.row.WAYS c.args.self.now
 pub returns-in_err-add_switch-clause-err : goal.returns-in_err-add_switch-clause-err
 returns-in_err-add_switch-clause-err g c =
     let p = c.self.inside in
-    let view : NetworkView = record { plan = p.plan; buckets = p.buckets; pipe_records = p.pipe_records; switches = p.switches; groups = p.groups.items } in
+    let view : NetworkView = record {
+      plan = p.plan;
+      buckets = p.buckets;
+      pipe_records = p.pipe_records;
+      switches = p.switches;
+      groups =
+          p.groups.items;
+    } in
     let new = c.add_switch.new.groups in
-    let same = whole_written new (drop (length new) p.groups.items) p.groups.len (c.add_switch.auto.groups ∙ c.deref_mut.ensures.len) ∙ (c.in_err-add_switch.ensures.err ∙ c.deref_mut.ensures.value) in
+    let same = whole_written new (drop (length new) p.groups.items) p.groups.len (c.add_switch.auto.groups ∙ c.deref_mut.ensures.len)
+    ∙ (c.in_err-add_switch.ensures.err ∙ c.deref_mut.ensures.value) in
     if_err _ c.from_residual.result (ap (with_groups view) same ∙ c.self.view_is)

@@ -7,7 +7,8 @@ use Rattle.network.proofs.network.Network.drained.Goals as goal
 
 pub returns-clause-value : goal.returns-clause-value
 returns-clause-value g c =
-    c.all_drained.ensures.value ∙ (ap (list_all group_is_drained) c.deref.ensures.value ∙ ap (λ (v : NetworkView). list_all group_is_drained v.groups) c.self.view_is)
+    c.all_drained.ensures.value ∙ (ap (list_all group_is_drained) c.deref.ensures.value
+    ∙ ap (λ (v : NetworkView). list_all group_is_drained v.groups) c.self.view_is)
 
 pub returns-clause-done : goal.returns-clause-done
 returns-clause-done g c t =

@@ -28,7 +28,8 @@ evict_from-requires g c =
           (p.plan, p.switches, within, subst (AreGroups p.plan p.switches) here is.groups),
           (
             (λ group e. ready group (ap (λ xs. slice_get xs lane) here ∙ e)),
-            (λ group e front f. subst (λ b. c.args.bucket < b) (sym (is.wide lane group (ap (λ xs. slice_get xs lane) here ∙ e) c.args.at front f)) range),
+            (λ group e front f. subst (λ b. c.args.bucket < b) (sym (is.wide lane group (ap (λ xs. slice_get xs lane) here ∙ e) c.args.at
+                front f)) range),
           ),
         ),
       ),
@@ -37,7 +38,14 @@ evict_from-requires g c =
 pub invariant_of-self : goal.invariant_of-self
 invariant_of-self g c =
     let p = c.self.inside in
-    let view : NetworkView = record { plan = p.plan; buckets = p.buckets; pipe_records = p.pipe_records; switches = p.switches; groups = p.groups.items } in
+    let view : NetworkView = record {
+      plan = p.plan;
+      buckets = p.buckets;
+      pipe_records = p.pipe_records;
+      switches = p.switches;
+      groups =
+          p.groups.items;
+    } in
     let events : ℕ → List Event = event_at c.args.lane (Evict c.args.bucket) in
     let made = ran_whole (GroupsMake g.row.WAYS c.args.at events) p.groups.items c.deref_mut.result.now c.evict_from.new.groups p.groups.len
     c.deref_mut.ensures.value (c.evict_from.auto.groups ∙ c.deref_mut.ensures.len) c.evict_from.ensures.makes in
@@ -46,7 +54,14 @@ invariant_of-self g c =
 pub returns-clause-makes : goal.returns-clause-makes
 returns-clause-makes g c =
     let p = c.self.inside in
-    let view : NetworkView = record { plan = p.plan; buckets = p.buckets; pipe_records = p.pipe_records; switches = p.switches; groups = p.groups.items } in
+    let view : NetworkView = record {
+      plan = p.plan;
+      buckets = p.buckets;
+      pipe_records = p.pipe_records;
+      switches = p.switches;
+      groups =
+          p.groups.items;
+    } in
     let new = c.evict_from.new.groups in
     let events : ℕ → List Event = event_at c.args.lane (Evict c.args.bucket) in
     let after = with_groups view (take p.groups.len (new ++ drop (length new) p.groups.items)) in
@@ -64,12 +79,15 @@ returns-clause-stores g c =
     let p = c.self.inside in
     let new = c.evict_from.new.groups in
     subst (λ (v : NetworkView). StoresStay v.groups (take p.groups.len (new ++ drop (length new) p.groups.items))) c.self.view_is
-    (ran_whole StoresStay p.groups.items c.deref_mut.result.now new p.groups.len c.deref_mut.ensures.value (c.evict_from.auto.groups ∙ c.deref_mut.ensures.len) c.evict_from.ensures.stores)
+    (ran_whole StoresStay p.groups.items c.deref_mut.result.now new p.groups.len c.deref_mut.ensures.value
+    (c.evict_from.auto.groups ∙ c.deref_mut.ensures.len) c.evict_from.ensures.stores)
 
 pub returns-clause-some : goal.returns-clause-some
 returns-clause-some g c group e front f =
-    c.evict_from.ensures.some group (ap (λ xs. slice_get xs c.args.lane) c.deref_mut.ensures.value ∙ (ap (λ (v : NetworkView). slice_get v.groups c.args.lane) c.self.view_is ∙ e)) front f
+    c.evict_from.ensures.some group (ap (λ xs. slice_get xs c.args.lane) c.deref_mut.ensures.value
+    ∙ (ap (λ (v : NetworkView). slice_get v.groups c.args.lane) c.self.view_is ∙ e)) front f
 
 pub returns-clause-cost : goal.returns-clause-cost
 returns-clause-cost g c group e front f =
-    c.evict_from.ensures.cost group (ap (λ xs. slice_get xs c.args.lane) c.deref_mut.ensures.value ∙ (ap (λ (v : NetworkView). slice_get v.groups c.args.lane) c.self.view_is ∙ e)) front f
+    c.evict_from.ensures.cost group (ap (λ xs. slice_get xs c.args.lane) c.deref_mut.ensures.value
+    ∙ (ap (λ (v : NetworkView). slice_get v.groups c.args.lane) c.self.view_is ∙ e)) front f

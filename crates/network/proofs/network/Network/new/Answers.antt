@@ -22,5 +22,12 @@ invariant_of-result g c = (
 
 pub returns-clause-stands : goal.returns-clause-stands
 returns-clause-stands g c =
-    let net : NetworkView = record { plan = c.args.plan; buckets = c.args.buckets; pipe_records = c.args.pipe_records; switches = 0; groups = c.in_ok-groups.groups.items } in
+    let net : NetworkView = record {
+      plan = c.args.plan;
+      buckets = c.args.buckets;
+      pipe_records = c.args.pipe_records;
+      switches =
+          0;
+      groups = c.in_ok-groups.groups.items;
+    } in
     fresh_stands g.row.WAYS net (c.in_ok-groups.ensures.stand c.args.buckets)

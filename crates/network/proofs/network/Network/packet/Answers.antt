@@ -18,7 +18,14 @@ use Rattle.network.proofs.network.Network.packet.Goals as goal
 pub invariant_of-self : goal.invariant_of-self
 invariant_of-self g c =
     let p = c.self.inside in
-    let view : NetworkView = record { plan = p.plan; buckets = p.buckets; pipe_records = p.pipe_records; switches = p.switches; groups = p.groups.items } in
+    let view : NetworkView = record {
+      plan = p.plan;
+      buckets = p.buckets;
+      pipe_records = p.pipe_records;
+      switches = p.switches;
+      groups =
+          p.groups.items;
+    } in
     let words = c.args.packet.now.words in
     let filled = c.row.new.registers in
     let key = c.packet_groups.new.key in
@@ -26,18 +33,23 @@ invariant_of-self g c =
     let before = c.deref_mut-2.result.now in
     let new = c.packet_groups.new.groups in
     let registers : c.deref.result.now ≡ row_of p.plan words =
-    c.deref.ensures.value ∙ (whole_written filled (drop (length filled) p.registers.items) p.registers.len (c.row.auto.registers ∙ c.deref_mut.ensures.len) ∙ c.row.ensures.row) in
+    c.deref.ensures.value ∙ (whole_written filled (drop (length filled) p.registers.items) p.registers.len
+    (c.row.auto.registers ∙ c.deref_mut.ensures.len) ∙ c.row.ensures.row) in
     let taken : GroupsMake g.row.WAYS c.args.at (packet_events p.plan words) before new =
-    subst (λ rs. GroupsMake g.row.WAYS c.args.at (λ n. event_of (taken_at (wiring_at p.plan n) rs)) before new) registers c.packet_groups.ensures.makes in
+    subst (λ rs. GroupsMake g.row.WAYS c.args.at (λ n. event_of (taken_at (wiring_at p.plan n) rs)) before new) registers
+    c.packet_groups.ensures.makes in
     let made = ran_whole (GroupsMake g.row.WAYS c.args.at (packet_events p.plan words)) p.groups.items before new p.groups.len
     c.deref_mut-2.ensures.value (c.packet_groups.auto.groups ∙ c.deref_mut-2.ensures.len) taken in (
       made_network g.row.WAYS c.args.at (packet_events p.plan words) view _ made c.self.invariant.0,
       record {
-        for_row = ap length (whole_written filled (drop (length filled) p.registers.items) p.registers.len (c.row.auto.registers ∙ c.deref_mut.ensures.len))
+        for_row = ap length (whole_written filled (drop (length filled) p.registers.items) p.registers.len
+            (c.row.auto.registers ∙ c.deref_mut.ensures.len))
             ∙ (c.row.auto.registers ∙ (ap length c.deref_mut.ensures.value ∙ c.self.invariant.1.for_row));
-        for_key = ap length (whole_written key (drop (length key) p.key.items) p.key.len (c.packet_groups.auto.key ∙ c.deref_mut-3.ensures.len))
+        for_key = ap length (whole_written key (drop (length key) p.key.items) p.key.len
+            (c.packet_groups.auto.key ∙ c.deref_mut-3.ensures.len))
             ∙ (c.packet_groups.auto.key ∙ (ap length c.deref_mut-3.ensures.value ∙ c.self.invariant.1.for_key));
-        for_args = ap length (whole_written args (drop (length args) p.args.items) p.args.len (c.packet_groups.auto.args ∙ c.deref_mut-4.ensures.len))
+        for_args = ap length (whole_written args (drop (length args) p.args.items) p.args.len
+            (c.packet_groups.auto.args ∙ c.deref_mut-4.ensures.len))
             ∙ (c.packet_groups.auto.args ∙ (ap length c.deref_mut-4.ensures.value ∙ c.self.invariant.1.for_args));
       },
     )
@@ -45,15 +57,24 @@ invariant_of-self g c =
 pub returns-clause-makes : goal.returns-clause-makes
 returns-clause-makes g c =
     let p = c.self.inside in
-    let view : NetworkView = record { plan = p.plan; buckets = p.buckets; pipe_records = p.pipe_records; switches = p.switches; groups = p.groups.items } in
+    let view : NetworkView = record {
+      plan = p.plan;
+      buckets = p.buckets;
+      pipe_records = p.pipe_records;
+      switches = p.switches;
+      groups =
+          p.groups.items;
+    } in
     let words = c.args.packet.now.words in
     let before = c.deref_mut-2.result.now in
     let new = c.packet_groups.new.groups in
     let filled = c.row.new.registers in
     let registers : c.deref.result.now ≡ row_of p.plan words =
-    c.deref.ensures.value ∙ (whole_written filled (drop (length filled) p.registers.items) p.registers.len (c.row.auto.registers ∙ c.deref_mut.ensures.len) ∙ c.row.ensures.row) in
+    c.deref.ensures.value ∙ (whole_written filled (drop (length filled) p.registers.items) p.registers.len
+    (c.row.auto.registers ∙ c.deref_mut.ensures.len) ∙ c.row.ensures.row) in
     let taken : GroupsMake g.row.WAYS c.args.at (packet_events p.plan words) before new =
-    subst (λ rs. GroupsMake g.row.WAYS c.args.at (λ n. event_of (taken_at (wiring_at p.plan n) rs)) before new) registers c.packet_groups.ensures.makes in
+    subst (λ rs. GroupsMake g.row.WAYS c.args.at (λ n. event_of (taken_at (wiring_at p.plan n) rs)) before new) registers
+    c.packet_groups.ensures.makes in
     let made = ran_whole (GroupsMake g.row.WAYS c.args.at (packet_events p.plan words)) p.groups.items before new p.groups.len
     c.deref_mut-2.ensures.value (c.packet_groups.auto.groups ∙ c.deref_mut-2.ensures.len) taken in
     let after = with_groups view (take p.groups.len (new ++ drop (length new) p.groups.items)) in
@@ -84,7 +105,8 @@ returns-clause-cost g c =
     let p = c.self.inside in
     let most = group_cost g.row.WAYS c.args.at in
     subst (λ v. c.packet_groups.new.steps ≤ c.args.steps.now + network_cost g.row.WAYS c.args.at v) c.self.view_is
-    (after_row c.args.steps.now c.row.new.steps c.packet_groups.new.steps (registers_of p.plan) (sum_by most p.groups.items) c.row.ensures.steps
+    (after_row c.args.steps.now c.row.new.steps c.packet_groups.new.steps (registers_of p.plan) (sum_by most p.groups.items)
+    c.row.ensures.steps
     (subst (λ xs. c.packet_groups.new.steps ≤ c.row.new.steps + sum_by most xs) c.deref_mut-2.ensures.value c.packet_groups.ensures.cost))
 
 pub returns-clause-bound : goal.returns-clause-bound
@@ -92,5 +114,7 @@ returns-clause-bound g c =
     let net = c.args.self.now in
     let is = subst (IsNetwork g.row.WAYS) c.self.view_is c.self.invariant.0 in
     let sound = subst (λ (v : NetworkView). IsSoundPlan v.plan) c.self.view_is c.invariant.ensures in
-    under c.args.steps.now c.packet_groups.new.steps (network_cost g.row.WAYS c.args.at net) (plan_bound net.plan g.row.WAYS) (returns-clause-cost g c)
-    (groups_within g.row.WAYS c.args.at net.switches net.buckets net.plan net.groups c.depth_is_found.ensures c.entries_suit_folds.ensures sound c.requires.switch is.wide is.groups)
+    under c.args.steps.now c.packet_groups.new.steps (network_cost g.row.WAYS c.args.at net) (plan_bound net.plan g.row.WAYS)
+    (returns-clause-cost g c)
+    (groups_within g.row.WAYS c.args.at net.switches net.buckets net.plan net.groups c.depth_is_found.ensures c.entries_suit_folds.ensures
+    sound c.requires.switch is.wide is.groups)

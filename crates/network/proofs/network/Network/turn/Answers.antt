@@ -1,8 +1,10 @@
-use Rattle.std.proofs.Common.{◌≡◌, ℕ, ◌+◌, ◌*◌, ◌≤◌, ◌<◌, Bool, true, false, List, [], ◌∷◌, ◌++◌, length, sym, ap, ◌∙◌, subst, arith, append_assoc, lit<}
+use Rattle.std.proofs.Common.{◌≡◌, ℕ, ◌+◌, ◌*◌, ◌≤◌, ◌<◌, Bool, true, false, List, [], ◌∷◌, ◌++◌, length, sym, ap, ◌∙◌, subst, arith}
+use Rattle.std.proofs.Common.{append_assoc, lit<}
 use Rattle.std.specs.Prelude.{if◌then◌else◌}
 use Rattle.switch_core.proofs.LaneFacts.{on_err, on_ok}
 use Rattle.network.specs.Networks.{NetworkView, merges_cost, network_cost}
-use Rattle.network.specs.Running.{NetworkEvent, NetworkMakes, NetworkRuns, RunBreaksOff, Takes, merges_for_room, merges_of_each, turn_events}
+use Rattle.network.specs.Running.{NetworkEvent, NetworkMakes, NetworkRuns, RunBreaksOff, Takes, merges_for_room, merges_of_each}
+use Rattle.network.specs.Running.{turn_events}
 use Rattle.network.proofs.MakeSteps.{if_err}
 use Rattle.network.proofs.Runs.{kept_long, merges_cost_kept, packet_cost_kept, run_breaks_in, run_breaks_on, runs_kept, runs_on, runs_one}
 use Rattle.network.proofs.network.Network.turn.Goals as goal
@@ -20,7 +22,8 @@ catch_up-requires g c =
     (lit< tt, subst (λ n. c.args.at < n) (sym (c.packet.ensures.makes.switches ∙ kept.switches)) c.requires)
 
 -- merges for room, and then a packet
-before_lag : (ways at : ℕ) (words : List ℕ) (old room after : NetworkView) → NetworkRuns ways (merges_for_room at old) old room → NetworkMakes ways (Takes at words) room after
+before_lag : (ways at : ℕ) (words : List ℕ) (old room after : NetworkView) → NetworkRuns ways (merges_for_room at old) old room
+    → NetworkMakes ways (Takes at words) room after
     → NetworkRuns ways (merges_for_room at old ++ Takes at words ∷ []) old after
 before_lag ways at words old room after ran made =
     runs_on ways (merges_for_room at old) (Takes at words ∷ []) old room after ran (runs_one ways (Takes at words) room after made)
@@ -57,7 +60,8 @@ returns-clause-runs g c =
     let over : c.args.lag_over ≡ true = c.if-not-lag_over.false in
     let merges = merges_of_each at (length after.groups) in
     on_ok (NetworkRuns ways merges after new) (NetworkRuns ways (turn_events at words c.args.lag_over old) old new) c.catch_up.result
-    (λ ran. subst (λ es. NetworkRuns ways es old new) (turn_is at words c.args.lag_over old (length after.groups) over long) (runs_on ways before merges old after new first ran))
+    (λ ran. subst (λ es. NetworkRuns ways es old new) (turn_is at words c.args.lag_over old (length after.groups) over long)
+    (runs_on ways before merges old after new first ran))
     c.catch_up.ensures.runs
 
 pub returns-clause-breaks_off : goal.returns-clause-breaks_off
@@ -75,29 +79,35 @@ returns-clause-breaks_off g c =
     let over : c.args.lag_over ≡ true = c.if-not-lag_over.false in
     let merges = merges_of_each at (length after.groups) in
     on_err (RunBreaksOff ways merges after new) (RunBreaksOff ways (turn_events at words c.args.lag_over old) old new) c.catch_up.result
-    (λ ran. subst (λ es. RunBreaksOff ways es old new) (turn_is at words c.args.lag_over old (length after.groups) over long) (run_breaks_on ways before merges old after new first ran))
+    (λ ran. subst (λ es. RunBreaksOff ways es old new) (turn_is at words c.args.lag_over old (length after.groups) over long)
+    (run_breaks_on ways before merges old after new first ran))
     c.catch_up.ensures.breaks_off
 
 pub returns-in_err-make_room-clause-breaks_off : goal.returns-in_err-make_room-clause-breaks_off
 returns-in_err-make_room-clause-breaks_off g c =
     let old = c.args.self.now in
-    let rest : List NetworkEvent = Takes c.args.at c.args.packet.now.words ∷ (if c.args.lag_over then merges_of_each c.args.at (length old.groups) else []) in
-    if_err _ c.from_residual.result (run_breaks_in g.row.WAYS (merges_for_room c.args.at old) rest old c.make_room.new.network c.in_err-make_room.ensures.breaks_off)
+    let rest : List NetworkEvent = Takes c.args.at c.args.packet.now.words
+    ∷ (if c.args.lag_over then merges_of_each c.args.at (length old.groups) else []) in
+    if_err _ c.from_residual.result (run_breaks_in g.row.WAYS (merges_for_room c.args.at old) rest old c.make_room.new.network
+    c.in_err-make_room.ensures.breaks_off)
 
 -- the steps of merges, a packet, and merges again
-turn_within : (start room packet end merges later cost packets : ℕ) → room ≤ start + merges → packets ≡ cost → packet ≤ room + packets → later ≡ merges → end ≤ packet + later → end ≤ start + (cost + 2 * merges)
+turn_within : (start room packet end merges later cost packets : ℕ) → room ≤ start + merges → packets ≡ cost → packet ≤ room + packets
+    → later ≡ merges → end ≤ packet + later → end ≤ start + (cost + 2 * merges)
 turn_within start room packet end merges later cost packets a b c d e = omega arith
 
 room_within : (start room merges cost : ℕ) → room ≤ start + merges → room ≤ start + (cost + 2 * merges)
 room_within start room merges cost a = omega arith
 
-packet_within : (start room packet merges cost packets : ℕ) → room ≤ start + merges → packets ≡ cost → packet ≤ room + packets → packet ≤ start + (cost + 2 * merges)
+packet_within : (start room packet merges cost packets : ℕ) → room ≤ start + merges → packets ≡ cost → packet ≤ room + packets
+    → packet ≤ start + (cost + 2 * merges)
 packet_within start room packet merges cost packets a b c = omega arith
 
 pub returns-in_err-make_room-clause-cost : goal.returns-in_err-make_room-clause-cost
 returns-in_err-make_room-clause-cost g c =
     let old = c.args.self.now in
-    room_within c.args.steps.now c.make_room.new.steps (merges_cost c.args.at old) (network_cost g.row.WAYS c.args.at old) c.make_room.ensures.cost
+    room_within c.args.steps.now c.make_room.new.steps (merges_cost c.args.at old) (network_cost g.row.WAYS c.args.at old)
+    c.make_room.ensures.cost
 
 pub returns-then-not-lag_over-clause-cost : goal.returns-then-not-lag_over-clause-cost
 returns-then-not-lag_over-clause-cost g c =
@@ -106,7 +116,8 @@ returns-then-not-lag_over-clause-cost g c =
     let old = c.args.self.now in
     let mid = c.make_room.new.network in
     let kept = runs_kept ways (merges_for_room at old) old mid c.in_ok-make_room.ensures.runs in
-    packet_within c.args.steps.now c.make_room.new.steps c.packet.new.steps (merges_cost at old) (network_cost ways at old) (network_cost ways at mid)
+    packet_within c.args.steps.now c.make_room.new.steps c.packet.new.steps (merges_cost at old) (network_cost ways at old)
+    (network_cost ways at mid)
     c.make_room.ensures.cost (packet_cost_kept ways at old mid kept) c.packet.ensures.cost
 
 pub returns-clause-cost : goal.returns-clause-cost
@@ -119,5 +130,7 @@ returns-clause-cost g c =
     let kept = runs_kept ways (merges_for_room at old) old mid c.in_ok-make_room.ensures.runs in
     let all = runs_kept ways (merges_for_room at old ++ Takes at c.args.packet.now.words ∷ []) old after
     (before_lag ways at c.args.packet.now.words old mid after c.in_ok-make_room.ensures.runs c.packet.ensures.makes) in
-    turn_within c.args.steps.now c.make_room.new.steps c.packet.new.steps c.catch_up.new.steps (merges_cost at old) (merges_cost at after) (network_cost ways at old) (network_cost ways at mid)
-    c.make_room.ensures.cost (packet_cost_kept ways at old mid kept) c.packet.ensures.cost (merges_cost_kept at old after all) c.catch_up.ensures.cost
+    turn_within c.args.steps.now c.make_room.new.steps c.packet.new.steps c.catch_up.new.steps (merges_cost at old) (merges_cost at after)
+    (network_cost ways at old) (network_cost ways at mid)
+    c.make_room.ensures.cost (packet_cost_kept ways at old mid kept) c.packet.ensures.cost (merges_cost_kept at old after all)
+    c.catch_up.ensures.cost

@@ -38,7 +38,14 @@ loop-i-preserved c =
           ∙ sym (one_before fields words i (omega (arith, c.loop-i.auto.i, c.loop-i-test.true)));
       from = omega (arith, c.loop-i-test.true);
       within = omega (arith, c.put_byte-start-in-loop-i.ensures.place, c.put_word-start.ensures.place.0, c.loop-i.invariant.within);
-      room = omega (arith, c.put_byte-start-in-loop-i.ensures.place, c.put_word-start.ensures.place.1, c.loop-i.invariant.room, c.loop-i.auto.i, c.loop-i-test.true);
+      room = omega (
+        arith,
+        c.put_byte-start-in-loop-i.ensures.place,
+        c.put_word-start.ensures.place.1,
+        c.loop-i.invariant.room,
+        c.loop-i.auto.i,
+        c.loop-i-test.true,
+      );
     }
 
 pub returns : goal.returns

@@ -23,16 +23,27 @@ arrive-requires-clause-fits c =
     let g = c.args.self.now in
     let switch = c.next_packet-drawn.result.flow % 4 in
     let queue = c.index_mut-queue.result.now in
-    let here = slice_get_read g.queues.items (length g.queues.items) switch queue refl (omega (arith, c.requires.follows.switches)) c.index_mut-queue.ensures.value in
+    let here = slice_get_read g.queues.items (length g.queues.items) switch queue refl (omega (arith, c.requires.follows.switches))
+    c.index_mut-queue.ensures.value in
     let holds = c.requires.follows.queues switch queue here in
-    omega (arith, holds.last, tout_small g.start g.capacity g.number switch, c.requires.follows.time, time_small g.start g.capacity g.number, c.requires.more, c.next_packet-drawn.ensures.small)
+    omega (
+      arith,
+      holds.last,
+      tout_small g.start g.capacity g.number switch,
+      c.requires.follows.time,
+      time_small g.start g.capacity
+          g.number,
+      c.requires.more,
+      c.next_packet-drawn.ensures.small,
+    )
 
 pub arrive-requires-clause-climbs : goal.arrive-requires-clause-climbs
 arrive-requires-clause-climbs c =
     let g = c.args.self.now in
     let switch = c.next_packet-drawn.result.flow % 4 in
     let queue = c.index_mut-queue.result.now in
-    let here = slice_get_read g.queues.items (length g.queues.items) switch queue refl (omega (arith, c.requires.follows.switches)) c.index_mut-queue.ensures.value in
+    let here = slice_get_read g.queues.items (length g.queues.items) switch queue refl (omega (arith, c.requires.follows.switches))
+    c.index_mut-queue.ensures.value in
     (c.requires.follows.queues switch queue here).climbs
 
 pub packet_of-requires : goal.packet_of-requires
@@ -59,15 +70,18 @@ returns-clause-packet c =
     let earlier = arrivals g.start g.capacity g.number in
     let switch = d.flow % 4 in
     let queue = c.index_mut-queue.result.now in
-    let here = slice_get_read g.queues.items (length g.queues.items) switch queue refl (omega (arith, c.requires.follows.switches)) c.index_mut-queue.ensures.value in
+    let here = slice_get_read g.queues.items (length g.queues.items) switch queue refl (omega (arith, c.requires.follows.switches))
+    c.index_mut-queue.ensures.value in
     let holds = c.requires.follows.queues switch queue here in
     let drawn = c.next_packet-drawn.ensures.drawn g.start (4 * g.number) c.requires.follows.draws in
     let time = ap (λ t. t + d.gap) c.requires.follows.time in
     let seq = c.next_seq-seq.ensures.seq ∙ ap (λ n. n + d.skipped) (c.requires.follows.flows d.flow c.next_packet-drawn.ensures.small.1) in
     let qsize = c.in_ok-place.ensures.qsize g.time (touts_at switch earlier) holds (omega arith) in
-    let is = arrived earlier g.capacity d (drawn_after g.start (4 * g.number)) (g.time + d.gap) c.next_seq-seq.result c.in_ok-place.place.qsize queue.last c.in_ok-place.place.tout
+    let is = arrived earlier g.capacity d (drawn_after g.start (4 * g.number)) (g.time + d.gap) c.next_seq-seq.result
+    c.in_ok-place.place.qsize queue.last c.in_ok-place.place.tout
     drawn.1 time seq qsize c.in_ok-place.ensures.tout holds.last in
-    c.packet_of.ensures ∙ ap (λ (a : Arrival). packet_of (g.number + 1) a) is ∙ ap (λ n. packet_of n (arrival_by (drawn_after g.start (4 * g.number)) g.capacity earlier)) (add-one g.number)
+    c.packet_of.ensures ∙ ap (λ (a : Arrival). packet_of (g.number + 1) a) is
+    ∙ ap (λ n. packet_of n (arrival_by (drawn_after g.start (4 * g.number)) g.capacity earlier)) (add-one g.number)
 
 pub returns-clause-follows : goal.returns-clause-follows
 returns-clause-follows c =
@@ -76,22 +90,35 @@ returns-clause-follows c =
     let earlier = arrivals g.start g.capacity g.number in
     let switch = d.flow % 4 in
     let queue = c.index_mut-queue.result.now in
-    let here = slice_get_read g.queues.items (length g.queues.items) switch queue refl (omega (arith, c.requires.follows.switches)) c.index_mut-queue.ensures.value in
+    let here = slice_get_read g.queues.items (length g.queues.items) switch queue refl (omega (arith, c.requires.follows.switches))
+    c.index_mut-queue.ensures.value in
     let holds = c.requires.follows.queues switch queue here in
     let drawn = c.next_packet-drawn.ensures.drawn g.start (4 * g.number) c.requires.follows.draws in
     let time = ap (λ t. t + d.gap) c.requires.follows.time in
     let seq = c.next_seq-seq.ensures.seq ∙ ap (λ n. n + d.skipped) (c.requires.follows.flows d.flow c.next_packet-drawn.ensures.small.1) in
     let qsize = c.in_ok-place.ensures.qsize g.time (touts_at switch earlier) holds (omega arith) in
-    let is = arrived earlier g.capacity d (drawn_after g.start (4 * g.number)) (g.time + d.gap) c.next_seq-seq.result c.in_ok-place.place.qsize queue.last c.in_ok-place.place.tout
+    let is = arrived earlier g.capacity d (drawn_after g.start (4 * g.number)) (g.time + d.gap) c.next_seq-seq.result
+    c.in_ok-place.place.qsize queue.last c.in_ok-place.place.tout
     drawn.1 time seq qsize c.in_ok-place.ensures.tout holds.last in
     let a : Arrival =
-    record { time = g.time + d.gap; flow = d.flow; payload = d.payload; seq = c.next_seq-seq.result; qsize = c.in_ok-place.place.qsize; tout = c.in_ok-place.place.tout } in
-    let more : arrivals g.start g.capacity (g.number + 1) ≡ a ∷ earlier = arrivals_more g.start g.capacity g.number ∙ ap (λ (b : Arrival). b ∷ earlier) (sym is) in
+    record {
+      time = g.time + d.gap;
+      flow = d.flow;
+      payload = d.payload;
+      seq = c.next_seq-seq.result;
+      qsize =
+          c.in_ok-place.place.qsize;
+      tout = c.in_ok-place.place.tout;
+    } in
+    let more : arrivals g.start g.capacity (g.number + 1) ≡ a ∷ earlier = arrivals_more g.start g.capacity g.number
+    ∙ ap (λ (b : Arrival). b ∷ earlier) (sym is) in
     record {
       draws = drawn.0 ∙ ap (state_after g.start) (omega arith);
       time = rw more refl;
       size = rw c.next_seq-seq.ensures.flows (length-set g.flows d.flow (c.next_seq-seq.result + d.payload) ∙ c.requires.follows.size);
       switches = length-set g.queues.items switch c.arrive.new.self ∙ c.requires.follows.switches;
-      flows = rw (more, c.next_seq-seq.ensures.flows) (flows_next g.flows earlier a (c.next_seq-seq.result + d.payload) c.requires.follows.size c.next_packet-drawn.ensures.small.1 refl c.requires.follows.flows);
-      queues = rw more (queues_next g.queues.items c.arrive.new.self earlier a g.time (omega arith) c.requires.follows.queues (c.in_ok-place.ensures.holds g.time (touts_at switch earlier) holds (omega arith)));
+      flows = rw (more, c.next_seq-seq.ensures.flows) (flows_next g.flows earlier a (c.next_seq-seq.result + d.payload)
+          c.requires.follows.size c.next_packet-drawn.ensures.small.1 refl c.requires.follows.flows);
+      queues = rw more (queues_next g.queues.items c.arrive.new.self earlier a g.time (omega arith) c.requires.follows.queues
+          (c.in_ok-place.ensures.holds g.time (touts_at switch earlier) holds (omega arith)));
     }

@@ -8,7 +8,9 @@ returns-clause-holds c before touts holds from =
     let waiting = c.drop_left.new.waiting.items in
     let tout = c.max.result + c.args.length in
     record {
-      waiting = λ later after. rw items (still_more waiting touts later tout (c.drop_left.ensures.later later after ∙ holds.waiting later (omega (arith, from, after))));
+      waiting = λ later after. rw items (still_more waiting touts later tout
+          (c.drop_left.ensures.later later after ∙ holds.waiting later (omega (arith, from, after))));
       last = refl;
-      climbs = rw items (climbs_push waiting c.args.self.now.last tout (c.drop_left.ensures.kept c.args.self.now.last c.requires.climbs) (omega (arith, c.max.ensures)));
+      climbs = rw items (climbs_push waiting c.args.self.now.last tout (c.drop_left.ensures.kept c.args.self.now.last c.requires.climbs)
+          (omega (arith, c.max.ensures)));
     }

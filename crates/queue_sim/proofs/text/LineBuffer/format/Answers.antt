@@ -11,7 +11,8 @@ pub loop-i-init : goal.loop-i-init
 loop-i-init c =
     let words = c.args.packet.now.words in
     record {
-      written = c.put_byte-start.ensures.written ∙ ap (λ rest. 10 ∷ rest) (drop_all 294 c.args.self.now.bytes (omega arith)) ∙ sym (none_left words (search rules));
+      written = c.put_byte-start.ensures.written ∙ ap (λ rest. 10 ∷ rest) (drop_all 294 c.args.self.now.bytes (omega arith))
+          ∙ sym (none_left words (search rules));
       from = omega arith;
       within = omega (arith, c.put_byte-start.ensures.place);
       room = omega (arith, c.put_byte-start.ensures.place);
@@ -31,7 +32,14 @@ loop-i-preserved c =
           ∙ sym (one_before words i (search rules) (omega (arith, c.loop-i.auto.i, c.loop-i-test.true)));
       from = omega (arith, c.loop-i-test.true);
       within = omega (arith, c.put_byte-start-in-loop-i.ensures.place, c.put_word-start.ensures.place.0, c.loop-i.invariant.within);
-      room = omega (arith, c.put_byte-start-in-loop-i.ensures.place, c.put_word-start.ensures.place.1, c.loop-i.invariant.room, c.loop-i.auto.i, c.loop-i-test.true);
+      room = omega (
+        arith,
+        c.put_byte-start-in-loop-i.ensures.place,
+        c.put_word-start.ensures.place.1,
+        c.loop-i.invariant.room,
+        c.loop-i.auto.i,
+        c.loop-i-test.true,
+      );
     }
 
 pub put_word-start-requires-2 : goal.put_word-start-requires-2

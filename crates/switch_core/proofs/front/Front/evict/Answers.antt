@@ -1,5 +1,6 @@
 -- An eviction pushes the record of the least recently used pair and drops the pair, or finds no pair.
-use Rattle.std.proofs.Common.{◌≡◌, ℕ, ◌+◌, ◌-◌, ◌<◌, false, take, length, refl, sym, ap, ◌∙◌, subst, lit<, length-append, length-set, arith, if◌then◌else◌}
+use Rattle.std.proofs.Common.{◌≡◌, ℕ, ◌+◌, ◌-◌, ◌<◌, false, take, length, refl, sym, ap, ◌∙◌, subst, lit<, length-append, length-set, arith}
+use Rattle.std.proofs.Common.{if◌then◌else◌}
 use Rattle.std.specs.Prelude.{nat_lt, not, ◌==◌}
 use Rattle.std.proofs.lemmas.Bool.{lt-ltb, le-ltb}
 use Rattle.epoch_model.specs.Machine.{Evict, evict}
@@ -39,7 +40,8 @@ returns-in-Some-clause-makes g c =
         cached = drop_stands stands old.cache c.drop_entry.new.self c.args.bucket range some c.drop_entry.ensures.pairs m s.cached;
         piped = subst (λ n. PipeStands stands n c.push_pair.new.pipe.records (evict m c.args.bucket))
             (sym (ap (λ x. x.key_words) c.drop_entry.ensures.pairs))
-            (pipe_evicted stands g.row.WAYS old.cache c.args.bucket c.in-Some.place old.pipe.records c.push_pair.new.pipe.records c.in-Some.ensures.sound some (sym c.in-Some.ensures.place) c.push_pair.ensures.pushed m s.cached s.few s.piped);
+            (pipe_evicted stands g.row.WAYS old.cache c.args.bucket c.in-Some.place old.pipe.records c.push_pair.new.pipe.records
+            c.in-Some.ensures.sound some (sym c.in-Some.ensures.place) c.push_pair.ensures.pushed m s.cached s.few s.piped);
         few = (evict_merged_same m c.args.bucket s.few).1;
       };
       kind = refl;

@@ -47,5 +47,6 @@ returns-clause-carries g c =
     let made = c.in_ok-merge_oldest.ensures in
     let some : 0 < length old.pipe.records = grind
     (arith, c.len.ensures.number, c.if-len-eq0.false, ap (λ x. length x.pipe.records) c.self.view_is) in
-    carries_merge g.K.EpochKind.sizes g.K.EpochKind.stands g.K.EpochKind.folding g.row.WAYS old c.merge_oldest.new.self c.args.store.now c.merge_oldest.new.store
+    carries_merge g.K.EpochKind.sizes g.K.EpochKind.stands g.K.EpochKind.folding g.row.WAYS old c.merge_oldest.new.self c.args.store.now
+    c.merge_oldest.new.store
     made.makes made.held c.requires c.merge_oldest.ensures.fits c.merge_oldest.ensures.cache made.records (λ none. absurd (omega arith))

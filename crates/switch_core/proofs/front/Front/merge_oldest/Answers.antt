@@ -16,7 +16,8 @@ returns-clause-makes g c =
     let some : 0 < length old.pipe.records = subst (λ x. 0 < length x.pipe.records) (sym c.self.view_is) c.requires.some in
     subst (λ x. FrontMakes (g.K.EpochKind.stands x.kind) g.row.WAYS Merge x new) c.self.view_is
     record {
-      stands = λ m s. front_merged (g.K.EpochKind.stands old.kind) old.cache old.pipe c.drop_front.new.self m some (ap (λ p. p.records) c.drop_front.ensures) s;
+      stands = λ m s. front_merged (g.K.EpochKind.stands old.kind) old.cache old.pipe c.drop_front.new.self m some
+          (ap (λ p. p.records) c.drop_front.ensures) s;
       kind = refl;
       buckets = refl;
       key_words = refl;
@@ -30,14 +31,20 @@ returns-clause-held g c =
     let stands = g.K.EpochKind.stands old.kind in
     let f = g.K.EpochKind.folding old.kind in
     let some : 0 < length old.pipe.records = subst (λ x. 0 < length x.pipe.records) (sym c.self.view_is) c.requires.some in
-    let key : c.args.store.now.key_words ≡ old.cache.key_words = subst (λ x. c.args.store.now.key_words ≡ x.cache.key_words) (sym c.self.view_is) c.requires.fits.key in
+    let key : c.args.store.now.key_words ≡ old.cache.key_words = subst (λ x. c.args.store.now.key_words ≡ x.cache.key_words)
+    (sym c.self.view_is) c.requires.fits.key in
     let long : length c.front_into-copied.new.into ≡ old.room.len = c.front_into-copied.auto.into ∙ c.deref_mut.ensures.len in
     let copied : c.front_into-copied.result ≡ true = grind (arith, nat_tests, c.front_into-copied.ensures.some, some) in
-    let words : c.deref.result.now ≡ get_or old.pipe.records 0 [] = c.deref.ensures.value ∙ (subst (λ n. take n (c.front_into-copied.new.into ++ drop (length c.front_into-copied.new.into) old.room.items) ≡ c.front_into-copied.new.into) long (take-append_seam c.front_into-copied.new.into (drop (length c.front_into-copied.new.into) old.room.items)) ∙ (c.front_into-copied.ensures.copied ∙ rw copied refl)) in
-    subst (λ x. MergesNext (g.K.EpochKind.stands x.kind) (g.K.EpochKind.folding x.kind) x c.args.store.now c.merge_record.new.store) c.self.view_is
+    let words : c.deref.result.now ≡ get_or old.pipe.records 0 [] = c.deref.ensures.value
+    ∙ (subst (λ n. take n (c.front_into-copied.new.into ++ drop (length c.front_into-copied.new.into) old.room.items)
+    ≡ c.front_into-copied.new.into) long (take-append_seam c.front_into-copied.new.into
+    (drop (length c.front_into-copied.new.into) old.room.items)) ∙ (c.front_into-copied.ensures.copied ∙ rw copied refl)) in
+    subst (λ x. MergesNext (g.K.EpochKind.stands x.kind) (g.K.EpochKind.folding x.kind) x c.args.store.now c.merge_record.new.store)
+    c.self.view_is
     (λ m epochs s held. next_held stands f old.cache old.pipe c.args.store.now c.merge_record.new.store m epochs some
     (λ epoch stood kept. c.in_ok-merge_record.ensures.ok epoch epochs
-    (subst (λ n. RecordStands stands n c.deref.result.now epoch) (sym key) (subst (λ ws. RecordStands stands old.cache.key_words ws epoch) (sym words) stood)) kept) s held)
+    (subst (λ n. RecordStands stands n c.deref.result.now epoch) (sym key)
+    (subst (λ ws. RecordStands stands old.cache.key_words ws epoch) (sym words) stood)) kept) s held)
 
 pub returns-clause-cost : goal.returns-clause-cost
 returns-clause-cost g c =
@@ -45,7 +52,8 @@ returns-clause-cost g c =
     let copied = copied_within c.front_into-copied.result c.self.inside.pipe.record_words in
     let counted = c.front_into-copied.ensures.cost in
     let merged = c.merge_record.ensures.cost in
-    subst (λ x. c.merge_record.new.steps ≤ c.args.steps.now + merge_cost x.cache.key_words x.cache.entry_words (g.K.EpochKind.merge_bound x.kind)) c.self.view_is (omega arith)
+    subst (λ x. c.merge_record.new.steps ≤ c.args.steps.now + merge_cost x.cache.key_words x.cache.entry_words
+    (g.K.EpochKind.merge_bound x.kind)) c.self.view_is (omega arith)
 
 pub returns-in_err-merge_record-clause-cost : goal.returns-in_err-merge_record-clause-cost
 returns-in_err-merge_record-clause-cost g c =
@@ -53,4 +61,5 @@ returns-in_err-merge_record-clause-cost g c =
     let copied = copied_within c.front_into-copied.result c.self.inside.pipe.record_words in
     let counted = c.front_into-copied.ensures.cost in
     let merged = c.merge_record.ensures.cost in
-    subst (λ x. c.merge_record.new.steps ≤ c.args.steps.now + merge_cost x.cache.key_words x.cache.entry_words (g.K.EpochKind.merge_bound x.kind)) c.self.view_is (omega arith)
+    subst (λ x. c.merge_record.new.steps ≤ c.args.steps.now + merge_cost x.cache.key_words x.cache.entry_words
+    (g.K.EpochKind.merge_bound x.kind)) c.self.view_is (omega arith)

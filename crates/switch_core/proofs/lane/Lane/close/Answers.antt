@@ -23,6 +23,14 @@ returns g c m s =
     let each : f.row_per_epoch ≡ c.row_per_epoch.result = sym
     (c.row_per_epoch.ensures ∙ ap (λ k. (g.K.EpochKind.folding k).row_per_epoch) c.kind.ensures) in
     let shown = c.in_ok-shown.ensures f m.closed each held in
-    let heading : Heading = record { name = c.args.name; key_names = c.args.key_names; state_names = c.args.state_names; class = c.args.class; depth = c.args.depth } in
-    table_is heading f m.closed c.name.inside.bytes.items c.in_ok-columns.field-0 c.len-keys.result c.in_ok-shown.shown.epochs c.in_ok-shown.shown.rows c.name.view_is c.in_ok-columns.ensures c.len-keys.ensures shown.1 shown.0
+    let heading : Heading = record {
+      name = c.args.name;
+      key_names = c.args.key_names;
+      state_names = c.args.state_names;
+      class =
+          c.args.class;
+      depth = c.args.depth;
+    } in
+    table_is heading f m.closed c.name.inside.bytes.items c.in_ok-columns.field-0 c.len-keys.result c.in_ok-shown.shown.epochs
+    c.in_ok-shown.shown.rows c.name.view_is c.in_ok-columns.ensures c.len-keys.ensures shown.1 shown.0
     ∙ ap (λ x. closed_table heading (g.K.EpochKind.folding x.kind) m.closed) c.self.view_is

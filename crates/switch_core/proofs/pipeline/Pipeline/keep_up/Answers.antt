@@ -65,7 +65,8 @@ returns-clause-makes g c =
     subst (LanesMake g.row.WAYS (upkeeps_at c.args.upkeep p.lanes.items) p.lanes.items) (sym whole)
     (subst (λ x. LanesMake g.row.WAYS (upkeeps_at c.args.upkeep x) x new) c.deref_mut.ensures.value made) in
     subst (λ (v : PipelineView). PipelineMakes g.row.WAYS (upkeeps_at c.args.upkeep v.lanes) v after) c.self.view_is
-    (pipeline_makes g.row.WAYS (upkeeps_at c.args.upkeep p.lanes.items) p.entries p.plan p.buckets p.lanes.items after.lanes c.self.invariant.lanes lanes))
+    (pipeline_makes g.row.WAYS (upkeeps_at c.args.upkeep p.lanes.items) p.entries p.plan p.buckets p.lanes.items after.lanes
+    c.self.invariant.lanes lanes))
     c.keep_lanes.ensures.makes
 
 pub returns-clause-breaks_off : goal.returns-clause-breaks_off

@@ -6,7 +6,8 @@ use Rattle.stage_plan.specs.Planned.{plan_bound, row_of, wiring_at}
 use Rattle.stage_plan.specs.Registers.{taken_at}
 use Rattle.switch_core.specs.Rows.{Each}
 use Rattle.switch_core.specs.Pipelines.{packet_events}
-use Rattle.switch_core.specs.PlanLanes.{AreLanesOf, LaneMakes, LanesMake, MergesWithin, PipelineMakes, PipelineView, lane_cost, pipeline_cost}
+use Rattle.switch_core.specs.PlanLanes.{AreLanesOf, LaneMakes, LanesMake, MergesWithin, PipelineMakes, PipelineView, lane_cost}
+use Rattle.switch_core.specs.PlanLanes.{pipeline_cost}
 use Rattle.switch_core.proofs.LaneFacts.{whole_written}
 use Rattle.switch_core.proofs.PacketBound.{packet_within}
 use Rattle.switch_core.proofs.PipelineSteps.{makes_sizes, lanes_kept, merges_kept, pipeline_makes}
@@ -51,19 +52,22 @@ returns-clause-makes g c =
           (take p.lanes.len (new ++ drop (length new) p.lanes.items));
     } in
     subst (λ v. PipelineMakes g.row.WAYS (packet_events v.plan c.args.p.now.words) v after) c.self.view_is
-    (pipeline_makes g.row.WAYS (packet_events p.plan c.args.p.now.words) p.entries p.plan p.buckets p.lanes.items after.lanes c.self.invariant.lanes lanes)
+    (pipeline_makes g.row.WAYS (packet_events p.plan c.args.p.now.words) p.entries p.plan p.buckets p.lanes.items after.lanes
+    c.self.invariant.lanes lanes)
 
 pub returns-clause-bound : goal.returns-clause-bound
 returns-clause-bound g c =
     let p = c.self.inside in
     let before : PipelineView = record { plan = p.plan; entries = p.entries; buckets = p.buckets; lanes = p.lanes.items } in
-    let within : pipeline_cost g.row.WAYS before ≤ runs_of p.entries * plan_bound p.plan g.row.WAYS = packet_within c.depth_is_found.ensures c.entries_suit_folds.ensures g.row.WAYS before c.invariant.ensures c.self.invariant.lanes in
+    let within : pipeline_cost g.row.WAYS before ≤ runs_of p.entries * plan_bound p.plan g.row.WAYS =
+    packet_within c.depth_is_found.ensures c.entries_suit_folds.ensures g.row.WAYS before c.invariant.ensures c.self.invariant.lanes in
     let row = c.fill_registers.ensures.steps in
     let lanes : c.packet_lanes.new.steps ≤ c.fill_registers.new.steps + sum_by (lane_cost g.row.WAYS) before.lanes =
     subst (λ xs. c.packet_lanes.new.steps ≤ c.fill_registers.new.steps + sum_by (lane_cost g.row.WAYS)
     (xs)) c.deref_mut-2.ensures.value c.packet_lanes.ensures.cost in
     let all : c.packet_lanes.new.steps ≤ c.args.steps.now + runs_of p.entries * plan_bound p.plan g.row.WAYS = omega arith in
-    subst (λ (v : PipelineView). c.packet_lanes.new.steps ≤ c.args.steps.now + runs_of v.entries * plan_bound v.plan g.row.WAYS) c.self.view_is all
+    subst (λ (v : PipelineView). c.packet_lanes.new.steps ≤ c.args.steps.now + runs_of v.entries * plan_bound v.plan g.row.WAYS)
+    c.self.view_is all
 
 pub invariant_of-self : goal.invariant_of-self
 invariant_of-self g c =

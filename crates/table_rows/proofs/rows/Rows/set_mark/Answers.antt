@@ -10,7 +10,13 @@ pub returns : goal.returns
 returns c row here =
     let a = c.self.inside in
     let span = c.index-span.result.now in
-    let within : c.args.at < length a.spans.items = omega (arith, c.requires, ap length c.self.view_is, length-map a.spans.items (row_in a.words.items)) in
+    let within : c.args.at < length a.spans.items = omega (
+      arith,
+      c.requires,
+      ap length c.self.view_is,
+      length-map a.spans.items
+          (row_in a.words.items),
+    ) in
     let stands = slice_get_read a.spans.items (length a.spans.items) c.args.at span refl within c.index-span.ensures in
     let there = subst (λ (rows : List Row). slice_get rows c.args.at ≡ Some row) (sym c.self.view_is) here in
     rw (← c.self.view_is) (set_marked a.words.items a.spans.items c.args.at span c.args.mark c.args.epoch row stands there)

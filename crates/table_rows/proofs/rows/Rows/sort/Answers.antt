@@ -5,4 +5,5 @@ use Rattle.table_rows.proofs.rows.Rows.sort.Goals as goal
 pub invariant_of-self : goal.invariant_of-self
 invariant_of-self c =
     let a = c.self.inside in
-    All-permutation (EndsWithin a.words.items) a.spans.items c.in_ok-spans.spans.items (rw c.as_slice-2.ensures.value at c.in_ok-spans.ensures.moved) c.self.invariant
+    All-permutation (EndsWithin a.words.items) a.spans.items c.in_ok-spans.spans.items
+    (rw c.as_slice-2.ensures.value at c.in_ok-spans.ensures.moved) c.self.invariant

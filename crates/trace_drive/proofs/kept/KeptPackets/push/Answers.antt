@@ -20,4 +20,5 @@ returns-clause-ok c =
     let row = c.in_ok-push_row.ensures.ok ∙ ap (λ fs. words ++ map (word_in packet) fs) c.deref.ensures.value in
     let more = kept_more kept.of fields kept.count words packet c.self.invariant.fields c.self.invariant.words in
     ap (λ packets. let k : Kept = record { fields = kept.of; packets = packets } in k) (ap (packets_in fields (kept.count + 1)) row ∙ more)
-    ∙ ap (λ (k : Kept). let next : Kept = record { fields = k.fields; packets = k.packets ++ kept_of k.fields packet ∷ [] } in next) c.self.view_is
+    ∙ ap (λ (k : Kept). let next : Kept = record { fields = k.fields; packets = k.packets ++ kept_of k.fields packet ∷ [] } in next)
+    c.self.view_is

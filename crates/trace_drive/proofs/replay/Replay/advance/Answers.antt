@@ -7,7 +7,14 @@ use Rattle.trace_drive.proofs.ReplayTurns.{no_turns, turns_next}
 use Rattle.trace_drive.proofs.replay.Replay.advance.Goals as goal
 
 pub packets-init : goal.packets-init
-packets-init g c = record { taken = none_taken c.args.self.now; turns = no_turns c.args.self.now; fault = refl; keeps = keeps_itself c.args.self.now.pipeline; later = omega arith }
+packets-init g c = record {
+  taken = none_taken c.args.self.now;
+  turns = no_turns c.args.self.now;
+  fault = refl;
+  keeps =
+      keeps_itself c.args.self.now.pipeline;
+  later = omega arith;
+}
 
 pub step-requires : goal.step-requires
 step-requires g c =
@@ -19,8 +26,10 @@ packets-preserved g c =
     let was = c.packets.invariant in
     let done = c.in_ok-step.ensures in
     record {
-      taken = taken_next c.packets._taken c.args.self.now c.packets.self c.step.new.self was.taken (done.next (ap Ok c.if-not-branch.false));
-      turns = turns_next c.packets._taken c.args.self.now c.packets.self c.step.new.self was.taken was.turns (done.turn (ap Ok c.if-not-branch.false));
+      taken = taken_next c.packets._taken c.args.self.now c.packets.self c.step.new.self was.taken
+          (done.next (ap Ok c.if-not-branch.false));
+      turns = turns_next c.packets._taken c.args.self.now c.packets.self c.step.new.self was.taken was.turns
+          (done.turn (ap Ok c.if-not-branch.false));
       fault = done.fault ∙ was.fault;
       keeps = keeps_along c.args.self.now.pipeline c.packets.self.pipeline c.step.new.self.pipeline was.keeps done.keeps;
       later = let a = was.later in let b = c.step.ensures.steps in omega arith;
@@ -28,7 +37,8 @@ packets-preserved g c =
 
 pub returns-then-not-branch-clause-end : goal.returns-then-not-branch-clause-end
 returns-then-not-branch-clause-end g c is schedule all count way =
-    let ended = c.in_ok-step.ensures.end (ap Ok c.if-not-branch.true) schedule all (count + c.packets._taken) (c.packets.invariant.taken schedule all count way) in
+    let ended = c.in_ok-step.ensures.end (ap Ok c.if-not-branch.true) schedule all (count + c.packets._taken)
+    (c.packets.invariant.taken schedule all count way) in
     (let few = ended.0 in let below = c.packets-test.true in omega arith, ended.1)
 
 pub returns-clause-all : goal.returns-clause-all

@@ -8,7 +8,8 @@ returns-clause-under_way g c = record {
   within = omega arith;
   rest = refl;
   buckets = c.requires.buckets;
-  follows = start_way c.events_keep_alike.ensures c.packets_follow_the_trace.ensures g.row.WAYS c.args.schedule (coming c.args.packets) c.args.pipeline c.requires.fresh c.requires.buckets;
+  follows = start_way c.events_keep_alike.ensures c.packets_follow_the_trace.ensures g.row.WAYS c.args.schedule (coming c.args.packets)
+      c.args.pipeline c.requires.fresh c.requires.buckets;
   refreshes = c.new-refreshes.ensures.counted;
   lags = c.new-lags.ensures.counted;
   refresh = c.new-refreshes.ensures.every;

@@ -11,9 +11,11 @@ returns-in-Ok-clause-next g c is schedule all count way =
     let old = c.args.self.now in
     let turned = c.in-Ok.ensures in
     one_more c.packets_follow_the_trace.ensures c.taken_uses_are_in_trace.ensures schedule all count c.next_into.new.packet old
-    (record { pipeline = c.turn.new.pipeline; packets = c.next_into.new.self; refreshes = c.turn.new.refreshes; lags = c.turn.new.lags }) way
+    (record { pipeline = c.turn.new.pipeline; packets = c.next_into.new.self; refreshes = c.turn.new.refreshes; lags = c.turn.new.lags })
+    way
     (c.in_ok-next_into.ensures.packet (ap Ok c.if-not-branch.false)) turned.keeps
-    (turned.follows count (λ (i : ℕ). after_packets (geometry_for g.row.WAYS schedule) (uses_by old.pipeline.plan i (words_of all)) count) way.refreshes way.follows)
+    (turned.follows count (λ (i : ℕ). after_packets (geometry_for g.row.WAYS schedule) (uses_by old.pipeline.plan i (words_of all)) count)
+    way.refreshes way.follows)
     (c.turn.ensures.refreshes count way.refreshes) (c.turn.ensures.lags count way.lags) c.turn.ensures.every.0 c.turn.ensures.every.1
 
 pub returns-then-not-branch-clause-end : goal.returns-then-not-branch-clause-end

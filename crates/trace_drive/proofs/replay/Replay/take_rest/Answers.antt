@@ -4,7 +4,13 @@ use Rattle.trace_drive.proofs.Replaying.{keeps_itself, less_left}
 use Rattle.trace_drive.proofs.replay.Replay.take_rest.Goals as goal
 
 pub packets-init : goal.packets-init
-packets-init g c = record { way = λ schedule all count way. (count, way); fault = refl; keeps = keeps_itself c.args.self.now.pipeline; later = omega arith }
+packets-init g c = record {
+  way = λ schedule all count way. (count, way);
+  fault = refl;
+  keeps =
+      keeps_itself c.args.self.now.pipeline;
+  later = omega arith;
+}
 
 pub step-requires : goal.step-requires
 step-requires g c =
@@ -23,7 +29,8 @@ packets-preserved g c =
     let was = c.packets.invariant in
     let done = c.in_ok-step.ensures in
     record {
-      way = λ schedule all count way. let now = was.way schedule all count way in (now.0 + 1, done.next (ap Ok c.if-branch.true) schedule all now.0 now.1);
+      way = λ schedule all count way. let now = was.way schedule all count way
+          in (now.0 + 1, done.next (ap Ok c.if-branch.true) schedule all now.0 now.1);
       fault = done.fault ∙ was.fault;
       keeps = keeps_along c.args.self.now.pipeline c.packets.self.pipeline c.step.new.self.pipeline was.keeps done.keeps;
       later = let a = was.later in let b = c.step.ensures.steps in omega arith;

@@ -9,7 +9,8 @@ use Rattle.trace_drive.proofs.replay.Replay.take_rest.Given as goal
 -- some packets were taken
 abbrev pub invariant-packets : goal.invariant-packets
 invariant-packets g l = record {
-  way : (schedule : Schedule) (all : List Packet) (count : ℕ) → IsUnderWay schedule all count l.initial.self → (now : ℕ) × IsUnderWay schedule all now l.self;
+  way : (schedule : Schedule) (all : List Packet) (count : ℕ) → IsUnderWay schedule all count l.initial.self → (now : ℕ)
+      × IsUnderWay schedule all now l.self;
   fault : fault_in l.self ≡ fault_in l.initial.self;
   keeps : Keeps (pipeline_in l.initial.self) (pipeline_in l.self);
   later : l.initial.steps ≤ l.steps;

@@ -18,14 +18,16 @@ pub returns-in-Ok-clause-packet : goal.returns-in-Ok-clause-packet
 returns-in-Ok-clause-packet c _ =
     let trace = c.self.inside in
     let layout : Layout = record { width = trace.width; columns = trace.columns } in
-    taken c.args.self.now trace.progress layout (trace.given + 1) (records_left trace.reader) (records_left c.next_record.new.reader) (fields_of c.next_record.new.row) c.packet_into.new.packet
+    taken c.args.self.now trace.progress layout (trace.given + 1) (records_left trace.reader) (records_left c.next_record.new.reader)
+    (fields_of c.next_record.new.row) c.packet_into.new.packet
     c.self.view_is c.in-Reading.is (c.in-Ok-true.ensures.some c.in-Ok-true.field-0-test) c.in-Ok.ensures.ok
 
 pub returns-in-Err-packet_into-clause-refused : goal.returns-in-Err-packet_into-clause-refused
 returns-in-Err-packet_into-clause-refused c =
     let trace = c.self.inside in
     let layout : Layout = record { width = trace.width; columns = trace.columns } in
-    let both = refused c.args.self.now trace.progress layout (trace.given + 1) (records_left trace.reader) (records_left c.next_record.new.reader) (fields_of c.next_record.new.row) c.in-Err-packet_into.fault
+    let both = refused c.args.self.now trace.progress layout (trace.given + 1) (records_left trace.reader)
+    (records_left c.next_record.new.reader) (fields_of c.next_record.new.row) c.in-Err-packet_into.fault
     c.self.view_is c.in-Reading.is (c.in-Ok-true.ensures.some c.in-Ok-true.field-0-test) c.in-Err-packet_into.ensures.err in
     (both, record { packets = refl; fault = refl })
 
@@ -33,4 +35,5 @@ pub returns-in-Ok-false-clause-end : goal.returns-in-Ok-false-clause-end
 returns-in-Ok-false-clause-end c _ =
     let trace = c.self.inside in
     let layout : Layout = record { width = trace.width; columns = trace.columns } in
-    ended c.args.self.now trace.progress layout (trace.given + 1) (records_left trace.reader) c.self.view_is c.in-Reading.is (c.in-Ok-false.ensures.none c.in-Ok-false.field-0-test)
+    ended c.args.self.now trace.progress layout (trace.given + 1) (records_left trace.reader) c.self.view_is c.in-Reading.is
+    (c.in-Ok-false.ensures.none c.in-Ok-false.field-0-test)
