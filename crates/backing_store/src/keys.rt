@@ -12,12 +12,23 @@ use std::alloc::{AllocError, Global};
 use std::marker::Model;
 
 /// Keys with their words in one array, and their marks in the same order.
-#[derive(Drop)]
 pub struct Keys {
     alloc: Global,
     width: usize,
     words: Vec<u64>,
     marks: IndexSet<u64>,
+}
+
+// One step at each exit of an owner, where a derived drop would be one for each part.
+impl Drop for Keys {
+    fn drop(self) {
+        let Keys {
+            alloc: _,
+            width: _,
+            words: _,
+            marks: _,
+        } = self;
+    }
 }
 
 impl Model for Keys {

@@ -8,12 +8,23 @@ use std::alloc::{AllocError, Global};
 use std::marker::Model;
 
 /// Rows with their words in one array.
-#[derive(Drop)]
 pub struct States {
     alloc: Global,
     width: usize,
     of: Vec<usize>,
     words: Vec<u64>,
+}
+
+// One step at each exit of an owner, where a derived drop would be one for each part.
+impl Drop for States {
+    fn drop(self) {
+        let States {
+            alloc: _,
+            width: _,
+            of: _,
+            words: _,
+        } = self;
+    }
 }
 
 impl Model for States {

@@ -25,12 +25,23 @@ struct Merged {
 
 /// Keys in the order of their first epochs, each with its number of epochs, and the rows in the order of their
 /// making. A row's place is its number.
-#[derive(Drop)]
 pub struct BackingStore {
     alloc: Global,
     keys: Keys,
     merged: Vec<Merged>,
     states: States,
+}
+
+// One step at each exit of an owner, where a derived drop would be one for each part.
+impl Drop for BackingStore {
+    fn drop(self) {
+        let BackingStore {
+            alloc: _,
+            keys: _,
+            merged: _,
+            states: _,
+        } = self;
+    }
 }
 
 // The rows in the order of their making, each with its number among its key's rows.

@@ -19,7 +19,6 @@ use std::sync::ledger::Ledger;
 
 /// Buckets of keys by recent use, at most `WAYS` in each, with the words of an entry at each key's place.
 /// Only `new` allocates memory.
-#[derive(Drop)]
 pub struct BucketCache<const WAYS: usize> {
     key_words: usize,
     entry_words: usize,
@@ -30,6 +29,20 @@ pub struct BucketCache<const WAYS: usize> {
     /// For each place the words of its key.
     words: Vec<u64>,
     entries: Entries,
+}
+
+// One step at each exit of an owner, where a derived drop would be one for each part.
+impl<const WAYS: usize> Drop for BucketCache<WAYS> {
+    fn drop(self) {
+        let BucketCache {
+            key_words: _,
+            entry_words: _,
+            used: _,
+            order: _,
+            words: _,
+            entries: _,
+        } = self;
+    }
 }
 
 impl<const WAYS: usize> Model for BucketCache<WAYS> {

@@ -16,7 +16,6 @@ pub enum Mark {
 }
 
 /// A row of a table: the key's words and the values beside them.
-#[derive(Drop)]
 pub struct Row {
     pub key: Seq<u64>,
     pub mark: Mark,
@@ -25,4 +24,17 @@ pub struct Row {
     /// How many epochs the key has, or the greatest `u64` where that is more.
     pub epochs: u64,
     pub values: Seq<u64>,
+}
+
+// One step at each exit of an owner, where a derived drop would be one for each part.
+impl Drop for Row {
+    fn drop(self) {
+        let Row {
+            key: _,
+            mark: _,
+            epoch: _,
+            epochs: _,
+            values: _,
+        } = self;
+    }
 }

@@ -3,7 +3,6 @@ use query_lang::Class;
 use table_rows::Rows;
 
 /// A table of a query. Each row has `keys` key words and one value for each other column.
-#[derive(Drop)]
 pub struct Table {
     pub name: Text,
     /// The names of the keys, and then those of the other columns.
@@ -11,6 +10,19 @@ pub struct Table {
     pub keys: u8,
     pub kind: TableKind,
     pub rows: Rows,
+}
+
+// One step at each exit of an owner, where a derived drop would be one for each part.
+impl Drop for Table {
+    fn drop(self) {
+        let Table {
+            name: _,
+            columns: _,
+            keys: _,
+            kind: _,
+            rows: _,
+        } = self;
+    }
 }
 
 #[derive(Clone, Copy, Debug, PartialEq, Eq)]

@@ -14,7 +14,6 @@ use std::alloc::{AllocError, Global};
 
 /// Which variables have a depth, and what else of a fold its entries need. The lists of variables are in the order of
 /// declaration, and so are the initial words.
-#[derive(Drop)]
 pub struct Layout {
     pub linear: Seq<u8>,
     pub history: Seq<u8>,
@@ -22,6 +21,20 @@ pub struct Layout {
     pub args: u8,
     pub nodes: u32,
     pub statements: u32,
+}
+
+// One step at each exit of an owner, where a derived drop would be one for each part.
+impl Drop for Layout {
+    fn drop(self) {
+        let Layout {
+            linear: _,
+            history: _,
+            initial: _,
+            args: _,
+            nodes: _,
+            statements: _,
+        } = self;
+    }
 }
 
 /// The linear and the history variables, and for each variable its number among those of its kind.

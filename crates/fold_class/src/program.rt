@@ -13,7 +13,6 @@ use std::alloc::{AllocError, Global};
 /// A fold's class, the algebra of its maps, whether it is a translation by that, its depth, its code, and for a linear fold the
 /// rows of one step. Where `moves` holds, each step adds to each linear variable what history and arguments alone give, or takes
 /// the greater of both.
-#[derive(Drop)]
 pub struct FoldProgram {
     pub class: Class,
     pub algebra: Algebra,
@@ -22,6 +21,21 @@ pub struct FoldProgram {
     pub code: FoldCode,
     pub rows: AffineRows,
     pub layout: Layout,
+}
+
+// One step at each exit of an owner, where a derived drop would be one for each part.
+impl Drop for FoldProgram {
+    fn drop(self) {
+        let FoldProgram {
+            class: _,
+            algebra: _,
+            moves: _,
+            depth: _,
+            code: _,
+            rows: _,
+            layout: _,
+        } = self;
+    }
 }
 
 impl FoldProgram {

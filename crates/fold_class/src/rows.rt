@@ -21,13 +21,25 @@ use std::marker::Model;
 use std::sync::ledger::Ledger;
 
 /// The rows of a linear fold: what one step does with its linear variables, once the history and the arguments are known.
-#[derive(Drop)]
 pub struct AffineRows {
     code: FoldCode,
     algebra: Algebra,
     origins: Seq<Origin>,
     linear: Seq<u8>,
     history: Seq<u8>,
+}
+
+// One step at each exit of an owner, where a derived drop would be one for each part.
+impl Drop for AffineRows {
+    fn drop(self) {
+        let AffineRows {
+            code: _,
+            algebra: _,
+            origins: _,
+            linear: _,
+            history: _,
+        } = self;
+    }
 }
 
 impl Model for AffineRows {

@@ -21,7 +21,6 @@ pub struct Query {
 }
 
 /// A fold, a stream, a final or a print.
-#[derive(Drop)]
 pub enum Item {
     Fold(FoldDef),
     Stream(StreamDef),
@@ -29,13 +28,36 @@ pub enum Item {
     Print(Name),
 }
 
+// One step at each exit of an owner, where a derived drop would be one for each part.
+impl Drop for Item {
+    fn drop(self) {
+        match self {
+            Item::Fold(_) => {}
+            Item::Stream(_) => {}
+            Item::Final(_) => {}
+            Item::Print(_) => {}
+        }
+    }
+}
+
 /// `def name([states], [args]) { body }`.
-#[derive(Drop)]
 pub struct FoldDef {
     pub name: Name,
     pub states: Seq<StateVar>,
     pub args: Seq<Name>,
     pub body: Seq<Stmt>,
+}
+
+// One step at each exit of an owner, where a derived drop would be one for each part.
+impl Drop for FoldDef {
+    fn drop(self) {
+        let FoldDef {
+            name: _,
+            states: _,
+            args: _,
+            body: _,
+        } = self;
+    }
 }
 
 /// A state variable, and the number that it starts with.
@@ -71,12 +93,23 @@ pub struct StreamDef {
 }
 
 /// What makes a stream: of one input, or of two for a `zip`. A group has its keys and its fold.
-#[derive(Drop)]
 pub enum StreamOp {
     Filter(Name, Expr),
     Map(Name, Seq<Column>),
     Zip(Name, Name),
     Group(Name, Seq<Key>, Name),
+}
+
+// One step at each exit of an owner, where a derived drop would be one for each part.
+impl Drop for StreamOp {
+    fn drop(self) {
+        match self {
+            StreamOp::Filter(_, _) => {}
+            StreamOp::Map(_, _) => {}
+            StreamOp::Zip(_, _) => {}
+            StreamOp::Group(_, _, _) => {}
+        }
+    }
 }
 
 /// `final name = op;`.
@@ -87,13 +120,25 @@ pub struct FinalDef {
 }
 
 /// What makes a table of tables. A `top` has a column and how many rows are kept.
-#[derive(Drop)]
 pub enum FinalOp {
     Filter(Name, Expr),
     Map(Name, Seq<Column>),
     Group(Name, Seq<Key>, Name),
     Join(Name, Name),
     Top(Name, Name, u64, Span),
+}
+
+// One step at each exit of an owner, where a derived drop would be one for each part.
+impl Drop for FinalOp {
+    fn drop(self) {
+        match self {
+            FinalOp::Filter(_, _) => {}
+            FinalOp::Map(_, _) => {}
+            FinalOp::Group(_, _, _) => {}
+            FinalOp::Join(_, _) => {}
+            FinalOp::Top(_, _, _, _) => {}
+        }
+    }
 }
 
 /// A new column, `name = value`.

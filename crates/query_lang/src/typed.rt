@@ -14,7 +14,6 @@ pub enum Class {
 
 /// A query that was checked. Its names are those of the text, and then the names of fields that the text doesn't have, in
 /// the order of the fields.
-#[derive(Drop)]
 pub struct TypedQuery {
     pub names: Names,
     pub folds: Seq<TypedFold>,
@@ -23,16 +22,38 @@ pub struct TypedQuery {
     pub prints: Seq<PrintOf>,
 }
 
+// One step at each exit of an owner, where a derived drop would be one for each part.
+impl Drop for TypedQuery {
+    fn drop(self) {
+        let TypedQuery {
+            names: _,
+            folds: _,
+            streams: _,
+            finals: _,
+            prints: _,
+        } = self;
+    }
+}
+
 /// A stream. Streams are numbered from 0, and number 0 is `pktstream`, which has no entry.
-#[derive(Drop)]
 pub struct TypedStream {
     pub name: Name,
     pub columns: Seq<u32>,
     pub op: TypedOp,
 }
 
+// One step at each exit of an owner, where a derived drop would be one for each part.
+impl Drop for TypedStream {
+    fn drop(self) {
+        let TypedStream {
+            name: _,
+            columns: _,
+            op: _,
+        } = self;
+    }
+}
+
 /// What makes a stream, of streams by number and columns by slot.
-#[derive(Drop)]
 pub enum TypedOp {
     Filter(u16, TypedExpr),
     Map(u16, Seq<TypedExpr>),
@@ -42,8 +63,19 @@ pub enum TypedOp {
     Group(u16, Seq<u16>, u16, Seq<u16>),
 }
 
+// One step at each exit of an owner, where a derived drop would be one for each part.
+impl Drop for TypedOp {
+    fn drop(self) {
+        match self {
+            TypedOp::Filter(_, _) => {}
+            TypedOp::Map(_, _) => {}
+            TypedOp::Zip(_, _, _) => {}
+            TypedOp::Group(_, _, _, _) => {}
+        }
+    }
+}
+
 /// A table made of tables. Tables are numbered with the groupbys first, and then the finals.
-#[derive(Drop)]
 pub struct TypedFinal {
     pub name: Name,
     pub columns: Seq<u32>,
@@ -51,8 +83,19 @@ pub struct TypedFinal {
     pub op: TypedFinalOp,
 }
 
+// One step at each exit of an owner, where a derived drop would be one for each part.
+impl Drop for TypedFinal {
+    fn drop(self) {
+        let TypedFinal {
+            name: _,
+            columns: _,
+            keys: _,
+            op: _,
+        } = self;
+    }
+}
+
 /// What makes the table: tables by number, columns by slot, a group's fold and its arguments.
-#[derive(Drop)]
 pub enum TypedFinalOp {
     Filter(u16, TypedExpr),
     Map(u16, Seq<TypedExpr>),
@@ -60,6 +103,19 @@ pub enum TypedFinalOp {
     Join(u16, u16),
     /// A table, a column, and how many rows are kept.
     Top(u16, u16, u64),
+}
+
+// One step at each exit of an owner, where a derived drop would be one for each part.
+impl Drop for TypedFinalOp {
+    fn drop(self) {
+        match self {
+            TypedFinalOp::Filter(_, _) => {}
+            TypedFinalOp::Map(_, _) => {}
+            TypedFinalOp::Group(_, _, _, _) => {}
+            TypedFinalOp::Join(_, _) => {}
+            TypedFinalOp::Top(_, _, _) => {}
+        }
+    }
 }
 
 /// A printed table: a groupby or a final, each counted from 0.
