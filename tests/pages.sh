@@ -3,8 +3,8 @@
 # shellcheck shell=sh
 : "${room:?}"
 
-# Cuts the page $1 into files: N.file has the name of a file and N.block what the page shows of it; N.command has a command
-# and N.answer what the page says that it prints.
+# Cuts the page $1 into files, in its order: N.file has the name of a file and N.block what the page shows of it; N.command has
+# a command and N.answer what the page says that it prints.
 cut_page() {
     rm -f "$room"/*.file "$room"/*.block "$room"/*.command "$room"/*.answer
     awk -v room="$room" '
@@ -12,8 +12,9 @@ cut_page() {
         if (!open) return
         open = 0
         sub(/\n+$/, "\n", block)
-        if (named != "") { put(++pieces ".file", named "\n"); put(pieces ".block", block) }
-        else if (words == "prints") { put(++pieces ".command", last); put(pieces ".answer", block) }
+        piece = sprintf("%03d", pieces + 1)
+        if (named != "") { pieces++; put(piece ".file", named "\n"); put(piece ".block", block) }
+        else if (words == "prints") { pieces++; put(piece ".command", last); put(piece ".answer", block) }
         last = block; named = ""; words = ""; block = ""
     }
     function put(name, text) { printf "%s", text >(room "/" name); close(room "/" name) }
@@ -23,4 +24,36 @@ cut_page() {
     /^`[^`]*`:$/ { named = substr($0, 2, length($0) - 3) }
     END { finish() }
     ' "$1"
+}
+
+# Whether Python has the module $1.
+has_module() {
+    python3 -c "import $1" 2>/dev/null
+}
+
+# The first tool of the command in the file $1 that isn't there.
+missing_tool() {
+    for tool in tshark sqlite3 mlr datamash python3; do
+        if grep -qE "(^|[| ])$tool " "$1" && ! command -v "$tool" >/dev/null; then
+            echo "$tool"
+            return
+        fi
+    done
+    if grep -qE 'trace-from-captures? |marple\.report ' "$1" && ! command -v tshark >/dev/null; then
+        echo tshark
+    elif grep -q 'import pandas' "$1" && ! has_module pandas; then
+        echo pandas
+    elif grep -qE 'cookbook/draw |marple\.report ' "$1" && ! has_module matplotlib; then
+        echo matplotlib
+    elif grep -q 'marple\.report ' "$1" && ! has_module jinja2; then
+        echo jinja2
+    fi
+}
+
+# Compares the files $1 and $2, under the name that follows.
+compare() {
+    one=$1 other=$2
+    shift 2
+    cmp -s "$one" "$other"
+    count $? "$*" || diff "$one" "$other" | head -n 10
 }
