@@ -17,7 +17,7 @@ AGGREGATES = {
     "min": "to keep a least value, keep the greatest of `infinity - qsize`, by `m = max(m, infinity - qsize);`.",
 }
 MEANS = "keep the sum and the number of packets in one, and divide afterwards by `examples/cookbook/quads --add`."
-OTHERS = "`docs/COOKBOOK.md` has folds to copy."
+OTHERS = "`docs/cookbook` has folds to copy."
 AGGREGATE = r"(?P<name>avg|average|mean|count|sum|total|max|min|median|percentile|stddev|variance|first|last|distinct)"
 
 Groups = dict[str, str]

@@ -12,7 +12,7 @@ from support import TOP, Folder
 
 def blocks() -> list[tuple[str, str]]:
     """The blocks of the cookbook's last section, each with the paragraph before it."""
-    page = (TOP / "docs" / "COOKBOOK.md").read_text()
+    page = (TOP / "docs" / "cookbook" / "tools.md").read_text()
     section = page[page.index("## Several captures, one picture") :]
     found, before = [], ""
     for paragraph in re.split(r"\n\n(?=\S)|\n\n(?=    )", section):
