@@ -4,6 +4,7 @@ import re
 from pathlib import Path
 from typing import Optional
 
+_ANCHOR = re.compile(r'<a id="[^"]*"></a>')
 _ITEM = re.compile(r"^- (`[^`]+`[^:`]*): (.*)$", re.DOTALL)
 
 
@@ -11,7 +12,7 @@ def items_of(page: str) -> list[str]:
     """The items of the page's lists, each on one line."""
     items: list[str] = []
     inside = False
-    for line in page.splitlines():
+    for line in _ANCHOR.sub("", page).splitlines():
         if line.startswith("- `"):
             items.append(line)
             inside = True
