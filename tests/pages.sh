@@ -1,5 +1,7 @@
 # How a page shows files and commands, for scripts that have read common.sh. A block of a page is lines after four blanks. One after
-# a line "`FILE`:" is that file. One with a block after it, and the word "prints" alone between them, is a command, and writes that block.
+# a line "`FILE`:" is that file. In a block a line that begins with `$ ` is a command, with the lines after it that begin with a blank
+# or with `$ `, and writes the lines up to the next one. A block with a block after it, and only the word "prints" between them, is
+# a command that has lines of another form, and writes that block.
 # shellcheck shell=sh
 : "${room:?}"
 
@@ -8,16 +10,39 @@
 cut_page() {
     rm -f "$room"/*.file "$room"/*.block "$room"/*.command "$room"/*.answer
     awk -v room="$room" '
-    function finish() {
+    function piece() { return sprintf("%03d", ++pieces) }
+    function put(name, text) { printf "%s", text >(room "/" name); close(room "/" name) }
+    function put_command() {
+        if (answer == "") return
+        at = piece(); put(at ".command", command); put(at ".answer", answer)
+        command = answer = ""
+    }
+    # Takes the lines of a block that begin with a command.
+    function finish_session(lines, number,   i, line) {
+        for (i = 1; i < number; i++) {
+            line = lines[i]
+            if (line ~ /^\$ /) { put_command(); command = command substr(line, 3) "\n" }
+            else if (answer == "" && line ~ /^ /) command = command line "\n"
+            else if (line != "") answer = answer line "\n"
+        }
+        put_command()
+        command = ""
+    }
+    function finish(   start, at, lines) {
         if (!open) return
         open = 0
         sub(/\n+$/, "\n", block)
-        piece = sprintf("%03d", pieces + 1)
-        if (named != "") { pieces++; put(piece ".file", named "\n"); put(piece ".block", block) }
-        else if (words == "prints") { pieces++; put(piece ".command", last); put(piece ".answer", block) }
-        last = block; named = ""; words = ""; block = ""
+        if (match("\n" block, /\n\$ /)) {
+            start = RSTART
+            session = substr(block, start)
+            block = substr(block, 1, start - 1)
+            sub(/\n+$/, "\n", block)
+        }
+        if (named != "") { at = piece(); put(at ".file", named "\n"); put(at ".block", block) }
+        else if (words == "prints") { at = piece(); put(at ".command", last); put(at ".answer", block) }
+        if (session != "") finish_session(lines, split(session, lines, "\n"))
+        last = block; named = ""; words = ""; block = ""; session = ""
     }
-    function put(name, text) { printf "%s", text >(room "/" name); close(room "/" name) }
     /^    / { open = 1; block = block substr($0, 5) "\n"; next }
     /^$/ { if (open) block = block "\n"; next }
     { finish(); words = words $0; named = "" }
