@@ -26,7 +26,7 @@ CAUSES = {
 }
 EXACT = {"linear": "exact for any cache.", "other": "by epochs: exact only for keys that stay in the cache."}
 UNFIT = {
-    "NotAdditive": "this isn't `x = x + e` or `x = x - e` by the packet alone",
+    "NotAdditive": "this isn't `x = x + e` or `x = x - e` by only the packet",
     "NotMonotone": "this doesn't rise with the state",
 }
 QUERY_REFUSED, TRACE_REFUSED = 4, 5

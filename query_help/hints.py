@@ -81,7 +81,7 @@ def name_hints(name: str, items: list[Item], part: Part, text: str) -> list[str]
     if near:
         hints.append(f"Did you mean {' or '.join(f'`{candidate}`' for candidate in near)}?")
     if isinstance(part.item, Fold) and name in FIELDS:
-        hints.append(f"`{name}` is a column, and a fold reads the columns among its arguments alone: add `{name}` to "
+        hints.append(f"`{name}` is a column, and a fold reads only the columns among its arguments: add `{name}` to "
                      f"the second list of {part.item.name.text}.")
     elif isinstance(part.item, Binding) and name in [column.text for column, _ in part.item.columns]:
         hints.append(f"`{name}` is made by this `map` itself: use it in a second `map` over {part.item.name.text}.")

@@ -107,7 +107,7 @@ def reason(field: str, text: str) -> str:
         return "a part is above 255" if field in ("srcip", "dstip") else "an address belongs in `srcip` or `dstip`"
     if ":" in bare and field in ("srcip", "dstip"):
         return "an address is that of IPv4, or a number"
-    return "a number has decimal digits alone"
+    return "a number has only decimal digits"
 
 
 def caret_below(line: str, fields: list[str], column: int) -> str:
