@@ -1,5 +1,6 @@
 # Makes of a page of the repository one of an installed program: its commands, and below its title what its paths are.
 s#PYTHONPATH=python ##g
+s#python3 -m marple\.(report|parts)([^a-z]|$)#marple-\1\2#g
 s#(\./)?examples/cookbook/(quads|sql|draw)([^a-z.-]|$)#marple-\2\3#g
 s#(\./)?examples/captures/(trace-from-captures?)#marple-\2#g
 s#(^|[^.])\./(marple|explain)([^a-z]|$)#\1<\2>\3#g

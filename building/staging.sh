@@ -68,6 +68,42 @@ stage_programs() {
     done
 }
 
+# Makes the wheel of the package for Python in the folder $room/wheel and unpacks it at $room/unpacked. Notes the commands that it
+# brings in $room/commands, a line `COMMAND MODULE FUNCTION` each.
+make_wheel() {
+    command -v python3 >/dev/null || fail "python3 isn't on this machine's PATH"
+    mkdir -p "$room/wheel" || fail "cannot make $room/wheel"
+    # shellcheck disable=SC2016
+    build='import sys, wheel_backend; print(wheel_backend.build_wheel(sys.argv[1]))'
+    wheel=$(cd "$top/python" && python3 -B -c "$build" "$room/wheel") || fail "cannot make the wheel"
+    python3 -m zipfile -e "$room/wheel/$wheel" "$room/unpacked" || fail "cannot unpack the wheel"
+    sed -n 's/^\(marple-[a-z-]*\) *= *\([a-z_.]*\):\([a-z_]*\)$/\1 \2 \3/p' \
+        "$room/unpacked/marple-$version.dist-info/entry_points.txt" >"$room/commands"
+}
+
+# Puts the package for Python into share/marple/python, and its commands into bin, which run the program beside them.
+stage_python() {
+    if ! { mkdir -p "$room/stage/share/marple/python" && cp -R "$room/unpacked/marple" "$room/stage/share/marple/python/"; }; then
+        fail "cannot copy the package for Python"
+    fi
+    while read -r command module function; do
+        cat >"$room/stage/bin/$command" <<END
+#!/usr/bin/env python3
+import os
+import sys
+
+here = os.path.dirname(os.path.realpath(__file__))
+sys.path.insert(0, os.path.join(here, "../share/marple/python"))
+os.environ.setdefault("MARPLE", os.path.join(here, "marple"))
+
+from $module import $function
+
+sys.exit($function())
+END
+        chmod 755 "$room/stage/bin/$command"
+    done <"$room/commands"
+}
+
 # Puts the pages for those who use the program, and the examples below the paths that the pages have.
 stage_pages() {
     doc=share/doc/marple
@@ -88,12 +124,12 @@ stage_pages() {
     stage_link ../../../marple/captures $doc/examples/captures
 }
 
-# Puts the manual page of each command that is in bin or among the words, and the completions of each.
+# Puts the manual page of each command that is in bin, and the completions of each.
 stage_manuals() {
     stage completions/marple.bash share/bash-completion/completions/marple 644
     stage completions/_marple share/zsh/site-functions/_marple 644
     mkdir -p "$room/stage/share/man/man1" || fail "cannot make share/man/man1"
-    for command in "$room/stage/bin"/* "$@"; do
+    for command in "$room/stage/bin"/*; do
         command=${command##*/}
         page=$room/stage/share/man/man1/$command.1
         [ ! -e "$top/docs/$command.1" ] || sed "s/@VERSION@/$version/" "$top/docs/$command.1" >"$page" || fail "cannot write $page"
@@ -103,9 +139,10 @@ stage_manuals() {
     done
 }
 
-# Makes all of it. The words are further commands that have manual pages.
+# Makes all of it, after make_wheel.
 stage_all() {
     stage_programs
+    stage_python
     stage_pages
-    stage_manuals "$@"
+    stage_manuals
 }
