@@ -248,12 +248,12 @@ class OtherPythons(unittest.TestCase):
 
 class Hints(unittest.TestCase):
     def test_are_complete(self):
-        """Every argument has a hint, and mypy finds no fault: in all but the modules of parts."""
+        """Every argument has a hint, and mypy finds no fault."""
         if shutil.which("mypy") is None:
             self.skipTest("mypy")
         folder = Folder(self)
         package = TOP / "python" / "marple"
-        modules = sorted(map(str, [*package.glob("*.py"), *(package / "report").glob("*.py")]))
+        modules = sorted(map(str, package.rglob("*.py")))
         command = ["mypy", "--strict", "--python-version", "3.10", "--follow-imports", "silent", "--cache-dir"]
         command += [folder.path("cache"), *modules]
         done = subprocess.run(command, cwd=TOP / "python", capture_output=True, text=True, check=False)

@@ -9,8 +9,9 @@ docs/SCALING.md says why the tables are those of one run over all traces, and wh
 
 import os
 import tempfile
-from collections.abc import Callable, Iterator, Sequence
+from collections.abc import Callable, Iterator, Mapping, Sequence
 from contextlib import contextmanager
+from typing import Any
 
 from marple.commands import Query, keys_of_finals, query_text
 from marple.parts.choice import Choice, choose
@@ -34,7 +35,8 @@ from marple.parts.refusals import (
     WorkerDied,
     WorkTaken,
 )
-from marple.program import find_program
+from marple.parts.tasks import Ran
+from marple.program import Program, find_program
 from marple.tables import Answer, tables_of_file
 
 __all__ = [
@@ -44,6 +46,8 @@ __all__ = [
 ]  # fmt: skip
 
 PIECE = 64 << 20
+Path = str | os.PathLike[str]
+Traces = Path | Sequence[Path]
 
 
 class PartsAnswer(Answer):
@@ -56,9 +60,9 @@ class PartsAnswer(Answer):
 
 
 def run(
-    query: Query, traces: str | os.PathLike | Sequence[str | os.PathLike], *, by: str | Sequence[str] | None = None, parts: int | None = None,
-    workers: int | None = None, client=None, work: str | os.PathLike | None = None, buckets: int | None = None,
-    ways: int | None = None, pipe: int | None = None, lag: int | None = None, program: str | os.PathLike | None = None,
+    query: Query, traces: Traces, *, by: str | Sequence[str] | None = None, parts: int | None = None,
+    workers: int | None = None, client: Any = None, work: Path | None = None, buckets: int | None = None,
+    ways: int | None = None, pipe: int | None = None, lag: int | None = None, program: Program | None = None,
     piece: int = PIECE, report: Callable[[str], None] = lambda line: None,
 ) -> PartsAnswer:  # fmt: skip
     """The tables of the query over the packets of all traces, in their order, by runs over parts of them.
@@ -84,7 +88,10 @@ def run(
     return answer
 
 
-def tables_file(query: bytes, traces, *, by, parts, engine: Engine, work, sums: bool, given, program, piece, report):
+def tables_file(
+    query: bytes, traces: Traces, *, by: str | Sequence[str] | None, parts: int | None, engine: Engine, work: Path, sums: bool,
+    given: Mapping[str, int | None], program: Program | None, piece: int, report: Callable[[str], None],
+) -> tuple[str, Choice, list[Ran]]:  # fmt: skip
     """The file of the tables in the folder `work`, the choice of fields, and what the runs gave. sums: whether a later call
     may go on in the folder. Otherwise as `run`.
     """
@@ -102,7 +109,7 @@ def tables_file(query: bytes, traces, *, by, parts, engine: Engine, work, sums: 
 
 
 @contextmanager
-def folder_of(work: str | os.PathLike | None) -> Iterator[str]:
+def folder_of(work: Path | None) -> Iterator[str]:
     """The folder for the work: the one that is named, or one that is deleted at the end."""
     if work is not None:
         yield os.fspath(work)

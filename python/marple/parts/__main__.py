@@ -9,6 +9,7 @@ import shutil
 import sys
 import time
 from contextlib import ExitStack, suppress
+from typing import TextIO
 
 from marple.commands import query_text
 from marple.faults import MarpleError, OutputError
@@ -30,7 +31,7 @@ class Progress:
 
     EVERY = 10
 
-    def __init__(self, stream):
+    def __init__(self, stream: TextIO):
         self.stream, self.width, self.last = stream, 0, time.monotonic()
 
     def report(self, line: str) -> None:

@@ -1,12 +1,12 @@
 """Which fields a trace may be split by, so that the parts' tables are those of the whole; or why there are none."""
 
-import os
 from collections.abc import Sequence
 from dataclasses import dataclass
 
 from marple.commands import compile, plan
 from marple.parts.refusals import FieldNeeded, FieldRefused, FinalGroupby, FinalOfTop, QueryUnread
 from marple.plans import FIELDS, Group, Unread, only_adds, read_groups
+from marple.program import Program
 from marple.queries import Item, Items, UnreadQuery, read_query
 
 
@@ -34,7 +34,7 @@ class Choice:
     reason: str
 
 
-def choose(query: bytes, by: str | Sequence[str] | None, program: str | os.PathLike | None = None) -> Choice:
+def choose(query: bytes, by: str | Sequence[str] | None, program: Program | None = None) -> Choice:
     """Chooses how the query may run in parts, by all fields that allow it or by those that are asked for: a str is one.
 
     Raises QueryRefused, and PartsRefused where the query can't run in parts.
@@ -63,7 +63,7 @@ def choose(query: bytes, by: str | Sequence[str] | None, program: str | os.PathL
     return Choice((), tuple(joins), "no field is a key of every groupby, and all states add")
 
 
-def _groups(items: Items, needed: tuple[Item, ...], program) -> list[Group]:
+def _groups(items: Items, needed: tuple[Item, ...], program: Program | None) -> list[Group]:
     """The groupbys that the printed tables are made from, as the program compiles them."""
     names = [item.name for item in needed if not item.final]
     compiled = read_groups(compile(items.printing(names), program=program))

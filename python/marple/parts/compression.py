@@ -7,7 +7,7 @@ from collections.abc import Iterator
 
 from marple.faults import InputError
 from marple.parts.refusals import CompressionRefused
-from marple.parts.work import keep, written
+from marple.parts.work import Made, keep, written
 
 GZIP = re.compile(rb"\x1f\x8b\x08")
 OTHERS = {
@@ -36,7 +36,7 @@ def unpack(path: str, plain: str, sums: bool) -> None:
     keep(plain, lambda: _unpack(path, plain), sums)
 
 
-def _unpack(path: str, plain: str) -> dict:
+def _unpack(path: str, plain: str) -> Made:
     with written(plain) as file:
         file.writelines(_unpacked(path))
     return {}

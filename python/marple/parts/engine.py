@@ -1,12 +1,13 @@
 """Where tasks run: in this process, in others of this machine, or on a Dask cluster."""
 
+import importlib
 import logging
-from collections.abc import Callable, Iterable, Iterator
+from collections.abc import Iterable, Iterator
 from contextlib import contextmanager
-from typing import Protocol
+from typing import Any, Protocol
 
 from marple.parts.options import check_option
-from marple.parts.processes import Counted, Workers
+from marple.parts.processes import Call, Counted, Task, Workers
 from marple.parts.refusals import ClusterLost, OptionRefused, WorkerDied
 
 
@@ -15,7 +16,7 @@ class Engine(Protocol):
 
     places: int
 
-    def each(self, task: Callable, calls: Iterable[tuple], counted: Counted) -> list:
+    def each(self, task: Task, calls: Iterable[Call], counted: Counted) -> list[Any]:
         """What the task gives for each of these argument lists, in their order."""
 
 
@@ -24,22 +25,22 @@ class Here:
 
     places = 1
 
-    def each(self, task: Callable, calls: Iterable[tuple], counted: Counted) -> list:
-        calls, results = list(calls), []
-        for call in calls:
+    def each(self, task: Task, calls: Iterable[Call], counted: Counted) -> list[Any]:
+        whole, results = list(calls), []
+        for call in whole:
             results.append(task(*call))
-            counted(len(results), len(calls))
+            counted(len(results), len(whole))
         return results
 
 
 class OnCluster:
     """Runs tasks on the workers of a Dask cluster."""
 
-    def __init__(self, client):
+    def __init__(self, client: Any):
         self.client = client
         self.places = max(1, sum(client.nthreads().values()))
 
-    def each(self, task: Callable, calls: Iterable[tuple], counted: Counted) -> list:
+    def each(self, task: Task, calls: Iterable[Call], counted: Counted) -> list[Any]:
         try:
             return self._each(task, list(calls), counted)
         except Exception as fault:
@@ -47,18 +48,17 @@ class OnCluster:
                 raise ClusterLost("the scheduler has ended, or was left") from fault
             raise
 
-    def _each(self, task: Callable, calls: list[tuple], counted: Counted) -> list:
-        from distributed import KilledWorker, as_completed
-
+    def _each(self, task: Task, calls: list[Call], counted: Counted) -> list[Any]:
+        dask: Any = importlib.import_module("distributed")
         # Not pure: what a task gives also depends on files, which an earlier run of the same call may have left
         # otherwise.
         futures = [self.client.submit(task, *call, pure=False) for call in calls]
         try:
-            for done, future in enumerate(as_completed(futures), 1) if futures else ():
+            for done, future in enumerate(dask.as_completed(futures), 1) if futures else ():
                 future.result()
                 counted(done, len(futures))
             return [future.result() for future in futures]
-        except KilledWorker as fault:
+        except dask.KilledWorker as fault:
             raise WorkerDied(f"a task ended each worker that it was given to: {fault}") from fault
         finally:
             if self.client.status == "running":
@@ -66,17 +66,17 @@ class OnCluster:
 
 
 @contextmanager
-def cluster_at(address: str) -> Iterator:
+def cluster_at(address: str) -> Iterator[Any]:
     """A client of the scheduler that runs at this address, of which nothing is logged."""
     logging.disable()
     try:
-        import distributed
+        dask: Any = importlib.import_module("distributed")
     except ImportError as missing:
         raise ImportError(
             "clusters need Dask: install python3-dask and python3-distributed (Debian), or pip install distributed"
         ) from missing
     try:
-        client = distributed.Client(address)
+        client = dask.Client(address)
     except (OSError, ValueError) as fault:
         raise ClusterLost(f"no scheduler answers at {address}") from fault
     with client:
@@ -84,13 +84,16 @@ def cluster_at(address: str) -> Iterator:
 
 
 @contextmanager
-def engine_of(workers: int | None, client: object | None) -> Iterator[Engine]:
-    """The engine of this many processes, or of a Dask client; this process where there is neither."""
+def engine_of(workers: int | None, client: Any) -> Iterator[Engine]:
+    """The engine of this many processes, or of a Dask client; this process if both are None."""
     check_option("workers", workers)
     if workers is not None and client is not None:
         raise OptionRefused("tasks run either by workers of this machine or by a client's")
     if workers is None:
-        yield Here() if client is None else OnCluster(client)
+        if client is None:
+            yield Here()
+        else:
+            yield OnCluster(client)
         return
     engine = Workers(workers)
     try:

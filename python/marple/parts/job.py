@@ -24,6 +24,7 @@ from marple.version import __version__
 
 ROOM = 3 / 4  # how much of what one run takes a part is planned to have, since no function splits evenly
 AGAIN = 64  # into how many parts one is split that came out too large
+Identity = list[str | int]  # of a file: its path, its size, and when it was changed
 LEAST = 1 << 20  # no trace is looked through in smaller stretches so that each worker has one
 
 
@@ -71,7 +72,7 @@ class Job:
         except OSError as fault:
             raise OutputError(f"cannot write in {self.folder}: {fault.strerror}") from fault
 
-    def _begin(self, found: list[list]) -> None:
+    def _begin(self, found: list[Identity]) -> None:
         """Begins the work, or goes on with what another call began there. Raises WorkTaken."""
         mine = {
             "version": __version__,
@@ -87,7 +88,7 @@ class Job:
         with written(self.work.path("query")) as file:
             file.write(self.query)
 
-    def _see_unchanged(self, found: list[list]) -> None:
+    def _see_unchanged(self, found: list[Identity]) -> None:
         for path, before in zip(self.traces, found, strict=True):
             if _identity(path) != before:
                 raise TraceChanged(f"{path} was changed while it was read")
@@ -207,7 +208,8 @@ class Job:
         whole = [(number, span) for number, own in enumerate(spans) for span in own]
         calls = [(span, PACKETS, most, max(1, round((span.end - span.start) / stretch))) for _, span in whole]
         cuts = self.engine.each(cut, calls, self._count("cut"))
-        parts, before = [], [0] * len(self.traces)
+        parts: list[Part] = []
+        before = [0] * len(self.traces)
         for (number, _), own in zip(whole, cuts, strict=True):
             for span, packets in own:
                 parts.append(Part.of_span(len(parts), span, packets, number, before[number]))
@@ -224,9 +226,12 @@ class Job:
         pairs = zip(runs, parts, strict=True)
         failed = [self._refusal(ran, part.place) for ran, part in pairs if ran.status != 0]
         others = [one for one in failed if not isinstance(one, TraceRefused)]
+        if others:
+            raise others[0]
         if failed:
             order = {path: number for number, path in reversed(list(enumerate(self.traces)))}
-            raise others[0] if others else min(failed, key=lambda one: (order[one.path], one.record))
+            refused = [one for one in failed if isinstance(one, TraceRefused)]
+            raise min(refused, key=lambda one: (order[one.path or ""], one.record or 0))
         return runs
 
     def _refusal(self, ran: Ran, place: Callable[[int], tuple[int, int]]) -> MarpleError:
@@ -248,7 +253,7 @@ def _header(path: str, trace: str) -> Header:
         raise InputError(f"cannot read the trace {trace}: {fault.strerror}") from fault
 
 
-def _identity(path: str) -> list:
+def _identity(path: str) -> Identity:
     """What tells a file from another one. Raises InputError where it is no file, or can't be looked at."""
     try:
         about = os.stat(path)

@@ -106,9 +106,9 @@ def _write_table(file: IO[bytes], join: Join, tables: list[PartTable]) -> None:
     columns = tables[0].columns
     if join.best:
         total = min(total, join.best[1])
-        rows = iter([_best(join, columns, tables)])
+        rows = iter([_best(join.best, join.keys, columns, tables)])
     elif join.starts is not None:
-        rows = _sums(join, tables)
+        rows = _sums(join.starts, join.keys, tables)
     else:
         rows = (rows for _, rows in merged(tables, join.keys))
     file.write(b" ".join([*words[:-1], b"%d\n" % total]) + columns)
@@ -116,26 +116,26 @@ def _write_table(file: IO[bytes], join: Join, tables: list[PartTable]) -> None:
         file.writelines(some)
 
 
-def _best(join: Join, columns: bytes, tables: list[PartTable]) -> list[bytes]:
+def _best(best: tuple[str, int], keys: int, columns: bytes, tables: list[PartTable]) -> list[bytes]:
     """The rows of the whole that are greatest in a column, among those of the parts; ties by the smaller key."""
-    name, most = join.best
+    name, most = best
     at = columns.rstrip(b"\n").split(b",").index(name.encode())
-    every = ((key, row) for keys, rows in merged(tables, join.keys) for key, row in zip(keys, rows, strict=True))
-    best = heapq.nsmallest(most, every, key=lambda one: (-int(one[1].split(b",")[at]), one[0]))
-    return [row for _, row in sorted(best)]
+    every = ((key, row) for own, rows in merged(tables, keys) for key, row in zip(own, rows, strict=True))
+    greatest = heapq.nsmallest(most, every, key=lambda one: (-int(one[1].split(b",")[at]), one[0]))
+    return [row for _, row in sorted(greatest)]
 
 
-def _sums(join: Join, tables: list[PartTable]) -> Iterator[list[bytes]]:
+def _sums(starts: tuple[int, ...], keys: int, tables: list[PartTable]) -> Iterator[list[bytes]]:
     """A row for each key: each state is its start and what the parts' states are above it, modulo 2^64; epochs are
     summed.
     """
-    for keys, rows in merged(tables, join.keys):
+    for own_keys, rows in merged(tables, keys):
         sums: dict[Key, list[int]] = {}
-        for key, row in zip(keys, rows, strict=True):
-            cells = row.split(b",")[join.keys + 2 :]
-            own = sums.setdefault(key, [0, *join.starts])
+        for key, row in zip(own_keys, rows, strict=True):
+            cells = row.split(b",")[keys + 2 :]
+            own = sums.setdefault(key, [0, *starts])
             own[0] += int(cells[0])
-            for at, start in enumerate(join.starts, 1):
+            for at, start in enumerate(starts, 1):
                 own[at] = (own[at] + int(cells[at]) - start) % MODULUS
         yield [_exact_row(key, own) for key, own in sums.items()]
 

@@ -11,10 +11,13 @@ from contextlib import suppress
 from dataclasses import dataclass
 from multiprocessing.connection import Connection, wait
 from multiprocessing.process import BaseProcess
+from typing import Any, cast
 
 from marple.parts.refusals import WorkerDied
 from marple.parts.stopping import SIGNALS
 
+Task = Callable[..., Any]
+Call = tuple[Any, ...]  # the arguments of a task
 Counted = Callable[[int, int], None]  # how many tasks are done, and how many there are
 
 
@@ -25,10 +28,14 @@ class _Worker:
     process: BaseProcess
     pipe: Connection
 
+    @property
+    def pid(self) -> int:
+        return cast(int, self.process.pid)  # it was begun
+
     def kill(self) -> None:
         """Ends the process, if it still runs, and all that it began."""
         with suppress(ProcessLookupError, PermissionError):
-            os.killpg(self.process.pid, signal.SIGKILL)
+            os.killpg(self.pid, signal.SIGKILL)
         self.process.kill()
         self.process.join()
         self.pipe.close()
@@ -48,7 +55,7 @@ class Workers:
         self.places, self.peak = number, 0
         self._workers: list[_Worker] = []
 
-    def each(self, task: Callable, calls: Iterable[tuple], counted: Counted) -> list:
+    def each(self, task: Task, calls: Iterable[Call], counted: Counted) -> list[Any]:
         """What the task gives for each of these argument lists, in their order. After an exception no process runs."""
         try:
             return self._each(task, list(calls), counted)
@@ -62,25 +69,26 @@ class Workers:
             self._workers[-1].kill()
             self._workers.pop()
 
-    def _each(self, task: Callable, calls: list[tuple], counted: Counted) -> list:
+    def _each(self, task: Task, calls: list[Call], counted: Counted) -> list[Any]:
         while len(self._workers) < min(self.places, len(calls)):
             self._workers.append(_begun())
-        results, waiting = [None] * len(calls), list(range(len(calls)))[::-1]
-        free, busy, done = list(self._workers), {}, 0
+        results: list[Any] = [None] * len(calls)
+        waiting, free, done = list(range(len(calls)))[::-1], list(self._workers), 0
+        busy: dict[Connection, tuple[_Worker, int]] = {}
         while done < len(calls):
             while free and waiting:
                 worker, number = free.pop(), waiting.pop()
                 busy[worker.pipe] = worker, number
                 _hand_over(worker, (task, calls[number]))
             for pipe in wait(list(busy)):
-                worker, number = busy.pop(pipe)
+                worker, number = busy.pop(cast(Connection, pipe))
                 results[number] = self._answer(worker)
                 free.append(worker)
                 done += 1
                 counted(done, len(calls))
         return results
 
-    def _answer(self, worker: _Worker):
+    def _answer(self, worker: _Worker) -> Any:
         try:
             given, raised, peak = worker.pipe.recv()
         except (EOFError, OSError):
@@ -98,12 +106,13 @@ def _begun() -> _Worker:
     process = context.Process(target=_work, args=(theirs, ours, os.getpid()), daemon=True)
     process.start()
     theirs.close()
+    worker = _Worker(process, ours)
     with suppress(ProcessLookupError, PermissionError):
-        os.setpgid(process.pid, process.pid)
-    return _Worker(process, ours)
+        os.setpgid(worker.pid, worker.pid)
+    return worker
 
 
-def _hand_over(worker: _Worker, call: tuple) -> None:
+def _hand_over(worker: _Worker, call: tuple[Task, Call]) -> None:
     try:
         worker.pipe.send(call)
     except OSError:
@@ -126,9 +135,9 @@ def _work(pipe: Connection, theirs: Connection, asking: int) -> None:
         pipe.send(_done(task, arguments))
 
 
-def _done(task: Callable, arguments: tuple) -> tuple:
+def _done(task: Task, arguments: Call) -> tuple[Any, Exception | None, int]:
     """What a task gives, or the exception that it raises; and the peak of this process."""
-    given = raised = None
+    given, raised = None, None
     try:
         given = task(*arguments)
     except Exception as fault:

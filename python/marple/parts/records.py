@@ -52,7 +52,7 @@ class AnySize:
     the caller has set comes back.
     """
 
-    def __init__(self):
+    def __init__(self) -> None:
         self.lock, self.inside, self.before = threading.Lock(), 0, 0
 
     def __enter__(self) -> None:
@@ -140,7 +140,8 @@ def quoted_blocks(span: Span, columns: Sequence[int]) -> Iterator[tuple[list[byt
     """
     held: list[bytes] = []
     size = wanted = 0
-    for lines in chain(_line_lists(span), [[]]):
+    no_lines: list[list[bytes]] = [[]]
+    for lines in chain(_line_lists(span), no_lines):
         held += lines
         size += sum(map(len, lines))
         if size >= wanted or not lines:

@@ -1,17 +1,19 @@
 """Which part a record goes to, and the writing of a piece of a trace record by record into parts."""
 
+import importlib
 from collections.abc import Callable, Iterable, Iterator, Sequence
 from dataclasses import dataclass, field
 from functools import cached_property
 from itertools import accumulate
 from operator import itemgetter
-from typing import Any, NamedTuple
+from typing import IO, Any, NamedTuple
 
 from marple.parts.records import Fields, Span, number_of, plain_blocks, plain_records, quoted_blocks
 from marple.parts.work import written
 
+numpy: Any
 try:
-    import numpy
+    numpy = importlib.import_module("numpy")
 except ImportError:  # the standard library alone does as well, more slowly where there are many keys
     numpy = None
 
@@ -79,8 +81,9 @@ class Splitting:
         """The part of each record, by the texts of its fields, column by column."""
         if numpy is not None:
             places = [_column(fields) for fields in columns]
-            if None not in places:
-                return _parts_of_places(self, places, lambda odd: self._parts_one_by_one(columns, odd))
+            whole = [one for one in places if one is not None]
+            if len(whole) == len(places):
+                return _parts_of_places(self, whole, lambda odd: self._parts_one_by_one(columns, odd))
         return self._parts_one_by_one(columns, range(len(columns[0])))
 
     def _parts_one_by_one(self, columns: list[Fields], records: Iterable[int]) -> list[int]:
@@ -112,7 +115,7 @@ def _parts_of_texts(splitting: Splitting, records: list[bytes]) -> list[int]:
     return parts
 
 
-def _parts_of_columns(splitting: Splitting, text, ends, records: list[bytes]):
+def _parts_of_columns(splitting: Splitting, text: Any, ends: Any, records: list[bytes]) -> Sequence[int]:
     """The parts of the records of a text, which have these ends, column by column."""
     starts = numpy.concatenate(([0], ends[:-1] + 1))
     commas = numpy.flatnonzero(text == 44)
@@ -135,14 +138,17 @@ class Column(NamedTuple):
 
 def _column(fields: Fields) -> Column | None:
     """The fields as a column; None where one is missing or has more than one line."""
-    if None in fields:
+    texts = [one for one in fields if one is not None]
+    if len(texts) < len(fields):
         return None
-    text = numpy.frombuffer("\n".join([*fields, ""]).encode("latin-1"), dtype=numpy.uint8)
+    text = numpy.frombuffer("\n".join([*texts, ""]).encode("latin-1"), dtype=numpy.uint8)
     ends = numpy.flatnonzero(text == 10)
     return Column(text, numpy.concatenate(([0], ends[:-1] + 1)), ends) if len(ends) == len(fields) else None
 
 
-def _parts_of_places(splitting: Splitting, columns: list[Column], parts_of_odd: Callable[[list[int]], list[int]]):
+def _parts_of_places(
+    splitting: Splitting, columns: list[Column], parts_of_odd: Callable[[list[int]], list[int]]
+) -> Sequence[int]:
     """The parts of records with these columns. What isn't 1 to 19 digits is read record by record."""
     count = len(columns[0].begin)
     mixed = numpy.full(count, splitting.level * STEP & WORD, dtype=numpy.uint64)
@@ -158,10 +164,11 @@ def _parts_of_places(splitting: Splitting, columns: list[Column], parts_of_odd: 
     strange = numpy.flatnonzero(odd)
     if len(strange):
         parts[strange] = parts_of_odd(strange.tolist())
-    return parts
+    given: Sequence[int] = parts
+    return given
 
 
-def _numbers(text, begin, end):
+def _numbers(text: Any, begin: Any, end: Any) -> tuple[Any, Any]:
     """The numbers between these places of a text, and where there is something else than 1 to 19 digits."""
     size = end - begin
     odd = (size < 1) | (size > 19)
@@ -201,7 +208,7 @@ def _place_of(part: int, parts: Sequence[int]) -> int | None:
     """Where the first record of a part stands, or None."""
     if isinstance(parts, list):
         return parts.index(part) if part in parts else None
-    found = numpy.flatnonzero(parts == part)
+    found = numpy.flatnonzero(numpy.equal(parts, part))
     return int(found[0]) if len(found) else None
 
 
@@ -247,25 +254,33 @@ class Piece:
         return sum(sum(one.records) for one in self.rounds)
 
 
+@dataclass
+class _Held:
+    """What waits to be written for a part: its bytes in chunks, and how many records they are."""
+
+    chunks: list[bytes] = field(default_factory=list)
+    records: int = 0
+
+
 def write_piece(splitting: Splitting, spans: Sequence[Span], path: str) -> Piece:
     """Writes the records of these spans into one file, in rounds, each part after part in the order of the records."""
     rounds: list[Round] = []
-    *held, apart = [[[], 0] for _ in range(splitting.parts + 1)]
+    *held, apart = [_Held() for _ in range(splitting.parts + 1)]
     size = start = 0
     with written(path) as file:
         for records, parts in with_parts(splitting, spans):
             for chunk, count, part in _chunks(splitting.parts + 1, records, parts):
                 own = apart if part == splitting.parts else held[part]
-                own[0].append(chunk)
-                own[1] += count
+                own.chunks.append(chunk)
+                own.records += count
                 size += len(chunk)
             if size >= ROUND:
                 rounds.append(_write_round(file, start, held))
                 start, size = start + sum(rounds[-1].bytes), 0
-        held[0][0] += apart[0]
-        held[0][1] += apart[1]
+        held[0].chunks += apart.chunks
+        held[0].records += apart.records
         rounds.append(_write_round(file, start, held))
-    return Piece(path, any(span.quoted for span in spans), tuple(rounds), apart[1] > 0)
+    return Piece(path, any(span.quoted for span in spans), tuple(rounds), apart.records > 0)
 
 
 def _chunks(count: int, records: list[bytes], parts: Sequence[int]) -> Iterator[tuple[bytes, int, int]]:
@@ -289,12 +304,11 @@ def _by_parts(count: int, records: list[bytes], parts: Sequence[int]) -> Iterato
     return iter(lists)
 
 
-def _write_round(file, start: int, held: list) -> Round:
-    sizes = []
-    for chunks, _ in held:
-        file.writelines(chunks)
-        sizes.append(sum(map(len, chunks)))
-    counts = tuple(count for _, count in held)
+def _write_round(file: IO[bytes], start: int, held: list[_Held]) -> Round:
     for one in held:
-        one[0], one[1] = [], 0
-    return Round(start, tuple(sizes), counts)
+        file.writelines(one.chunks)
+    sizes = tuple(sum(map(len, one.chunks)) for one in held)
+    counts = tuple(one.records for one in held)
+    for one in held:
+        one.chunks, one.records = [], 0
+    return Round(start, sizes, counts)

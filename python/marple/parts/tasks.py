@@ -6,6 +6,7 @@ import subprocess
 import tempfile
 from collections.abc import Iterator, Sequence
 from dataclasses import asdict, dataclass
+from typing import IO, Any, cast
 
 from marple.parts.records import BLOCK, Span, record_sizes
 from marple.parts.reading import blocks_of
@@ -32,7 +33,8 @@ def look(path: str, start: int, end: int) -> Looked:
     """Looks through the bytes of a file from start, which is above 0, to end. A record begins after a line end, which may
     be the byte before start; where quotes come earlier in the file, perhaps not.
     """
-    begins = quote = None
+    begins: int | None = None
+    quote: int | None = None
     ends = 0
     if END.match(next(blocks_of(path, start - 1, start, 1))):
         begins = start
@@ -40,8 +42,8 @@ def look(path: str, start: int, end: int) -> Looked:
         ends += block.count(b"\n") or block.count(b"\r")
         if begins is None and (found := END.search(block)):
             begins = start + found.end()
-        if quote is None and (found := block.find(b'"')) >= 0:
-            quote = start + found
+        if quote is None and (at := block.find(b'"')) >= 0:
+            quote = start + at
         start += len(block)
     return Looked(begins, ends, quote)
 
@@ -122,16 +124,17 @@ def run_part(words: Sequence[str], header: bytes, spans: Sequence[Span], packets
     that gave tables.
     """
     made = keep(
-        path, lambda: asdict(_run_part(words, header, spans, packets, path)), sums, lambda made: made["status"] == 0
+        path, lambda: asdict(_run_part(words, header, spans, packets, path)), sums, lambda made: bool(made["status"] == 0)
     )
-    return Ran(**(made | {"path": path, "tables": tuple(made["tables"])}))
+    given: dict[str, Any] = made | {"path": path, "tables": tuple(made["tables"])}
+    return Ran(**given)
 
 
 def _run_part(words: Sequence[str], header: bytes, spans: Sequence[Span], packets: int, path: str) -> Ran:
     with written(path) as output, tempfile.TemporaryFile() as complaint:
         process = subprocess.Popen(words, stdin=subprocess.PIPE, stdout=output, stderr=complaint)
         try:
-            size = _feed(process.stdin, header, spans)
+            size = _feed(cast(IO[bytes], process.stdin), header, spans)
             _, status, used = os.wait4(process.pid, 0)
         except BaseException:
             process.kill()
@@ -144,7 +147,7 @@ def _run_part(words: Sequence[str], header: bytes, spans: Sequence[Span], packet
     return Ran(path, process.returncode, text, tuple(_table_starts(path)), packets, size, seconds, used.ru_maxrss)
 
 
-def _feed(pipe, header: bytes, spans: Sequence[Span]) -> int:
+def _feed(pipe: IO[bytes], header: bytes, spans: Sequence[Span]) -> int:
     """Writes a trace into a pipe. How many bytes it has. Where the program reads no further, the rest isn't written."""
     size = len(header) + sum(span.end - span.start for span in spans)
     try:

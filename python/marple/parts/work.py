@@ -8,17 +8,19 @@ import re
 import uuid
 from collections.abc import Callable, Iterator
 from contextlib import contextmanager, suppress
-from typing import IO
+from typing import IO, Any, BinaryIO
 
 from marple.parts.refusals import WorkTaken
 
 # the name of a file of the work that isn't complete
 HALF = re.compile(r"(?:work\.json|query|header|tables|(?:part|split|trace)-[\w.-]+)[\w.]*\.[0-9a-f]{32}")
 SUM_BYTES = 16
+BLOCK = 1 << 20
+Made = dict[str, Any]  # what was said of a file as it was made
 
 
 @contextmanager
-def written(path: str, mode: str = "wb") -> Iterator[IO]:
+def written(path: str, mode: str = "wb") -> Iterator[IO[Any]]:
     """A file that is written under another name, and has its own name when it is complete."""
     own = f"{path}.{uuid.uuid4().hex}"
     try:
@@ -31,13 +33,14 @@ def written(path: str, mode: str = "wb") -> Iterator[IO]:
         raise
 
 
-def keep(path: str, make: Callable[[], dict], sums: bool, is_done: Callable[[dict], bool] = lambda made: True) -> dict:
+def keep(path: str, make: Callable[[], Made], sums: bool, is_done: Callable[[Made], bool] = lambda made: True) -> Made:
     """What was said of the file as it was made, if it was made and still is what was recorded. Otherwise it is made now,
     and that is recorded if it is done. sums: whether the content is recorded too, and not only the size.
     """
     found = _read_json(f"{path}.json")
     if isinstance(found, dict) and found.get("file") is not None and found["file"] == _recorded(path, sums):
-        return found["made"]
+        earlier: Made = found["made"]
+        return earlier
     made = make()
     if is_done(made):
         with written(f"{path}.json", "w") as file:
@@ -45,19 +48,25 @@ def keep(path: str, make: Callable[[], dict], sums: bool, is_done: Callable[[dic
     return made
 
 
-def _recorded(path: str, sums: bool) -> list | None:
+def _recorded(path: str, sums: bool) -> list[int | str | None] | None:
     """The size of a file and, if asked for, the sum of what it has; None where there is no file."""
     try:
         with open(path, "rb") as file:
             size = os.fstat(file.fileno()).st_size
-            if not sums:
-                return [size, None]
-            return [size, hashlib.file_digest(file, lambda: hashlib.blake2b(digest_size=SUM_BYTES)).hexdigest()]
+            return [size, _sum(file) if sums else None]
     except FileNotFoundError:
         return None
 
 
-def _read_json(path: str):
+def _sum(file: BinaryIO) -> str:
+    """The sum of what a file has. (hashlib.file_digest isn't there before Python 3.11.)"""
+    sum_of = hashlib.blake2b(digest_size=SUM_BYTES)
+    while block := file.read(BLOCK):
+        sum_of.update(block)
+    return sum_of.hexdigest()
+
+
+def _read_json(path: str) -> Any:
     """What a JSON file has; None where there is none, or no whole one."""
     try:
         with open(path) as file:
@@ -106,9 +115,10 @@ def _clean(folder: str) -> None:
 class Work:
     """A work in its folder. mine: what identifies it; decided: what the first call decided, whatever later ones have."""
 
-    def __init__(self, folder: str, mine: dict):
-        self.folder, self.decided = folder, {}
-        self._mine = json.loads(json.dumps(mine))
+    def __init__(self, folder: str, mine: Made):
+        self.folder = folder
+        self.decided: dict[str, int] = {}
+        self._mine: Made = json.loads(json.dumps(mine))
 
     def path(self, name: str) -> str:
         return os.path.join(self.folder, name)
