@@ -9,14 +9,12 @@ from marple.finals import Asking, asking
 from marple.options import told, whole, words_of
 from marple.plans import Plan, read_plan
 from marple.program import Program, call
-from marple.queries import UnreadQuery, read_query
 from marple.remedies import with_remedy
 from marple.sources import Deadline, Query, Trace, TraceFile, text_of_query, trace_file, unreadable, written
 from marple.tables import Answer, read_tables
 
 __all__ = [
-    "Query", "Trace", "compile", "enclose", "gen", "keys_of_finals", "net", "plan", "query_text", "run", "run_plan",
-    "words_of",
+    "Query", "Trace", "asked", "compile", "enclose", "gen", "net", "plan", "query_text", "run", "run_plan", "words_of",
 ]
 Given = Mapping[str, Optional[int]]
 
@@ -136,7 +134,7 @@ def _tables(
 ) -> Answer:
     words = words_of(given)
     with _files(text, trace, deadline) as (path, packets), _refusals(command, given, text, packets):
-        ask = asking(text, lambda: call(["plan", path], program=program, query=text, deadline=deadline).output)
+        ask = _asking(path, text, program, deadline)
         output = None
         if ask.more:
             output = _with_more(ask, [command, packets.path, *words], program, deadline)
@@ -146,6 +144,23 @@ def _tables(
     return ask.answer(read_tables(output, ask.keys))
 
 
+def _asking(path: str, text: bytes, program: Optional[Program], deadline: Deadline) -> Asking:
+    return asking(text, lambda: call(["plan", path], program=program, query=text, deadline=deadline).output)
+
+
+def asked(text: bytes, program: Optional[Program]) -> tuple[bytes, Asking]:
+    """The query that is to be run so that its finals can say what they lack, and how its answer is told."""
+    with written(text) as path:
+        ask = _asking(path, text, program, Deadline())
+    if not ask.more:
+        return text, ask
+    try:
+        plan(ask.text, program=program)
+    except QueryRefused:
+        return text, ask.without_more()
+    return ask.text, ask
+
+
 def _with_more(ask: Asking, words: list[str], program: Optional[Program], deadline: Deadline) -> Optional[bytes]:
     """The output of the query with more prints; None where they are too much: of a text, or for the memory."""
     with written(ask.text) as path:
@@ -153,15 +168,6 @@ def _with_more(ask: Asking, words: list[str], program: Optional[Program], deadli
             return call([words[0], path, *words[1:]], program=program, query=ask.text, deadline=deadline).output
         except (QueryRefused, OutOfMemory):
             return None
-
-
-def keys_of_finals(text: bytes) -> dict[str, tuple[str, ...]]:
-    """The names of the keys of each final of a query. Empty where the query's items can't be read."""
-    try:
-        query = read_query(text)
-    except UnreadQuery:
-        return {}
-    return {name: query.keys_of(name) for name, item in query.tables.items() if item.final}
 
 
 def query_text(query: Query) -> bytes:

@@ -269,6 +269,24 @@ class LeftOut(unittest.TestCase):
             self.assertEqual(answer["f"].column("srcip"), [3, 4])
             self.assertIn("2 keys left out", repr(answer["f"]))
 
+    def test_are_known_of_parts(self):
+        """In one part as in one run. Where each key is a part, none leaves its cache."""
+        from marple import parts
+
+        def over_parts(query: bytes, trace: bytes, **options: int) -> marple.Answer:
+            return parts.run(query, Folder(self).write("trace.csv", trace), parts=number, **options)
+
+        for prints in (b"print f;", b"print r;\nprint f;"):
+            number = 1
+            with self.subTest(prints), self.assertWarnsRegex(marple.KeysLeftOut, "final f lacks 2 keys of r") as warned:
+                answer = self.run_over(prints, over_parts)
+            self.assertEqual(warned.filename, __file__)
+            self.assertEqual((answer["f"].left_out, list(answer)), (2, ["r", "f"] if b"print r" in prints else ["f"]))
+            self.assertEqual(answer["f"].column("srcip"), [3, 4])
+            number = 10
+            answer = self.run_over(prints, over_parts)
+            self.assertEqual((answer["f"].left_out, len(answer["f"])), (0, 4))
+
     def test_are_none_of_linear_folds_and_of_large_caches(self):
         import warnings
 

@@ -5,7 +5,7 @@ import unittest
 from support import cases, content, words
 
 from marple import Mark, read_tables
-from marple.commands import keys_of_finals
+from marple.queries import read_query
 from marple.tables import TableFault
 
 PRINTING = ("run", "net", "enclose", "run-plan", "trial")
@@ -65,7 +65,7 @@ class ATable(unittest.TestCase):
 
     def test_of_a_final(self):
         query = b"r = groupby(pktstream, [srcip], late); final worst = top(r, n, 1); print r; print worst;"
-        table = read_tables(LATE, keys_of_finals(query))["worst"]
+        table = read_tables(LATE, {"worst": read_query(query).keys_of("worst")})["worst"]
         self.assertEqual((table.kind, table.depth, table.epochs), ("final", None, None))
         self.assertEqual((table.keys, table.rows), (("srcip",), [(2, 1, 0)]))
         self.assertIsNone(read_tables(LATE)["worst"].keys)

@@ -13,7 +13,8 @@ from collections.abc import Callable, Iterator, Mapping, Sequence
 from contextlib import contextmanager
 from typing import Any
 
-from marple.commands import Query, keys_of_finals, query_text
+from marple.commands import Query, asked, query_text
+from marple.finals import Asking
 from marple.parts.choice import Choice, choose
 from marple.parts.engine import Engine, engine_of
 from marple.parts.job import Job
@@ -73,19 +74,23 @@ def run(
     traces and the folder at the same paths; without either the tasks run in turn here. work: a folder for what is made
     on the way, where a second call with the same arguments goes on; by default one that is deleted at the end.
     The options are those of the program for each part. piece: how many bytes a task splits at most. report: takes lines of
-    progress. Raises what `marple.run` raises, where a TraceRefused has the file in `path`, and PartsRefused.
+    progress. Warns as `marple.run` does. Raises what that raises, where a TraceRefused has the file in `path`, and PartsRefused.
     """
     given = {"buckets": buckets, "ways": ways, "pipe": pipe, "lag": lag}
-    text = query_text(query)
+    text, ask = asked(query_text(query), program)
     with folder_of(work) as folder, engine_of(workers, client) as engine:
         joined, choice, runs = tables_file(
             text, traces, by=by, parts=parts, engine=engine, work=folder, sums=work is not None, given=given,
             program=program, piece=piece, report=report,
         )  # fmt: skip
-        # The file is read as its tables are: it stays until the last of them goes, also where the folder is deleted.
-        answer = PartsAnswer(list(tables_of_file(joined, keys_of_finals(text)).values()))
+        answer = _answer(ask, joined)
     answer.by, answer.parts = choice.by, len(runs)
     return answer
+
+
+def _answer(ask: Asking, joined: str) -> PartsAnswer:
+    """The tables of a file, which is read as they are: it stays until the last of them goes, also if the folder is deleted."""
+    return PartsAnswer(list(ask.answer(tables_of_file(joined, ask.keys)).values()))
 
 
 def tables_file(
