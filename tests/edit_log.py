@@ -1,0 +1,157 @@
+"""The log of tried edits, bench/edits/log.txt, and the table of docs/TESTING.md that is made of it.
+
+The log has for each edit a line `VERDICT: CRATE/FOLDER/NAME.edit, N s`, and after it, indented, a line for each thing that the
+prover said against it.
+"""
+
+from __future__ import annotations
+
+import os
+import re
+from collections.abc import Iterable, Mapping
+from pathlib import Path
+from typing import NamedTuple
+
+from checks import TOP
+
+LOG, PAGE = TOP / "bench/edits/log.txt", TOP / "docs/TESTING.md"
+HEAD = re.compile(r"([A-Z a-z]+): ([\w/-]+\.edit), (\d+) s")
+COLUMNS = "| Wrong body | Crate | Edit | Refused by |\n|---|---|---|---|\n"
+# A place, with or without its line; then a goal, or what isn't proved with the goal's name at the end.
+ERROR = re.compile(r"(?:by a limit of the prover: )?(\S+?)(?::\d+:\d+)?: error: `([^`]+)`")
+UNPROVED = re.compile(r"(?:by a limit of the prover: )?(\S+?):\d+:\d+: it is not proved that .*\(`([^`]+)`\)")
+NOTHING = "not shown"
+GATE = "the gate"  # which tries the edits of must-fail in each run
+
+
+class Tried(NamedTuple):
+    """What a try of an edit came to: `refused`, or else; all that was said against it; and how long it took."""
+
+    verdict: str
+    said: list[str]
+    seconds: float
+
+
+class Goal(NamedTuple):
+    """What wasn't proved. rank: the lower, the more it says of the contract; words: its name, and where it is."""
+
+    rank: int
+    words: str
+
+
+def block_of(edit: str, tried: Tried) -> str:
+    """The lines of an edit in the log."""
+    return f"{tried.verdict}: {edit}, {tried.seconds:.0f} s\n" + "".join(f"    {it}\n" for it in tried.said)
+
+
+def read_log(text: str) -> dict[str, Tried]:
+    """What the log has of each edit."""
+    log: dict[str, Tried] = {}
+    said: list[str] = []
+    for line in text.splitlines():
+        head = HEAD.fullmatch(line)
+        if head:
+            said = []
+            log[head[2]] = Tried(head[1], said, float(head[3]))
+        elif line.startswith("    ") and log:
+            said.append(line[4:])
+        else:
+            raise ValueError(f"a line of the log is of no edit: {line!r}")
+    return log
+
+
+def add_to_log(file: Path, tried: Mapping[str, Tried], there: Iterable[str]) -> None:
+    """Puts these edits into the log, in place of what it had of them, and takes out those that are no longer there."""
+    kept = read_log(file.read_text(encoding="utf-8")) if file.exists() else {}
+    log = {edit: one for edit, one in {**kept, **tried}.items() if edit in {*there}}
+    half = file.with_name(f"{file.name}.half")
+    half.write_text("".join(block_of(edit, log[edit]) for edit in sorted(log)), encoding="utf-8")
+    os.replace(half, file)
+
+
+def all_edits() -> list[str]:
+    """All edits of the tree, as the log names them."""
+    return [str(it.relative_to(TOP / "crates")) for row in ("must-fail", "edits") for it in sorted(TOP.glob(f"crates/*/{row}/*.edit"))]
+
+
+def place_of(file: str) -> str:
+    """The function whose goals a file of proofs has, or else the file."""
+    parts = file.split("/")
+    return f"`{parts[-2]}`" if parts[-1] == "Answers.antt" and len(parts) > 2 else f"`{file}`"
+
+
+def goal_of(said: str) -> Goal | None:
+    """What one thing that the prover said is about; None where it names no goal."""
+    found = ERROR.match(said) or UNPROVED.match(said)
+    if not found:
+        return None
+    place, goal = place_of(found[1]), found[2]
+    start, clause = goal.split("-", 1)[0], goal.partition("-clause-")[2]
+    called = re.match(r"(.+?)(?:-\w+)*?-requires\b", goal)
+    if called:
+        return Goal(4, f"what `{called[1]}` requires{f', clause `{clause}`,' * bool(clause)} in {place}")
+    if start.startswith("returns"):
+        return Goal(0, f"clause `{clause}` of {place}") if clause else Goal(1, f"what {place} ensures")
+    if start.startswith("invariant_of"):
+        return Goal(2, f"the invariant in {place}")
+    if start == "loop" or goal.endswith(("-preserved", "-init")):
+        return Goal(3, f"a loop's invariant in {place}")
+    return Goal(5, f"goal `{goal}` in {place}")
+
+
+def refused_by(tried: Tried) -> str:
+    """The goal that says most of the contract, among those at which an edit was refused."""
+    if tried.verdict != "refused":
+        return tried.verdict.lower()
+    goals = [goal for goal in map(goal_of, tried.said) if goal]
+    return min(goals, key=lambda one: one.rank).words if goals else NOTHING
+
+
+def edits_of_row(crates: str, edits: str, there: Iterable[str]) -> list[str]:
+    """The edits that the cells of a row name: each crate has its edit, or one of both is there once."""
+    owners, names = re.findall(r"`(\w+)`", crates), re.findall(r"`(\w+)`", edits)
+    count = max(len(owners), len(names))
+    if len(owners) not in (1, count) or len(names) not in (1, count):
+        raise ValueError(f"{crates} have other edits than {edits}")
+    pairs = zip(owners * count if len(owners) == 1 else owners, names * count if len(names) == 1 else names)
+    found = []
+    for crate, name in pairs:
+        own = [it for it in there if re.fullmatch(rf"{crate}/(must-fail|edits)/{name}\.edit", it)]
+        if len(own) != 1:
+            raise ValueError(f"{crate} has {len(own)} edits {name}")
+        found += own
+    return found
+
+
+def cell_of(edit: str, log: Mapping[str, Tried]) -> str:
+    """What refused an edit, as the table has it."""
+    if edit in log:
+        return refused_by(log[edit])
+    return GATE if "/must-fail/" in edit else "not in the log"
+
+
+def summary(log: Mapping[str, Tried], there: list[str]) -> str:
+    """How many edits there are, and of how many the log shows a goal."""
+    known = [log[it] for it in there if it in log]
+    shown = sum(refused_by(one) != NOTHING for one in known if one.verdict == "refused")
+    refused = sum(one.verdict == "refused" for one in known)
+    return (
+        f"Of the {len(there)} edits the log has {len(known)}, of which {refused} were refused: {shown} at a goal that the prover "
+        f"names, and {refused - shown} without one.\n"
+    )
+
+
+def with_table(page: str, log: Mapping[str, Tried], there: list[str]) -> str:
+    """The page with the last column of its table, and the sentence after it, as the log has them."""
+    before, columns, after = page.partition(COLUMNS)
+    if not columns:
+        raise ValueError("the page has no table of wrong bodies")
+    rows, end, rest = after.partition("\n\n")
+    lines = []
+    for row in rows.split("\n"):
+        body, crates, edits = [cell.strip() for cell in row.strip("|").split("|")][:3]
+        cell = "; ".join(cell_of(it, log) for it in edits_of_row(crates, edits, there))
+        lines.append(f"| {body} | {crates} | {edits} | {cell} |")
+    if rest.startswith("Of the "):
+        rest = rest.partition("\n\n")[2]
+    return before + columns + "\n".join(lines) + end + summary(log, there) + "\n" + rest
