@@ -209,19 +209,23 @@ class OtherPythons(unittest.TestCase):
                 return place
         self.skipTest(f"python3.{minor}")
 
-    def ask(self, minor: int):
+    def ask(self, minor: int, *words: object):
         """What this Python answers."""
         environment = os.environ | {"PYTHONPATH": str(TOP / "python"), "PYTHONDONTWRITEBYTECODE": "1"}
-        command = [self.python(minor), "-W", "error", "-c", self.ASK]
+        command = [self.python(minor), "-W", "error", *map(str, words)]
         return subprocess.run(command, env=environment, capture_output=True, text=True, check=False)
 
     def check(self, minor: int):
-        done = self.ask(minor)
+        done = self.ask(minor, "-c", self.ASK)
         self.assertEqual(done.stderr, "")
         self.assertEqual(done.stdout, "[(7, <Mark.EXACT: 0>, 0, 1, 2)] srcip,mark,epoch,epochs,c\n7,exact,,1,2\n\n")
+        examples, work = TOP / "examples", Folder(self).path("work")
+        for _ in range(2):  # the second run goes on from the work of the first
+            done = self.ask(minor, "-m", "marple.parts", examples / "count.query", examples / "three-packets.csv", "--work", work)
+            self.assertEqual((done.returncode, done.stdout.partition("epochs,c\n")[2]), (0, "1,exact,*,1,2\n2,exact,*,1,1\n"), done.stderr)
 
     def test_3_9_is_told_what_is_needed(self):
-        lines = self.ask(9).stderr.splitlines()
+        lines = self.ask(9, "-c", self.ASK).stderr.splitlines()
         self.assertRegex(lines[-1], r"^ImportError: marple needs Python 3\.10 or later; this is Python 3\.9, /.*python3")
 
     def test_3_9_does_not_install_it(self):
