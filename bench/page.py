@@ -5,6 +5,7 @@ from __future__ import annotations
 import datetime
 import os
 import platform
+import re
 import shutil
 import subprocess
 import textwrap
@@ -13,6 +14,8 @@ from pathlib import Path
 from goals import Figures, Goal, goals
 from measure import Figure, Race
 from workshop import TOP
+
+Measured = dict[str, list[tuple[Race, dict[str, Figure]]]]
 
 
 def output_of(command: list[str]) -> str:
@@ -31,15 +34,24 @@ def machine() -> str:
     return f"{os.cpu_count()} processors {model}, {memory:.0f} GB, {platform.system()} {platform.release()}"
 
 
+def when_and_where(load: float) -> str:
+    """The day, the commit, the machine."""
+    today = datetime.date.today()
+    commit = output_of(["git", "rev-parse", "--short", "HEAD"])
+    return f"{today.day} {today:%B %Y}, commit {commit}. Machine: {machine()}; load {load:.1f} when the run began."
+
+
+def wrapped(text: str) -> list[str]:
+    return textwrap.wrap(text, 119, break_on_hyphens=False)
+
+
 def preface(load: float, runs: int | None) -> list[str]:
     """The day, the machine, the versions, and how often each program ran."""
-    today = datetime.date.today()
     versions = [output_of(["rustc", "--version"]), output_of(["rt", "version"]), output_of(["mawk", "-W", "version"])]
     versions += [output_of([name, "--version"]) for name in ("gawk", "datamash", "valgrind")]
     versions.append("sqlite3 " + output_of(["sqlite3", "--version"]).partition(" ")[0])
-    commit = output_of(["git", "rev-parse", "--short", "HEAD"])
     about = [
-        f"{today.day} {today:%B %Y}, commit {commit}. Machine: {machine()}; load {load:.1f} when the run began.",
+        when_and_where(load),
         f"Versions: {'; '.join(version for version in versions if version.strip())}.",
     ]
     often = "five times each, or three times where a run takes more than 4 s and in `many` and `parts`"
@@ -51,7 +63,7 @@ def preface(load: float, runs: int | None) -> list[str]:
         f"the greatest. The programs of a case run in turn, {often}. A ratio is the figure in the first line of the "
         "case divided by that of the line. Instructions are counted by callgrind, of `queries` over 100,000 packets."
     )
-    paragraphs = (textwrap.wrap(text, 119, break_on_hyphens=False) for text in (" ".join(about), legend))
+    paragraphs = (wrapped(text) for text in (" ".join(about), legend))
     return [line for paragraph in paragraphs for line in (*paragraph, "")]
 
 
@@ -113,15 +125,46 @@ def bench_table(name: str, measured: list[tuple[Race, dict[str, Figure]]]) -> li
     return [f"### {name}", "", *heading, *rows, ""]
 
 
-def whole_page(load: float, runs: int | None, measured: dict[str, list[tuple[Race, dict[str, Figure]]]]) -> str:
-    """The page: what it was run on, the goals, and a table for each bench."""
-    figures = {
+def figures_of(measured: Measured) -> Figures:
+    """The figures that were measured, by bench, race and program."""
+    return {
         (bench, race.name, program): figure
         for bench, races in measured.items()
         for race, found in races
         for program, figure in found.items()
     }
-    lines = [*preface(load, runs), *goal_table(figures)]
+
+
+def with_goals(page: str, measured: Measured) -> str:
+    """The page with the goals of these benches, and how many of all are met."""
+    before, heading, rest = page.partition("| Bench | Goal | At most | Measured | Met |\n|---|---|---|---|---|\n")
+    table, end, after = rest.partition("\n\n")
+    if not heading or not end:
+        raise ValueError("the page has no table of goals")
+    old = {tuple(row.split(" | ")[:2]): row for row in table.split("\n")}
+    rows, figures = [], figures_of(measured)
+    for goal in goals():
+        new = goal_row(goal, figures)
+        rows.append(new if goal.bench in measured else old.get(tuple(new.split(" | ")[:2]), new))
+    met, missed = sum(row.endswith("| yes |") for row in rows), sum(row.endswith("| **no** |") for row in rows)
+    before = re.sub(r"(?m)^\d+ of \d+ are met\.$", f"{met} of {met + missed} are met.", before)
+    return before + heading + "\n".join(rows) + end + after
+
+
+def with_benches(page: str, load: float, measured: Measured) -> str:
+    """The page with what was measured of these benches now, in place of what it has of them, with the day and the machine."""
+    first, *sections = re.split(r"(?m)^(?=### )", with_goals(page, measured))
+    for bench, races in measured.items():
+        heading, empty, *table = bench_table(bench, races)
+        new = "\n".join([heading, empty, *wrapped(f"Measured by itself: {when_and_where(load)}"), "", *table, ""])
+        places = [at for at, section in enumerate(sections) if section.startswith(f"{heading}\n")]
+        sections[places[0] if places else len(sections) :] = [new, *(sections[places[0] + 1 :] if places else [])]
+    return first + "".join(f"{section.rstrip()}\n\n" for section in sections)
+
+
+def whole_page(load: float, runs: int | None, measured: Measured) -> str:
+    """The page: what it was run on, the goals, and a table for each bench."""
+    lines = [*preface(load, runs), *goal_table(figures_of(measured))]
     for bench, races in measured.items():
         lines += bench_table(bench, races)
     return "\n".join(lines)
