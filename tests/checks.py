@@ -18,6 +18,7 @@ import time
 import unittest
 from collections.abc import Callable, Iterable
 from pathlib import Path
+from typing import NoReturn
 
 sys.dont_write_bytecode = True
 TOP = Path(__file__).resolve().parent.parent
@@ -144,6 +145,15 @@ def run(suite: unittest.TestSuite) -> int:
     ran = result.testsRun - len(result.skipped) - sum(not it.startswith("setUpClass") for it in failing) - unexpected
     sys.stderr.flush()
     return finish(ran, len(failing) + unexpected, ((name_of(test), tool) for test, tool in result.skipped))
+
+
+def end_by(script: Callable[[], int]) -> NoReturn:
+    """Ends with the status that a script's function returns. A signal ends it as an exception does, so that its folders go."""
+    stop_on_signals()
+    try:
+        sys.exit(script())
+    except Interrupted as stopped:
+        sys.exit(stopped.status)
 
 
 def main() -> None:
