@@ -9,7 +9,7 @@ from edit_files import BadEdit
 # The prover's words for a text that it can't read, in whatever file: a name that the changed code no longer has, or no text of the
 # language. No contract was tried there. rt cuts long lines, so that the beginnings have to do.
 VANISHED = re.compile(
-    r"`goal\.[^`]*`: module `|: record `[^`]*(?:$|`\s+has no)|can be named from here|is not in scope|has no field"
+    r"`goal\.[^`]*`: module `|: record `[^`]*(?:$|`\s+has no)|can be named from here|is not in scope(?! here, so what is shown)|has no field"
     r"|is no name|operand is missing|expected the end|cannot continue"
 )
 # An error has lines after the first one, which begin with blanks.
