@@ -104,6 +104,23 @@ class Stopped(unittest.TestCase):
                     os.kill(call.pid, number)
                     self.check_ended(call, 128 + number, f"stopped by {number.name}")
 
+    def test_by_a_signal_that_comes_as_a_program_is_begun(self):
+        """It waits until the program is known to the one that has to end it."""
+        lines = (
+            "import os, signal",
+            "from marple.parts.stopping import Stopped, raise_at_signals, signals_held",
+            "raise_at_signals()",
+            "try:",
+            "    with signals_held():",
+            "        os.kill(os.getpid(), signal.SIGTERM)",
+            "        print('begun', flush=True)",
+            "    print('and not stopped')",
+            "except Stopped as stopped:",
+            "    print(stopped)",
+        )
+        done = subprocess.run([sys.executable, "-c", "\n".join(lines)], capture_output=True, text=True, check=True)
+        self.assertEqual(done.stdout, "begun\nstopped by SIGTERM\n")
+
     def test_has_opened_no_port(self):
         call = self.begin("--workers", "2")
         sockets = set().union(*(sockets_of(one) for one in (call.pid, *(asking for _, asking in self.running()))))

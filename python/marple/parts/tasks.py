@@ -12,6 +12,7 @@ from marple.parts.records import BLOCK, Span, record_sizes
 from marple.parts.reading import blocks_of
 from marple.parts.refusals import RecordTooLong
 from marple.parts.splitting import Piece, Round, Splitting, with_parts, write_piece
+from marple.parts.stopping import signals_held
 from marple.parts.work import keep, written
 
 END = re.compile(rb"[\r\n]")
@@ -132,13 +133,17 @@ def run_part(words: Sequence[str], header: bytes, spans: Sequence[Span], packets
 
 def _run_part(words: Sequence[str], header: bytes, spans: Sequence[Span], packets: int, path: str) -> Ran:
     with written(path) as output, tempfile.TemporaryFile() as complaint:
-        process = subprocess.Popen(words, stdin=subprocess.PIPE, stdout=output, stderr=complaint)
+        begun: list[subprocess.Popen[bytes]] = []
         try:
+            with signals_held():
+                begun.append(subprocess.Popen(words, stdin=subprocess.PIPE, stdout=output, stderr=complaint))
+            (process,) = begun
             size = _feed(cast(IO[bytes], process.stdin), header, spans)
             _, status, used = os.wait4(process.pid, 0)
         except BaseException:
-            process.kill()
-            process.wait()
+            for process in begun:
+                process.kill()
+                process.wait()
             raise
         process.returncode = os.waitstatus_to_exitcode(status)
         complaint.seek(0)
