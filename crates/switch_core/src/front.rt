@@ -110,6 +110,7 @@ impl<K: EpochKind, const WAYS: usize> Front<K, WAYS> {
     }
 
     /// Takes a packet with this key and argument row, with the front's kind of entries, cache, pipe and scratch.
+    #[inline(always)]
     pub fn packet<L: Ledger>(&mut self, key: &[u64], args: &[u64], steps: &mut Steps<L>)
         requires ready { length self.old.pipe.records < self.old.pipe.places }
         requires key { length key.now ≡ self.old.cache.key_words }

@@ -90,6 +90,7 @@ impl<K: EpochKind, const WAYS: usize> Lane<K, WAYS> {
     }
 
     /// Takes a packet with this key and argument row at the front. The store is unchanged.
+    #[inline(always)]
     pub fn packet<L: Ledger>(&mut self, key: &[u64], args: &[u64], steps: &mut Steps<L>)
         requires ready { length self.old.pipe.records < self.old.pipe.places }
         requires key { length key.now ≡ self.old.cache.key_words }

@@ -37,6 +37,7 @@ pub fn all_ready<const WAYS: usize>(lanes: &[Lane<AnyEpochs, WAYS>]) -> bool
 }
 
 /// The packet event of what a groupby takes of these registers, if it takes anything.
+#[inline(always)]
 fn take_packet<const WAYS: usize, L: Ledger>(
     plan: &Plan,
     group: u32,
@@ -69,6 +70,7 @@ fn take_packet<const WAYS: usize, L: Ledger>(
 }
 
 /// The packet event of each lane whose groupby takes something of these registers.
+#[inline(always)]
 pub fn packet_lanes<const WAYS: usize, L: Ledger>(
     plan: &Plan,
     registers: &[u64],

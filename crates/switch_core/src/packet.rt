@@ -36,6 +36,7 @@ pub fn push_pair<const WAYS: usize, L: Ledger>(
 }
 
 /// Takes a packet with this key and argument row.
+#[inline(always)]
 pub fn packet_at<K: EpochKind, const WAYS: usize, L: Ledger>(
     kind: &K,
     cache: &mut BucketCache<WAYS>,

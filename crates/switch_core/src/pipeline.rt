@@ -149,6 +149,7 @@ impl<const WAYS: usize> Pipeline<WAYS> {
     }
 
     /// Takes a packet: each groupby whose input has a tuple for it has the packet event of its key and its arguments.
+    #[inline(always)]
     pub fn packet<L: Ledger>(&mut self, p: &Packet, steps: &mut Steps<L>)
         requires { list_all lane_is_ready self.old.lanes ≡ true }
         ensures makes { PipelineMakes WAYS (packet_events self.old.plan p.now.words) self.old self.new }
