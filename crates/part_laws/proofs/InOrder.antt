@@ -142,11 +142,12 @@ exact_in_order partition q i kept packets parts whole the f g caches one =
     let own : Key → List Row = λ key. map but_for_epochs (key_rows f (caches (kept.part_of key))
     (part_uses partition q i packets (kept.part_of key)) key) in
     let all = tables partition q i kept packets parts whole the f caches one in
-    let keys : List Key = all_keys partition q i kept packets parts whole the f caches one in (
-      tables_join partition q i kept packets parts whole the f g caches one
+    let keys : List Key = all_keys partition q i kept packets parts whole the f caches one in
+    record {
+      all = tables_join partition q i kept packets parts whole the f g caches one
           ∙ (same_keys own (λ key. filter (is_of_key key) (flat_map all parts)) (ascending keys)
           (λ key e. own_rows partition q i kept packets parts whole the f caches one key (sym (has-ascending key keys) ∙ e))
           ∙ ap (λ ks. flat_map (λ key. filter (is_of_key key) (flat_map all parts)) (ascending ks))
-          (sym (keys_of_tables partition q i kept packets parts whole the f caches one))),
-      in_their_parts partition q i kept packets parts whole the f caches one,
-    )
+          (sym (keys_of_tables partition q i kept packets parts whole the f caches one)));
+      placed = in_their_parts partition q i kept packets parts whole the f caches one;
+    }

@@ -58,7 +58,7 @@ some_joined [] ys = refl
 some_joined (x ∷ xs) ys = refl
 
 -- a key is among those of several lists of uses exactly where one of them gives it a row
-has_of_lists : (key : Key) (us : ℕ → List Use) (parts : List ℕ)
+pub has_of_lists : {X : Type 0} (key : Key) (us : X → List Use) (parts : List X)
     → has key (flat_map (λ n. keys_used (us n)) parts) ≡ some (flat_map (λ n. rows_used key (us n)) parts)
 has_of_lists key us [] = refl
 has_of_lists key us (n ∷ parts) =

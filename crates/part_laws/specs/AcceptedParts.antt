@@ -1,6 +1,5 @@
 -- What parts give of the groupbys of each accepted text.
 use Rattle.std.specs.Prelude.{◌≡◌, ℕ, false, List, map, flat_map, slice_get, All, Some, Ok}
-use Rattle.epoch_model.specs.declared.tables.Row.{Row}
 use Rattle.epoch_model.specs.Keys.{Key, ascending}
 use Rattle.epoch_model.specs.Epochs.{Geometry}
 use Rattle.epoch_model.specs.Tables.{Folding, key_rows, keys_used, group_rows}
@@ -12,7 +11,7 @@ use Rattle.stage_plan.specs.Packets.{AreWhole}
 use Rattle.accepted_query.specs.Accepted.{accepted}
 use Rattle.part_laws.specs.Parts.{KeepsKeys, AreTheParts, part_uses, by_fields, groupbys, part_by, HasFieldKey}
 use Rattle.part_laws.specs.PartLaws.{but_for_epochs}
-use Rattle.part_laws.specs.FinalParts.{rows_of_all, AreInTheirParts}
+use Rattle.part_laws.specs.FinalParts.{AreOfParts}
 
 -- this holds of each groupby of an accepted text, and of each partition by fields that are keys of the groupby and that no `map`
 -- makes
@@ -41,7 +40,5 @@ abbrev pub AcceptedTablesInOrder : Type 0
 AcceptedTablesInOrder = OfAcceptedTexts (λ q i fields choose. (one : TypedStream) → slice_get (groupbys q) i ≡ Some one
     → (packets : List (List ℕ)) (parts : List ℕ) → AreWhole packets → AreTheParts (by_fields fields choose) packets parts
     → (f : Folding) (g : Geometry) (caches : ℕ → Geometry) → f.row_per_epoch ≡ false
-    → let tables : ℕ → List Row = λ n.
-    map but_for_epochs (group_rows f (caches n) (part_uses (by_fields fields choose) q i packets n)) in
-    (map but_for_epochs (group_rows f g (uses q i packets)) ≡ rows_of_all tables parts)
-    × AreInTheirParts (part_by q.names one.columns fields choose) tables)
+    → AreOfParts (part_by q.names one.columns fields choose) parts (map but_for_epochs (group_rows f g (uses q i packets)))
+    (λ n. map but_for_epochs (group_rows f (caches n) (part_uses (by_fields fields choose) q i packets n))))

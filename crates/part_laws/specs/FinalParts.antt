@@ -27,14 +27,19 @@ rows_of_all rows parts = by_key (flat_map rows parts)
 abbrev pub AreInTheirParts : (Key → ℕ) → (ℕ → List Row) → Type 0
 AreInTheirParts part_of rows = (n : ℕ) → All (λ row. part_of row.key ≡ n) (rows n)
 
+-- The rows are those of all parts in the order of their keys, and the rows of each part are in the part of their keys.
+pub record AreOfParts (part_of : Key → ℕ) (parts : List ℕ) (whole : List Row) (rows : ℕ → List Row) : Type 0 where
+  pub all : whole ≡ rows_of_all rows parts
+  pub placed : AreInTheirParts part_of rows
+
 -- Where each key has one row, the table of the whole trace has the rows of the parts' tables in the order of their keys, but for
 -- numbers of epochs, whatever the caches of each part; and these rows are in the parts of their keys.
 abbrev pub ExactTablesInOrder : Type 0
 ExactTablesInOrder = (partition : Partition) (q : TypedQuery) (i : ℕ) (kept : KeepsKeys partition q i) (packets : List (List ℕ))
     (parts : List ℕ) → AreWhole packets → AreTheParts partition packets parts
     → (f : Folding) (g : Geometry) (caches : ℕ → Geometry) → f.row_per_epoch ≡ false
-    → let tables : ℕ → List Row = λ n. map but_for_epochs (group_rows f (caches n) (part_uses partition q i packets n)) in
-    (map but_for_epochs (group_rows f g (uses q i packets)) ≡ rows_of_all tables parts) × AreInTheirParts kept.part_of tables
+    → AreOfParts kept.part_of parts (map but_for_epochs (group_rows f g (uses q i packets)))
+    (λ n. map but_for_epochs (group_rows f (caches n) (part_uses partition q i packets n)))
 
 -- `filter` of all rows gives the rows that it gives for each part, in the order of keys.
 abbrev pub FiltersAreOfParts : Type 0
@@ -51,6 +56,23 @@ abbrev pub JoinsAreOfParts : Type 0
 JoinsAreOfParts = (part_of : Key → ℕ) (left right : ℕ → List Row) (parts : List ℕ) → AreApart parts
     → AreInTheirParts part_of left → AreInTheirParts part_of right
     → joined_rows (rows_of_all left parts) (rows_of_all right parts) ≡ rows_of_all (λ n. joined_rows (left n) (right n)) parts
+
+-- So what `filter`, `map` and `join` make of rows that are those of parts is that again, of what they make of each part's rows: these
+-- finals compose.
+abbrev pub FiltersStayOfParts : Type 0
+FiltersStayOfParts = (part_of : Key → ℕ) (parts : List ℕ) (condition : TypedExpr) (whole : List Row) (rows : ℕ → List Row)
+    → AreOfParts part_of parts whole rows
+    → AreOfParts part_of parts (filtered_rows condition whole) (λ n. filtered_rows condition (rows n))
+
+abbrev pub MapsStayOfParts : Type 0
+MapsStayOfParts = (part_of : Key → ℕ) (parts : List ℕ) (values : List TypedExpr) (whole : List Row) (rows : ℕ → List Row)
+    → AreOfParts part_of parts whole rows
+    → AreOfParts part_of parts (mapped_rows values whole) (λ n. mapped_rows values (rows n))
+
+abbrev pub JoinsStayOfParts : Type 0
+JoinsStayOfParts = (part_of : Key → ℕ) (parts : List ℕ) (left_whole right_whole : List Row) (left right : ℕ → List Row)
+    → AreApart parts → AreOfParts part_of parts left_whole left → AreOfParts part_of parts right_whole right
+    → AreOfParts part_of parts (joined_rows left_whole right_whole) (λ n. joined_rows (left n) (right n))
 
 -- `top` of all rows is `top` of the rows that `top` gives for each part, whatever parts the keys are in.
 abbrev pub TopsAreOfTops : Type 0

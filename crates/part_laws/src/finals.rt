@@ -1,6 +1,7 @@
 //! Laws of finals over the tables of parts.
 
 ghost use Rattle.part_laws.specs.FinalParts.{ExactTablesInOrder, FiltersAreOfParts, MapsAreOfParts, JoinsAreOfParts};
+ghost use Rattle.part_laws.specs.FinalParts.{FiltersStayOfParts, MapsStayOfParts, JoinsStayOfParts};
 ghost use Rattle.part_laws.specs.FinalParts.{TopsAreOfTops, GroupbysAreNotOfParts, FiltersReadNoEpochs};
 ghost use Rattle.part_laws.specs.FinalParts.{MapsReadNoEpochs, GroupbysReadNoEpochs, JoinsReadNoEpochs, TopsReadNoEpochs};
 
@@ -32,6 +33,13 @@ pub fn maps_are_of_parts()
 /// And so does `join` of two tables, where the rows of both are in the parts of their keys.
 pub fn joins_are_of_parts()
     ensures { JoinsAreOfParts }
+{}
+
+/// What they make of rows that are those of parts is that again, so they compose.
+pub fn finals_stay_of_parts()
+    ensures filters { FiltersStayOfParts }
+    ensures maps { MapsStayOfParts }
+    ensures joins { JoinsStayOfParts }
 {}
 
 /// `top` of all rows is `top` of the rows that `top` gives for each part.

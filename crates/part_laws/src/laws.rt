@@ -4,6 +4,8 @@ ghost use Rattle.part_laws.specs.PartLaws.{PartsHaveTheRows, OtherPartsHaveNone,
 ghost use Rattle.part_laws.specs.PartLaws.{ExactRowsAreTheParts, ValidRowsFoldTheWhole, FieldsKeepKeys};
 ghost use Rattle.part_laws.specs.PartLaws.{PartsCutNoMore, ValidRowsAreTheParts, KeysAreOfAllParts, ExactTablesJoin};
 ghost use Rattle.part_laws.specs.PartLaws.{FieldListsKeepKeys, FieldListsGiveTheParts};
+ghost use Rattle.part_laws.specs.Pieces.{PiecesHaveTheRows, KeysAreOfAllPieces, AdditivePiecesAdd, StatesOfPiecesAdd};
+ghost use Rattle.part_laws.specs.Pieces.{PieceWordsAdd, AdditivePiecesJoin};
 ghost use Rattle.part_laws.specs.PartLaws.{AdditivePartsAdd, StatesFromZerosAdd, PartWordsAdd, AdditiveTablesJoin};
 
 /// The argument rows that the whole trace gives a key are, in order, those of the key's part alone.
@@ -52,6 +54,22 @@ pub fn additive_parts_add()
     ensures states { StatesFromZerosAdd }
     ensures words_of_tables { PartWordsAdd }
     ensures tables { AdditiveTablesJoin }
+{}
+
+/// A trace that is cut by place gives a key the rows of its pieces, piece after piece, and its tables have the keys of all
+/// pieces.
+pub fn pieces_have_the_rows()
+    ensures rows { PiecesHaveTheRows }
+    ensures keys { KeysAreOfAllPieces }
+{}
+
+/// The state of an additive fold over the whole trace is the sum of what its pieces add, wherever the trace is cut;
+/// and the whole table is that of these states, by the keys of all pieces.
+pub fn additive_pieces_add()
+    ensures words { AdditivePiecesAdd }
+    ensures states { StatesOfPiecesAdd }
+    ensures words_of_tables { PieceWordsAdd }
+    ensures tables { AdditivePiecesJoin }
 {}
 
 /// Each partition by a field keeps the keys of a groupby that has a key of that name, where no `map` makes such a

@@ -9,4 +9,4 @@ returns c = λ text q i fields choose e all one at packets list whole the f g ca
     let p = parts text q e in
     let gives = c.fields_keep_keys.ensures.parts p.0 q i fields choose one (query_sound p.0 q p.2) all at in
     let ordered = c.exact_tables_are_in_order.ensures (by_fields fields choose) q i gives.0 packets list whole the f g caches exact in
-    (ordered.0, λ n k d lt. sym (gives.1 _) ∙ ordered.1 n k d lt)
+    record { all = ordered.all; placed = λ n k d lt. sym (gives.1 _) ∙ ordered.placed n k d lt }
