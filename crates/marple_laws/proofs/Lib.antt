@@ -1,6 +1,15 @@
 pub mod TextSources
 pub mod Compiled
+pub mod TextEnds
+pub mod LeftTables
+pub mod Bounded
+pub mod TrialsAsRuns
 pub mod BucketKeys
+pub mod NoFaults
+pub mod ReadFewer
+pub mod TrialSlots
+pub mod TraceSizes
+pub mod TrialTexts
 pub mod Decisions
 pub mod BodyDecisions
 pub mod PartDecisions

@@ -1,6 +1,11 @@
 pub mod Sources
 pub mod Compiled
+pub mod Left
+pub mod Bounded
+pub mod Trials
 pub mod LaneLaws
+pub mod FewerFields
+pub mod TrialRuns
 pub mod Readings
 pub mod MadeOf
 pub mod WellNamed

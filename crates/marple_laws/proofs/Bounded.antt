@@ -1,0 +1,46 @@
+-- The bounds of accepted operands hold.
+use Rattle.std.proofs.Common.{◌≡◌, ℕ, List, [], Some, None, Ok, Err, refl}
+use Rattle.query_lang.specs.declared.typed.TypedQuery.{TypedQuery}
+use Rattle.query_lang.specs.Checks.{Checked}
+use Rattle.query_laws.specs.ValidLaws.{AcceptedAreValid, AcceptedStartAsWords}
+use Rattle.accepted_query.specs.Accepted.{accepted}
+use Rattle.command_answers.specs.OwnChecks.{bounds_fault, fault_after}
+use Rattle.command_line.specs.declared.setting.Setting.{Setting}
+use Rattle.enclosed_query.specs.EnclosedTables.{enclose_text}
+use Rattle.enclosed_query.specs.Holding.{ShownHolds, ShownTablesHold}
+use Rattle.query_run.specs.Driven.{geometry_of}
+use Rattle.stage_plan.specs.Fields.{reads_of}
+use Rattle.trace_drive.specs.ReadPackets.{ReadPacketsAreOfWords}
+use Rattle.marple_cli.specs.Output.{enclosures_text, of_accepted}
+use Rattle.marple_laws.specs.Bounded.{AcceptedBoundsHold, words_read}
+
+module _ (holding : ShownTablesHold) (words : ReadPacketsAreOfWords) (valid : AcceptedAreValid) (starts : AcceptedStartAsWords)
+    (setting : Setting) (text trace : List ℕ) where
+  -- what is written where the text is read to this
+  record Writes (found : Checked TypedQuery) : Type 0 where
+    typed : TypedQuery
+    of_text : found ≡ Ok typed
+    written : of_accepted [] (enclosures_text setting trace) found ≡ enclose_text typed (geometry_of setting) (words_read trace typed)
+    holds : ShownHolds typed (geometry_of setting) (words_read trace typed)
+
+  writes : (found : Checked TypedQuery) → accepted text ≡ found → fault_after bounds_fault found ≡ None → Writes found
+  writes (Err fault) e none = absurd (refused none)
+    where
+      refused : Some fault ≡ None → ⊥
+      refused same = cc
+  writes (Ok q) e none = record {
+    typed = q;
+    of_text = refl;
+    written = refl;
+    holds = holding q (geometry_of setting) (words_read trace q) (valid text q e) none (starts text q e) (words trace (reads_of q));
+  }
+
+pub bounds_hold : ShownTablesHold → ReadPacketsAreOfWords → AcceptedAreValid → AcceptedStartAsWords → AcceptedBoundsHold
+bounds_hold holding words valid starts setting query trace is =
+    let w = writes holding words valid starts setting query.text trace (accepted query.text) refl is.by_query in
+    record {
+      typed = w.typed;
+      of_text = w.of_text;
+      written = w.written;
+      holds = w.holds;
+    }

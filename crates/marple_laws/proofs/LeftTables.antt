@@ -1,0 +1,73 @@
+-- The tables of a pipeline with entries for folds, by the machines that it represents.
+use Rattle.std.proofs.Common.{◌≡◌, ℕ, ◌<◌, List, map, ap, sym, subst, ◌∙◌, arith}
+use Rattle.std.specs.Prelude.{Ok}
+use Rattle.command_line.specs.Command.{IsSetting, ways_number}
+use Rattle.command_line.specs.declared.setting.Setting.{Setting}
+use Rattle.command_line.specs.declared.setting.Ways.{Ways}
+use Rattle.command_line.specs.declared.setting.Ways.TheVariants.{One, Two, Four, Eight, Sixteen, ThirtyTwo}
+use Rattle.epoch_entry.specs.declared.purpose.Entries.TheVariants.{Folds}
+use Rattle.epoch_model.specs.Epochs.{Geometry}
+use Rattle.epoch_model.specs.Laws.{HasRoom}
+use Rattle.epoch_model.specs.Machine.{Machine}
+use Rattle.final_queries.specs.declared.table.Table.{Table}
+use Rattle.plan_file.specs.declared.made.Made.{Made}
+use Rattle.plan_loader.specs.Meaning.{plan_output, plan_tables}
+use Rattle.plan_loader.proofs.SoundMade.{says_sound}
+use Rattle.query_lang.specs.declared.typed.TypedQuery.{TypedQuery}
+use Rattle.query_laws.specs.ValidLaws.{AcceptedAreValid}
+use Rattle.query_run.specs.Driven.{geometry_of}
+use Rattle.query_run.specs.PlanReports.{EndsAreTheTexts, numbered_print}
+use Rattle.query_run.specs.QueryReports.{query_print}
+use Rattle.query_run.specs.Runs.{EndsAreTheQuerys, query_ends}
+use Rattle.query_tables.specs.Tables.{group_tables, query_text}
+use Rattle.switch_core.specs.PlanLanes.{AreLanesOf, PipelineStands, PipelineView, folding_at}
+use Rattle.switch_core.specs.Pipelines.{tables_of}
+use Rattle.trace_drive.specs.Drives.{end_machines, words_of}
+use Rattle.marple_cli.specs.Driven.{StandsForEnd}
+use Rattle.marple_laws.specs.Left.{AreTablesOfPlan, AreTablesOfQuery, words_for}
+
+some_ways : (ways : Ways) → 0 < ways_number ways
+some_ways One = omega arith
+some_ways Two = omega arith
+some_ways Four = omega arith
+some_ways Eight = omega arith
+some_ways Sixteen = omega arith
+some_ways ThirtyTwo = omega arith
+
+has_room : (setting : Setting) → IsSetting setting → HasRoom (geometry_of setting)
+has_room setting is = (omega (arith, is.some_buckets), some_ways setting.ways)
+
+query_printed : (q : TypedQuery) (g : Geometry) (list : List (List ℕ)) (tables : List Table) → tables ≡ group_tables q g list
+    → query_print q tables ≡ query_text q g list
+unfolding query_text
+query_printed q g list tables e = ap (query_print q) e
+
+plan_printed : (made : Made) (g : Geometry) (list : List (List ℕ)) (tables : List Table) → tables ≡ plan_tables made g list
+    → numbered_print made.prints tables ≡ plan_output made g list
+unfolding plan_output
+plan_printed made g list tables e = ap (numbered_print made.prints) e
+
+module _ (p : PipelineView) (lanes : AreLanesOf Folds p.plan p.buckets p.lanes) (tables : List Table)
+    (closed : (machines : List Machine) → PipelineStands p machines → tables ≡ tables_of p.plan.groups (map folding_at p.lanes) machines)
+  where
+    pub of_query : AcceptedAreValid → EndsAreTheQuerys → AreTablesOfQuery p tables
+    of_query valid ends setting text q list is found whole stands =
+        let g : Geometry = geometry_of setting in
+        let words : List (List ℕ) = words_of (list q) in
+        let of_q : StandsForEnd setting (Ok q) list p = subst (λ r. StandsForEnd setting r list p) found stands in
+        let same : tables ≡ group_tables q g words =
+        closed (query_ends q g words) of_q.1
+        ∙ ap (tables_of p.plan.groups (map folding_at p.lanes)) (sym (ends.machines q p.plan g words of_q.0 whole))
+        ∙ ends.tables q p.plan p.buckets p.lanes g words (valid text q found) of_q.0 lanes (has_room setting is) whole
+        in
+        (same, query_printed q g words tables same)
+
+    pub of_plan : EndsAreTheTexts → AreTablesOfPlan p tables
+    of_plan ends setting text made trace is says stands =
+        let g : Geometry = geometry_of setting in
+        let words : List (List ℕ) = words_for made trace in
+        let same : tables ≡ plan_tables made g words =
+        closed (end_machines p.plan g words) stands.1
+        ∙ ends made p.plan p.buckets p.lanes g words (says_sound text made says) stands.0 lanes (has_room setting is)
+        in
+        (same, plan_printed made g words tables same)

@@ -1,0 +1,16 @@
+-- Inputs and sinks that never fail have no fault.
+use Rattle.std.proofs.Common.{inl, inr, arith}
+use Rattle.marple_base.specs.Faults.{Rose}
+use Rattle.marple_base.specs.Sound.{sound_input}
+use Rattle.marple_base.specs.declared.inputs.Which.{Which}
+use Rattle.marple_base.specs.declared.inputs.Which.TheVariants.{Query, Trace}
+use Rattle.marple_base.specs.declared.sound.SoundInputs.{SoundInputs}
+
+pub never_rose : Rose 0 0 → ⊥
+never_rose (inl less) = omega (arith, less)
+never_rose (inr last) = omega (arith, last)
+
+pub no_input_fault : (before after : SoundInputs) (which : Which) → Rose (sound_input before which).faults (sound_input after which).faults
+    → ⊥
+no_input_fault before after Query = never_rose
+no_input_fault before after Trace = never_rose

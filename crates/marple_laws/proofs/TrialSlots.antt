@@ -1,0 +1,226 @@
+-- The groupbys of the trial's query take from the packets themselves, and only words of fields that the query reads.
+use Rattle.std.proofs.Common.{◌≡◌, inl, inr, ℕ, zero, suc, Bool, true, false, cond, ◌&&◌, List, [], ◌∷◌, ◌++◌, length, map, Option, Some}
+use Rattle.std.proofs.Common.{None, refl, sym, ap, ap₂, subst, ◌∙◌, arith}
+use Rattle.std.specs.Prelude.{◌==◌, Ok, Err, slice_get, slice_index}
+use Rattle.std.specs.List.{list_all, list_any}
+use Rattle.std.proofs.lemmas.Bool.{and_parts, false≢true}
+use Rattle.std.proofs.lemmas.Bool.Decides.{nat_tests}
+use Rattle.std.proofs.lemmas.List.Elements.{All-head, All-tail}
+use Rattle.epoch_model.specs.Epochs.{Geometry}
+use Rattle.epoch_model.proofs.KeyLists.{by_test}
+use Rattle.epoch_entry.specs.Foldings.{folding_of}
+use Rattle.final_queries.specs.Finals.{with_finals}
+use Rattle.final_queries.specs.GroupTable.{group_table}
+use Rattle.marple_base.specs.Field.{all_fields, has_field, number_of}
+use Rattle.marple_base.specs.declared.field.Field.{Field}
+use Rattle.marple_base.specs.declared.field.Field.TheVariants.{Switch, Qid, Uid, SrcIp, DstIp, SrcPort, DstPort, Proto, PktLen, PayloadLen}
+use Rattle.marple_base.specs.declared.field.Field.TheVariants.{TcpSeq, Tin, Tout, QSize}
+use Rattle.marple_base.specs.declared.field.FieldSet.{FieldSet}
+use Rattle.query_lang.specs.declared.fold.TypedFold.{TypedFold}
+use Rattle.query_lang.specs.declared.query.Item.TheVariants as item
+use Rattle.query_lang.specs.declared.typed.TypedQuery.{TypedQuery}
+use Rattle.query_lang.specs.declared.typed.TypedStream.{TypedStream}
+use Rattle.query_lang.specs.declared.typing.Earlier.{Earlier}
+use Rattle.query_lang.specs.declared.typing.Given.{Given}
+use Rattle.query_lang.specs.Checks.{Checked, and_then}
+use Rattle.query_lang.specs.Lexis.{reserved, cut}
+use Rattle.query_lang.specs.Streams.{Taking, stream, takings, values_at}
+use Rattle.query_lang.specs.Typing.{given_of, start_of, typed_names, items_checked, ended, with_fold, checked}
+use Rattle.query_grammar.specs.Reading.{expr_at, stmt_at}
+use Rattle.query_grammar.specs.Texts.{parsed_text}
+use Rattle.query_tables.specs.Tables.{group_tables, heading_of, printed, query_text, table_if, tables_from}
+use Rattle.query_types.specs.Uses.{taken_by, use_of, uses}
+use Rattle.stage_plan.specs.Fields.{read_fields, reads_of}
+use Rattle.stage_plan.specs.Packets.{AreWhole}
+use Rattle.stage_plan.specs.Planned.{fold_at}
+use Rattle.stage_plan.specs.Shape.{GroupShape, query_groups}
+use Rattle.stage_plan.proofs.StreamRows.{Row, all_rows, row_at, row_made, rows_from, stream_rows, tuple_of, tuples}
+use Rattle.accepted_query.specs.Accepted.{accepted, staged}
+use Rattle.accepted_query.specs.TrialQuery.{trial_query}
+use Rattle.accepted_query.proofs.TrialSteps.{fold_next}
+use Rattle.accepted_query.proofs.TrialParts.{at, count_fold, lost_fold, oos_fold, deepest_fold, trial_names, trial_rest, trial_read}
+use Rattle.accepted_query.proofs.TrialTyped.{count_typed, count_is, lost_typed, lost_is, oos_typed, oos_is, deepest_typed, deepest_is}
+use Rattle.marple_laws.proofs.Listed.{IsIn, in_set}
+use Rattle.marple_laws.specs.FewerFields.{zeroed}
+
+-- ---- a query whose groupbys take from the packets, out of fields that it reads
+
+abbrev is_slot_read : TypedQuery → ℕ → Bool
+is_slot_read q slot = list_any (λ f. number_of f == slot) (read_fields q)
+
+abbrev takes_packets : TypedQuery → Taking → Bool
+takes_packets q t = (t.input == 0) && (list_all (is_slot_read q) t.keys && list_all (is_slot_read q) t.args)
+
+abbrev pub is_plain : TypedQuery → Bool
+is_plain q = list_all (takes_packets q) (takings q.streams)
+
+-- ---- the trial's query is one, by computing the definitions
+
+abbrev plain_in : Checked TypedQuery → Bool
+plain_in (Ok q) = is_plain q
+plain_in (Err fault) = true
+
+read : parsed_text trial_query ≡ Ok trial_read
+unfolding trial_query reserved cut expr_at stmt_at
+read = refl
+
+abbrev given : Given
+given = given_of (typed_names trial_names) trial_read.items
+
+abbrev start : Earlier
+start = start_of (typed_names trial_names)
+
+abbrev folds : Earlier
+folds = with_fold (with_fold (with_fold (with_fold start count_typed) lost_typed) oos_typed) deepest_typed
+
+items : items_checked given start trial_read.items ≡ items_checked given folds trial_rest
+items =
+    fold_next given start count_fold count_typed (item.Fold lost_fold ∷ item.Fold oos_fold ∷ item.Fold deepest_fold ∷ trial_rest) refl
+    count_is
+    ∙ fold_next given (with_fold start count_typed) lost_fold lost_typed (item.Fold oos_fold ∷ item.Fold deepest_fold ∷ trial_rest) refl
+    lost_is
+    ∙ fold_next given (with_fold (with_fold start count_typed) lost_typed) oos_fold oos_typed (item.Fold deepest_fold ∷ trial_rest) refl
+    oos_is
+    ∙ fold_next given (with_fold (with_fold (with_fold start count_typed) lost_typed) oos_typed) deepest_fold deepest_typed trial_rest refl
+    deepest_is
+
+rest : plain_in (and_then (and_then (items_checked given folds trial_rest) (ended (typed_names trial_names) (at 540 540))) staged) ≡ true
+rest = refl
+
+plain : plain_in (accepted trial_query) ≡ true
+unfolding accepted
+plain =
+    ap (λ r. plain_in (and_then r (λ q. and_then (checked q) staged))) read
+    ∙ ap (λ r. plain_in (and_then (and_then r (ended (typed_names trial_names) (at 540 540))) staged)) items
+    ∙ rest
+
+pub trial_is_plain : (q : TypedQuery) → accepted trial_query ≡ Ok q → is_plain q ≡ true
+trial_is_plain q e = ap plain_in (sym e) ∙ plain
+
+-- ---- the words of fields that are read stay
+
+abbrev IsKeptAt : FieldSet → List ℕ → Field → Type 0
+IsKeptAt reads words f = slice_index (zeroed reads all_fields words) (number_of f) ≡ slice_index words (number_of f)
+
+word_kept : (reads : FieldSet) (words : List ℕ) → length words ≡ 14 → (f : Field) → has_field reads f ≡ true → IsKeptAt reads words f
+word_kept reads (a ∷ b ∷ c ∷ d ∷ e ∷ g ∷ h ∷ i ∷ j ∷ k ∷ l ∷ m ∷ n ∷ o ∷ []) size f has = by f has
+  where
+    by : (f : Field) → has_field reads f ≡ true → IsKeptAt reads (a ∷ b ∷ c ∷ d ∷ e ∷ g ∷ h ∷ i ∷ j ∷ k ∷ l ∷ m ∷ n ∷ o ∷ []) f
+    by Switch t = ap (λ x. cond x a 0) t
+    by Qid t = ap (λ x. cond x b 0) t
+    by Uid t = ap (λ x. cond x c 0) t
+    by SrcIp t = ap (λ x. cond x d 0) t
+    by DstIp t = ap (λ x. cond x e 0) t
+    by SrcPort t = ap (λ x. cond x g 0) t
+    by DstPort t = ap (λ x. cond x h 0) t
+    by Proto t = ap (λ x. cond x i 0) t
+    by PktLen t = ap (λ x. cond x j 0) t
+    by PayloadLen t = ap (λ x. cond x k 0) t
+    by TcpSeq t = ap (λ x. cond x l 0) t
+    by Tin t = ap (λ x. cond x m 0) t
+    by Tout t = ap (λ x. cond x n 0) t
+    by QSize t = ap (λ x. cond x o 0) t
+word_kept reads words size f has = absurd (omega (arith, size))
+
+found_field : (fields : List Field) (slot : ℕ) → list_any (λ f. number_of f == slot) fields ≡ true
+    → (f : Field) × IsIn f fields × (number_of f ≡ slot)
+found_field [] slot e = absurd (false≢true e)
+found_field (f ∷ fields) slot e = by_test (number_of f == slot)
+    (λ t. let same : number_of f ≡ slot = grind (arith, nat_tests) in (f, inl refl, same))
+    (λ t. let more = found_field fields slot (rw t at e) in (more.0, inr more.1, more.2))
+
+module _ (q : TypedQuery) where
+  abbrev kept : List ℕ → List ℕ
+  kept words = zeroed (reads_of q) all_fields words
+
+  slot_kept : (words : List ℕ) (slot : ℕ) → length words ≡ 14 → is_slot_read q slot ≡ true
+      → slice_index (kept words) slot ≡ slice_index words slot
+  slot_kept words slot size e =
+      let f = found_field (read_fields q) slot e in
+      subst (λ k. slice_index (kept words) k ≡ slice_index words k) f.2
+      (word_kept (reads_of q) words size f.0 (in_set (read_fields q) f.0 f.1))
+
+  values_kept : (words slots : List ℕ) → length words ≡ 14 → list_all (is_slot_read q) slots ≡ true
+      → values_at (kept words) slots ≡ values_at words slots
+  values_kept words [] size e = refl
+  values_kept words (slot ∷ slots) size e =
+      let both = and_parts (is_slot_read q slot) (list_all (is_slot_read q) slots) e in
+      ap₂ (λ v vs. v ∷ vs) (slot_kept words slot size both.0) (values_kept words slots size both.1)
+
+  -- ---- so what the groupbys take stays
+
+  first_kept : (list : List TypedStream) (first : Row) (rows : List Row) → row_at (rows_from q.folds (first ∷ rows) list) 0 ≡ first
+  first_kept [] first rows = refl
+  first_kept (one ∷ list) first rows = first_kept list first (rows ++ row_made q.folds (first ∷ rows) one.op ∷ [])
+
+  same_tuples : (f g : List ℕ → Row) → ((words : List ℕ) → f words ≡ g words) → (n : ℕ) (packets : List (List ℕ))
+      → tuples f n packets ≡ tuples g n packets
+  same_tuples f g same n [] = refl
+  same_tuples f g same n (words ∷ packets) =
+      ap (λ o. tuple_of n o ++ tuples f (suc n) packets) (same words) ∙ ap (λ l. tuple_of n (g words) ++ l)
+      (same_tuples f g same (suc n) packets)
+
+  packets_stream : (packets : List (List ℕ)) → stream q 0 packets ≡ tuples (λ words. Some words) 1 packets
+  packets_stream packets =
+      stream_rows q 0 packets
+      ∙ same_tuples (λ words. row_at (all_rows q words) 0) (λ words. Some words) (λ words. first_kept q.streams (Some words) []) 1 packets
+
+  along : (t : Taking) → list_all (is_slot_read q) t.keys ≡ true → list_all (is_slot_read q) t.args ≡ true
+      → (n : ℕ) (packets : List (List ℕ))
+      → AreWhole packets → map (use_of t) (tuples (λ words. Some words) n (map kept packets)) ≡ map (use_of t)
+      (tuples (λ words. Some words) n packets)
+  along t keys args n [] whole = refl
+  along t keys args n (words ∷ packets) whole =
+      let size : length words ≡ 14 = All-head (λ (ws : List ℕ). length ws ≡ 14) words packets whole in
+      ap₂ (λ u us. u ∷ us)
+      (ap₂ (λ key row. record { packet = n; key = key; row = row }) (values_kept words t.keys size keys)
+      (values_kept words t.args size args))
+      (along t keys args (suc n) packets (All-tail (λ (ws : List ℕ). length ws ≡ 14) words packets whole))
+
+  taking_at : (list : List Taking) (i : ℕ) (t : Taking) → list_all (takes_packets q) list ≡ true → slice_get list i ≡ Some t
+      → takes_packets q t ≡ true
+  taking_at [] i t e found = absurd (nothing found)
+    where
+      nothing : None ≡ Some t → ⊥
+      nothing none = cc
+  taking_at (first ∷ list) zero t e found =
+      let same : first ≡ t = cc in
+      subst (λ one. takes_packets q one ≡ true) same (and_parts (takes_packets q first) (list_all (takes_packets q) list) e).0
+  taking_at (first ∷ list) (suc i) t e found = taking_at list i t (and_parts (takes_packets q first) (list_all (takes_packets q) list) e).1
+      found
+
+  uses_kept : is_plain q ≡ true → (i : ℕ) (packets : List (List ℕ)) → AreWhole packets → uses q i (map kept packets) ≡ uses q i packets
+  uses_kept all i packets whole = go (slice_get (takings q.streams) i) refl
+    where
+      go : (o : Option Taking) → slice_get (takings q.streams) i ≡ o → taken_by q (map kept packets) o ≡ taken_by q packets o
+      go None e = refl
+      go (Some t) e =
+          let takes = and_parts (t.input == 0) (list_all (is_slot_read q) t.keys && list_all (is_slot_read q) t.args)
+          (taking_at (takings q.streams) i t all e) in
+          let slots = and_parts (list_all (is_slot_read q) t.keys) (list_all (is_slot_read q) t.args) takes.1 in
+          let first : (t.input == 0) ≡ true = takes.0 in
+          let input : t.input ≡ 0 = grind (arith, nat_tests) in
+          ap (λ n. map (use_of t) (stream q n (map kept packets))) input
+          ∙ ap (map (use_of t)) (packets_stream (map kept packets))
+          ∙ along t slots.0 slots.1 1 packets whole
+          ∙ ap (map (use_of t)) (sym (packets_stream packets))
+          ∙ ap (λ n. map (use_of t) (stream q n packets)) (sym input)
+
+  -- ---- and what the query prints
+
+  tables_same : (g : Geometry) (a b : List (List ℕ)) → ((i : ℕ) → uses q i a ≡ uses q i b) → (i : ℕ) (shapes : List GroupShape)
+      → tables_from q g a i shapes ≡ tables_from q g b i shapes
+  tables_same g a b same i [] = refl
+  tables_same g a b same i (shape ∷ shapes) = ap₂ (λ x y. x ++ y) (go (fold_at q i)) (tables_same g a b same (suc i) shapes)
+    where
+      go : (o : Option TypedFold) → table_if q g a i shape o ≡ table_if q g b i shape o
+      go None = refl
+      go (Some f) = ap (λ given. group_table (heading_of shape) (folding_of f) g given ∷ []) (same i)
+
+  text_same : (g : Geometry) (a b : List (List ℕ)) → ((i : ℕ) → uses q i a ≡ uses q i b) → query_text q g a ≡ query_text q g b
+  unfolding query_text group_tables
+  text_same g a b same = ap (λ tables. printed q (with_finals q.names q.folds tables q.finals)) (tables_same g a b same 0 (query_groups q))
+
+  pub text_kept : is_plain q ≡ true → (g : Geometry) (packets : List (List ℕ)) → AreWhole packets
+      → query_text q g (map (zeroed (reads_of q) all_fields) packets) ≡ query_text q g packets
+  text_kept all g packets whole = text_same g (map kept packets) packets (λ i. uses_kept all i packets whole)

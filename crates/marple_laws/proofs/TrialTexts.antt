@@ -1,0 +1,46 @@
+-- The text of generated packets, read for the trial's query.
+use Rattle.std.proofs.Common.{◌≡◌, ℕ, List, [], ◌∷◌, length, map, None, refl, ap, ap₂, ◌∙◌, arith}
+use Rattle.std.proofs.lemmas.List.Elements.{All-nil, All-cons}
+use Rattle.marple_base.specs.Field.{all_fields}
+use Rattle.marple_base.specs.declared.field.FieldSet.{FieldSet}
+use Rattle.marple_base.specs.declared.field.Packet.{Packet}
+use Rattle.query_tables.specs.Tables.{query_text}
+use Rattle.queue_sim.specs.Generator.{simulated}
+use Rattle.queue_sim.specs.ReadBack.{ArePackets}
+use Rattle.queue_sim.specs.TraceText.{trace_text}
+use Rattle.queue_sim.proofs.ReadBackFacts.{texts_read_back_lem}
+use Rattle.stage_plan.specs.Fields.{reads_of}
+use Rattle.stage_plan.specs.Packets.{AreWhole}
+use Rattle.trace_drive.specs.Drives.{words_of}
+use Rattle.trace_reader.specs.Traces.{Contents, contents}
+use Rattle.marple_laws.specs.FewerFields.{zeroed, all_as_read}
+use Rattle.marple_laws.specs.TrialRuns.{TrialsRunOverTexts}
+use Rattle.marple_laws.proofs.ReadFewer.{whole, every, read_fewer}
+use Rattle.marple_laws.proofs.TraceSizes.{made_packets, made_many, text_fits}
+use Rattle.marple_laws.proofs.TrialSlots.{trial_is_plain, text_kept}
+
+words_as_read : (reads : FieldSet) (list : List Packet) → words_of (all_as_read reads list) ≡ map (zeroed reads all_fields) (words_of list)
+words_as_read reads [] = refl
+words_as_read reads (packet ∷ list) = ap (λ l. zeroed reads all_fields packet.words ∷ l) (words_as_read reads list)
+
+are_whole : (list : List Packet) → ArePackets list → AreWhole (words_of list)
+are_whole [] are = All-nil (λ (words : List ℕ). length words ≡ 14)
+are_whole (packet ∷ list) are = All-cons (λ (words : List ℕ). length words ≡ 14) packet.words (words_of list) are.0 (are_whole list are.2)
+
+pub run_over_texts : TrialsRunOverTexts
+run_over_texts q count start capacity e few =
+    let made : List Packet = simulated count start capacity in
+    let text : List ℕ = trace_text (simulated count start capacity) in
+    let are = made_packets start capacity count few in
+    let back = texts_read_back_lem made whole are every (omega (arith, made_many start capacity count few))
+    (text_fits start capacity count few) in
+    let all : contents text whole ≡ record { packets = made; fault = None } =
+    ap₂ (λ ps f. record { packets = ps; fault = f }) back.0 back.1 in
+    let fewer = read_fewer text (reads_of q) made all in
+    record {
+      accepted = ap (λ (c : Contents). c.fault) fewer;
+      written = λ g.
+          ap (λ (c : Contents). query_text q g (words_of c.packets)) fewer
+          ∙ ap (query_text q g) (words_as_read (reads_of q) made)
+          ∙ text_kept q (trial_is_plain q e) g (words_of made) (are_whole made are);
+    }

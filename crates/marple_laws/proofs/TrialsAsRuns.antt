@@ -1,0 +1,32 @@
+-- A trial writes what a run writes over the generated text.
+use Rattle.std.proofs.Common.{◌≡◌, ℕ, List, Ok, ap, sym, ◌∙◌}
+use Rattle.accepted_query.specs.Accepted.{accepted, fault_in}
+use Rattle.accepted_query.specs.TrialQuery.{trial_query}
+use Rattle.marple_base.specs.declared.field.Packet.{Packet}
+use Rattle.query_lang.specs.declared.typed.TypedQuery.{TypedQuery}
+use Rattle.query_lang.specs.Checks.{Checked}
+use Rattle.query_run.specs.Driven.{geometry_of}
+use Rattle.query_run.specs.Views.{NoViewsWithoutNumber}
+use Rattle.query_tables.specs.Tables.{query_text}
+use Rattle.queue_sim.specs.TraceText.{trace_text}
+use Rattle.trace_drive.specs.Drives.{words_of}
+use Rattle.marple_laws.specs.TrialRuns.{TrialsRunOverTexts}
+use Rattle.marple_cli.specs.Output.{fault_for, made_packets, read_packets, run_text, tables_text}
+use Rattle.marple_laws.specs.Trials.{TrialsAreRuns}
+
+pub trials_are_runs : TrialsRunOverTexts → NoViewsWithoutNumber → (q : TypedQuery) × (accepted trial_query ≡ Ok q) → TrialsAreRuns
+trials_are_runs runs alone typed generation setting query is text =
+    let q : TypedQuery = typed.0 in
+    let made : List Packet = made_packets generation in
+    let trace : List ℕ = trace_text (made_packets generation) in
+    let found : accepted query.text ≡ Ok q = ap accepted text ∙ typed.1 in
+    let over = runs q generation.packets generation.start 16 typed.1 is.packets_limit in
+    record {
+      query_accepted = ap fault_in found;
+      trace_accepted = ap (λ (r : Checked TypedQuery). fault_for r trace) found ∙ over.accepted;
+      written =
+          ap (λ (r : Checked TypedQuery). run_text setting 0 r (read_packets trace)) found
+          ∙ alone (query_text q (geometry_of setting)) (words_of (read_packets trace q))
+          ∙ over.written (geometry_of setting)
+          ∙ sym (ap (λ (r : Checked TypedQuery). tables_text setting r (λ one. made)) typed.1);
+    }
