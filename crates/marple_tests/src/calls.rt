@@ -13,7 +13,7 @@ use std::test::Fail;
 const RUN: &str = "run query trace";
 
 /// The realistic run, where nothing fails.
-const SOUND: Outside<'static> = Outside {
+pub const SOUND: Outside<'static> = Outside {
     query: QUERY,
     trace: TRACE,
     most: 4096,

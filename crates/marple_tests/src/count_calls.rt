@@ -3,6 +3,7 @@
 ghost use Rattle.std.specs.Prelude.{◌<◌};
 
 use crate::call::{Outside, called};
+use crate::calls::SOUND;
 use crate::sources::{COUNT, RUN, TABLE};
 use marple_base::{FailAt, Which};
 use marple_cli::Status;
@@ -52,6 +53,38 @@ fn an_output_with_place_for_ten_bytes_takes_ten(rt: HostRuntime) -> Result<(), F
     )?)
 }
 
+/// The count over packets from 1, 2 and 1, written in pieces of ten bytes.
+const IN_TENS: Outside<'static> = Outside {
+    trace: b"srcip\n1\n2\n1\n",
+    most: 10,
+    ..COUNT
+};
+
+#[test]
+fn a_second_write_that_fails_leaves_ten_bytes(rt: HostRuntime) -> Result<(), Fail> {
+    let alloc = rt.alloc();
+    let outside = Outside {
+        failing_writes: &[2],
+        ..IN_TENS
+    };
+    let complaint = b"marple: cannot write\n";
+    compare_call(
+        &rt,
+        alloc,
+        &outside,
+        Status::OutputFault,
+        b"table r li",
+        complaint,
+    )?;
+    let outside = Outside {
+        failing: &TRACE_READ,
+        ..IN_TENS
+    };
+    let status = Status::InputFault(Which::Trace);
+    let complaint = b"marple: cannot read the trace\n";
+    Ok(compare_call(&rt, alloc, &outside, status, b"", complaint)?)
+}
+
 // Calls the count, whose trace fails at its first read, with these writes of the complaint failing.
 fn compare_complaint(
     rt: &impl Abort,
@@ -79,9 +112,15 @@ fn a_trace_that_fails_writes_a_complaint_where_that_can_be_written(
     Ok(())
 }
 
-// Calls the count with this call of the query failing. The trace's first call is to fail too, and is the one after the
-// program's.
-fn compare_unopened(rt: &impl Abort, alloc: Global, call: u64) -> Result<(), AllocError> {
+// Runs a query whose call of this number fails. The trace's first call is to fail too, and is the one after the program's.
+fn compare_unopened(
+    rt: &impl Abort,
+    alloc: Global,
+    sound: Outside<'_>,
+    call: u64,
+) -> Result<(), AllocError>
+    requires { 0 < sound.most }
+{
     let failing = [
         FailAt {
             which: Which::Query,
@@ -94,7 +133,7 @@ fn compare_unopened(rt: &impl Abort, alloc: Global, call: u64) -> Result<(), All
     ];
     let outside = Outside {
         failing: &failing,
-        ..COUNT
+        ..sound
     };
     let told = called(alloc, RUN, &outside)?;
     assert_eq!(rt; told.status, Status::InputFault(Which::Query));
@@ -107,7 +146,8 @@ fn compare_unopened(rt: &impl Abort, alloc: Global, call: u64) -> Result<(), All
 fn the_trace_is_not_opened_where_the_query_cannot_be_read(rt: HostRuntime) -> Result<(), Fail> {
     // opening the query, a read of all its bytes, and a read of none
     for call in 1..4u64 {
-        compare_unopened(&rt, rt.alloc(), call)?;
+        compare_unopened(&rt, rt.alloc(), COUNT, call)?;
+        compare_unopened(&rt, rt.alloc(), SOUND, call)?;
     }
     Ok(())
 }

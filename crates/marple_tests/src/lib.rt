@@ -10,6 +10,8 @@ mod count;
 #[cfg(test)]
 mod count_calls;
 #[cfg(test)]
+mod final_counts;
+#[cfg(test)]
 mod left;
 #[cfg(test)]
 mod realistic;

@@ -3,7 +3,7 @@
 ghost use Rattle.std.specs.Prelude.{◌≡◌, ◌<◌};
 ghost use Rattle.query_lang.specs.TypedQueries.{IsValidQuery};
 
-use crate::fold_programs::{OUT_OF_SEQUENCE, TWO_STEPS, query_of, typed_of};
+use crate::fold_programs::{AVERAGE, OUT_OF_SEQUENCE, TWO_STEPS, query_of, typed_of};
 use fold_code::{FoldCode, compile};
 use marple_base::Steps;
 use query_lang::TypedQuery;
@@ -75,6 +75,9 @@ fn codes_run_as_their_statements_say(rt: HostRuntime) -> Result<(), Fail> {
             1 + (3 + 2) + (3 + 2) + (3 + 2),
         ),
         (OUT_OF_SEQUENCE, &[15, 7], &[16, 5], &[21, 8], 16),
+        (OUT_OF_SEQUENCE, &[15, 1], &[15, 5], &[20, 1], 16),
+        // 1 for the mask + an assignment of 5 nodes and 2: 8 - 8 / 8 + 8
+        (AVERAGE, &[8], &[8], &[15], 1 + (5 + 2)),
         // 1 for the mask + an assignment of 5 nodes and 2 of one node
         (
             TWO_STEPS,

@@ -120,6 +120,10 @@ const TWO_WAYS: Case = Case {
         // + 1 variable read + 1 product + 1 copied + 1 written, and two evictions, each of 2 words of the key and 3 of the
         // entry into the pipe + 1 for the bucket
         (Event::Sweep, 3 * ((2 + 3) + 4) + 2 * ((2 + 3) + 1)),
+        // a new key, and then an eviction and a merge by themselves
+        (Event::Packet(1, 100), 14 + 2 + 2 + 1 + 2 + 3 + 8),
+        (Event::Evict, (2 + 3) + 1),
+        (Event::Merge, (2 + 3) + 4),
     ],
 };
 
@@ -151,6 +155,8 @@ const COMPOSED: Case = Case {
         // 1 word of the key and 9 of the entry out of the pipe + 21 for the logged row + 2 variables read + 4 products
         // + 2 copied + 2 written + 1 of the history
         (Event::Merge, (1 + 9) + 21 + 2 + 4 + 2 + 2 + 1),
+        // 1 word of the key and 9 of the entry into the pipe + 1 for the bucket
+        (Event::Evict, (1 + 9) + 1),
     ],
 };
 
@@ -227,6 +233,10 @@ const MOVED_MAXIMA: Case = Case {
         ),
         // it is there: 14 registers + 1 word of the key + 1 argument + 1 hashed + 1 compared + 1 way + 9 for the row
         (Event::Packet(1, 4), 14 + 1 + 1 + 1 + 1 + 1 + 9),
+        // 1 word of the key and 5 of the entry into the pipe + 1 for the bucket
+        (Event::Evict, (1 + 5) + 1),
+        // 1 word of the key and 5 of the entry out of the pipe + 1 variable read + 1 product + 1 copied + 1 written
+        (Event::Merge, (1 + 5) + 1 + 1 + 1 + 1),
     ],
 };
 

@@ -13,6 +13,8 @@ mod counts;
 #[cfg(test)]
 mod direct;
 #[cfg(test)]
+mod enclosed_rows;
+#[cfg(test)]
 mod entries;
 #[cfg(test)]
 mod fold_programs;
