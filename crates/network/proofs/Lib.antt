@@ -8,3 +8,4 @@ pub mod EventLists
 pub mod Representing
 pub mod EventFronts
 pub mod Ends
+pub mod Exact

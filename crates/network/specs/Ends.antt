@@ -1,17 +1,23 @@
 -- What the tables of a drained network are.
-use Rattle.std.specs.Prelude.{◌≡◌, ℕ, None, List, [], ◌∷◌, ◌++◌}
+use Rattle.std.specs.Prelude.{◌≡◌, ℕ, None, Some, List, [], ◌∷◌, ◌++◌, length, slice_get, slice_index, true}
+use Rattle.std.specs.List.{list_all}
+use Rattle.query_lang.specs.declared.fold.TypedFold.{TypedFold}
 use Rattle.query_lang.specs.declared.typed.TypedQuery.{TypedQuery}
 use Rattle.query_lang.specs.TypedQueries.{IsValidQuery}
+use Rattle.fold_class.specs.Program.{IsProgramOf}
+use Rattle.epoch_model.specs.Driving.{Taken}
 use Rattle.epoch_model.specs.Keys.{ArgRow, Key}
+use Rattle.stage_plan.specs.declared.group.GroupPlan.{GroupPlan}
 use Rattle.stage_plan.specs.Packets.{AreWhole}
-use Rattle.stage_plan.specs.Planned.{IsPlanOf}
+use Rattle.stage_plan.specs.Planned.{IsPlanOf, taken}
 use Rattle.stage_plan.specs.Sound.{PlanParts}
 use Rattle.net_wide.specs.Combining.{net_fault}
 use Rattle.net_wide.specs.NetLaws.{TellsSwitches}
 use Rattle.net_wide.specs.NetTables.{caches_of, switch_in}
 use Rattle.net_wide.specs.NetEnds.{AreNumbered, closed_pieces}
+use Rattle.network.specs.Groups.{group_is_drained}
 use Rattle.network.specs.Networks.{NetworkView}
-use Rattle.network.specs.Running.{Evicts, Merges, NetworkEvent, Takes, all_given}
+use Rattle.network.specs.Running.{Evicts, Merges, NetworkEvent, NetworkStands, Takes, all_given}
 
 -- the packets that were taken, in order
 abbrev pub packets_taken : List NetworkEvent → List (List ℕ)
@@ -56,3 +62,23 @@ pub record EvictsLast (events : List NetworkEvent) : Type 0 where
   pub parts : events ≡ first ++ rest
   pub before : NoEviction first
   pub after : packets_taken rest ≡ []
+
+-- Of these events those that take packets of the switch with this word take them at this switch.
+abbrev pub AreTakenAt : ℕ → ℕ → List NetworkEvent → Type 0
+AreTakenAt at word [] = Unit {0}
+AreTakenAt at word (Takes switch words ∷ events) = (switch_in words ≡ word → switch ≡ at) × AreTakenAt at word events
+AreTakenAt at word (Evicts switch lane bucket ∷ events) = AreTakenAt at word events
+AreTakenAt at word (Merges switch lane ∷ events) = AreTakenAt at word events
+
+-- at this place the groupby's keys have the switch of the packet that they are taken from
+abbrev pub IsSwitchPlace : PlanParts → ℕ → ℕ → Type 0
+IsSwitchPlace plan n j = (words : List ℕ) (t : Taken) → length words ≡ 14 → taken plan n words ≡ Some t
+    → slice_index t.key j ≡ switch_in words
+
+-- A drained network represents these events, and this is the fold of its groupby with this number.
+pub record IsDrainedWith (ways : ℕ) (net : NetworkView) (n : ℕ) (f : TypedFold) (events : List NetworkEvent) : Type 0 where
+  pub part : GroupPlan
+  pub there : slice_get net.plan.groups n ≡ Some part
+  pub program : IsProgramOf f part.program
+  pub stands : NetworkStands ways net events
+  pub drained : list_all group_is_drained net.groups ≡ true

@@ -1,22 +1,33 @@
 //! A plan over several switches: a call for each event of a switch, and two that make the events that a trace needs.
 
 ghost use Rattle.std.specs.Prelude.{◌≡◌, ◌+◌, ◌*◌, ◌==◌, ◌<◌, ◌≤◌, ◌↔◌, ℕ, List, [], Ok, true, not};
-ghost use Rattle.std.specs.Prelude.{length, if◌then◌else◌, IfOk, OnOk, OnErr};
+ghost use Rattle.std.specs.Prelude.{length, filter, map, slice_get, slice_index, if◌then◌else◌, IfOk, OnOk, OnErr, Some};
 ghost use Rattle.std.specs.List.{list_all};
 ghost use Rattle.bucket_cache.specs.Caches.{list_at};
-ghost use Rattle.epoch_model.specs.Machine.{Epoch};
+ghost use Rattle.epoch_model.specs.Keys.{Key, ascending, has};
+ghost use Rattle.epoch_model.specs.Laws.{rows_given};
+ghost use Rattle.epoch_model.specs.Machine.{Epoch, lists_of};
+ghost use Rattle.epoch_model.specs.TableLaws.{keys_given};
+ghost use Rattle.epoch_model.specs.Tables.{closed_key_rows, exact_row};
+ghost use Rattle.epoch_entry.specs.Foldings.{folding_of};
+ghost use Rattle.final_queries.specs.Finals.{is_of_key};
+ghost use Rattle.additive_laws.specs.Laws.{IsAdditiveFrom};
+ghost use Rattle.additive_laws.specs.Network.{all_epochs, all_events, machine_at};
+ghost use Rattle.stage_plan.specs.Packets.{AreWhole};
 ghost use Rattle.stage_plan.specs.Planned.{plan_bound};
 ghost use Rattle.switch_core.specs.Costs.{evict_cost};
 ghost use Rattle.switch_core.specs.PlanLanes.{lane_merge_cost};
+ghost use Rattle.query_lang.specs.Folds.{initial_state};
+ghost use Rattle.query_lang.specs.declared.fold.TypedFold.{TypedFold};
 ghost use Rattle.query_lang.specs.declared.typed.TypedQuery.{TypedQuery};
 ghost use Rattle.net_wide.specs.NetTables.{caches_of, net_tables, tables_of_pieces};
-ghost use Rattle.network.specs.Ends.{CombineOver, EvictsLast, packets_taken, pieces_closed};
+ghost use Rattle.network.specs.Ends.{AreTakenAt, CombineOver, EvictsLast, IsDrainedWith, IsSwitchPlace, packets_taken, pieces_closed};
 ghost use Rattle.network.specs.Groups.{StoresHold, group_is_drained, shared_tables};
 ghost use Rattle.network.specs.Events.{AreAllMerged, AtFront, AtGroup, OthersStay, StoresStay, is_ready_at};
 ghost use Rattle.network.specs.Costs.{AtSwitchLane, group_merge_cost};
 ghost use Rattle.network.specs.Networks.{IsNetwork, NetworkGrows, network_cost, turn_cost};
 ghost use Rattle.network.specs.Running.{Evicts, Merges, MergingBreaksOff, NetworkEvent, NetworkMakes, NetworkRuns, NetworkStands};
-ghost use Rattle.network.specs.Running.{RunBreaksOff, RunsWithMerges, Takes, all_evictions, turn_events};
+ghost use Rattle.network.specs.Running.{RunBreaksOff, RunsWithMerges, Takes, all_evictions, all_given, merged_after, turn_events};
 
 use crate::draining::drain_all;
 use crate::group::Group;
@@ -322,7 +333,8 @@ impl<const WAYS: usize> Network<WAYS> {
     /// The tables of the merged epochs, one for each groupby in order. Where the network is drained, and whatever packets,
     /// evictions and merges came in whatever order, they are the tables of the query over the packets that were taken, with
     /// the pieces of each key that the switches closed; and where no eviction was called for before the last packet, those
-    /// of the definition.
+    /// of the definition. With an additive fold the state of each key is over all its rows; and a key that has the switch in
+    /// it has the rows of that switch's machine. These two ask for no query.
     pub fn close(&self) -> Result<Seq<Table>, AllocError>
         ensures held { IfOk result (λ tables. (epochs : List (List Epoch)) → StoresHold self.now.groups epochs
             → tables ≡ shared_tables self.now.plan.groups self.now.groups epochs) }
@@ -334,6 +346,19 @@ impl<const WAYS: usize> Network<WAYS> {
             → CombineOver q self.now.plan number events → NetworkStands WAYS self.now events
             → list_all group_is_drained self.now.groups ≡ true → EvictsLast events
             → tables ≡ net_tables q (caches_of self.now.buckets WAYS) (packets_taken events)) }
+        ensures additive { IfOk result (λ tables. (n : ℕ) (f : TypedFold) (table : Table) (events : List NetworkEvent)
+            → IsDrainedWith WAYS self.now n f events → slice_get tables n ≡ Some table → IsAdditiveFrom f (initial_state f)
+            → let given = all_given self.now.plan n events in
+            let merged = all_epochs (merged_after WAYS self.now.buckets [] given) in
+            table.rows ≡ map (λ key. exact_row (folding_of f) key (length (lists_of key merged)) (rows_given key (all_events given)))
+            (ascending (keys_given (all_events given)))) }
+        ensures own { IfOk result (λ tables. (n j at : ℕ) (f : TypedFold) (table : Table) (key : Key) (events : List NetworkEvent)
+            → IsDrainedWith WAYS self.now n f events → slice_get tables n ≡ Some table → AreWhole (packets_taken events)
+            → IsSwitchPlace self.now.plan n j → AreTakenAt at (slice_index key j) events
+            → let given = all_given self.now.plan n events in
+            has key (keys_given (all_events given)) ≡ true
+            → filter (is_of_key key) table.rows
+            ≡ closed_key_rows (folding_of f) (machine_at (caches_of self.now.buckets WAYS) at given).closed key) }
     {
         alike_foldings_make_one_table();
         merged_make_the_table();

@@ -1,15 +1,28 @@
-use Rattle.std.proofs.Common.{◌≡◌, ℕ, true, List, Result, Ok, Err, sym, subst, lit<}
-use Rattle.std.specs.Prelude.{IfOk}
+use Rattle.std.proofs.Common.{◌≡◌, ℕ, true, [], List, Result, Ok, Err, Some, length, sym, subst, lit<}
+use Rattle.std.specs.Prelude.{IfOk, filter, map, slice_get, slice_index}
 use Rattle.std.specs.List.{list_all}
 use Rattle.query_lang.specs.declared.typed.TypedQuery.{TypedQuery}
-use Rattle.epoch_model.specs.Machine.{Epoch}
+use Rattle.query_lang.specs.Folds.{initial_state}
+use Rattle.query_lang.specs.declared.fold.TypedFold.{TypedFold}
+use Rattle.epoch_model.specs.Keys.{Key, ascending, has}
+use Rattle.epoch_model.specs.Laws.{rows_given}
+use Rattle.epoch_model.specs.Machine.{Epoch, lists_of}
+use Rattle.epoch_model.specs.TableLaws.{keys_given}
+use Rattle.epoch_model.specs.Tables.{closed_key_rows, exact_row}
+use Rattle.epoch_entry.specs.Foldings.{folding_of}
+use Rattle.final_queries.specs.Finals.{is_of_key}
+use Rattle.final_queries.specs.declared.table.Table.{Table}
+use Rattle.additive_laws.specs.Laws.{IsAdditiveFrom}
+use Rattle.additive_laws.specs.Network.{all_epochs, all_events, machine_at}
+use Rattle.stage_plan.specs.Packets.{AreWhole}
 use Rattle.stage_plan.specs.declared.group.GroupPlan.{GroupPlan}
 use Rattle.net_wide.specs.NetTables.{caches_of, net_tables, tables_of_pieces}
-use Rattle.network.specs.Ends.{CombineOver, EvictsLast, packets_taken, pieces_closed}
+use Rattle.network.specs.Ends.{AreTakenAt, CombineOver, EvictsLast, IsDrainedWith, IsSwitchPlace, packets_taken, pieces_closed}
 use Rattle.network.specs.Groups.{AreGroups, GroupView, StoresHold, group_is_drained, shared_tables}
 use Rattle.network.specs.Networks.{IsNetwork, NetworkView}
-use Rattle.network.specs.Running.{NetworkEvent, NetworkStands}
+use Rattle.network.specs.Running.{NetworkEvent, NetworkStands, all_given, merged_after}
 use Rattle.network.proofs.Ends.{tables_closed, tables_defined}
+use Rattle.network.proofs.Exact.{additive_rows, own_rows_are}
 use Rattle.network.proofs.network.Network.close.Goals as goal
 
 pub group_tables-requires : goal.group_tables-requires
@@ -26,6 +39,11 @@ returns-clause-held g c =
     subst (λ (v : NetworkView). closed v.plan.groups v.groups) c.self.view_is
     (subst (closed p.plan.groups) c.deref.ensures.value c.group_tables.ensures)
 
+-- what is known of the tables
+abbrev AreHeld : NetworkView → List Table → Type 0
+AreHeld net tables =
+    (epochs : List (List Epoch)) → StoresHold net.groups epochs → tables ≡ shared_tables net.plan.groups net.groups epochs
+
 if_ok_map : {X E : Type 0} (P Q : X → Type 0) (r : Result X E) → ((x : X) → P x → Q x) → IfOk r P → IfOk r Q
 if_ok_map P Q (Ok x) h p = h x p
 if_ok_map P Q (Err e) h p = tt
@@ -35,8 +53,7 @@ returns-clause-pieces g c =
     let ways = g.row.WAYS in
     let net = c.args.self.now in
     let is = subst (IsNetwork ways) c.self.view_is c.self.invariant.0 in
-    if_ok_map (λ tables. (epochs : List (List Epoch)) → StoresHold net.groups epochs
-    → tables ≡ shared_tables net.plan.groups net.groups epochs)
+    if_ok_map (AreHeld net)
     (λ tables. (q : TypedQuery) (number : ℕ → ℕ) (events : List NetworkEvent) → CombineOver q net.plan number events
     → NetworkStands ways net events → list_all group_is_drained net.groups ≡ true
     → tables ≡ tables_of_pieces q (packets_taken events) (pieces_closed number ways net events)) c.group_tables.result
@@ -50,8 +67,7 @@ returns-clause-defined g c =
     let ways = g.row.WAYS in
     let net = c.args.self.now in
     let is = subst (IsNetwork ways) c.self.view_is c.self.invariant.0 in
-    if_ok_map (λ tables. (epochs : List (List Epoch)) → StoresHold net.groups epochs
-    → tables ≡ shared_tables net.plan.groups net.groups epochs)
+    if_ok_map (AreHeld net)
     (λ tables. (q : TypedQuery) (number : ℕ → ℕ) (events : List NetworkEvent) → CombineOver q net.plan number events
     → NetworkStands ways net events → list_all group_is_drained net.groups ≡ true
     → EvictsLast events → tables ≡ net_tables q (caches_of net.buckets ways) (packets_taken events)) c.group_tables.result
@@ -60,4 +76,36 @@ returns-clause-defined g c =
     c.pieces_are_the_epochs.ensures last tables
     (tables_closed c.alike_foldings_make_one_table.ensures c.merged_make_the_table.ensures ways net q number events is over stands drained
     tables held))
+    (returns-clause-held g c)
+
+pub returns-clause-additive : goal.returns-clause-additive
+returns-clause-additive g c =
+    let ways = g.row.WAYS in
+    let net = c.args.self.now in
+    let is = subst (IsNetwork ways) c.self.view_is c.self.invariant.0 in
+    if_ok_map (AreHeld net)
+    (λ tables. (n : ℕ) (f : TypedFold) (table : Table) (events : List NetworkEvent) → IsDrainedWith ways net n f events
+    → slice_get tables n ≡ Some table → IsAdditiveFrom f (initial_state f)
+    → let given = all_given net.plan n events in let merged = all_epochs (merged_after ways net.buckets [] given) in
+    table.rows ≡ map (λ key. exact_row (folding_of f) key (length (lists_of key merged)) (rows_given key (all_events given)))
+    (ascending (keys_given (all_events given)))) c.group_tables.result
+    (λ tables held n f table events d there a. additive_rows c.alike_foldings_make_one_table.ensures ways net n f events is d tables table
+    held there a)
+    (returns-clause-held g c)
+
+pub returns-clause-own : goal.returns-clause-own
+returns-clause-own g c =
+    let ways = g.row.WAYS in
+    let net = c.args.self.now in
+    let is = subst (IsNetwork ways) c.self.view_is c.self.invariant.0 in
+    if_ok_map (AreHeld net)
+    (λ tables. (n j at : ℕ) (f : TypedFold) (table : Table) (key : Key) (events : List NetworkEvent) → IsDrainedWith ways net n f events
+    → slice_get tables n ≡ Some table → AreWhole (packets_taken events)
+    → IsSwitchPlace net.plan n j → AreTakenAt at (slice_index key j) events
+    → let given = all_given net.plan n events in has key (keys_given (all_events given)) ≡ true
+    → filter (is_of_key key) table.rows ≡ closed_key_rows (folding_of f) (machine_at (caches_of net.buckets ways) at given).closed key)
+    c.group_tables.result
+    (λ tables held n j at f table key events d there whole place theirs is_given.
+    own_rows_are c.alike_foldings_make_one_table.ensures ways net n f events is d tables table held there j at key whole place theirs
+    is_given)
     (returns-clause-held g c)
