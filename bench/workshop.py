@@ -11,7 +11,7 @@ from pathlib import Path
 from measure import BenchError, Command, Race
 
 TOP = Path(__file__).resolve().parent.parent
-sys.path.append(str(TOP))
+sys.path.append(str(TOP / "tools"))
 
 from building.crates import Crate, Unreadable, needed, read_crates
 from building.estimate import read_costs
@@ -28,7 +28,7 @@ def marple_program() -> str:
     """The program under test: $MARPLE, or the proved one of the repository, which must be that of its sources."""
     if named := os.environ.get("MARPLE"):
         return str(Path(named).resolve()) if "/" in named else named
-    words = 'top=$1; . "$1/building/proved.sh"; is_proved && echo "$program"'
+    words = 'top=$1; . "$1/tools/building/proved.sh"; is_proved && echo "$program"'
     asked = subprocess.run(["sh", "-c", words, "sh", TOP], stdout=subprocess.PIPE, text=True, check=False)
     if asked.returncode != 0:
         raise BenchError("the program isn't proved, or its sources are newer: ./build proves it")

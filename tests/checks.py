@@ -22,7 +22,7 @@ from typing import NoReturn
 
 sys.dont_write_bytecode = True
 TOP = Path(__file__).resolve().parent.parent
-sys.path.insert(0, str(TOP))
+sys.path.insert(0, str(TOP / "tools"))
 
 from building.signals import STOPPING, Interrupted, stop_on_signals
 

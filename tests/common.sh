@@ -46,8 +46,8 @@ need_program() {
 # be that of its sources.
 need_proved_program() {
     if [ -z "${MARPLE:-}" ]; then
-        # shellcheck source=building/proved.sh
-        . "$top/building/proved.sh"
+        # shellcheck source=tools/building/proved.sh
+        . "$top/tools/building/proved.sh"
         if ! is_proved; then
             echo "$0: the program isn't proved, or its sources are newer: ./build proves it" >&2
             exit 1

@@ -19,7 +19,7 @@ if [ "$1" = plan ]; then
 fi
 echo "program with $*"
 """
-FOLDERS = ("building", "completions", "docs", "examples", "python", "query_help")
+FOLDERS = ("completions", "docs", "examples", "python", "query_help", "tools")
 FILES = ("install", "package", "explain", "README.md", "CHANGES.md", "VERSION")
 
 

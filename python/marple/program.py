@@ -85,7 +85,7 @@ def _home_program() -> str:
 
 def is_proved(top: Path) -> bool:
     """Whether the checkout has a program that is proved of its sources, as the checkout itself says."""
-    asked = top / "building" / "is-proved"
+    asked = top / "tools" / "building" / "is-proved"
     return asked.is_file() and subprocess.run([asked], stdin=subprocess.DEVNULL, check=False).returncode == 0
 
 

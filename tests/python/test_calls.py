@@ -180,7 +180,7 @@ class TheProgram(unittest.TestCase):
         top = Path(self.folder.path("top"))
         self.built = top / "crates" / "marple" / "out" / "marple"
         self.installed = top / "bin" / "marple"
-        self.asked = top / "building" / "is-proved"
+        self.asked = top / "tools" / "building" / "is-proved"
         for program_file in (self.built, self.installed, self.asked):
             program_file.parent.mkdir(parents=True)
         for patch in (

@@ -233,7 +233,7 @@ class Programs(Case):
 
     def test_are_looked_for_once(self):
         top = Path(self.folder.path("top"))
-        built, asked = top / "crates" / "marple" / "out" / "marple", top / "building" / "is-proved"
+        built, asked = top / "crates" / "marple" / "out" / "marple", top / "tools" / "building" / "is-proved"
         for path, text in ((built, LINES), (asked, b"#!/bin/sh\necho asked >>\"$0.log\"\n")):
             path.parent.mkdir(parents=True)
             path.write_bytes(text)

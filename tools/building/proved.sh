@@ -23,7 +23,7 @@ is_proved() {
     fi
     # in a folder of somebody else nothing is kept
     { list_files >"$seen.$$"; } 2>/dev/null
-    if (cd "$top" && exec python3 -B -m building.proved .); then
+    if (cd "$top/tools" && exec python3 -B -m building.proved ..); then
         mv "$seen.$$" "$seen" 2>/dev/null || rm -f "$seen.$$"
         return 0
     fi

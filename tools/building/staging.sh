@@ -35,7 +35,7 @@ stage_files() {
 # Puts the page $1 of the repository at $2 below the stage, with the commands of the installed programs.
 stage_page() {
     mkdir -p "$room/stage/${2%/*}" || fail "cannot make ${2%/*}"
-    sed -E -f "$top/building/installed.sed" "$top/$1" >"$room/stage/$2" || fail "cannot copy $1"
+    sed -E -f "$top/tools/building/installed.sed" "$top/$1" >"$room/stage/$2" || fail "cannot copy $1"
 }
 
 # Puts a command $1 into bin, which starts the script $2 of share/marple.
