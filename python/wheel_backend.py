@@ -53,7 +53,7 @@ def sources() -> dict:
     for path in (TOP / "examples" / "cookbook").glob("*.query"):
         files[f"marple/report/cookbook/{path.name}"] = path.read_bytes()
     files.update(capture_scripts())
-    for path in (TOP / "query_help").glob("*.py"):
+    for path in (TOP / "tools" / "query_help").glob("*.py"):
         files[f"marple/explain/query_help/{path.name}"] = path.read_bytes()
     for name in PAGES:
         files[f"marple/explain/docs/{name}"] = (TOP / "docs" / name).read_bytes()

@@ -24,7 +24,7 @@ def page_text(name: str) -> str:
 
 def explainer() -> Optional[ModuleType]:
     """The module that puts refusals of queries into words, or None where it isn't there."""
-    folder = next((one for one in (BUNDLED, CHECKOUT) if (one / "query_help" / "__init__.py").is_file()), None)
+    folder = next((one for one in (BUNDLED, CHECKOUT / "tools") if (one / "query_help" / "__init__.py").is_file()), None)
     if folder is None:
         return None
     sys.path.insert(0, str(folder))

@@ -148,7 +148,7 @@ class TheWheel(unittest.TestCase):
 
 def copied_checkout(top: Path) -> Path:
     """A copy of what the wheel is made from, with a program that was built."""
-    for name in ("python", "query_help", "docs", "examples", "tools"):
+    for name in ("python", "docs", "examples", "tools"):
         shutil.copytree(TOP / name, top / name, ignore=shutil.ignore_patterns("__pycache__"))
     shutil.copy(TOP / "VERSION", top / "VERSION")
     (top / "crates.txt").write_text("marple:\n")

@@ -54,7 +54,7 @@ stage_programs() {
     # explain looks for marple and for the remedies beside itself
     stage explain share/marple/explain 755
     stage_link ../../bin/marple share/marple/marple
-    stage_files query_help share/marple/query_help '*.py'
+    stage_files tools/query_help share/marple/query_help '*.py'
     stage_page docs/LANGUAGE.md share/marple/docs/LANGUAGE.md
     stage_command marple-explain explain
     stage_files examples/captures share/marple/captures 'trace-from-*' '*.pcap' '*.csv' '*.txt'
