@@ -19,7 +19,7 @@ if [ "$1" = plan ]; then
 fi
 echo "program with $*"
 """
-FOLDERS = ("completions", "docs", "examples", "python", "tools")
+FOLDERS = ("docs", "examples", "python", "tools")
 FILES = ("install", "package", "explain", "README.md", "CHANGES.md", "VERSION")
 
 

@@ -126,14 +126,14 @@ stage_pages() {
 
 # Puts the manual page of each command that is in bin, and the completions of each.
 stage_manuals() {
-    stage completions/marple.bash share/bash-completion/completions/marple 644
-    stage completions/_marple share/zsh/site-functions/_marple 644
+    stage tools/completions/marple.bash share/bash-completion/completions/marple 644
+    stage tools/completions/_marple share/zsh/site-functions/_marple 644
     mkdir -p "$room/stage/share/man/man1" || fail "cannot make share/man/man1"
     for command in "$room/stage/bin"/*; do
         command=${command##*/}
         page=$room/stage/share/man/man1/$command.1
         [ ! -e "$top/docs/$command.1" ] || sed "s/@VERSION@/$version/" "$top/docs/$command.1" >"$page" || fail "cannot write $page"
-        if [ "$command" != marple ] && grep -q "^complete -F [a-z_]* $command\$" "$top/completions/marple.bash"; then
+        if [ "$command" != marple ] && grep -q "^complete -F [a-z_]* $command\$" "$top/tools/completions/marple.bash"; then
             stage_link marple "share/bash-completion/completions/$command"
         fi
     done
