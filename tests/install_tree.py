@@ -1,4 +1,4 @@
-"""A copy of what is installed, with a program that stands in for the proved one, for the tests of ./install and ./package."""
+"""A copy of what is installed, with a program that stands in for the proved one, for the tests of ./install and tools/package."""
 
 from __future__ import annotations
 
@@ -20,7 +20,7 @@ fi
 echo "program with $*"
 """
 FOLDERS = ("docs", "examples", "python", "tools")
-FILES = ("install", "package", "explain", "README.md", "CHANGES.md", "VERSION")
+FILES = ("install", "explain", "README.md", "CHANGES.md", "VERSION")
 
 
 def below(folder: Path) -> dict[str, bytes]:

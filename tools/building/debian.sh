@@ -1,4 +1,4 @@
-# What only a Debian package has, for ./package, which reads this with $version, $maintainer, $epoch and the folder $room.
+# What only a Debian package has, for tools/package, which reads this with $version, $maintainer, $epoch and the folder $room.
 # shellcheck shell=sh
 : "${room:?}" "${version:?}" "${maintainer:?}" "${epoch:?}"
 
