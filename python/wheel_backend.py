@@ -62,7 +62,7 @@ def sources() -> dict:
 
 def capture_scripts() -> dict:
     """The scripts that make traces of captures, by their names in the wheel."""
-    folder = TOP / "examples" / "captures"
+    folder = TOP / "tools" / "captures"
     paths = [*folder.glob("trace-from-capture*"), *folder.glob("marple_captures/*.py")]
     return {f"marple/report/captures/{path.relative_to(folder)}": path.read_bytes() for path in paths}
 

@@ -11,7 +11,8 @@ from pathlib import Path
 
 HERE = Path(__file__).resolve().parent
 TOP = HERE.parent.parent
-SCRIPTS = TOP / "examples" / "captures"
+SCRIPTS = TOP / "tools" / "captures"
+EXAMPLES = TOP / "examples" / "captures"
 MARPLE = os.environ.get("MARPLE", str(TOP / "marple"))
 WAITING = 100_000
 # Writes the most memory that a command takes, or 0 where it fails. A process counts what the one that started it had, so that
@@ -62,7 +63,7 @@ def dropped(path: Path) -> int:
 
 def example(name: str, words: list[str]) -> subprocess.CompletedProcess[str]:
     """Runs a script on the captures of the examples."""
-    return script(name, words, SCRIPTS, "examples")
+    return script(name, words, EXAMPLES, "examples")
 
 
 def columns(text: str, number: int) -> list[str]:
@@ -73,13 +74,13 @@ def columns(text: str, number: int) -> list[str]:
 def check_examples(tally, room: Path) -> None:
     """The captures of the examples: their traces, and what each option changes in them."""
     both = ["before.pcap", "after.pcap"]
-    right = (SCRIPTS / "queue.csv").read_text()
+    right = (EXAMPLES / "queue.csv").read_text()
     done = example("trace-from-captures", both)
     tally.same(done.stdout, right, "the trace of two captures")
     date = "time 0 is 2026-11-27 14:28:42 UTC, second 1795789722 of 1970"
     said = ["818 packets came, 591 left, 227 never did", date]
     tally.same(done.stderr, "".join(f"trace-from-captures: {line}\n" for line in said), "its counts and time 0")
-    lost = dropped(SCRIPTS / "qdisc.txt")
+    lost = dropped(EXAMPLES / "qdisc.txt")
     tally.check(0 < lost == right.count(",inf,"), "the loss against the count of the queue")
     done = example("trace-from-captures", ["--switch", "7", "--queue", "2", *both])
     tally.same(re.sub("(?m)^7,2,", "1,0,", done.stdout), right, "the options for switch and queue")
@@ -105,7 +106,7 @@ def check_single(tally, right: str) -> None:
     said = "".join(f"trace-from-capture: {line}\n" for line in ("818 packets were read", date))
     tally.same(done.stderr, said, "its count and time 0")
     done = example("trace-from-capture", ["mixed.pcap"])
-    mixed = (SCRIPTS / "mixed.csv").read_text()
+    mixed = (EXAMPLES / "mixed.csv").read_text()
     tally.same(done.stdout, mixed, "the trace of mixed packets")
     tally.check("trace-from-capture: 10 packets without IPv4 were passed over\n" in done.stderr, "their count")
     done = example("trace-from-captures", ["--both-directions", "mixed.pcap", "mixed.pcap"])
@@ -149,7 +150,7 @@ def check_without_tshark(tally, room: Path, name: str, words: list[str]) -> None
     (tools / "python3").unlink(missing_ok=True)
     (tools / "python3").symlink_to(sys.executable)
     words = [sys.executable, str(SCRIPTS / name), *words]
-    done = subprocess.run(words, cwd=SCRIPTS, env={"PATH": str(tools)}, text=True, capture_output=True)
+    done = subprocess.run(words, cwd=EXAMPLES, env={"PATH": str(tools)}, text=True, capture_output=True)
     wanted = f"{name}: needs tshark (on Debian and Ubuntu: apt-get install tshark)\n"
     tally.same((done.returncode, done.stderr), (1, wanted), "without tshark")
 
@@ -161,7 +162,7 @@ def check_elsewhere(tally, room: Path, name: str, words: list[str]) -> None:
     (prefix / "bin").mkdir(parents=True)
     shutil.copy(SCRIPTS / name, prefix / "bin" / f"marple-{name}")
     shutil.copytree(SCRIPTS / "marple_captures", prefix / "share" / "marple" / "marple_captures")
-    there = run([str(prefix / "bin" / f"marple-{name}"), *words], SCRIPTS, Path(ENVIRONMENT["KEPT"]) / "examples")
+    there = run([str(prefix / "bin" / f"marple-{name}"), *words], EXAMPLES, Path(ENVIRONMENT["KEPT"]) / "examples")
     here = example(name, words)
     tally.same((there.returncode, there.stdout), (0, here.stdout), name, "in another place")
     tally.same(there.stderr, here.stderr.replace(name, f"marple-{name}"), name, "under another name")
@@ -172,7 +173,7 @@ def check_progress(tally) -> None:
     reader, terminal = pty.openpty()
     words = [str(SCRIPTS / "trace-from-captures"), "before.pcap", "after.pcap"]
     environment = ENVIRONMENT | {"MARPLE_KEPT": f"{ENVIRONMENT['KEPT']}/examples"}
-    with subprocess.Popen(words, cwd=SCRIPTS, env=environment, stdout=subprocess.DEVNULL, stderr=terminal) as process:
+    with subprocess.Popen(words, cwd=EXAMPLES, env=environment, stdout=subprocess.DEVNULL, stderr=terminal) as process:
         process.wait()
     os.close(terminal)
     shown = os.read(reader, 65536).decode()

@@ -71,7 +71,7 @@ def check_scripts(tally, room: Path) -> None:
     calls = room / "calls-tshark"
     environment = os.environ | {"PATH": f"{tools}:{os.environ['PATH']}", "MARPLE_CALLS": str(calls), "TMPDIR": str(folder)}
     words = [str(commands.SCRIPTS / "trace-from-captures"), "before.pcap", "after.pcap"]
-    with subprocess.Popen(words, cwd=commands.SCRIPTS, env=environment, stdout=subprocess.DEVNULL) as process:
+    with subprocess.Popen(words, cwd=commands.EXAMPLES, env=environment, stdout=subprocess.DEVNULL) as process:
         started = wait_for(lambda: calls.exists() and len(calls.read_text().split()) == 2)
         process.send_signal(signal.SIGTERM)
         process.wait()

@@ -26,12 +26,12 @@ def check_pipes(tally, room: Path) -> None:
     writers = []
     for name in ("before", "after"):
         os.mkfifo(folder / f"{name}.pcap")
-        writers.append(subprocess.Popen(["sh", "-c", f'cat "$1/{name}.pcap" >"$2/{name}.pcap"', "sh", commands.SCRIPTS, folder]))
+        writers.append(subprocess.Popen(["sh", "-c", f'cat "$1/{name}.pcap" >"$2/{name}.pcap"', "sh", commands.EXAMPLES, folder]))
     done = commands.script("trace-from-captures", ["before.pcap", "after.pcap"], folder, "examples")
     for writer in writers:
         writer.kill()
         writer.wait()
-    tally.same((done.returncode, done.stdout), (0, (commands.SCRIPTS / "queue.csv").read_text()), "the trace of pipes")
+    tally.same((done.returncode, done.stdout), (0, (commands.EXAMPLES / "queue.csv").read_text()), "the trace of pipes")
 
 
 def check_preferences(tally, room: Path) -> None:
@@ -42,8 +42,8 @@ def check_preferences(tally, room: Path) -> None:
     environment = commands.ENVIRONMENT | {"HOME": str(room / "home"), "XDG_CONFIG_HOME": str(room / "home" / ".config")}
     environment.pop("WIRESHARK_CONFIG_DIR", None)
     words = [sys.executable, str(commands.SCRIPTS / "trace-from-captures"), "before.pcap", "after.pcap"]
-    done = subprocess.run(words, cwd=commands.SCRIPTS, env=environment, text=True, capture_output=True, check=False)
-    tally.same((done.returncode, done.stdout), (0, (commands.SCRIPTS / "queue.csv").read_text()), "the trace of such a user")
+    done = subprocess.run(words, cwd=commands.EXAMPLES, env=environment, text=True, capture_output=True, check=False)
+    tally.same((done.returncode, done.stdout), (0, (commands.EXAMPLES / "queue.csv").read_text()), "the trace of such a user")
 
 
 def oldest_python() -> str | None:
@@ -66,9 +66,9 @@ def check_old_python(tally) -> None:
         script = str(commands.SCRIPTS / name)
         right = commands.example(name, words)
         if python is not None:
-            done = commands.run([python, script, *words], commands.SCRIPTS, kept)
+            done = commands.run([python, script, *words], commands.EXAMPLES, kept)
             tally.same((done.returncode, done.stdout), (0, right.stdout), name, "by the oldest Python")
         older = "import runpy, sys; sys.version_info = (3, 9, 18); runpy.run_path(sys.argv[1])"
-        done = commands.run([sys.executable, "-c", older, script, *words], commands.SCRIPTS, kept)
+        done = commands.run([sys.executable, "-c", older, script, *words], commands.EXAMPLES, kept)
         said = f"{name}: needs Python 3.10 or later, and this is 3.9\n"
         tally.same((done.returncode, done.stdout, done.stderr), (1, "", said), name, "by an older Python")

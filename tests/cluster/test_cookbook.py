@@ -25,7 +25,7 @@ def blocks() -> list[tuple[str, str]]:
 class SeveralCaptures(unittest.TestCase):
     def test_are_shown_as_they_are(self):
         folder = Folder(self)
-        for name in ("examples", "python"):
+        for name in ("examples", "python", "tools"):
             os.symlink(TOP / name, folder.path(name))
         os.mkdir(folder.path("bin"))
         os.symlink(sys.executable, folder.path("bin/python3"))
@@ -39,7 +39,7 @@ class SeveralCaptures(unittest.TestCase):
             elif before.endswith("says on standard error"):
                 self.assertEqual(done.stderr, block)
                 compared += 1
-            elif "PYTHONPATH=python " in block or block.startswith(("examples/captures/", "examples/cookbook/draw ")):
+            elif "PYTHONPATH=python " in block or block.startswith(("tools/captures/", "examples/cookbook/draw ")):
                 done = subprocess.run(
                     block, shell=True, cwd=folder.place.name, env=environment, capture_output=True, text=True, check=False
                 )

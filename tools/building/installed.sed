@@ -2,7 +2,7 @@
 s#PYTHONPATH=python ##g
 s#python3 -m marple\.(report|parts)([^a-z]|$)#marple-\1\2#g
 s#(\./)?examples/cookbook/(quads|sql|draw)([^a-z.-]|$)#marple-\2\3#g
-s#(\./)?examples/captures/(trace-from-captures?)#marple-\2#g
+s#(\./)?tools/captures/(trace-from-captures?)#marple-\2#g
 s#(^|[^.])\./(marple|explain)([^a-z]|$)#\1<\2>\3#g
 s#<marple>#marple#g
 s#<explain>#marple-explain#g
@@ -10,4 +10,4 @@ s#<explain>#marple-explain#g
 \
 *This copy is of an installed marple: the commands are those of its programs. They run as they stand in a folder that has a link\
 to the examples: `ln -s /usr/share/doc/marple/examples .`, or the same below another prefix. Other scripts, as `./build`, and\
-the folders `crates`, `tests`, `bench` and `python` are in the repository.*
+the folders `crates`, `tests`, `bench`, `python` and `tools` are in the repository.*

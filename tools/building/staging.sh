@@ -57,8 +57,9 @@ stage_programs() {
     stage_files tools/query_help share/marple/query_help '*.py'
     stage_page docs/LANGUAGE.md share/marple/docs/LANGUAGE.md
     stage_command marple-explain explain
-    stage_files examples/captures share/marple/captures 'trace-from-*' '*.pcap' '*.csv' '*.txt'
-    stage_files examples/captures/marple_captures share/marple/captures/marple_captures '*.py'
+    stage_files examples/captures share/marple/captures '*.pcap' '*.csv' '*.txt'
+    stage_files tools/captures share/marple/captures 'trace-from-*'
+    stage_files tools/captures/marple_captures share/marple/captures/marple_captures '*.py'
     for script in trace-from-captures trace-from-capture; do
         stage_command "marple-$script" "captures/$script"
     done

@@ -54,7 +54,7 @@ def is_capture(path: str) -> bool:
 def script_path(name: str) -> Path:
     """Where a capture script is: in a wheel, or in the checkout."""
     bundled = BUNDLED / name
-    return bundled if bundled.is_file() else CHECKOUT / "examples" / "captures" / name
+    return bundled if bundled.is_file() else CHECKOUT / "tools" / "captures" / name
 
 
 def make_trace(captures: Sequence[str], options: Sequence[str], trace: Path) -> Made:
