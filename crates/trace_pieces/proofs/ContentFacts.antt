@@ -7,7 +7,7 @@ use Rattle.marple_base.specs.declared.field.FieldSet.{FieldSet}
 use Rattle.marple_base.specs.declared.field.Packet.{Packet}
 use Rattle.trace_reader.specs.Reading.{records}
 use Rattle.trace_reader.specs.Traces.{Contents, Layout, columns_of, contents, contents_from, contents_with, layout_of, layout_with}
-use Rattle.trace_reader.specs.Traces.{most_bytes, most_records, opening, packet_of, packet_with, rest_of, trace_fault, with_packet}
+use Rattle.trace_reader.specs.Traces.{most_bytes, most_records, opening, packet_of, packet_with, rest_of, with_packet}
 use Rattle.trace_reader.specs.Traces.{words_of}
 use Rattle.trace_reader.specs.declared.fault.TraceFault.{TraceFault}
 use Rattle.trace_reader.specs.declared.fault.TraceFault.TheVariants as fault

@@ -1,19 +1,18 @@
 -- Where a text can be cut.
-use Rattle.std.proofs.Common.{◌≡◌, ℕ, suc, zero, ◌+◌, ◌<◌, ◌≤◌, Bool, true, false, cond, List, [], ◌∷◌, ◌++◌, length, get_or, take, Option}
-use Rattle.std.proofs.Common.{None, Some, refl, sym, ap, subst, inl, inr, ◌∙◌, add-one, arith}
-use Rattle.std.specs.Prelude.{◌||◌, ◌==◌, is_some}
+use Rattle.std.proofs.Common.{◌≡◌, ℕ, suc, zero, ◌+◌, ◌<◌, Bool, true, false, cond, List, [], ◌∷◌, ◌++◌, length, get_or, take, Option}
+use Rattle.std.proofs.Common.{None, Some, refl, ap, inl, inr, ◌∙◌, arith}
+use Rattle.std.specs.Prelude.{◌==◌, is_some}
 use Rattle.std.proofs.lemmas.Bool.Decides.{eqb_tells}
 use Rattle.std.proofs.lemmas.List.{take_more}
 use Rattle.memchr.specs.Find.{IsFirstByte, IsLastByte, is_byte}
 use Rattle.csv.specs.Machine.{after_end, ends_at_end, ends_with, in_field, start_field}
 use Rattle.csv.specs.Reading.{default_config}
 use Rattle.csv.specs.declared.parser.Action.{Action}
-use Rattle.csv.specs.declared.parser.Action.TheVariants as act
 use Rattle.csv.specs.declared.parser.State.{State}
 use Rattle.csv.specs.declared.parser.State.TheVariants as st
 use Rattle.csv.specs.declared.parser.Terminator.TheVariants as term
-use Rattle.trace_pieces.specs.Machine.{EndsBetween, IsCut, next_state, state_over}
-use Rattle.trace_pieces.proofs.RowFacts.{does}
+use Rattle.trace_pieces.specs.Machine.{IsCut, next_state, state_over}
+use Rattle.trace_reader.proofs.RowFacts.{does}
 
 over_push : (s : State) (text : List ℕ) (c : ℕ) → state_over s (text ++ c ∷ []) ≡ next_state (state_over s text) c
 over_push s [] c = refl

@@ -12,10 +12,11 @@ use Rattle.csv.specs.declared.parser.State.{State}
 use Rattle.csv.specs.declared.parser.State.TheVariants as st
 use Rattle.csv.specs.declared.parser.Terminator.TheVariants as term
 use Rattle.csv.specs.Reading.{default_config}
-use Rattle.trace_reader.specs.Reading.{records}
+use Rattle.trace_reader.proofs.MarkFacts.{first_plain}
 use Rattle.trace_reader.proofs.ReadingFacts.{settles}
+use Rattle.trace_reader.proofs.RowFacts.{cr_same, does, ending, from_between, going, rows_are, rows_from}
 use Rattle.trace_pieces.specs.Machine.{IsHead, mark_len, rows}
-use Rattle.trace_pieces.proofs.RowFacts.{IsPlain, IsTidy, cr_same, does, from_between, leads, rows_are, rows_from, tidy_start, tidy_step}
+use Rattle.trace_pieces.proofs.RowFacts.{IsPlain, IsTidy, leads, tidy_start, tidy_step}
 
 -- ---- which bytes end a record
 
@@ -88,12 +89,6 @@ ends_not s c k keeps end =
 
 -- ---- the byte order mark
 
-first_plain : (a : ℕ) (rest : List ℕ) → (a == 239) ≡ false → strip_bom (a ∷ rest) ≡ a ∷ rest
-unfolding strip_bom
-first_plain a [] e = refl
-first_plain a (b ∷ []) e = refl
-first_plain a (b ∷ c ∷ rest) e = rw e refl
-
 second_plain : (a b : ℕ) (rest : List ℕ) → (b == 187) ≡ false → strip_bom (a ∷ b ∷ rest) ≡ a ∷ b ∷ rest
 unfolding strip_bom
 second_plain a b [] e = refl
@@ -149,16 +144,6 @@ pub record Inside (text : List ℕ) (s : State) : Type 0 where
 
 pub inside_start : Inside [] st.StartRecord
 inside_start = record { fields = []; field = []; tidy = tidy_start; same = λ more. refl }
-
-going : (s : State) (f : List (List ℕ)) (p : List ℕ) (c : ℕ) (more : List ℕ) → is_end (does s c).1 ≡ false
-    → rows_from s f p (c ∷ more) ≡ rows_from (does s c).0 (fields_after (does s c).1 f p) (field_after (does s c).1 c p) more
-unfolding rows_from
-going s f p c more e = rw e refl
-
-ending : (s : State) (f : List (List ℕ)) (p : List ℕ) (c : ℕ) (more : List ℕ) → is_end (does s c).1 ≡ true
-    → rows_from s f p (c ∷ more) ≡ fields_after (does s c).1 f p ∷ rows_from (does s c).0 [] [] more
-unfolding rows_from
-ending s f p c more e = rw e refl
 
 pub inside_more : (text : List ℕ) (s : State) (c : ℕ) → Inside text s → is_end (does s c).1 ≡ false → Inside (text ++ c ∷ []) (does s c).0
 inside_more text s c h goes = record {

@@ -5,3 +5,7 @@ pub mod EachFacts
 pub mod ColumnFacts
 pub mod TraceFacts
 pub mod WordFacts
+pub mod RowFacts
+pub mod PlainFacts
+pub mod MarkFacts
+pub mod StopFacts

@@ -6,3 +6,5 @@ pub mod Upcoming
 pub mod TraceView
 pub mod Faults
 pub mod Columns
+pub mod Plain
+pub mod Seen

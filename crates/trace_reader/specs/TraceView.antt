@@ -1,7 +1,6 @@
 -- How the fields of a `Trace` show what is still to come.
 use Rattle.std.specs.Prelude.{◌+◌, ◌≤◌, ⊤, [], Some, None}
 use Rattle.trace_reader.specs.Faults.{IsLate}
-use Rattle.trace_reader.specs.Reading.{IsBetweenRecords, records_left}
 use Rattle.trace_reader.specs.Traces.{Contents, contents_from, most_records}
 use Rattle.trace_reader.specs.Upcoming.{Upcoming}
 use Rattle.trace_reader.specs.declared.fault.TraceAnswer.TheVariants as answer
@@ -22,12 +21,12 @@ upcoming_by (progress.Stopped answer.Memory) rest = record { packets = []; fault
 abbrev pub upcoming_in : Inside → Upcoming
 upcoming_in trace =
     upcoming_by trace.progress (contents_from (record { width = trace.width; columns = trace.columns }) (trace.given + 1)
-    (records_left trace.reader))
+    trace.records.left)
 
--- while a trace is read, its reader is between two records, and no more were given than a trace may have;
+-- while a trace is read, no more packets were given than a trace may have;
 -- where a fault stopped it, a data record has that fault
 abbrev pub IsSoundAt : Progress → Inside → Type 0
-IsSoundAt progress.Reading trace = IsBetweenRecords trace.reader × (trace.given ≤ most_records)
+IsSoundAt progress.Reading trace = trace.given ≤ most_records
 IsSoundAt progress.Ended trace = ⊤
 IsSoundAt (progress.Stopped (answer.Refused found)) trace = IsLate found
 IsSoundAt (progress.Stopped answer.Memory) trace = ⊤

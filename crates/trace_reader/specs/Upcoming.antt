@@ -2,7 +2,6 @@
 use Rattle.std.specs.Prelude.{ℕ, ◌≡◌, List, [], ◌∷◌, Option, None, Some}
 use Rattle.marple_base.specs.declared.field.FieldSet.{FieldSet}
 use Rattle.marple_base.specs.declared.field.Packet.{Packet}
-use Rattle.trace_reader.specs.Reading.{IsBetweenRecords, SliceReader, records, records_left}
 use Rattle.trace_reader.specs.Traces.{packets, trace_fault}
 use Rattle.trace_reader.specs.declared.fault.TraceAnswer.{TraceAnswer}
 use Rattle.trace_reader.specs.declared.fault.TraceFault.{TraceFault}
@@ -32,8 +31,3 @@ pub record IsAtEnd (trace : Upcoming) : Type 0 where
 pub record IsAtFault (trace : Upcoming) (found : TraceFault) : Type 0 where
   pub packets : trace.packets ≡ []
   pub fault : trace.fault ≡ Some found
-
--- the reader has all records of the text left
-pub record IsSetUp (text : List ℕ) (reader : SliceReader) : Type 0 where
-  pub between : IsBetweenRecords reader
-  pub all : records_left reader ≡ records text

@@ -5,7 +5,9 @@ mod blocks;
 mod columns;
 mod fault;
 mod number;
+mod plain;
 mod record;
+mod records;
 mod trace;
 
 pub use fault::{MAX_BYTES, MAX_RECORDS, TraceAnswer, TraceFault};

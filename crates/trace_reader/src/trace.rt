@@ -3,12 +3,12 @@
 ghost use Rattle.std.specs.Prelude.{◌≡◌, Err, IfErr, IfOk, IfSome, None, Ok, Some, false, is_ok, true};
 ghost use Rattle.trace_reader.specs.Traces.{opening, packets, trace_fault};
 ghost use Rattle.trace_reader.specs.Faults.{IfRefused, IsEarly, IsLate};
-ghost use Rattle.trace_reader.specs.Upcoming.{Gives, IsAtEnd, IsAtFault, IsSetUp, upcoming_of};
+ghost use Rattle.trace_reader.specs.Upcoming.{Gives, IsAtEnd, IsAtFault, upcoming_of};
 
 use crate::columns::Columns;
 use crate::fault::{MAX_BYTES, MAX_RECORDS, TraceAnswer, TraceFault};
-use crate::record::{columns, next_record, packet_into};
-use csv::{ByteRecord, Reader, ReaderBuilder};
+use crate::record::{columns, packet_into};
+use crate::records::Records;
 use marple_base::{FieldSet, Packet};
 use std::alloc::{AllocError, Global};
 use std::marker::Model;
@@ -24,8 +24,7 @@ enum Progress {
 /// A trace that is read packet by packet. Contracts see the packets that are still to come, the fault after them,
 /// if there is one, and the answer that stopped the trace, if one did.
 pub struct Trace<'a> {
-    reader: Reader<&'a [u8]>,
-    row: ByteRecord,
+    records: Records<'a>,
     width: usize,
     columns: Columns,
     given: u32,
@@ -36,8 +35,7 @@ pub struct Trace<'a> {
 impl Drop for Trace<'_> {
     fn drop(self) {
         let Trace {
-            reader: _,
-            row: _,
+            records: _,
             width: _,
             columns: _,
             given: _,
@@ -58,16 +56,6 @@ impl<'a> Model for Trace<'a> {
     ghost invariant = { IsSound };
 }
 
-// A reader that gives each record of the text, the first too, of any length.
-fn reader_of(alloc: Global, bytes: &[u8]) -> Reader<&[u8]>
-    ensures { IsSetUp bytes.now result }
-{
-    ReaderBuilder::new()
-        .has_headers(false)
-        .flexible(true)
-        .from_reader(alloc, bytes)
-}
-
 /// Opens a trace of which some fields are read.
 pub fn open_trace<'a>(
     alloc: Global,
@@ -83,20 +71,18 @@ pub fn open_trace<'a>(
     if bytes.len() > MAX_BYTES {
         return Err(TraceAnswer::Refused(TraceFault::TraceTooLong));
     }
-    let mut reader = reader_of(alloc, bytes);
-    let mut row = ByteRecord::new(alloc);
-    match next_record(&mut reader, &mut row) {
+    let mut records = Records::new(alloc, bytes);
+    match records.next() {
         Err(AllocError) => Err(TraceAnswer::Memory),
         Ok(false) => Err(TraceAnswer::Refused(TraceFault::NoHeader)),
-        Ok(true) => match columns(&row, reads) {
+        Ok(true) => match columns(&records, reads) {
             Err(fault) => Err(TraceAnswer::Refused(fault)),
             Ok(columns) => match Columns::new(alloc, columns) {
                 Err(AllocError) => Err(TraceAnswer::Memory),
                 Ok(columns) => {
-                    let width = row.len();
+                    let width = records.len();
                     Ok(Trace {
-                        reader,
-                        row,
+                        records,
                         width,
                         columns,
                         given: 0,
@@ -142,7 +128,7 @@ impl<'a> Trace<'a> {
             Progress::Ended => return Ok(false),
             Progress::Reading => {}
         }
-        match next_record(&mut self.reader, &mut self.row) {
+        match self.records.next() {
             Err(AllocError) => {
                 self.progress = Progress::Stopped(TraceAnswer::Memory);
                 Err(TraceAnswer::Memory)
@@ -153,7 +139,7 @@ impl<'a> Trace<'a> {
             }
             Ok(true) => {
                 self.given += 1;
-                match packet_into(&self.row, self.given, self.width, &self.columns, packet) {
+                match packet_into(&self.records, self.given, self.width, &self.columns, packet) {
                     Ok(()) => Ok(true),
                     Err(fault) => {
                         self.progress = Progress::Stopped(TraceAnswer::Refused(fault));

@@ -2,7 +2,7 @@ use Rattle.std.proofs.Common.{◌+◌, ◌++◌, ◌∙◌, ap, drop, get_or, ma
 use Rattle.marple_base.specs.Field.{field_name}
 use Rattle.marple_base.specs.declared.field.Field.TheVariants.{Switch}
 use Rattle.queue_sim.specs.TraceText.{continued}
-use Rattle.part_texts.proofs.LineFacts.{names_end, names_more, names_start}
+use Rattle.part_texts.proofs.LineFacts.{names_more}
 use Rattle.part_texts.proofs.line.header_line.Goals as goal
 
 pub loop-i-preserved : goal.loop-i-preserved

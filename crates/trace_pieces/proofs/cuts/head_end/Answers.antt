@@ -1,11 +1,11 @@
-use Rattle.std.proofs.Common.{◌≡◌, ℕ, List, ◌≤◌, ◌<◌, ◌+◌, ◌-◌, ◌∷◌, [], ◌++◌, ◌∙◌, false, true, ap, arith, drop, get_or, length, rules}
+use Rattle.std.proofs.Common.{◌≡◌, ℕ, List, ◌+◌, ◌-◌, ◌∙◌, false, true, ap, arith, drop, get_or, length, rules}
 use Rattle.std.proofs.Common.{subst, sym, take}
 use Rattle.std.proofs.lemmas.List.{take_more}
 use Rattle.csv.specs.Machine.{ends_at_end, is_end}
 use Rattle.marple_base.proofs.Bytes.{range_from}
 use Rattle.trace_pieces.specs.Machine.{IsHead, mark_len, state_of}
 use Rattle.trace_pieces.proofs.HeadFacts.{Inside, head_here, in_record, inside_more, inside_start, none_between, none_inside}
-use Rattle.trace_pieces.proofs.RowFacts.{does}
+use Rattle.trace_reader.proofs.RowFacts.{does}
 use Rattle.trace_pieces.proofs.cuts.head_end.Goals as goal
 use Rattle.trace_pieces.proofs.cuts.head_end.Goals.{else-is_between-via-then-is_between+else-not-is_between}
 use Rattle.trace_pieces.proofs.cuts.head_end.Goals.{else-is_between-via-else-is_between}

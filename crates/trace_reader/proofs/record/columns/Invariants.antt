@@ -1,5 +1,4 @@
 use Rattle.std.proofs.Common.{◌≡◌, length, take, drop}
-use Rattle.csv.specs.Records.{fields_of}
 use Rattle.marple_base.specs.Field.{all_fields}
 use Rattle.trace_reader.specs.Traces.{column_of, columns_of, each}
 use Rattle.trace_reader.proofs.EachFacts.{onto}
@@ -8,7 +7,7 @@ use Rattle.trace_reader.proofs.record.columns.Given as goal
 abbrev pub invariant-loop-i : goal.invariant-loop-i
 invariant-loop-i l =
     record {
-      filled : columns_of l.reads (fields_of l.fn.header) ≡ onto (take l.i l.columns)
-          (each (column_of l.reads (fields_of l.fn.header)) (drop l.i all_fields));
+      filled : columns_of l.reads l.fn.header.fields ≡ onto (take l.i l.columns)
+          (each (column_of l.reads l.fn.header.fields) (drop l.i all_fields));
       size : length l.columns ≡ 14;
     }

@@ -1,7 +1,6 @@
 use Rattle.std.proofs.Common.{◌≡◌, ◌∙◌, ◌++◌, ap, rules, true, false}
 use Rattle.std.specs.Option.{option_to_list, is_some}
 use Rattle.std.specs.Str.{bytes_eq}
-use Rattle.csv.specs.Records.{fields_of}
 use Rattle.marple_base.specs.Field.{field_name}
 use Rattle.trace_reader.specs.Numbers.{without_blanks}
 use Rattle.trace_reader.specs.Traces.{text_at}
@@ -11,7 +10,7 @@ use Rattle.trace_reader.proofs.record.only_column.Goals.{then-eq+else-is_some, e
 
 pub returns-then-is_some-clause-value : goal.returns-then-is_some-clause-value
 returns-then-is_some-clause-value c =
-    let fields = fields_of c.args.header.now in
+    let fields = c.args.header.now.fields in
     let here : bytes_eq (without_blanks (text_at fields c.loop-i.i)) (field_name c.args.field) ≡ true = search rules in
     let some : is_some c.loop-i.found ≡ true = search rules in
     found_twice c.args.field c.loop-i.found _ _ _ c.loop-i.i some c.loop-i.invariant
@@ -19,7 +18,7 @@ returns-then-is_some-clause-value c =
 
 pub loop-i-preserved : goal.loop-i-preserved
 loop-i-preserved c =
-    let fields = fields_of c.args.header.now in
+    let fields = c.args.header.now.fields in
     elim c.if-eq.branch [
       | then-eq+else-is_some w ↦
           let here : bytes_eq (without_blanks (text_at fields c.loop-i.i)) (field_name c.args.field) ≡ true = search rules in

@@ -1,6 +1,5 @@
 use Rattle.std.proofs.Common.{◌≡◌, ◌++◌, drop}
 use Rattle.std.specs.Option.{option_to_list}
-use Rattle.csv.specs.Records.{fields_of}
 use Rattle.marple_base.specs.Field.{field_name}
 use Rattle.trace_reader.specs.Traces.{columns_named}
 use Rattle.trace_reader.proofs.record.only_column.Given as goal
@@ -8,5 +7,5 @@ use Rattle.trace_reader.proofs.record.only_column.Given as goal
 -- those found, and then those of the rest
 abbrev pub invariant-loop-i : goal.invariant-loop-i
 invariant-loop-i l =
-    columns_named (field_name l.field) 0 (fields_of l.fn.header)
-    ≡ option_to_list l.found ++ columns_named (field_name l.field) l.i (drop l.i (fields_of l.fn.header))
+    columns_named (field_name l.field) 0 l.fn.header.fields
+    ≡ option_to_list l.found ++ columns_named (field_name l.field) l.i (drop l.i l.fn.header.fields)

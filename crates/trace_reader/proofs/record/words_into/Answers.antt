@@ -1,6 +1,5 @@
 use Rattle.std.proofs.Common.{rules}
 use Rattle.std.proofs.Math.ListN.{length-set}
-use Rattle.csv.specs.Records.{fields_of}
 use Rattle.marple_base.specs.declared.field.Field.TheVariants as f
 use Rattle.trace_reader.specs.Columns.{read_columns}
 use Rattle.trace_reader.proofs.WordFacts.{field_met, word_written, words_are, words_filled}
@@ -8,7 +7,7 @@ use Rattle.trace_reader.proofs.record.words_into.Goals as goal
 
 pub loop-field-init : goal.loop-field-init
 loop-field-init c =
-    record { filled = words_filled (fields_of c.args.row.now) c.args.columns.now c.read-field-items.ensures.all; size = search rules }
+    record { filled = words_filled c.args.row.now.fields c.args.columns.now c.read-field-items.ensures.all; size = search rules }
 
 pub returns-in-Err-clause-err : goal.returns-in-Err-clause-err
 returns-in-Err-clause-err c =

@@ -1,5 +1,4 @@
 use Rattle.std.proofs.Common.{◌≡◌, length, drop}
-use Rattle.csv.specs.Records.{fields_of}
 use Rattle.trace_reader.specs.Columns.{read_columns}
 use Rattle.trace_reader.specs.Traces.{words_of}
 use Rattle.trace_reader.proofs.WordFacts.{fill}
@@ -8,6 +7,6 @@ use Rattle.trace_reader.proofs.record.words_into.Given as goal
 abbrev pub invariant-loop-field : goal.invariant-loop-field
 invariant-loop-field l =
     record {
-      filled : words_of l.columns (fields_of l.fn.row) ≡ fill (fields_of l.fn.row) (drop l.field-index (read_columns l.columns)) l.words;
+      filled : words_of l.columns l.fn.row.fields ≡ fill l.fn.row.fields (drop l.field-index (read_columns l.columns)) l.words;
       size : length l.words ≡ 14;
     }

@@ -1,0 +1,17 @@
+use Rattle.std.proofs.Common.{◌≡◌, ◌-◌, ◌<◌, ◌≤◌, [], drop, length}
+use Rattle.csv.specs.declared.parser.State.TheVariants as st
+use Rattle.trace_reader.specs.Plain.{fields_at}
+use Rattle.trace_reader.specs.Reading.{records_after}
+use Rattle.trace_reader.proofs.RowFacts.{rows_from}
+use Rattle.trace_reader.proofs.plain.plain_record.Given as goal
+
+-- the fields so far are those of a record that goes on with a field
+abbrev pub invariant-fields : goal.invariant-fields
+invariant-fields l = record {
+  within : l.start ≤ length l.text;
+  same : l.start < length l.text → records_after st.StartRecord (drop l.from l.text)
+      ≡ rows_from st.StartField (fields_at l.text l.spans.items) [] (drop l.start l.text);
+}
+
+abbrev pub decreases-fields : goal.decreases-fields
+decreases-fields l = length l.text - l.start
