@@ -1,3 +1,4 @@
+pub mod Refusals
 pub mod TrialSteps
 pub mod TrialParts
 pub mod TrialTyped

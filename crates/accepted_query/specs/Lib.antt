@@ -1,3 +1,2 @@
 pub mod Accepted
-pub mod Answers
 pub mod TrialQuery

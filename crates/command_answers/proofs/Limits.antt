@@ -8,22 +8,21 @@ use Rattle.marple_base.specs.Inputs.{Input}
 use Rattle.marple_base.specs.Sink.{TakesFront}
 use Rattle.marple_base.specs.declared.field.FieldSet.{FieldSet}
 use Rattle.marple_base.specs.declared.inputs.Which.TheVariants.{Query, Trace}
+use Rattle.query_lang.specs.Answers.{IsTold}
 use Rattle.query_lang.specs.Checks.{Checked}
 use Rattle.query_lang.specs.Lexis.{fault_at}
 use Rattle.query_lang.specs.declared.fault.FaultKind.TheVariants as kinds
-use Rattle.query_lang.specs.declared.fault.QueryFault.{QueryFault}
 use Rattle.query_lang.specs.declared.typed.TypedQuery.{TypedQuery}
 use Rattle.trace_reader.specs.Traces.{Contents, contents, opening}
 use Rattle.trace_reader.specs.declared.fault.TraceFault.TheVariants as faults
 use Rattle.trace_reader.specs.declared.fault.TraceFault.{TraceFault}
 use Rattle.accepted_query.specs.Accepted.{accepted, fault_in, query_fault}
-use Rattle.accepted_query.specs.Answers.{IsAnswerTo}
-use Rattle.accepted_query.specs.declared.answer.QueryError.{QueryError}
-use Rattle.accepted_query.specs.declared.answer.QueryError.TheVariants.{Refused}
+use Rattle.query_lang.specs.declared.error.QueryError.{QueryError}
+use Rattle.query_lang.specs.declared.error.QueryError.TheVariants.{Refused, Memory}
 use Rattle.trace_drive.specs.Answers.{BreaksOff, text_unless}
 use Rattle.trace_drive.specs.declared.answer.RunError.{RunError}
 use Rattle.trace_drive.specs.declared.answer.RunError.TheVariants as breaks
-use Rattle.command_answers.specs.Phases.{ReadEnds, TraceEnds, WriteEnds, status_for}
+use Rattle.command_answers.specs.Phases.{QueryEnds, ReadEnds, TraceEnds, WriteEnds, refusal_status, status_for}
 use Rattle.command_answers.specs.declared.status.Status.{Status}
 use Rattle.command_answers.specs.declared.status.Status.TheVariants as statuses
 use Rattle.trace_drive.proofs.Breaking.{nothing_taken}
@@ -87,11 +86,12 @@ told_answer P left text slice read same known =
     IfSome-map (λ bytes. accepted bytes ≡ accepted text) (λ bytes. P (accepted bytes)) left
     (λ bytes is. subst P (ap accepted same ∙ sym is) known) (told_query left text read)
 
-pub told_refused : (left : Option (List ℕ)) (text slice : List ℕ) (answer : QueryError) (fault : QueryFault)
-    → IfSome left (λ bytes. text ≡ take 65537 bytes) → slice ≡ text
-    → answer ≡ Refused fault → IsAnswerTo slice answer → IfSome left (λ bytes. query_fault bytes ≡ Some fault)
-told_refused left text slice answer fault read same is refused =
-    told_answer (λ found. fault_in found ≡ Some fault) left text slice read same (ap fault_in (subst (IsAnswerTo slice) is refused))
+-- how the phase of the query ends, where what was read of its text isn't accepted
+pub query_ends : (before after : Input) (text slice : List ℕ) (error : QueryError) → IfSome before.left (λ bytes. text ≡ take 65537 bytes)
+    → slice ≡ text → IsTold (query_fault slice) error → QueryEnds query_fault before after (refusal_status error)
+query_ends before after text slice (Refused fault) read same told =
+    told_answer (λ found. fault_in found ≡ Some fault) before.left text slice read same told
+query_ends before after text slice Memory read same told = tt
 
 -- What is known of the packets and the fault of the bytes that were read holds of the trace in the input.
 pub told_contents : (P : Contents → Type 0) (reads : FieldSet) (left : Option (List ℕ)) (text slice : List ℕ)

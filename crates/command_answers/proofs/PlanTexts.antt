@@ -4,12 +4,12 @@ use Rattle.std.proofs.lemmas.Bool.Decides.{leb_tells}
 use Rattle.marple_base.specs.Inputs.{Input}
 use Rattle.query_lang.specs.declared.fault.QueryFault.{QueryFault}
 use Rattle.plan_file.specs.Texts.{IsBadAt, IsRefused, Says}
-use Rattle.plan_file.specs.declared.answer.PlanFileAnswer.{PlanFileAnswer}
-use Rattle.plan_file.specs.declared.answer.PlanFileAnswer.TheVariants.{Refused}
+use Rattle.query_lang.specs.declared.error.QueryError.{QueryError}
+use Rattle.query_lang.specs.declared.error.QueryError.TheVariants.{Refused, Memory}
 use Rattle.plan_file.specs.declared.made.Made.{Made}
 use Rattle.plan_loader.specs.Loaded.{IsLoaded}
 use Rattle.plan_loader.specs.declared.loaded.LoadedPlan.{LoadedPlan}
-use Rattle.command_answers.specs.Phases.{IsReadFrom}
+use Rattle.command_answers.specs.Phases.{IsReadFrom, PlanEnds, refusal_status}
 use Rattle.command_answers.proofs.Limits.{take_long, take_whole}
 
 -- what was read of a text, to one byte more than the limit, says what the text says
@@ -35,14 +35,12 @@ at_the_most text place long (inr short) = absurd (both (length text) short.0 lon
     both : (n : ℕ) → n ≤ 2097152 → 2097152 < n → ⊥
     both n a b = omega arith
 
--- and it is refused where the text is
-pub told_refusal : (left : Option (List ℕ)) (text slice : List ℕ) (answer : PlanFileAnswer) (fault : QueryFault)
-    → IfSome left (λ bytes. text ≡ take 2097153 bytes) → slice ≡ text
-    → answer ≡ Refused fault → IsRefused slice answer → IfSome left (λ bytes. IsRefused bytes (Refused fault))
-told_refusal None text slice answer fault read same found refused = tt
-told_refusal (Some bytes) text slice answer fault read same found refused =
+-- what was read is refused where the text is
+told_refusal : (left : Option (List ℕ)) (text slice : List ℕ) (fault : QueryFault) → IfSome left (λ bytes. text ≡ take 2097153 bytes)
+    → slice ≡ text → IsRefused slice (Refused fault) → IfSome left (λ bytes. IsRefused bytes (Refused fault))
+told_refusal None text slice fault read same known = tt
+told_refusal (Some bytes) text slice fault read same known =
     let is : slice ≡ take 2097153 bytes = same ∙ read in
-    let known : IsRefused slice (Refused fault) = subst (IsRefused slice) found refused in
     elim (leb_tells (length bytes) 2097152) [
       | inl short ↦ subst (λ one. IsRefused one (Refused fault)) (is ∙ take_whole 2097152 bytes short.1) known
       | inr long ↦ (
@@ -55,6 +53,12 @@ told_refusal (Some bytes) text slice answer fault read same found refused =
         known.2,
       )
     ]
+
+-- how the phase of the plan ends, where what was read of its text is refused
+pub plan_ends : (before after : Input) (text slice : List ℕ) (error : QueryError) → IfSome before.left (λ bytes. text ≡ take 2097153 bytes)
+    → slice ≡ text → IsRefused slice error → PlanEnds before after (refusal_status error)
+plan_ends before after text slice (Refused fault) read same refused = told_refusal before.left text slice fault read same refused
+plan_ends before after text slice Memory read same refused = tt
 
 -- the plan that was read comes from the text of the first operand
 pub plan_is_read : (before : Input) (text slice : List ℕ) (loaded : LoadedPlan) → IfSome before.left (λ bytes. text ≡ take 2097153 bytes)

@@ -4,6 +4,8 @@ use Rattle.marple_base.specs.Faults.{Rose}
 use Rattle.marple_base.specs.Inputs.{Input}
 use Rattle.marple_base.specs.Sink.{TakesFront}
 use Rattle.marple_base.specs.declared.inputs.Which.TheVariants.{Query, Trace}
+use Rattle.query_lang.specs.declared.error.QueryError.{QueryError}
+use Rattle.query_lang.specs.declared.error.QueryError.TheVariants as errors
 use Rattle.query_lang.specs.declared.fault.QueryFault.{QueryFault}
 use Rattle.query_lang.specs.declared.typed.TypedQuery.{TypedQuery}
 use Rattle.accepted_query.specs.Accepted.{accepted}
@@ -12,7 +14,6 @@ use Rattle.trace_drive.specs.declared.answer.RunError.{RunError}
 use Rattle.trace_drive.specs.declared.answer.RunError.TheVariants as breaks
 use Rattle.trace_reader.specs.declared.fault.TraceFault.{TraceFault}
 use Rattle.plan_file.specs.Texts.{IsRefused, Says}
-use Rattle.plan_file.specs.declared.answer.PlanFileAnswer.TheVariants.{Refused}
 use Rattle.plan_file.specs.declared.made.Made.{Made}
 use Rattle.plan_loader.specs.Loaded.{IsLoadedFrom}
 use Rattle.plan_loader.specs.declared.loaded.LoadedPlan.{LoadedPlan}
@@ -24,6 +25,11 @@ abbrev pub status_for : RunError → Status
 status_for (breaks.Refused fault) = statuses.TraceRefused fault
 status_for breaks.Memory = statuses.Memory
 status_for breaks.Failed = statuses.OutputFault
+
+-- the status of a query or of a plan that isn't accepted
+abbrev pub refusal_status : QueryError → Status
+refusal_status (errors.Refused fault) = statuses.QueryRefused fault
+refusal_status errors.Memory = statuses.Memory
 
 -- A phase that reads the first operand, and refuses it for these faults, ended in this status.
 abbrev pub OperandEnds : (List ℕ → QueryFault → Type 0) → Input → Input → Status → Type 0
@@ -38,7 +44,7 @@ QueryEnds fault = OperandEnds (λ query found. fault query ≡ Some found)
 
 -- the same for the text of a plan
 abbrev pub PlanEnds : Input → Input → Status → Type 0
-PlanEnds = OperandEnds (λ text found. IsRefused text (Refused found))
+PlanEnds = OperandEnds (λ text found. IsRefused text (errors.Refused found))
 
 -- Some text is that of the query, even where the bytes of the input aren't known.
 abbrev pub IsOfText : TypedQuery → Type 0

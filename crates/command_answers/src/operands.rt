@@ -8,10 +8,10 @@ ghost use Rattle.accepted_query.specs.TrialQuery.{trial_query};
 ghost use Rattle.command_answers.specs.Phases.{IsOfText, IsReadFrom, PlanEnds, QueryEnds, ReadEnds};
 
 use crate::status::Status;
-use accepted_query::{AcceptedQuery, QueryError, accept, trial_is_accepted, trial_query};
+use accepted_query::{AcceptedQuery, accept, trial_is_accepted, trial_query};
 use marple_base::{Inputs, ReadAnswer, Text, Which, read_input};
-use plan_file::PlanFileAnswer;
 use plan_loader::{LoadedPlan, read_plan};
+use query_lang::QueryError;
 use std::alloc::{AllocError, Global};
 
 /// The most bytes of a query.
@@ -40,11 +40,8 @@ pub fn read_query<I: Inputs>(alloc: Global, inputs: &mut I) -> Result<AcceptedQu
         Err(ReadAnswer::Failed) => return Err(Status::InputFault(Which::Query)),
         Err(ReadAnswer::Memory) => return Err(Status::Memory),
     };
-    match accept(alloc, text.as_slice()) {
-        Ok(query) => Ok(query),
-        Err(QueryError::Refused(fault)) => Err(Status::QueryRefused(fault)),
-        Err(QueryError::Memory) => Err(Status::Memory),
-    }
+    let query = accept(alloc, text.as_slice())?;
+    Ok(query)
 }
 
 /// The trial's query with its plan.
@@ -75,11 +72,8 @@ pub fn read_plan_text<I: Inputs>(alloc: Global, inputs: &mut I) -> Result<Loaded
         Err(ReadAnswer::Failed) => return Err(Status::InputFault(Which::Query)),
         Err(ReadAnswer::Memory) => return Err(Status::Memory),
     };
-    match read_plan(alloc, text.as_slice()) {
-        Ok(loaded) => Ok(loaded),
-        Err(PlanFileAnswer::Refused(fault)) => Err(Status::QueryRefused(fault)),
-        Err(PlanFileAnswer::Memory) => Err(Status::Memory),
-    }
+    let loaded = read_plan(alloc, text.as_slice())?;
+    Ok(loaded)
 }
 
 /// Reads the bytes of the trace, to its end or to one byte more than the limit.

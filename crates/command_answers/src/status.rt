@@ -1,11 +1,11 @@
 //! How a command ends.
 ghost use Rattle.std.specs.Prelude.{◌≡◌};
 ghost use Rattle.command_answers.specs.Complaint.{number_of};
-ghost use Rattle.command_answers.specs.Phases.{status_for};
+ghost use Rattle.command_answers.specs.Phases.{refusal_status, status_for};
 ghost use Rattle.command_answers.specs.declared.status.Status.TheVariants.{Memory, OutputFault};
 
 use marple_base::{Failed, Which};
-use query_lang::QueryFault;
+use query_lang::{QueryError, QueryFault};
 use std::alloc::AllocError;
 use trace_drive::RunError;
 use trace_reader::TraceFault;
@@ -44,6 +44,17 @@ impl From<AllocError> for Status {
 
     fn from(_: AllocError) -> Status {
         Status::Memory
+    }
+}
+
+impl From<QueryError> for Status {
+    ghost from_gives = { λ error status. status ≡ refusal_status error };
+
+    fn from(error: QueryError) -> Status {
+        match error {
+            QueryError::Refused(fault) => Status::QueryRefused(fault),
+            QueryError::Memory => Status::Memory,
+        }
     }
 }
 

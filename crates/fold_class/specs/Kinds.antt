@@ -89,7 +89,7 @@ is_no_other _ = true
 abbrev pub has_no_other : (Op → Role) → (ℕ → Bool) → TypedFold → Bool
 has_no_other roles fixed f = all_below (fold_states f) (λ v. is_no_other (end_kinds roles fixed f v))
 
--- the history variables are fixed
+-- what a fold's variables are taken for at the beginning, if its history variables are fixed
 abbrev pub kinds_first : TypedFold → ℕ → Kind
 kinds_first f = kinds_from (is_history f) f
 

@@ -1,8 +1,8 @@
 -- What a text says, and where it is refused.
 use Rattle.std.specs.Prelude.{◌≡◌, ℕ, ◌<◌, ◌≤◌, List, [], ◌∷◌, length, take, drop, Some, slice_get, ◌⊎◌}
 use Rattle.query_lang.specs.declared.fault.FaultKind.TheVariants as kinds
-use Rattle.plan_file.specs.declared.answer.PlanFileAnswer.{PlanFileAnswer}
-use Rattle.plan_file.specs.declared.answer.PlanFileAnswer.TheVariants as answers
+use Rattle.query_lang.specs.declared.error.QueryError.{QueryError}
+use Rattle.query_lang.specs.declared.error.QueryError.TheVariants as answers
 use Rattle.plan_file.specs.declared.made.Made.{Made}
 use Rattle.plan_file.specs.Lexis.{lines, pieces, bytes_after_lines, start_of_line}
 use Rattle.plan_file.specs.Lines.{nothing, IsLine, IsValidAfter}
@@ -65,13 +65,13 @@ IsBadAt text place =
     ⊎ ((length text ≤ most_bytes) × IsBadWithin text place)
 
 -- the answer for a text that is refused: BadPlan at its place, or out of memory
-abbrev pub IsRefused : List ℕ → PlanFileAnswer → Type 0
+abbrev pub IsRefused : List ℕ → QueryError → Type 0
 IsRefused text (answers.Refused fault) = (fault.kind ≡ kinds.BadPlan) × IsBadAt text fault.span.start
     × (fault.span.end ≡ fault.span.start)
 IsRefused text answers.Memory = Unit {0}
 
 -- a text that is refused is not valid, and it is refused at this place alone
-abbrev pub IsOnlyAnswer : List ℕ → PlanFileAnswer → Type 0
+abbrev pub IsOnlyAnswer : List ℕ → QueryError → Type 0
 IsOnlyAnswer text (answers.Refused fault) = (IsValidText text → ⊥)
     × ((place : ℕ) → IsBadAt text place → place ≡ fault.span.start)
 IsOnlyAnswer text answers.Memory = Unit {0}

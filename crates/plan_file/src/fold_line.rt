@@ -13,13 +13,14 @@ ghost use Rattle.plan_file.specs.FoldLines.{IsFoldOf, IsFoldWords, AreBounds, Is
 ghost use Rattle.plan_file.specs.FoldSaid.{folded_as};
 ghost use Rattle.plan_file.specs.Lines.{IsGroupWithin};
 
-use crate::lexis::{cut_at_space, is_text, number};
+use crate::lexis::{cut_at_space, number};
 use crate::made::Group;
 use crate::named::{after_word, two_tokens};
 use crate::tree::body_of;
 use fold_class::classify;
 use fold_code::compile;
 use marple_base::Seq;
+use query_lang::lexis::is_text;
 use query_lang::{Class, Name, Span, TypedFold};
 use std::alloc::{AllocError, Global};
 

@@ -8,12 +8,13 @@ ghost use Rattle.plan_file.specs.Groups as Groups;
 ghost use Rattle.plan_file.specs.Groups.{names_of, IsGroupLine, IsNewIn, IsKeyLine, IsArgLine, IsStateLine, IsGroupBody, IsInGroup};
 
 use crate::lexemes::{Lexeme, lexemes};
-use crate::lexis::{first_token, is_text};
+use crate::lexis::first_token;
 use crate::line_word::LineWord;
 use crate::made::{Folded, Group};
 use crate::named::{named_number, named_operand, one_operand};
 use crate::wants::is_body;
 use marple_base::{Field, Seq, Text};
+use query_lang::lexis::is_text;
 use stage_plan::{Operand, PlanOp};
 use std::alloc::{AllocError, Global};
 

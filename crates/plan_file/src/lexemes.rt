@@ -4,9 +4,10 @@ ghost use Rattle.std.specs.Prelude.{◌≡◌, map, IfOk};
 ghost use Rattle.plan_file.specs.Lexis.{tokens_left, function_named, literal, state_number, argument_number};
 ghost use Rattle.plan_file.specs.Lexemes as Lexemes;
 
-use crate::lexis::{first_token, function_named, is_text, past};
+use crate::lexis::{first_token, function_named, past};
 use marple_base::Seq;
 use query_lang::Op;
+use query_lang::lexis::is_text;
 use std::alloc::{AllocError, Global};
 
 /// What a token of a body is.

@@ -2,15 +2,13 @@
 
 ghost use Rattle.std.specs.Prelude.{◌≡◌, ◌+◌, ◌<◌, ◌≤◌, if◌then◌else◌, ◌∷◌, [], true, length};
 ghost use Rattle.std.specs.Prelude.{MatchOption, IfSome, drop};
-ghost use Rattle.std.specs.Char.{digit_value};
 ghost use Rattle.std.specs.List.{list_all, slice_split};
-ghost use Rattle.std.specs.Str.{bytes_eq};
-ghost use Rattle.std.specs.Str.Parse.{digits_value};
-ghost use Rattle.query_lang.specs.Lexis.{below_limit, is_digit};
+ghost use Rattle.query_lang.specs.Lexis.{is_digit};
 ghost use Rattle.plan_file.specs.Lexis as Lexis;
 ghost use Rattle.plan_file.specs.Lexis.{is_line_feed, is_space, number_after, tokens, tokens_left};
 
 use query_lang::Op;
+use query_lang::lexis::{is_decimal_digit, is_text, number_of};
 
 /// The bytes before the first LF, and those after it.
 pub(crate) fn cut_at_line_feed(text: &[u8]) -> Option<(&[u8], &[u8])>
@@ -52,12 +50,6 @@ pub(crate) fn first_token(line: &[u8]) -> (&[u8], &[u8], bool)
     }
 }
 
-fn is_decimal_digit(byte: u8) -> bool
-    ensures { result ≡ is_digit byte }
-{
-    byte.is_ascii_digit()
-}
-
 fn all_digits(text: &[u8]) -> bool
     ensures { result ≡ list_all is_digit text.now }
 {
@@ -69,30 +61,6 @@ fn all_digits(text: &[u8]) -> bool
     true
 }
 
-fn digit_of(byte: u8) -> u64
-    requires { is_digit byte ≡ true }
-    ensures value { result ≡ digit_value byte }
-    ensures small { result < 10 }
-{
-    u64::from(byte - b'0')
-}
-
-// The number that digits write, where it fits into a word.
-fn value_of(digits: &[u8]) -> Option<u64>
-    requires { list_all is_digit digits.now ≡ true }
-    ensures { result ≡ below_limit (digits_value 10 digits.now) }
-{
-    let mut n: u64 = 0;
-    for d in digits {
-        let digit = digit_of(*d);
-        if n > (u64::MAX - digit) / 10 {
-            return None;
-        }
-        n = n * 10 + digit;
-    }
-    Some(n)
-}
-
 /// A decimal number below 2^64 without leading zeros.
 pub(crate) fn number(text: &[u8]) -> Option<u64>
     ensures { result ≡ Lexis.number text.now }
@@ -101,7 +69,7 @@ pub(crate) fn number(text: &[u8]) -> Option<u64>
         [] => None,
         [first, rest @ ..] => {
             if all_digits(text) && (rest.is_empty() || *first != b'0') {
-                value_of(text)
+                number_of(text)
             } else {
                 None
             }
@@ -117,12 +85,6 @@ pub(crate) fn past(byte: u8, token: &[u8]) -> Option<u64>
         [] => None,
         [first, rest @ ..] => { if *first == byte { number(rest) } else { None } }
     }
-}
-
-pub(crate) fn is_text(a: &[u8], b: &[u8]) -> bool
-    ensures { result ≡ bytes_eq a.now b.now }
-{
-    a == b
 }
 
 /// The function of two operands with this name.

@@ -1,7 +1,6 @@
 //! The text of a plan: what its lines say, which lines are valid after those before them, and where a text is refused.
 #![tactic(auto)]
 
-mod answer;
 mod fold_line;
 mod group_lines;
 mod lexemes;
@@ -16,7 +15,6 @@ mod texts;
 mod tree;
 mod wants;
 
-pub use answer::PlanFileAnswer;
 pub use fold_line::fold_of;
 pub use lexemes::Lexeme;
 pub use line_word::LineWord;

@@ -3,7 +3,8 @@
 ghost use Rattle.std.specs.Prelude.{◌≡◌};
 ghost use Rattle.plan_file.specs.LineWords as LineWords;
 
-use crate::lexis::{first_token, is_text};
+use crate::lexis::first_token;
+use query_lang::lexis::is_text;
 
 /// The kinds of lines, by their first words.
 #[derive(Clone, Copy)]

@@ -1,81 +1,24 @@
 //! Lines with a word, a name and an operand or a number, as they are read.
 
-ghost use Rattle.std.specs.Prelude.{◌≡◌, ◌≤◌, ◌∷◌, [], List, ℕ, true, false, codes, length, is_some, MatchOption};
+ghost use Rattle.std.specs.Prelude.{◌≡◌, ◌≤◌, ◌∷◌, [], List, ℕ, true, false, codes, length, MatchOption};
 ghost use Rattle.std.specs.List.{list_all};
-ghost use Rattle.query_lang.specs.Lexis.{is_word_byte, reserved};
+ghost use Rattle.query_lang.specs.Lexis.{is_word_byte};
 ghost use Rattle.plan_file.specs.Finding.{Finds};
 ghost use Rattle.plan_file.specs.Lexis as Lexis;
 ghost use Rattle.plan_file.specs.Lexis.{tokens};
 ghost use Rattle.plan_file.specs.Named.{IsNamedNumber, IsNamedOperand, IsOneNumber, IsOneOperand};
 
-use crate::lexis::{cut_at_space, is_text, number};
+use crate::lexis::{cut_at_space, number};
 use crate::operations::operand;
 use marple_base::Field;
+use query_lang::lexis::{is_decimal_digit, is_in_word, is_text, reserved_of};
 use stage_plan::{Operand, PlanOp};
-
-#[tactic(auto, unfolding(query_lang::specs::Lexis::reserved))]
-fn is_reserved(token: &[u8]) -> bool
-    ensures { result ≡ is_some (reserved token.now) }
-{
-    if is_text(token, b"def") {
-        true
-    } else if is_text(token, b"if") {
-        true
-    } else if is_text(token, b"else") {
-        true
-    } else if is_text(token, b"emit") {
-        true
-    } else if is_text(token, b"filter") {
-        true
-    } else if is_text(token, b"map") {
-        true
-    } else if is_text(token, b"zip") {
-        true
-    } else if is_text(token, b"groupby") {
-        true
-    } else if is_text(token, b"final") {
-        true
-    } else if is_text(token, b"print") {
-        true
-    } else if is_text(token, b"join") {
-        true
-    } else if is_text(token, b"top") {
-        true
-    } else if is_text(token, b"max") {
-        true
-    } else if is_text(token, b"min") {
-        true
-    } else if is_text(token, b"sadd") {
-        true
-    } else if is_text(token, b"decay") {
-        true
-    } else if is_text(token, b"infinity") {
-        true
-    } else if is_text(token, b"mark") {
-        true
-    } else if is_text(token, b"epoch") {
-        true
-    } else if is_text(token, b"epochs") {
-        true
-    } else {
-        false
-    }
-}
-
-fn is_word(byte: u8) -> bool
-    ensures { result ≡ is_word_byte byte }
-{
-    matches!(byte, b'0'..=b'9')
-        || matches!(byte, b'A'..=b'Z')
-        || matches!(byte, b'a'..=b'z')
-        || byte == b'_'
-}
 
 fn all_words(text: &[u8]) -> bool
     ensures { result ≡ list_all is_word_byte text.now }
 {
     for byte in text {
-        if !is_word(*byte) {
+        if !is_in_word(*byte) {
             return false;
         }
     }
@@ -88,7 +31,9 @@ pub(crate) fn is_name(token: &[u8]) -> bool
 {
     match token {
         [] => false,
-        [first, ..] => all_words(token) && !matches!(*first, b'0'..=b'9') && !is_reserved(token),
+        [first, ..] => {
+            all_words(token) && !is_decimal_digit(*first) && reserved_of(token).is_none()
+        }
     }
 }
 

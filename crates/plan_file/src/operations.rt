@@ -8,9 +8,10 @@ ghost use Rattle.plan_file.specs.Operations as Operations;
 ghost use Rattle.plan_file.specs.Operations.{IsAllowed, IsKnown, IsKnownRegister, IsOpLine, IsStaged, is_right_of, not_of, takes_right};
 ghost use Rattle.plan_file.specs.Operations.{two_of};
 
-use crate::lexis::{cut_at_space, function_named, is_text, number, past};
+use crate::lexis::{cut_at_space, function_named, number, past};
 use marple_base::Field;
 use query_lang::Op;
+use query_lang::lexis::is_text;
 use stage_plan::{Operand, Operation, PlanOp};
 
 // Whether a field has this number.

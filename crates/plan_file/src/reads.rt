@@ -5,8 +5,9 @@ ghost use Rattle.marple_base.specs.Field.{number_of};
 ghost use Rattle.plan_file.specs.Finding.{Finds};
 ghost use Rattle.plan_file.specs.Operations.{IsReadsLine};
 
-use crate::lexis::{first_token, is_text};
+use crate::lexis::first_token;
 use marple_base::{Field, Seq};
+use query_lang::lexis::is_text;
 use std::alloc::{AllocError, Global};
 
 // The field with this number.

@@ -5,11 +5,10 @@ ghost use Rattle.plan_file.specs.Lexis.{lines};
 ghost use Rattle.plan_file.specs.Lines.{nothing as nothing_made};
 ghost use Rattle.plan_file.specs.Texts.{IsAfterLines, IsLineStart, Says, IsRefused};
 
-use crate::answer::PlanFileAnswer;
 use crate::lexis::cut_at_line_feed;
 use crate::lines::{nothing, one_more};
 use crate::made::Made;
-use query_lang::{FaultKind, QueryFault, Span};
+use query_lang::{FaultKind, QueryError, QueryFault, Span};
 use std::alloc::Global;
 
 /// The most bytes that a text may have.
@@ -31,19 +30,19 @@ fn next_line(text: &[u8], at: usize) -> Option<(&[u8], usize)>
 }
 
 // A refusal at a byte.
-fn refused(at: usize) -> PlanFileAnswer
+fn refused(at: usize) -> QueryError
     requires { at ≤ 2097152 }
-    ensures { result ≡ PlanFileAnswer.Refused (record { kind = FaultKind.BadPlan; span = record { start = at; end = at } }) }
+    ensures { result ≡ QueryError.Refused (record { kind = FaultKind.BadPlan; span = record { start = at; end = at } }) }
 {
     let at = at as u32;
-    PlanFileAnswer::Refused(QueryFault {
+    QueryError::Refused(QueryFault {
         kind: FaultKind::BadPlan,
         span: Span { start: at, end: at },
     })
 }
 
 // The lines of a text in order, which make this of nothing.
-fn read_lines(alloc: Global, text: &[u8], made: &mut Made) -> Result<(), PlanFileAnswer>
+fn read_lines(alloc: Global, text: &[u8], made: &mut Made) -> Result<(), QueryError>
     requires { made.old ≡ nothing_made }
     ensures { MatchResult result (λ _. Says text.now made.new) (IsRefused text.now) }
 {
@@ -65,7 +64,7 @@ fn read_lines(alloc: Global, text: &[u8], made: &mut Made) -> Result<(), PlanFil
 }
 
 /// What the lines of a valid text make; a refusal gives the first line that isn't valid after the lines before it.
-pub fn read_text(alloc: Global, text: &[u8]) -> Result<Made, PlanFileAnswer>
+pub fn read_text(alloc: Global, text: &[u8]) -> Result<Made, QueryError>
     ensures { MatchResult result (λ made. Says text.now made) (IsRefused text.now) }
 {
     let mut made = nothing(alloc);

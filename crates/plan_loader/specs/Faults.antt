@@ -1,7 +1,7 @@
 -- Why the text of a plan is refused.
 use Rattle.std.specs.Prelude.{◌≡◌, ℕ, List, Option, Some, None}
 use Rattle.query_lang.specs.declared.fault.QueryFault.{QueryFault}
-use Rattle.plan_file.specs.declared.answer.PlanFileAnswer.TheVariants as answers
+use Rattle.query_lang.specs.declared.error.QueryError.TheVariants as answers
 use Rattle.plan_file.specs.Texts.{IsRefused, IsValidText}
 
 -- The fault of a text: none where the text is valid.

@@ -7,7 +7,8 @@ ghost use Rattle.plan_loader.specs.Parts.{IsSoundMade};
 
 use crate::groups::{set_read, wired_groups};
 use crate::loaded::LoadedPlan;
-use plan_file::{Made, PlanFileAnswer, read_text};
+use plan_file::{Made, read_text};
+use query_lang::QueryError;
 use stage_plan::Plan;
 use std::alloc::{AllocError, Global};
 
@@ -33,16 +34,12 @@ fn plan_of(alloc: Global, made: Made) -> Result<LoadedPlan, AllocError>
 /// The plan of a valid text. Any other text is refused at the first line that isn't valid after the lines before it, or
 /// after its last byte where it ends too early, or after the most bytes where it is too long. A text is refused
 /// nowhere if it is valid, and otherwise at one place.
-pub fn read_plan(alloc: Global, text: &[u8]) -> Result<LoadedPlan, PlanFileAnswer>
+pub fn read_plan(alloc: Global, text: &[u8]) -> Result<LoadedPlan, QueryError>
     ensures answer { MatchResult result (IsLoaded text.now) (IsRefused text.now) }
     ensures bound { IfOk result (HasBoundOf text.now) }
     ensures exact { MatchResult result (λ loaded. (place : ℕ) → IsBadAt text.now place → ⊥) (IsOnlyAnswer text.now) }
 {
-    match read_text(alloc, text) {
-        Ok(made) => {
-            let loaded = plan_of(alloc, made)?;
-            Ok(loaded)
-        }
-        Err(answer) => Err(answer),
-    }
+    let made = read_text(alloc, text)?;
+    let loaded = plan_of(alloc, made)?;
+    Ok(loaded)
 }

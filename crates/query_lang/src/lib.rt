@@ -1,10 +1,12 @@
 //! The query language: its syntax trees, with and without names, and what folds and expressions mean.
 #![tactic(auto)]
 
+mod error;
 mod eval;
 mod fault;
 mod fold;
 pub mod laws;
+pub mod lexis;
 mod names;
 mod query;
 pub mod stream_laws;
@@ -12,6 +14,7 @@ mod token;
 mod typed;
 pub mod typing;
 
+pub use error::QueryError;
 pub use eval::eval_expr;
 pub use fault::{FaultKind, Limit, QueryFault, Span};
 pub use fold::{Op, TypedExpr, TypedFold, TypedStmt};

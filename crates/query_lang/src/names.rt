@@ -8,10 +8,16 @@ use std::alloc::{AllocError, Global};
 use std::marker::Model;
 
 /// Texts of names, which contracts see as a list. A name's number is its place, from 0, by first appearance.
-#[derive(Drop)]
 pub struct Names {
     alloc: Global,
     texts: IndexSet<Vec<u8>>,
+}
+
+// One step at each exit of an owner, where a derived drop would be one for each part.
+impl Drop for Names {
+    fn drop(self) {
+        let Names { alloc: _, texts: _ } = self;
+    }
 }
 
 impl Model for Names {

@@ -6,11 +6,11 @@ use Rattle.query_lang.specs.declared.token.Piece.TheVariants as pieces
 use Rattle.query_lang.specs.declared.fault.FaultKind.TheVariants.{QueryTooLong}
 use Rattle.query_lang.specs.Lexis.{Cut, fault_at}
 use Rattle.query_parser.specs.declared.lexer.Lexed.{Lexed}
-use Rattle.query_parser.specs.declared.answer.ParseAnswer.{ParseAnswer}
-use Rattle.query_parser.specs.declared.answer.ParseAnswer.TheVariants.{Refused, Memory}
+use Rattle.query_lang.specs.declared.error.QueryError.{QueryError}
+use Rattle.query_lang.specs.declared.error.QueryError.TheVariants.{Refused, Memory}
 
 -- the tokens and the names, or the first fault
-abbrev pub GivesTokens : Result Lexed ParseAnswer → Cut → Type 0
+abbrev pub GivesTokens : Result Lexed QueryError → Cut → Type 0
 GivesTokens (Ok lexed) cut = cut ≡ Ok (lexed.tokens, lexed.names)
 GivesTokens (Err (Refused fault)) cut = cut ≡ Err fault
 GivesTokens (Err Memory) cut = Unit {0}
@@ -26,13 +26,7 @@ IsWithin (pieces.Name n) len = n ≤ len
 IsWithin (pieces.Token kind n) len = n ≤ len
 IsWithin (pieces.Fault kind n) len = n ≤ len
 
--- the same value or fault, unless memory runs out
-abbrev pub Answers : {A : Type 0} → Result A ParseAnswer → Result A QueryFault → Type 0
-Answers (Ok x) o = o ≡ Ok x
-Answers (Err (Refused fault)) o = o ≡ Err fault
-Answers (Err Memory) o = Unit {0}
-
-abbrev pub IfRefused : {A : Type 0} → Result A ParseAnswer → (QueryFault → Type 0) → Type 0
+abbrev pub IfRefused : {A : Type 0} → Result A QueryError → (QueryFault → Type 0) → Type 0
 IfRefused (Ok x) holds = Unit {0}
 IfRefused (Err (Refused fault)) holds = holds fault
 IfRefused (Err Memory) holds = Unit {0}

@@ -1,30 +1,15 @@
 //! Cuts a text into tokens.
 
-ghost use Rattle.std.specs.Prelude.{◌≡◌, ℕ, ◌^◌, length, slice_index, ◌<◌, ◌≤◌, ◌+◌, true};
-ghost use Rattle.std.specs.Str.{bytes_eq};
-ghost use Rattle.std.specs.Str.Parse.{digits_value};
+ghost use Rattle.std.specs.Prelude.{◌≡◌, ℕ, length, slice_index, ◌<◌, ◌≤◌, ◌+◌, true};
 ghost use Rattle.std.specs.List.{prefix_len};
-ghost use Rattle.query_lang.specs.Lexis.{is_word_byte, is_digit, is_not_line_feed, is_blank, one_mark, two_mark, reserved, below_limit};
+ghost use Rattle.query_lang.specs.Lexis.{is_word_byte, is_digit, is_not_line_feed, is_blank, one_mark, two_mark};
 ghost use Rattle.query_lang.specs.Lexis.{word_piece, mark_at, piece, token_at, fault_at, tokens_of};
 ghost use Rattle.query_parser.specs.Given.{GivesTokens, IsWithin};
-ghost use Rattle.std.specs.Char.{digit_value};
 
-use crate::answer::ParseAnswer;
 use marple_base::Seq;
-use query_lang::{FaultKind, Mark, Names, Piece, QueryFault, Span, Token, TokenKind, Word};
+use query_lang::lexis::{is_decimal_digit, is_in_word, is_text, number_of, reserved_of};
+use query_lang::{FaultKind, Mark, Names, Piece, QueryError, QueryFault, Span, Token, TokenKind};
 use std::alloc::{AllocError, Global};
-
-fn is_word_byte_at(b: u8) -> bool
-    ensures { result ≡ is_word_byte b }
-{
-    matches!(b, b'0'..=b'9' | b'A'..=b'Z' | b'a'..=b'z' | b'_')
-}
-
-fn is_digit_at(b: u8) -> bool
-    ensures { result ≡ is_digit b }
-{
-    matches!(b, b'0'..=b'9')
-}
 
 fn is_blank_at(b: u8) -> bool
     ensures { result ≡ is_blank b }
@@ -36,14 +21,14 @@ fn is_blank_at(b: u8) -> bool
 fn word_len(bytes: &[u8]) -> usize
     ensures { result ≡ prefix_len is_word_byte bytes.now }
 {
-    bytes.iter().take_while(|b| is_word_byte_at(**b)).count()
+    bytes.iter().take_while(|b| is_in_word(**b)).count()
 }
 
 /// How many of the first bytes are digits.
 fn digits_len(bytes: &[u8]) -> usize
     ensures { result ≡ prefix_len is_digit bytes.now }
 {
-    bytes.iter().take_while(|b| is_digit_at(**b)).count()
+    bytes.iter().take_while(|b| is_decimal_digit(**b)).count()
 }
 
 /// How many bytes there are before the end of the line.
@@ -96,86 +81,6 @@ fn two_mark_at(a: u8, b: u8) -> Option<Mark>
         (b'|', b'|') => Some(Mark::Either),
         _ => None,
     }
-}
-
-/// Whether two texts are the same.
-fn is_text(w: &[u8], text: &[u8]) -> bool
-    ensures { result ≡ bytes_eq w.now text.now }
-{
-    w == text
-}
-
-#[tactic(auto, unfolding(query_lang::specs::Lexis::reserved))]
-fn reserved_of(w: &[u8]) -> Option<Word>
-    ensures { result ≡ reserved w.now }
-{
-    if is_text(w, b"def") {
-        Some(Word::Def)
-    } else if is_text(w, b"if") {
-        Some(Word::If)
-    } else if is_text(w, b"else") {
-        Some(Word::Else)
-    } else if is_text(w, b"emit") {
-        Some(Word::Emit)
-    } else if is_text(w, b"filter") {
-        Some(Word::Filter)
-    } else if is_text(w, b"map") {
-        Some(Word::Map)
-    } else if is_text(w, b"zip") {
-        Some(Word::Zip)
-    } else if is_text(w, b"groupby") {
-        Some(Word::Groupby)
-    } else if is_text(w, b"final") {
-        Some(Word::Final)
-    } else if is_text(w, b"print") {
-        Some(Word::Print)
-    } else if is_text(w, b"join") {
-        Some(Word::Join)
-    } else if is_text(w, b"top") {
-        Some(Word::Top)
-    } else if is_text(w, b"max") {
-        Some(Word::Max)
-    } else if is_text(w, b"min") {
-        Some(Word::Min)
-    } else if is_text(w, b"sadd") {
-        Some(Word::Sadd)
-    } else if is_text(w, b"decay") {
-        Some(Word::Decay)
-    } else if is_text(w, b"infinity") {
-        Some(Word::Infinity)
-    } else if is_text(w, b"mark") {
-        Some(Word::Mark)
-    } else if is_text(w, b"epoch") {
-        Some(Word::Epoch)
-    } else if is_text(w, b"epochs") {
-        Some(Word::Epochs)
-    } else {
-        None
-    }
-}
-
-/// The number that the digits write, where it is below 2 ^ 64.
-fn number_of(digits: &[u8]) -> Option<u64>
-    requires { (k : ℕ) → k < length digits.now → is_digit (slice_index digits.now k) ≡ true }
-    ensures { result ≡ below_limit (digits_value 10 digits.now) }
-{
-    let mut n: u64 = 0;
-    for d in digits {
-        let digit = digit_of(*d);
-        if n > (u64::MAX - digit) / 10 {
-            return None;
-        }
-        n = n * 10 + digit;
-    }
-    Some(n)
-}
-
-fn digit_of(b: u8) -> u64
-    requires { is_digit b ≡ true }
-    ensures value { result ≡ digit_value b }
-    ensures small { result < 10 }
-{
-    u64::from(b - b'0')
 }
 
 /// What a word is that begins with that many digits.
@@ -233,7 +138,7 @@ fn piece_of(bytes: &[u8]) -> Piece
     if *first == b'#' {
         return Piece::Blank(1 + line_len(rest));
     }
-    if !is_word_byte_at(*first) {
+    if !is_in_word(*first) {
         return piece_of_mark(*first, rest);
     }
     let len = word_len(bytes);
@@ -273,7 +178,7 @@ pub fn fault_from(kind: FaultKind, at: usize) -> QueryFault
 
 /// Cuts a text into its tokens, and numbers its names by first appearance. Where a byte begins no token or a number is
 /// too large, the first such fault is the answer.
-pub fn cut_text(alloc: Global, text: &[u8]) -> Result<Lexed, ParseAnswer>
+pub fn cut_text(alloc: Global, text: &[u8]) -> Result<Lexed, QueryError>
     requires { length text.now ≤ 65536 }
     ensures { GivesTokens result (tokens_of text.now) }
 {
@@ -296,7 +201,7 @@ pub fn cut_text(alloc: Global, text: &[u8]) -> Result<Lexed, ParseAnswer>
                 tokens.push(token_from(kind, at, at + len))?;
                 at += len;
             }
-            Piece::Fault(kind, len) => return Err(ParseAnswer::Refused(fault_from(kind, at + len))),
+            Piece::Fault(kind, len) => return Err(QueryError::Refused(fault_from(kind, at + len))),
         }
     }
     tokens.push(token_from(TokenKind::End, at, at))?;

@@ -1,7 +1,6 @@
 //! Reads a query: its text is cut into tokens, and those into items.
 #![tactic(auto)]
 
-mod answer;
 mod expression;
 mod final_table;
 mod fold;
@@ -14,6 +13,5 @@ mod statement;
 mod stream;
 mod word;
 
-pub use answer::ParseAnswer;
 pub use lexer::{Lexed, cut_text};
 pub use reading::parse;

@@ -3,16 +3,16 @@
 ghost use Rattle.std.specs.Prelude.{◌≡◌, IfOk};
 ghost use Rattle.query_grammar.specs.Reading.{parsed};
 ghost use Rattle.query_grammar.specs.Texts.{answered, first_fault_of, IsFaultOf, IsQueryOf, kind_of as kind_by, parsed_text};
+ghost use Rattle.query_lang.specs.Answers.{Answers};
 ghost use Rattle.query_lang.specs.Limits.{IsReadable};
-ghost use Rattle.query_parser.specs.Given.{Answers, IfRefused, length_checked};
+ghost use Rattle.query_parser.specs.Given.{IfRefused, length_checked};
 
-use crate::answer::ParseAnswer;
 use crate::halt::Halt;
 use crate::item::query;
 use crate::lexer::{Lexed, cut_text, fault_from};
 use marple_base::Seq;
 use query_grammar::{Counts, Stop};
-use query_lang::{FaultKind, Item, Limit, Query, QueryFault, Span, Token};
+use query_lang::{FaultKind, Item, Limit, Query, QueryError, QueryFault, Span, Token};
 use std::alloc::Global;
 
 fn kind_of(stop: Stop) -> FaultKind
@@ -41,7 +41,7 @@ fn fault_of(stop: Stop, rest: &[Token]) -> QueryFault
 }
 
 /// The items that the tokens are, all of them, and where the text ends.
-fn read_tokens(alloc: Global, tokens: &[Token]) -> Result<(Seq<Item>, Span), ParseAnswer>
+fn read_tokens(alloc: Global, tokens: &[Token]) -> Result<(Seq<Item>, Span), QueryError>
     ensures { Answers result (answered (parsed tokens.now)) }
 {
     let none = Counts {
@@ -50,9 +50,9 @@ fn read_tokens(alloc: Global, tokens: &[Token]) -> Result<(Seq<Item>, Span), Par
     };
     match query(alloc, none, tokens) {
         Ok((found, _, [])) => Ok(found),
-        Ok((_, _, rest)) => Err(ParseAnswer::Refused(fault_of(Stop::Unexpected, rest))),
-        Err(Halt::At(fault)) => Err(ParseAnswer::Refused(fault_of(fault.stop, fault.rest))),
-        Err(Halt::Memory) => Err(ParseAnswer::Memory),
+        Ok((_, _, rest)) => Err(QueryError::Refused(fault_of(Stop::Unexpected, rest))),
+        Err(Halt::At(fault)) => Err(QueryError::Refused(fault_of(fault.stop, fault.rest))),
+        Err(Halt::Memory) => Err(QueryError::Memory),
     }
 }
 
@@ -66,7 +66,7 @@ fn check_length(text: &[u8]) -> Result<(), QueryFault>
     Ok(())
 }
 
-fn read_text(alloc: Global, text: &[u8]) -> Result<Query, ParseAnswer>
+fn read_text(alloc: Global, text: &[u8]) -> Result<Query, QueryError>
     ensures { Answers result (parsed_text text.now) }
 {
     check_length(text)?;
@@ -77,7 +77,7 @@ fn read_text(alloc: Global, text: &[u8]) -> Result<Query, ParseAnswer>
 
 /// The query of a text, or the first fault: of its length, then of the lexis, then of the grammar with its limits on
 /// nodes, statements and open brackets. `Memory` is given only where memory runs out.
-pub fn parse(alloc: Global, text: &[u8]) -> Result<Query, ParseAnswer>
+pub fn parse(alloc: Global, text: &[u8]) -> Result<Query, QueryError>
     ensures given { Answers result (parsed_text text.now) }
     ensures query { IfOk result (λ q. IsQueryOf text.now q) }
     ensures readable { IfOk result (λ q. IsReadable q) }

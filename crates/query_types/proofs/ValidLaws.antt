@@ -1,6 +1,6 @@
 -- The typed query of a readable query is valid.
 use Rattle.std.proofs.Common.{◌≡◌, ℕ, ◌+◌, ◌<◌, ◌≤◌, ◌^◌, Bool, true, false, ◌||◌, cond, List, [], ◌∷◌, ◌++◌, length, map, min, count_by}
-use Rattle.std.proofs.Common.{Ok, nat_lt, not, refl, sym, ap, subst, append-nil, arith}
+use Rattle.std.proofs.Common.{Ok, Err, Result, IfOk, nat_lt, not, refl, sym, ap, subst, append-nil, arith}
 use Rattle.std.specs.List.{All, list_any}
 use Rattle.std.specs.Str.{bytes_eq}
 use Rattle.std.proofs.lemmas.List.{length-append}
@@ -8,6 +8,7 @@ use Rattle.std.proofs.lemmas.List.Elements.{All-nil, All-cons, All-map}
 use Rattle.std.proofs.lemmas.Slice.Eq.{bytes_eq-Decides}
 use Rattle.marple_base.specs.declared.field.Field.{Field}
 use Rattle.marple_base.specs.Field.{all_fields, field_name}
+use Rattle.query_lang.specs.declared.error.QueryError.{QueryError}
 use Rattle.query_lang.specs.declared.fault.FaultKind.TheVariants.{NothingPrinted}
 use Rattle.query_lang.specs.declared.query.FinalOp.{FinalOp}
 use Rattle.query_lang.specs.declared.query.FinalOp.TheVariants as final_ops
@@ -21,6 +22,7 @@ use Rattle.query_lang.specs.declared.typed.PrintOf.TheVariants as place
 use Rattle.query_lang.specs.declared.typed.TypedQuery.{TypedQuery}
 use Rattle.query_lang.specs.declared.typing.Origin.TheVariants as origin
 use Rattle.query_lang.specs.declared.typing.StreamColumn.{StreamColumn}
+use Rattle.query_lang.specs.Answers.{Answers}
 use Rattle.query_lang.specs.Folds.{IsValidFold}
 use Rattle.query_lang.specs.Limits.{IsNumbered, IsNumberedStream, IsNumberedFinal, IsReadable}
 use Rattle.query_lang.specs.Names.{number_in, with_name}
@@ -221,9 +223,20 @@ query_valid q typed readable words e =
     })
 
 -- the names of a typed query
-pub query_names : (q : Query) (typed : TypedQuery) → checked q ≡ Ok typed → typed.names ≡ typed_names q.names
+query_names : (q : Query) (typed : TypedQuery) → checked q ≡ Ok typed → typed.names ≡ typed_names q.names
 query_names q typed e =
     let names = typed_names q.names in
     let first = found_first (items_checked (given_of names q.items) (start_of names) q.items) _ typed e in
     let last = must_ok (nat_lt 0 (length first.0.prints)) NothingPrinted q.end _ typed first.2 in
     ap (λ (z : TypedQuery). z.names) (sym (same_ok _ typed last.1))
+
+-- the same of what is answered where memory may run out
+pub answer_valid : (q : Query) (answer : Result TypedQuery QueryError) → IsReadable q
+    → IfOk answer (λ typed. greatest_of (map item_number q.items) < 2 ^ 64) → Answers answer (checked q) → IfOk answer IsValidQuery
+answer_valid q (Ok typed) readable words given = query_valid q typed readable words given
+answer_valid q (Err error) readable words given = tt
+
+pub answer_named : (q : Query) (answer : Result TypedQuery QueryError) → Answers answer (checked q)
+    → IfOk answer (λ typed. typed.names ≡ typed_names q.names)
+answer_named q (Ok typed) given = query_names q typed given
+answer_named q (Err error) given = tt

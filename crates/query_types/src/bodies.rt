@@ -4,16 +4,19 @@ ghost use Rattle.std.specs.Prelude.{◌≡◌, ◌<◌, ◌≤◌, ◌^◌, ◌�
 ghost use Rattle.query_lang.specs.TypedExprs.{condition_of, word_of};
 ghost use Rattle.query_lang.specs.TypedFolds.{target_of, state_in, joined, inside, in_order, emit_condition, emitted, stmt_checked};
 ghost use Rattle.query_lang.specs.TypedFolds.{body_checked};
-ghost use Rattle.query_types.specs.Answers.{Answers, Leaves};
+ghost use Rattle.query_lang.specs.Answers.{Answers};
+ghost use Rattle.query_types.specs.Answers.{Leaves};
 ghost use Rattle.query_types.specs.Bodies.{IsScope, choice_of, assigned};
 ghost use Rattle.query_types.specs.Numbers.{greatest_of, greatest_number, greatest_in};
 
-use crate::answer::{CheckAnswer, fault, refused};
+use crate::answer::{fault, refused};
 use crate::copies::{copy_expr, names_of_both};
 use crate::exprs::{check_condition, check_word, find_place, has_name};
 use marple_base::{Boxed, Seq};
 use query_lang::typing::{Body, Enclosing};
-use query_lang::{Expr, FaultKind, Name, Op, QueryFault, Span, Stmt, TypedExpr, TypedStmt};
+use query_lang::{
+    Expr, FaultKind, Name, Op, QueryError, QueryFault, Span, Stmt, TypedExpr, TypedStmt,
+};
 use std::alloc::{AllocError, Global};
 use std::mem;
 
@@ -76,7 +79,7 @@ fn find_state(states: &[u32], e: &Expr) -> Option<Span>
 }
 
 // An expression over a fold's columns that has to be a word.
-fn fold_word(alloc: Global, scope: Scope<'_>, e: &Expr) -> Result<TypedExpr, CheckAnswer>
+fn fold_word(alloc: Global, scope: Scope<'_>, e: &Expr) -> Result<TypedExpr, QueryError>
     requires { IsScope scope }
     ensures given { Answers result (word_of (scope.entry.states.now ++ scope.entry.args.now) [] e.now) }
     ensures numbers { IfOk result (λ _. greatest_number e.now < 2 ^ 64) }
@@ -85,7 +88,7 @@ fn fold_word(alloc: Global, scope: Scope<'_>, e: &Expr) -> Result<TypedExpr, Che
 }
 
 // An expression over a fold's columns that has to be a condition.
-fn fold_condition(alloc: Global, scope: Scope<'_>, e: &Expr) -> Result<TypedExpr, CheckAnswer>
+fn fold_condition(alloc: Global, scope: Scope<'_>, e: &Expr) -> Result<TypedExpr, QueryError>
     requires { IsScope scope }
     ensures given { Answers result (condition_of (scope.entry.states.now ++ scope.entry.args.now) [] e.now) }
     ensures numbers { IfOk result (λ _. greatest_number e.now < 2 ^ 64) }
@@ -167,7 +170,7 @@ fn open_choice(
     scope: Scope<'_>,
     outer: &Enclosing,
     written: &Expr,
-) -> Result<Boxed<Choice>, CheckAnswer>
+) -> Result<Boxed<Choice>, QueryError>
     requires { IsScope scope }
     ensures given { Answers result (choice_of scope.entry.states.now scope.entry.args.now outer.now written.now) }
     ensures numbers { IfOk result (λ _. greatest_number written.now < 2 ^ 64) }
@@ -199,7 +202,7 @@ fn close_choice(
     choice: Boxed<Choice>,
     before: Seq<TypedStmt>,
     then_block: Seq<TypedStmt>,
-) -> Result<(), CheckAnswer>
+) -> Result<(), QueryError>
     ensures { Leaves result found.new
         (Ok (record {
           statements = before ++ TypedStmt.If choice.condition then_block found.old.statements ∷ [];
@@ -224,7 +227,7 @@ fn add_emit(
     span: Span,
     outer: &Enclosing,
     found: &mut Body,
-) -> Result<(), CheckAnswer>
+) -> Result<(), QueryError>
     ensures { Leaves result found.new (emitted span outer.now found.old) }
 {
     if found.emit.is_some() {
@@ -245,7 +248,7 @@ fn add_assignment(
     found: &mut Body,
     name: Name,
     e: &Expr,
-) -> Result<(), CheckAnswer>
+) -> Result<(), QueryError>
     requires { IsScope scope }
     ensures given { Leaves result found.new (assigned scope.entry.states.now scope.entry.args.now name e.now found.old) }
     ensures numbers { OnOk result (greatest_number e.now < 2 ^ 64) }
@@ -263,7 +266,7 @@ pub fn check_stmt(
     outer: &Enclosing,
     found: &mut Body,
     s: &Stmt,
-) -> Result<(), CheckAnswer>
+) -> Result<(), QueryError>
     requires { IsScope scope }
     ensures given { Leaves result found.new (stmt_checked scope.entry.states.now scope.entry.args.now s.now outer.now found.old) }
     ensures numbers { OnOk result (greatest_in s.now < 2 ^ 64) }
@@ -300,7 +303,7 @@ fn check_all(
     outer: &Enclosing,
     found: &mut Body,
     body: &[Stmt],
-) -> Result<(), CheckAnswer>
+) -> Result<(), QueryError>
     requires { IsScope scope }
     ensures given { Leaves result found.new
         (in_order (map (stmt_checked scope.entry.states.now scope.entry.args.now) body.now) outer.now found.old) }
@@ -313,7 +316,7 @@ fn check_all(
 }
 
 // The statements of a fold in its scope, with no condition around them.
-fn check_within(alloc: Global, scope: Scope<'_>, body: &[Stmt]) -> Result<Body, CheckAnswer>
+fn check_within(alloc: Global, scope: Scope<'_>, body: &[Stmt]) -> Result<Body, QueryError>
     requires { IsScope scope }
     ensures given { Answers result (body_checked scope.entry.states.now scope.entry.args.now body.now) }
     ensures numbers { IfOk result (λ _. greatest_of (map greatest_in body.now) < 2 ^ 64) }
@@ -337,7 +340,7 @@ pub fn check_body(
     states: &[u32],
     args: &[u32],
     body: &[Stmt],
-) -> Result<Body, CheckAnswer>
+) -> Result<Body, QueryError>
     requires states { length states.now ≤ 8 }
     requires args { length args.now ≤ 16 }
     ensures given { Answers result (body_checked states.now args.now body.now) }

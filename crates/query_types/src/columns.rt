@@ -6,15 +6,15 @@ ghost use Rattle.query_lang.specs.Checks.{collected, is_among};
 ghost use Rattle.query_lang.specs.TypedExprs.{slot_of};
 ghost use Rattle.query_lang.specs.TypedStreams.{new_columns, no_new_columns, same_origin, clashes_with, clash, column_names, others_from};
 ghost use Rattle.query_lang.specs.TypedStreams.{columns_at, key_names, keys_from, keys_checked, arguments_of};
-ghost use Rattle.query_types.specs.Answers.{Answers};
+ghost use Rattle.query_lang.specs.Answers.{Answers};
 ghost use Rattle.query_types.specs.Fitting.{IsNarrow};
 ghost use Rattle.query_types.specs.Numbers.{columns_number};
 
-use crate::answer::{CheckAnswer, refused};
+use crate::answer::refused;
 use crate::exprs::{check_word, find_slot, has_name};
 use marple_base::Seq;
 use query_lang::typing::{FoldView, NewColumns, Origin, Picked, StreamColumn};
-use query_lang::{Column, FaultKind, Key, Limit, Name, Span};
+use query_lang::{Column, FaultKind, Key, Limit, Name, QueryError, Span};
 use std::alloc::{AllocError, Global};
 
 /// The columns that a `map` adds to these columns, beside these hidden states.
@@ -23,7 +23,7 @@ pub fn check_columns(
     columns: &[u32],
     hidden: &[u32],
     new: &[Column],
-) -> Result<NewColumns, CheckAnswer>
+) -> Result<NewColumns, QueryError>
     requires { IsNarrow columns.now }
     ensures given { Answers result (new_columns columns.now hidden.now no_new_columns new.now) }
     ensures numbers { IfOk result (λ _. columns_number new.now < 2 ^ 64) }
@@ -178,7 +178,7 @@ fn pick_keys(
     columns: &[u32],
     hidden: &[u32],
     keys: &[Name],
-) -> Result<Picked, CheckAnswer>
+) -> Result<Picked, QueryError>
     requires { IsNarrow columns.now }
     ensures given { Answers result (keys_from columns.now hidden.now (record { names = []; slots = [] }) keys.now) }
     ensures most { IfOk result (λ picked. length picked.names ≤ 8) }
@@ -208,7 +208,7 @@ pub fn check_keys(
     columns: &[u32],
     hidden: &[u32],
     keys: &[Key],
-) -> Result<Picked, CheckAnswer>
+) -> Result<Picked, QueryError>
     requires { IsNarrow columns.now }
     ensures given { Answers result (keys_checked five.now columns.now hidden.now keys.now) }
     ensures most { IfOk result (λ picked. length picked.names ≤ 8) }
@@ -224,7 +224,7 @@ fn argument_slots(
     hidden: &[u32],
     f: &FoldView,
     span: Span,
-) -> Result<Seq<u16>, CheckAnswer>
+) -> Result<Seq<u16>, QueryError>
     requires { IsNarrow columns.now }
     ensures { Answers result (collected [] (map (λ id. slot_of columns.now hidden.now (record { id = id; span = span })) f.now.args)) }
 {
@@ -256,7 +256,7 @@ pub fn check_arguments(
     keys: &[u32],
     f: &FoldView,
     span: Span,
-) -> Result<Seq<u16>, CheckAnswer>
+) -> Result<Seq<u16>, QueryError>
     requires { IsNarrow columns.now }
     ensures { Answers result (arguments_of columns.now hidden.now keys.now f.now span) }
 {

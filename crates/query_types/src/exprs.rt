@@ -4,14 +4,14 @@ ghost use Rattle.std.specs.Prelude.{◌≡◌, ◌<◌, ◌^◌, ◌∷◌, [], 
 ghost use Rattle.query_lang.specs.Checks.{is_among, place_of};
 ghost use Rattle.query_lang.specs.TypedExprs.{slot_of, is_condition_sort, is_operand, is_right_constant, sort_of, of_two, call_of};
 ghost use Rattle.query_lang.specs.TypedExprs.{negated, expr_checked, condition_of, word_of};
-ghost use Rattle.query_types.specs.Answers.{Answers};
+ghost use Rattle.query_lang.specs.Answers.{Answers};
 ghost use Rattle.query_types.specs.Fitting.{IsNarrow};
 ghost use Rattle.query_types.specs.Numbers.{greatest_number};
 
-use crate::answer::{CheckAnswer, fault, refused};
+use crate::answer::{fault, refused};
 use marple_base::{Boxed, Seq};
 use query_lang::typing::{Found, Sort};
-use query_lang::{Expr, FaultKind, Name, Op, QueryFault, Span, TypedExpr};
+use query_lang::{Expr, FaultKind, Name, Op, QueryError, QueryFault, Span, TypedExpr};
 use std::alloc::{AllocError, Global};
 
 /// Is the name among these?
@@ -104,14 +104,14 @@ fn typed_binary(
     op: Op,
     left: TypedExpr,
     right: TypedExpr,
-) -> Result<TypedExpr, CheckAnswer>
+) -> Result<TypedExpr, QueryError>
     ensures { Answers result (Ok (TypedExpr.Binary op left right)) }
 {
     Ok(TypedExpr::Binary(op, Boxed::new(alloc, left)?, Boxed::new(alloc, right)?))
 }
 
 // An operator or function between two operands.
-fn join(alloc: Global, op: Op, at: Span, left: Found, right: Found) -> Result<Found, CheckAnswer>
+fn join(alloc: Global, op: Op, at: Span, left: Found, right: Found) -> Result<Found, QueryError>
     ensures { Answers result (of_two op at left right) }
 {
     if !fits(op, left.sort) {
@@ -132,7 +132,7 @@ fn join(alloc: Global, op: Op, at: Span, left: Found, right: Found) -> Result<Fo
 }
 
 // A function of its operands.
-fn call(alloc: Global, op: Op, span: Span, operands: Seq<Found>) -> Result<Found, CheckAnswer>
+fn call(alloc: Global, op: Op, span: Span, operands: Seq<Found>) -> Result<Found, QueryError>
     ensures { Answers result (call_of op span operands) }
 {
     let mut items = operands.into_vec();
@@ -147,7 +147,7 @@ fn call(alloc: Global, op: Op, span: Span, operands: Seq<Found>) -> Result<Found
 }
 
 // `!` before an expression.
-fn negate(alloc: Global, span: Span, inner: Found) -> Result<Found, CheckAnswer>
+fn negate(alloc: Global, span: Span, inner: Found) -> Result<Found, QueryError>
     ensures { Answers result (negated span inner) }
 {
     if !is_condition(inner.sort) {
@@ -167,7 +167,7 @@ pub fn check_expr(
     columns: &[u32],
     hidden: &[u32],
     e: &Expr,
-) -> Result<Found, CheckAnswer>
+) -> Result<Found, QueryError>
     requires { IsNarrow columns.now }
     ensures given { Answers result (expr_checked columns.now hidden.now e.now) }
     ensures numbers { IfOk result (λ _. greatest_number e.now < 2 ^ 64) }
@@ -216,7 +216,7 @@ pub fn check_condition(
     columns: &[u32],
     hidden: &[u32],
     e: &Expr,
-) -> Result<TypedExpr, CheckAnswer>
+) -> Result<TypedExpr, QueryError>
     requires { IsNarrow columns.now }
     ensures given { Answers result (condition_of columns.now hidden.now e.now) }
     ensures numbers { IfOk result (λ _. greatest_number e.now < 2 ^ 64) }
@@ -234,7 +234,7 @@ pub fn check_word(
     columns: &[u32],
     hidden: &[u32],
     e: &Expr,
-) -> Result<TypedExpr, CheckAnswer>
+) -> Result<TypedExpr, QueryError>
     requires { IsNarrow columns.now }
     ensures given { Answers result (word_of columns.now hidden.now e.now) }
     ensures numbers { IfOk result (λ _. greatest_number e.now < 2 ^ 64) }

@@ -1,16 +1,17 @@
 //! Finals.
 
-ghost use Rattle.std.specs.Prelude.{◌≡◌, ◌+◌, ◌<◌, ◌≤◌, ◌^◌, ◌++◌, [], IfOk, OnOk, length};
+ghost use Rattle.std.specs.Prelude.{◌≡◌, ◌+◌, ◌<◌, ◌≤◌, ◌^◌, ◌++◌, [], Ok, IfOk, OnOk, length};
 ghost use Rattle.query_lang.specs.TypedExprs.{condition_of, slot_of};
 ghost use Rattle.query_lang.specs.TypedStreams.{new_columns, no_new_columns, keys_checked, arguments_of};
 ghost use Rattle.query_lang.specs.TypedFinals.{table_number, five_fields, final_filter, final_map, final_group, final_join, final_top};
 ghost use Rattle.query_lang.specs.TypedFinals.{made_final, with_final, final_checked};
-ghost use Rattle.query_types.specs.Answers.{Answers, Leaves};
+ghost use Rattle.query_lang.specs.Answers.{Answers};
+ghost use Rattle.query_types.specs.Answers.{Leaves};
 ghost use Rattle.query_types.specs.Fitting.{Fits, IsEarly, IsNarrow};
 ghost use Rattle.query_types.specs.MadeFinals.{with_values, with_table_keys, with_others, with_kept};
 ghost use Rattle.query_types.specs.Numbers.{greatest_number, columns_number, final_number};
 
-use crate::answer::{CheckAnswer, refused};
+use crate::answer::refused;
 use crate::columns::{check_arguments, check_columns, check_keys};
 use crate::copies::{copy_words, names_of_both};
 use crate::exprs::{check_condition, find_slot};
@@ -22,8 +23,8 @@ use query_lang::typing::{
     Earlier, FoldView, Given, Known, MadeFinal, Meaning, NewColumns, Picked, TableView,
 };
 use query_lang::{
-    Column, Expr, FaultKind, FinalDef, FinalOp, Key, Name, PrintOf, QueryFault, Span, TypedExpr,
-    TypedFinal, TypedFinalOp,
+    Column, Expr, FaultKind, FinalDef, FinalOp, Key, Name, PrintOf, QueryError, QueryFault, Span,
+    TypedExpr, TypedFinal, TypedFinalOp,
 };
 use std::alloc::{AllocError, Global};
 
@@ -33,15 +34,14 @@ fn made_filter(
     groups: u16,
     source: &TableView,
     condition: TypedExpr,
-) -> Result<MadeFinal, AllocError>
+) -> Result<MadeFinal, QueryError>
     requires groups { groups ≤ 8 }
     requires early { IsEarly source.now.place }
-    ensures { IfOk result (λ made. made
-        ≡ record {
-          op = TypedFinalOp.Filter (table_number groups source.now.place) condition;
-          columns = source.now.columns;
-          keys = source.now.keys;
-        }) }
+    ensures { Answers result (Ok (record {
+      op = TypedFinalOp.Filter (table_number groups source.now.place) condition;
+      columns = source.now.columns;
+      keys = source.now.keys;
+    })) }
 {
     let number = number_of_table(groups, source.place);
     let columns = copy_words(alloc, source.columns.as_slice())?;
@@ -59,7 +59,7 @@ fn check_filter(
     earlier: &Earlier,
     input: Name,
     e: &Expr,
-) -> Result<MadeFinal, CheckAnswer>
+) -> Result<MadeFinal, QueryError>
     requires fits { Fits earlier.now }
     requires groups { groups ≤ 8 }
     ensures given { Answers result (final_filter groups earlier.now input e.now) }
@@ -67,11 +67,11 @@ fn check_filter(
 {
     let source = find_table(earlier, input)?;
     let condition = table_condition(alloc, source, e)?;
-    Ok(made_filter(alloc, groups, source, condition)?)
+    made_filter(alloc, groups, source, condition)
 }
 
 // The condition of a filter over a table.
-fn table_condition(alloc: Global, source: &TableView, e: &Expr) -> Result<TypedExpr, CheckAnswer>
+fn table_condition(alloc: Global, source: &TableView, e: &Expr) -> Result<TypedExpr, QueryError>
     requires { IsNarrow source.now.columns }
     ensures given { Answers result (condition_of source.now.columns [] e.now) }
     ensures numbers { IfOk result (λ _. greatest_number e.now < 2 ^ 64) }
@@ -84,7 +84,7 @@ fn table_columns(
     alloc: Global,
     source: &TableView,
     columns: &[Column],
-) -> Result<NewColumns, CheckAnswer>
+) -> Result<NewColumns, QueryError>
     requires { IsNarrow source.now.columns }
     ensures given { Answers result (new_columns source.now.columns [] no_new_columns columns.now) }
     ensures numbers { IfOk result (λ _. columns_number columns.now < 2 ^ 64) }
@@ -98,10 +98,10 @@ fn made_map(
     groups: u16,
     source: &TableView,
     new: NewColumns,
-) -> Result<MadeFinal, AllocError>
+) -> Result<MadeFinal, QueryError>
     requires groups { groups ≤ 8 }
     requires early { IsEarly source.now.place }
-    ensures { IfOk result (λ made. made ≡ with_values groups source.now new) }
+    ensures { Answers result (Ok (with_values groups source.now new)) }
 {
     let number = number_of_table(groups, source.place);
     let columns = names_of_both(alloc, source.columns.as_slice(), new.names.as_slice())?;
@@ -119,7 +119,7 @@ fn check_map(
     earlier: &Earlier,
     input: Name,
     columns: &[Column],
-) -> Result<MadeFinal, CheckAnswer>
+) -> Result<MadeFinal, QueryError>
     requires fits { Fits earlier.now }
     requires groups { groups ≤ 8 }
     ensures given { Answers result (final_map groups earlier.now input columns.now) }
@@ -127,7 +127,7 @@ fn check_map(
 {
     let source = find_table(earlier, input)?;
     let new = table_columns(alloc, source, columns)?;
-    Ok(made_map(alloc, groups, source, new)?)
+    made_map(alloc, groups, source, new)
 }
 
 /// `5tuple` stands for the five fields from the fourth on.
@@ -149,7 +149,7 @@ fn table_keys(
     given: &Given,
     source: &TableView,
     keys: &[Key],
-) -> Result<Picked, CheckAnswer>
+) -> Result<Picked, QueryError>
     requires { IsNarrow source.now.columns }
     ensures given { Answers result (keys_checked (five_fields given.now.fields) source.now.columns [] keys.now) }
     ensures most { IfOk result (λ picked. length picked.names ≤ 8) }
@@ -165,7 +165,7 @@ fn table_arguments(
     picked: &Picked,
     f: &FoldView,
     name: Name,
-) -> Result<Seq<u16>, CheckAnswer>
+) -> Result<Seq<u16>, QueryError>
     requires { IsNarrow source.now.columns }
     ensures { Answers result (arguments_of source.now.columns [] picked.now.names f.now name.span) }
 {
@@ -187,11 +187,11 @@ fn made_group(
     picked: Picked,
     f: &FoldView,
     arguments: Seq<u16>,
-) -> Result<MadeFinal, AllocError>
+) -> Result<MadeFinal, QueryError>
     requires groups { groups ≤ 8 }
     requires early { IsEarly source.now.place }
     requires keys { length picked.names ≤ 8 }
-    ensures { IfOk result (λ made. made ≡ with_table_keys groups source.now picked f.now arguments) }
+    ensures { Answers result (Ok (with_table_keys groups source.now picked f.now arguments)) }
 {
     let number = number_of_table(groups, source.place);
     let keys = key_count(&picked);
@@ -211,7 +211,7 @@ fn check_group(
     input: Name,
     keys: &[Key],
     fold_name: Name,
-) -> Result<MadeFinal, CheckAnswer>
+) -> Result<MadeFinal, QueryError>
     requires fits { Fits earlier.now }
     requires groups { given.now.groups ≤ 8 }
     ensures { Answers result (final_group given.now earlier.now input keys.now fold_name) }
@@ -220,7 +220,7 @@ fn check_group(
     let picked = table_keys(alloc, given, source, keys)?;
     let f = find_quiet_fold(earlier, fold_name)?;
     let arguments = table_arguments(alloc, source, &picked, f, fold_name)?;
-    Ok(made_group(alloc, given.groups, source, picked, f, arguments)?)
+    made_group(alloc, given.groups, source, picked, f, arguments)
 }
 
 // A join: the columns of the left, and then those of the right that aren't keys.
@@ -229,11 +229,11 @@ fn made_join(
     groups: u16,
     left: &TableView,
     right: &TableView,
-) -> Result<MadeFinal, AllocError>
+) -> Result<MadeFinal, QueryError>
     requires groups { groups ≤ 8 }
     requires left { IsEarly left.now.place }
     requires right { IsEarly right.now.place }
-    ensures { IfOk result (λ made. made ≡ with_others groups left.now right.now) }
+    ensures { Answers result (Ok (with_others groups left.now right.now)) }
 {
     let first = number_of_table(groups, left.place);
     let second = number_of_table(groups, right.place);
@@ -252,7 +252,7 @@ fn check_join(
     earlier: &Earlier,
     first: Name,
     second: Name,
-) -> Result<MadeFinal, CheckAnswer>
+) -> Result<MadeFinal, QueryError>
     requires fits { Fits earlier.now }
     requires groups { groups ≤ 8 }
     ensures { Answers result (final_join groups earlier.now first second) }
@@ -265,7 +265,7 @@ fn check_join(
     if others_clash(left, right) {
         return Err(refused(FaultKind::NameTaken, second.span));
     }
-    Ok(made_join(alloc, groups, left, right)?)
+    made_join(alloc, groups, left, right)
 }
 
 // The slot of a table's column.
@@ -283,10 +283,10 @@ fn made_top(
     source: &TableView,
     slot: u16,
     kept: u64,
-) -> Result<MadeFinal, AllocError>
+) -> Result<MadeFinal, QueryError>
     requires groups { groups ≤ 8 }
     requires early { IsEarly source.now.place }
-    ensures { IfOk result (λ made. made ≡ with_kept groups source.now slot kept) }
+    ensures { Answers result (Ok (with_kept groups source.now slot kept)) }
 {
     let number = number_of_table(groups, source.place);
     let columns = copy_words(alloc, source.columns.as_slice())?;
@@ -306,7 +306,7 @@ fn check_top(
     column: Name,
     kept: u64,
     span: Span,
-) -> Result<MadeFinal, CheckAnswer>
+) -> Result<MadeFinal, QueryError>
     requires fits { Fits earlier.now }
     requires groups { groups ≤ 8 }
     ensures { Answers result (final_top groups earlier.now input column kept span) }
@@ -316,7 +316,7 @@ fn check_top(
     if !(0 < kept && kept <= 65536) {
         return Err(refused(FaultKind::BadConstant, span));
     }
-    Ok(made_top(alloc, groups, source, slot, kept)?)
+    made_top(alloc, groups, source, slot, kept)
 }
 
 // What the final's operator makes.
@@ -325,7 +325,7 @@ fn check_operator(
     given: &Given,
     earlier: &Earlier,
     op: &FinalOp,
-) -> Result<MadeFinal, CheckAnswer>
+) -> Result<MadeFinal, QueryError>
     requires fits { Fits earlier.now }
     requires groups { given.now.groups ≤ 8 }
     ensures given { Answers result (made_final given.now earlier.now op.now) }
@@ -382,7 +382,7 @@ pub fn check_final(
     given: &Given,
     earlier: &mut Earlier,
     d: &FinalDef,
-) -> Result<(), CheckAnswer>
+) -> Result<(), QueryError>
     requires fits { Fits earlier.old }
     requires groups { given.now.groups ≤ 8 }
     ensures given { Leaves result earlier.new (final_checked given.now earlier.old d.now) }

@@ -5,19 +5,19 @@ ghost use Rattle.query_lang.specs.TypedFolds.{states_from, args_from, expr_nodes
 ghost use Rattle.query_lang.specs.TypedFolds.{fold_statements, fold_checked};
 ghost use Rattle.query_lang.specs.Folds.{IsValidFold};
 ghost use Rattle.query_types.specs.Numbers.{greatest_of, greatest_in};
-ghost use Rattle.query_types.specs.Answers.{Answers};
+ghost use Rattle.query_lang.specs.Answers.{Answers};
 ghost use Rattle.query_types.specs.Bodies.{with_parts};
 
-use crate::answer::{CheckAnswer, refused};
+use crate::answer::refused;
 use crate::bodies::check_body;
 use crate::exprs::has_name;
 use marple_base::Seq;
 use query_lang::typing::Body;
-use query_lang::{Expr, FaultKind, FoldDef, Limit, Name, StateVar, Stmt, TypedFold};
+use query_lang::{Expr, FaultKind, FoldDef, Limit, Name, QueryError, StateVar, Stmt, TypedFold};
 use std::alloc::{AllocError, Global};
 
 // The state variables: each is new.
-fn check_states(alloc: Global, states: &[StateVar]) -> Result<Seq<u32>, CheckAnswer>
+fn check_states(alloc: Global, states: &[StateVar]) -> Result<Seq<u32>, QueryError>
     ensures given { Answers result (states_from [] states.now) }
     ensures most { IfOk result (λ found. length found ≤ 8) }
 {
@@ -36,7 +36,7 @@ fn check_states(alloc: Global, states: &[StateVar]) -> Result<Seq<u32>, CheckAns
 }
 
 // The arguments: each is no state variable and new.
-fn check_args(alloc: Global, states: &[u32], args: &[Name]) -> Result<Seq<u32>, CheckAnswer>
+fn check_args(alloc: Global, states: &[u32], args: &[Name]) -> Result<Seq<u32>, QueryError>
     ensures given { Answers result (args_from states.now [] args.now) }
     ensures most { IfOk result (λ found. length found ≤ 16) }
 {
@@ -153,7 +153,7 @@ fn count_fold_statements(body: &[Stmt]) -> u32
 }
 
 // The fold's arguments, beside its state variables.
-fn fold_args(alloc: Global, states: &Seq<u32>, d: &FoldDef) -> Result<Seq<u32>, CheckAnswer>
+fn fold_args(alloc: Global, states: &Seq<u32>, d: &FoldDef) -> Result<Seq<u32>, QueryError>
     ensures given { Answers result (args_from states.now [] d.now.args) }
     ensures most { IfOk result (λ found. length found ≤ 16) }
 {
@@ -166,7 +166,7 @@ fn fold_body(
     states: &Seq<u32>,
     args: &Seq<u32>,
     d: &FoldDef,
-) -> Result<Body, CheckAnswer>
+) -> Result<Body, QueryError>
     requires states { length states.now ≤ 8 }
     requires args { length args.now ≤ 16 }
     ensures given { Answers result (body_checked states.now args.now d.now.body) }
@@ -182,7 +182,7 @@ fn fold_of(
     state_names: Seq<u32>,
     arg_names: Seq<u32>,
     found: Body,
-) -> Result<TypedFold, CheckAnswer>
+) -> Result<TypedFold, QueryError>
     requires nodes { fold_nodes d.now ≤ 512 }
     requires statements { fold_statements d.now ≤ 64 }
     ensures { Answers result (Ok (with_parts d.now state_names arg_names found)) }
@@ -207,7 +207,7 @@ fn fold_of(
 }
 
 // A fold's parts in order.
-fn check_parts(alloc: Global, d: &FoldDef) -> Result<TypedFold, CheckAnswer>
+fn check_parts(alloc: Global, d: &FoldDef) -> Result<TypedFold, QueryError>
     requires nodes { fold_nodes d.now ≤ 512 }
     requires statements { fold_statements d.now ≤ 64 }
     ensures given { Answers result (fold_checked d.now) }
@@ -222,7 +222,7 @@ fn check_parts(alloc: Global, d: &FoldDef) -> Result<TypedFold, CheckAnswer>
 
 /// A fold: its state variables, its arguments, and then its body. A fold of a text that was read has at most 512 nodes and
 /// 64 statements.
-pub fn check_fold(alloc: Global, d: &FoldDef) -> Result<TypedFold, CheckAnswer>
+pub fn check_fold(alloc: Global, d: &FoldDef) -> Result<TypedFold, QueryError>
     requires nodes { fold_nodes d.now ≤ 512 }
     requires statements { fold_statements d.now ≤ 64 }
     ensures given { Answers result (fold_checked d.now) }

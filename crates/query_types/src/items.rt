@@ -8,7 +8,7 @@ ghost use Rattle.query_types.specs.Answers.{Leaves};
 ghost use Rattle.query_types.specs.Fitting.{Fits};
 ghost use Rattle.query_types.specs.Numbers.{greatest_of, greatest_in, item_number};
 
-use crate::answer::{CheckAnswer, refused};
+use crate::answer::refused;
 use crate::copies::copy_words;
 use crate::exprs::has_name;
 use crate::finals::{check_final, five_of};
@@ -16,7 +16,7 @@ use crate::folds::check_fold;
 use crate::streams::check_stream;
 use crate::views::{find_table, is_taken};
 use query_lang::typing::{Earlier, FoldView, Given, Known, Meaning};
-use query_lang::{FaultKind, FoldDef, Item, Name, TypedFold};
+use query_lang::{FaultKind, FoldDef, Item, Name, QueryError, TypedFold};
 use std::alloc::{AllocError, Global};
 
 // What the name of a fold stands for, where the fold has this number.
@@ -55,7 +55,7 @@ fn add_fold(alloc: Global, earlier: &mut Earlier, f: TypedFold) -> Result<(), Al
 
 // The fold's name is free, and then the fold is checked.
 #[tactic(auto, using(crate::proofs::FitLaws::folds_within))]
-fn check_fold_item(alloc: Global, earlier: &mut Earlier, d: &FoldDef) -> Result<(), CheckAnswer>
+fn check_fold_item(alloc: Global, earlier: &mut Earlier, d: &FoldDef) -> Result<(), QueryError>
     requires fits { Fits earlier.old }
     requires nodes { fold_nodes d.now ≤ 512 }
     requires statements { fold_statements d.now ≤ 64 }
@@ -71,7 +71,7 @@ fn check_fold_item(alloc: Global, earlier: &mut Earlier, d: &FoldDef) -> Result<
 }
 
 // A table is printed once.
-fn check_print(earlier: &mut Earlier, name: Name) -> Result<(), CheckAnswer>
+fn check_print(earlier: &mut Earlier, name: Name) -> Result<(), QueryError>
     ensures { Leaves result earlier.new (print_checked earlier.old name) }
 {
     let place = find_table(earlier, name)?.place;
@@ -89,7 +89,7 @@ fn check_item(
     given: &Given,
     earlier: &mut Earlier,
     item: &Item,
-) -> Result<(), CheckAnswer>
+) -> Result<(), QueryError>
     requires limits { KeepsLimits item.now }
     requires groups { given.now.groups ≤ 8 }
     requires fits { Fits earlier.old }
@@ -113,7 +113,7 @@ fn check_next(
     given: &Given,
     earlier: &mut Earlier,
     item: &Item,
-) -> Result<(), CheckAnswer>
+) -> Result<(), QueryError>
     requires limits { KeepsLimits item.now }
     requires names { IsNumbered 65536 item.now }
     requires groups { given.now.groups ≤ 8 }
@@ -132,7 +132,7 @@ pub fn check_items(
     given: &Given,
     earlier: &mut Earlier,
     items: &[Item],
-) -> Result<(), CheckAnswer>
+) -> Result<(), QueryError>
     requires limits { All KeepsLimits items.now }
     requires names { All (IsNumbered 65536) items.now }
     requires groups { given.now.groups ≤ 8 }

@@ -17,5 +17,4 @@ mod tables;
 mod typing;
 mod views;
 
-pub use answer::CheckAnswer;
 pub use typing::check;

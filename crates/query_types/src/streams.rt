@@ -5,12 +5,13 @@ ghost use Rattle.std.specs.Prelude.{if◌then◌else◌};
 ghost use Rattle.query_lang.specs.TypedExprs.{condition_of};
 ghost use Rattle.query_lang.specs.TypedStreams.{column_names, new_columns, no_new_columns, others_from, keys_checked, arguments_of};
 ghost use Rattle.query_lang.specs.TypedStreams.{filtered, next_stream, mapped, zipped, grouped, made_stream, with_stream, stream_checked};
-ghost use Rattle.query_types.specs.Answers.{Answers, Leaves};
+ghost use Rattle.query_lang.specs.Answers.{Answers};
+ghost use Rattle.query_types.specs.Answers.{Leaves};
 ghost use Rattle.query_types.specs.Fitting.{Fits, IsNarrow};
 ghost use Rattle.query_types.specs.MadeStreams.{with_columns, with_slots, with_keys};
 ghost use Rattle.query_types.specs.Numbers.{greatest_number, columns_number, stream_number};
 
-use crate::answer::{CheckAnswer, refused};
+use crate::answer::refused;
 use crate::columns::{
     check_arguments, check_columns, check_keys, columns_clash, names_of, other_slots, pick_columns,
 };
@@ -23,8 +24,8 @@ use query_lang::typing::{
     StreamView, TableView,
 };
 use query_lang::{
-    Column, Expr, FaultKind, Key, Limit, Name, PrintOf, StreamDef, StreamOp, TypedExpr, TypedOp,
-    TypedStream,
+    Column, Expr, FaultKind, Key, Limit, Name, PrintOf, QueryError, StreamDef, StreamOp, TypedExpr,
+    TypedOp, TypedStream,
 };
 use std::alloc::{AllocError, Global};
 
@@ -48,7 +49,7 @@ fn columns_of_both(
 }
 
 // The condition of a filter over a stream.
-fn stream_condition(alloc: Global, source: &StreamView, e: &Expr) -> Result<TypedExpr, CheckAnswer>
+fn stream_condition(alloc: Global, source: &StreamView, e: &Expr) -> Result<TypedExpr, QueryError>
     requires { IsNarrow (column_names source.now.columns) }
     ensures given { Answers result (condition_of (column_names source.now.columns) source.now.hidden e.now) }
     ensures numbers { IfOk result (λ _. greatest_number e.now < 2 ^ 64) }
@@ -62,13 +63,13 @@ fn made_filter(
     alloc: Global,
     source: &StreamView,
     condition: TypedExpr,
-) -> Result<MadeStream, AllocError>
-    ensures { IfOk result (λ made. made ≡ record {
+) -> Result<MadeStream, QueryError>
+    ensures { Answers result (Ok (record {
       op = TypedOp.Filter source.now.number condition;
       columns = source.now.columns;
       hidden = source.now.hidden;
       table = None;
-    }) }
+    })) }
 {
     let columns = copy_columns(alloc, source.columns.as_slice())?;
     let hidden = copy_words(alloc, source.hidden.as_slice())?;
@@ -86,14 +87,14 @@ fn check_filter(
     earlier: &Earlier,
     input: Name,
     e: &Expr,
-) -> Result<MadeStream, CheckAnswer>
+) -> Result<MadeStream, QueryError>
     requires { Fits earlier.now }
     ensures given { Answers result (filtered earlier.now input e.now) }
     ensures numbers { IfOk result (λ _. greatest_number e.now < 2 ^ 64) }
 {
     let source = find_stream(earlier, input)?;
     let condition = stream_condition(alloc, source, e)?;
-    Ok(made_filter(alloc, source, condition)?)
+    made_filter(alloc, source, condition)
 }
 
 // The new columns of a map over a stream.
@@ -101,7 +102,7 @@ fn stream_columns(
     alloc: Global,
     source: &StreamView,
     columns: &[Column],
-) -> Result<NewColumns, CheckAnswer>
+) -> Result<NewColumns, QueryError>
     requires { IsNarrow (column_names source.now.columns) }
     ensures given { Answers result (new_columns (column_names source.now.columns) source.now.hidden no_new_columns columns.now) }
     ensures numbers { IfOk result (λ _. columns_number columns.now < 2 ^ 64) }
@@ -133,8 +134,8 @@ fn made_map(
     source: &StreamView,
     number: u16,
     new: NewColumns,
-) -> Result<MadeStream, AllocError>
-    ensures { IfOk result (λ made. made ≡ with_columns source.now number new) }
+) -> Result<MadeStream, QueryError>
+    ensures { Answers result (Ok (with_columns source.now number new)) }
 {
     let mut columns = copy_columns(alloc, source.columns.as_slice())?;
     add_map_columns(&mut columns, number, new.names.as_slice())?;
@@ -162,7 +163,7 @@ fn check_map(
     earlier: &Earlier,
     input: Name,
     columns: &[Column],
-) -> Result<MadeStream, CheckAnswer>
+) -> Result<MadeStream, QueryError>
     requires fits { Fits earlier.now }
     requires room { length earlier.now.streams + length earlier.now.finals < 32 }
     ensures given { Answers result (mapped earlier.now input columns.now) }
@@ -171,7 +172,7 @@ fn check_map(
     let source = find_stream(earlier, input)?;
     let new = stream_columns(alloc, source, columns)?;
     let number = next_number(earlier);
-    Ok(made_map(alloc, source, number, new)?)
+    made_map(alloc, source, number, new)
 }
 
 // The slots of the right that a zip takes.
@@ -193,8 +194,8 @@ fn made_zip(
     left: &StreamView,
     right: &StreamView,
     slots: Seq<u16>,
-) -> Result<MadeStream, AllocError>
-    ensures { IfOk result (λ made. made ≡ with_slots left.now right.now slots) }
+) -> Result<MadeStream, QueryError>
+    ensures { Answers result (Ok (with_slots left.now right.now slots)) }
 {
     let taken = pick_columns(alloc, right.columns.as_slice(), slots.as_slice())?;
     let columns = columns_of_both(alloc, left.columns.as_slice(), taken.as_slice())?;
@@ -213,7 +214,7 @@ fn check_zip(
     earlier: &Earlier,
     first: Name,
     second: Name,
-) -> Result<MadeStream, CheckAnswer>
+) -> Result<MadeStream, QueryError>
     requires { Fits earlier.now }
     ensures { Answers result (zipped earlier.now first second) }
 {
@@ -223,7 +224,7 @@ fn check_zip(
         return Err(refused(FaultKind::NameTaken, second.span));
     }
     let slots = slots_of_right(alloc, left, right)?;
-    Ok(made_zip(alloc, left, right, slots)?)
+    made_zip(alloc, left, right, slots)
 }
 
 // The keys of a groupby over a stream.
@@ -232,7 +233,7 @@ fn stream_keys(
     five: &[u32],
     source: &StreamView,
     keys: &[Key],
-) -> Result<Picked, CheckAnswer>
+) -> Result<Picked, QueryError>
     requires { IsNarrow (column_names source.now.columns) }
     ensures given { Answers result (keys_checked five.now (column_names source.now.columns) source.now.hidden keys.now) }
     ensures most { IfOk result (λ picked. length picked.names ≤ 8) }
@@ -254,7 +255,7 @@ fn stream_arguments(
     picked: &Picked,
     f: &FoldView,
     name: Name,
-) -> Result<Seq<u16>, CheckAnswer>
+) -> Result<Seq<u16>, QueryError>
     requires { IsNarrow (column_names source.now.columns) }
     ensures { Answers result (arguments_of (column_names source.now.columns) source.now.hidden picked.now.names f.now name.span) }
 {
@@ -308,9 +309,9 @@ fn made_group(
     picked: Picked,
     f: &FoldView,
     arguments: Seq<u16>,
-) -> Result<MadeStream, AllocError>
+) -> Result<MadeStream, QueryError>
     requires { length picked.names ≤ 8 }
-    ensures { IfOk result (λ made. made ≡ with_keys number source.now picked f.now arguments) }
+    ensures { Answers result (Ok (with_keys number source.now picked f.now arguments)) }
 {
     let table = made_table(alloc, number, &picked, f)?;
     let columns = pick_columns(alloc, source.columns.as_slice(), picked.slots.as_slice())?;
@@ -331,7 +332,7 @@ fn check_group(
     input: Name,
     keys: &[Key],
     fold_name: Name,
-) -> Result<MadeStream, CheckAnswer>
+) -> Result<MadeStream, QueryError>
     requires { Fits earlier.now }
     ensures { Answers result (grouped five.now earlier.now input keys.now fold_name) }
 {
@@ -339,7 +340,7 @@ fn check_group(
     let picked = stream_keys(alloc, five, source, keys)?;
     let f = find_fold(earlier, fold_name)?;
     let arguments = stream_arguments(alloc, source, &picked, f, fold_name)?;
-    Ok(made_group(alloc, earlier.groups, source, picked, f, arguments)?)
+    made_group(alloc, earlier.groups, source, picked, f, arguments)
 }
 
 // What the operator of the stream with this name makes. There are at most 8 groupbys.
@@ -349,7 +350,7 @@ fn check_operator(
     earlier: &Earlier,
     name: Name,
     op: &StreamOp,
-) -> Result<MadeStream, CheckAnswer>
+) -> Result<MadeStream, QueryError>
     requires fits { Fits earlier.now }
     requires room { length earlier.now.streams + length earlier.now.finals < 32 }
     ensures given { Answers result (made_stream five.now earlier.now name op.now) }
@@ -415,7 +416,7 @@ pub fn check_stream(
     five: &[u32],
     earlier: &mut Earlier,
     d: &StreamDef,
-) -> Result<(), CheckAnswer>
+) -> Result<(), QueryError>
     requires { Fits earlier.old }
     ensures given { Leaves result earlier.new (stream_checked five.now earlier.old d.now) }
     ensures numbers { OnOk result (stream_number d.now.op < 2 ^ 64) }

@@ -5,16 +5,18 @@ ghost use Rattle.query_lang.specs.Limits.{IsReadable, KeepsLimits, IsNumbered};
 ghost use Rattle.query_lang.specs.Typing.{typed_names, field_numbers, is_groupby, given_of, start_of, items_checked, ended, checked};
 ghost use Rattle.query_lang.specs.TypedQueries.{IsValidQuery};
 ghost use Rattle.query_types.specs.Numbers.{greatest_of, item_number};
-ghost use Rattle.query_types.specs.Answers.{Answers};
+ghost use Rattle.query_lang.specs.Answers.{Answers};
 ghost use Rattle.query_types.specs.CheckedItems.{checked_with};
 ghost use Rattle.query_types.specs.Fitting.{Fits, AreReady};
 
-use crate::answer::{CheckAnswer, fault};
+use crate::answer::fault;
 use crate::items::check_items;
 use crate::names::{add_fields, number_fields};
 use marple_base::{Field, Seq};
 use query_lang::typing::{Earlier, Given, Known, Meaning, Origin, StreamColumn, StreamView};
-use query_lang::{FaultKind, Item, Names, Query, QueryFault, Span, StreamOp, TypedQuery};
+use query_lang::{
+    FaultKind, Item, Names, Query, QueryError, QueryFault, Span, StreamOp, TypedQuery,
+};
 use std::alloc::{AllocError, Global};
 
 // Is it a stream that groups?
@@ -136,7 +138,7 @@ fn check_from(
     given: &Given,
     start: Earlier,
     items: &Seq<Item>,
-) -> Result<Earlier, CheckAnswer>
+) -> Result<Earlier, QueryError>
     requires limits { All KeepsLimits items.now }
     requires names { All (IsNumbered 65536) items.now }
     requires groups { given.now.groups ≤ 8 }
@@ -151,7 +153,7 @@ fn check_from(
 
 // What all items of a query give, where its names are these and those of all fields.
 #[tactic(auto, using(crate::proofs::StartLaws::given_few, crate::proofs::StartLaws::start_is))]
-fn check_all(alloc: Global, names: &Names, items: &Seq<Item>) -> Result<Earlier, CheckAnswer>
+fn check_all(alloc: Global, names: &Names, items: &Seq<Item>) -> Result<Earlier, QueryError>
     requires { AreReady names.now items.now }
     ensures given { Answers result (items_checked (given_of names.now items.now) (start_of names.now) items.now) }
     ensures numbers { IfOk result (λ _. greatest_of (map item_number items.now) < 2 ^ 64) }
@@ -177,7 +179,7 @@ fn check_with(
     names: Names,
     items: &Seq<Item>,
     end: Span,
-) -> Result<TypedQuery, CheckAnswer>
+) -> Result<TypedQuery, QueryError>
     requires { AreReady names items.now }
     ensures given { Answers result (checked_with names items.now end) }
     ensures numbers { IfOk result (λ _. greatest_of (map item_number items.now) < 2 ^ 64) }
@@ -186,29 +188,17 @@ fn check_with(
     Ok(end_with(names, end, earlier)?)
 }
 
-// The typed query, or the first fault.
-fn check_query(alloc: Global, q: Query) -> Result<TypedQuery, CheckAnswer>
-    requires { IsReadable q }
-    ensures given { Answers result (checked q) }
-    ensures numbers { IfOk result (λ _. greatest_of (map item_number q.items) < 2 ^ 64) }
-{
-    let Query { names, items, end } = q;
-    let all = names_with_fields(names)?;
-    check_with(alloc, all, &items, end)
-}
-
 /// The typed query, or the first fault: items in the order of the text, and the checks of an item in their order. A query that
 /// was parsed is readable. What is given is valid: names, slots, streams and folds that it names are there, conditions,
 /// words and constants are where they are allowed, and the limits are kept. Its names are those of the query and then those of the
 /// fields that the query doesn't have. `Memory` is given only where memory runs out.
-pub fn check(alloc: Global, q: Query) -> Result<TypedQuery, CheckAnswer>
+pub fn check(alloc: Global, q: Query) -> Result<TypedQuery, QueryError>
     requires { IsReadable q }
     ensures given { Answers result (checked q) }
     ensures valid { IfOk result IsValidQuery }
     ensures names { IfOk result (λ typed. typed.names ≡ typed_names q.names) }
 {
-    match check_query(alloc, q) {
-        Ok(typed) => Ok(typed),
-        Err(answer) => Err(answer),
-    }
+    let Query { names, items, end } = q;
+    let all = names_with_fields(names)?;
+    check_with(alloc, all, &items, end)
 }

@@ -10,15 +10,15 @@ use Rattle.stage_plan.specs.declared.group.GroupPlan.{GroupPlan}
 use Rattle.stage_plan.specs.declared.group.GroupWiring.{GroupWiring}
 use Rattle.stage_plan.specs.declared.op.PlanOp.{PlanOp}
 use Rattle.stage_plan.specs.declared.wires.StreamWires.{StreamWires}
-use Rattle.stage_plan.specs.declared.answer.PlanAnswer.{PlanAnswer}
-use Rattle.stage_plan.specs.declared.answer.PlanAnswer.TheVariants.{Refused, Memory}
+use Rattle.query_lang.specs.declared.error.QueryError.{QueryError}
+use Rattle.query_lang.specs.Answers.{IsTold}
 use Rattle.stage_plan.specs.Depths.{stage_fault}
 use Rattle.stage_plan.specs.Registers.{stages_of}
 use Rattle.stage_plan.specs.Fields.{reads_of}
 use Rattle.stage_plan.specs.Grouping.{AreGroupsOf}
-use Rattle.stage_plan.specs.Making.{packet_wires, all_made, made_fault, IsTold}
+use Rattle.stage_plan.specs.Making.{packet_wires, all_made, made_fault}
 use Rattle.stage_plan.specs.Ordering.{order_of, ArePlaced, moved_op, op_numbered, wiring_of}
-use Rattle.stage_plan.specs.Planned.{IsPlanOf, IsRefusal}
+use Rattle.stage_plan.specs.Planned.{IsPlanOf}
 use Rattle.stage_plan.specs.Shape.{group_shape, query_groups}
 use Rattle.stage_plan.specs.Sound.{PlanParts, IsSoundPlan}
 use Rattle.stage_plan.proofs.Faults.{QueryMade, query_made, query_fault}
@@ -138,10 +138,7 @@ pub order_from : (ops o1 : List PlanOp) (stages : ℕ) (order a1 : List ℕ) →
     → a1 ≡ order → a1 ≡ order_of ops (stages_of ops)
 order_from ops o1 stages order a1 eo es eorder ea1 = ea1 ∙ eorder ∙ ap (order_of o1) es ∙ ap (λ o. order_of o (stages_of o)) eo
 
-told : (q : TypedQuery) (answer : PlanAnswer) → IsTold (stage_fault q) answer → IsRefusal q answer
-told q (Refused fault) h = h
-told q Memory h = tt
-
-pub refusal : (q : TypedQuery) (answer : PlanAnswer) → IsTold (made_fault q.folds [] (packet_wires ∷ []) q.streams) answer
-    → IsRefusal q answer
-refusal q answer h = told q answer (subst (λ o. IsTold o answer) (query_fault q) h)
+-- a fault of the operations is one of the stages
+pub refusal : (q : TypedQuery) (error : QueryError) → IsTold (made_fault q.folds [] (packet_wires ∷ []) q.streams) error
+    → IsTold (stage_fault q) error
+refusal q error h = subst (λ o. IsTold o error) (query_fault q) h

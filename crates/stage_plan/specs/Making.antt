@@ -1,5 +1,5 @@
 -- The operations of a query in the order in which they are made: by binding, the operands before their node, and a presence last.
-use Rattle.std.specs.Prelude.{◌≡◌, ℕ, suc, ◌+◌, max, min, nat_lt, Bool, if◌then◌else◌, List, [], ◌∷◌, ◌++◌}
+use Rattle.std.specs.Prelude.{ℕ, suc, ◌+◌, max, min, nat_lt, Bool, if◌then◌else◌, List, [], ◌∷◌, ◌++◌}
 use Rattle.std.specs.Prelude.{length, map, slice_get}
 use Rattle.std.specs.Prelude.{Option, Some, None, unwrap_or}
 use Rattle.std.specs.List.{list_any}
@@ -18,8 +18,6 @@ use Rattle.stage_plan.specs.declared.op.Operand.TheVariants.{Register, Number}
 use Rattle.stage_plan.specs.declared.op.Operation as operation
 use Rattle.stage_plan.specs.declared.op.Operation.TheVariants.{Not, Two}
 use Rattle.stage_plan.specs.declared.op.PlanOp.{PlanOp}
-use Rattle.stage_plan.specs.declared.answer.PlanAnswer.{PlanAnswer}
-use Rattle.stage_plan.specs.declared.answer.PlanAnswer.TheVariants.{Refused, Memory}
 use Rattle.stage_plan.specs.declared.wires.StreamWires.{StreamWires}
 use Rattle.stage_plan.specs.Registers.{operand_stage}
 
@@ -153,8 +151,3 @@ made_fault folds ops streams (one ∷ rest) =
     made_then (made_by folds streams one.op ops) (λ more wires.
     if are_deep more then Some (record { kind = OverLimit Stages; span = one.name.span })
     else made_fault folds more (streams ++ wires ∷ []) rest)
-
--- what is said of a fault
-abbrev pub IsTold : Option QueryFault → PlanAnswer → Type 0
-IsTold expected (Refused fault) = expected ≡ Some fault
-IsTold expected Memory = Unit {0}

@@ -7,12 +7,9 @@ use Rattle.query_lang.specs.declared.fold.TypedFold.{TypedFold}
 use Rattle.query_lang.specs.declared.typed.TypedQuery.{TypedQuery}
 use Rattle.query_lang.specs.Streams.{takings}
 use Rattle.query_types.specs.Uses.{uses}
-use Rattle.stage_plan.specs.declared.answer.PlanAnswer.{PlanAnswer}
-use Rattle.stage_plan.specs.declared.answer.PlanAnswer.TheVariants.{Refused, Memory}
 use Rattle.stage_plan.specs.declared.group.GroupPlan.{GroupPlan}
 use Rattle.stage_plan.specs.declared.group.GroupWiring.{GroupWiring}
 use Rattle.stage_plan.specs.declared.op.Operand.TheVariants.{Number}
-use Rattle.stage_plan.specs.Depths.{stage_fault}
 use Rattle.stage_plan.specs.Fields.{reads_of}
 use Rattle.stage_plan.specs.Making.{AllMade, packet_wires, all_made}
 use Rattle.stage_plan.specs.Ordering.{IsStaged}
@@ -61,8 +58,3 @@ pub record IsPlanOf (q : TypedQuery) (plan : PlanParts) : Type 0 where
   pub reads : plan.reads ≡ reads_of q
   pub staged : IsStaged (query_made q).ops (query_made q).streams (takings q.streams) plan.ops plan.wiring
   pub shape : shape_of plan ≡ query_shape q
-
--- a query is refused exactly for its first stream that needs too many stages
-abbrev pub IsRefusal : TypedQuery → PlanAnswer → Type 0
-IsRefusal q (Refused fault) = stage_fault q ≡ Some fault
-IsRefusal q Memory = Unit {0}

@@ -1,7 +1,6 @@
 //! The on-line part of a typed query as stages of operations on registers, and what its groupbys take of each packet.
 #![tactic(auto)]
 
-mod answer;
 mod bound;
 mod chain;
 mod fields;
@@ -18,7 +17,6 @@ mod streams;
 mod text;
 mod wires;
 
-pub use answer::PlanAnswer;
 pub use group::{GroupPlan, GroupWiring};
 pub use laws::stages_are_fewest;
 pub use op::{Operand, Operation, PlanOp};

@@ -1,18 +1,18 @@
 //! The plan of a typed query.
 
 ghost use Rattle.std.specs.Prelude.{◌≡◌, ◌≤◌, ◌∷◌, [], None, length, IfOk, OnOk, IfErr};
+ghost use Rattle.query_lang.specs.Answers.{IsTold};
 ghost use Rattle.query_lang.specs.TypedQueries.{IsValidQuery};
 ghost use Rattle.stage_plan.specs.Depths.{stage_fault};
 ghost use Rattle.stage_plan.specs.Making.{packet_wires, all_made, made_fault};
-ghost use Rattle.stage_plan.specs.Planned.{IsPlanOf, IsRefusal};
+ghost use Rattle.stage_plan.specs.Planned.{IsPlanOf};
 
-use crate::answer::PlanAnswer;
 use crate::fields::read_fields;
 use crate::groups::{plan_groups, wire_groups};
 use crate::order::{order_by_stage, registers_in, reorder};
 use crate::plans::{Plan, greatest_stage};
 use crate::streams::{MadeStreams, make_streams};
-use query_lang::TypedQuery;
+use query_lang::{QueryError, TypedQuery};
 use std::alloc::{AllocError, Global};
 
 // The plan of the operations that were made for a query: they are put in the order of their stages, and the groupbys are wired to them.
@@ -40,18 +40,14 @@ fn put_plan(alloc: Global, q: &TypedQuery, made: &MadeStreams) -> Result<Plan, A
     Ok(plan)
 }
 
-/// The plan of a query.
-pub fn plan(alloc: Global, q: &TypedQuery) -> Result<Plan, PlanAnswer>
+/// The plan of a query. It is refused exactly for its first stream that needs too many stages.
+pub fn plan(alloc: Global, q: &TypedQuery) -> Result<Plan, QueryError>
     requires { IsValidQuery q.now }
     ensures meaning { IfOk result (λ plan. IsPlanOf q.now plan) }
     ensures fits { OnOk result (stage_fault q.now ≡ None) }
-    ensures refused { IfErr result (λ answer. IsRefusal q.now answer) }
+    ensures refused { IfErr result (IsTold (stage_fault q.now)) }
 {
-    match make_streams(alloc, q) {
-        Ok(made) => {
-            let plan = put_plan(alloc, q, &made)?;
-            Ok(plan)
-        }
-        Err(answer) => Err(answer),
-    }
+    let made = make_streams(alloc, q)?;
+    let plan = put_plan(alloc, q, &made)?;
+    Ok(plan)
 }

@@ -3,16 +3,16 @@
 ghost use Rattle.std.specs.Prelude.{◌≡◌, ◌+◌, ◌<◌, ◌≤◌, ◌∷◌, [], None, Some, length, slice_get, nat_lt, IfOk};
 ghost use Rattle.std.specs.Prelude.{OnOk, IfErr};
 ghost use Rattle.std.specs.List.{list_any};
+ghost use Rattle.query_lang.specs.Answers.{IsTold};
 ghost use Rattle.query_lang.specs.TypedQueries.{IsValidQuery};
 ghost use Rattle.stage_plan.specs.Counting.{HasInputs, HasFold, op_most};
-ghost use Rattle.stage_plan.specs.Making.{packet_wires, wires_at, made_by, are_deep, all_made, made_fault, IsTold};
+ghost use Rattle.stage_plan.specs.Making.{packet_wires, wires_at, made_by, are_deep, all_made, made_fault};
 
-use crate::answer::PlanAnswer;
 use crate::making::{make_filter, make_group, make_map, make_zip};
 use crate::op::{Operand, PlanOp};
 use crate::wires::StreamWires;
 use marple_base::Seq;
-use query_lang::{FaultKind, Limit, QueryFault, TypedFold, TypedOp, TypedQuery};
+use query_lang::{FaultKind, Limit, QueryError, QueryFault, TypedFold, TypedOp, TypedQuery};
 use std::alloc::{AllocError, Global};
 
 /// All operations of a query, and where the columns of all its streams are, from the packets on.
@@ -107,12 +107,12 @@ fn has_deep(ops: &[PlanOp]) -> bool
 }
 
 // The operations of all streams, or the first stream that is too deep.
-pub(crate) fn make_streams(alloc: Global, q: &TypedQuery) -> Result<MadeStreams, PlanAnswer>
+pub(crate) fn make_streams(alloc: Global, q: &TypedQuery) -> Result<MadeStreams, QueryError>
     requires { IsValidQuery q.now }
     ensures ops { IfOk result (λ made. made.ops ≡ (all_made q.now.folds [] (packet_wires ∷ []) q.now.streams).ops) }
     ensures streams { IfOk result (λ made. made.streams ≡ (all_made q.now.folds [] (packet_wires ∷ []) q.now.streams).streams) }
     ensures fits { OnOk result (made_fault q.now.folds [] (packet_wires ∷ []) q.now.streams ≡ None) }
-    ensures refused { IfErr result (λ answer. IsTold (made_fault q.now.folds [] (packet_wires ∷ []) q.now.streams) answer) }
+    ensures refused { IfErr result (IsTold (made_fault q.now.folds [] (packet_wires ∷ []) q.now.streams)) }
     ensures few { IfOk result (λ made. length made.ops ≤ 32768) }
 {
     let mut ops = Seq::new(alloc);
@@ -127,7 +127,7 @@ pub(crate) fn make_streams(alloc: Global, q: &TypedQuery) -> Result<MadeStreams,
             &one.op,
         )?;
         if has_deep(ops.as_slice()) {
-            return Err(PlanAnswer::Refused(QueryFault {
+            return Err(QueryError::Refused(QueryFault {
                 kind: FaultKind::OverLimit(Limit::Stages),
                 span: one.name.span,
             }));

@@ -1,19 +1,20 @@
-use Rattle.std.proofs.Common.{◌≡◌, ℕ, List, Ok, Err, ap, sym, ◌∙◌, subst}
+-- The trial's query isn't refused.
+use Rattle.std.proofs.Common.{◌≡◌, ℕ, List, Some, ap, ◌∙◌, subst}
+use Rattle.std.specs.Prelude.{Ok}
+use Rattle.query_lang.specs.declared.error.QueryError.{QueryError}
+use Rattle.query_lang.specs.declared.error.QueryError.TheVariants.{Refused}
 use Rattle.query_lang.specs.declared.fault.QueryFault.{QueryFault}
 use Rattle.query_lang.specs.declared.typed.TypedQuery.{TypedQuery}
-use Rattle.accepted_query.specs.Accepted.{accepted}
-use Rattle.accepted_query.specs.Answers.{IsAnswerTo}
+use Rattle.query_lang.specs.Answers.{IsTold}
+use Rattle.accepted_query.specs.Accepted.{accepted, query_fault, fault_in}
 use Rattle.accepted_query.specs.TrialQuery.{trial_query}
-use Rattle.accepted_query.specs.declared.answer.QueryError.{QueryError}
-use Rattle.accepted_query.specs.declared.answer.QueryError.TheVariants.{Refused}
 use Rattle.command_answers.proofs.operands.accept_trial.Goals as goal
 
--- the trial's query isn't refused
-never : (text : List ℕ) (answer : QueryError) (fault : QueryFault) → text ≡ trial_query → (q : TypedQuery) × (accepted trial_query ≡ Ok q)
-    → answer ≡ Refused fault → IsAnswerTo text answer → ⊥
-never text answer fault same trial is told =
-    let refused : accepted text ≡ Err fault = subst (IsAnswerTo text) is told in
-    let both : Ok trial.0 ≡ Err fault = sym trial.1 ∙ ap accepted (sym same) ∙ refused in
+never : (text : List ℕ) (error : QueryError) (fault : QueryFault) → text ≡ trial_query → (q : TypedQuery) × (accepted trial_query ≡ Ok q)
+    → error ≡ Refused fault → IsTold (query_fault text) error → ⊥
+never text error fault same trial is told =
+    let refused : query_fault text ≡ Some fault = subst (IsTold (query_fault text)) is told in
+    let accepted_as : query_fault text ≡ fault_in (Ok trial.0) = ap (λ bytes. fault_in (accepted bytes)) same ∙ ap fault_in trial.1 in
     cc
 
 pub unreachable-requires : goal.unreachable-requires

@@ -1,13 +1,19 @@
-use Rattle.command_answers.proofs.PlanTexts.{plan_is_read, told_refusal}
+-- What was read of a plan's text, to one byte more than the limit, is answered as the text is.
+use Rattle.std.proofs.lemmas.Result.{err_from_is_err_and}
+use Rattle.marple_base.specs.declared.inputs.Which.TheVariants.{Query}
+use Rattle.command_answers.proofs.PlanTexts.{plan_is_read, plan_ends}
 use Rattle.command_answers.proofs.operands.read_plan_text.Goals as goal
 
-pub returns-in-Ok-read_plan-clause-ok : goal.returns-in-Ok-read_plan-clause-ok
-returns-in-Ok-read_plan-clause-ok g c =
-    plan_is_read _ c.in-Ok.text c.as_slice.result.now c.in-Ok-read_plan.loaded c.in-Ok.ensures.text.bytes c.as_slice.ensures
-    c.in-Ok-read_plan.ensures.answer
+pub returns-clause-ok : goal.returns-clause-ok
+returns-clause-ok g c =
+    plan_is_read _ c.in-Ok.text c.as_slice.result.now c.in_ok-loaded.loaded c.in-Ok.ensures.text.bytes c.as_slice.ensures
+    c.in_ok-loaded.ensures.answer
 
-pub returns-in-Err-Refused-clause-err : goal.returns-in-Err-Refused-clause-err
-returns-in-Err-Refused-clause-err g c =
-    told_refusal _ c.in-Ok.text c.as_slice.result.now c.in-Err-Refused.field-0 c.in-Err-Refused.fault c.in-Ok.ensures.text.bytes
-    c.as_slice.ensures
-    c.in-Err-Refused.field-0-is c.in-Err-Refused.ensures.answer
+pub returns-in_err-loaded-clause-err : goal.returns-in_err-loaded-clause-err
+returns-in_err-loaded-clause-err g c =
+    let p = err_from_is_err_and c.from_residual.result c.from_residual.ensures.1 in
+    let before = g.I.Inputs.input c.args.inputs.now Query in
+    let after = g.I.Inputs.input c.read_input.new.inputs Query in
+    rw (p.1, p.2)
+    (plan_ends before after c.in-Ok.text c.as_slice.result.now c.in_err-loaded.field-0.0 c.in-Ok.ensures.text.bytes c.as_slice.ensures
+    c.in_err-loaded.ensures.answer)

@@ -1,14 +1,20 @@
+-- What was read of a query's text, to one byte more than the limit, is answered as the text is.
 use Rattle.std.proofs.Common.{◌≡◌, Ok}
-use Rattle.command_answers.proofs.Limits.{told_answer, told_refused}
+use Rattle.std.proofs.lemmas.Result.{err_from_is_err_and}
+use Rattle.marple_base.specs.declared.inputs.Which.TheVariants.{Query}
+use Rattle.command_answers.proofs.Limits.{told_answer, query_ends}
 use Rattle.command_answers.proofs.operands.read_query.Goals as goal
 
-pub returns-in-Ok-accept-clause-ok : goal.returns-in-Ok-accept-clause-ok
-returns-in-Ok-accept-clause-ok g c =
-    told_answer (λ found. found ≡ Ok c.in-Ok-accept.query.typed) _ c.in-Ok.text c.as_slice.result.now c.in-Ok.ensures.text.bytes
-    c.as_slice.ensures c.in-Ok-accept.ensures.typed
+pub returns-clause-ok : goal.returns-clause-ok
+returns-clause-ok g c =
+    told_answer (λ found. found ≡ Ok c.in_ok-query.query.typed) _ c.in-Ok.text c.as_slice.result.now c.in-Ok.ensures.text.bytes
+    c.as_slice.ensures c.in_ok-query.ensures.typed
 
-pub returns-in-Err-Refused-clause-err : goal.returns-in-Err-Refused-clause-err
-returns-in-Err-Refused-clause-err g c =
-    told_refused _ c.in-Ok.text c.as_slice.result.now c.in-Err-Refused.field-0 c.in-Err-Refused.fault c.in-Ok.ensures.text.bytes
-    c.as_slice.ensures
-    c.in-Err-Refused.field-0-is c.in-Err-Refused.ensures.err
+pub returns-in_err-query-clause-err : goal.returns-in_err-query-clause-err
+returns-in_err-query-clause-err g c =
+    let p = err_from_is_err_and c.from_residual.result c.from_residual.ensures.1 in
+    let before = g.I.Inputs.input c.args.inputs.now Query in
+    let after = g.I.Inputs.input c.read_input.new.inputs Query in
+    rw (p.1, p.2)
+    (query_ends before after c.in-Ok.text c.as_slice.result.now c.in_err-query.field-0.0 c.in-Ok.ensures.text.bytes c.as_slice.ensures
+    c.in_err-query.ensures.err)

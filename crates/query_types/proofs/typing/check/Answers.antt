@@ -1,8 +1,21 @@
-use Rattle.query_types.proofs.ValidLaws.{query_valid, query_names}
+-- The typed query is that of the query with the names of all fields, and it is valid.
+use Rattle.query_lang.specs.Typing.{typed_names}
+use Rattle.query_types.specs.CheckedItems.{checked_with}
+use Rattle.query_types.proofs.CheckLemmas.{same_checked}
+use Rattle.query_types.proofs.StartLaws.{all_ready}
+use Rattle.query_types.proofs.ValidLaws.{answer_valid, answer_named}
 use Rattle.query_types.proofs.typing.check.Goals as goal
 
-pub returns-in-Ok-clause-valid : goal.returns-in-Ok-clause-valid
-returns-in-Ok-clause-valid c = query_valid c.args.q c.in-Ok.typed c.requires c.in-Ok.ensures.numbers c.in-Ok.ensures.given
+pub check_with-requires : goal.check_with-requires
+check_with-requires c = all_ready c.args.q c.in_ok-all.all c.requires c.in_ok-all.ensures
 
-pub returns-in-Ok-clause-names : goal.returns-in-Ok-clause-names
-returns-in-Ok-clause-names c = query_names c.args.q c.in-Ok.typed c.in-Ok.ensures.given
+pub returns-clause-given : goal.returns-clause-given
+returns-clause-given c =
+    same_checked c.check_with.result (λ names. checked_with names c.args.q.items c.args.q.end) c.in_ok-all.all (typed_names c.args.q.names)
+    c.in_ok-all.ensures c.check_with.ensures.given
+
+pub returns-clause-valid : goal.returns-clause-valid
+returns-clause-valid c = answer_valid c.args.q c.check_with.result c.requires c.check_with.ensures.numbers (returns-clause-given c)
+
+pub returns-clause-names : goal.returns-clause-names
+returns-clause-names c = answer_named c.args.q c.check_with.result (returns-clause-given c)

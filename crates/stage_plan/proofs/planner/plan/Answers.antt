@@ -1,10 +1,13 @@
 use Rattle.std.proofs.Common.{◌∙◌, sym}
+use Rattle.std.proofs.lemmas.Result.{err_from_is_err_and}
 use Rattle.stage_plan.proofs.Faults.{query_fault}
 use Rattle.stage_plan.proofs.Putting.{refusal}
 use Rattle.stage_plan.proofs.planner.plan.Goals as goal
 
-pub returns-in-Err-clause-refused : goal.returns-in-Err-clause-refused
-returns-in-Err-clause-refused c = refusal c.args.q.now _ c.in-Err.ensures.refused
+pub returns-in_err-made-clause-refused : goal.returns-in_err-made-clause-refused
+returns-in_err-made-clause-refused c =
+    let p = err_from_is_err_and c.from_residual.result c.from_residual.ensures.1 in
+    rw (p.1, p.2) (refusal c.args.q.now c.in_err-made.field-0.0 c.in_err-made.ensures.refused)
 
-pub returns-in_ok-plan-in-Ok-clause-fits : goal.returns-in_ok-plan-in-Ok-clause-fits
-returns-in_ok-plan-in-Ok-clause-fits c = sym (query_fault c.args.q.now) ∙ c.in-Ok.ensures.fits
+pub returns-clause-fits : goal.returns-clause-fits
+returns-clause-fits c = sym (query_fault c.args.q.now) ∙ c.in_ok-made.ensures.fits

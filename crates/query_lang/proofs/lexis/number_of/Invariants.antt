@@ -1,6 +1,6 @@
 use Rattle.std.proofs.Common.{◌≡◌, drop}
 use Rattle.std.specs.Str.Parse.{digits_value, digits_value_after}
-use Rattle.plan_file.proofs.lexis.value_of.Given as goal
+use Rattle.query_lang.proofs.lexis.number_of.Given as goal
 
 abbrev pub invariant-loop-d : goal.invariant-loop-d
 invariant-loop-d l = digits_value_after 10 l.n (drop l.d-index l.digits) ≡ digits_value 10 l.digits
