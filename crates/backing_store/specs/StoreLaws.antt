@@ -9,17 +9,17 @@ use Rattle.backing_store.specs.StoreLending.{with_words_at}
 abbrev pub keys_of : List StoredKey → List Key
 keys_of keys = map (λ stored. stored.key) keys
 
--- a store gets no key but the one that has an epoch
+-- after an epoch of a key, a store has that key and the keys that it had
 abbrev pub KeysAreKept : Type 0
 KeysAreKept = (keys : List StoredKey) (key other : Key)
     → has other (keys_of (with_epoch keys key)) ≡ (key_eq key other || has other (keys_of keys))
 
--- that key has one epoch more, and every other as many as before
+-- after an epoch of a key, the key has one epoch more, and every other key has as many as before
 abbrev pub EpochsAreCounted : Type 0
 EpochsAreCounted = (keys : List StoredKey) (key other : Key)
     → epochs_of (with_epoch keys key) other ≡ (if key_eq key other then one_more (epochs_of keys other) else epochs_of keys other)
 
--- it has one row more, where the epoch makes a row, and every other key has the rows that it had
+-- an epoch that makes a row adds one row to those of its key, and every other key has the rows that it had
 abbrev pub RowsAreAdded : Type 0
 RowsAreAdded = (store : Store) (key other : Key) (initial : List ℕ) (row_per_epoch : Bool)
     → IsStore store → length key ≡ store.key_words → length initial ≡ store.state_words

@@ -13,7 +13,7 @@ use Rattle.bucket_cache.specs.Touches.{IsLeast}
 use Rattle.bucket_cache.proofs.FlatRows.{length-rows_of, rows_of-words}
 use Rattle.bucket_cache.specs.Buckets.{Pair, has_key, place_of, places_of, without_key, AreOnce, pair_at, pairs_at, IsBucket, IsSound}
 use Rattle.bucket_cache.proofs.Fronts.{length-at_front, take-at_front, map-at_front, take_more-at_front, All-at_front, AllPairs-at_front}
-use Rattle.bucket_cache.proofs.PairLists.{has-at, place-at, front-pair, once-front, has-front, once-take}
+use Rattle.bucket_cache.proofs.PairLists.{absent_head, has-at, place-at, front-pair, once-front, has-front, once-take}
 
 -- what `find_key` says about a way
 abbrev pub Matches : List Key → List ℕ → ℕ → Key → Bool → Type 0
@@ -87,6 +87,13 @@ hit-bucket first kw used at order keys key b h l e =
       once = subst AreOnce (sym (hit-pairs first kw used at order keys key b h l e))
           (once-front key (first + get_or order at 0) (pairs_at first keys (take used order)) b.once);
     }
+
+-- where the first pair has another key, so has the first way in use
+pub other-first : (first used : ℕ) (order : List ℕ) (keys : List Key) (key : Key) → 0 < used → used ≤ length order
+    → has_key key (take 1 (pairs_at first keys (take used order))) ≡ false → Matches keys order 0 key false
+other-first first zero order keys key some within h = absurd (omega arith)
+other-first first (suc used) [] keys key some within h = absurd (omega arith)
+other-first first (suc used) (way ∷ ways) keys key some within h = (absent_head key (pair_at first keys way) [] h).0
 
 pub none-has : (first : ℕ) (ways : List ℕ) (keys : List Key) (key : Key) → ((at : ℕ) → at < length ways → Matches keys ways at key false)
     → has_key key (pairs_at first keys ways) ≡ false

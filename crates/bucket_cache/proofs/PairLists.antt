@@ -104,6 +104,12 @@ first-within (pair ∷ pairs) place n a e =
     let below : pair.place < n = a 0 pair (omega arith) in
     omega arith
 
+-- a pair of another key comes first
+pub other-key : (pairs : List Pair) (pair : Pair) (key : Key) → slice_get pairs 0 ≡ Some pair → key_eq pair.key key ≡ false
+    → has_key key (take 1 pairs) ≡ false
+other-key [] pair key at e = refl
+other-key (first ∷ pairs) pair key at e = rw (ap (λ (p : Pair). key_eq p.key key) (let same : first ≡ pair = cc in same) ∙ e) refl
+
 -- a key that comes first stays there
 pub first-stays : (key : Key) (place : ℕ) (pairs : List Pair) → AreOnce pairs
     → slice_get pairs 0 ≡ Some (record { key = key; place = place })

@@ -1,5 +1,5 @@
 -- What a touch answers, and what it leaves.
-use Rattle.std.specs.Prelude.{◌≡◌, ℕ, true, false, List, ◌∷◌, ◌+◌, ◌*◌, ◌<◌, ◌-◌, length, slice_get}
+use Rattle.std.specs.Prelude.{◌≡◌, ℕ, true, false, List, ◌∷◌, ◌+◌, ◌*◌, ◌<◌, ◌-◌, length, slice_get, take}
 use Rattle.std.specs.Prelude.{Option, Some}
 use Rattle.epoch_model.specs.Keys.{Key}
 use Rattle.bucket_cache.specs.Buckets.{Pair, has_key, place_of, places_of, without_key}
@@ -16,6 +16,10 @@ IsLeast pairs place = least_place pairs ≡ Some place
 -- the pair of the key at the front
 abbrev pub with_front : Key → ℕ → List Pair → List Pair
 with_front key place pairs = record { key = key; place = place } ∷ pairs
+
+-- no pair, or one of another key, comes first
+abbrev pub IsNotFirst : Key → List Pair → Type 0
+IsNotFirst key pairs = has_key key (take 1 pairs) ≡ false
 
 -- A touch of the key in a bucket with this number of ways leads from the old pairs to the new ones.
 abbrev pub Touches : ℕ → Key → List Pair → Touch → List Pair → Type 0

@@ -3,14 +3,15 @@
 ghost use Rattle.std.specs.Prelude.{◌≡◌, ◌+◌, ◌-◌, ◌<◌, ◌≤◌, length, take, false, slice_set};
 ghost use Rattle.bucket_cache.specs.Buckets.{has_key};
 ghost use Rattle.bucket_cache.specs.FlatBuckets.{lists_in, list_in, AreBuckets};
-ghost use Rattle.bucket_cache.specs.Touches.{Touches, IsLeast, with_front, touch_cost, replace_cost};
+ghost use Rattle.bucket_cache.specs.Touches.{Touches, IsLeast, IsNotFirst, with_front, touch_cost, replace_cost};
 
 use crate::bucket::Touch;
 use crate::ways::{replace_way, touch_ways};
 use marple_base::Steps;
 use std::sync::ledger::Ledger;
 
-/// Brings the key to the front of a bucket where it is there or where a place is free.
+/// Brings the key to the front of a bucket where it is there or where a place is free. The first pair has another key: so
+/// many words were compared to see it.
 /// `used` has a number for each bucket, `order` its `ways`, and `words` the words of their keys.
 #[inline(always)]
 pub fn touch_bucket<L: Ledger>(
@@ -20,10 +21,13 @@ pub fn touch_bucket<L: Ledger>(
     order: &mut [u16],
     words: &mut [u64],
     key: &[u64],
+    compared: usize,
     steps: &mut Steps<L>,
 ) -> Touch
     requires range { bucket < length used.old }
     requires buckets { AreBuckets ways (length key.now) used.old order.old words.old }
+    requires other { IsNotFirst key.now (list_in ways (length key.now) used.old order.old words.old bucket) }
+    requires compared { compared ≤ length key.now }
     ensures buckets { AreBuckets ways (length key.now) used.new order.new words.new }
     ensures touched { Touches ways key.now (list_in ways (length key.now) used.old order.old words.old bucket) result
         (list_in ways (length key.now) used.new order.new words.new bucket) }
@@ -42,6 +46,7 @@ pub fn touch_bucket<L: Ledger>(
         &mut order[first..first + ways],
         &mut words[start..start + width],
         key,
+        compared,
         steps,
     )
 }

@@ -1,10 +1,10 @@
 //! The buckets of a cache.
 
-ghost use Rattle.std.specs.Prelude.{◌≡◌, ℕ, List, ◌+◌, ◌-◌, ◌*◌, ◌<◌, ◌≤◌, length, take, false, IfOk, IfSome, Some};
+ghost use Rattle.std.specs.Prelude.{◌≡◌, ℕ, List, ◌+◌, ◌-◌, ◌*◌, ◌<◌, ◌≤◌, length, take, false, IfErr, IfOk, OnErr, Some};
 ghost use Rattle.std.specs.Prelude.{slice_get, slice_set, sum_by};
 ghost use Rattle.std.specs.Borrow.{sem};
 ghost use Rattle.bucket_cache.specs.Buckets.{Pair, has_key, places_of};
-ghost use Rattle.bucket_cache.specs.Touches.{Touches, IsLeast, least_place, with_front, touch_cost, replace_cost};
+ghost use Rattle.bucket_cache.specs.Touches.{Touches, IsLeast, IsNotFirst, least_place, with_front, touch_cost, replace_cost};
 ghost use Rattle.bucket_cache.specs.LendingRows.{with_entry};
 ghost use Rattle.bucket_cache.specs.Caches.{Cache, list_at, entry_at, with_list, empty_cache, IsSoundCache};
 
@@ -119,11 +119,11 @@ impl<const WAYS: usize> BucketCache<WAYS> {
     {
         self.invariant();
         match self.front(bucket, key) {
-            Some(place) => {
+            Ok(place) => {
                 steps.tick_many(key.len() as u64 + 1);
                 Touch::Hit(place)
             }
-            None => self.touch_by_search(bucket, key, steps),
+            Err(compared) => self.touch_by_search(bucket, key, compared, steps),
         }
     }
 
@@ -134,32 +134,37 @@ impl<const WAYS: usize> BucketCache<WAYS> {
         let _words = &self.words;
     }
 
-    // The place of the key, where it is the most recently used one of its bucket.
+    // The place of the key, where it is the most recently used one of its bucket, or else how many words were compared.
     #[inline(always)]
-    fn front(&self, bucket: u32, key: &[u64]) -> Option<usize>
+    fn front(&self, bucket: u32, key: &[u64]) -> Result<usize, usize>
         requires range { bucket < length self.now.lists }
         requires words { length key.now ≡ self.now.key_words }
-        ensures { IfSome result (λ place. slice_get (list_at self.now bucket) 0
+        ensures first { IfOk result (λ place. slice_get (list_at self.now bucket) 0
             ≡ Some (record { key = key.now; place = place })) }
+        ensures other { OnErr result (IsNotFirst key.now (list_at self.now bucket)) }
+        ensures compared { IfErr result (λ compared. compared ≤ length key.now) }
     {
         self.invariant();
-        let place = self.place(bucket, 0)?;
-        if slices::compare(self.key(place), key).0 {
-            Some(place)
-        } else {
-            None
-        }
+        let Some(place) = self.place(bucket, 0) else {
+            return Err(0);
+        };
+        let (same, compared) = slices::compare(self.key(place), key);
+        if same { Ok(place) } else { Err(compared) }
     }
 
-    // The same, by a search through the ways of the bucket.
+    // Brings the key to the front by a search through the ways of the bucket after the first one, which has another key:
+    // so many words were compared to see it.
     fn touch_by_search<L: Ledger>(
         &mut self,
         bucket: u32,
         key: &[u64],
+        compared: usize,
         steps: &mut Steps<L>,
     ) -> Touch
         requires range { bucket < length self.old.lists }
         requires words { length key.now ≡ self.old.key_words }
+        requires other { IsNotFirst key.now (list_at self.old bucket) }
+        requires compared { compared ≤ length key.now }
         ensures touched { Touches WAYS key.now (list_at self.old bucket) result (list_at self.new bucket) }
         ensures rest { self.new ≡ with_list self.old bucket (list_at self.new bucket) }
         ensures sound { IsSoundCache WAYS self.new }
@@ -173,6 +178,7 @@ impl<const WAYS: usize> BucketCache<WAYS> {
             &mut self.order,
             &mut self.words,
             key,
+            compared,
             steps,
         )
     }

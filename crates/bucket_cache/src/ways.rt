@@ -5,25 +5,29 @@ ghost use Rattle.std.specs.Prelude.{slice_index_or, slice_set, IfSome, IfNone, t
 ghost use Rattle.epoch_model.specs.Keys.{key_eq};
 ghost use Rattle.bucket_cache.specs.Slices.{at_front};
 ghost use Rattle.bucket_cache.specs.Buckets.{pairs_at, has_key, way_keys, IsBucket};
-ghost use Rattle.bucket_cache.specs.Touches.{Touches, IsLeast, with_front, touch_cost, replace_cost};
+ghost use Rattle.bucket_cache.specs.Touches.{Touches, IsLeast, IsNotFirst, with_front, touch_cost, replace_cost};
 
 use crate::bucket::Touch;
 use crate::slices;
 use marple_base::{Steps, copy_words};
 use std::sync::ledger::Ledger;
 
-/// Where the key is among the ways in use.
+// Where the key is among the ways in use after the first one, which has another key: so many words were compared to see it.
 #[inline(always)]
 fn find_key<L: Ledger>(
     order: &[u16],
     used: usize,
     words: &[u64],
     key: &[u64],
+    mut compared: usize,
     steps: &mut Steps<L>,
 ) -> Option<usize>
     requires within { used ≤ length order.now }
     requires ways { All (λ way. way < length order.now) order.now }
     requires flat { length words.now ≡ length order.now * length key.now }
+    requires other { 0 < used → key_eq
+        (slice_index_or (way_keys key.now order.now words.now) (slice_index order.now 0) []) key.now ≡ false }
+    requires compared { compared ≤ length key.now }
     ensures found { IfSome result (λ at. at < used) }
     ensures same { IfSome result (λ at. key_eq
         (slice_index_or (way_keys key.now order.now words.now) (slice_index order.now at) []) key.now ≡ true) }
@@ -32,17 +36,19 @@ fn find_key<L: Ledger>(
     ensures steps { steps.old ≤ steps.new }
     ensures cost { steps.new ≤ steps.old + used * length key.now }
 {
-    let mut looked = 0;
-    for i in 0..used {
+    if used == 0 {
+        return None;
+    }
+    for i in 1..used {
         let held = slices::row(words, key.len(), order[i] as usize);
-        let compared = slices::compare(held, key);
-        looked += compared.1;
-        if compared.0 {
-            steps.tick_many(looked as u64);
+        let (same, more) = slices::compare(held, key);
+        compared += more;
+        if same {
+            steps.tick_many(compared as u64);
             return Some(i);
         }
     }
-    steps.tick_many(looked as u64);
+    steps.tick_many(compared as u64);
     None
 }
 
@@ -69,7 +75,8 @@ fn put<L: Ledger>(
     way
 }
 
-/// Brings the key to the front of the ways in use where it is there or where a way is free.
+/// Brings the key to the front of the ways in use where it is there or where a way is free. The first way in use has another
+/// key: so many words were compared to see it.
 #[inline(always)]
 pub fn touch_ways<L: Ledger>(
     first: usize,
@@ -77,10 +84,13 @@ pub fn touch_ways<L: Ledger>(
     order: &mut [u16],
     words: &mut [u64],
     key: &[u64],
+    compared: usize,
     steps: &mut Steps<L>,
 ) -> Touch
     requires bucket { IsBucket first (length key.now) used.old order.old (way_keys key.now order.old words.old) }
     requires flat { length words.old ≡ length order.old * length key.now }
+    requires other { IsNotFirst key.now (pairs_at first (way_keys key.now order.old words.old) (take used.old order.old)) }
+    requires compared { compared ≤ length key.now }
     ensures bucket { IsBucket first (length key.now) used.new order.new (way_keys key.now order.old words.new) }
     ensures touched { Touches (length order.old) key.now
         (pairs_at first (way_keys key.now order.old words.old) (take used.old order.old)) result
@@ -88,7 +98,7 @@ pub fn touch_ways<L: Ledger>(
     ensures steps { steps.old ≤ steps.new }
     ensures cost { steps.new ≤ steps.old + touch_cost (length order.old) (length key.now) result }
 {
-    match find_key(order, *used as usize, words, key, steps) {
+    match find_key(order, *used as usize, words, key, compared, steps) {
         Some(at) => {
             let way = order[at] as usize;
             slices::move_to_front(order, at, steps);

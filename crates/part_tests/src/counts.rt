@@ -1,10 +1,11 @@
 //! How many steps small events take, compared with sums that were worked out from the rules of counting.
 //!
-//! A packet takes a step for each register, the fourteen fields and the operations of the plan. Where the groupby takes it,
-//! it takes one for each word of the key and of the arguments that is read out of the registers, for each word of the key
-//! that is hashed, for each word that is compared with a key of the bucket, up to the first that differs, and for each way
-//! of the bucket that is moved, from the front to that of the key. A new key is written, and its entry is opened; where the
-//! bucket is full, the key and the entry that go are written into the pipe before. Then the row is absorbed.
+//! Where the plan has operations, a packet takes a step for each register, the fourteen fields and the operations; else its
+//! words are read where they stand. Where the groupby takes it, it takes one for each word of the key and of the arguments
+//! that is read out of the registers, for each word of the key that is hashed, for each word that is compared with a key of
+//! the bucket, up to the first that differs, and for each way of the bucket that is moved, from the front to that of the
+//! key. A new key is written, and its entry is opened; where the bucket is full, the key and the entry that go are written
+//! into the pipe before. Then the row is absorbed.
 //!
 //! One run of a fold's body takes a step for the mask of the whole body, for each node of an expression, and for each of the
 //! two masks of an `if`, and two for an assignment: the choice of its value, and the variable.
@@ -91,37 +92,37 @@ const FILTERED: Case = Case {
     ],
 };
 
-/// The same fold without a filter, by two words of a key, so that there are 14 registers and a row takes 8. The bucket has
+/// The same fold without a filter, by two words of a key, so that no register is written and a row takes 8. The bucket has
 /// two ways.
 const TWO_WAYS: Case = Case {
     name: "two ways",
     query: b"def count([c],[]) { c = c + 1; } r = groupby(pktstream, [srcip, pkt_len], count); print r;",
     entries: Entries::Folds,
     events: &[
-        // a new key: 14 registers + 2 words of the key + 2 hashed + 1 way + 2 words of the key written + 3 of the entry
+        // a new key: 2 words of the key + 2 hashed + 1 way + 2 words of the key written + 3 of the entry
         // + 8 for the row
-        (Event::Packet(1, 100), 14 + 2 + 2 + 1 + 2 + 3 + 8),
-        // a key that differs in its second word: 14 registers + 2 words of the key + 2 hashed + 2 compared + 2 ways
+        (Event::Packet(1, 100), 2 + 2 + 1 + 2 + 3 + 8),
+        // a key that differs in its second word: 2 words of the key + 2 hashed + 2 compared + 2 ways
         // + 2 words of the key written + 3 of the entry + 8 for the row
-        (Event::Packet(1, 200), 14 + 2 + 2 + 2 + 2 + 2 + 3 + 8),
-        // the key that is found second: 14 registers + 2 words of the key + 2 hashed + 2 compared with the other key
+        (Event::Packet(1, 200), 2 + 2 + 2 + 2 + 2 + 3 + 8),
+        // the key that is found second: 2 words of the key + 2 hashed + 2 compared with the other key
         // + 2 with the same + 2 ways + 8 for the row
-        (Event::Packet(1, 100), 14 + 2 + 2 + (2 + 2) + 2 + 8),
-        // it is found first: 14 registers + 2 words of the key + 2 hashed + 2 compared + 1 way + 8 for the row
-        (Event::Packet(1, 100), 14 + 2 + 2 + 2 + 1 + 8),
-        // a key that differs from both in its first word: 14 registers + 2 words of the key + 2 hashed + 1 compared + 1
+        (Event::Packet(1, 100), 2 + 2 + (2 + 2) + 2 + 8),
+        // it is found first: 2 words of the key + 2 hashed + 2 compared + 1 way + 8 for the row
+        (Event::Packet(1, 100), 2 + 2 + 2 + 1 + 8),
+        // a key that differs from both in its first word: 2 words of the key + 2 hashed + 1 compared + 1
         // + 2 words of the last key and 3 of its entry into the pipe + 2 ways + 2 words of the key written + 3 of the entry
         // + 8 for the row
         (
             Event::Packet(2, 100),
-            14 + 2 + 2 + (1 + 1) + (2 + 3) + 2 + 2 + 3 + 8,
+            2 + 2 + (1 + 1) + (2 + 3) + 2 + 2 + 3 + 8,
         ),
         // a full pipe and two open epochs: three merges, each of 2 words of the key and 3 of the entry out of the pipe
         // + 1 variable read + 1 product + 1 copied + 1 written, and two evictions, each of 2 words of the key and 3 of the
         // entry into the pipe + 1 for the bucket
         (Event::Sweep, 3 * ((2 + 3) + 4) + 2 * ((2 + 3) + 1)),
         // a new key, and then an eviction and a merge by themselves
-        (Event::Packet(1, 100), 14 + 2 + 2 + 1 + 2 + 3 + 8),
+        (Event::Packet(1, 100), 2 + 2 + 1 + 2 + 3 + 8),
         (Event::Evict, (2 + 3) + 1),
         (Event::Merge, (2 + 3) + 4),
     ],
@@ -134,23 +135,23 @@ const COMPOSED: Case = Case {
     query: QUERY,
     entries: Entries::Folds,
     events: &[
-        // a new key: 14 registers + 1 word of the key + 1 argument + 1 hashed + 1 way + 1 word of the key written
+        // a new key: 1 word of the key + 1 argument + 1 hashed + 1 way + 1 word of the key written
         // + 1 + 1 + 6 of the entry; the row is logged: 2 for the history + 21 + 1 argument + 1 for the number
         (
             Event::Packet(1, 4),
-            14 + 1 + 1 + 1 + 1 + 1 + (1 + 1 + 6) + (2 + 21 + 1 + 1),
+            1 + 1 + 1 + 1 + 1 + (1 + 1 + 6) + (2 + 21 + 1 + 1),
         ),
-        // the log is full: 14 registers + 1 word of the key + 1 argument + 1 hashed + 1 compared + 1 way; 3 columns of
+        // the log is full: 1 word of the key + 1 argument + 1 hashed + 1 compared + 1 way; 3 columns of
         // 3 parts, 21 and 2 words + 1 of the history + 6 elements with 2 products each + 6 words of the map
         (
             Event::Packet(1, 4),
-            14 + 1 + 1 + 1 + 1 + 1 + 3 * (3 + 21 + 2) + 1 + 6 * 2 + 6,
+            1 + 1 + 1 + 1 + 1 + 3 * (3 + 21 + 2) + 1 + 6 * 2 + 6,
         ),
-        // it evicts: 14 registers + 1 word of the key + 1 argument + 1 hashed + 1 compared + 1 word of the other key and 9
+        // it evicts: 1 word of the key + 1 argument + 1 hashed + 1 compared + 1 word of the other key and 9
         // of its entry into the pipe + 1 way + 1 word of the key written + 8 of the entry + 25 for the row, which is logged
         (
             Event::Packet(2, 4),
-            14 + 1 + 1 + 1 + 1 + (1 + 9) + 1 + 1 + 8 + 25,
+            1 + 1 + 1 + 1 + (1 + 9) + 1 + 1 + 8 + 25,
         ),
         // 1 word of the key and 9 of the entry out of the pipe + 21 for the logged row + 2 variables read + 4 products
         // + 2 copied + 2 written + 1 of the history
@@ -167,25 +168,22 @@ const MOVED: Case = Case {
     query: b"def gaps([s, a, b],[tin, tout]) { s = s + tout - a; a = b; b = tin; } r = groupby(pktstream, [srcip], gaps); print r;",
     entries: Entries::Folds,
     events: &[
-        // a new key: 14 registers + 1 word of the key + 2 arguments + 1 hashed + 1 way + 1 word of the key written
+        // a new key: 1 word of the key + 2 arguments + 1 hashed + 1 way + 1 word of the key written
         // + 1 + 2 + 2 of the entry; the row is logged: 2 * 2 for the history + 14 + 2 arguments + 1 for the number
         (
             Event::Packet(1, 4),
-            14 + 1 + 2 + 1 + 1 + 1 + (1 + 2 + 2) + (4 + 14 + 2 + 1),
+            1 + 2 + 1 + 1 + 1 + (1 + 2 + 2) + (4 + 14 + 2 + 1),
         ),
-        // the second row is logged too: 14 registers + 1 word of the key + 2 arguments + 1 hashed + 1 compared + 1 way + 21
-        (Event::Packet(1, 4), 14 + 1 + 2 + 1 + 1 + 1 + 21),
-        // the log is full: 14 registers + 1 word of the key + 2 arguments + 1 hashed + 1 compared + 1 way + 4 for the
+        // the second row is logged too: 1 word of the key + 2 arguments + 1 hashed + 1 compared + 1 way + 21
+        (Event::Packet(1, 4), 1 + 2 + 1 + 1 + 1 + 21),
+        // the log is full: 1 word of the key + 2 arguments + 1 hashed + 1 compared + 1 way + 4 for the
         // history + 1 element read + 14 + 1 written
-        (
-            Event::Packet(1, 4),
-            14 + 1 + 2 + 1 + 1 + 1 + (4 + 1 + 14 + 1),
-        ),
-        // it evicts: 14 registers + 1 word of the key + 2 arguments + 1 hashed + 1 compared + 1 word of the other key and 9
+        (Event::Packet(1, 4), 1 + 2 + 1 + 1 + 1 + (4 + 1 + 14 + 1)),
+        // it evicts: 1 word of the key + 2 arguments + 1 hashed + 1 compared + 1 word of the other key and 9
         // of its entry into the pipe + 1 way + 1 word of the key written + 5 of the entry + 21 for the row
         (
             Event::Packet(2, 4),
-            14 + 1 + 2 + 1 + 1 + (1 + 9) + 1 + 1 + 5 + 21,
+            1 + 2 + 1 + 1 + (1 + 9) + 1 + 1 + 5 + 21,
         ),
         // a full log: 1 word of the key and 9 of the entry out of the pipe + 2 * 14 for the logged rows + 1 variable read
         // + 1 product + 1 copied + 1 written + 2 of the history
@@ -204,14 +202,14 @@ const COMPOSED_MAXIMA: Case = Case {
     query: b"def peak([p],[qsize]) { p = max(sadd(p, 3), qsize); } r = groupby(pktstream, [srcip], peak); print r;",
     entries: Entries::Folds,
     events: &[
-        // a new key: 14 registers + 1 word of the key + 1 argument + 1 hashed + 1 way + 1 word of the key written + 5 of the
+        // a new key: 1 word of the key + 1 argument + 1 hashed + 1 way + 1 word of the key written + 5 of the
         // entry; 2 columns of 1 part, 8 and 2 words + 2 elements with 1 product each + 4 words of the map
         (
             Event::Packet(1, 4),
-            14 + 1 + 1 + 1 + 1 + 1 + 5 + 2 * (1 + 8 + 2) + 2 + 4,
+            1 + 1 + 1 + 1 + 1 + 5 + 2 * (1 + 8 + 2) + 2 + 4,
         ),
-        // it is there: 14 registers + 1 word of the key + 1 argument + 1 hashed + 1 compared + 1 way + 28 for the row
-        (Event::Packet(1, 4), 14 + 1 + 1 + 1 + 1 + 1 + 28),
+        // it is there: 1 word of the key + 1 argument + 1 hashed + 1 compared + 1 way + 28 for the row
+        (Event::Packet(1, 4), 1 + 1 + 1 + 1 + 1 + 28),
         // 1 word of the key and 5 of the entry into the pipe + 1 for the bucket
         (Event::Evict, (1 + 5) + 1),
         // 1 word of the key and 5 of the entry out of the pipe + 1 variable read + 1 product + 1 copied + 1 written
@@ -225,14 +223,11 @@ const MOVED_MAXIMA: Case = Case {
     query: b"def deepest([m],[qsize]) { m = max(m, qsize); } r = groupby(pktstream, [srcip], deepest); print r;",
     entries: Entries::Folds,
     events: &[
-        // a new key: 14 registers + 1 word of the key + 1 argument + 1 hashed + 1 way + 1 word of the key written + 5 of the
+        // a new key: 1 word of the key + 1 argument + 1 hashed + 1 way + 1 word of the key written + 5 of the
         // entry; 1 word of the state from the map + 6 + 2 words of an element
-        (
-            Event::Packet(1, 4),
-            14 + 1 + 1 + 1 + 1 + 1 + 5 + (1 + 6 + 2),
-        ),
-        // it is there: 14 registers + 1 word of the key + 1 argument + 1 hashed + 1 compared + 1 way + 9 for the row
-        (Event::Packet(1, 4), 14 + 1 + 1 + 1 + 1 + 1 + 9),
+        (Event::Packet(1, 4), 1 + 1 + 1 + 1 + 1 + 5 + (1 + 6 + 2)),
+        // it is there: 1 word of the key + 1 argument + 1 hashed + 1 compared + 1 way + 9 for the row
+        (Event::Packet(1, 4), 1 + 1 + 1 + 1 + 1 + 9),
         // 1 word of the key and 5 of the entry into the pipe + 1 for the bucket
         (Event::Evict, (1 + 5) + 1),
         // 1 word of the key and 5 of the entry out of the pipe + 1 variable read + 1 product + 1 copied + 1 written
@@ -249,11 +244,11 @@ const OTHER: Case = Case {
     query: AVERAGE,
     entries: Entries::Folds,
     events: &[
-        // a new key: 14 registers + 1 word of the key + 1 argument + 1 hashed + 1 way + 1 word of the key written + 1 of the
+        // a new key: 1 word of the key + 1 argument + 1 hashed + 1 way + 1 word of the key written + 1 of the
         // entry + 8 for the row
-        (Event::Packet(1, 4), 14 + 1 + 1 + 1 + 1 + 1 + 1 + 8),
-        // it is there: 14 registers + 1 word of the key + 1 argument + 1 hashed + 1 compared + 1 way + 8 for the row
-        (Event::Packet(1, 4), 14 + 1 + 1 + 1 + 1 + 1 + 8),
+        (Event::Packet(1, 4), 1 + 1 + 1 + 1 + 1 + 1 + 8),
+        // it is there: 1 word of the key + 1 argument + 1 hashed + 1 compared + 1 way + 8 for the row
+        (Event::Packet(1, 4), 1 + 1 + 1 + 1 + 1 + 8),
         // 1 word of the key and 1 of the entry into the pipe + 1 for the bucket
         (Event::Evict, (1 + 1) + 1),
         // 1 word of the key and 1 of the entry out of the pipe + 1 of the state
@@ -267,11 +262,11 @@ const BOUNDS: Case = Case {
     query: AVERAGE,
     entries: Entries::Bounds,
     events: &[
-        // a new key: 14 registers + 1 word of the key + 1 argument + 1 hashed + 1 way + 1 word of the key written + 3 of the
+        // a new key: 1 word of the key + 1 argument + 1 hashed + 1 way + 1 word of the key written + 3 of the
         // entry + 3 * 8 for the row
-        (Event::Packet(1, 4), 14 + 1 + 1 + 1 + 1 + 1 + 3 + 3 * 8),
-        // it is there: 14 registers + 1 word of the key + 1 argument + 1 hashed + 1 compared + 1 way + 3 * 8 for the row
-        (Event::Packet(1, 4), 14 + 1 + 1 + 1 + 1 + 1 + 3 * 8),
+        (Event::Packet(1, 4), 1 + 1 + 1 + 1 + 1 + 3 + 3 * 8),
+        // it is there: 1 word of the key + 1 argument + 1 hashed + 1 compared + 1 way + 3 * 8 for the row
+        (Event::Packet(1, 4), 1 + 1 + 1 + 1 + 1 + 3 * 8),
         // 1 word of the key and 3 of the entry into the pipe + 1 for the bucket
         (Event::Evict, (1 + 3) + 1),
         // 1 word of the key and 3 of the entry out of the pipe + 3 of the states

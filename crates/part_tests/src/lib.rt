@@ -21,6 +21,8 @@ mod fold_programs;
 #[cfg(test)]
 mod folds;
 #[cfg(test)]
+mod kind_counts;
+#[cfg(test)]
 mod kinds;
 #[cfg(test)]
 mod lanes;

@@ -1,7 +1,7 @@
-use Rattle.std.proofs.Common.{◌≡◌, ◌+◌, ◌-◌, ◌*◌, length, take, drop, set, ap, arith}
+use Rattle.std.proofs.Common.{◌≡◌, ◌+◌, ◌-◌, ◌*◌, length, take, drop, set, ap, arith, subst}
 use Rattle.bucket_cache.specs.FlatBuckets.{AreBuckets, lists_in, list_in}
-use Rattle.bucket_cache.specs.Touches.{Touches}
-use Rattle.bucket_cache.proofs.FlatBuckets.{lent-bucket, lent-touched, lent-buckets, lent-rest, by_width}
+use Rattle.bucket_cache.specs.Touches.{Touches, IsNotFirst}
+use Rattle.bucket_cache.proofs.FlatBuckets.{lent-bucket, lent-list, lent-touched, lent-buckets, lent-rest, by_width}
 use Rattle.bucket_cache.proofs.buckets.touch_bucket.Goals as goal
 
 pub touch_ways-requires-clause-bucket : goal.touch_ways-requires-clause-bucket
@@ -18,6 +18,21 @@ touch_ways-requires-clause-bucket g c =
     lent-bucket ways kw b c.args.used.now order words (take n (drop (b * ways) order)) (take m (drop (b * (ways * kw)) words))
     c.requires.buckets c.requires.range
     (ap (λ x. take x (drop (b * ways) order)) en) (ap (λ x. take x (drop (b * (ways * kw)) words)) em)
+
+pub touch_ways-requires-clause-other : goal.touch_ways-requires-clause-other
+touch_ways-requires-clause-other g c =
+    let b = c.args.bucket in
+    let ways = c.args.ways in
+    let kw = length c.args.key.now in
+    let order = c.args.order.now in
+    let words = c.args.words.now in
+    let n = b * ways + ways - b * ways in
+    let m = b * (ways * kw) + ways * kw - b * (ways * kw) in
+    let en : n ≡ ways = omega arith in
+    let em : m ≡ ways * kw = omega arith in
+    subst (IsNotFirst c.args.key.now) (lent-list ways kw b c.args.used.now order words (take n (drop (b * ways) order))
+    (take m (drop (b * (ways * kw)) words)) c.requires.buckets c.requires.range
+    (ap (λ x. take x (drop (b * ways) order)) en) (ap (λ x. take x (drop (b * (ways * kw)) words)) em)) c.requires.other
 
 pub returns-clause-buckets : goal.returns-clause-buckets
 returns-clause-buckets g c =

@@ -1,4 +1,4 @@
-use Rattle.std.proofs.Common.{◌≡◌, ◌+◌, ◌<◌, ℕ, [], length, get_or, false, ap, sym, ◌∙◌, arith, ⊎_elim, subst}
+use Rattle.std.proofs.Common.{◌≡◌, ◌+◌, ◌<◌, ℕ, [], length, get_or, false, ap, sym, ◌∙◌, arith, ⊎_elim, subst, refl}
 use Rattle.std.proofs.lemmas.Bool.{cases_eq}
 use Rattle.epoch_model.specs.Keys.{key_eq}
 use Rattle.bucket_cache.specs.Slices.{rows_of}
@@ -12,16 +12,27 @@ row-held-requires g c =
     let flat = c.requires.flat in
     omega arith
 
-pub compare-compared-requires : goal.compare-compared-requires
-compare-compared-requires g c = row_width (length c.args.order.now) (get_or c.args.order.now c.loop-i.i 0) (length c.args.key.now)
+pub compare-same-requires : goal.compare-same-requires
+compare-same-requires g c = row_width (length c.args.order.now) (get_or c.args.order.now c.loop-i.i 0) (length c.args.key.now)
     c.args.words.now c.row-held.result.now (c.requires.ways c.loop-i.i 0 (omega arith)) c.requires.flat c.row-held.ensures
 
-pub returns-then-compared-clause-same : goal.returns-then-compared-clause-same
-returns-then-compared-clause-same g c =
+pub returns-then-same-clause-same : goal.returns-then-same-clause-same
+returns-then-same-clause-same g c =
     let way = get_or c.args.order.now c.loop-i.i 0 in
     ap (λ k. key_eq k c.args.key.now) (get-rows_of (length c.args.key.now) (length c.args.order.now) c.args.words.now way []
     (c.requires.ways c.loop-i.i 0 (omega arith)) ∙ sym c.row-held.ensures)
-    ∙ (sym c.compare-compared.ensures.answer ∙ c.if-compared.true)
+    ∙ (sym c.compare-same.ensures.answer ∙ c.if-same.true)
+
+pub loop-i-init : goal.loop-i-init
+loop-i-init g c =
+    let some = c.if-used-eq0.false in
+    record {
+      none = λ at h. subst (λ n. key_eq (get_or (rows_of (length c.args.key.now) (length c.args.order.now) c.args.words.now)
+          (get_or c.args.order.now n 0) []) c.args.key.now ≡ false) (let e : 0 ≡ at = omega arith in e)
+          (c.requires.other (omega arith));
+      steps = refl;
+      compared = let short = c.requires.compared in omega arith;
+    }
 
 pub loop-i-preserved : goal.loop-i-preserved
 loop-i-preserved g c =
@@ -32,18 +43,18 @@ loop-i-preserved g c =
     let this : key_eq (get_or rows (get_or order i 0) []) key ≡ false =
     ap (λ k. key_eq k key) (get-rows_of (length key) (length order) c.args.words.now (get_or order i 0) []
     (c.requires.ways i 0 (omega arith)) ∙ sym c.row-held.ensures)
-    ∙ (sym c.compare-compared.ensures.answer ∙ c.if-compared.false) in
+    ∙ (sym c.compare-same.ensures.answer ∙ c.if-same.false) in
     let short = row_width (length order) (get_or order i 0) (length key) c.args.words.now c.row-held.result.now
     (c.requires.ways i 0 (omega arith)) c.requires.flat c.row-held.ensures in
-    let more = c.compare-compared.ensures.looked in
-    let kept = c.loop-i.invariant.looked in
+    let more = c.compare-same.ensures.looked in
+    let kept = c.loop-i.invariant.compared in
     record {
       none = λ at h. ⊎_elim
           (λ (e : at ≡ i). subst (λ n. key_eq (get_or rows (get_or order n 0) []) key ≡ false) (sym e) this)
           (λ (d : at ≡ i → ⊥). c.loop-i.invariant.none at (let l : at < i = below at i h d in l))
           (cases_eq at i);
       steps = c.loop-i.invariant.steps;
-      looked = omega arith;
+      compared = omega arith;
     }
   where
     below : (at i : ℕ) → at < i + 1 → (at ≡ i → ⊥) → at < i

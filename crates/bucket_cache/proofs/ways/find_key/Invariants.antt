@@ -7,5 +7,5 @@ abbrev pub invariant-loop-i : goal.invariant-loop-i
 invariant-loop-i g l = record {
   none : (at : ℕ) → at < l.i → key_eq (get_or (rows_of (length l.key) (length l.order) l.words) (get_or l.order at 0) []) l.key ≡ false;
   steps : l.steps ≡ l.initial.steps;
-  looked : l.looked ≤ l.i * length l.key;
+  compared : l.compared ≤ l.i * length l.key;
 }

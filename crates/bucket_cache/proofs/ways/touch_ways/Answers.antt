@@ -3,8 +3,12 @@ use Rattle.bucket_cache.specs.Slices.{rows_of}
 use Rattle.bucket_cache.specs.Buckets.{pairs_at, IsBucket}
 use Rattle.bucket_cache.specs.Touches.{with_front}
 use Rattle.bucket_cache.proofs.BucketLists.{Matches, matches-front, in-front, hit-has, hit-place, hit-pairs, hit-bucket, none-in-front}
-use Rattle.bucket_cache.proofs.BucketLists.{free-pairs, free-bucket, least-pair, few-pairs}
+use Rattle.bucket_cache.proofs.BucketLists.{free-pairs, free-bucket, least-pair, few-pairs, other-first}
 use Rattle.bucket_cache.proofs.ways.touch_ways.Goals as goal
+
+pub find_key-requires-clause-other : goal.find_key-requires-clause-other
+find_key-requires-clause-other g c some = other-first c.args.first c.args.used.now c.args.order.now
+    (rows_of (length c.args.key.now) (length c.args.order.now) c.args.words.now) c.args.key.now some c.requires.bucket.within c.requires.other
 
 pub returns-in-Some-clause-bucket : goal.returns-in-Some-clause-bucket
 returns-in-Some-clause-bucket g c =

@@ -4,19 +4,19 @@ use Rattle.bucket_cache.proofs.BucketLists.{some-get}
 use Rattle.bucket_cache.proofs.PairLists.{first-stays}
 use Rattle.bucket_cache.proofs.cache.BucketCache.touch.Goals as goal
 
-pub returns-in-Some-clause-touched : goal.returns-in-Some-clause-touched
-returns-in-Some-clause-touched g c =
-    first-stays c.args.key.now c.in-Some.place (list_at c.args.self.now c.args.bucket) (c.invariant.ensures.once c.args.bucket)
-    c.in-Some.ensures
+pub returns-in-Ok-clause-touched : goal.returns-in-Ok-clause-touched
+returns-in-Ok-clause-touched g c =
+    first-stays c.args.key.now c.in-Ok.place (list_at c.args.self.now c.args.bucket) (c.invariant.ensures.once c.args.bucket)
+    c.in-Ok.ensures.first
 
 one_way : (ways key_words : ℕ) → 0 < ways → key_words + 1 ≤ ways * key_words + ways
 one_way zero key_words h = absurd (omega arith)
 one_way (suc ways) key_words h = omega arith
 
-pub returns-in-Some-clause-cost : goal.returns-in-Some-clause-cost
-returns-in-Some-clause-cost g c =
+pub returns-in-Ok-clause-cost : goal.returns-in-Ok-clause-cost
+returns-in-Ok-clause-cost g c =
     let pairs = list_at c.args.self.now c.args.bucket in
-    let some : 0 < length pairs = some-get pairs 0 _ c.in-Some.ensures in
+    let some : 0 < length pairs = some-get pairs 0 _ c.in-Ok.ensures.first in
     let few : length pairs ≤ g.row.WAYS = c.invariant.ensures.few c.args.bucket in
     let one = one_way g.row.WAYS c.args.self.now.key_words (omega arith) in
     let counted = c.tick_many.ensures in
