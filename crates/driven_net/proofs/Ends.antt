@@ -30,15 +30,15 @@ unfolding net_text
 text_is q buckets ways packets tables text same is = is ∙ ap (λ ts. printed q (with_finals q.names q.folds ts q.finals)) same
 
 -- a network that was drained and closed gives the tables of the definition
-pub tables_are : RunsFollowEvents → (ways lag : ℕ) (q : TypedQuery) (known : List ℕ) (packets : List (List ℕ)) (old new : NetworkView)
+pub tables_are : RunsFollowEvents → (ways : ℕ) (q : TypedQuery) (known : List ℕ) (packets : List (List ℕ)) (old new : NetworkView)
     (tables : List Table)
-    → IsValidQuery q → net_fault q ≡ None → TellsSwitches q → IsPlanOf q old.plan → AreWhole packets → NetFollows ways lag known packets old
+    → IsValidQuery q → net_fault q ≡ None → TellsSwitches q → IsPlanOf q old.plan → AreWhole packets → NetFollows ways known packets old
     → RunsWithMerges ways (all_evictions old) old new → list_all group_is_drained new.groups ≡ true
     → ((query : TypedQuery) (number : ℕ → ℕ) (events : List NetworkEvent) → CombineOver query new.plan number events
     → NetworkStands ways new events → list_all group_is_drained new.groups ≡ true
     → EvictsLast events → tables ≡ net_tables query (caches_of new.buckets ways) (packets_taken events))
     → tables ≡ net_tables q (caches_of old.buckets ways) packets
-tables_are law ways lag q known packets old new tables valid none tells p whole f ran drained closed =
+tables_are law ways q known packets old new tables valid none tells p whole f ran drained closed =
     let kept = merging_kept ways (all_evictions old) old new ran in
     let all : List NetworkEvent = f.events ++ ran.0 in
     let no_more : packets_taken ran.0 ≡ [] = taken_unmerged ran.0 ∙ (ap packets_taken ran.1 ∙ evictions_take_none old) in

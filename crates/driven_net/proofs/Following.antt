@@ -1,24 +1,25 @@
 -- A network that follows the packets of a trace.
-use Rattle.std.proofs.Common.{◌≡◌, ℕ, suc, ◌+◌, ◌<◌, Bool, true, false, List, [], ◌∷◌, ◌++◌, length, inl, inr, refl, sym, ap, ◌∙◌, subst}
-use Rattle.std.proofs.Common.{arith, length-append, append-nil, append_assoc}
+use Rattle.std.proofs.Common.{◌≡◌, ℕ, suc, ◌+◌, ◌<◌, ◌==◌, Bool, true, false, List, [], ◌∷◌, ◌++◌, length, inl, inr, refl, sym, ap, ◌∙◌}
+use Rattle.std.proofs.Common.{subst, arith, length-append, append-nil, append_assoc}
 use Rattle.std.specs.Prelude.{if◌then◌else◌}
 use Rattle.std.proofs.lemmas.Bool.{true≢false}
-use Rattle.epoch_model.specs.Epochs.{is_refresh}
-use Rattle.switch_core.proofs.SideBySide.{each_long}
-use Rattle.net_wide.specs.NetTables.{switch_in}
-use Rattle.net_wide.specs.Numbering.{place_among}
+use Rattle.std.proofs.lemmas.Bool.Decides.{nat_tests}
+use Rattle.epoch_model.proofs.KeyLists.{by_test}
+use Rattle.switch_core.specs.declared.upkeep.Upkeep.TheVariants as due
+use Rattle.net_wide.specs.NetTables.{packets_at, switch_in}
+use Rattle.net_wide.specs.Numbering.{place_among, with_switch}
 use Rattle.net_wide.specs.NetEnds.{IsSeen}
 use Rattle.network.specs.Ends.{AreAtTheirSwitches, NoEviction, packets_taken}
-use Rattle.network.specs.Groups.{GroupGrows}
 use Rattle.network.specs.Networks.{NetworkGrows, NetworkView}
-use Rattle.network.specs.Running.{AreFirst, Evicts, Merges, NetworkEvent, NetworkRuns, NetworkStands, RunsFollowEvents, Takes}
-use Rattle.network.specs.Running.{merges_for_room, merges_of_each, turn_events, without_merges}
-use Rattle.network.proofs.EventLists.{each_is_merges, merges_evict_none, merges_take_none, none_on, room_is_merges, taken_on, theirs_none}
+use Rattle.network.specs.Running.{Evicts, Merges, NetworkEvent, NetworkRuns, NetworkStands, RunsFollowEvents, Takes, turn_events}
+use Rattle.network.specs.Running.{upkeep_calls, without_merges}
+use Rattle.network.proofs.EventLists.{lag_is_merges, merges_evict_none, merges_take_none, none_on, room_is_merges, taken_on, theirs_none}
 use Rattle.network.proofs.EventLists.{theirs_on}
-use Rattle.network.proofs.Runs.{first_in, first_of, kept_long, runs_kept}
+use Rattle.network.proofs.Runs.{runs_kept}
 use Rattle.driven_net.specs.Follows.{NetFollows}
-use Rattle.driven_net.specs.Lags.{MergesAtLag, taken_by}
-use Rattle.driven_net.proofs.Known.{place_after, seen_first, seen_last, seen_more}
+use Rattle.driven_net.specs.Lags.{taken_by}
+use Rattle.driven_net.specs.Turns.{MakesTurn, MakesTurns, known_after}
+use Rattle.driven_net.proofs.Known.{place_after, place_tells, seen_first, seen_last, seen_more}
 
 -- ---- packets by switch
 
@@ -45,60 +46,20 @@ theirs_as number other (Takes switch words ∷ events) same at = (
 theirs_as number other (Evicts switch lane bucket ∷ events) same at = theirs_as number other events same at
 theirs_as number other (Merges switch lane ∷ events) same at = theirs_as number other events same at
 
--- ---- merges at the lag
-
-lag_on : (lag lanes : ℕ) (before xs ys : List NetworkEvent) → MergesAtLag lag lanes before xs → MergesAtLag lag lanes (before ++ xs) ys
-    → MergesAtLag lag lanes before (xs ++ ys)
-lag_on lag lanes before [] ys one two = subst (λ es. MergesAtLag lag lanes es ys) (append-nil before) two
-lag_on lag lanes before (Takes switch words ∷ xs) ys one two = (
-  (λ over. first_in (merges_of_each switch lanes) xs (xs ++ ys) (one.0 over) (first_of xs ys)),
-  lag_on lag lanes (before ++ Takes switch words ∷ []) xs ys one.1 (subst (λ es. MergesAtLag lag lanes es ys)
-      (sym (append_assoc before (Takes switch words ∷ []) xs)) two),
-)
-lag_on lag lanes before (Evicts switch lane bucket ∷ xs) ys one two =
-    lag_on lag lanes (before ++ Evicts switch lane bucket ∷ []) xs ys one
-    (subst (λ es. MergesAtLag lag lanes es ys) (sym (append_assoc before (Evicts switch lane bucket ∷ []) xs)) two)
-lag_on lag lanes before (Merges switch lane ∷ xs) ys one two =
-    lag_on lag lanes (before ++ Merges switch lane ∷ []) xs ys one (subst (λ es. MergesAtLag lag lanes es ys)
-    (sym (append_assoc before (Merges switch lane ∷ []) xs)) two)
-
-lag_merges : (lag lanes : ℕ) (before xs : List NetworkEvent) → without_merges xs ≡ [] → MergesAtLag lag lanes before xs
-lag_merges lag lanes before [] alone = tt
-lag_merges lag lanes before (Takes switch words ∷ xs) alone = cc
-lag_merges lag lanes before (Evicts switch lane bucket ∷ xs) alone = cc
-lag_merges lag lanes before (Merges switch lane ∷ xs) alone = lag_merges lag lanes (before ++ Merges switch lane ∷ []) xs alone
+-- ---- a packet's turn
 
 -- what comes after a packet
 abbrev pub after_packet : ℕ → Bool → NetworkView → List NetworkEvent
-after_packet at over net = if over then merges_of_each at (length net.groups) else []
+after_packet at over net = if over then upkeep_calls at due.Lag net else []
 
 after_is_merges : (at : ℕ) (over : Bool) (net : NetworkView) → without_merges (after_packet at over net) ≡ []
-after_is_merges at true net = each_is_merges at (length net.groups)
+after_is_merges at true net = lag_is_merges at net
 after_is_merges at false net = refl
-
-after_over : (at : ℕ) (over : Bool) (net : NetworkView) → over ≡ true → AreFirst (merges_of_each at (length net.groups))
-    (after_packet at over net)
-after_over at true net e = ([], append-nil (merges_of_each at (length net.groups)))
-after_over at false net e = cc
-
--- a packet's turn
-lag_turn : (lag at : ℕ) (words : List ℕ) (over : Bool) (net : NetworkView) (before : List NetworkEvent)
-    → is_refresh lag (suc (taken_by at before)) ≡ over
-    → MergesAtLag lag (length net.groups) before (turn_events at words over net)
-lag_turn lag at words over net before is_due =
-    let lanes = length net.groups in
-    let room = merges_for_room at net in
-    let count : taken_by at (before ++ room) ≡ taken_by at before =
-    (let a = by_on at before room in let b = by_merges at room (room_is_merges at net) in omega arith) in
-    lag_on lag lanes before room (Takes at words ∷ after_packet at over net) (lag_merges lag lanes before room (room_is_merges at net)) (
-      (λ e. after_over at over net (sym is_due ∙ (ap (λ n. is_refresh lag (suc n)) (sym count) ∙ e))),
-      lag_merges lag lanes ((before ++ room) ++ Takes at words ∷ []) (after_packet at over net) (after_is_merges at over net),
-    )
 
 pub turn_by : (s at : ℕ) (words : List ℕ) (over : Bool) (net : NetworkView)
     → taken_by s (turn_events at words over net) ≡ taken_by s (Takes at words ∷ [])
 turn_by s at words over net =
-    let room = merges_for_room at net in
+    let room = upkeep_calls at due.Room net in
     let after = after_packet at over net in
     let a = by_on s room (Takes at words ∷ after) in
     let b = by_merges s room (room_is_merges at net) in
@@ -108,7 +69,7 @@ turn_by s at words over net =
 
 turn_takes : (at : ℕ) (words : List ℕ) (over : Bool) (net : NetworkView) → packets_taken (turn_events at words over net) ≡ words ∷ []
 turn_takes at words over net =
-    let room = merges_for_room at net in
+    let room = upkeep_calls at due.Room net in
     let after = after_packet at over net in
     taken_on room (Takes at words ∷ after)
     ∙ (ap (λ ps. ps ++ words ∷ packets_taken after) (merges_take_none room (room_is_merges at net))
@@ -117,14 +78,14 @@ turn_takes at words over net =
 turn_theirs : (number : ℕ → ℕ) (at : ℕ) (words : List ℕ) (over : Bool) (net : NetworkView) → at ≡ number (switch_in words)
     → AreAtTheirSwitches number (turn_events at words over net)
 turn_theirs number at words over net same =
-    let room = merges_for_room at net in
+    let room = upkeep_calls at due.Room net in
     let after = after_packet at over net in
     theirs_on number room (Takes at words ∷ after) (theirs_none number room (merges_take_none room (room_is_merges at net)))
     (same, theirs_none number after (merges_take_none after (after_is_merges at over net)))
 
 turn_evicts_none : (at : ℕ) (words : List ℕ) (over : Bool) (net : NetworkView) → NoEviction (turn_events at words over net)
 turn_evicts_none at words over net =
-    let room = merges_for_room at net in
+    let room = upkeep_calls at due.Room net in
     let after = after_packet at over net in
     none_on room (Takes at words ∷ after) (merges_evict_none room (room_is_merges at net))
     (merges_evict_none after (after_is_merges at over net))
@@ -132,9 +93,9 @@ turn_evicts_none at words over net =
 -- ---- the network
 
 -- a network without a switch
-pub follows_start : (ways lag : ℕ) (net : NetworkView) → net.switches ≡ 0 → NetworkStands ways net [] → (n : NetFollows ways lag [] [] net)
+pub follows_start : (ways : ℕ) (net : NetworkView) → net.switches ≡ 0 → NetworkStands ways net [] → (n : NetFollows ways [] [] net)
     × (n.events ≡ [])
-follows_start ways lag net none fresh = (
+follows_start ways net none fresh = (
   record {
     switches = none;
     all_known = λ s seen. absurd (true≢false (sym seen));
@@ -143,17 +104,16 @@ follows_start ways lag net none fresh = (
     takes = refl;
     theirs = tt;
     none = tt;
-    merges = tt;
   },
   refl,
 )
 
 -- a switch more
-pub follows_more : (ways lag : ℕ) (known : List ℕ) (s : ℕ) (packets : List (List ℕ)) (old new : NetworkView) → NetworkGrows ways old new
+pub follows_more : (ways : ℕ) (known : List ℕ) (s : ℕ) (packets : List (List ℕ)) (old new : NetworkView) → NetworkGrows ways old new
     → ((events : List NetworkEvent) → NetworkStands ways old events → NetworkStands ways new events)
-    → (f : NetFollows ways lag known packets old)
-    → (n : NetFollows ways lag (known ++ s ∷ []) packets new) × (n.events ≡ f.events)
-follows_more ways lag known s packets old new grown stand f = (
+    → (f : NetFollows ways known packets old)
+    → (n : NetFollows ways (known ++ s ∷ []) packets new) × (n.events ≡ f.events)
+follows_more ways known s packets old new grown stand f = (
   record {
     switches = grown.switches ∙ (ap (λ n. n + 1) f.switches ∙ sym (length-append known (s ∷ [])));
     all_known = λ t seen. let a = f.all_known t seen in let b = place_after known s t (f.all_known t seen) in let l =
@@ -164,20 +124,17 @@ follows_more ways lag known s packets old new grown stand f = (
     theirs = theirs_as (place_among known) (place_among (known ++ s ∷ [])) f.events
         (λ t seen. sym (place_after known s t (f.all_known t (subst (IsSeen t) f.takes seen)))) f.theirs;
     none = f.none;
-    merges = subst (λ n. MergesAtLag lag n [] f.events) (each_long (λ k. GroupGrows ways old.buckets old.pipe_records) 0 old.groups
-        new.groups grown.groups) f.merges;
   },
   refl,
 )
 
 -- a packet more
-pub follows_turn : RunsFollowEvents → (ways lag : ℕ) (known : List ℕ) (packets : List (List ℕ)) (words : List ℕ) (at : ℕ) (over : Bool)
+pub follows_turn : RunsFollowEvents → (ways : ℕ) (known : List ℕ) (packets : List (List ℕ)) (words : List ℕ) (at : ℕ) (over : Bool)
     (old new : NetworkView)
     → NetworkRuns ways (turn_events at words over old) old new → place_among known (switch_in words) ≡ at → at < length known
-    → (f : NetFollows ways lag known packets old)
-    → is_refresh lag (suc (taken_by at f.events)) ≡ over → (n : NetFollows ways lag known (packets ++ words ∷ []) new)
-    × (n.events ≡ f.events ++ turn_events at words over old)
-follows_turn law ways lag known packets words at over old new ran place within f is_due =
+    → (f : NetFollows ways known packets old)
+    → (n : NetFollows ways known (packets ++ words ∷ []) new) × (n.events ≡ f.events ++ turn_events at words over old)
+follows_turn law ways known packets words at over old new ran place within f =
     let turn = turn_events at words over old in
     let kept = runs_kept ways turn old new ran in (
       record {
@@ -192,8 +149,56 @@ follows_turn law ways lag known packets words at over old new ran place within f
             ∙ ap (λ ps. packets ++ ps) (turn_takes at words over old));
         theirs = theirs_on (place_among known) f.events turn f.theirs (turn_theirs (place_among known) at words over old (sym place));
         none = none_on f.events turn f.none (turn_evicts_none at words over old);
-        merges = subst (λ n. MergesAtLag lag n [] (f.events ++ turn)) (sym (kept_long old new kept))
-            (lag_on lag (length old.groups) [] f.events turn f.merges (lag_turn lag at words over old f.events is_due));
       },
       refl,
     )
+
+-- ---- turns in order
+
+known_on : (known : List ℕ) (packets : List (List ℕ)) (words : List ℕ)
+    → known_after known (packets ++ words ∷ []) ≡ with_switch (known_after known packets) (switch_in words)
+known_on known [] words = refl
+known_on known (first ∷ packets) words = known_on (with_switch known (switch_in first)) packets words
+
+pub known_next : (known now : List ℕ) (packets : List (List ℕ)) (words : List ℕ) → known ≡ known_after [] packets
+    → now ≡ with_switch known (switch_in words) → now ≡ known_after [] (packets ++ words ∷ [])
+known_next known now packets words was is = is ∙ (ap (λ ks. with_switch ks (switch_in words)) was ∙ sym (known_on [] packets words))
+
+pub turns_next : (ways lag : ℕ) (before packets : List (List ℕ)) (words : List ℕ) (a b c : NetworkView)
+    → MakesTurns ways lag before packets a b → MakesTurn ways lag (before ++ packets) words b c
+    → MakesTurns ways lag before (packets ++ words ∷ []) a c
+turns_next ways lag before [] words a b c same turn = (
+  c,
+  subst (λ x. MakesTurn ways lag before words x c) same (subst (λ ps. MakesTurn ways lag ps words b c) (append-nil before) turn),
+  refl,
+)
+turns_next ways lag before (first ∷ packets) words a b c turns turn = (
+  turns.0,
+  turns.1,
+  turns_next ways lag (before ++ first ∷ []) packets words turns.0 b c turns.2
+      (subst (λ ps. MakesTurn ways lag ps words b c) (sym (append_assoc before (first ∷ []) packets)) turn),
+)
+
+-- a switch took as many packets as are its own
+pub own_packets : (known : List ℕ) (s : ℕ) (events : List NetworkEvent) → place_among known s < length known
+    → AreAtTheirSwitches (place_among known) events
+    → taken_by (place_among known s) events ≡ length (packets_at s (packets_taken events))
+own_packets known s [] within theirs = refl
+own_packets known s (Takes switch words ∷ events) within theirs =
+    let at = place_among known s in
+    let rest : taken_by at events ≡ length (packets_at s (packets_taken events)) = own_packets known s events within theirs.1 in
+    by_test (switch_in words == s)
+    (λ t.
+    let same : switch_in words ≡ s = grind (arith, nat_tests) in
+    let here : switch ≡ at = theirs.0 ∙ ap (place_among known) same in
+    let yes : (switch == at) ≡ true = grind (arith, nat_tests) in
+    rw (yes, t) (omega arith))
+    (λ t.
+    let apart : switch ≡ at → ⊥ = λ e.
+    let same : switch_in words ≡ s = place_tells known (switch_in words) s within (sym theirs.0 ∙ e) in
+    let yes : (switch_in words == s) ≡ true = grind (arith, nat_tests) in
+    true≢false (sym yes ∙ t) in
+    let no : (switch == at) ≡ false = grind (arith, nat_tests) in
+    rw (no, t) (omega arith))
+own_packets known s (Evicts switch lane bucket ∷ events) within theirs = own_packets known s events within theirs
+own_packets known s (Merges switch lane ∷ events) within theirs = own_packets known s events within theirs

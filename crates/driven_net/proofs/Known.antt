@@ -18,9 +18,14 @@ place_of (other ∷ known) s h = by_test (other == s)
     (λ t. rw t (same_number other s t))
     (λ t. let less : suc (place_among known s) < suc (length known) = rw t at h in rw t (place_of known s (omega arith)))
 
+-- a number of a known switch is that of no other
+pub place_tells : (known : List ℕ) (a b : ℕ) → place_among known b < length known → place_among known a ≡ place_among known b → a ≡ b
+place_tells known a b h e = sym (place_of known a (subst (λ n. n < length known) (sym e) h))
+    ∙ (ap (slice_index known) e ∙ place_of known b h)
+
 pub numbered : (known : List ℕ) (packets : List (List ℕ)) → ((s : ℕ) → IsSeen s packets → place_among known s < length known)
     → AreNumbered (place_among known) packets
-numbered known packets h a b sa sb e = sym (place_of known a (h a sa)) ∙ (ap (slice_index known) e ∙ place_of known b (h b sb))
+numbered known packets h a b sa sb e = place_tells known a b (h b sb) e
 
 place_within : (known : List ℕ) (s : ℕ) → place_among known s ≤ length known
 place_within [] s = omega arith

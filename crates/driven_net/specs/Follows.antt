@@ -1,15 +1,14 @@
 -- A network that has taken the packets of a trace.
-use Rattle.std.specs.Prelude.{◌≡◌, ℕ, ◌<◌, List, [], length}
+use Rattle.std.specs.Prelude.{◌≡◌, ℕ, ◌<◌, List, length}
 use Rattle.net_wide.specs.Numbering.{place_among}
 use Rattle.net_wide.specs.NetEnds.{IsSeen}
 use Rattle.network.specs.Ends.{AreAtTheirSwitches, NoEviction, packets_taken}
 use Rattle.network.specs.Networks.{NetworkView}
 use Rattle.network.specs.Running.{NetworkEvent, NetworkStands}
-use Rattle.driven_net.specs.Lags.{MergesAtLag}
 
 -- The network's switches are these, by their numbers, and all switches of the packets are among them. It represents events that take
--- the packets, each at the number of its switch, with merges among them, of which some are due at the lag.
-pub record NetFollows (ways lag : ℕ) (known : List ℕ) (packets : List (List ℕ)) (net : NetworkView) : Type 0 where
+-- the packets, each at the number of its switch, with merges among them.
+pub record NetFollows (ways : ℕ) (known : List ℕ) (packets : List (List ℕ)) (net : NetworkView) : Type 0 where
   pub switches : net.switches ≡ length known
   pub all_known : (switch : ℕ) → IsSeen switch packets → place_among known switch < length known
   pub events : List NetworkEvent
@@ -17,4 +16,3 @@ pub record NetFollows (ways lag : ℕ) (known : List ℕ) (packets : List (List 
   pub takes : packets_taken events ≡ packets
   pub theirs : AreAtTheirSwitches (place_among known) events
   pub none : NoEviction events
-  pub merges : MergesAtLag lag (length net.groups) [] events

@@ -1,9 +1,8 @@
 -- The clocks of the switches' lags: when the lanes of a switch merge.
-use Rattle.std.specs.Prelude.{◌≡◌, ◌≢◌, ◌+◌, ◌==◌, ℕ, suc, true, List, [], ◌∷◌, ◌++◌, length, slice_get, Some, if◌then◌else◌}
-use Rattle.epoch_model.specs.Epochs.{is_refresh}
+use Rattle.std.specs.Prelude.{◌≡◌, ◌≢◌, ◌+◌, ◌==◌, ℕ, suc, List, [], ◌∷◌, length, slice_get, Some, if◌then◌else◌}
 use Rattle.trace_drive.specs.Clocks.{HasCounted}
 use Rattle.trace_drive.specs.declared.clock.Clock.{Clock}
-use Rattle.network.specs.Running.{AreFirst, Evicts, Merges, NetworkEvent, Takes, merges_of_each}
+use Rattle.network.specs.Running.{Evicts, Merges, NetworkEvent, Takes}
 
 -- a clock for each of 64 switches, which is due at each multiple of the lag and counts the packets of its switch
 pub record AreLagClocks (lag : ℕ) (clocks : List Clock) : Type 0 where
@@ -27,13 +26,3 @@ taken_by at (Merges switch lane ∷ events) = taken_by at events
 -- each clock counted the packets that its switch took
 abbrev pub HaveCounted : List NetworkEvent → List Clock → Type 0
 HaveCounted events clocks = (at : ℕ) (clock : Clock) → slice_get clocks at ≡ Some clock → HasCounted (taken_by at events) clock
-
--- Of these events after others: wherever the number of a packet among those of its switch is a multiple of the lag, the switch merges
--- a record right after it at each of this number of groupbys.
-abbrev pub MergesAtLag : ℕ → ℕ → List NetworkEvent → List NetworkEvent → Type 0
-MergesAtLag lag lanes before [] = Unit {0}
-MergesAtLag lag lanes before (Takes switch words ∷ events) =
-    (is_refresh lag (suc (taken_by switch before)) ≡ true → AreFirst (merges_of_each switch lanes) events)
-    × MergesAtLag lag lanes (before ++ Takes switch words ∷ []) events
-MergesAtLag lag lanes before (Evicts switch lane bucket ∷ events) = MergesAtLag lag lanes (before ++ Evicts switch lane bucket ∷ []) events
-MergesAtLag lag lanes before (Merges switch lane ∷ events) = MergesAtLag lag lanes (before ++ Merges switch lane ∷ []) events

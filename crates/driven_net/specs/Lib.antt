@@ -1,3 +1,4 @@
 pub mod NetTraces
 pub mod Lags
+pub mod Turns
 pub mod Follows

@@ -34,10 +34,9 @@ pub(crate) fn end_tables<const WAYS: usize, L: Ledger>(
     requires plan { IsPlanOf typed.now network.plan }
     requires combines { net_fault typed.now ≡ None }
     requires tells { TellsSwitches typed.now }
-    requires follows { (lag : ℕ) × (known : List ℕ) × (packets : List (List ℕ)) × AreWhole packets
-        × NetFollows WAYS lag known packets network }
-    ensures tables { IfOk result (λ tables. (lag : ℕ) (known : List ℕ) (packets : List (List ℕ)) → AreWhole packets
-        → NetFollows WAYS lag known packets network.entry
+    requires follows { (known : List ℕ) × (packets : List (List ℕ)) × AreWhole packets × NetFollows WAYS known packets network }
+    ensures tables { IfOk result (λ tables. (known : List ℕ) (packets : List (List ℕ)) → AreWhole packets
+        → NetFollows WAYS known packets network.entry
         → tables ≡ net_tables typed.now (caches_of network.entry.buckets WAYS) packets) }
     ensures shapes { IfOk result
         (λ tables. map table_shape tables ≡ map (group_shape typed.now.folds) (takings typed.now.streams)) }

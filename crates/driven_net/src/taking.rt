@@ -16,6 +16,7 @@ ghost use Rattle.trace_reader.specs.declared.fault.TraceFault.TheVariants.{TooMa
 ghost use Rattle.driven_net.specs.Follows.{NetFollows};
 ghost use Rattle.driven_net.specs.Lags.{AreLagClocks, CountsAt, HaveCounted};
 ghost use Rattle.driven_net.specs.NetTraces.{first_fault};
+ghost use Rattle.driven_net.specs.Turns.{MakesTurn, MakesTurns, Meets, known_after};
 
 use marple_base::{Field, Packet, Seq, Steps};
 use net_wide::number_switch;
@@ -38,8 +39,9 @@ fn switch_at<const WAYS: usize, L: Ledger>(
     ensures known { OnOk result (known.new ≡ with_switch known.old switch) }
     ensures switches { OnOk result (network.new.switches ≡ length known.new) }
     ensures keeps { OnOk result (Keeps network.old network.new) }
-    ensures follows { OnOk result ((lag : ℕ) (packets : List (List ℕ)) (f : NetFollows WAYS lag known.old packets network.old)
-        → (n : NetFollows WAYS lag known.new packets network.new) × (n.events ≡ f.events)) }
+    ensures meets { OnOk result (Meets WAYS known.old switch network.old network.new) }
+    ensures follows { OnOk result ((packets : List (List ℕ)) (f : NetFollows WAYS known.old packets network.old)
+        → (n : NetFollows WAYS known.new packets network.new) × (n.events ≡ f.events)) }
     ensures refused { IfErr result (λ answer. IfRefused answer (λ fault.
         (fault ≡ SwitchFault number) × (switch_number known.old switch ≡ None))) }
     ensures steps { steps.old ≤ steps.new }
@@ -89,9 +91,12 @@ fn take_one<const WAYS: usize, L: Ledger>(
     ensures known { OnOk result (known.new ≡ with_switch known.old (switch_in packet.now.words)) }
     ensures numbered { OnOk result ((at : ℕ) × (switch_number known.old (switch_in packet.now.words) ≡ Some at)) }
     ensures keeps { OnOk result (Keeps network.old network.new) }
-    ensures follows { OnOk result ((lag : ℕ) (packets : List (List ℕ)) (f : NetFollows WAYS lag known.old packets network.old)
+    ensures follows { OnOk result ((lag : ℕ) (packets : List (List ℕ)) (f : NetFollows WAYS known.old packets network.old)
         → AreLagClocks lag clocks.old → HaveCounted f.events clocks.old
-        → (n : NetFollows WAYS lag known.new (packets ++ packet.now.words ∷ []) network.new) × HaveCounted n.events clocks.new) }
+        → (n : NetFollows WAYS known.new (packets ++ packet.now.words ∷ []) network.new) × HaveCounted n.events clocks.new) }
+    ensures turn { OnOk result ((lag : ℕ) (packets : List (List ℕ)) (f : NetFollows WAYS known.old packets network.old)
+        → AreLagClocks lag clocks.old → HaveCounted f.events clocks.old → known.old ≡ known_after [] packets
+        → MakesTurn WAYS lag packets packet.now.words network.old network.new) }
     ensures clocks { (lag : ℕ) → AreLagClocks lag clocks.old → AreLagClocks lag clocks.new }
     ensures refused { IfErr result (λ answer. IfRefused answer (λ fault.
         (fault ≡ SwitchFault number) × (switch_number known.old (switch_in packet.now.words) ≡ None))) }
@@ -107,7 +112,8 @@ fn take_one<const WAYS: usize, L: Ledger>(
 }
 
 /// Takes all packets of a trace, each at its switch: the network's switches are those of the packets, in the order of
-/// their first packets. After every `lag` packets of a switch each of its lanes merges a record.
+/// their first packets. A lane of the packet's switch whose pipe is full merges a record before the packet, and after every
+/// `lag` packets of a switch each of its lanes merges one.
 pub(crate) fn take_all<const WAYS: usize, L: Ledger>(
     alloc: Global,
     network: Network<WAYS>,
@@ -119,7 +125,8 @@ pub(crate) fn take_all<const WAYS: usize, L: Ledger>(
     requires fresh { NetworkStands WAYS network [] }
     requires few { length trace.packets ≤ most_records }
     ensures accepted { IfOk result (λ found. first_fault [] 1 (words_of trace.entry.packets) trace.entry.fault ≡ None) }
-    ensures follows { IfOk result (λ found. (known : List ℕ) × NetFollows WAYS lag known (words_of trace.entry.packets) found) }
+    ensures follows { IfOk result (λ found. (known : List ℕ) × NetFollows WAYS known (words_of trace.entry.packets) found) }
+    ensures turns { IfOk result (MakesTurns WAYS lag [] (words_of trace.entry.packets) network.entry) }
     ensures keeps { IfOk result (Keeps network.entry) }
     ensures known { IfOk result (IsNetwork WAYS) }
     ensures refused { IfErr result (λ answer. IfRefused answer (λ fault.

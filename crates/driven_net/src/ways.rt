@@ -14,8 +14,11 @@ ghost use Rattle.net_wide.specs.NetTables.{net_text};
 ghost use Rattle.net_wide.specs.NetLaws.{TellsSwitches};
 ghost use Rattle.command_line.specs.Command.{IsNetSetting, ways_number};
 ghost use Rattle.network.specs.Groups.{AllHavePlaces};
+ghost use Rattle.network.specs.Networks.{NetworkView};
+ghost use Rattle.network.specs.Running.{NetworkStands};
 ghost use Rattle.driven_net.specs.Follows.{NetFollows};
 ghost use Rattle.driven_net.specs.NetTraces.{first_fault};
+ghost use Rattle.driven_net.specs.Turns.{MakesTurns};
 
 use crate::ending::{end_tables, write_text};
 use crate::taking::take_all;
@@ -46,7 +49,9 @@ fn network_after<const WAYS: usize, L: Ledger>(
     ensures plan { IfOk result (λ network. network.plan ≡ plan) }
     ensures buckets { IfOk result (λ network. network.buckets ≡ setting.buckets) }
     ensures pipe_places { IfOk result (λ network. AllHavePlaces setting.pipe network.groups) }
-    ensures follows { IfOk result (λ network. (known : List ℕ) × NetFollows WAYS setting.lag known (words_of trace.entry.packets) network) }
+    ensures follows { IfOk result (λ network. (known : List ℕ) × NetFollows WAYS known (words_of trace.entry.packets) network) }
+    ensures turns { IfOk result (λ network. (fresh : NetworkView) × (fresh.switches ≡ 0) × NetworkStands WAYS fresh []
+        × MakesTurns WAYS setting.lag [] (words_of trace.entry.packets) fresh network) }
     ensures refused { IfErr result (λ answer. IfRefused answer (λ fault.
         first_fault [] 1 (words_of trace.entry.packets) trace.entry.fault ≡ Some fault)) }
     ensures steps { steps.old ≤ steps.new }

@@ -1,7 +1,6 @@
 pub mod Taking
 pub mod Combined
 pub mod SameTexts
-pub mod Sharing
 pub mod OneSwitch
 pub mod UsesOfOne
 pub mod Places

@@ -1,10 +1,11 @@
 -- Finals can read the tables of several switches: of each key they read at most one row.
-use Rattle.std.proofs.Common.{◌≡◌, ℕ, suc, ◌-◌, Bool, true, false, ◌||◌, List, [], ◌∷◌, ◌++◌, inr, length, drop, map, flat_map, Option}
-use Rattle.std.proofs.Common.{Some, None, refl, sym, ap, ◌∙◌, subst, arith, length-append}
+use Rattle.std.proofs.Common.{◌≡◌, ℕ, suc, ◌+◌, ◌-◌, Bool, true, false, ◌||◌, List, [], ◌∷◌, ◌++◌, inl, inr, length, drop, map, flat_map}
+use Rattle.std.proofs.Common.{Option, Some, None, refl, sym, ap, ◌∙◌, subst, arith, length-append}
 use Rattle.std.specs.Prelude.{slice_get}
 use Rattle.std.specs.List.{All}
 use Rattle.std.proofs.lemmas.Bool.{true≢false}
 use Rattle.std.proofs.lemmas.List.{length-map}
+use Rattle.std.proofs.lemmas.Option.{slice_get_cases, slice_get_within}
 use Rattle.std.proofs.lemmas.List.Elements.{All-nil, All-cons, All-append, All-head, All-tail}
 use Rattle.query_lang.specs.declared.fold.TypedFold.{TypedFold}
 use Rattle.query_lang.specs.declared.typed.TypedQuery.{TypedQuery}
@@ -27,9 +28,7 @@ use Rattle.stage_plan.specs.declared.group.GroupWiring.{GroupWiring}
 use Rattle.stage_plan.specs.Planned.{IsPlanOf, fold_at, row_of, taken, wiring_at}
 use Rattle.stage_plan.specs.Registers.{operand_value}
 use Rattle.stage_plan.specs.Shape.{GroupShape, group_shape, query_groups}
-use Rattle.stage_plan.specs.Sound.{PlanParts, IsSoundPlan}
-use Rattle.switch_core.proofs.LanesMade.{group_sound}
-use Rattle.switch_core.proofs.SideBySide.{got_below}
+use Rattle.stage_plan.specs.Sound.{PlanParts, IsSoundGroup, IsSoundPlan}
 use Rattle.final_queries.specs.Finals.{IsTable, HasColumns, table_shape}
 use Rattle.final_queries.proofs.GroupRead.{HasOneAtMost, epochs_read, all_in_order, epochs_have}
 use Rattle.final_queries.proofs.StateLengths.{states_length}
@@ -119,11 +118,18 @@ taken_long plan i n words (one ∷ packets) wide = by_test (holds (operand_value
 
 module _ (q : TypedQuery) (plan : PlanParts) (g : Geometry) (packets : List (List ℕ)) (valid : IsValidQuery q) (p : IsPlanOf q plan)
     (sound : IsSoundPlan plan) (whole : AreWhole packets) where
+  wired : (i : ℕ) (part : GroupPlan) → slice_get plan.groups i ≡ Some part → (w : GroupWiring) × (wiring_at plan i ≡ w)
+      × IsSoundGroup (14 + length plan.ops) part w
+  wired i part at = elim ((slice_get_cases plan.wiring i).1) [
+    | inl there ↦ (there.0, rw there.2 refl, sound.each i part there.0 at there.2)
+    | inr past ↦ absurd (let less = slice_get_within plan.groups i part at in let many = sound.wired in omega arith)
+  ]
+
   one_read : (i : ℕ) (part : GroupPlan) (f : TypedFold) → slice_get plan.groups i ≡ Some part → fold_at q i ≡ Some f
       → IsTable (net_table q packets (net_epochs q i g packets) i (group_shape part) f)
   one_read i part f at has =
-      let own = group_sound plan i part sound at in
-      let within = got_below plan.groups i part at in
+      let own = wired i part at in
+      let within = slice_get_within plan.groups i part at in
       let program = p.programs i f part has at in
       let wide : length (wiring_at plan i).keys ≡ length part.key_names = ap (λ w. length w.keys) own.1 ∙ own.2.keys in
       table_read q g packets i (group_shape part) f

@@ -1,6 +1,5 @@
 pub mod Combining
 pub mod NetTables
 pub mod NetLaws
-pub mod Sharing
 pub mod Numbering
 pub mod NetEnds

@@ -5,12 +5,10 @@ ghost use Rattle.net_wide.specs.NetTables.{net_text};
 
 mod check;
 mod ends;
-mod fronts;
 mod laws;
 mod numbering;
 
 pub use check::net_check;
 pub use ends::{merged_make_the_table, net_tables_are_read, pieces_are_the_epochs};
-pub use fronts::{add_front, all_drained, evict_at, merge_at, packet_at};
 pub use laws::{keys_of_one_switch, switches_do_not_wait, uses_are_the_switchs};
 pub use numbering::number_switch;

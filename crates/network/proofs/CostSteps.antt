@@ -14,13 +14,16 @@ use Rattle.stage_plan.specs.Sound.{PlanParts, IsSoundPlan}
 use Rattle.switch_core.specs.Costs.{merge_cost}
 use Rattle.switch_core.specs.FrontParts.{FrontOf}
 use Rattle.switch_core.specs.Pipelines.{IsLaneOf}
-use Rattle.switch_core.specs.PlanLanes.{LaneView, PipelineView, lane_cost, lane_merge_cost}
+use Rattle.switch_core.specs.PlanLanes.{LaneView, PipelineView, lane_cost}
 use Rattle.switch_core.specs.Rows.{Each, EachFrom}
+use Rattle.switch_core.specs.Upkeeps.{upkeep_cost}
+use Rattle.switch_core.specs.declared.upkeep.Upkeep.{Upkeep}
+use Rattle.switch_core.specs.declared.upkeep.Upkeep.TheVariants as due
 use Rattle.switch_core.proofs.PacketBound.{HasOneDepth, packet_within}
 use Rattle.switch_core.proofs.SideBySide.{each_map, got_some}
 use Rattle.network.specs.Shared.{FrontKept}
 use Rattle.network.specs.Groups.{AllWide, AreGroups, AreWide, GroupKept, GroupView, IsGroup}
-use Rattle.network.specs.Costs.{AtLaneIn, front_cost, front_merge_cost, group_cost, group_merge_cost, lane_in}
+use Rattle.network.specs.Costs.{AtLaneIn, front_cost, front_upkeep_cost, group_cost, group_merge_cost, group_upkeep_cost, lane_in}
 
 -- steps within those of the switch's lane are within those of the groupby
 pub group_within : (ways at start end : ℕ) (group : GroupView) → at < length group.fronts
@@ -33,18 +36,30 @@ group_within ways at start end group within cost =
 pub within_next : (start before end sum more next : ℕ) → next ≡ sum + more → before ≤ start + sum → end ≤ before + more → end ≤ start + next
 within_next start before end sum more next s b e = omega arith
 
--- steps of a merge at a front whose entries have as many words as their kind says
-pub merge_within : (at start end : ℕ) (group : GroupView) (front : FrontOf AnyEpochs) → slice_get group.fronts at ≡ Some front
-    → front.cache.entry_words ≡ (ghosts.sizes front.kind).entry
-    → end ≤ start + lane_merge_cost (lane_in group front) → end ≤ start + group_merge_cost at group
-merge_within at start end group front here words cost =
-    subst (λ n. end ≤ start + n) (ap (λ w. merge_cost front.cache.key_words w (ghosts.merge_bound front.kind)) words
-    ∙ sym (ap front_merge_cost here)) cost
+-- steps within those of an upkeep of a front are within those of the groupby
+pub upkeep_within : (upkeep : Upkeep) (at start end : ℕ) (group : GroupView) (front : FrontOf AnyEpochs)
+    → slice_get group.fronts at ≡ Some front
+    → end ≤ start + upkeep_cost upkeep front.cache front.pipe (ghosts.merge_bound front.kind)
+    → end ≤ start + group_upkeep_cost upkeep at group
+upkeep_within upkeep at start end group front here cost = subst (λ n. end ≤ start + n) (sym (ap (front_upkeep_cost upkeep) here)) cost
+
+-- room for a record takes the steps of a merge
+room_same : (o : Option (FrontOf AnyEpochs)) → front_upkeep_cost due.Room o ≡ front_upkeep_cost due.Lag o
+room_same None = refl
+room_same (Some front) = refl
+
+pub room_cost : (at : ℕ) (groups : List GroupView)
+    → sum_by (group_upkeep_cost due.Room at) groups ≡ sum_by (group_upkeep_cost due.Lag at) groups
+room_cost at [] = refl
+room_cost at (x ∷ groups) =
+    sum_by-cons (group_upkeep_cost due.Room at) x groups
+    ∙ (ap (λ n. n + sum_by (group_upkeep_cost due.Room at) groups) (room_same (slice_get x.fronts at))
+    ∙ (ap (λ n. group_upkeep_cost due.Lag at x + n) (room_cost at groups) ∙ sym (sum_by-cons (group_upkeep_cost due.Lag at) x groups)))
 
 -- what is kept of fronts and of groupbys keeps their costs
 
-kept_at : (F G : Option (FrontOf AnyEpochs) → ℕ) → G None ≡ F None → ((a b : FrontOf AnyEpochs) → FrontKept a b → G (Some b) ≡ F (Some a))
-    → (k at : ℕ) (olds news : List (FrontOf AnyEpochs))
+pub kept_at : {X : Type 0} (F G : Option (FrontOf AnyEpochs) → X) → G None ≡ F None
+    → ((a b : FrontOf AnyEpochs) → FrontKept a b → G (Some b) ≡ F (Some a)) → (k at : ℕ) (olds news : List (FrontOf AnyEpochs))
     → EachFrom (λ n. FrontKept) k olds news → G (slice_get news at) ≡ F (slice_get olds at)
 kept_at F G none some k at [] [] e = none
 kept_at F G none some k at [] (y ∷ news) e = absurd e
@@ -61,9 +76,11 @@ cost_kept ways at old new kept =
 
 merge_kept : (at : ℕ) (old new : GroupView) → GroupKept old new → group_merge_cost at new ≡ group_merge_cost at old
 merge_kept at old new kept =
-    let by : ℕ → AnyEpochs → ℕ = λ w k. merge_cost w (ghosts.sizes k).entry (ghosts.merge_bound k) in
-    kept_at front_merge_cost front_merge_cost refl (λ a b one. ap (λ w. by w b.kind) one.key_words ∙ ap (by a.cache.key_words) one.kind) 0
-    at old.fronts new.fronts kept.fronts
+    let by : ℕ → ℕ → AnyEpochs → ℕ = λ w e k. merge_cost w e (ghosts.merge_bound k) in
+    kept_at (front_upkeep_cost due.Lag) (front_upkeep_cost due.Lag) refl (λ a b one.
+    ap (λ w. by w b.cache.entry_words b.kind) one.key_words
+    ∙ (ap (λ e. by a.cache.key_words e b.kind) one.entry_words ∙ ap (by a.cache.key_words a.cache.entry_words) one.kind)) 0 at
+    old.fronts new.fronts kept.fronts
 
 sum_same : (f : GroupView → ℕ) (k : ℕ) (olds news : List GroupView) → EachFrom (λ n a b. f b ≡ f a) k olds news
     → sum_by f news ≡ sum_by f olds

@@ -1,13 +1,15 @@
 -- Lists of a network's events.
-use Rattle.std.proofs.Common.{◌≡◌, ℕ, zero, suc, List, [], ◌∷◌, ◌++◌, length, replicate, Option, Some, None, refl, ap, ◌∙◌}
-use Rattle.std.specs.Prelude.{slice_get}
+use Rattle.std.proofs.Common.{◌≡◌, ℕ, zero, suc, nat_lt, List, [], ◌∷◌, ◌++◌, length, replicate, Option, Some, None, refl, sym, ap, ◌∙◌}
+use Rattle.epoch_model.specs.Machine.{Event, Packet, Evict, Merge}
 use Rattle.epoch_model.proofs.KeyLists.{by_test}
+use Rattle.epoch_entry.specs.declared.any.AnyEpochs.{AnyEpochs}
+use Rattle.switch_core.specs.FrontParts.{FrontOf}
+use Rattle.switch_core.specs.declared.upkeep.Upkeep.TheVariants as due
 use Rattle.network.specs.Ends.{AreAtTheirSwitches, NoEviction, packets_taken}
-use Rattle.network.specs.Events.{is_ready_at}
-use Rattle.network.specs.Groups.{GroupView}
+use Rattle.network.specs.Events.{upkeep_in}
 use Rattle.network.specs.Networks.{NetworkView}
-use Rattle.network.specs.Running.{Evicts, Merges, NetworkEvent, Takes, all_evictions, bucket_evictions, cache_evictions, front_at}
-use Rattle.network.specs.Running.{joined_below, merges_for_room, merges_of_each, open_in, room_events, switch_evictions, without_merges}
+use Rattle.network.specs.Running.{Evicts, Merges, NetworkEvent, Takes, all_evictions, calls_of, front_at, joined_below, lane_calls}
+use Rattle.network.specs.Running.{upkeep_calls, without_merges}
 use Rattle.network.proofs.Runs.{without_on}
 
 -- ---- some events and then others
@@ -57,17 +59,18 @@ none_below lists none zero = refl
 none_below lists none (suc n) =
     taken_on (joined_below n lists) (lists n) ∙ (ap (λ ps. ps ++ packets_taken (lists n)) (none_below lists none n) ∙ none n)
 
-bucket_none : (at lane bucket n : ℕ) → packets_taken (replicate n (Evicts at lane bucket)) ≡ []
-bucket_none at lane bucket zero = refl
-bucket_none at lane bucket (suc n) = bucket_none at lane bucket n
+calls_none : (at lane : ℕ) (events : List Event) → packets_taken (calls_of at lane events) ≡ []
+calls_none at lane [] = refl
+calls_none at lane (Packet key row ∷ events) = calls_none at lane events
+calls_none at lane (Evict bucket ∷ events) = calls_none at lane events
+calls_none at lane (Merge ∷ events) = calls_none at lane events
 
 -- evictions of all caches take no packet
 pub evictions_take_none : (net : NetworkView) → packets_taken (all_evictions net) ≡ []
-evictions_take_none net = none_below (switch_evictions net) (λ at.
-    none_below (λ lane. cache_evictions net.buckets at lane (front_at net lane at)) (λ lane.
-    none_below (λ bucket. bucket_evictions at lane bucket (open_in bucket (front_at net lane at)))
-    (λ bucket. bucket_none at lane bucket (suc (open_in bucket (front_at net lane at))))
-    net.buckets) (length net.groups)) net.switches
+evictions_take_none net = none_below (λ at. without_merges (upkeep_calls at due.Sweep net)) (λ at.
+    sym (taken_unmerged (upkeep_calls at due.Sweep net))
+    ∙ none_below (lane_calls at due.Sweep net) (λ lane. calls_none at lane (upkeep_in due.Sweep (front_at net lane at)))
+    (length net.groups)) net.switches
 
 -- ---- merges alone
 
@@ -77,16 +80,30 @@ without_below lists none zero = refl
 without_below lists none (suc n) =
     without_on (joined_below n lists) (lists n) ∙ (ap (λ es. es ++ without_merges (lists n)) (without_below lists none n) ∙ none n)
 
-room_alone : (at lane : ℕ) (o : Option GroupView) → without_merges (room_events at lane o) ≡ []
+room_alone : (at lane : ℕ) (o : Option (FrontOf AnyEpochs)) → without_merges (calls_of at lane (upkeep_in due.Room o)) ≡ []
 room_alone at lane None = refl
-room_alone at lane (Some group) = by_test (is_ready_at at group) (λ t. rw t refl) (λ t. rw t refl)
+room_alone at lane (Some front) = by_test (nat_lt (length front.pipe.records) front.pipe.places) (λ t. rw t refl) (λ t. rw t refl)
 
-pub room_is_merges : (at : ℕ) (net : NetworkView) → without_merges (merges_for_room at net) ≡ []
-room_is_merges at net = without_below (λ lane. room_events at lane (slice_get net.groups lane))
-    (λ lane. room_alone at lane (slice_get net.groups lane)) (length net.groups)
+lag_alone : (at lane : ℕ) (o : Option (FrontOf AnyEpochs)) → without_merges (calls_of at lane (upkeep_in due.Lag o)) ≡ []
+lag_alone at lane None = refl
+lag_alone at lane (Some front) = refl
 
-pub each_is_merges : (at lanes : ℕ) → without_merges (merges_of_each at lanes) ≡ []
-each_is_merges at lanes = without_below (λ lane. Merges at lane ∷ []) (λ lane. refl) lanes
+rest_alone : (at lane : ℕ) (o : Option (FrontOf AnyEpochs)) → without_merges (calls_of at lane (upkeep_in due.Rest o)) ≡ []
+rest_alone at lane None = refl
+rest_alone at lane (Some front) = merges (length front.pipe.records)
+  where
+    merges : (n : ℕ) → without_merges (calls_of at lane (replicate n Merge)) ≡ []
+    merges zero = refl
+    merges (suc n) = merges n
+
+pub room_is_merges : (at : ℕ) (net : NetworkView) → without_merges (upkeep_calls at due.Room net) ≡ []
+room_is_merges at net = without_below (lane_calls at due.Room net) (λ lane. room_alone at lane (front_at net lane at)) (length net.groups)
+
+pub lag_is_merges : (at : ℕ) (net : NetworkView) → without_merges (upkeep_calls at due.Lag net) ≡ []
+lag_is_merges at net = without_below (lane_calls at due.Lag net) (λ lane. lag_alone at lane (front_at net lane at)) (length net.groups)
+
+pub rest_is_merges : (at : ℕ) (net : NetworkView) → without_merges (upkeep_calls at due.Rest net) ≡ []
+rest_is_merges at net = without_below (lane_calls at due.Rest net) (λ lane. rest_alone at lane (front_at net lane at)) (length net.groups)
 
 pub merges_take_none : (xs : List NetworkEvent) → without_merges xs ≡ [] → packets_taken xs ≡ []
 merges_take_none xs alone = taken_unmerged xs ∙ ap packets_taken alone

@@ -12,7 +12,6 @@ use Rattle.epoch_entry.specs.declared.any.AnyEpochs.{AnyEpochs}
 use Rattle.final_queries.specs.FinalLaws.{AreAlike}
 use Rattle.stage_plan.specs.declared.group.GroupWiring.{GroupWiring}
 use Rattle.switch_core.specs.FrontParts.{FrontOf}
-use Rattle.net_wide.specs.Sharing.{AddsFront}
 use Rattle.std.specs.Prelude.{slice_get}
 use Rattle.epoch_model.specs.Machine.{Epoch}
 use Rattle.epoch_entry.specs.Foldings.{IsKindOf}
@@ -29,6 +28,7 @@ use Rattle.network.specs.Groups.{AllHavePlaces, AllWide, AreWide, HavePlaces, Gr
 use Rattle.network.specs.Groups.{AreGroups, folding_in, shared_tables, with_first}
 use Rattle.network.specs.Shared.{AllShare, FrontKept, MayShare}
 use Rattle.network.proofs.SharedSteps.{each_back, still_share}
+use Rattle.network.proofs.Sharing.{got_push}
 
 -- what is said of items and parts, and what is made of each item, says something of the new items and the parts
 pub each_made : {A B : Type 0} (R : ℕ → A → B → Type 0) (S : ℕ → A → A → Type 0) (T : ℕ → A → B → Type 0) (k : ℕ) (olds news : List A)
@@ -151,11 +151,14 @@ all_grown plan switches olds news are grown =
     (λ n group part. (slice_get plan.groups n ≡ Some part) × IsGroup switches part (wiring_at plan n) group) 0 olds plan.groups
     (λ j n a p q f e r. (let same : n ≡ j = omega arith in ap (slice_get plan.groups) same ∙ e, r)) are) grown
 
-got_push : {X : Type 0} (xs : List X) (x y : X) (s : ℕ) → slice_get (xs ++ x ∷ []) s ≡ Some y → (slice_get xs s ≡ Some y) ⊎ (x ≡ y)
-got_push [] x y zero e = inr (same_some x y e)
-got_push [] x y (suc s) e = cc
-got_push (z ∷ xs) x y zero e = inl e
-got_push (z ∷ xs) x y (suc s) e = got_push xs x y s e
+-- A front with this kind of entries and these sizes comes after the others.
+pub record AddsFront {K : Type 0} (kind : K) (buckets key_words places : ℕ) (old new : List (FrontOf K)) : Type 0 where
+  pub front : FrontOf K
+  pub added : new ≡ old ++ front ∷ []
+  pub has_kind : front.kind ≡ kind
+  pub has_buckets : length front.cache.lists ≡ buckets
+  pub has_key_words : front.cache.key_words ≡ key_words
+  pub has_places : front.pipe.places ≡ places
 
 module _ (view : GroupView) (part : GroupPlan) (wiring : GroupWiring) (registers switches : ℕ) (kind : AnyEpochs)
     (buckets key_words places : ℕ) (news : List (FrontOf AnyEpochs))
@@ -194,13 +197,13 @@ module _ (view : GroupView) (part : GroupPlan) (wiring : GroupWiring) (registers
     kind = is.kind;
     kinds = λ s front e. elim (got_push view.fronts adds.front front s (ap (λ xs. slice_get xs s) (sym adds.added) ∙ e)) [
       | inl there ↦ is.kinds s front there
-      | inr new ↦ subst (λ (x : FrontOf AnyEpochs). IsKindOfProgram part.program x.kind) new
+      | inr new ↦ subst (λ (x : FrontOf AnyEpochs). IsKindOfProgram part.program x.kind) new.1
           (subst (IsKindOfProgram part.program) (sym adds.has_kind) of_kind)
     ];
     count = ap length adds.added ∙ (length-append view.fronts (adds.front ∷ []) ∙ ap (λ n. n + 1) is.count);
     shares = λ s front e. elim (got_push view.fronts adds.front front s (ap (λ xs. slice_get xs s) (sym adds.added) ∙ e)) [
       | inl there ↦ is.shares s front there
-      | inr new ↦ subst (MayShare ghosts.sizes ghosts.folding (folding_in view) (length wiring.args) view.store) new new_share
+      | inr new ↦ subst (MayShare ghosts.sizes ghosts.folding (folding_in view) (length wiring.args) view.store) new.1 new_share
     ];
   }
 
@@ -210,7 +213,7 @@ pub wide_push : {kind : AnyEpochs} (buckets key_words places : ℕ) (view after 
 wide_push buckets key_words places view after adds wide s front e = elim
     (got_push view.fronts adds.front front s (ap (λ xs. slice_get xs s) (sym adds.added) ∙ e)) [
       | inl there ↦ wide s front there
-      | inr new ↦ ap (λ (x : FrontOf AnyEpochs). length x.cache.lists) (sym new) ∙ adds.has_buckets
+      | inr new ↦ ap (λ (x : FrontOf AnyEpochs). length x.cache.lists) (sym new.1) ∙ adds.has_buckets
     ]
 
 pub places_push : {kind : AnyEpochs} (buckets key_words places : ℕ) (view after : GroupView)
@@ -219,7 +222,7 @@ pub places_push : {kind : AnyEpochs} (buckets key_words places : ℕ) (view afte
 places_push buckets key_words places view after adds have s front e = elim
     (got_push view.fronts adds.front front s (ap (λ xs. slice_get xs s) (sym adds.added) ∙ e)) [
       | inl there ↦ have s front there
-      | inr new ↦ ap (λ (x : FrontOf AnyEpochs). x.pipe.places) (sym new) ∙ adds.has_places
+      | inr new ↦ ap (λ (x : FrontOf AnyEpochs). x.pipe.places) (sym new.1) ∙ adds.has_places
     ]
 
 pub others_push : {kind : AnyEpochs} (buckets key_words places : ℕ) (view after : GroupView)

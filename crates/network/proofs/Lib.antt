@@ -1,11 +1,12 @@
 pub mod SharedSteps
+pub mod Sharing
 pub mod GroupSteps
 pub mod MakeSteps
 pub mod CostSteps
 pub mod NetworkSteps
 pub mod Runs
+pub mod Calls
 pub mod EventLists
 pub mod Representing
-pub mod EventFronts
 pub mod Ends
 pub mod Exact

@@ -1,61 +1,37 @@
 -- What an event of one switch makes of a groupby, and of all groupbys side by side.
-use Rattle.std.proofs.Common.{◌≡◌, ◌≢◌, ℕ, suc, ◌<◌, ◌≤◌, ◌==◌, nat_lt, true, false, List, [], ◌∷◌, ◌++◌, length, set, Option, Some, None}
-use Rattle.std.proofs.Common.{Result, Ok, Err, OnOk, OnErr, refl, sym, ap, subst, ◌∙◌, arith, append-nil}
+use Rattle.std.proofs.Common.{◌≡◌, ◌≢◌, ℕ, zero, suc, ◌<◌, ◌≤◌, ◌==◌, nat_lt, true, false, List, [], ◌∷◌, ◌++◌, length, replicate, get_or}
+use Rattle.std.proofs.Common.{set, Option, Some, None, Result, Ok, Err, OnOk, OnErr, refl, sym, ap, subst, ◌∙◌, arith, append-nil}
 use Rattle.std.specs.Prelude.{slice_get}
 use Rattle.std.proofs.lemmas.Bool.{lt-ltb}
 use Rattle.std.proofs.lemmas.Bool.Decides.{nat_tests}
-use Rattle.epoch_model.specs.Machine.{Event, Packet, Evict, Merge}
+use Rattle.epoch_model.specs.Machine.{Event, Evict, Merge}
 use Rattle.epoch_model.specs.Driving.{Taken, event_of}
-use Rattle.epoch_model.proofs.KeyLists.{by_test}
 use Rattle.backing_store.specs.Store.{Store}
 use Rattle.epoch_entry.specs.declared.any.AnyEpochs.{AnyEpochs}
 use Rattle.epoch_entry.specs.contracts.any.AnyEpochsEpochKind.TheImpl.{ghosts}
+use Rattle.backing_store.specs.Merged.{StoreHolds}
+use Rattle.final_queries.specs.FinalLaws.{AreAlike}
 use Rattle.stage_plan.specs.Planned.{wiring_at}
 use Rattle.stage_plan.specs.Sound.{PlanParts}
-use Rattle.switch_core.specs.FrontParts.{FrontOf}
-use Rattle.switch_core.specs.Lanes.{Standing}
+use Rattle.switch_core.specs.FrontEvents.{Carries, CarriesFirst, with_store}
+use Rattle.switch_core.specs.FrontParts.{FrontOf, front_of}
 use Rattle.switch_core.specs.Pipelines.{event_at}
+use Rattle.switch_core.specs.PlanLanes.{LaneView}
 use Rattle.switch_core.specs.Rows.{Each, EachFrom}
-use Rattle.switch_core.proofs.SideBySide.{each_at, each_map, each_set, got_some, same_some, untouched_start}
+use Rattle.switch_core.specs.Upkeeps.{IsKept, upkeep_events}
+use Rattle.switch_core.specs.declared.upkeep.Upkeep.{Upkeep}
+use Rattle.switch_core.specs.declared.upkeep.Upkeep.TheVariants as due
+use Rattle.switch_core.proofs.LaneFacts.{got_set, set_same}
+use Rattle.switch_core.proofs.SideBySide.{each_at, each_map, each_set, got_below, got_here, same_some, untouched_start}
 use Rattle.additive_laws.specs.Network.{all_epochs}
-use Rattle.net_wide.specs.Sharing.{AtSwitch, LeadsBy, LeadsByMerge, StoreTakes, SwitchMakes, merged_at, with_event}
-use Rattle.net_wide.proofs.Sharing.{all_done, packet_leads}
-use Rattle.network.specs.Shared.{AllShare, FrontKept, StoreKept}
-use Rattle.network.specs.Groups.{AreGroups, GroupKept, GroupStands, GroupView, IsGroup, folding_in, group_is_drained}
-use Rattle.network.specs.Events.{AreAllMerged, FrontsMakeAll, GroupMakes, GroupMakesAll, GroupsMake, OthersStay, StaysBut, StoresStay}
-use Rattle.network.specs.Events.{has_room, is_ready_at}
-use Rattle.network.proofs.SharedSteps.{alike_back, each_on, fronts_same, holds_alike, kept_on, store_on}
+use Rattle.network.specs.Shared.{AllShare, FrontKept}
+use Rattle.network.specs.Groups.{AreGroups, GroupKept, GroupView, IsGroup, folding_in, group_is_drained}
+use Rattle.network.specs.Events.{AreAllMerged, GroupBreaksOff, GroupMakes, GroupMakesAll, GroupsMake, IsLeft, LaneCarries, LeavesCache}
+use Rattle.network.specs.Events.{OthersStay, StaysBut, StoresStay, has_room, is_ready_at, with_lane}
+use Rattle.network.proofs.SharedSteps.{each_on, fronts_same, got_other, kept_on, one_kept, set_set, store_on}
+use Rattle.network.proofs.Sharing.{all_done, fronts_next, held_next}
 
-each_of : {X Y : Type 0} (R : X → Y → Type 0) (k : ℕ) (xs : List X) (ys : List Y) → length ys ≡ length xs
-    → ((s : ℕ) (x : X) (y : Y) → slice_get xs s ≡ Some x → slice_get ys s ≡ Some y → R x y) → EachFrom (λ n. R) k xs ys
-each_of R k [] [] e h = tt
-each_of R k [] (y ∷ ys) e h = absurd (let wrong : suc (length ys) ≡ 0 = e in omega arith)
-each_of R k (x ∷ xs) [] e h = absurd (let wrong : 0 ≡ suc (length xs) = e in omega arith)
-each_of R k (x ∷ xs) (y ∷ ys) e h = (
-  h 0 x y refl refl,
-  each_of R (suc k) xs ys (let more : suc (length ys) ≡ suc (length xs) = e in omega arith)
-      (λ s a b p q. h (suc s) a b p q),
-)
-
--- an event of one switch keeps the kinds and sizes of all fronts
-kept_of : {K : Type 0} (means : K → Standing) (ways at : ℕ) (event : Event) (olds news : List (FrontOf K))
-    → SwitchMakes means ways at event olds news
-    → Each FrontKept olds news
-kept_of {K = K} means ways at event olds news made = each_of FrontKept 0 olds news made.count (λ s was now p q. by_test (at == s)
-    (λ t.
-    let same : at ≡ s = grind (arith, nat_tests) in
-    let found = made.front was (ap (slice_get olds) same ∙ p) in
-    let is : found.0 ≡ now = same_some found.0 now (sym found.1 ∙ (ap (slice_get news) same ∙ q)) in
-    let m = found.2 in
-    subst (FrontKept was) is (record { kind = m.kind; buckets = m.buckets; key_words = m.key_words; places = m.places }))
-    (λ t.
-    let is : was ≡ now = same_some was now (sym p ∙ (sym (made.others s (apart s t)) ∙ q)) in
-    subst (FrontKept was) is (record { kind = refl; buckets = refl; key_words = refl; places = refl })))
-  where
-    apart : (s : ℕ) → (at == s) ≡ false → s ≢ at
-    apart s t e = let yes : (at == s) ≡ true = grind (arith, nat_tests) in let wrong : true ≡ false = sym yes ∙ t in cc
-
--- so do events of a groupby, and of all groupbys
+-- events of a groupby, and of all groupbys, keep kinds and sizes
 
 pub group_same : (a : GroupView) → GroupKept a a
 group_same a = record { kind = refl; fronts = fronts_same 0 a.fronts; store = record { key_words = refl; state_words = refl } }
@@ -68,13 +44,26 @@ group_on a b c one two = record {
   store = store_on a.store b.store c.store one.store two.store;
 }
 
+one_made : (ways at : ℕ) (event : Event) (old new : GroupView) → GroupMakes ways at event old new → GroupKept old new
+one_made ways at event old new m =
+    let size = m.carries.sizes in
+    let kept : FrontKept m.was (front_of m.now.kind m.now.cache m.now.pipe) = record {
+      kind = size.kind;
+      buckets = size.buckets;
+      key_words = size.key_words;
+      entry_words = size.entry_words;
+      places = size.places;
+    } in
+    subst (GroupKept old) (sym m.made) (record {
+      kind = refl;
+      fronts = one_kept 0 at old.fronts m.was (front_of m.now.kind m.now.cache m.now.pipe) m.here kept;
+      store = record { key_words = size.stored_key_words; state_words = size.state_words };
+    })
+
 pub makes_kept : (ways at : ℕ) (events : List Event) (old new : GroupView) → GroupMakesAll ways at events old new → GroupKept old new
 makes_kept ways at [] old new same = subst (GroupKept old) (sym same) (group_same old)
 makes_kept ways at (event ∷ events) old new made =
-    let first = made.1 in
-    group_on old made.0 new
-    (record { kind = first.kind; fronts = kept_of ghosts.stands ways at event old.fronts made.0.fronts first.fronts; store = first.store })
-    (makes_kept ways at events made.0 new made.2)
+    group_on old made.0 new (one_made ways at event old made.0 made.1) (makes_kept ways at events made.0 new made.2)
 
 pub groups_kept : (ways at : ℕ) (events : ℕ → List Event) (olds news : List GroupView) → GroupsMake ways at events olds news
     → Each GroupKept olds news
@@ -94,8 +83,11 @@ none_kept k (x ∷ groups) = (group_same x, none_kept (suc k) groups)
 
 stays_but : (ways at : ℕ) (events : List Event) (old new : GroupView) → GroupMakesAll ways at events old new → StaysBut at old new
 stays_but ways at [] old new same other apart = ap (λ v. slice_get v.fronts other) same
-stays_but ways at (event ∷ events) old new made other apart = stays_but ways at events made.0 new made.2 other apart
-    ∙ made.1.fronts.others other apart
+stays_but ways at (event ∷ events) old new made other apart =
+    let m = made.1 in
+    stays_but ways at events made.0 new made.2 other apart
+    ∙ (ap (λ (v : GroupView). slice_get v.fronts other) m.made
+    ∙ got_other old.fronts at other (front_of m.now.kind m.now.cache m.now.pipe) apart)
 
 pub others_stay : (ways at : ℕ) (events : ℕ → List Event) (olds news : List GroupView) → GroupsMake ways at events olds news
     → OthersStay at olds news
@@ -107,100 +99,109 @@ pub none_changes : (at k : ℕ) (groups : List GroupView) → EachFrom (λ n. St
 none_changes at k [] = tt
 none_changes at k (x ∷ groups) = (λ other apart. refl, none_changes at (suc k) groups)
 
--- what calls on the fronts make of the groupby
+-- what events of a front with the groupby's store make of the groupby
 
-packet_made : (ways at : ℕ) (taken : Option Taken) (view : GroupView) (news : List (FrontOf AnyEpochs)) → at < length view.fronts
-    → FrontsMakeAll ghosts.stands ways at (event_of taken) view.fronts news
-    → GroupMakesAll ways at (event_of taken) view (record { kind = view.kind; fronts = news; store = view.store })
-packet_made ways at None view news within same = ap (λ xs. record view { fronts = xs }) same
-packet_made ways at (Some t) view news within made =
-    let middle : GroupView = record { kind = view.kind; fronts = made.0; store = view.store } in (
-      middle,
-      record {
-        kind = refl;
-        fronts = made.1;
-        store = record { key_words = refl; state_words = refl };
-        stands = λ buckets events merged s. subst (GroupStands ways buckets middle (with_event events at (Packet t.key t.row)))
-            (sym (append-nil merged))
-            (record {
-              fronts = packet_leads ghosts.stands ways at t.key t.row view.fronts made.0 within made.1 buckets events merged
-                  s.fronts;
-              store = s.store;
-            });
-      },
-      ap (λ xs. record view { fronts = xs }) made.2,
-    )
+module _ (ways at : ℕ) where
+  pub one_makes : (event : Event) (group : GroupView) (was : FrontOf AnyEpochs) (now : LaneView) → slice_get group.fronts at ≡ Some was
+      → AreAlike (ghosts.folding was.kind) (folding_in group)
+      → Carries ghosts.stands ghosts.folding ways event (with_store was group.store) now
+      → GroupMakes ways at event group (with_lane at now group)
+  one_makes event group was now here alike made = record {
+    was = was;
+    here = here;
+    now = now;
+    carries = made;
+    made = refl;
+    stands = λ buckets events merged s. record {
+      fronts = fronts_next ghosts.stands ghosts.folding ways buckets at event group.fronts was group.store now here made events merged
+          s.fronts;
+      store = held_next ghosts.stands ghosts.folding ways buckets at event group.fronts was group.store now here made events merged
+          s.fronts (folding_in group) alike s.store;
+    };
+  }
 
-pub packet_makes : (ways at : ℕ) (taken : Option Taken) (old view : GroupView) (before news after : List (FrontOf AnyEpochs)) → view ≡ old
-    → before ≡ view.fronts → after ≡ news
-    → at < length view.fronts → FrontsMakeAll ghosts.stands ways at (event_of taken) before news
-    → GroupMakesAll ways at (event_of taken) old (record { kind = view.kind; fronts = after; store = view.store })
-packet_makes ways at taken old view before news after same was now within made =
-    subst (λ v. GroupMakesAll ways at (event_of taken) v (record { kind = view.kind; fronts = after; store = view.store })) same
-    (subst (λ xs. GroupMakesAll ways at (event_of taken) view (record { kind = view.kind; fronts = xs; store = view.store })) (sym now)
-    (packet_made ways at taken view news within (subst (λ xs. FrontsMakeAll ghosts.stands ways at (event_of taken) xs news) was made)))
+  -- an eviction changes no store
+  pub evict_makes : (bucket : ℕ) (group : GroupView) (was : FrontOf AnyEpochs) (now : LaneView) → slice_get group.fronts at ≡ Some was
+      → Carries ghosts.stands ghosts.folding ways (Evict bucket) (with_store was group.store) now
+      → GroupMakes ways at (Evict bucket) group (with_lane at now group)
+  evict_makes bucket group was now here made = record {
+    was = was;
+    here = here;
+    now = now;
+    carries = made;
+    made = refl;
+    stands = λ buckets events merged s. record {
+      fronts = fronts_next ghosts.stands ghosts.folding ways buckets at (Evict bucket) group.fronts was group.store now here made events
+          merged s.fronts;
+      store = subst (λ ms. StoreHolds (folding_in group) now.store (all_epochs ms)) (sym (append-nil merged))
+          (subst (λ x. StoreHolds (folding_in group) x (all_epochs merged)) (sym made.leaves.store) s.store);
+    };
+  }
 
-evict_made : (ways at bucket : ℕ) (view : GroupView) (news : List (FrontOf AnyEpochs))
-    → SwitchMakes ghosts.stands ways at (Evict bucket) view.fronts news
-    → LeadsBy ghosts.stands ways at (Evict bucket) view.fronts news → GroupMakes ways at (Evict bucket) view
-    (record { kind = view.kind; fronts = news; store = view.store })
-evict_made ways at bucket view news made leads = record {
-  kind = refl;
-  fronts = made;
-  store = record { key_words = refl; state_words = refl };
-  stands = λ buckets events merged s.
-      subst (GroupStands ways buckets (record { kind = view.kind; fronts = news; store = view.store })
-      (with_event events at (Evict bucket))) (sym (append-nil merged))
-      (record { fronts = leads buckets events merged s.fronts; store = s.store });
-}
+  pub all_made : (events : List Event) (group : GroupView) (was : FrontOf AnyEpochs) (new : LaneView)
+      → slice_get group.fronts at ≡ Some was → AreAlike (ghosts.folding was.kind) (folding_in group)
+      → LaneCarries ways events (with_store was group.store) new → GroupMakesAll ways at events group (with_lane at new group)
+  all_made [] group was new here alike same =
+      ap (λ (lane : LaneView). with_lane at lane group) same ∙ ap (λ xs. record group { fronts = xs }) (set_same group.fronts at was here)
+  all_made (event ∷ events) group was new here alike made =
+      let lane = made.0 in
+      let middle = with_lane at lane group in
+      let front = front_of lane.kind lane.cache lane.pipe in
+      let there = got_set group.fronts at front (got_below group.fronts at was here) in
+      let still : AreAlike (ghosts.folding lane.kind) (folding_in group) =
+      subst (λ kind. AreAlike (ghosts.folding kind) (folding_in group)) (sym made.1.sizes.kind) alike in
+      let last : with_lane at new middle ≡ with_lane at new group =
+      ap (λ xs. record { kind = group.kind; fronts = xs; store = new.store })
+      (set_set group.fronts at front (front_of new.kind new.cache new.pipe)) in (
+        middle,
+        one_makes event group was lane here alike made.1,
+        subst (GroupMakesAll ways at events middle) last
+            (all_made events middle front new there still made.2),
+      )
 
-pub evict_makes : (ways at bucket : ℕ) (old view : GroupView) (before news after : List (FrontOf AnyEpochs)) → view ≡ old
-    → before ≡ view.fronts → after ≡ news
-    → SwitchMakes ghosts.stands ways at (Evict bucket) before news → LeadsBy ghosts.stands ways at (Evict bucket) before news
-    → GroupMakes ways at (Evict bucket) old (record { kind = view.kind; fronts = after; store = view.store })
-evict_makes ways at bucket old view before news after same was now made leads =
-    subst (λ v. GroupMakes ways at (Evict bucket) v (record { kind = view.kind; fronts = after; store = view.store })) same
-    (subst (λ xs. GroupMakes ways at (Evict bucket) view (record { kind = view.kind; fronts = xs; store = view.store })) (sym now)
-    (evict_made ways at bucket view news (subst (λ xs. SwitchMakes ghosts.stands ways at (Evict bucket) xs news) was made)
-    (subst (λ xs. LeadsBy ghosts.stands ways at (Evict bucket) xs news) was leads)))
+  pub first_made : (events : List Event) (group : GroupView) (was : FrontOf AnyEpochs) (new : LaneView)
+      → slice_get group.fronts at ≡ Some was → AreAlike (ghosts.folding was.kind) (folding_in group)
+      → CarriesFirst ghosts.stands ghosts.folding ways events (with_store was group.store) new
+      → GroupBreaksOff ways at events group (with_lane at new group)
+  first_made events group was new here alike broke = (broke.0, broke.1, all_made broke.0 group was new here alike broke.2)
 
--- what a merge on the fronts made of them and of their store
-pub record MergedAt (ways at : ℕ) (olds news : List (FrontOf AnyEpochs)) (before after : Store) : Type 0 where
-  pub makes : SwitchMakes ghosts.stands ways at Merge olds news
-  pub leads : LeadsByMerge ghosts.stands ways at olds news
-  pub takes : AtSwitch (λ front. StoreTakes ghosts.stands (ghosts.folding front.kind) ways at olds before after) olds at
+-- the front that is found at a place is there
+pub front_there : (view old : GroupView) (at : ℕ) (front : FrontOf AnyEpochs) → view ≡ old → at < length old.fronts
+    → front ≡ get_or view.fronts at front → slice_get view.fronts at ≡ Some front
+front_there view old at front same within value =
+    got_here view.fronts at front (subst (λ (v : GroupView). at < length v.fronts) (sym same) within)
+    ∙ ap (λ (x : FrontOf AnyEpochs). Some x) (sym value)
 
-merge_made : (ways at args : ℕ) (view : GroupView) (news : List (FrontOf AnyEpochs)) (after : Store) → at < length view.fronts
-    → StoreKept view.store after
-    → AllShare ghosts.sizes ghosts.folding (folding_in view) args view.fronts view.store
-    → MergedAt ways at view.fronts news view.store after
-    → GroupMakes ways at Merge view (record { kind = view.kind; fronts = news; store = after })
-merge_made ways at args view news after within kept share m =
-    let was = got_some view.fronts at within in
-    let f = ghosts.folding was.0.kind in
-    let alike = (share at was.0 was.1).alike in
-    record {
-      kind = refl;
-      fronts = m.makes;
-      store = kept;
-      stands = λ buckets events merged s. record {
-        fronts = m.leads buckets events merged s.fronts;
-        store = holds_alike f (folding_in view) after (all_epochs (merged ++ merged_at ways buckets at events)) alike
-            (m.takes was.0 was.1 buckets events merged s.fronts (holds_alike (folding_in view) f view.store (all_epochs merged)
-            (alike_back f (folding_in view) alike) s.store));
-      };
-    }
+-- a front and a store that are as they were
+pub same_lane : (at : ℕ) (view : GroupView) (front new : FrontOf AnyEpochs) (store : Store) → slice_get view.fronts at ≡ Some front
+    → new ≡ front → store ≡ view.store
+    → with_lane at (with_store new store) view ≡ view
+same_lane at view front new store here same held =
+    ap (λ x. with_lane at (with_store x store) view) same
+    ∙ (ap (λ x. with_lane at (with_store front x) view) held ∙ ap (λ xs. record view { fronts = xs }) (set_same view.fronts at front here))
 
-pub merge_makes : (ways at args : ℕ) (old view : GroupView) (before news after : List (FrontOf AnyEpochs)) (store : Store) → view ≡ old
-    → before ≡ view.fronts → after ≡ news
-    → at < length view.fronts → StoreKept view.store store → AllShare ghosts.sizes ghosts.folding (folding_in view) args view.fronts
-    view.store
-    → MergedAt ways at before news view.store store → GroupMakes ways at Merge old
-    (record { kind = view.kind; fronts = after; store = store })
-merge_makes ways at args old view before news after store same was now within kept share m =
-    subst (λ v. GroupMakes ways at Merge v (record { kind = view.kind; fronts = after; store = store })) same
-    (subst (λ xs. GroupMakes ways at Merge view (record { kind = view.kind; fronts = xs; store = store })) (sym now)
-    (merge_made ways at args view news store within kept share (subst (λ xs. MergedAt ways at xs news view.store store) was m)))
+-- what an upkeep leaves
+pub left_by : (ways : ℕ) (upkeep : Upkeep) (was : FrontOf AnyEpochs) (store : Store) (now : LaneView)
+    → LaneCarries ways (upkeep_events upkeep was.cache was.pipe) (with_store was store) now
+    → IsKept upkeep now.cache now.pipe → IsKept upkeep now.cache now.pipe × LeavesCache upkeep was.cache now.cache
+left_by ways due.Room was store now made kept = (kept, tt)
+left_by ways due.Lag was store now made kept = (kept, tt)
+left_by ways due.Sweep was store now made kept = (kept, tt)
+left_by ways due.Rest was store now made kept = (kept, merged (suc (length was.pipe.records)) (with_store was store) now made)
+  where
+    merged : (n : ℕ) (a b : LaneView) → LaneCarries ways (replicate n Merge) a b → b.cache ≡ a.cache
+    merged zero a b same = ap (λ (x : LaneView). x.cache) same
+    merged (suc n) a b m = merged n m.0 b m.2 ∙ m.1.leaves.cache
+
+pub left_here : (upkeep : Upkeep) (o n : Option (FrontOf AnyEpochs)) (was now : FrontOf AnyEpochs) → o ≡ Some was → n ≡ Some now
+    → IsLeft upkeep (Some was) (Some now) → IsLeft upkeep o n
+left_here upkeep o n was now e f left = subst (λ x. IsLeft upkeep x n) (sym e) (subst (IsLeft upkeep (Some was)) (sym f) left)
+
+-- a store that no event changes
+pub store_kept : (ways : ℕ) (taken : Option Taken) (was : FrontOf AnyEpochs) (store : Store) (now : LaneView)
+    → LaneCarries ways (event_of taken) (with_store was store) now → now.store ≡ store
+store_kept ways None was store now same = ap (λ (x : LaneView). x.store) same
+store_kept ways (Some t) was store now made = ap (λ (x : LaneView). x.store) made.2 ∙ made.1.leaves
 
 -- one groupby alone makes an event
 
@@ -233,11 +234,9 @@ room_at at group front ready e =
     let test : nat_lt (length front.pipe.records) front.pipe.places ≡ true = sym (ap has_room e) ∙ ready in
     grind (arith, nat_tests)
 
-pub ready_at : (at : ℕ) (group : GroupView) → at < length group.fronts
-    → AtSwitch (λ front. length front.pipe.records < front.pipe.places) group.fronts at → is_ready_at at group ≡ true
-ready_at at group within room =
-    let here = got_some group.fronts at within in
-    ap has_room here.1 ∙ lt-ltb (length here.0.pipe.records) here.0.pipe.places (room here.0 here.1)
+pub ready_at : (at : ℕ) (group : GroupView) (front : FrontOf AnyEpochs) → slice_get group.fronts at ≡ Some front
+    → length front.pipe.records < front.pipe.places → is_ready_at at group ≡ true
+ready_at at group front here room = ap has_room here ∙ lt-ltb (length front.pipe.records) front.pipe.places room
 
 -- what holds anyway holds after a refusal too
 pub if_err : {X E : Type 0} (P : Type 0) (r : Result X E) → P → OnErr r P
@@ -247,10 +246,6 @@ if_err P (Err e) p = p
 pub if_ok : {X E : Type 0} (P : Type 0) (r : Result X E) → P → OnOk r P
 if_ok P (Ok x) p = p
 if_ok P (Err e) p = tt
-
-pub on_three : {X E : Type 0} (P Q R S : Type 0) (r : Result X E) → (P → Q → R → S) → OnOk r P → OnOk r Q → OnOk r R → OnOk r S
-on_three P Q R S (Ok x) h p q r = h p q r
-on_three P Q R S (Err e) h p q r = p
 
 -- a drained groupby has merged all that its switches closed
 pub all_merged : (ways : ℕ) (group : GroupView) → group_is_drained group ≡ true → AreAllMerged ways group

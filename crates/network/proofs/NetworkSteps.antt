@@ -1,24 +1,32 @@
 -- What keeps a network one, when its groupbys change.
-use Rattle.std.proofs.Common.{◌≡◌, ℕ, ◌+◌, ◌<◌, List, ◌++◌, length, take, drop, sym, subst, arith}
+use Rattle.std.proofs.Common.{◌≡◌, ℕ, ◌+◌, ◌<◌, List, ◌++◌, length, take, drop, get_or, Some, sym, ap, ◌∙◌, subst, arith}
+use Rattle.std.specs.Prelude.{slice_get}
 use Rattle.epoch_model.specs.Machine.{Event}
+use Rattle.stage_plan.specs.Sound.{PlanParts}
 use Rattle.switch_core.specs.Rows.{Each}
 use Rattle.switch_core.proofs.LaneFacts.{whole_written}
+use Rattle.switch_core.proofs.SideBySide.{got_here}
 use Rattle.network.specs.Groups.{AreGroups, GroupGrows, GroupKept, GroupView}
 use Rattle.network.specs.Events.{GroupsMake}
 use Rattle.network.specs.Networks.{IsNetwork, NetworkView}
 use Rattle.network.proofs.GroupSteps.{places_grown, places_kept, still_groups, wide_grown, wide_kept}
 use Rattle.network.proofs.MakeSteps.{groups_kept}
 
+-- a network of these parts
+abbrev pub net_of : PlanParts → ℕ → ℕ → ℕ → List GroupView → NetworkView
+net_of plan buckets records switches groups =
+    record { plan = plan; buckets = buckets; pipe_records = records; switches = switches; groups = groups }
+
 -- a network with other groupbys
 abbrev pub with_groups : NetworkView → List GroupView → NetworkView
-with_groups net groups = record {
-  plan = net.plan;
-  buckets = net.buckets;
-  pipe_records = net.pipe_records;
-  switches = net.switches;
-  groups =
-      groups;
-}
+with_groups net groups = net_of net.plan net.buckets net.pipe_records net.switches groups
+
+-- the groupby that is found at a place is there
+pub group_there : (view old : NetworkView) (lane : ℕ) (group : GroupView) → view ≡ old → lane < length old.groups
+    → group ≡ get_or view.groups lane group → slice_get view.groups lane ≡ Some group
+group_there view old lane group same within value =
+    got_here view.groups lane group (subst (λ (v : NetworkView). lane < length v.groups) (sym same) within)
+    ∙ ap (λ (x : GroupView). Some x) (sym value)
 
 -- A network whose groupbys kept kinds and sizes is one as before.
 pub kept_network : (ways : ℕ) (old : NetworkView) (news : List GroupView) → Each GroupKept old.groups news → IsNetwork ways old

@@ -5,18 +5,17 @@ use Rattle.std.specs.Prelude.{slice_get, sum_by}
 use Rattle.std.proofs.lemmas.Bool.Decides.{nat_tests}
 use Rattle.epoch_model.proofs.KeyLists.{by_test}
 use Rattle.stage_plan.specs.Planned.{registers_of}
-use Rattle.stage_plan.specs.Sound.{PlanParts}
-use Rattle.switch_core.specs.Rows.{Each}
+use Rattle.switch_core.specs.Rows.{AreFirst, Each}
+use Rattle.switch_core.specs.declared.upkeep.Upkeep.TheVariants as due
 use Rattle.switch_core.proofs.SideBySide.{each_long}
 use Rattle.network.specs.Groups.{GroupKept, GroupView}
-use Rattle.network.specs.Events.{is_ready_at}
 use Rattle.network.specs.Costs.{group_cost}
-use Rattle.network.specs.Networks.{IsNetwork, Keeps, NetworkView, merges_cost, network_cost}
-use Rattle.network.specs.Running.{AreFirst, Evicts, Merges, MergingBreaksOff, NetworkEvent, NetworkMakes, NetworkRuns, RunBreaksOff}
-use Rattle.network.specs.Running.{RunsWithMerges, Takes, gives, joined_below, room_events, switch_of, without_merges}
+use Rattle.network.specs.Networks.{IsNetwork, Keeps, NetworkView, network_cost, upkeeps_cost}
+use Rattle.network.specs.Running.{Evicts, Merges, MergingBreaksOff, NetworkEvent, NetworkMakes, NetworkRuns, RunBreaksOff, RunsWithMerges}
+use Rattle.network.specs.Running.{Takes, gives, joined_below, switch_of, without_merges}
 use Rattle.network.proofs.CostSteps.{costs_kept, merges_kept}
 use Rattle.network.proofs.MakeSteps.{groups_kept, kept_after, none_kept}
-use Rattle.network.proofs.NetworkSteps.{made_network, with_groups}
+use Rattle.network.proofs.NetworkSteps.{made_network, net_of, with_groups}
 
 -- ---- lists of events
 
@@ -50,14 +49,6 @@ without_on (Takes at words ∷ xs) ys = ap (λ es. Takes at words ∷ es) (witho
 without_on (Evicts at lane bucket ∷ xs) ys = ap (λ es. Evicts at lane bucket ∷ es) (without_on xs ys)
 without_on (Merges at lane ∷ xs) ys = without_on xs ys
 
-pub room_none : (at lane : ℕ) (groups : List GroupView) (group : GroupView) → slice_get groups lane ≡ Some group
-    → is_ready_at at group ≡ true → room_events at lane (slice_get groups lane) ≡ []
-room_none at lane groups group here ready = ap (room_events at lane) here ∙ rw ready refl
-
-pub room_one : (at lane : ℕ) (groups : List GroupView) (group : GroupView) → slice_get groups lane ≡ Some group
-    → is_ready_at at group ≡ false → room_events at lane (slice_get groups lane) ≡ Merges at lane ∷ []
-room_one at lane groups group here full = ap (room_events at lane) here ∙ rw full refl
-
 -- lists that are the same number by number
 pub below_same : (f h : ℕ → List NetworkEvent) (n : ℕ) → ((i : ℕ) → i < n → f i ≡ h i) → joined_below n f ≡ joined_below n h
 below_same f h zero same = refl
@@ -65,16 +56,6 @@ below_same f h (suc n) same = ap (λ es. es ++ f n) (below_same f h n (λ i less
     ∙ ap (λ es. joined_below n h ++ es) (same n (omega arith))
 
 -- ---- what events keep
-
-abbrev net_of : PlanParts → ℕ → ℕ → ℕ → List GroupView → NetworkView
-net_of plan buckets records switches groups = record {
-  plan = plan;
-  buckets = buckets;
-  pipe_records = records;
-  switches = switches;
-  groups =
-      groups;
-}
 
 as_made : (ways : ℕ) (e : NetworkEvent) (a b : NetworkView) → NetworkMakes ways e a b → b ≡ with_groups a b.groups
 as_made ways e a b made =
@@ -128,7 +109,7 @@ packet_cost_kept ways at a b kept =
     ap (λ p. registers_of p + sum_by (group_cost ways at) b.groups) kept.keeps.plan
     ∙ ap (λ n. registers_of a.plan + n) (costs_kept ways at a.groups b.groups kept.groups)
 
-pub merges_cost_kept : (at : ℕ) (a b : NetworkView) → NetworkKept a b → merges_cost at b ≡ merges_cost at a
+pub merges_cost_kept : (at : ℕ) (a b : NetworkView) → NetworkKept a b → upkeeps_cost due.Lag at b ≡ upkeeps_cost due.Lag at a
 merges_cost_kept at a b kept = merges_kept at a.groups b.groups kept.groups
 
 -- ---- runs in sequence
@@ -147,19 +128,16 @@ pub runs_next : (ways : ℕ) (lists : ℕ → List NetworkEvent) (i : ℕ) (a b 
 runs_next ways lists i a b c one two = subst (λ es. NetworkRuns ways es a c) (sym (below_next lists i))
     (runs_on ways (joined_below i lists) (lists i) a b c one two)
 
-pub run_breaks : (ways : ℕ) (lists : ℕ → List NetworkEvent) (i n : ℕ) (a b c : NetworkView) → i ≤ n
-    → NetworkRuns ways (joined_below i lists) a b → c ≡ b
-    → RunBreaksOff ways (joined_below n lists) a c
-run_breaks ways lists i n a b c within ran same = (
-  joined_below i lists,
-  first_below lists i n within,
-  subst
-      (NetworkRuns ways (joined_below i lists) a) (sym same) ran,
-)
-
 pub run_breaks_on : (ways : ℕ) (xs ys : List NetworkEvent) (a b c : NetworkView) → NetworkRuns ways xs a b → RunBreaksOff ways ys b c
     → RunBreaksOff ways (xs ++ ys) a c
 run_breaks_on ways xs ys a b c one two = (xs ++ two.0, first_on xs two.0 ys two.1, runs_on ways xs two.0 a b c one two.2)
+
+pub run_breaks : (ways : ℕ) (lists : ℕ → List NetworkEvent) (i n : ℕ) (a b c : NetworkView) → i < n
+    → NetworkRuns ways (joined_below i lists) a b → RunBreaksOff ways (lists i) b c
+    → RunBreaksOff ways (joined_below n lists) a c
+run_breaks ways lists i n a b c within ran broke =
+    let on = run_breaks_on ways (joined_below i lists) (lists i) a b c ran broke in
+    (on.0, first_in on.0 (joined_below (suc i) lists) (joined_below n lists) on.1 (first_below lists (suc i) n (omega arith)), on.2)
 
 pub run_breaks_in : (ways : ℕ) (xs ys : List NetworkEvent) (a b : NetworkView) → RunBreaksOff ways xs a b → RunBreaksOff ways (xs ++ ys) a b
 run_breaks_in ways xs ys a b ran = (ran.0, first_in ran.0 xs (xs ++ ys) ran.1 (first_of xs ys), ran.2)
@@ -169,12 +147,18 @@ run_breaks_in ways xs ys a b ran = (ran.0, first_in ran.0 xs (xs ++ ys) ran.1 (f
 pub merging_none : (ways : ℕ) (a : NetworkView) → RunsWithMerges ways [] a a
 merging_none ways a = ([], refl, refl)
 
-pub merging_merge : (ways at lane : ℕ) (a b : NetworkView) → NetworkMakes ways (Merges at lane) a b → RunsWithMerges ways [] a b
-merging_merge ways at lane a b made = (Merges at lane ∷ [], refl, runs_one ways (Merges at lane) a b made)
+-- a run, of which the merges are left out
+pub merging_run : (ways : ℕ) (xs : List NetworkEvent) (a b : NetworkView) → NetworkRuns ways xs a b
+    → RunsWithMerges ways (without_merges xs) a b
+merging_run ways xs a b ran = (xs, refl, ran)
 
-pub merging_evict : (ways at lane bucket : ℕ) (a b : NetworkView) → NetworkMakes ways (Evicts at lane bucket) a b
-    → RunsWithMerges ways (Evicts at lane bucket ∷ []) a b
-merging_evict ways at lane bucket a b made = (Evicts at lane bucket ∷ [], refl, runs_one ways (Evicts at lane bucket) a b made)
+pub merging_first : (ways : ℕ) (xs : List NetworkEvent) (a b : NetworkView) → RunBreaksOff ways xs a b
+    → MergingBreaksOff ways (without_merges xs) a b
+merging_first ways xs a b broke = (
+  without_merges broke.0,
+  (without_merges broke.1.0, sym (without_on broke.0 broke.1.0) ∙ ap without_merges broke.1.1),
+  merging_run ways broke.0 a b broke.2,
+)
 
 pub merging_on : (ways : ℕ) (xs ys : List NetworkEvent) (a b c : NetworkView) → RunsWithMerges ways xs a b → RunsWithMerges ways ys b c
     → RunsWithMerges ways (xs ++ ys) a c
@@ -206,15 +190,11 @@ merging_breaks ways lists i n a b c within one two =
     let on = merging_breaks_on ways (joined_below i lists) (lists i) a b c one two in
     (on.0, first_in on.0 (joined_below (suc i) lists) (joined_below n lists) on.1 (first_below lists (suc i) n (omega arith)), on.2)
 
--- nothing but merges happened
-pub merging_breaks_first : (ways : ℕ) (xs : List NetworkEvent) (a b : NetworkView) → RunsWithMerges ways [] a b
-    → MergingBreaksOff ways xs a b
-merging_breaks_first ways xs a b ran = ([], (xs, refl), ran)
-
--- all of the events happened, and then merges
-pub merging_breaks_last : (ways : ℕ) (xs : List NetworkEvent) (a b : NetworkView) → RunsWithMerges ways xs a b
-    → MergingBreaksOff ways xs a b
-merging_breaks_last ways xs a b ran = (xs, first_all xs, ran)
+-- all of the events happened, and then some merges
+pub merging_breaks_end : (ways : ℕ) (xs : List NetworkEvent) (a b c : NetworkView) → RunsWithMerges ways xs a b
+    → MergingBreaksOff ways [] b c → MergingBreaksOff ways xs a c
+merging_breaks_end ways xs a b c one two = subst (λ es. MergingBreaksOff ways es a c) (append-nil xs)
+    (merging_breaks_on ways xs [] a b c one two)
 
 pub merging_is : (ways : ℕ) (events : List NetworkEvent) (a b : NetworkView) → RunsWithMerges ways events a b → IsNetwork ways a
     → IsNetwork ways b

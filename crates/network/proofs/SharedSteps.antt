@@ -45,9 +45,12 @@ kept_on a b c k l = record {
   kind = l.kind ∙ k.kind;
   buckets = l.buckets ∙ k.buckets;
   key_words = l.key_words ∙ k.key_words;
-  places =
-      l.places ∙ k.places;
+  entry_words = l.entry_words ∙ k.entry_words;
+  places = l.places ∙ k.places;
 }
+
+pub kept_start : {K : Type 0} (a : FrontOf K) → FrontKept a a
+kept_start a = record { kind = refl; buckets = refl; key_words = refl; entry_words = refl; places = refl }
 
 pub store_on : (a b c : Store) → StoreKept a b → StoreKept b c → StoreKept a c
 store_on a b c k l = record { key_words = l.key_words ∙ k.key_words; state_words = l.state_words ∙ k.state_words }
@@ -63,7 +66,15 @@ fits_on sizes a b s t k l fits = record {
 
 pub fronts_same : {K : Type 0} (k : ℕ) (fronts : List (FrontOf K)) → EachFrom (λ n. FrontKept) k fronts fronts
 fronts_same k [] = tt
-fronts_same k (x ∷ fronts) = (record { kind = refl; buckets = refl; key_words = refl; places = refl }, fronts_same (suc k) fronts)
+fronts_same k (x ∷ fronts) = (kept_start x, fronts_same (suc k) fronts)
+
+-- one front is another one with its kind and sizes
+pub one_kept : {K : Type 0} (k i : ℕ) (fronts : List (FrontOf K)) (was now : FrontOf K) → slice_get fronts i ≡ Some was
+    → FrontKept was now → EachFrom (λ n. FrontKept) k fronts (set fronts i now)
+one_kept k i [] was now here kept = tt
+one_kept k zero (x ∷ fronts) was now here kept = let same : was ≡ x = cc in
+    (subst (λ y. FrontKept y now) same kept, fronts_same (suc k) fronts)
+one_kept k (suc i) (x ∷ fronts) was now here kept = (kept_start x, one_kept (suc k) i fronts was now here kept)
 
 -- places in lists
 
@@ -73,6 +84,12 @@ got_other (y ∷ xs) zero zero x d = absurd (d refl)
 got_other (y ∷ xs) zero (suc s) x d = refl
 got_other (y ∷ xs) (suc i) zero x d = refl
 got_other (y ∷ xs) (suc i) (suc s) x d = got_other xs i s x (λ e. d (ap suc e))
+
+-- the last of two items that are written at one place stays
+pub set_set : {X : Type 0} (xs : List X) (i : ℕ) (x y : X) → set (set xs i x) i y ≡ set xs i y
+set_set [] i x y = refl
+set_set (z ∷ xs) zero x y = refl
+set_set (z ∷ xs) (suc i) x y = ap (λ zs. z ∷ zs) (set_set xs i x y)
 
 pub got_within : {X : Type 0} (xs : List X) (i : ℕ) (x : X) → slice_get xs i ≡ Some x → i < length xs
 got_within [] i x e = cc

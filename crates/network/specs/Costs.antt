@@ -2,11 +2,13 @@
 use Rattle.std.specs.Prelude.{ℕ, List, slice_get, Option, Some, None}
 use Rattle.epoch_entry.specs.declared.any.AnyEpochs.{AnyEpochs}
 use Rattle.epoch_entry.specs.contracts.any.AnyEpochsEpochKind.TheImpl.{ghosts}
-use Rattle.switch_core.specs.Costs.{merge_cost}
 use Rattle.switch_core.specs.FrontParts.{FrontOf}
 use Rattle.switch_core.specs.PlanLanes.{LaneView, lane_cost}
-use Rattle.net_wide.specs.Sharing.{AtSwitch}
+use Rattle.switch_core.specs.Upkeeps.{upkeep_cost}
+use Rattle.switch_core.specs.declared.upkeep.Upkeep.{Upkeep}
+use Rattle.switch_core.specs.declared.upkeep.Upkeep.TheVariants as due
 use Rattle.network.specs.Groups.{GroupView}
+use Rattle.network.specs.Shared.{AtSwitch}
 use Rattle.network.specs.Events.{AtGroup}
 
 -- a front of a groupby is a lane, with the store that all its fronts share
@@ -30,11 +32,15 @@ front_cost ways group (Some front) = lane_cost ways (lane_in group front)
 abbrev pub group_cost : ℕ → ℕ → GroupView → ℕ
 group_cost ways at group = front_cost ways group (slice_get group.fronts at)
 
--- the most steps that a merge takes at a front, if there is one, whose entries have as many words as their kind says
-abbrev pub front_merge_cost : Option (FrontOf AnyEpochs) → ℕ
-front_merge_cost None = 0
-front_merge_cost (Some front) = merge_cost front.cache.key_words (ghosts.sizes front.kind).entry (ghosts.merge_bound front.kind)
+-- the most steps that an upkeep takes at a front, if there is one
+abbrev pub front_upkeep_cost : Upkeep → Option (FrontOf AnyEpochs) → ℕ
+front_upkeep_cost upkeep None = 0
+front_upkeep_cost upkeep (Some front) = upkeep_cost upkeep front.cache front.pipe (ghosts.merge_bound front.kind)
+
+-- the most steps that an upkeep of this switch takes at a groupby
+abbrev pub group_upkeep_cost : Upkeep → ℕ → GroupView → ℕ
+group_upkeep_cost upkeep at group = front_upkeep_cost upkeep (slice_get group.fronts at)
 
 -- the most steps that a merge of this switch takes at a groupby
 abbrev pub group_merge_cost : ℕ → GroupView → ℕ
-group_merge_cost at group = front_merge_cost (slice_get group.fronts at)
+group_merge_cost at group = group_upkeep_cost due.Lag at group

@@ -1,16 +1,20 @@
 -- What an event of one switch makes of the groupbys of a network.
-use Rattle.std.specs.Prelude.{◌≡◌, ◌≢◌, ℕ, Bool, false, nat_lt, List, [], ◌∷◌, ◌++◌, length, slice_get, Option}
+use Rattle.std.specs.Prelude.{◌≡◌, ◌≢◌, ℕ, Bool, false, nat_lt, List, [], ◌∷◌, ◌++◌, length, slice_get, slice_set, Option}
 use Rattle.std.specs.Prelude.{Some, None}
-use Rattle.epoch_model.specs.Machine.{Event, Packet, Evict, Merge}
+use Rattle.epoch_model.specs.Machine.{Event}
 use Rattle.epoch_entry.specs.declared.any.AnyEpochs.{AnyEpochs}
 use Rattle.epoch_entry.specs.contracts.any.AnyEpochsEpochKind.TheImpl.{ghosts}
-use Rattle.switch_core.specs.FrontParts.{FrontOf}
-use Rattle.switch_core.specs.Lanes.{Standing}
-use Rattle.switch_core.specs.Rows.{Each, EachFrom}
+use Rattle.bucket_cache.specs.Caches.{Cache}
+use Rattle.switch_core.specs.FrontEvents.{Carries, CarriesAll, with_store}
+use Rattle.switch_core.specs.FrontParts.{FrontOf, front_of}
+use Rattle.switch_core.specs.PlanLanes.{LaneView}
+use Rattle.switch_core.specs.Rows.{AreFirst, Each, EachFrom}
+use Rattle.switch_core.specs.Upkeeps.{IsKept, upkeep_events}
+use Rattle.switch_core.specs.declared.upkeep.Upkeep.{Upkeep}
+use Rattle.switch_core.specs.declared.upkeep.Upkeep.TheVariants as due
 use Rattle.additive_laws.specs.Network.{AllMerged, SwitchEvent, SwitchEpoch}
 use Rattle.net_wide.specs.NetTables.{caches_of}
-use Rattle.net_wide.specs.Sharing.{AtSwitch, SwitchMakes, merged_at, with_event}
-use Rattle.network.specs.Shared.{StoreKept}
+use Rattle.network.specs.Shared.{AtSwitch, merged_by, with_event}
 use Rattle.network.specs.Groups.{GroupView, GroupStands}
 
 -- whether there is a front, and its pipe has room for a record
@@ -30,25 +34,26 @@ AtGroup P groups lane = (group : GroupView) → slice_get groups lane ≡ Some g
 abbrev pub AtFront : (FrontOf AnyEpochs → Type 0) → List GroupView → ℕ → ℕ → Type 0
 AtFront P groups at lane = AtGroup (λ group. AtSwitch P group.fronts at) groups lane
 
--- The front of this switch makes these events in sequence, and those of all other switches are unchanged.
-abbrev pub FrontsMakeAll : {K : Type 0} → (K → Standing) → ℕ → ℕ → List Event → List (FrontOf K) → List (FrontOf K)
-    → Type 0
-FrontsMakeAll means ways at [] olds news = news ≡ olds
-FrontsMakeAll {K = K} means ways at (event ∷ events) olds news =
-    (middle : List (FrontOf K)) × SwitchMakes means ways at event olds middle × FrontsMakeAll means ways at events middle news
+-- these events lead a front and the store that it is handed from the old lane to the new one
+abbrev pub LaneCarries : ℕ → List Event → LaneView → LaneView → Type 0
+LaneCarries ways events old new = CarriesAll ghosts.stands ghosts.folding ways events old new
 
--- the epochs of this switch that the event merges after these events: only a merge merges one
-abbrev pub merged_by : ℕ → ℕ → ℕ → Event → List SwitchEvent → List SwitchEpoch
-merged_by ways buckets at (Packet key row) events = []
-merged_by ways buckets at (Evict bucket) events = []
-merged_by ways buckets at Merge events = merged_at ways buckets at events
+-- the groupby with this front of the switch, and this store
+abbrev pub with_lane : ℕ → LaneView → GroupView → GroupView
+with_lane at lane group = record {
+  kind = group.kind;
+  fronts = slice_set group.fronts at (front_of lane.kind lane.cache lane.pipe);
+  store = lane.store;
+}
 
--- The front of this switch makes the event, and the fronts of all other switches are unchanged. Where the groupby represented
--- events and merged epochs, it represents them followed by this event and what it merges.
+-- The front of this switch and the groupby's store make the event, and nothing else changes. Where the groupby represented events
+-- and merged epochs, it represents them followed by this event and what it merges.
 pub record GroupMakes (ways at : ℕ) (event : Event) (old new : GroupView) : Type 0 where
-  pub kind : new.kind ≡ old.kind
-  pub fronts : SwitchMakes ghosts.stands ways at event old.fronts new.fronts
-  pub store : StoreKept old.store new.store
+  pub was : FrontOf AnyEpochs
+  pub here : slice_get old.fronts at ≡ Some was
+  pub now : LaneView
+  pub carries : Carries ghosts.stands ghosts.folding ways event (with_store was old.store) now
+  pub made : new ≡ with_lane at now old
   pub stands : (buckets : ℕ) (events : List SwitchEvent) (merged : List SwitchEpoch)
       → GroupStands ways buckets old events merged
       → GroupStands ways buckets new (with_event events at event) (merged ++ merged_by ways buckets at event events)
@@ -59,9 +64,29 @@ GroupMakesAll ways at [] old new = new ≡ old
 GroupMakesAll ways at (event ∷ events) old new =
     (middle : GroupView) × GroupMakes ways at event old middle × GroupMakesAll ways at events middle new
 
+-- it made the first of these events, and no others
+abbrev pub GroupBreaksOff : ℕ → ℕ → List Event → GroupView → GroupView → Type 0
+GroupBreaksOff ways at events old new = (first : List Event) × AreFirst first events × GroupMakesAll ways at first old new
+
 -- each groupby makes the events of its number at this switch
 abbrev pub GroupsMake : ℕ → ℕ → (ℕ → List Event) → List GroupView → List GroupView → Type 0
 GroupsMake ways at events olds news = EachFrom (λ n. GroupMakesAll ways at (events n)) 0 olds news
+
+-- the events of an upkeep at a front, where there is one
+abbrev pub upkeep_in : Upkeep → Option (FrontOf AnyEpochs) → List Event
+upkeep_in upkeep None = []
+upkeep_in upkeep (Some front) = upkeep_events upkeep front.cache front.pipe
+
+-- the merges of all that waits leave a cache as it was
+abbrev pub LeavesCache : Upkeep → Cache → Cache → Type 0
+LeavesCache due.Rest was now = now ≡ was
+LeavesCache _ was now = Unit {0}
+
+-- what an upkeep leaves of a front, where there is one
+abbrev pub IsLeft : Upkeep → Option (FrontOf AnyEpochs) → Option (FrontOf AnyEpochs) → Type 0
+IsLeft upkeep None None = Unit {0}
+IsLeft upkeep (Some was) (Some now) = IsKept upkeep now.cache now.pipe × LeavesCache upkeep was.cache now.cache
+IsLeft upkeep _ _ = ⊥
 
 -- a groupby's caches and pipes of all other switches are unchanged
 abbrev pub StaysBut : ℕ → GroupView → GroupView → Type 0

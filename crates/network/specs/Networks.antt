@@ -3,8 +3,10 @@ use Rattle.std.specs.Prelude.{◌≡◌, ℕ, ◌+◌, ◌*◌, ◌<◌, ◌≤�
 use Rattle.stage_plan.specs.Planned.{registers_of}
 use Rattle.stage_plan.specs.Sound.{PlanParts}
 use Rattle.switch_core.specs.Rows.{Each}
+use Rattle.switch_core.specs.declared.upkeep.Upkeep.{Upkeep}
+use Rattle.switch_core.specs.declared.upkeep.Upkeep.TheVariants as due
 use Rattle.network.specs.Groups.{GroupGrows, GroupView, AreGroups, AllHavePlaces, AllWide}
-use Rattle.network.specs.Costs.{group_cost, group_merge_cost}
+use Rattle.network.specs.Costs.{group_cost, group_upkeep_cost}
 
 -- the plan, the number of buckets of a cache and of records of a pipe, the number of switches, and the groupbys in order
 pub record NetworkView : Type 0 where
@@ -43,10 +45,10 @@ pub record NetworkGrows (ways : ℕ) (old new : NetworkView) : Type 0 where
 abbrev pub network_cost : ℕ → ℕ → NetworkView → ℕ
 network_cost ways at net = registers_of net.plan + sum_by (group_cost ways at) net.groups
 
--- the most steps that merges of this switch take, one at each groupby
-abbrev pub merges_cost : ℕ → NetworkView → ℕ
-merges_cost at net = sum_by (group_merge_cost at) net.groups
+-- the most steps that an upkeep of this switch takes, groupby by groupby
+abbrev pub upkeeps_cost : Upkeep → ℕ → NetworkView → ℕ
+upkeeps_cost upkeep at net = sum_by (group_upkeep_cost upkeep at) net.groups
 
 -- the most steps that a packet of this switch takes with the merges around it: one at each groupby before it, and one after it
 abbrev pub turn_cost : ℕ → ℕ → NetworkView → ℕ
-turn_cost ways at net = network_cost ways at net + 2 * merges_cost at net
+turn_cost ways at net = network_cost ways at net + 2 * upkeeps_cost due.Lag at net

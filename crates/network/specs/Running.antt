@@ -1,17 +1,20 @@
 -- What happens at a network: its events, and what they make of it.
-use Rattle.std.specs.Prelude.{◌≡◌, ℕ, zero, suc, Bool, if◌then◌else◌, List, [], ◌∷◌, ◌++◌, length, replicate, slice_get}
+use Rattle.std.specs.Prelude.{◌≡◌, ◌≢◌, ℕ, zero, suc, Bool, if◌then◌else◌, List, [], ◌∷◌, ◌++◌, length, slice_get}
 use Rattle.std.specs.Prelude.{Option, Some, None}
-use Rattle.epoch_model.specs.Machine.{Event, Evict, Merge}
+use Rattle.epoch_model.specs.Machine.{Event, Packet, Evict, Merge}
 use Rattle.epoch_entry.specs.declared.any.AnyEpochs.{AnyEpochs}
-use Rattle.bucket_cache.specs.Caches.{list_at}
 use Rattle.stage_plan.specs.Sound.{PlanParts}
 use Rattle.switch_core.specs.FrontParts.{FrontOf}
 use Rattle.switch_core.specs.Pipelines.{event_at, packet_events}
+use Rattle.switch_core.specs.Rows.{AreFirst}
+use Rattle.switch_core.specs.declared.upkeep.Upkeep.{Upkeep}
+use Rattle.switch_core.specs.declared.upkeep.Upkeep.TheVariants as due
 use Rattle.additive_laws.specs.Network.{SwitchEvent, SwitchEpoch}
 use Rattle.additive_laws.specs.Traces.{from_switch}
 use Rattle.network.specs.Groups.{GroupStands, GroupView}
-use Rattle.network.specs.Events.{AtGroup, GroupsMake, is_ready_at, merged_by}
+use Rattle.network.specs.Events.{AtGroup, GroupsMake, upkeep_in}
 use Rattle.network.specs.Networks.{Keeps, NetworkView}
+use Rattle.network.specs.Shared.{merged_by}
 
 -- a packet with these words comes to a switch; or a switch evicts from a bucket, or merges a record, at one groupby
 pub data NetworkEvent : Type 0 where
@@ -64,10 +67,6 @@ abbrev pub RunsFollowEvents : Type 0
 RunsFollowEvents = (ways : ℕ) (events before : List NetworkEvent) (old new : NetworkView) → NetworkRuns ways events old new
     → NetworkStands ways old before → NetworkStands ways new (before ++ events)
 
--- the first of these events, in order: some, all or none
-abbrev pub AreFirst : List NetworkEvent → List NetworkEvent → Type 0
-AreFirst first events = (rest : List NetworkEvent) × (first ++ rest ≡ events)
-
 -- It made the first of these events, and no others.
 abbrev pub RunBreaksOff : ℕ → List NetworkEvent → NetworkView → NetworkView → Type 0
 RunBreaksOff ways events old new = (first : List NetworkEvent) × AreFirst first events × NetworkRuns ways first old new
@@ -92,25 +91,6 @@ abbrev pub joined_below : ℕ → (ℕ → List NetworkEvent) → List NetworkEv
 joined_below zero lists = []
 joined_below (suc n) lists = joined_below n lists ++ lists n
 
--- a merge of this switch at the groupby with this number, where its pipe is full
-abbrev pub room_events : ℕ → ℕ → Option GroupView → List NetworkEvent
-room_events at lane None = []
-room_events at lane (Some group) = if is_ready_at at group then [] else Merges at lane ∷ []
-
--- a merge at each groupby where the switch's pipe is full
-abbrev pub merges_for_room : ℕ → NetworkView → List NetworkEvent
-merges_for_room at net = joined_below (length net.groups) (λ lane. room_events at lane (slice_get net.groups lane))
-
--- a merge of the switch at each of this number of groupbys
-abbrev pub merges_of_each : ℕ → ℕ → List NetworkEvent
-merges_of_each at lanes = joined_below lanes (λ lane. Merges at lane ∷ [])
-
--- The events of a packet's turn: a merge wherever the switch's pipe is full, the packet, and a merge at each groupby where the lag is
--- over.
-abbrev pub turn_events : ℕ → List ℕ → Bool → NetworkView → List NetworkEvent
-turn_events at words lag_over net =
-    merges_for_room at net ++ Takes at words ∷ (if lag_over then merges_of_each at (length net.groups) else [])
-
 -- the front of this switch at the groupby, where there is one
 abbrev pub front_of : ℕ → Option GroupView → Option (FrontOf AnyEpochs)
 front_of at None = None
@@ -120,32 +100,35 @@ front_of at (Some group) = slice_get group.fronts at
 abbrev pub front_at : NetworkView → ℕ → ℕ → Option (FrontOf AnyEpochs)
 front_at net lane at = front_of at (slice_get net.groups lane)
 
--- the number of open epochs in a bucket of a front
-abbrev pub open_in : ℕ → Option (FrontOf AnyEpochs) → ℕ
-open_in bucket None = 0
-open_in bucket (Some front) = length (list_at front.cache bucket)
+-- the calls for these events of a switch at one groupby; no call is for a packet of one groupby alone
+abbrev pub calls_of : ℕ → ℕ → List Event → List NetworkEvent
+calls_of at lane [] = []
+calls_of at lane (Packet key row ∷ events) = calls_of at lane events
+calls_of at lane (Evict bucket ∷ events) = Evicts at lane bucket ∷ calls_of at lane events
+calls_of at lane (Merge ∷ events) = Merges at lane ∷ calls_of at lane events
 
--- the number of records in its pipe
-abbrev pub waiting_in : Option (FrontOf AnyEpochs) → ℕ
-waiting_in None = 0
-waiting_in (Some front) = length front.pipe.records
+-- those of an upkeep at the groupby with this number
+abbrev pub lane_calls : ℕ → Upkeep → NetworkView → ℕ → List NetworkEvent
+lane_calls at upkeep net lane = calls_of at lane (upkeep_in upkeep (front_at net lane at))
+
+-- those of an upkeep of a switch, groupby by groupby
+abbrev pub upkeep_calls : ℕ → Upkeep → NetworkView → List NetworkEvent
+upkeep_calls at upkeep net = joined_below (length net.groups) (lane_calls at upkeep net)
+
+-- The events of a packet's turn: a merge wherever the switch's pipe is full, the packet, and a merge at each groupby where the lag is
+-- over.
+abbrev pub turn_events : ℕ → List ℕ → Bool → NetworkView → List NetworkEvent
+turn_events at words lag_over net =
+    upkeep_calls at due.Room net ++ Takes at words ∷ (if lag_over then upkeep_calls at due.Lag net else [])
 
 -- all fronts but that of this switch at this groupby are unchanged
 abbrev pub FrontsStay : ℕ → ℕ → NetworkView → NetworkView → Type 0
 FrontsStay lane at old new = (n s : ℕ) → ((n ≡ lane) × (s ≡ at) → ⊥) → front_at new n s ≡ front_at old n s
 
--- the evictions that empty a bucket of this number of epochs, and one more, which finds it empty
-abbrev pub bucket_evictions : ℕ → ℕ → ℕ → ℕ → List NetworkEvent
-bucket_evictions at lane bucket epochs = replicate (suc epochs) (Evicts at lane bucket)
+-- all fronts but those of this switch are unchanged
+abbrev pub SwitchesStay : ℕ → NetworkView → NetworkView → Type 0
+SwitchesStay at old new = (n s : ℕ) → s ≢ at → front_at new n s ≡ front_at old n s
 
--- those that empty all buckets of a cache, in ascending order
-abbrev pub cache_evictions : ℕ → ℕ → ℕ → Option (FrontOf AnyEpochs) → List NetworkEvent
-cache_evictions buckets at lane front = joined_below buckets (λ bucket. bucket_evictions at lane bucket (open_in bucket front))
-
--- those that empty all caches of a switch, groupby by groupby
-abbrev pub switch_evictions : NetworkView → ℕ → List NetworkEvent
-switch_evictions net at = joined_below (length net.groups) (λ lane. cache_evictions net.buckets at lane (front_at net lane at))
-
--- The evictions that empty all caches of a network, switch by switch.
+-- The evictions that empty all caches of a network, switch by switch: those of a sweep of each.
 abbrev pub all_evictions : NetworkView → List NetworkEvent
-all_evictions net = joined_below net.switches (switch_evictions net)
+all_evictions net = joined_below net.switches (λ at. without_merges (upkeep_calls at due.Sweep net))

@@ -1,20 +1,50 @@
 -- The fronts of all switches at one groupby, and the store that they share.
-use Rattle.std.specs.Prelude.{◌≡◌, ℕ, List, length, slice_get, Some}
+use Rattle.std.specs.Prelude.{◌≡◌, ℕ, List, [], ◌∷◌, ◌++◌, length, map, take, slice_get, Some, None}
+use Rattle.epoch_model.specs.Machine.{Epoch, Event}
 use Rattle.epoch_model.specs.Tables.{Folding}
 use Rattle.backing_store.specs.Store.{Store}
 use Rattle.backing_store.specs.Merged.{StoreHolds}
 use Rattle.final_queries.specs.FinalLaws.{AreAlike}
 use Rattle.epoch_entry.specs.Kinds.{Sizes}
+use Rattle.switch_core.specs.FrontEvents.{merges_of}
 use Rattle.switch_core.specs.FrontParts.{FrontOf, FitsStore}
-use Rattle.switch_core.specs.Lanes.{Standing}
-use Rattle.additive_laws.specs.Network.{SwitchEvent, SwitchEpoch, all_epochs}
-use Rattle.net_wide.specs.Sharing.{FrontsStand}
+use Rattle.switch_core.specs.Lanes.{Standing, FrontStands}
+use Rattle.additive_laws.specs.Network.{SwitchEvent, SwitchEpoch, events_at, all_epochs, epochs_at, machine_at}
+use Rattle.net_wide.specs.NetTables.{caches_of}
+
+-- this holds of the front of this switch
+abbrev pub AtSwitch : {K : Type 0} → (FrontOf K → Type 0) → List (FrontOf K) → ℕ → Type 0
+AtSwitch {K = K} P fronts switch = (front : FrontOf K) → slice_get fronts switch ≡ Some front → P front
+
+-- these events, and then this one at this switch
+abbrev pub with_event : List SwitchEvent → ℕ → Event → List SwitchEvent
+with_event events switch event = events ++ record { switch = switch; event = event } ∷ []
+
+-- these epochs as those of a switch
+abbrev pub epochs_from : ℕ → List Epoch → List SwitchEpoch
+epochs_from switch epochs = map (λ epoch. record { switch = switch; epoch = epoch }) epochs
+
+-- the epochs of this switch that the event merges after these events: only a merge merges one
+abbrev pub merged_by : ℕ → ℕ → ℕ → Event → List SwitchEvent → List SwitchEpoch
+merged_by ways buckets switch event events = epochs_from switch (merges_of event (machine_at (caches_of buckets ways) switch events))
+
+-- The fronts of switches 0, 1 and so on after these events, of whose closed epochs these were merged: each represents the machine
+-- of its switch, and each switch's epochs were merged in the order of closing. No switch without a front had an event.
+pub record FrontsStand {K : Type 0} (means : K → Standing) (ways buckets : ℕ) (fronts : List (FrontOf K)) (events : List SwitchEvent)
+    (merged : List SwitchEpoch) : Type 0 where
+  pub sizes : (s : ℕ) (front : FrontOf K) → slice_get fronts s ≡ Some front → length front.cache.lists ≡ buckets
+  pub each : (s : ℕ) (front : FrontOf K) → slice_get fronts s ≡ Some front
+      → FrontStands (means front.kind) front.cache front.pipe (machine_at (caches_of buckets ways) s events)
+  pub none : (s : ℕ) → slice_get fronts s ≡ None → events_at s events ≡ []
+  pub order : (s : ℕ) → epochs_at s merged
+      ≡ take (machine_at (caches_of buckets ways) s events).merged (machine_at (caches_of buckets ways) s events).closed
 
 -- a front's kind and sizes are unchanged
 pub record FrontKept {K : Type 0} (old new : FrontOf K) : Type 0 where
   pub kind : new.kind ≡ old.kind
   pub buckets : length new.cache.lists ≡ length old.cache.lists
   pub key_words : new.cache.key_words ≡ old.cache.key_words
+  pub entry_words : new.cache.entry_words ≡ old.cache.entry_words
   pub places : new.pipe.places ≡ old.pipe.places
 
 -- and so are a store's sizes

@@ -1,8 +1,9 @@
 //! The fronts of all switches at one groupby, and the store that they share.
 
 ghost use Rattle.std.specs.Prelude.{◌≡◌, ◌+◌, ◌*◌, ◌==◌, ◌<◌, ◌≤◌, ◌↔◌, ℕ, List, [], Ok, true, not};
-ghost use Rattle.std.specs.Prelude.{length};
+ghost use Rattle.std.specs.Prelude.{length, slice_get};
 ghost use Rattle.std.specs.Prelude.{if◌then◌else◌, IfOk, OnOk, OnErr};
+ghost use Rattle.std.specs.List.{list_all};
 ghost use Rattle.bucket_cache.specs.Caches.{list_at};
 ghost use Rattle.epoch_model.specs.Driving.{event_of};
 ghost use Rattle.epoch_model.specs.Machine.{Epoch, Evict, Merge};
@@ -13,26 +14,38 @@ ghost use Rattle.stage_plan.specs.declared.group.GroupWiring.{GroupWiring};
 ghost use Rattle.stage_plan.specs.Planned.{registers_of, wiring_at};
 ghost use Rattle.stage_plan.specs.Registers.{taken_at};
 ghost use Rattle.stage_plan.specs.Sound.{IsSoundGroup};
+ghost use Rattle.switch_core.specs.Closing.{is_drained};
 ghost use Rattle.switch_core.specs.Costs.{evict_cost};
 ghost use Rattle.switch_core.specs.Pipelines.{heading_of};
 ghost use Rattle.switch_core.specs.PlanLanes.{lane_cost, lane_merge_cost};
-ghost use Rattle.net_wide.specs.Sharing.{AtSwitch};
+ghost use Rattle.network.specs.Shared.{AtSwitch};
 ghost use Rattle.network.specs.Groups.{GroupGrows, GroupShares, GroupStands, IsGroup, folding_in, group_is_drained};
 ghost use Rattle.network.specs.Groups.{with_first};
-ghost use Rattle.network.specs.Events.{AreAllMerged, GroupMakes, GroupMakesAll, is_ready_at};
-ghost use Rattle.network.specs.Costs.{AtLaneIn, group_merge_cost};
+ghost use Rattle.network.specs.Events.{AreAllMerged, GroupBreaksOff, GroupMakes, GroupMakesAll, IsLeft, is_ready_at, upkeep_in};
+ghost use Rattle.network.specs.Costs.{AtLaneIn, group_merge_cost, group_upkeep_cost};
 
-use crate::fronts::take_packet;
+use crate::taking::take_use;
 use backing_store::BackingStore;
 use epoch_entry::{AnyEpochs, EpochKind, entries_are_small, entries_suit_folds};
 use final_queries::Table;
 use marple_base::Steps;
-use net_wide::{add_front, all_drained, evict_at, merge_at};
 use stage_plan::{GroupPlan, Plan};
 use std::alloc::{AllocError, Global};
 use std::marker::Model;
 use std::sync::ledger::Ledger;
-use switch_core::{Front, Merged, held_table};
+use switch_core::{Front, Merged, Upkeep, held_table, keep_up};
+
+// Whether all caches and pipes are empty.
+fn all_drained<const WAYS: usize>(fronts: &[Front<AnyEpochs, WAYS>]) -> bool
+    ensures { result ≡ list_all (λ front. is_drained front.cache front.pipe) fronts.now }
+{
+    for front in fronts {
+        if !front.drained() {
+            return false;
+        }
+    }
+    true
+}
 
 /// What is kept for one groupby of all switches: a cache and a pipe for each switch, and one store.
 pub struct Group<const WAYS: usize> {
@@ -100,7 +113,9 @@ impl<const WAYS: usize> Group<WAYS> {
         entries_suit_folds();
         let kind = AnyEpochs::of(part.program.copy(alloc)?);
         let keys = part.key_names.len();
-        add_front(alloc, &mut self.fronts, kind, buckets, keys, pipe_records)
+        let front = Front::new(alloc, kind, buckets, keys, pipe_records)?;
+        self.fronts.push(front)?;
+        Ok(())
     }
 
     /// Keeps the caches and pipes of the first `switches` switches, and drops those of the others.
@@ -143,16 +158,8 @@ impl<const WAYS: usize> Group<WAYS> {
         ensures steps { steps.old ≤ steps.new }
         ensures cost { AtLaneIn (λ lane. steps.new ≤ steps.old + lane_cost WAYS lane) self.old at }
     {
-        take_packet(
-            plan,
-            group,
-            registers,
-            at,
-            &mut self.fronts,
-            key,
-            args,
-            steps,
-        )
+        let front = &mut self.fronts[at];
+        take_use(plan, group, registers, front, key, args, steps);
     }
 
     /// Closes the least recently used epoch of a bucket of a switch. False exactly where the bucket is empty.
@@ -167,7 +174,8 @@ impl<const WAYS: usize> Group<WAYS> {
         ensures cost { AtLaneIn (λ lane. steps.new ≡ steps.old
             + (if result then evict_cost lane.cache.key_words lane.cache.entry_words else 0)) self.old at }
     {
-        evict_at(&mut self.fronts, at, bucket, steps)
+        let front = &mut self.fronts[at];
+        front.evict(bucket, steps)
     }
 
     /// Merges the oldest record of a switch's pipe into the store. Empty exactly where the pipe is empty.
@@ -187,7 +195,28 @@ impl<const WAYS: usize> Group<WAYS> {
         ensures cost { AtLaneIn (λ lane. steps.new ≤ steps.old + lane_merge_cost lane) self.old at }
         ensures most { steps.new ≤ steps.old + group_merge_cost at self.old }
     {
-        merge_at(&mut self.fronts, at, &mut self.store, steps)
+        let front = &mut self.fronts[at];
+        front.merge_into(&mut self.store, steps)
+    }
+
+    /// Does what is due at the front of a switch, with the store of all. When out of memory, it made only the first of the events.
+    #[inline(always)]
+    pub fn keep_up<L: Ledger>(
+        &mut self,
+        at: usize,
+        upkeep: Upkeep,
+        steps: &mut Steps<L>,
+    ) -> Result<(), AllocError>
+        requires switch { at < length self.old.fronts }
+        requires shares { (args : ℕ) × GroupShares args self.old }
+        ensures makes { OnOk result (GroupMakesAll WAYS at (upkeep_in upkeep (slice_get self.old.fronts at)) self.old self.new) }
+        ensures breaks_off { OnErr result (GroupBreaksOff WAYS at (upkeep_in upkeep (slice_get self.old.fronts at)) self.old self.new) }
+        ensures left { OnOk result (IsLeft upkeep (slice_get self.old.fronts at) (slice_get self.new.fronts at)) }
+        ensures steps { steps.old ≤ steps.new }
+        ensures cost { steps.new ≤ steps.old + group_upkeep_cost upkeep at self.old }
+    {
+        let front = &mut self.fronts[at];
+        keep_up(front, &mut self.store, upkeep, steps)
     }
 
     /// Whether all caches and pipes are empty.

@@ -1,22 +1,17 @@
 //! The groupbys of a plan, side by side.
 
-ghost use Rattle.std.specs.Prelude.{◌≡◌, ◌+◌, ◌*◌, ◌==◌, ◌<◌, ◌≤◌, ◌↔◌, ℕ, List, [], Ok, true, not};
-ghost use Rattle.std.specs.Prelude.{length};
-ghost use Rattle.std.specs.Prelude.{All, sum_by, if◌then◌else◌, IfOk, OnOk, OnErr};
+ghost use Rattle.std.specs.Prelude.{◌≡◌, ◌+◌, ◌*◌, ◌<◌, ◌≤◌, ℕ, List, [], true, length};
+ghost use Rattle.std.specs.Prelude.{All, sum_by, IfOk, OnOk, OnErr};
 ghost use Rattle.std.specs.List.{list_all};
-ghost use Rattle.bucket_cache.specs.Caches.{list_at};
 ghost use Rattle.epoch_model.specs.Driving.{event_of};
-ghost use Rattle.epoch_model.specs.Machine.{Epoch, Evict, Merge};
+ghost use Rattle.epoch_model.specs.Machine.{Epoch};
 ghost use Rattle.stage_plan.specs.Planned.{registers_of, wiring_at};
 ghost use Rattle.stage_plan.specs.Registers.{taken_at};
 ghost use Rattle.stage_plan.specs.Sound.{PlanParts};
-ghost use Rattle.switch_core.specs.Costs.{evict_cost};
-ghost use Rattle.switch_core.specs.Pipelines.{event_at};
-ghost use Rattle.switch_core.specs.PlanLanes.{lane_merge_cost};
 ghost use Rattle.switch_core.specs.Rows.{Each};
 ghost use Rattle.network.specs.Groups.{AreGroups, GroupGrows, GroupStands, StoresHold, group_is_drained, shared_tables, with_first};
-ghost use Rattle.network.specs.Events.{AreAllMerged, AtFront, AtGroup, GroupsMake, StoresStay, is_ready_at};
-ghost use Rattle.network.specs.Costs.{AtSwitchLane, group_cost, group_merge_cost};
+ghost use Rattle.network.specs.Events.{AreAllMerged, AtGroup, GroupsMake, StoresStay, is_ready_at};
+ghost use Rattle.network.specs.Costs.{group_cost};
 
 use crate::group::Group;
 use final_queries::Table;
@@ -24,7 +19,6 @@ use marple_base::{Seq, Steps};
 use stage_plan::Plan;
 use std::alloc::{AllocError, Global};
 use std::sync::ledger::Ledger;
-use switch_core::Merged;
 
 /// What each groupby of a plan has before there is a switch.
 pub fn made_groups<const WAYS: usize>(
@@ -145,51 +139,6 @@ pub fn packet_groups<const WAYS: usize, L: Ledger>(
         let group = &mut groups[i];
         group.packet(plan, i as u32, registers, at, key, args, steps);
     }
-}
-
-/// Closes the least recently used epoch of a bucket of a switch at one groupby.
-pub fn evict_from<const WAYS: usize, L: Ledger>(
-    groups: &mut [Group<WAYS>],
-    at: usize,
-    lane: usize,
-    bucket: u32,
-    steps: &mut Steps<L>,
-) -> bool
-    requires lane { lane < length groups.old }
-    requires groups { (plan : PlanParts) × (switches : ℕ) × (at < switches) × AreGroups plan switches groups.old }
-    requires ready { AtGroup (λ group. is_ready_at at group ≡ true) groups.old lane }
-    requires range { AtFront (λ front. bucket < length front.cache.lists) groups.old at lane }
-    ensures makes { GroupsMake WAYS at (event_at lane (Evict bucket)) groups.old groups.new }
-    ensures stores { StoresStay groups.old groups.new }
-    ensures some { AtFront (λ front. result ≡ not (length (list_at front.cache bucket) == 0)) groups.old at lane }
-    ensures steps { steps.old ≤ steps.new }
-    ensures cost { AtSwitchLane (λ one. steps.new ≡ steps.old
-        + (if result then evict_cost one.cache.key_words one.cache.entry_words else 0)) groups.old at lane }
-{
-    let group = &mut groups[lane];
-    group.evict(at, bucket, steps)
-}
-
-/// Merges the oldest record of a switch's pipe at one groupby.
-pub fn merge_from<const WAYS: usize, L: Ledger>(
-    groups: &mut [Group<WAYS>],
-    at: usize,
-    lane: usize,
-    steps: &mut Steps<L>,
-) -> Result<Merged, AllocError>
-    requires lane { lane < length groups.old }
-    requires groups { (plan : PlanParts) × (switches : ℕ) × (at < switches) × AreGroups plan switches groups.old }
-    ensures makes { OnOk result (GroupsMake WAYS at (event_at lane Merge) groups.old groups.new) }
-    ensures ready { OnOk result (AtGroup (λ group. is_ready_at at group ≡ true) groups.new lane) }
-    ensures empty { AtFront (λ front. (result ≡ Ok Merged.Empty) ↔ (length front.pipe.records ≡ 0)) groups.old at lane }
-    ensures same { result ≡ Ok Merged.Empty → groups.new ≡ groups.old }
-    ensures err { OnErr result (groups.new ≡ groups.old) }
-    ensures steps { steps.old ≤ steps.new }
-    ensures cost { AtSwitchLane (λ one. steps.new ≤ steps.old + lane_merge_cost one) groups.old at lane }
-    ensures most { AtGroup (λ group. steps.new ≤ steps.old + group_merge_cost at group) groups.old lane }
-{
-    let group = &mut groups[lane];
-    group.merge(at, steps)
 }
 
 /// Whether all caches and pipes of all groupbys are empty.

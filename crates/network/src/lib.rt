@@ -1,13 +1,11 @@
 //! Several switches, each with separate caches and pipes, and for each groupby one store that all of them merge into.
 #![tactic(auto)]
 
-mod draining;
-mod fronts;
 mod group;
 mod groups;
 mod laws;
-mod merging;
 mod network;
+mod taking;
 
 pub use group::Group;
 pub use laws::runs_follow_events;

@@ -23,19 +23,15 @@ ghost use Rattle.query_lang.specs.declared.typed.TypedQuery.{TypedQuery};
 ghost use Rattle.net_wide.specs.NetTables.{caches_of, net_tables, tables_of_pieces};
 ghost use Rattle.network.specs.Ends.{AreTakenAt, CombineOver, EvictsLast, IsDrainedWith, IsSwitchPlace, packets_taken, pieces_closed};
 ghost use Rattle.network.specs.Groups.{StoresHold, group_is_drained, shared_tables};
-ghost use Rattle.network.specs.Events.{AreAllMerged, AtFront, AtGroup, OthersStay, StoresStay, is_ready_at};
-ghost use Rattle.network.specs.Costs.{AtSwitchLane, group_merge_cost};
-ghost use Rattle.network.specs.Networks.{IsNetwork, NetworkGrows, network_cost, turn_cost};
-ghost use Rattle.network.specs.Running.{Evicts, Merges, MergingBreaksOff, NetworkEvent, NetworkMakes, NetworkRuns, NetworkStands};
-ghost use Rattle.network.specs.Running.{RunBreaksOff, RunsWithMerges, Takes, all_evictions, all_given, merged_after, turn_events};
+ghost use Rattle.network.specs.Events.{AreAllMerged, AtFront, AtGroup, IsLeft, OthersStay, StoresStay, is_ready_at};
+ghost use Rattle.network.specs.Costs.{AtSwitchLane, front_upkeep_cost, group_merge_cost};
+ghost use Rattle.network.specs.Networks.{IsNetwork, NetworkGrows, network_cost, turn_cost, upkeeps_cost};
+ghost use Rattle.network.specs.Running.{Evicts, FrontsStay, Merges, MergingBreaksOff, NetworkEvent, NetworkMakes, NetworkRuns};
+ghost use Rattle.network.specs.Running.{NetworkStands, RunBreaksOff, RunsWithMerges, SwitchesStay, Takes, all_evictions};
+ghost use Rattle.network.specs.Running.{all_given, front_at, lane_calls, merged_after, turn_events, upkeep_calls};
 
-use crate::draining::drain_all;
 use crate::group::Group;
-use crate::groups::{
-    add_switch, all_drained, all_ready, evict_from, group_tables, made_groups, merge_from,
-    packet_groups,
-};
-use crate::merging::{catch_up, make_room};
+use crate::groups::{add_switch, all_drained, all_ready, group_tables, made_groups, packet_groups};
 use epoch_entry::entries_suit_folds;
 use final_queries::{Table, alike_foldings_make_one_table};
 use fold_class::depth_is_found;
@@ -45,7 +41,7 @@ use stage_plan::Plan;
 use std::alloc::{AllocError, Global};
 use std::marker::Model;
 use std::sync::ledger::Ledger;
-use switch_core::Merged;
+use switch_core::{Merged, Upkeep};
 
 /// A plan over several switches: each switch has a cache and a pipe for each groupby, and all of them share one store for
 /// each groupby.
@@ -251,7 +247,8 @@ impl<const WAYS: usize> Network<WAYS> {
         ensures cost { AtSwitchLane (λ one. steps.new ≡ steps.old
             + (if result then evict_cost one.cache.key_words one.cache.entry_words else 0)) self.old.groups at lane }
     {
-        evict_from(&mut self.groups, at as usize, lane as usize, bucket, steps)
+        let group = &mut self.groups[lane as usize];
+        group.evict(at as usize, bucket, steps)
     }
 
     /// Merges the oldest record of a switch's pipe into the store of all switches, at one groupby. `Empty` exactly
@@ -275,14 +272,53 @@ impl<const WAYS: usize> Network<WAYS> {
         ensures cost { AtSwitchLane (λ one. steps.new ≤ steps.old + lane_merge_cost one) self.old.groups at lane }
         ensures most { AtGroup (λ group. steps.new ≤ steps.old + group_merge_cost at group) self.old.groups lane }
     {
-        merge_from(&mut self.groups, at as usize, lane as usize, steps)
+        let group = &mut self.groups[lane as usize];
+        group.merge(at as usize, steps)
     }
 
-    /// The number of buckets of each cache.
-    pub(crate) fn buckets(&self) -> u32
-        ensures { result ≡ self.now.buckets }
+    // Does what is due at a switch's front of one groupby.
+    #[inline(always)]
+    fn keep_lane<L: Ledger>(
+        &mut self,
+        at: u32,
+        lane: u32,
+        upkeep: Upkeep,
+        steps: &mut Steps<L>,
+    ) -> Result<(), AllocError>
+        requires switch { at < self.old.switches }
+        requires lane { lane < length self.old.groups }
+        ensures runs { OnOk result (NetworkRuns WAYS (lane_calls at upkeep self.old lane) self.old self.new) }
+        ensures breaks_off { OnErr result (RunBreaksOff WAYS (lane_calls at upkeep self.old lane) self.old self.new) }
+        ensures left { OnOk result (IsLeft upkeep (front_at self.old lane at) (front_at self.new lane at)) }
+        ensures others { OnOk result (FrontsStay lane at self.old self.new) }
+        ensures steps { steps.old ≤ steps.new }
+        ensures cost { steps.new ≤ steps.old + front_upkeep_cost upkeep (front_at self.old lane at) }
     {
-        self.buckets
+        let group = &mut self.groups[lane as usize];
+        group.keep_up(at as usize, upkeep, steps)
+    }
+
+    // Does what is due at all fronts of a switch, groupby by groupby. When out of memory, only the first of these events were made.
+    #[inline(always)]
+    fn keep_up<L: Ledger>(
+        &mut self,
+        at: u32,
+        upkeep: Upkeep,
+        steps: &mut Steps<L>,
+    ) -> Result<(), AllocError>
+        requires { at < self.old.switches }
+        ensures runs { OnOk result (NetworkRuns WAYS (upkeep_calls at upkeep self.old) self.old self.new) }
+        ensures breaks_off { OnErr result (RunBreaksOff WAYS (upkeep_calls at upkeep self.old) self.old self.new) }
+        ensures left { OnOk result ((lane : ℕ) → lane < length self.old.groups
+            → IsLeft upkeep (front_at self.old lane at) (front_at self.new lane at)) }
+        ensures others { OnOk result (SwitchesStay at self.old self.new) }
+        ensures steps { steps.old ≤ steps.new }
+        ensures cost { steps.new ≤ steps.old + upkeeps_cost upkeep at self.old }
+    {
+        for lane in 0..self.lanes() {
+            self.keep_lane(at, lane, upkeep, steps)?;
+        }
+        Ok(())
     }
 
     /// A packet of a switch with the merges around it: first each lane whose pipe is full merges a record, then comes the
@@ -302,12 +338,13 @@ impl<const WAYS: usize> Network<WAYS> {
         ensures steps { steps.old ≤ steps.new }
         ensures cost { steps.new ≤ steps.old + turn_cost WAYS at self.old }
     {
-        make_room(self, at, steps)?;
+        self.invariant();
+        self.keep_up(at, Upkeep::Room, steps)?;
         self.packet(at, packet, steps);
         if !lag_over {
             return Ok(());
         }
-        catch_up(self, at, steps)
+        self.keep_up(at, Upkeep::Lag, steps)
     }
 
     /// Closes all open epochs of all switches and merges all that are closed: switch by switch and groupby by groupby, each
@@ -318,7 +355,12 @@ impl<const WAYS: usize> Network<WAYS> {
         ensures drained { OnOk result (list_all group_is_drained self.new.groups ≡ true) }
         ensures steps { steps.old ≤ steps.new }
     {
-        drain_all(self, steps)
+        self.invariant();
+        for at in 0..self.switches() {
+            self.keep_up(at, Upkeep::Sweep, steps)?;
+            self.keep_up(at, Upkeep::Rest, steps)?;
+        }
+        Ok(())
     }
 
     /// Whether all caches and pipes of all switches are empty. Then no epoch is open, and the closed ones of all switches are

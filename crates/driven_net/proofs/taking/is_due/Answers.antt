@@ -1,7 +1,7 @@
 use Rattle.std.proofs.Common.{◌≡◌, ◌<◌, suc, Some, length, get_or, sym, ap, ◌∙◌, subst}
 use Rattle.std.specs.Prelude.{slice_get}
 use Rattle.switch_core.proofs.SideBySide.{same_some}
-use Rattle.net_wide.proofs.Sharing.{got_here}
+use Rattle.switch_core.proofs.SideBySide.{got_here}
 use Rattle.epoch_model.specs.Epochs.{is_refresh}
 use Rattle.trace_drive.specs.Clocks.{HasCounted}
 use Rattle.trace_drive.specs.declared.clock.Clock.{Clock}

@@ -9,16 +9,15 @@ use Rattle.driven_net.specs.Follows.{NetFollows}
 use Rattle.driven_net.specs.Lags.{HaveCounted}
 use Rattle.driven_net.specs.NetTraces.{fault_at, first_fault}
 use Rattle.driven_net.proofs.Counting.{lag_clocks, none_counted}
-use Rattle.driven_net.proofs.Following.{follows_start}
+use Rattle.driven_net.proofs.Following.{follows_start, known_next, turns_next}
 use Rattle.driven_net.proofs.taking.take_all.Goals as goal
 
 pub packets-init : goal.packets-init
 packets-init g c =
     let trace = c.args.trace in
-    let start = follows_start g.row.WAYS c.args.lag c.args.network c.requires.switches c.requires.fresh in
-    let fresh : (f : NetFollows g.row.WAYS c.args.lag c.new-known.result [] c.args.network)
-    × HaveCounted f.events (replicate 64 c.new-clocks.result) =
-    subst (λ ks. (f : NetFollows g.row.WAYS c.args.lag ks [] c.args.network) × HaveCounted f.events (replicate 64 c.new-clocks.result))
+    let start = follows_start g.row.WAYS c.args.network c.requires.switches c.requires.fresh in
+    let fresh : (f : NetFollows g.row.WAYS c.new-known.result [] c.args.network) × HaveCounted f.events (replicate 64 c.new-clocks.result) =
+    subst (λ ks. (f : NetFollows g.row.WAYS ks [] c.args.network) × HaveCounted f.events (replicate 64 c.new-clocks.result))
     (sym c.new-known.ensures) (
       start.0,
       subst (λ es. HaveCounted es (replicate 64 c.new-clocks.result)) (sym start.1)
@@ -26,7 +25,7 @@ packets-init g c =
     ) in
     record {
       fault = ap (λ ks. first_fault ks 1 (words_of trace.packets) trace.fault) (sym c.new-known.ensures);
-      follows = ([], refl, refl, fresh.0, fresh.1);
+      follows = ([], refl, refl, fresh.0, fresh.1, c.new-known.ensures, refl);
       keeps = record { plan = refl; buckets = refl; pipe_records = refl };
       clocks = lag_clocks c.args.lag c.new-clocks.result c.new-clocks.ensures.every c.new-clocks.ensures.counted;
       later = omega arith;
@@ -74,6 +73,9 @@ packets-preserved g c =
         ap (λ m. m + 1) f.2 ∙ sym (length-append f.0 (words ∷ [])),
         next.0,
         next.1,
+        known_next known now f.0 words f.5 one.known,
+        turns_next g.row.WAYS c.args.lag [] f.0 words c.args.network c.packets.network c.take_one.new.network f.6
+            (one.turn c.args.lag f.0 f.3 was.clocks f.4 f.5),
       );
       keeps = record {
         plan = one.keeps.plan ∙ was.keeps.plan;

@@ -4,6 +4,7 @@ use Rattle.trace_drive.specs.Drives.{words_of}
 use Rattle.driven_net.specs.Follows.{NetFollows}
 use Rattle.driven_net.specs.Lags.{AreLagClocks, HaveCounted}
 use Rattle.driven_net.specs.NetTraces.{first_fault}
+use Rattle.driven_net.specs.Turns.{MakesTurns, known_after}
 use Rattle.driven_net.proofs.taking.take_all.Given as goal
 
 -- the network follows the packets so far, and the fault of the others is that of all
@@ -12,7 +13,8 @@ invariant-packets g l = record {
   fault : first_fault [] 1 (words_of l.fn.trace.packets) l.fn.trace.fault ≡ first_fault l.known (suc l.number) (words_of l.trace.packets)
       l.trace.fault;
   follows : (done : List (List ℕ)) × (words_of l.fn.trace.packets ≡ done ++ words_of l.trace.packets) × (l.number ≡ length done)
-      × (f : NetFollows g.row.WAYS l.lag l.known done l.network) × HaveCounted f.events l.clocks;
+      × (f : NetFollows g.row.WAYS l.known done l.network) × HaveCounted f.events l.clocks
+      × (l.known ≡ known_after [] done) × MakesTurns g.row.WAYS l.lag [] done l.fn.network l.network;
   keeps : Keeps l.fn.network l.network;
   clocks : AreLagClocks l.lag l.clocks;
   later : l.initial.steps ≤ l.steps;

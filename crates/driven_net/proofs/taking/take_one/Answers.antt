@@ -1,15 +1,16 @@
-use Rattle.std.proofs.Common.{◌≡◌, ◌<◌, suc, Some, length, sym, ap, ◌∙◌, subst, lit<}
+use Rattle.std.proofs.Common.{◌≡◌, ◌<◌, suc, [], Some, length, sym, ap, ◌∙◌, subst, lit<}
 use Rattle.epoch_model.specs.Epochs.{is_refresh}
 use Rattle.switch_core.proofs.SideBySide.{got_some}
 use Rattle.trace_drive.specs.Clocks.{HasCounted}
-use Rattle.net_wide.specs.NetTables.{switch_in}
+use Rattle.net_wide.specs.NetTables.{packets_at, switch_in}
 use Rattle.net_wide.specs.Numbering.{place_among, switch_number, with_switch}
-use Rattle.network.specs.Running.{turn_events}
+use Rattle.network.specs.Running.{NetworkRuns, turn_events}
 use Rattle.network.proofs.Runs.{runs_kept}
 use Rattle.driven_net.specs.Lags.{HaveCounted, taken_by}
+use Rattle.driven_net.specs.Turns.{Meets, known_after}
 use Rattle.driven_net.proofs.Counting.{counted_on}
 use Rattle.driven_net.proofs.Known.{number_is, number_stays, switch_is}
-use Rattle.driven_net.proofs.Following.{follows_turn}
+use Rattle.driven_net.proofs.Following.{follows_turn, own_packets}
 use Rattle.driven_net.proofs.taking.take_one.Goals as goal
 
 pub turn-requires : goal.turn-requires
@@ -46,17 +47,52 @@ returns-in-Ok-clause-follows g c lag packets f are counted =
     let after : now ≡ with_switch known (switch_in words) = c.in_ok-at.ensures.known ∙ ap (with_switch known) same in
     let stays = number_stays known (switch_in words) at number in
     let few = (number_is known (switch_in words) at number).1 in
-    let m = c.in_ok-at.ensures.follows lag packets f in
+    let m = c.in_ok-at.ensures.follows packets f in
     let clock = got_some clocks at (subst (λ n. at < n) (sym are.count) few) in
-    let struck : is_refresh lag (suc (taken_by at (m.0).events)) ≡ over =
-    sym (c.is_due-lag_over.ensures.is_due lag (taken_by at (m.0).events) clock.0 are clock.1
-    (subst (λ es. HasCounted (taken_by at es) clock.0) (sym m.1) (counted at clock.0 clock.1))) in
-    let n = follows_turn c.runs_follow_events.ensures g.row.WAYS lag now packets words at over mid c.turn.new.self c.in-Ok.ensures.runs
-    (ap (λ ks. place_among ks (switch_in words)) after ∙ stays.0) (subst (λ ks. at < length ks) (sym after) stays.1) m.0 struck in (
+    let n = follows_turn c.runs_follow_events.ensures g.row.WAYS now packets words at over mid c.turn.new.self c.in-Ok.ensures.runs
+    (ap (λ ks. place_among ks (switch_in words)) after ∙ stays.0) (subst (λ ks. at < length ks) (sym after) stays.1) m.0 in (
       n.0,
       subst (λ es. HaveCounted es c.is_due-lag_over.new.clocks) (sym n.1)
           (counted_on at words over mid (m.0).events clocks c.is_due-lag_over.new.clocks clock.0 clock.1
           (subst (λ es. HaveCounted es clocks) (sym m.1) counted) c.is_due-lag_over.ensures.counts),
+    )
+
+pub returns-in-Ok-clause-turn : goal.returns-in-Ok-clause-turn
+returns-in-Ok-clause-turn g c lag packets f are counted first =
+    let ways = g.row.WAYS in
+    let known = c.args.known.now in
+    let clocks = c.args.clocks.now in
+    let words = c.args.packet.now.words in
+    let switch = switch_in words in
+    let at = c.in_ok-at.at in
+    let now = c.switch_at.new.known in
+    let old = c.args.network.now in
+    let mid = c.switch_at.new.network in
+    let over = c.is_due-lag_over.result in
+    let same : c.get.result ≡ switch = switch_is words c.get.result c.get.ensures in
+    let number : switch_number known switch ≡ Some at = subst (λ s. switch_number known s ≡ Some at) same c.in_ok-at.ensures.at in
+    let after : now ≡ with_switch known switch = c.in_ok-at.ensures.known ∙ ap (with_switch known) same in
+    let stays = number_stays known switch at number in
+    let place : place_among now switch ≡ at = ap (λ ks. place_among ks switch) after ∙ stays.0 in
+    let within : place_among now switch < length now = subst (λ n. n < length now) (sym place)
+    (subst (λ ks. at < length ks) (sym after) stays.1) in
+    let few = (number_is known switch at number).1 in
+    let m = c.in_ok-at.ensures.follows packets f in
+    let clock = got_some clocks at (subst (λ n. at < n) (sym are.count) few) in
+    let struck : over ≡ is_refresh lag (suc (taken_by at (m.0).events)) =
+    c.is_due-lag_over.ensures.is_due lag (taken_by at (m.0).events) clock.0 are clock.1
+    (subst (λ es. HasCounted (taken_by at es) clock.0) (sym m.1) (counted at clock.0 clock.1)) in
+    let own : taken_by at (m.0).events ≡ length (packets_at switch packets) =
+    ap (λ k. taken_by k (m.0).events) (sym place)
+    ∙ (own_packets now switch (m.0).events within (m.0).theirs ∙ ap (λ ps. length (packets_at switch ps)) (m.0).takes) in
+    let due : over ≡ is_refresh lag (suc (length (packets_at switch packets))) = struck ∙ ap (λ n. is_refresh lag (suc n)) own in
+    let number_of : at ≡ place_among (with_switch (known_after [] packets) switch) switch = sym stays.0
+    ∙ ap (λ ks. place_among (with_switch ks switch) switch) first in (
+      mid,
+      subst (λ ks. Meets ways ks switch old mid) first (subst (λ s. Meets ways known s old mid) same c.in_ok-at.ensures.meets),
+      subst (λ n. NetworkRuns ways (turn_events n words (is_refresh lag (suc (length (packets_at switch packets)))) mid) mid
+          c.turn.new.self) number_of
+          (subst (λ b. NetworkRuns ways (turn_events at words b mid) mid c.turn.new.self) due c.in-Ok.ensures.runs),
     )
 
 pub returns-in-Ok-clause-keeps : goal.returns-in-Ok-clause-keeps

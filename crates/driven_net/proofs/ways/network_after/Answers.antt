@@ -1,7 +1,10 @@
-use Rattle.std.proofs.Common.{Result, Ok, Err, ◌∙◌, subst}
+use Rattle.std.proofs.Common.{◌≡◌, [], Result, Ok, Err, ◌∙◌, subst}
 use Rattle.std.specs.Prelude.{IfOk}
 use Rattle.network.specs.Groups.{AllHavePlaces}
 use Rattle.network.specs.Networks.{IsNetwork, Keeps, NetworkView}
+use Rattle.network.specs.Running.{NetworkStands}
+use Rattle.trace_drive.specs.Drives.{words_of}
+use Rattle.driven_net.specs.Turns.{MakesTurns}
 use Rattle.driven_net.proofs.ways.network_after.Goals as goal
 
 if_ok_two : {X E : Type 0} (P Q R : X → Type 0) (r : Result X E) → ((x : X) → P x → Q x → R x) → IfOk r P → IfOk r Q → IfOk r R
@@ -15,3 +18,14 @@ returns-clause-pipe_places g c =
     c.take_all.result
     (λ found keeps is. subst (λ n. AllHavePlaces n found.groups) (keeps.pipe_records ∙ c.in-Ok.ensures.pipe) is.pipes)
     c.take_all.ensures.keeps c.take_all.ensures.known
+
+pub returns-clause-turns : goal.returns-clause-turns
+returns-clause-turns g c =
+    let ways = g.row.WAYS in
+    let fresh = c.in-Ok.fresh in
+    let packets = words_of c.args.trace.packets in
+    if_ok_two (Keeps fresh) (MakesTurns ways c.args.setting.lag [] packets fresh)
+    (λ (found : NetworkView). (first : NetworkView) × (first.switches ≡ 0) × NetworkStands ways first []
+    × MakesTurns ways c.args.setting.lag [] packets first found) c.take_all.result
+    (λ found keeps turns. (fresh, c.in-Ok.ensures.switches, c.in-Ok.ensures.stands, turns)) c.take_all.ensures.keeps
+    c.take_all.ensures.turns

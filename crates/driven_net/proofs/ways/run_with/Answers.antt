@@ -55,7 +55,7 @@ returns-clause-written g c =
     let network = c.in_ok-network.network in
     let tables = c.in_ok-tables.tables in
     let is = text_of q network.buckets c.args.setting.buckets g.row.WAYS packets tables c.in_ok-network.ensures.buckets
-    (c.in_ok-tables.ensures.tables c.args.setting.lag f.0 packets c.requires.whole f.1) in
+    (c.in_ok-tables.ensures.tables f.0 packets c.requires.whole f.1) in
     subst (λ text. OnOk c.write_text.result (Appends (g.O.Sink.taken c.args.out.now) (g.O.Sink.taken c.write_text.new.out) text)) is
     c.write_text.ensures.written
 
@@ -70,7 +70,7 @@ returns-clause-breaks_off g c =
     let new = c.write_text.new.out in
     let text = net_text q c.args.setting.buckets g.row.WAYS packets in
     let is = text_of q network.buckets c.args.setting.buckets g.row.WAYS packets tables c.in_ok-network.ensures.buckets
-    (c.in_ok-tables.ensures.tables c.args.setting.lag f.0 packets c.requires.whole f.1) in
+    (c.in_ok-tables.ensures.tables f.0 packets c.requires.whole f.1) in
     subst (λ fault. IfErr c.write_text.result (BreaksOff g.O.Sink.taken g.O.Sink.faults text fault old new))
     (sym c.in_ok-network.ensures.accepted)
     (subst (λ text. IfErr c.write_text.result (BreaksOff g.O.Sink.taken g.O.Sink.faults text None old new)) is

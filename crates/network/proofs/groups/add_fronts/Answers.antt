@@ -4,7 +4,7 @@ use Rattle.stage_plan.specs.Planned.{wiring_at}
 use Rattle.stage_plan.specs.Sound.{IsSoundGroup}
 use Rattle.switch_core.proofs.SideBySide.{same_some, each_long, done_start, untouched_start, done_next, untouched_next, untouched_was}
 use Rattle.switch_core.proofs.SideBySide.{done_end}
-use Rattle.net_wide.proofs.Sharing.{got_here}
+use Rattle.switch_core.proofs.SideBySide.{got_here}
 use Rattle.network.specs.Groups.{GroupGrows, GroupView, IsGroup, with_first}
 use Rattle.network.proofs.GroupSteps.{Grown, all_first, all_grown, others_so_far, part_of}
 use Rattle.network.proofs.groups.add_fronts.Goals as goal

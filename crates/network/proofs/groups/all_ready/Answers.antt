@@ -1,7 +1,7 @@
 use Rattle.std.proofs.Common.{◌≡◌, ◌<◌, Some, length, sym, ap, ◌∙◌, lit<}
 use Rattle.std.specs.Prelude.{slice_get}
 use Rattle.switch_core.proofs.LaneFacts.{all_fails, all_next}
-use Rattle.net_wide.proofs.Sharing.{got_here}
+use Rattle.switch_core.proofs.SideBySide.{got_here}
 use Rattle.network.specs.Events.{is_ready_at}
 use Rattle.network.proofs.MakeSteps.{switch_within}
 use Rattle.network.proofs.groups.all_ready.Goals as goal

@@ -3,7 +3,7 @@ use Rattle.std.proofs.Math.Facts.{Fits-below}
 use Rattle.std.specs.Prelude.{slice_get}
 use Rattle.backing_store.specs.Merged.{StoreHolds}
 use Rattle.switch_core.proofs.SideBySide.{same_some, each_long, each_at}
-use Rattle.net_wide.proofs.Sharing.{got_here}
+use Rattle.switch_core.proofs.SideBySide.{got_here}
 use Rattle.network.specs.Groups.{folding_in, shared_tables}
 use Rattle.network.proofs.GroupSteps.{part_of, tables_next, tables_whole}
 use Rattle.network.proofs.groups.group_tables.Goals as goal

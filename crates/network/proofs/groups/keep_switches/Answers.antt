@@ -1,6 +1,6 @@
 use Rattle.std.proofs.Common.{◌≡◌, ◌<◌, length, get_or, sym, ap, ◌∙◌, arith}
 use Rattle.switch_core.proofs.SideBySide.{same_some, done_start, untouched_start, done_next, untouched_next, untouched_was, done_end}
-use Rattle.net_wide.proofs.Sharing.{got_here}
+use Rattle.switch_core.proofs.SideBySide.{got_here}
 use Rattle.network.specs.Groups.{GroupView, with_first}
 use Rattle.network.proofs.groups.keep_switches.Goals as goal
 

@@ -8,7 +8,7 @@ use Rattle.switch_core.proofs.LaneFacts.{all_at}
 use Rattle.switch_core.proofs.SweepCosts.{sum_within}
 use Rattle.switch_core.proofs.SideBySide.{same_some, each_long, done_start, untouched_start, done_next, untouched_next, untouched_was}
 use Rattle.switch_core.proofs.SideBySide.{done_end, sum_next}
-use Rattle.net_wide.proofs.Sharing.{got_here}
+use Rattle.switch_core.proofs.SideBySide.{got_here}
 use Rattle.network.specs.Groups.{GroupView}
 use Rattle.network.specs.Events.{GroupMakesAll, is_ready_at}
 use Rattle.network.specs.Costs.{group_cost}

@@ -12,5 +12,5 @@ returns-clause-done g c t =
     let drained : group_is_drained c.args.self.now ≡ true =
     ap group_is_drained (sym c.self.view_is)
     ∙ (ap (list_all (λ (front : FrontOf AnyEpochs). is_drained front.cache front.pipe)) (sym c.deref.ensures.value)
-    ∙ (sym c.all_drained.ensures.value ∙ t)) in
+    ∙ (sym c.all_drained.ensures ∙ t)) in
     all_merged g.row.WAYS c.args.self.now drained

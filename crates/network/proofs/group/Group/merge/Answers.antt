@@ -1,119 +1,111 @@
-use Rattle.std.proofs.Common.{◌≡◌, ◌<◌, ◌++◌, true, length, take, drop, sym, ap, ◌∙◌, subst, lit<}
+use Rattle.std.proofs.Common.{rules, ◌≡◌, ◌+◌, ◌≤◌, ◌<◌, true, length, sym, ap, ◌∙◌, subst}
 use Rattle.std.specs.Prelude.{slice_get}
 use Rattle.epoch_entry.specs.contracts.any.AnyEpochsEpochKind.TheImpl.{ghosts}
 use Rattle.epoch_model.specs.Machine.{Merge}
-use Rattle.switch_core.proofs.LaneFacts.{on_err, on_ok, whole_written}
-use Rattle.switch_core.proofs.SideBySide.{got_some}
-use Rattle.net_wide.specs.Sharing.{AtSwitch, LeadsByMerge, StoreTakes, SwitchMakes}
+use Rattle.switch_core.specs.FrontEvents.{Carries, with_store}
+use Rattle.switch_core.specs.PlanLanes.{lane_merge_cost}
+use Rattle.switch_core.specs.declared.upkeep.Upkeep.TheVariants as due
+use Rattle.switch_core.proofs.LaneFacts.{got_set, on_err, on_ok}
+use Rattle.switch_core.proofs.SideBySide.{got_below, same_some}
 use Rattle.network.specs.Shared.{AllShare}
 use Rattle.network.specs.Groups.{GroupView, folding_in}
-use Rattle.network.specs.Events.{GroupMakes, is_ready_at}
-use Rattle.network.proofs.CostSteps.{merge_within}
-use Rattle.network.proofs.MakeSteps.{merge_makes, on_three, ready_at}
+use Rattle.network.specs.Costs.{group_merge_cost, lane_in}
+use Rattle.network.specs.Events.{GroupMakes, is_ready_at, with_lane}
+use Rattle.network.proofs.CostSteps.{upkeep_within}
+use Rattle.network.proofs.MakeSteps.{front_there, one_makes, ready_at, same_lane}
 use Rattle.network.proofs.group.Group.merge.Goals as goal
 
-pub merge_at-requires : goal.merge_at-requires
-merge_at-requires g c =
+pub merge_into-requires : goal.merge_into-requires
+merge_into-requires g c =
     let p = c.self.inside in
     let at = c.args.at in
     let r = c.requires.shares in
-    let share = subst (λ (v : GroupView). AllShare ghosts.sizes ghosts.folding (folding_in v) r.0 v.fronts v.store) (sym c.self.view_is)
-    r.1 in
-    let here = c.deref_mut.ensures.value in (
-      lit< tt,
-      (
-        subst (λ xs. at < length xs) (sym here) (subst (λ (v : GroupView). at < length v.fronts) (sym c.self.view_is) c.requires.switch),
-        (λ front e. (share at front (ap (λ xs. slice_get xs at) (sym here) ∙ e)).fits),
-      ),
-    )
+    let view : GroupView = record { kind = p.kind; fronts = p.fronts.items; store = p.store } in
+    let front = c.index_mut-front.result.now in
+    let here = front_there view c.args.self.now at front c.self.view_is c.requires.switch c.index_mut-front.ensures.value in
+    let share = (subst (λ (v : GroupView). AllShare ghosts.sizes ghosts.folding (folding_in v) r.0 v.fronts v.store)
+    (sym c.self.view_is) r.1) at front here in
+    (search rules, share.fits)
 
 pub returns-clause-makes : goal.returns-clause-makes
 returns-clause-makes g c =
     let p = c.self.inside in
-    let ways = g.row.WAYS in
     let at = c.args.at in
     let r = c.requires.shares in
     let view : GroupView = record { kind = p.kind; fronts = p.fronts.items; store = p.store } in
-    let before = c.deref_mut.result.now in
-    let new = c.merge_at.new.fronts in
-    let store = c.merge_at.new.store in
-    let whole = whole_written new (drop (length new) p.fronts.items) p.fronts.len (c.merge_at.auto.fronts ∙ c.deref_mut.ensures.len) in
-    let after : GroupView = record { kind = p.kind; fronts = take p.fronts.len (new ++ drop (length new) p.fronts.items); store = store } in
-    let share = subst (λ (v : GroupView). AllShare ghosts.sizes ghosts.folding (folding_in v) r.0 v.fronts v.store) (sym c.self.view_is)
-    r.1 in
-    let within = subst (λ (v : GroupView). at < length v.fronts) (sym c.self.view_is) c.requires.switch in
-    on_three (SwitchMakes ghosts.stands ways at Merge before new) (LeadsByMerge ghosts.stands ways at before new)
-    (AtSwitch (λ front. StoreTakes ghosts.stands (ghosts.folding front.kind) ways at before p.store store) before at)
-    (GroupMakes ways at Merge c.args.self.now after) c.merge_at.result
-    (λ makes leads takes. merge_makes ways at r.0 c.args.self.now view before new after.fronts store c.self.view_is
-    c.deref_mut.ensures.value whole within
-    (record { key_words = c.merge_at.ensures.sizes.0; state_words = c.merge_at.ensures.sizes.1 }) share
-    (record { makes = makes; leads = leads; takes = takes }))
-    c.merge_at.ensures.makes c.merge_at.ensures.leads c.merge_at.ensures.takes
+    let front = c.index_mut-front.result.now in
+    let here = front_there view c.args.self.now at front c.self.view_is c.requires.switch c.index_mut-front.ensures.value in
+    let share = (subst (λ (v : GroupView). AllShare ghosts.sizes ghosts.folding (folding_in v) r.0 v.fronts v.store)
+    (sym c.self.view_is) r.1) at front here in
+    let lane = with_store c.merge_into.new.self c.merge_into.new.store in
+    on_ok (Carries ghosts.stands ghosts.folding g.row.WAYS Merge (with_store front p.store) lane)
+    (GroupMakes g.row.WAYS at Merge c.args.self.now (with_lane at lane view)) c.merge_into.result
+    (λ made. subst (λ v. GroupMakes g.row.WAYS at Merge v (with_lane at lane view)) c.self.view_is
+    (one_makes g.row.WAYS at Merge view front lane here share.alike made))
+    c.merge_into.ensures.carries
 
 pub returns-clause-ready : goal.returns-clause-ready
 returns-clause-ready g c =
     let p = c.self.inside in
     let at = c.args.at in
-    let new = c.merge_at.new.fronts in
-    let whole = whole_written new (drop (length new) p.fronts.items) p.fronts.len (c.merge_at.auto.fronts ∙ c.deref_mut.ensures.len) in
-    let after : GroupView = record {
-      kind = p.kind;
-      fronts = take p.fronts.len (new ++ drop (length new) p.fronts.items);
-      store =
-          c.merge_at.new.store;
-    } in
-    let within = subst (λ (v : GroupView). at < length v.fronts) (sym c.self.view_is) c.requires.switch in
-    let still : at < length after.fronts = subst (λ xs. at < length xs) (sym whole)
-    (subst (λ n. at < n) (sym (c.merge_at.auto.fronts ∙ ap length c.deref_mut.ensures.value)) within) in
-    on_ok (AtSwitch (λ front. length front.pipe.records < front.pipe.places) new at) (is_ready_at at after ≡ true) c.merge_at.result
-    (λ room. ready_at at after still (subst (λ xs. AtSwitch (λ front. length front.pipe.records < front.pipe.places) xs at) (sym whole)
-    room))
-    c.merge_at.ensures.ready
+    let view : GroupView = record { kind = p.kind; fronts = p.fronts.items; store = p.store } in
+    let front = c.index_mut-front.result.now in
+    let here = front_there view c.args.self.now at front c.self.view_is c.requires.switch c.index_mut-front.ensures.value in
+    let new = c.merge_into.new.self in
+    let after = with_lane at (with_store new c.merge_into.new.store) view in
+    on_ok (length new.pipe.records < new.pipe.places) (is_ready_at at after ≡ true) c.merge_into.result
+    (ready_at at after new (got_set p.fronts.items at new (got_below p.fronts.items at front here))) c.merge_into.ensures.ready
 
 pub returns-clause-empty : goal.returns-clause-empty
-returns-clause-empty g c front e =
-    c.merge_at.ensures.empty front (ap (λ xs. slice_get xs c.args.at) c.deref_mut.ensures.value
-    ∙ (ap (λ (v : GroupView). slice_get v.fronts c.args.at) c.self.view_is ∙ e))
+returns-clause-empty g c x e =
+    let p = c.self.inside in
+    let at = c.args.at in
+    let view : GroupView = record { kind = p.kind; fronts = p.fronts.items; store = p.store } in
+    let front = c.index_mut-front.result.now in
+    let here = front_there view c.args.self.now at front c.self.view_is c.requires.switch c.index_mut-front.ensures.value in
+    let same = same_some front x (sym here ∙ (ap (λ (v : GroupView). slice_get v.fronts at) c.self.view_is ∙ e)) in
+    let empty = c.merge_into.ensures.empty in
+    (λ r. sym (ap (λ v. length v.pipe.records) same) ∙ empty.0 r, λ n. empty.1 (ap (λ v. length v.pipe.records) same ∙ n))
 
 pub returns-clause-same : goal.returns-clause-same
 returns-clause-same g c is =
     let p = c.self.inside in
-    let new = c.merge_at.new.fronts in
-    let store = c.merge_at.new.store in
-    let whole = whole_written new (drop (length new) p.fronts.items) p.fronts.len (c.merge_at.auto.fronts ∙ c.deref_mut.ensures.len) in
-    let after : GroupView = record { kind = p.kind; fronts = take p.fronts.len (new ++ drop (length new) p.fronts.items); store = store } in
+    let at = c.args.at in
     let view : GroupView = record { kind = p.kind; fronts = p.fronts.items; store = p.store } in
-    let same = c.merge_at.ensures.same is in
-    let fronts : after.fronts ≡ p.fronts.items = whole ∙ (same.0 ∙ c.deref_mut.ensures.value) in
-    ap (λ xs. record after { fronts = xs }) fronts ∙ (ap (λ s. record view { store = s }) same.1 ∙ c.self.view_is)
+    let front = c.index_mut-front.result.now in
+    let here = front_there view c.args.self.now at front c.self.view_is c.requires.switch c.index_mut-front.ensures.value in
+    let same = c.merge_into.ensures.same is in
+    same_lane at view front c.merge_into.new.self c.merge_into.new.store here same.0 same.1 ∙ c.self.view_is
 
 pub returns-clause-err : goal.returns-clause-err
 returns-clause-err g c =
     let p = c.self.inside in
-    let before = c.deref_mut.result.now in
-    let new = c.merge_at.new.fronts in
-    let store = c.merge_at.new.store in
-    let whole = whole_written new (drop (length new) p.fronts.items) p.fronts.len (c.merge_at.auto.fronts ∙ c.deref_mut.ensures.len) in
-    let after : GroupView = record { kind = p.kind; fronts = take p.fronts.len (new ++ drop (length new) p.fronts.items); store = store } in
-    on_err ((new ≡ before) × (store ≡ p.store)) (after ≡ c.args.self.now) c.merge_at.result
-    (λ same.
+    let at = c.args.at in
     let view : GroupView = record { kind = p.kind; fronts = p.fronts.items; store = p.store } in
-    let fronts : after.fronts ≡ p.fronts.items = whole ∙ (same.0 ∙ c.deref_mut.ensures.value) in
-    ap (λ xs. record after { fronts = xs }) fronts ∙ (ap (λ s. record view { store = s }) same.1 ∙ c.self.view_is))
-    c.merge_at.ensures.err
+    let front = c.index_mut-front.result.now in
+    let here = front_there view c.args.self.now at front c.self.view_is c.requires.switch c.index_mut-front.ensures.value in
+    let new = c.merge_into.new.self in
+    let store = c.merge_into.new.store in
+    on_err ((new ≡ front) × (store ≡ p.store)) (with_lane at (with_store new store) view ≡ c.args.self.now) c.merge_into.result
+    (λ same. same_lane at view front new store here same.0 same.1 ∙ c.self.view_is) c.merge_into.ensures.err
 
 pub returns-clause-cost : goal.returns-clause-cost
-returns-clause-cost g c front e =
-    c.merge_at.ensures.cost front (ap (λ xs. slice_get xs c.args.at) c.deref_mut.ensures.value
-    ∙ (ap (λ (v : GroupView). slice_get v.fronts c.args.at) c.self.view_is ∙ e))
+returns-clause-cost g c x e =
+    let p = c.self.inside in
+    let at = c.args.at in
+    let old = c.args.self.now in
+    let view : GroupView = record { kind = p.kind; fronts = p.fronts.items; store = p.store } in
+    let front = c.index_mut-front.result.now in
+    let here = front_there view old at front c.self.view_is c.requires.switch c.index_mut-front.ensures.value in
+    let same = same_some front x (sym here ∙ (ap (λ (v : GroupView). slice_get v.fronts at) c.self.view_is ∙ e)) in
+    subst (λ y. c.merge_into.new.steps ≤ c.args.steps.now + lane_merge_cost (lane_in old y)) same c.merge_into.ensures.cost
 
 pub returns-clause-most : goal.returns-clause-most
 returns-clause-most g c =
-    let old = c.args.self.now in
+    let p = c.self.inside in
     let at = c.args.at in
-    let here = got_some old.fronts at c.requires.switch in
-    let there = ap (λ xs. slice_get xs at) c.deref_mut.ensures.value ∙ (ap (λ (v : GroupView). slice_get v.fronts at) c.self.view_is
-    ∙ here.1) in
-    merge_within at c.args.steps.now c.merge_at.new.steps old here.0 here.1 (c.merge_at.ensures.known here.0 there).entry
-    (c.merge_at.ensures.cost here.0 there)
+    let view : GroupView = record { kind = p.kind; fronts = p.fronts.items; store = p.store } in
+    let front = c.index_mut-front.result.now in
+    let here = front_there view c.args.self.now at front c.self.view_is c.requires.switch c.index_mut-front.ensures.value in
+    subst (λ v. c.merge_into.new.steps ≤ c.args.steps.now + group_merge_cost at v) c.self.view_is
+    (upkeep_within due.Lag at c.args.steps.now c.merge_into.new.steps view front here c.merge_into.ensures.cost)

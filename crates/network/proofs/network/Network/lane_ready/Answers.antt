@@ -1,7 +1,7 @@
 use Rattle.std.proofs.Common.{◌≡◌, ◌<◌, Some, length, sym, ap, ◌∙◌, subst, lit<}
 use Rattle.std.specs.Prelude.{slice_get}
 use Rattle.switch_core.proofs.SideBySide.{same_some}
-use Rattle.net_wide.proofs.Sharing.{got_here}
+use Rattle.switch_core.proofs.SideBySide.{got_here}
 use Rattle.network.specs.Events.{is_ready_at}
 use Rattle.network.specs.Groups.{GroupView}
 use Rattle.network.specs.Networks.{NetworkView}

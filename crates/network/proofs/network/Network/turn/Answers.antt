@@ -1,32 +1,50 @@
-use Rattle.std.proofs.Common.{◌≡◌, ℕ, ◌+◌, ◌*◌, ◌≤◌, ◌<◌, Bool, true, false, List, [], ◌∷◌, ◌++◌, length, sym, ap, ◌∙◌, subst, arith}
-use Rattle.std.proofs.Common.{append_assoc, lit<}
+use Rattle.std.proofs.Common.{◌≡◌, ℕ, ◌+◌, ◌*◌, ◌≤◌, ◌<◌, Bool, true, false, List, [], ◌∷◌, ◌++◌, length, refl, sym, ap, ◌∙◌, subst}
+use Rattle.std.proofs.Common.{arith, append_assoc, lit<}
 use Rattle.std.specs.Prelude.{if◌then◌else◌}
+use Rattle.std.specs.List.{list_all}
+use Rattle.switch_core.specs.declared.upkeep.Upkeep.TheVariants as due
 use Rattle.switch_core.proofs.LaneFacts.{on_err, on_ok}
-use Rattle.network.specs.Networks.{NetworkView, merges_cost, network_cost}
-use Rattle.network.specs.Running.{NetworkEvent, NetworkMakes, NetworkRuns, RunBreaksOff, Takes, merges_for_room, merges_of_each}
-use Rattle.network.specs.Running.{turn_events}
+use Rattle.switch_core.proofs.LaneMakes.{on_both}
+use Rattle.network.specs.Events.{IsLeft, is_ready_at}
+use Rattle.network.specs.Networks.{NetworkView, network_cost, upkeeps_cost}
+use Rattle.network.specs.Running.{NetworkEvent, NetworkMakes, NetworkRuns, RunBreaksOff, Takes, front_at, turn_events, upkeep_calls}
+use Rattle.network.proofs.Calls.{lag_same, ready_left}
+use Rattle.network.proofs.CostSteps.{room_cost}
 use Rattle.network.proofs.MakeSteps.{if_err}
-use Rattle.network.proofs.Runs.{kept_long, merges_cost_kept, packet_cost_kept, run_breaks_in, run_breaks_on, runs_kept, runs_on, runs_one}
+use Rattle.network.proofs.Runs.{kept_long, merges_cost_kept, packet_cost_kept, run_breaks_in, run_breaks_on, runs_is, runs_kept, runs_on}
+use Rattle.network.proofs.Runs.{runs_one}
 use Rattle.network.proofs.network.Network.turn.Goals as goal
 
 pub packet-requires : goal.packet-requires
 packet-requires g c =
+    let ways = g.row.WAYS in
+    let at = c.args.at in
     let old = c.args.self.now in
-    let kept = runs_kept g.row.WAYS (merges_for_room c.args.at old) old c.make_room.new.network c.in_ok-make_room.ensures.runs in
-    (lit< tt, (subst (λ n. c.args.at < n) (sym kept.switches) c.requires, c.in_ok-make_room.ensures.ready))
+    let room = c.keep_up.new.self in
+    let ran = c.in_ok-keep_up.ensures.runs in
+    let events = upkeep_calls at due.Room old in
+    let kept = runs_kept ways events old room ran in
+    let within = subst (λ n. at < n) (sym kept.switches) c.requires in (
+      lit< tt,
+      (
+        within,
+        ready_left ways at due.Room old room (runs_is ways events old room ran c.invariant.ensures) within
+            (kept_long old room kept) (λ front k. k) c.in_ok-keep_up.ensures.left,
+      ),
+    )
 
-pub catch_up-requires : goal.catch_up-requires
-catch_up-requires g c =
+pub keep_up-requires-2 : goal.keep_up-requires-2
+keep_up-requires-2 g c =
     let old = c.args.self.now in
-    let kept = runs_kept g.row.WAYS (merges_for_room c.args.at old) old c.make_room.new.network c.in_ok-make_room.ensures.runs in
+    let kept = runs_kept g.row.WAYS (upkeep_calls c.args.at due.Room old) old c.keep_up.new.self c.in_ok-keep_up.ensures.runs in
     (lit< tt, subst (λ n. c.args.at < n) (sym (c.packet.ensures.makes.switches ∙ kept.switches)) c.requires)
 
--- merges for room, and then a packet
-before_lag : (ways at : ℕ) (words : List ℕ) (old room after : NetworkView) → NetworkRuns ways (merges_for_room at old) old room
+-- room for a packet, and then the packet
+before_lag : (ways at : ℕ) (words : List ℕ) (old room after : NetworkView) → NetworkRuns ways (upkeep_calls at due.Room old) old room
     → NetworkMakes ways (Takes at words) room after
-    → NetworkRuns ways (merges_for_room at old ++ Takes at words ∷ []) old after
+    → NetworkRuns ways (upkeep_calls at due.Room old ++ Takes at words ∷ []) old after
 before_lag ways at words old room after ran made =
-    runs_on ways (merges_for_room at old) (Takes at words ∷ []) old room after ran (runs_one ways (Takes at words) room after made)
+    runs_on ways (upkeep_calls at due.Room old) (Takes at words ∷ []) old room after ran (runs_one ways (Takes at words) room after made)
 
 pub returns-then-not-lag_over-clause-runs : goal.returns-then-not-lag_over-clause-runs
 returns-then-not-lag_over-clause-runs g c =
@@ -35,15 +53,16 @@ returns-then-not-lag_over-clause-runs g c =
     let words = c.args.packet.now.words in
     let over : c.args.lag_over ≡ false = c.if-not-lag_over.true in
     subst (λ b. NetworkRuns g.row.WAYS (turn_events at words b old) old c.packet.new.self) (sym over)
-    (before_lag g.row.WAYS at words old c.make_room.new.network c.packet.new.self c.in_ok-make_room.ensures.runs c.packet.ensures.makes)
+    (before_lag g.row.WAYS at words old c.keep_up.new.self c.packet.new.self c.in_ok-keep_up.ensures.runs c.packet.ensures.makes)
 
 -- where the lag is over, the events of the turn are the packet's and then the merges
-turn_is : (at : ℕ) (words : List ℕ) (over : Bool) (old : NetworkView) (lanes : ℕ) → over ≡ true → lanes ≡ length old.groups
-    → (merges_for_room at old ++ Takes at words ∷ []) ++ merges_of_each at lanes ≡ turn_events at words over old
-turn_is at words over old lanes e same =
-    append_assoc (merges_for_room at old) (Takes at words ∷ []) (merges_of_each at lanes)
-    ∙ (ap (λ n. merges_for_room at old ++ Takes at words ∷ merges_of_each at n) same
-    ∙ ap (λ b. merges_for_room at old ++ Takes at words ∷ (if b then merges_of_each at (length old.groups) else [])) (sym e))
+turn_is : (at : ℕ) (words : List ℕ) (over : Bool) (old : NetworkView) (merges : List NetworkEvent) → over ≡ true
+    → merges ≡ upkeep_calls at due.Lag old
+    → (upkeep_calls at due.Room old ++ Takes at words ∷ []) ++ merges ≡ turn_events at words over old
+turn_is at words over old merges e same =
+    append_assoc (upkeep_calls at due.Room old) (Takes at words ∷ []) merges
+    ∙ (ap (λ es. upkeep_calls at due.Room old ++ Takes at words ∷ es) same
+    ∙ ap (λ b. upkeep_calls at due.Room old ++ Takes at words ∷ (if b then upkeep_calls at due.Lag old else [])) (sym e))
 
 pub returns-clause-runs : goal.returns-clause-runs
 returns-clause-runs g c =
@@ -51,18 +70,17 @@ returns-clause-runs g c =
     let at = c.args.at in
     let words = c.args.packet.now.words in
     let old = c.args.self.now in
-    let room = c.make_room.new.network in
     let after = c.packet.new.self in
-    let new = c.catch_up.new.network in
-    let first = before_lag ways at words old room after c.in_ok-make_room.ensures.runs c.packet.ensures.makes in
-    let before = merges_for_room at old ++ Takes at words ∷ [] in
-    let long = kept_long old after (runs_kept ways before old after first) in
+    let new = c.keep_up-2.new.self in
+    let first = before_lag ways at words old c.keep_up.new.self after c.in_ok-keep_up.ensures.runs c.packet.ensures.makes in
+    let before = upkeep_calls at due.Room old ++ Takes at words ∷ [] in
+    let same = lag_same at old after (runs_kept ways before old after first) in
     let over : c.args.lag_over ≡ true = c.if-not-lag_over.false in
-    let merges = merges_of_each at (length after.groups) in
-    on_ok (NetworkRuns ways merges after new) (NetworkRuns ways (turn_events at words c.args.lag_over old) old new) c.catch_up.result
-    (λ ran. subst (λ es. NetworkRuns ways es old new) (turn_is at words c.args.lag_over old (length after.groups) over long)
+    let merges = upkeep_calls at due.Lag after in
+    on_ok (NetworkRuns ways merges after new) (NetworkRuns ways (turn_events at words c.args.lag_over old) old new) c.keep_up-2.result
+    (λ ran. subst (λ es. NetworkRuns ways es old new) (turn_is at words c.args.lag_over old merges over same)
     (runs_on ways before merges old after new first ran))
-    c.catch_up.ensures.runs
+    c.keep_up-2.ensures.runs
 
 pub returns-clause-breaks_off : goal.returns-clause-breaks_off
 returns-clause-breaks_off g c =
@@ -70,26 +88,47 @@ returns-clause-breaks_off g c =
     let at = c.args.at in
     let words = c.args.packet.now.words in
     let old = c.args.self.now in
-    let room = c.make_room.new.network in
     let after = c.packet.new.self in
-    let new = c.catch_up.new.network in
-    let first = before_lag ways at words old room after c.in_ok-make_room.ensures.runs c.packet.ensures.makes in
-    let before = merges_for_room at old ++ Takes at words ∷ [] in
-    let long = kept_long old after (runs_kept ways before old after first) in
+    let new = c.keep_up-2.new.self in
+    let first = before_lag ways at words old c.keep_up.new.self after c.in_ok-keep_up.ensures.runs c.packet.ensures.makes in
+    let before = upkeep_calls at due.Room old ++ Takes at words ∷ [] in
+    let same = lag_same at old after (runs_kept ways before old after first) in
     let over : c.args.lag_over ≡ true = c.if-not-lag_over.false in
-    let merges = merges_of_each at (length after.groups) in
-    on_err (RunBreaksOff ways merges after new) (RunBreaksOff ways (turn_events at words c.args.lag_over old) old new) c.catch_up.result
-    (λ ran. subst (λ es. RunBreaksOff ways es old new) (turn_is at words c.args.lag_over old (length after.groups) over long)
+    let merges = upkeep_calls at due.Lag after in
+    on_err (RunBreaksOff ways merges after new) (RunBreaksOff ways (turn_events at words c.args.lag_over old) old new) c.keep_up-2.result
+    (λ ran. subst (λ es. RunBreaksOff ways es old new) (turn_is at words c.args.lag_over old merges over same)
     (run_breaks_on ways before merges old after new first ran))
-    c.catch_up.ensures.breaks_off
+    c.keep_up-2.ensures.breaks_off
 
-pub returns-in_err-make_room-clause-breaks_off : goal.returns-in_err-make_room-clause-breaks_off
-returns-in_err-make_room-clause-breaks_off g c =
+pub returns-in_err-keep_up-clause-breaks_off : goal.returns-in_err-keep_up-clause-breaks_off
+returns-in_err-keep_up-clause-breaks_off g c =
     let old = c.args.self.now in
-    let rest : List NetworkEvent = Takes c.args.at c.args.packet.now.words
-    ∷ (if c.args.lag_over then merges_of_each c.args.at (length old.groups) else []) in
-    if_err _ c.from_residual.result (run_breaks_in g.row.WAYS (merges_for_room c.args.at old) rest old c.make_room.new.network
-    c.in_err-make_room.ensures.breaks_off)
+    let rest : List NetworkEvent = Takes c.args.at c.args.packet.now.words ∷
+    (if c.args.lag_over then upkeep_calls c.args.at due.Lag old else []) in
+    if_err _ c.from_residual.result (run_breaks_in g.row.WAYS (upkeep_calls c.args.at due.Room old) rest old c.keep_up.new.self
+    c.in_err-keep_up.ensures.breaks_off)
+
+pub returns-clause-merged : goal.returns-clause-merged
+returns-clause-merged g c =
+    let ways = g.row.WAYS in
+    let at = c.args.at in
+    let words = c.args.packet.now.words in
+    let old = c.args.self.now in
+    let after = c.packet.new.self in
+    let new = c.keep_up-2.new.self in
+    let first = before_lag ways at words old c.keep_up.new.self after c.in_ok-keep_up.ensures.runs c.packet.ensures.makes in
+    let before = upkeep_calls at due.Room old ++ Takes at words ∷ [] in
+    let kept = runs_kept ways before old after first in
+    let is = runs_is ways before old after first c.invariant.ensures in
+    let merges = upkeep_calls at due.Lag after in
+    on_both (NetworkRuns ways merges after new) ((n : ℕ) → n < length after.groups
+    → IsLeft due.Lag (front_at after n at) (front_at new n at))
+    (c.args.lag_over ≡ true → list_all (is_ready_at at) new.groups ≡ true) c.keep_up-2.result
+    (λ ran left over.
+    let last = runs_kept ways merges after new ran in
+    let within = subst (λ n. at < n) (sym (last.switches ∙ kept.switches)) c.requires in
+    ready_left ways at due.Lag after new (runs_is ways merges after new ran is) within (kept_long after new last) (λ front k. k) left)
+    c.keep_up-2.ensures.runs c.keep_up-2.ensures.left
 
 -- the steps of merges, a packet, and merges again
 turn_within : (start room packet end merges later cost packets : ℕ) → room ≤ start + merges → packets ≡ cost → packet ≤ room + packets
@@ -103,34 +142,41 @@ packet_within : (start room packet merges cost packets : ℕ) → room ≤ start
     → packet ≤ start + (cost + 2 * merges)
 packet_within start room packet merges cost packets a b c = omega arith
 
-pub returns-in_err-make_room-clause-cost : goal.returns-in_err-make_room-clause-cost
-returns-in_err-make_room-clause-cost g c =
+-- the steps for room are those of a merge
+room_is : (at start end : ℕ) (old : NetworkView) → end ≤ start + upkeeps_cost due.Room at old → end ≤ start + upkeeps_cost due.Lag at old
+room_is at start end old cost = subst (λ n. end ≤ start + n) (room_cost at old.groups) cost
+
+pub returns-in_err-keep_up-clause-cost : goal.returns-in_err-keep_up-clause-cost
+returns-in_err-keep_up-clause-cost g c =
     let old = c.args.self.now in
-    room_within c.args.steps.now c.make_room.new.steps (merges_cost c.args.at old) (network_cost g.row.WAYS c.args.at old)
-    c.make_room.ensures.cost
+    let start = c.args.steps.now in
+    room_within start c.keep_up.new.steps (upkeeps_cost due.Lag c.args.at old) (network_cost g.row.WAYS c.args.at old)
+    (room_is c.args.at start c.keep_up.new.steps old c.keep_up.ensures.cost)
 
 pub returns-then-not-lag_over-clause-cost : goal.returns-then-not-lag_over-clause-cost
 returns-then-not-lag_over-clause-cost g c =
     let ways = g.row.WAYS in
     let at = c.args.at in
     let old = c.args.self.now in
-    let mid = c.make_room.new.network in
-    let kept = runs_kept ways (merges_for_room at old) old mid c.in_ok-make_room.ensures.runs in
-    packet_within c.args.steps.now c.make_room.new.steps c.packet.new.steps (merges_cost at old) (network_cost ways at old)
+    let start = c.args.steps.now in
+    let mid = c.keep_up.new.self in
+    let kept = runs_kept ways (upkeep_calls at due.Room old) old mid c.in_ok-keep_up.ensures.runs in
+    packet_within start c.keep_up.new.steps c.packet.new.steps (upkeeps_cost due.Lag at old) (network_cost ways at old)
     (network_cost ways at mid)
-    c.make_room.ensures.cost (packet_cost_kept ways at old mid kept) c.packet.ensures.cost
+    (room_is at start c.keep_up.new.steps old c.keep_up.ensures.cost) (packet_cost_kept ways at old mid kept) c.packet.ensures.cost
 
 pub returns-clause-cost : goal.returns-clause-cost
 returns-clause-cost g c =
     let ways = g.row.WAYS in
     let at = c.args.at in
     let old = c.args.self.now in
-    let mid = c.make_room.new.network in
+    let start = c.args.steps.now in
+    let mid = c.keep_up.new.self in
     let after = c.packet.new.self in
-    let kept = runs_kept ways (merges_for_room at old) old mid c.in_ok-make_room.ensures.runs in
-    let all = runs_kept ways (merges_for_room at old ++ Takes at c.args.packet.now.words ∷ []) old after
-    (before_lag ways at c.args.packet.now.words old mid after c.in_ok-make_room.ensures.runs c.packet.ensures.makes) in
-    turn_within c.args.steps.now c.make_room.new.steps c.packet.new.steps c.catch_up.new.steps (merges_cost at old) (merges_cost at after)
-    (network_cost ways at old) (network_cost ways at mid)
-    c.make_room.ensures.cost (packet_cost_kept ways at old mid kept) c.packet.ensures.cost (merges_cost_kept at old after all)
-    c.catch_up.ensures.cost
+    let kept = runs_kept ways (upkeep_calls at due.Room old) old mid c.in_ok-keep_up.ensures.runs in
+    let all = runs_kept ways (upkeep_calls at due.Room old ++ Takes at c.args.packet.now.words ∷ []) old after
+    (before_lag ways at c.args.packet.now.words old mid after c.in_ok-keep_up.ensures.runs c.packet.ensures.makes) in
+    turn_within start c.keep_up.new.steps c.packet.new.steps c.keep_up-2.new.steps (upkeeps_cost due.Lag at old)
+    (upkeeps_cost due.Lag at after) (network_cost ways at old) (network_cost ways at mid)
+    (room_is at start c.keep_up.new.steps old c.keep_up.ensures.cost) (packet_cost_kept ways at old mid kept) c.packet.ensures.cost
+    (merges_cost_kept at old after all) c.keep_up-2.ensures.cost

@@ -61,7 +61,7 @@ returns-clause-bound g c =
     let before : PipelineView = record { plan = p.plan; entries = p.entries; buckets = p.buckets; lanes = p.lanes.items } in
     let within : pipeline_cost g.row.WAYS before ≤ runs_of p.entries * plan_bound p.plan g.row.WAYS =
     packet_within c.depth_is_found.ensures c.entries_suit_folds.ensures g.row.WAYS before c.invariant.ensures c.self.invariant.lanes in
-    let row = c.fill_registers.ensures.steps in
+    let row = c.fill_registers.ensures.cost in
     let lanes : c.packet_lanes.new.steps ≤ c.fill_registers.new.steps + sum_by (lane_cost g.row.WAYS) before.lanes =
     subst (λ xs. c.packet_lanes.new.steps ≤ c.fill_registers.new.steps + sum_by (lane_cost g.row.WAYS)
     (xs)) c.deref_mut-2.ensures.value c.packet_lanes.ensures.cost in

@@ -1,0 +1,138 @@
+-- An upkeep of all fronts of a switch.
+use Rattle.std.proofs.Common.{◌≡◌, ◌≢◌, ◌+◌, ◌≤◌, ◌<◌, ◌==◌, length, take, refl, sym, ap, ◌∙◌, subst, arith, lit<}
+use Rattle.std.specs.Prelude.{sum_by}
+use Rattle.std.proofs.lemmas.Bool.Decides.{nat_tests}
+use Rattle.epoch_model.proofs.KeyLists.{by_test}
+use Rattle.switch_core.proofs.SideBySide.{got_some, sum_next}
+use Rattle.switch_core.proofs.SweepCosts.{sum_within}
+use Rattle.network.specs.Costs.{front_upkeep_cost, group_upkeep_cost}
+use Rattle.network.specs.Events.{IsLeft, upkeep_in}
+use Rattle.network.specs.Running.{NetworkRuns, RunBreaksOff, calls_of, front_at, joined_below, lane_calls}
+use Rattle.network.proofs.Calls.{front_here}
+use Rattle.network.proofs.CostSteps.{within_next}
+use Rattle.network.proofs.MakeSteps.{if_err}
+use Rattle.network.proofs.Runs.{kept_long, run_breaks, runs_kept, runs_next}
+use Rattle.network.proofs.network.Network.keep_up.Goals as goal
+
+pub loop-lane-init : goal.loop-lane-init
+loop-lane-init g c = record {
+  runs = refl;
+  still = λ n s h. refl;
+  left = λ n less. absurd (omega arith);
+  later = omega arith;
+  cost =
+      omega arith;
+}
+
+pub keep_lane-requires : goal.keep_lane-requires
+keep_lane-requires g c =
+    let at = c.args.at in
+    let old = c.args.self.now in
+    let cur = c.loop-lane.self in
+    let kept = runs_kept g.row.WAYS (joined_below c.loop-lane.lane (lane_calls at c.args.upkeep old)) old cur c.loop-lane.invariant.runs in
+    let long = kept_long old cur kept in
+    let end = c.lanes-lane-end.ensures in
+    let less = c.loop-lane-test.true in
+    (lit< tt, (subst (λ n. at < n) (sym kept.switches) c.requires, omega arith))
+
+pub loop-lane-preserved : goal.loop-lane-preserved
+loop-lane-preserved g c =
+    let ways = g.row.WAYS in
+    let at = c.args.at in
+    let upkeep = c.args.upkeep in
+    let lane = c.loop-lane.lane in
+    let old = c.args.self.now in
+    let cur = c.loop-lane.self in
+    let new = c.keep_lane.new.self in
+    let was = c.loop-lane.invariant in
+    let end = c.lanes-lane-end.ensures in
+    let less = c.loop-lane-test.true in
+    let same : front_at cur lane at ≡ front_at old lane at = was.still lane at (λ e. let l = e.0 in omega arith) in
+    let done = c.in_ok-keep_lane.ensures in
+    record {
+      runs = runs_next ways (lane_calls at upkeep old) lane old cur new was.runs
+          (subst (λ o. NetworkRuns ways (calls_of at lane (upkeep_in upkeep o)) cur new) same done.runs);
+      still = λ n s h. done.others n s (λ e. h (let i = e.0 in omega arith, e.1))
+          ∙ was.still n s (λ e. h (let l = e.0 in omega arith, e.1));
+      left = λ n h. by_test (n == lane)
+          (λ t.
+          let it : n ≡ lane = grind (arith, nat_tests) in
+          subst (λ k. IsLeft upkeep (front_at old k at) (front_at new k at)) (sym it)
+          (subst (λ o. IsLeft upkeep o (front_at new lane at)) same done.left))
+          (λ t.
+          let far : n ≢ lane = grind (arith, nat_tests) in
+          subst (IsLeft upkeep (front_at old n at)) (sym (done.others n at (λ e. far e.0))) (was.left n (let a = far in omega arith)));
+      later = let a = c.keep_lane.ensures.steps in let b = was.later in omega arith;
+      cost =
+          let most = group_upkeep_cost upkeep at in
+          let here = got_some old.groups lane (omega arith) in
+          let cost : c.keep_lane.new.steps ≤ c.loop-lane.steps + most here.0 =
+          subst (λ o. c.keep_lane.new.steps ≤ c.loop-lane.steps + front_upkeep_cost upkeep o)
+          (same ∙ front_here at lane old here.0 here.1) c.keep_lane.ensures.cost in
+          within_next c.args.steps.now c.loop-lane.steps c.keep_lane.new.steps (sum_by most (take lane old.groups)) (most here.0)
+          (sum_by most (take (lane + 1) old.groups)) (sum_next most old.groups lane here.0 here.1)
+          was.cost cost;
+    }
+
+pub returns-clause-runs : goal.returns-clause-runs
+returns-clause-runs g c =
+    let old = c.args.self.now in
+    let a = c.loop-lane-test.false in
+    let b = c.loop-lane.auto.lane-end in
+    let d = c.lanes-lane-end.ensures in
+    let end : c.loop-lane.lane ≡ length old.groups = omega arith in
+    subst (λ k. NetworkRuns g.row.WAYS (joined_below k (lane_calls c.args.at c.args.upkeep old)) old c.loop-lane.self) end
+    c.loop-lane.invariant.runs
+
+pub returns-clause-left : goal.returns-clause-left
+returns-clause-left g c n less =
+    let a = c.loop-lane-test.false in
+    let d = c.lanes-lane-end.ensures in
+    c.loop-lane.invariant.left n (omega arith)
+
+pub returns-clause-others : goal.returns-clause-others
+returns-clause-others g c n s apart = c.loop-lane.invariant.still n s (λ e. apart e.1)
+
+pub returns-clause-cost : goal.returns-clause-cost
+returns-clause-cost g c = omega (
+  arith,
+  sum_within (group_upkeep_cost c.args.upkeep c.args.at) c.loop-lane.lane c.args.self.now.groups,
+  c.loop-lane.invariant.cost,
+)
+
+pub returns-in_err-keep_lane-clause-breaks_off : goal.returns-in_err-keep_lane-clause-breaks_off
+returns-in_err-keep_lane-clause-breaks_off g c =
+    let ways = g.row.WAYS in
+    let at = c.args.at in
+    let upkeep = c.args.upkeep in
+    let lane = c.loop-lane.lane in
+    let old = c.args.self.now in
+    let cur = c.loop-lane.self in
+    let new = c.keep_lane.new.self in
+    let was = c.loop-lane.invariant in
+    let less = c.loop-lane-test.true in
+    let end = c.lanes-lane-end.ensures in
+    let same : front_at cur lane at ≡ front_at old lane at = was.still lane at (λ e. let l = e.0 in omega arith) in
+    if_err _ c.from_residual.result (run_breaks ways (lane_calls at upkeep old) lane (length old.groups) old cur new (omega arith) was.runs
+    (subst (λ o. RunBreaksOff ways (calls_of at lane (upkeep_in upkeep o)) cur new) same c.in_err-keep_lane.ensures.breaks_off))
+
+pub returns-in_err-keep_lane-clause-cost : goal.returns-in_err-keep_lane-clause-cost
+returns-in_err-keep_lane-clause-cost g c =
+    let at = c.args.at in
+    let upkeep = c.args.upkeep in
+    let lane = c.loop-lane.lane in
+    let old = c.args.self.now in
+    let was = c.loop-lane.invariant in
+    let most = group_upkeep_cost upkeep at in
+    let end = c.lanes-lane-end.ensures in
+    let less = c.loop-lane-test.true in
+    let here = got_some old.groups lane (omega arith) in
+    let same : front_at c.loop-lane.self lane at ≡ front_at old lane at = was.still lane at (λ e. let l = e.0 in omega arith) in
+    let cost : c.keep_lane.new.steps ≤ c.loop-lane.steps + most here.0 =
+    subst (λ o. c.keep_lane.new.steps ≤ c.loop-lane.steps + front_upkeep_cost upkeep o) (same ∙ front_here at lane old here.0 here.1)
+    c.keep_lane.ensures.cost in
+    let next = within_next c.args.steps.now c.loop-lane.steps c.keep_lane.new.steps (sum_by most (take lane old.groups)) (most here.0)
+    (sum_by most (take (lane + 1) old.groups)) (sum_next most old.groups lane here.0 here.1)
+    was.cost cost in
+    let all = sum_within most (lane + 1) old.groups in
+    omega arith
