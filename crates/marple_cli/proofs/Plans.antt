@@ -16,7 +16,7 @@ use Rattle.query_run.specs.Views.{views_text}
 use Rattle.query_run.proofs.ViewTexts.{tables_alone}
 use Rattle.query_run.specs.declared.driven.Driven.{Driven}
 use Rattle.plan_file.specs.Texts.{IsRefused, Says}
-use Rattle.plan_file.specs.declared.answer.PlanFileAnswer.TheVariants.{Refused}
+use Rattle.query_lang.specs.declared.error.QueryError.TheVariants.{Refused}
 use Rattle.plan_file.specs.declared.made.Made.{Made}
 use Rattle.plan_file.proofs.AnswerFacts.{nowhere, only_answer}
 use Rattle.plan_file.proofs.LineLaws.{makes_one}

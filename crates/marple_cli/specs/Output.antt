@@ -31,7 +31,7 @@ use Rattle.driven_net.specs.NetTraces.{net_packets, net_trace_fault}
 use Rattle.enclosed_query.specs.EnclosedTables.{enclose_text}
 use Rattle.plan_writer.specs.PlanText.{compiled_text, final_fault}
 use Rattle.plan_file.specs.Texts.{IsRefused, Says}
-use Rattle.plan_file.specs.declared.answer.PlanFileAnswer.TheVariants.{Refused}
+use Rattle.query_lang.specs.declared.error.QueryError.TheVariants.{Refused}
 use Rattle.plan_file.specs.declared.made.Made.{Made}
 use Rattle.plan_loader.specs.Meaning.{plan_output, reads_in}
 use Rattle.accepted_query.specs.TrialQuery.{trial_query}

@@ -1,7 +1,7 @@
 -- The reading of a text.
 use Rattle.std.specs.Prelude.{◌≡◌, ℕ, List, Ok, Err}
 use Rattle.query_lang.specs.Checks.{Checked}
-use Rattle.plan_file.specs.declared.answer.PlanFileAnswer.TheVariants.{Refused}
+use Rattle.query_lang.specs.declared.error.QueryError.TheVariants.{Refused}
 use Rattle.plan_file.specs.declared.made.Made.{Made}
 use Rattle.plan_file.specs.Texts.{IsRefused, Says}
 

@@ -25,7 +25,7 @@ pub record KeepsKeys (partition : Partition) (q : TypedQuery) (i : ℕ) : Type 0
   pub part_of : Key → ℕ
   pub goes : (words : List ℕ) → length words ≡ 14 → All (λ u. partition words ≡ part_of u.key) (uses q i (words ∷ []))
 
--- these are the parts of all packets, and perhaps others, each once
+-- the list has the part of each packet, and perhaps other parts, each once
 pub record AreTheParts (partition : Partition) (packets : List (List ℕ)) (parts : List ℕ) : Type 0 where
   pub apart : AreApart parts
   pub each : All (λ words. has_number (partition words) parts ≡ true) packets

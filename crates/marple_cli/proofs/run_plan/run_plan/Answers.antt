@@ -9,7 +9,7 @@ use Rattle.trace_reader.specs.Traces.{Contents, contents}
 use Rattle.command_line.specs.declared.command.Command.TheVariants.{RunPlan}
 use Rattle.query_run.specs.Driven.{geometry_of, pipeline_in}
 use Rattle.plan_file.specs.Texts.{IsRefused}
-use Rattle.plan_file.specs.declared.answer.PlanFileAnswer.TheVariants.{Refused}
+use Rattle.query_lang.specs.declared.error.QueryError.TheVariants.{Refused}
 use Rattle.plan_loader.specs.Meaning.{plan_output}
 use Rattle.query_run.specs.Views.{views_text}
 use Rattle.marple_cli.proofs.Ending.{driven_kept, operand_ends_it, operand_not_ok, trace_not_ok}
