@@ -38,9 +38,11 @@ class Tree(checks.Test):
             shutil.copytree(TOP / name, self.tree / name, ignore=shutil.ignore_patterns("__pycache__"))
         for name in FILES:
             shutil.copy2(TOP / name, self.tree / name)
-        put(self.tree / "crates.txt", "marple:\n")
-        put(self.tree / "crates/marple/src/main.rt", "main\n")
-        self.program = put(self.tree / "crates/marple/out/marple", PROGRAM, executable=True)
+        put(self.tree / "crates.txt", "marple:\nmarple_tools:\n")
+        for name in ("marple", "marple_tools"):
+            put(self.tree / f"crates/{name}/src/main.rt", "main\n")
+            put(self.tree / f"crates/{name}/out/{name}", PROGRAM, executable=True)
+        self.program = self.tree / "crates/marple/out/marple"
         # another program that the environment names isn't the one that was installed
         self.environment = {name: value for name, value in os.environ.items() if name != "MARPLE"}
         self.environment["PATH"] = f"{self.prefix}/bin:/usr/local/bin:/usr/bin:/bin"

@@ -1,4 +1,4 @@
-"""The crates that the program stands on, as crates.txt lists them, and what each is made from."""
+"""The crates that the programs stand on, as crates.txt lists them, and what each is made from."""
 
 from __future__ import annotations
 
@@ -9,7 +9,6 @@ from graphlib import CycleError, TopologicalSorter
 from pathlib import Path
 from typing import Dict, Iterator, List, Tuple
 
-PROGRAM = "marple"
 SOURCES = ("src", "specs", "proofs")
 
 
@@ -38,6 +37,11 @@ class Crate:
     def program(self) -> Path:
         """The program of a crate that is one."""
         return self.folder / "out" / self.name
+
+    @property
+    def command(self) -> str:
+        """The name of the program of a crate that is one: names of crates have no `-`."""
+        return self.name.replace("_", "-")
 
     def sources(self) -> Iterator[Path]:
         for part in SOURCES:
@@ -68,6 +72,11 @@ def read_crates(top: Path) -> Dict[str, Crate]:
     }
 
 
+def programs_of(crates: Dict[str, Crate]) -> List[Crate]:
+    """Returns the crates that are programs, as crates.txt lists them."""
+    return [it for it in crates.values() if it.is_program]
+
+
 def in_order(crates: Dict[str, Crate]) -> List[Crate]:
     """Returns all crates, each after those that it names."""
     try:
@@ -85,11 +94,14 @@ def with_those_below(name: str, order: List[Crate]) -> List[Crate]:
     return [it for it in order if it.name in found]
 
 
-def needed(crates: Dict[str, Crate], name: str) -> List[Crate]:
-    """Returns the crate of this name and all that it stands on, each after those that it names."""
-    if name not in crates:
-        raise Unreadable(f"crates.txt: there is no line for {name}")
-    return with_those_below(name, in_order(crates))
+def needed(crates: Dict[str, Crate], *names: str) -> List[Crate]:
+    """Returns the crates of these names and all that they stand on, each after those that it names."""
+    for name in names:
+        if name not in crates:
+            raise Unreadable(f"crates.txt: there is no line for {name}")
+    order = in_order(crates)
+    found = {it.name for name in names for it in with_those_below(name, order)}
+    return [it for it in order if it.name in found]
 
 
 def sum_of(file: Path) -> str:

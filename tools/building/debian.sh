@@ -20,15 +20,18 @@ follow_debian() {
     gzip -9n "$1"/usr/share/man/man1/*.1 || fail "cannot compress the manual pages"
     write_changelog "$1/usr/share/doc/marple"
     mkdir -p "$1/usr/share/lintian/overrides" || fail "cannot make $1/usr/share/lintian"
-    cat >"$1/usr/share/lintian/overrides/marple" <<END
-# The program is the file that the toolchain made when it was proved, byte for byte.
-marple: unstripped-binary-or-object [usr/bin/marple]
-END
+    {
+        echo "# Each program is the file that the toolchain made when it was proved, byte for byte."
+        program_names | sed 's|.*|marple: unstripped-binary-or-object [usr/bin/&]|'
+    } >"$1/usr/share/lintian/overrides/marple"
 }
 
-# The least version of the C library that the program $1 needs: the greatest one that a name which it takes from there has.
+# The least version of the C library that the programs in the folder $1 need: the greatest one that a name which they take from there
+# has.
 least_libc() {
-    grep -aoE 'GLIBC_[0-9]+(\.[0-9]+)+' "$1" | sed 's/^GLIBC_//' | sort -V | tail -n 1
+    program_names | while read -r name; do
+        grep -aoE 'GLIBC_[0-9]+(\.[0-9]+)+' "$1/$name"
+    done | sed 's/^GLIBC_//' | sort -V | tail -n 1
 }
 
 # How many KiB the files below the folder $1 take, as dpkg counts them.
@@ -45,7 +48,7 @@ Version: $version
 Architecture: amd64
 Maintainer: $maintainer
 Installed-Size: $(installed_size "$1/usr")
-Depends: libc6 (>= $(least_libc "$1/usr/bin/marple"))
+Depends: libc6 (>= $(least_libc "$1/usr/bin"))
 Recommends: python3 (>= 3.10), python3-jinja2, python3-matplotlib, sqlite3, tshark
 Suggests: python3-distributed, python3-pandas
 Section: net

@@ -12,7 +12,7 @@ import sys
 from pathlib import Path
 from typing import List, NamedTuple, Optional
 
-from building.crates import PROGRAM, SOURCES, Crate, Unreadable, digests, needed, read_crates, sum_of
+from building.crates import SOURCES, Crate, Unreadable, digests, needed, read_crates, sum_of
 
 # The toolchain of a program that the gate made.
 OF_THE_GATE = "unknown"
@@ -82,13 +82,13 @@ def is_proved(order: List[Crate], toolchain: Optional[str] = None) -> bool:
     return True
 
 
-def main(top: str) -> int:
-    """Has the status 0 if the program of the repository in this folder is proved."""
+def main(top: str, name: str) -> int:
+    """Has the status 0 if the program of the crate of this name, of the repository in this folder, is proved."""
     try:
-        return 0 if is_proved(needed(read_crates(Path(top)), PROGRAM)) else 1
+        return 0 if is_proved(needed(read_crates(Path(top)), name)) else 1
     except (OSError, Unreadable):
         return 1
 
 
 if __name__ == "__main__":
-    sys.exit(main(sys.argv[1]))
+    sys.exit(main(sys.argv[1], sys.argv[2]))

@@ -11,7 +11,7 @@ import time
 from dataclasses import dataclass
 from typing import Dict, List, Set
 
-from building.crates import Crate, digest, digests
+from building.crates import Crate, digest, digests, with_those_below
 from building.estimate import Cost, chains, clock_seconds, jobs_of, pace, seconds_to_go, still_to_go, time_to_go
 from building.machine import Machine
 from building.progress import Progress
@@ -27,7 +27,7 @@ SECONDS_TO_END = 5.0
 
 
 class Failed(Exception):
-    """A crate isn't proved, or the program isn't built."""
+    """A crate isn't proved, or a program isn't built."""
 
 
 @dataclass(frozen=True, eq=False)
@@ -63,7 +63,8 @@ class Proving:
     def is_kept(self, crate: Crate) -> bool:
         """Is what an earlier call made of the crate there, from the sources of now?"""
         if crate.is_program:
-            return (crate.folder / INCREMENTAL).is_dir() and is_proved(self.order, self.toolchain.version)
+            order = with_those_below(crate.name, self.order)
+            return (crate.folder / INCREMENTAL).is_dir() and is_proved(order, self.toolchain.version)
         kept = crate.folder / KEPT / "sources"
         made = crate.folder / KEPT / f"{crate.name}.rlib"
         return made.exists() and kept.is_file() and kept.read_text(encoding="utf-8") == self.sums[crate.name]

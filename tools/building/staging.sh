@@ -2,6 +2,14 @@
 # the version in $version and a function `fail`: below $room/stage is then what goes below a prefix.
 # shellcheck shell=sh
 : "${top:?}" "${room:?}" "${version:?}"
+# The proved programs, a line each: the name in bin, and the file. Each of them may have a manual page docs/NAME.1.
+programs='
+marple crates/marple/out/marple
+marple-tools crates/marple_tools/out/marple_tools
+'
+
+# The pages that are about the repository, and aren't installed.
+about_repository='ARCHITECTURE|CHANGING|DECISIONS|TESTING'
 
 # Puts the file $1 of the repository at $2 below the stage, with the mode $3.
 stage() {
@@ -32,10 +40,14 @@ stage_files() {
     done
 }
 
-# Puts the page $1 of the repository at $2 below the stage, with the commands of the installed programs.
+# Puts the page $1 of the repository at $2 below the stage, with the commands of the installed programs. A link to a page that isn't
+# installed becomes its words.
 stage_page() {
     mkdir -p "$room/stage/${2%/*}" || fail "cannot make ${2%/*}"
-    sed -E -f "$top/tools/building/installed.sed" "$top/$1" >"$room/stage/$2" || fail "cannot copy $1"
+    if ! { sed -E -f "$top/tools/building/installed.sed" "$top/$1" >"$room/page" &&
+        sed -zE "s#\[([^]]*)\]\([a-z./]*($about_repository)\.md[^)]*\)#\1#g" "$room/page" >"$room/stage/$2"; }; then
+        fail "cannot copy $1"
+    fi
 }
 
 # Puts a command $1 into bin, which starts the script $2 of share/marple.
@@ -48,14 +60,23 @@ END
     chmod 755 "$room/stage/bin/$1"
 }
 
-# Puts the program, the scripts, and what they read.
+# The names of the proved programs.
+program_names() {
+    printf '%s' "$programs" | sed -n 's/ .*//p'
+}
+
+# Puts the programs, the scripts, and what they read.
 stage_programs() {
-    stage crates/marple/out/marple bin/marple 755
-    # explain looks for marple and for the remedies beside itself
+    while read -r name file; do
+        [ -z "$name" ] || stage "$file" "bin/$name" 755
+    done <<END
+$programs
+END
+    # explain looks for marple and for the remedies where it is itself
     stage explain share/marple/explain 755
     stage_link ../../bin/marple share/marple/marple
     stage_files tools/query_help share/marple/query_help '*.py'
-    stage_page docs/LANGUAGE.md share/marple/docs/LANGUAGE.md
+    stage_page docs/ERRORS.md share/marple/docs/ERRORS.md
     stage_command marple-explain explain
     stage_files examples/captures share/marple/captures '*.pcap' '*.csv' '*.txt'
     stage_files tools/captures share/marple/captures 'trace-from-*'
@@ -111,15 +132,14 @@ stage_pages() {
     stage_page README.md $doc/README.md
     stage_page CHANGES.md $doc/CHANGES.md
     (cd "$top" && find docs -name '*.md' -o -name '*.png' | sort) >"$room/pages"
+    grep -vE "^docs/($about_repository)\.md\$" "$room/pages" >"$room/installed-pages"
     while IFS= read -r page; do
         case $page in
-        # these are about the repository
-        docs/ARCHITECTURE.md | docs/CHANGING.md | docs/DECISIONS.md | docs/TESTING.md) ;;
-        docs/LANGUAGE.md) stage_link "../../../marple/$page" "$doc/$page" ;;
+        docs/ERRORS.md) stage_link "../../../marple/$page" "$doc/$page" ;;
         *.png) stage "$page" "$doc/$page" 644 ;;
         *) stage_page "$page" "$doc/$page" ;;
         esac
-    done <"$room/pages"
+    done <"$room/installed-pages"
     stage_files examples $doc/examples '*.query' '*.csv'
     stage_link ../../../marple/cookbook $doc/examples/cookbook
     stage_link ../../../marple/captures $doc/examples/captures

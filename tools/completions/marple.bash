@@ -92,6 +92,14 @@ _marple_trace_from_capture() {
     esac
 }
 
+_marple_tools() {
+    case ${COMP_WORDS[COMP_CWORD - 1]} in
+    marple-tools) _marple_words "${COMP_WORDS[COMP_CWORD]}" split ;;
+    --parts | --salt) COMPREPLY=() ;;
+    *) _marple_files_or "${COMP_WORDS[COMP_CWORD]}" --parts --into --salt ;;
+    esac
+}
+
 _marple_quads() {
     _marple_words "${COMP_WORDS[COMP_CWORD]}" --add
 }
@@ -120,6 +128,7 @@ _marple_report() {
 }
 
 complete -F _marple marple
+complete -F _marple_tools marple-tools
 complete -F _marple_explain marple-explain
 complete -F _marple_trace_from_captures marple-trace-from-captures
 complete -F _marple_trace_from_capture marple-trace-from-capture

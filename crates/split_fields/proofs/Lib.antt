@@ -1,0 +1,3 @@
+pub mod KeyFacts
+pub mod PieceFacts
+pub mod SetFacts

@@ -1,0 +1,25 @@
+-- What a call of the second program is about.
+use Rattle.std.specs.Prelude.{◌≡◌, List, Option, Some, String, map, string_bytes, ⊤}
+use Rattle.marple_base.specs.declared.inputs.Which.TheVariants.{Trace}
+use Rattle.tools_cli.specs.Command.{asked}
+use Rattle.tools_cli.specs.declared.command.SplitSetting.{SplitSetting}
+use Rattle.tools_cli.specs.declared.command.ToolCommand.{ToolCommand}
+use Rattle.tools_cli.specs.declared.command.ToolCommand.TheVariants.{Split}
+use Rattle.tools_cli.specs.declared.status.ToolStatus.{ToolStatus}
+use Rattle.tools_cli.specs.declared.status.ToolStatus.TheVariants as tools
+
+-- the command that the words of a command line ask for
+abbrev pub asked_by : {A : Type 0} → List (String A) → Option ToolCommand
+asked_by words = asked (map string_bytes words)
+
+-- P holds of the setting, where a splitting is asked for.
+abbrev pub WhereSplit : Option ToolCommand → (SplitSetting → Type 0) → Type 0
+WhereSplit asked P = (setting : SplitSetting) → asked ≡ Some (Split setting) → P setting
+
+-- the status comes after a query by whose fields traces may be split
+abbrev pub IsAfterQuery : ToolStatus → Type 0
+IsAfterQuery tools.Ok = ⊤
+IsAfterQuery (tools.InputFault Trace) = ⊤
+IsAfterQuery (tools.TraceRefused fault) = ⊤
+IsAfterQuery tools.OutputFault = ⊤
+IsAfterQuery status = ⊥

@@ -1,0 +1,11 @@
+pub mod AddFacts
+pub mod CountFacts
+pub mod CutFacts
+pub mod HoldFacts
+pub mod ListFacts
+pub mod ReachFacts
+pub mod RestFacts
+pub mod RunFacts
+pub mod SendFacts
+pub mod SettingFacts
+pub mod TraceFacts
