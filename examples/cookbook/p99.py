@@ -14,13 +14,13 @@ import marple
 
 trace, *picture = sys.argv[1:]
 table = marple.run(Path(__file__).with_name("histogram.query"), trace)["r"].to_pandas(addresses=True)
-packets = table["packets"].droplevel(["dstip", "dstport", "proto"]).unstack("ms", fill_value=0).sort_index(axis="columns")
+packets = table["packets"].unstack("ms", fill_value=0).sort_index(axis="columns")
 upto, total = packets.cumsum(axis="columns"), packets.sum(axis="columns")
 within = {f"p{p}": (100 * upto).ge(p * total, axis="index").idxmax(axis="columns") for p in (50, 95, 99)}
 percentiles = pandas.DataFrame(within)
 print(percentiles.reset_index().to_string(index=False))
 if picture:
-    named = percentiles.set_axis([f"{address}:{port}" for address, port in percentiles.index])
+    named = percentiles.set_axis([f"{srcip}:{srcport} to {dstip}:{dstport}" for srcip, dstip, srcport, dstport, _ in percentiles.index])
     axes = named.plot.barh(width=0.7, figsize=(7, 3))
     axes.invert_yaxis()
     axes.set_axisbelow(True)

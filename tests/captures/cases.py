@@ -163,13 +163,16 @@ def join_runs(left: list[tuple[int, Packet]]) -> list[tuple[int, Packet]]:
     return found
 
 
-def bulk(name: str, seed: int, sent: int, **how) -> tuple[World, Case]:
-    """A bulk transfer of packets of `sent` pieces to a receiver that joins them; a record leaves when its joined packet does."""
+def bulk(name: str, seed: int, sent: int, odd: int = -1, **how) -> tuple[World, Case]:
+    """A bulk transfer of packets of `sent` pieces to a receiver that joins them; a record leaves when its joined packet does.
+
+    The packet of the number `odd` is one of 936 bytes.
+    """
     world = World(seed, limit=30)
     time = START
     for number in range(60):
         time += int(world.random.expovariate(1 / (sent * 2.6e6)))
-        packet = world.next_packet("10.0.1.1", sent * 1448 - (700 if number % 7 == 3 else 0))
+        packet = world.next_packet("10.0.1.1", 936 if number == odd else sent * 1448 - (700 if number % 7 == 3 else 0))
         rows = world.send(time, packet, piece=1448, join=join_runs)
         together = join_runs([(row.left, row.packet) for row in rows if row.left is not None])
         for row in rows:
@@ -178,12 +181,14 @@ def bulk(name: str, seed: int, sent: int, **how) -> tuple[World, Case]:
     return world, world.case(name, **how)
 
 
-def both_ends() -> Case:
-    """Offload at both ends: nowhere are the packets those of the link."""
-    world, case = bulk("both-ends", 11, 10)
-    joins = [frame for frame in case.after if frame.length > 1514]
-    cut = [joined("before", 60, len(world.rows)), joined("after", len(joins), pieces_of(joins))]
-    return replace(case, messages=[world.counts(), *cut])
+def both_ends() -> Iterator[Case]:
+    """Offload at both ends: nowhere are the packets those of the link, or only one that isn't a full one."""
+    for name, odd in (("both-ends", -1), ("one-apart", 30)):
+        world, case = bulk(name, 11, 10, odd)
+        joins = [frame for frame in case.after if frame.length > 1514]
+        alone = odd >= 0
+        cut = [joined("before", 60 - alone, len(world.rows) - alone), joined("after", len(joins), pieces_of(joins))]
+        yield replace(case, messages=[world.counts(), *cut])
 
 
 def pieces_of(frames: list[Frame]) -> int:
@@ -249,5 +254,6 @@ def late_before() -> Case:
 def trace_cases() -> Iterator[Case]:
     """Cases that have a trace without an option."""
     for make in (ordinary, one_sided, tagged, other_protocols, no_link, fragments, twice, wrapped, offload,
-                 datagrams, both_ends, joined_after, late_after, early_end, late_before):
+                 datagrams, joined_after, late_after, early_end, late_before):
         yield make()
+    yield from both_ends()

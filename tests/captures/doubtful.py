@@ -3,7 +3,7 @@
 from collections.abc import Iterator
 from dataclasses import replace
 
-from cases import BUSY, MSECS, busy, left_out, near_end, ordinary
+from cases import BUSY, MSECS, busy, joined, left_out, near_end, ordinary
 from refusals import CONSTANT, clock, latencies, refused, with_option
 from synthesize import RECEIVER, START, TCP, UDP, Case, Packet, Row, World
 
@@ -68,6 +68,100 @@ def nothing_left() -> Iterator[Case]:
     case = refused(world.case("nothing-left"), "nothing-left", reason)
     yield case
     yield with_option(case, "nothing-left-by-force", ("--force",), messages=[world.counts(), f"by force: {reason}"])
+
+
+def nothing_came() -> Case:
+    """No packet before the queue."""
+    world, _ = busy(53, 40)
+    world.before, world.rows = [], []
+    return refused(world.case("nothing-came"), "nothing-came", "before.pcap.gz has no packets, so nothing says what came")
+
+
+def everywhere() -> Iterator[Case]:
+    """Captures on all interfaces of a router, which have a packet as it comes and as it leaves."""
+    world, _ = busy(51, 120)
+    both = world.before + world.after
+    right = world.before, world.after
+    several = ("has most of its packets several times, as all interfaces (-i any) and a mirror of both directions show them: take "
+               "it on one interface")
+    for name, taps, which in (("everywhere", (both, both), "before"), ("everywhere-before", (both, right[1]), "before"),
+                              ("everywhere-after", (right[0], both), "after")):
+        world.before, world.after = ([replace(frame, time=frame.time + late) for frame in tap]
+                                     for tap, late in zip(taps, (0, 2000), strict=True))
+        yield refused(world.case(name), name, f"{which}.pcap.gz {several}")
+
+
+def not_through_the_queue() -> Iterator[Case]:
+    """Packets to another link, to the router itself and a few back, and to many: they aren't lost."""
+    world, _ = busy(55)
+    rows, others = list(world.rows), []
+    for place, row in enumerate(rows):
+        for target, every in (("10.0.3.7", 3), ("10.0.1.254", 5), ("224.0.0.251", 90)):
+            if place % every == 1:
+                packet = replace(row.packet, source="10.0.1.2", target=target)
+                others.append(Row(world.see(world.before, row.came + every, packet), packet, row.came + every, None))
+                if target == "10.0.1.254" and place % 25 == 1:
+                    world.see(world.before, row.came + 1000, replace(packet, source=target, target="10.0.1.2"))
+    back = sum(1 for frame in world.before if frame.data[26:30] == bytes((10, 0, 1, 254)))
+    said = (f"left out, since none of the same addresses left: {len(others) + back} packets (10.0.1.2 to 10.0.1.254 and 3 more); if "
+            "they go through this queue, name all senders by --direction")
+    case = world.case("not-through-the-queue", messages=[world.counts(), said, *near_end(world)], checked=False)
+    yield case
+    world.rows = sorted(rows + others, key=lambda row: row.came)
+    out = left_out(back, 0, "10.0.1.254 to 10.0.1.2")
+    said = (f"{len(others)} packets of which none of the same addresses left (10.0.1.2 to 10.0.1.254 and 2 more): counted as lost, but "
+            "they may not go through this queue")
+    yield with_option(case, "through-the-queue-all-the-same", ("--direction", "10.0.1.0/29"), rows=world.rows,
+                      messages=[world.counts(), out, said, *near_end(world)])
+
+
+def shared_queue() -> Case:
+    """A queue that packets of another link go through too."""
+    world, _ = busy(56)
+    for row in world.rows[9::4]:
+        world.see(world.after, row.came, replace(row.packet, source="10.0.9.9"))
+    count, left = len(world.rows[9::4]), sum(1 for row in world.rows if row.left is not None)
+    reason = (f"{count} of {count + left} packets after the queue match none before it, nearly all of addresses that aren't in "
+              "before.pcap.gz (10.0.9.9 to 10.0.2.2): take both captures at one queue, or if it has packets of other links too, name "
+              "the senders of this one by --direction")
+    return refused(world.case("shared-queue"), "shared-queue", reason)
+
+
+def stood_still() -> Iterator[Case]:
+    """A second capture that has nothing for a while, and one that has answers meanwhile and so shows that the queue lost packets."""
+    for name, answers in (("stood-still", False), ("lost-in-a-row", True)):
+        world = World(57, limit=1000)
+        count = world.traffic(240, answers=True)
+        begin, end = world.rows[100].came, world.rows[160].came
+        world.after = [frame for frame in world.after
+                       if not begin <= frame.time < end or (answers and frame.data[26:30] == bytes((10, 0, 2, 2)))]
+        unseen = [row for row in world.rows if row.left is not None and begin <= row.left < end]
+        for row in unseen:
+            row.left = None
+        latest = max(row.left for row in world.rows if row.left is not None and row.left < begin)
+        silent = [row.came for row in unseen if row.came > latest]
+        back = sum(1 for frame in world.after if frame.data[26:30] == bytes((10, 0, 2, 2)))
+        note = (f"{len(silent)} packets in a row came within {(silent[-1] - silent[0]) / 1e9:.6f} s, "
+                f"{(silent[0] - world.rows[0].came) / 1e9:.6f} s after the first, while after.pcap.gz has none: counted as lost, but it "
+                "may have stood still")
+        yield world.case(name, messages=[world.counts(), left_out(count, back), *([] if answers else [note])], checked=False)
+
+
+def set_back() -> Iterator[Case]:
+    """A clock that was set back by five seconds while both captures ran, or one of them."""
+    for name, both in (("set-back", True), ("set-back-after", False)):
+        world, _ = busy(58, 120)
+        case = world.case(name, kept_order=True)
+        middle = world.rows[60].came
+        for tap in (world.before, world.after) if both else (world.after,):
+            tap.sort(key=lambda frame: frame.time)
+            for frame in tap:
+                frame.time -= 5 * 10**9 * (frame.time >= middle)
+        tap, which = (world.before, "before") if both else (world.after, "after")
+        back = max(one.time - other.time for one, other in zip(tap, tap[1:]))
+        reason = (f"the times of {which}.pcap.gz go back by {back / 1e9:.6f} s: its clock was set while it ran, or it was joined of parts "
+                  "in another order")
+        yield refused(case, name, reason)
 
 
 def copied() -> Case:
@@ -162,6 +256,61 @@ def cut_short() -> Case:
     return world.case("cut-short", messages=[note, world.counts()], missing=30, checked=False)
 
 
+def lost_whole() -> Iterator[Case]:
+    """A queue that takes packets of up to 4396 bytes whole and cuts longer ones; one that it would take whole is lost, where others
+    like it leave, and where none does."""
+    for name, others in (("lost-whole", 4344), ("lost-whole-alone", 2896)):
+        world, time = World(59, limit=1000), START
+        for number in range(120):
+            time += int(world.random.expovariate(1 / (6 * BUSY)))
+            source, payload = (("10.0.1.1", others), ("10.0.1.2", 2896), ("10.0.1.2", 7240), ("10.0.1.1", 700))[number % 4]
+            world.send(time, world.next_packet(source, payload), piece=1448 if payload > 4344 else 0)
+        (lost,) = world.send(time + MSECS, world.next_packet("10.0.1.2", 4344))
+        world.after.pop()
+        lost.left = None
+        for _ in range(3):
+            world.send(time + 2 * MSECS, world.next_packet("10.0.1.2", 2896))
+        cut = sum(1 for frame in world.before if frame.length == 7240 + 66)
+        long = sum(1 for row in world.rows if row.packet.length > 1500)
+        messages = [world.counts(), joined("before", cut, 5 * cut), f"{long} packets {SPLIT}"]
+        yield world.case(name, messages=messages, longest=4396)
+
+
+def ended_before_long_ones() -> Case:
+    """A second capture that ends before the first long packet leaves: nothing says that offload joined what came later."""
+    world = World(52, limit=30)
+    time = START
+    for number in range(120):
+        time += int(world.random.expovariate(1 / (2 * BUSY)))
+        world.send(time, world.next_packet("10.0.1.1", 2896 if number > 60 else 700))
+    end = world.rows[60].came
+    world.after = [frame for frame in world.after if frame.time < end]
+    seen = [row for row in world.rows if row.came <= max(frame.time for frame in world.after)]
+    late = len(world.rows) - len(seen)
+    world.rows = [replace(row, left=row.left if row.left is not None and row.left < end else None) for row in seen]
+    note = f"{late} packets came after after.pcap.gz ends: left out, since nothing says what left then"
+    return world.case("ended-before-long-ones", checked=False, messages=[world.counts(), note, *near_end(world)])
+
+
+class Headless(Packet):
+    """A TCP packet of whose header the length isn't known, so that it counts as payload."""
+
+    header = 20
+
+
+def cut_off() -> Case:
+    """Snapshots that end inside TCP's header, after the sequence number."""
+    world, _ = busy(54, 80)
+    for frame in world.before + world.after:
+        frame.data = frame.data[:42]
+    said = "packets: what it lacks of addresses, ports, tcpseq and payload_len is wrong in the trace; take snapshots of 96 bytes (-s 96)"
+    messages = [f"{name}.pcap.gz has only a part of the headers of {len(tap)} {said}"
+                for name, tap in (("before", world.before), ("after", world.after))]
+    for row in world.rows:
+        row.packet = Headless(**vars(row.packet) | {"payload": row.packet.length - Headless.header})
+    return world.case("cut-off", checked=False, dissected=True, messages=[*messages, world.counts(), *near_end(world)])
+
+
 def marked() -> Iterator[Case]:
     """Datagrams whose identification is always 0: their checksums tell them apart, whatever the time in the queue."""
     world, time = World(49), START
@@ -183,6 +332,12 @@ def doubtful_cases() -> Iterator[Case]:
     yield drifting("clock-loses", 42, -15)
     yield filled()
     yield from nothing_left()
+    yield nothing_came()
+    yield from everywhere()
+    yield from not_through_the_queue()
+    yield shared_queue()
+    yield from stood_still()
+    yield from set_back()
     yield copied()
     yield from elsewhere()
     yield swapped_answers()
@@ -190,4 +345,7 @@ def doubtful_cases() -> Iterator[Case]:
     yield from slow_clock_both_ways()
     yield from long_ones()
     yield cut_short()
+    yield from lost_whole()
+    yield ended_before_long_ones()
+    yield cut_off()
     yield from marked()

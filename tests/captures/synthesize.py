@@ -107,16 +107,17 @@ class Case:
     dissected: bool = False  # whether tshark has to dissect IP
     link: int = 1  # the kind of the link: Ethernet
     turned: int = 0  # the place of a frame before the queue that stands behind the next one
+    kept_order: bool = False  # whether the frames stand in the captures in their order here, and not by time
     missing: int = 0  # bytes that the capture before the queue lacks at its end
 
     def write(self, folder: Path) -> None:
         """Writes both captures."""
         write_capture(folder / "before.pcap.gz", self.came(), self.link, self.missing)
-        write_capture(folder / "after.pcap.gz", by_time(self.after), self.link)
+        write_capture(folder / "after.pcap.gz", self.after if self.kept_order else by_time(self.after), self.link)
 
     def came(self) -> list[Frame]:
         """The frames before the queue in the order of the capture."""
-        frames = by_time(self.before)
+        frames = list(self.before) if self.kept_order else by_time(self.before)
         if self.turned:
             frames[self.turned - 1 : self.turned + 1] = reversed(frames[self.turned - 1 : self.turned + 1])
         return frames

@@ -14,8 +14,9 @@ from marple_captures.records import TCP, UDP, Packet, Spool
 
 ETHERNET = 1500  # the length of a packet on most links
 SMALLEST = 500  # a payload below this is taken for no full piece
+CANDIDATES = 8  # payloads of a flow that may be that of a full piece
 STARTS = 8192  # how many beginnings of long packets are looked for in the other capture
-STARTS_OF_FLOW = 16  # and how many of one flow
+STARTS_OF_LENGTH = 8  # and how many of one flow and length
 
 START = Struct(">4s4sIIHB")
 Flow = tuple[bytes, bytes, int, int]
@@ -100,18 +101,22 @@ def commonest(counters: dict[Flow, Counter[int]]) -> dict[Flow, int]:
 
 
 def long_starts(joined: Spool, is_long: Callable[[Packet], bool]) -> dict[bytes, int]:
-    """Where long packets begin, with their payloads: some of each flow."""
+    """Where long packets begin, with their payloads: some of each flow and length."""
     starts: dict[bytes, int] = {}
-    of_flow: Counter[Flow] = Counter()
+    of_length: Counter[tuple[Flow, int]] = Counter()
     for packet in joined.read():
-        if is_long(packet) and of_flow[flow_of(packet)] < STARTS_OF_FLOW and len(starts) < STARTS:
-            of_flow[flow_of(packet)] += 1
+        if is_long(packet) and of_length[flow_of(packet), packet.length] < STARTS_OF_LENGTH and len(starts) < STARTS:
+            of_length[flow_of(packet), packet.length] += 1
             starts[start_of(packet)] = packet.payload
     return starts
 
 
 def as_the_other_shows(joined: Spool, apart: Spool) -> SizeFor | None:
-    """Cuts packets of `joined` that are longer than any of `apart`, to the length of those that begin there where they begin."""
+    """Cuts packets of `joined` that are longer than any of `apart`, to the length of those that begin there where they begin.
+
+    Where `apart` has packets longer than Ethernet's, it cuts only those that are as long as one of the flow that is seen to be cut:
+    a shorter one may have been lost whole.
+    """
     longest = apart.longest
     if not longest or joined.longest <= min(longest, ETHERNET):
         return None
@@ -126,37 +131,49 @@ def as_the_other_shows(joined: Spool, apart: Spool) -> SizeFor | None:
     starts = long_starts(joined, is_long)
     lengths: Counter[int] = Counter()
     counters: dict[Flow, Counter[int]] = {}
+    least: dict[Flow, int] = {}  # the payload from which on a flow's packets are known to be cut
     for packet in apart.read():
-        if can_be_cut(packet) and 0 < packet.payload < starts.get(start_of(packet), 0):
-            counters.setdefault(flow_of(packet), Counter())[packet.payload] += 1
+        payload = starts.get(start_of(packet), 0)
+        if can_be_cut(packet) and 0 < packet.payload < payload:
+            flow = flow_of(packet)
+            counters.setdefault(flow, Counter())[packet.payload] += 1
             lengths[packet.length] += 1
+            least[flow] = min(payload, least.get(flow, payload))
+    if not lengths:
+        return None
     sizes = commonest(counters)
-    length = lengths.most_common(1)[0][0] if lengths else min(longest, ETHERNET)
+    length = lengths.most_common(1)[0][0]
 
     def size_for(packet: Packet) -> int:
-        if not is_long(packet):
+        flow = flow_of(packet)
+        if not is_long(packet) or (longest > ETHERNET and packet.payload < least.get(flow, 0)):
             return 0
-        return sizes.get(flow_of(packet), length - packet.header if packet.length > longest else 0)
+        return sizes.get(flow, length - packet.header if packet.length > longest else 0)
 
     return size_for
 
 
+def likeliest_size(joined: Counter[int], apart: Counter[int], most: int) -> int:
+    """The payload of a flow's pieces: the one of which most joined payloads are multiples, then the commonest, then the greatest."""
+    sizes = {most, *(size for size, _ in apart.most_common(CANDIDATES))}
+    return max(sizes, key=lambda size: (sum(count for payload, count in joined.items() if payload % size == 0), apart[size], size))
+
+
 def to_ethernet(before: Spool, after: Spool) -> SizeFor:
-    """Cuts what is longer than Ethernet's packets to the commonest full payload of the flow, for two captures with offload."""
+    """Cuts what is longer than Ethernet's packets to the likeliest full payload of the flow, for two captures with offload."""
     both = (before, after)
-    joined = {flow_of(packet) for spool in both for packet in spool.read() if packet.length > ETHERNET and can_be_cut(packet)}
+    joined: dict[Flow, Counter[int]] = {}
+    headers: dict[Flow, int] = {}
+    for packet in (packet for spool in both for packet in spool.read()):
+        if packet.length > ETHERNET and can_be_cut(packet):
+            joined.setdefault(flow_of(packet), Counter())[packet.payload] += 1
+            headers[flow_of(packet)] = packet.header
     counters: dict[Flow, Counter[int]] = {flow: Counter() for flow in joined}
     for packet in (packet for spool in both for packet in spool.read()):
         if SMALLEST <= packet.payload <= ETHERNET - packet.header and flow_of(packet) in joined:
             counters[flow_of(packet)][packet.payload] += 1
-    sizes = commonest(counters)
-
-    def size_for(packet: Packet) -> int:
-        if packet.length <= ETHERNET or not can_be_cut(packet):
-            return 0
-        return sizes.get(flow_of(packet), ETHERNET - packet.header)
-
-    return size_for
+    sizes = {flow: likeliest_size(joined[flow], counters[flow], ETHERNET - headers[flow]) for flow in joined}
+    return lambda packet: sizes[flow_of(packet)] if packet.length > ETHERNET and can_be_cut(packet) else 0
 
 
 def to_length(length: int) -> SizeFor:

@@ -1,19 +1,16 @@
-"""What the matches say of the captures: which packets belong to the queue, and whether the captures can be believed."""
+"""What the matches say of the captures: which packets belong to the queue, and what there is to be said of them."""
 
-from collections.abc import Iterable
+from collections.abc import Iterable, Iterator
 from dataclasses import dataclass, field
 from ipaddress import IPv4Address, IPv4Network
 from math import log
 from pathlib import Path
 
-from marple_captures.matching import NEVER, TOLERANCE, Matches, Pair
+from marple_captures.matching import NEVER, Matches, Pair
 from marple_captures.records import Fields, Spool
 
-MOST_STRANGE = 0.02  # of the packets after the queue may match none before it
-MOST_EARLY = 0.01  # of the matched packets may leave before they came
+STEP = 10**9  # nanoseconds by which times go back only where a clock was set
 CHANCE = 1e-6  # a row of losses less likely than this is no accident
-SMALL = 100_000  # nanoseconds: clocks of two machines rarely agree as well as this
-TEN = 10  # the other direction may have this many times the bytes of the queue's
 
 
 @dataclass
@@ -89,6 +86,21 @@ def packets(number: int) -> str:
 def were(number: int) -> str:
     """The verb after a number of packets."""
     return "was" if number == 1 else "were"
+
+
+def why_back(spool: Spool, capture: str) -> str:
+    """What it means that the times of a capture go back."""
+    return (f"the times of {capture} go back by {seconds(spool.back)}: its clock was set while it ran, or it was joined of parts in "
+            "another order")
+
+
+def notes_on_reading(spool: Spool, capture: str) -> Iterator[str]:
+    """What there is to be said of how much of a capture is there, a line each."""
+    if spool.ends_inside:
+        yield f"{capture} ends in the middle of a packet: the whole ones before it were taken"
+    if spool.cut_off:
+        yield (f"{capture} has only a part of the headers of {packets(spool.cut_off)}: what it lacks of addresses, ports, tcpseq and "
+               "payload_len is wrong in the trace; take snapshots of 96 bytes (-s 96)")
 
 
 def other_direction(pairs: dict[bytes, Pair], options: Options) -> set[bytes]:
@@ -186,105 +198,3 @@ def trim_after(findings: Findings, matches: Matches, kept: dict[bytes, Pair], be
         findings.strange -= outside
         findings.expected -= outside
         findings.notes.append(f"{packets(outside)} after the queue came before {options.before} begins or after it ends: left out")
-
-
-def other_way_round(pairs: list[Pair], findings: Findings) -> bool:
-    """Whether packets that leave before they come mean swapped files: the losses, or times near 0, tell it from two clocks."""
-    lost = findings.came - findings.left
-    if findings.early < (1 - MOST_EARLY) * findings.left or findings.strange < lost:
-        return False
-    least, greatest = min(pair.least for pair in pairs), max(pair.greatest for pair in pairs)
-    return findings.strange > lost or -greatest <= greatest - least
-
-
-def both_ways(pairs: dict[bytes, Pair]) -> list[bytes]:
-    """The addresses of pairs whose way back is there too."""
-    return [addresses for addresses in pairs if turned(addresses) in pairs and turned(addresses) != addresses]
-
-
-def two_clocks(pairs: dict[bytes, Pair], options: Options) -> int | None:
-    """The constant by which all flows are off, if there is one."""
-    floors = {addresses: pair.least for addresses, pair in pairs.items()}
-    spread = max(pair.greatest - pair.least for pair in pairs.values())
-    if max(floors.values()) - min(floors.values()) > max(TOLERANCE, spread):
-        return None
-    ways = both_ways(pairs)
-    if not ways or options.both_directions:
-        return -min(floors.values())
-    there = min(floors[addresses] for addresses in ways if addresses < turned(addresses))
-    back = min(floors[addresses] for addresses in ways if addresses > turned(addresses))
-    return -(there + back) // 2
-
-
-def why_early(findings: Findings, pairs: dict[bytes, Pair], options: Options) -> str:
-    """What packets that left before they came mean, with the remedy."""
-    said = f"{findings.early} of {packets(findings.left)} left before they came"
-    early = {addresses for addresses, pair in pairs.items() if pair.is_early}
-    if early and not any(pairs.get(turned(addresses), pairs[addresses]).is_early for addresses in early):
-        return (f"{said}, {in_few_words(early)}, and those of the way back after they came: the two ways pass the captures in "
-                f"turn, so leave --both-directions out, or name the senders of one way by --direction")
-    if not both_ways(pairs) and other_way_round(list(pairs.values()), findings):
-        return f"{said}: the files are swapped, give {options.after} first"
-    shift = two_clocks(pairs, options)
-    if shift is None:
-        return f"{said}, by no constant: the captures have clocks that go apart, so take both on one machine"
-    return f"{said}, all flows by one constant: the captures have two clocks, give --shift {shift + options.shift}"
-
-
-def why_one_capture(kept: Iterable[Pair], after: Spool, options: Options) -> str:
-    """Why there is one capture where two should be, or nothing."""
-    if options.one_file:
-        return f"{options.before} is given twice: give the capture before the queue and the one after it"
-    if not after.packets:
-        return f"{options.after} has no packets{' with IPv4' if after.foreign else ''}, so nothing says what left"
-    pairs = list(kept)
-    if pairs and not any(pair.least or pair.greatest for pair in pairs):
-        return f"each packet left in the nanosecond in which it came: {options.after} is a copy of {options.before}"
-    return ""
-
-
-def why_refused(findings: Findings, matches: Matches, after: Spool, options: Options) -> str:
-    """Why there is no trace, or nothing."""
-    kept = {addresses: pair for addresses, pair in matches.pairs.items() if addresses not in findings.left_out and pair.matched}
-    if reason := why_one_capture(kept.values(), after, options):
-        return reason
-    if findings.early > MOST_EARLY * findings.left:
-        return why_early(findings, kept, options)
-    chosen = options.networks or options.both_directions
-    if not chosen:
-        size = total(kept.values(), "size")
-        other = total((matches.pairs[addresses] for addresses in findings.left_out), "size")
-        if other > TEN * size:
-            return (f"most bytes are of packets that left before they came ({other} of {other + size}): the files are swapped, "
-                    f"give {options.after} first; or name the senders of the lesser direction by --direction")
-        ways = both_ways(kept)
-        if 2 * total((kept[addresses] for addresses in ways), "matched") > findings.left:
-            return why_both({addresses: kept[addresses] for addresses in ways}, options)
-    if findings.strange_share > MOST_STRANGE:
-        return (f"{findings.strange} of {packets(findings.expected)} after the queue match none before it: "
-                "take both captures at one queue, at the same time")
-    if findings.came and not findings.left:
-        return f"none of {packets(findings.came)} before the queue is in {options.after}: take both captures at one queue"
-    return ""
-
-
-def why_both(kept: dict[bytes, Pair], options: Options) -> str:
-    """What it means that packets of both directions leave after they came."""
-    shift = two_clocks(kept, options)
-    if shift is not None and -shift >= SMALL:
-        return (f"packets of both directions leave after they come, by {seconds(-shift)} and more: the captures have two clocks, "
-                f"give --shift {shift + options.shift}; or --both-directions if both pass the queue")
-    return "packets of both directions leave after they come: give --both-directions if both pass the queue, or --direction"
-
-
-def judge(matches: Matches, before: Spool, after: Spool, options: Options) -> Findings:
-    """Decides which packets are taken, and whether there is a trace."""
-    findings = Findings(left_out=other_direction(matches.pairs, options))
-    kept = [pair for addresses, pair in matches.pairs.items() if addresses not in findings.left_out]
-    findings.came, findings.left, findings.early = (total(kept, name) for name in ("before", "matched", "early"))
-    findings.expected = total(kept, "after")
-    findings.strange = findings.expected - findings.left
-    note_direction(findings, matches.pairs, options)
-    trim(findings, matches, before, after, options)
-    findings.refusal = why_refused(findings, matches, after, options)
-    return findings

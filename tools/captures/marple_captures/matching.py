@@ -1,10 +1,11 @@
 """Finds for each packet after the queue the one before it, holding only packets that wait for their match.
 
-Packets alike are told apart by their marks, and those with one mark by the time in the queue: the likeliest is the one that
-was inside nearly as long as the packet of the same addresses that left last. A packet of which another mark is known is none of
-them, unless the checksums before the queue aren't those after it, as at a sender whose network card fills them in. IP identifications return after 65,536 packets.
-So a packet without a sequence number is no candidate any more when half as many packets of its addresses have left since, and
-neither is one that left long before its like came, if the others of its addresses leave after they come.
+Packets alike are told apart by their marks, and those with one mark by the time in the queue: the likeliest is the one that was
+inside nearly as long as the packet of the same addresses that left last. A packet of which another mark is known is none of
+them, unless the checksums before the queue aren't those after it, as at a sender whose network card fills them in. IP
+identifications return after 65,536 packets. So a packet without a sequence number is no candidate any more when half as many
+packets of its addresses have left since, and neither is one that left long before its like came, if the others of its addresses
+leave after they come.
 """
 
 import os

@@ -6,8 +6,9 @@ from collections.abc import Iterator
 from pathlib import Path
 from tempfile import TemporaryDirectory
 
-from marple_captures.findings import packets, were
+from marple_captures.findings import STEP, notes_on_reading, packets, were, why_back
 from marple_captures.records import Spool
+from marple_captures.repeats import REPEATED, repeats
 from marple_captures.start import add_numbers, start
 from marple_captures.trace import TraceWriter, as_date, check_origin, first_second
 from marple_captures.tshark import need_tshark, read_side_by_side
@@ -30,11 +31,14 @@ def parser() -> argparse.ArgumentParser:
 
 def notes(capture: str, spool: Spool, origin: int) -> Iterator[str]:
     """What there is to be said of the capture, a line each."""
-    if spool.ends_inside:
-        yield f"{capture} ends in the middle of a packet: the whole ones before it were taken"
+    yield from notes_on_reading(spool, capture)
     yield f"{packets(spool.packets)} {were(spool.packets)} read"
     if spool.foreign:
         yield f"{packets(spool.foreign)} without IPv4 {were(spool.foreign)} passed over"
+    if spool.back >= STEP:
+        yield why_back(spool, capture)
+    if repeats(spool):
+        yield f"{capture} {REPEATED}"
     if spool.packets:
         yield as_date(origin)
 

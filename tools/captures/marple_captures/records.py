@@ -53,8 +53,10 @@ class Spool:
     path: Path
     packets: int = 0
     foreign: int = 0
+    cut_off: int = 0  # packets whose snapshots lack a part of their headers
     first: int | None = None  # the least time of all packets, and the greatest
     last: int | None = None
+    back: int = 0  # by how much the times go back at most
     begin: int | None = None  # the least time of the packets that have a record
     ends_inside: bool = False  # whether the capture ends in the middle of a packet
 

@@ -17,7 +17,8 @@ import time
 from collections.abc import Iterable, Iterator
 from contextlib import ExitStack, contextmanager
 from functools import lru_cache
-from itertools import chain, islice
+from itertools import accumulate, chain, islice
+from operator import sub
 from pathlib import Path
 from socket import inet_aton
 from struct import Struct
@@ -31,6 +32,7 @@ FIELDS = ("frame.time_epoch", "ip.src", "ip.dst", "ip.proto", "ip.hdr_len", "ip.
 TCP_SIZES = [4 * int(chr(digit), 16) if chr(digit) in "0123456789abcdef" else 0 for digit in range(256)]  # of a header's length
 IP_HEADER = Struct(">BxHHHxB2x4s4sI")  # of 20 bytes, with the ports after it
 SHORTEST = 66  # hexadecimal digits of an IP header of 20 bytes and of TCP's first 13
+NEEDED = {b"6": 26, b"17": 8}  # hexadecimal digits of a transport header that a record needs, for TCP and UDP
 IPV4 = (b"0x0800", b"0x0021")  # what tshark says of a link's payload that it doesn't dissect: as Ethernet and as PPP number it
 IPV6 = (b"0x86dd", b"0x0057")
 IP_IN_IPV6 = b"04"
@@ -142,13 +144,21 @@ def record_of(line: bytes, number: int) -> tuple[int, bytes]:
     """The time of a packet of which tshark dissected IP, and its record: empty where it has no IPv4 header."""
     epoch, source, target, protocol_text, header_text, length, identification, offset_text, data = line.split(b"\t")
     moment = nanoseconds(epoch)
-    if not source:
+    if not source or not target:
         return moment, b""
     protocol, header, offset = head(protocol_text, header_text, offset_text)
     # A fragment after the first has no ports.
     word, mark, size = (0, 0, 0) if offset else transport(protocol, data)
     return moment, SHORT_LAYOUT.pack(address(source), address(target), word, int(identification, 16), protocol, offset,
                                      int(length), mark, header + size, number, moment)
+
+
+def is_cut_off(line: bytes) -> bool:
+    """Whether the snapshot of a packet of which tshark dissected IP ends inside the headers."""
+    _, source, target, protocol, header, length, _, offset, data = line.split(b"\t")
+    if not source or not target:
+        return bool(header or length)
+    return offset == b"0" and len(data.strip()) < NEEDED.get(protocol, 0)
 
 
 def simple_record_of(line: bytes, number: int) -> tuple[int, bytes]:
@@ -216,11 +226,13 @@ def fill(spool: Spool, lines: Iterable[bytes], file: BinaryIO, simple: bool) -> 
     try:
         for number, line in enumerate(lines, spool.packets + spool.foreign + 1):
             found.append(record(line, number))
+            spool.cut_off += not simple and is_cut_off(line)
     except (ValueError, OSError) as error:
         raise CaptureError(f"tshark wrote a line that isn't understood: {line.decode(errors='replace').strip()}") from error
     if not found:
         return False
     moments = [moment for moment, _ in found]
+    spool.back = max(spool.back, *map(sub, accumulate(moments, max, initial=spool.last or 0), moments))
     spool.first = least(spool.first, min(moments))
     spool.last = max(spool.last or 0, max(moments))
     records = [record for _, record in found if record]

@@ -9,7 +9,8 @@ from tempfile import TemporaryDirectory
 
 from marple_captures import CaptureError, cutting
 from marple_captures.cutting import Cut, SizeFor
-from marple_captures.findings import Findings, Options, judge, packets, were
+from marple_captures.findings import Findings, Options, notes_on_reading, packets, were
+from marple_captures.judging import judge
 from marple_captures.matching import Matches, match
 from marple_captures.records import Departures, Fields, Spool
 from marple_captures.start import add_numbers, natural, start
@@ -65,6 +66,7 @@ class Attempt:
 
     def __init__(self, cut: Cut, room: Path, options: Options) -> None:
         self.cut = cut
+        self.options = options
         with Departures(room / "departures", cut.before.packets) as self.departures:
             self.matches: Matches = match(cut.before, cut.after, self.departures, options.shift)
         self.findings: Findings = judge(self.matches, cut.before, cut.after, options)
@@ -112,8 +114,7 @@ def notes(attempt: Attempt, spools: list[Spool], words: argparse.Namespace) -> I
     """What there is to be said of the captures, a line each."""
     findings, cut, alike, foreign = attempt.findings, attempt.cut, attempt.matches.alike, spools[0].foreign
     for spool, capture in zip(spools, (words.before, words.after), strict=True):
-        if spool.ends_inside:
-            yield f"{capture} ends in the middle of a packet: the whole ones before it were taken"
+        yield from notes_on_reading(spool, capture)
     yield f"{findings.came} packets came, {findings.left} left, {findings.came - findings.left} never did"
     for count, place in ((cut.cut_before, "before"), (cut.cut_after, "after")):
         if count.packets:
@@ -127,7 +128,8 @@ def notes(attempt: Attempt, spools: list[Spool], words: argparse.Namespace) -> I
         yield f"{packets(findings.early)} left before they came, and count as 0 ns"
     if alike:
         yield f"{packets(alike)} {were(alike)} told from others alike by the time in the queue"
-    yield from survey(cut.before, attempt.taken(), asks_for_long=not (words.split or words.no_split or findings.refusal))
+    asks_for_long = not (words.split or words.no_split or findings.refusal)
+    yield from survey(cut.before, cut.after, attempt.taken(), attempt.options, asks_for_long)
 
 
 def main() -> None:
