@@ -1,6 +1,6 @@
-"""Builds the wheel of the package, by the standard library alone (PEP 517, PEP 660).
+"""Builds the wheel of the package, by only the standard library (PEP 517, PEP 660).
 
-The version is that of the file VERSION at the top of the checkout. The wheel's bytes depend on the sources alone: not on
+The version is that of the file VERSION at the top of the checkout. The wheel's bytes depend only on the sources: not on
 the time, the folder, the order of files or a compressor. It runs also on a Python that the package doesn't run on, so
 that the installer can say so.
 """
@@ -36,7 +36,7 @@ ENTRY_POINTS = """\
 marple-parts = marple.parts.__main__:main
 marple-report = marple.report.__main__:main
 """
-PAGES = ("LANGUAGE.md", "FORMATS.md")  # from which refusals take their remedies, and options their bounds
+PAGES = ("ERRORS.md", "FORMATS.md")  # from which refusals take their remedies, and options their bounds
 
 
 def version() -> str:

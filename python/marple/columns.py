@@ -6,13 +6,16 @@ import math
 from collections.abc import Callable, Sequence
 from dataclasses import dataclass
 from datetime import datetime, timezone
-from numbers import Integral, Real
-from typing import Union
+from decimal import Decimal
+from ipaddress import IPv4Address
+from numbers import Integral, Rational, Real
+from typing import Any, Union
 
 from marple.faults import TraceRefused
 
 Cell = Union[str, int]
 EXACT = 2**53  # from here on not every whole number is a float of 64 bits
+FLOATS = {2: 2**11, 4: 2**24, 8: EXACT}  # the same of floats by their bytes
 DROPPED = "tout"  # the field that may have no value
 EPOCH = datetime(1970, 1, 1, tzinfo=timezone.utc)
 
@@ -45,7 +48,7 @@ def text_of(columns: Sequence[Column]) -> bytes:
     # The module quotes what stands in its line end, and a lone CR ends a record too.
     writer = csv.writer(out, lineterminator="\r\n" if _has_return(columns) else "\n")
     writer.writerow(names)
-    writer.writerows(zip(*(column.cells for column in columns)))
+    writer.writerows(zip(*(column.cells for column in columns), strict=True))
     return out.getvalue().encode("utf-8", "replace")
 
 
@@ -59,38 +62,56 @@ def _has_return(columns: Sequence[Column]) -> bool:
 NUMERIC = frozenset(f"{kind}{bits}" for kind in ("int", "uint", "float") for bits in (8, 16, 32, 64))
 
 
-def is_missing(value: object) -> bool:
-    """Whether a value stands for none: None, a float that is no number, NaT, and the NA of pandas."""
-    if value is None or type(value).__name__ in ("NAType", "NaTType"):
+def is_missing(value: Any) -> bool:
+    """Whether a value stands for none: None, a number or a time that is none, and the NA of pandas."""
+    kind = type(value).__name__
+    if value is None or kind in ("NAType", "NaTType"):
         return True
-    return isinstance(value, Real) and not isinstance(value, Integral) and math.isnan(value)
+    if isinstance(value, Decimal):
+        return value.is_nan()
+    return (isinstance(value, Real) or kind == "datetime64") and bool(value != value)
 
 
-def cell_of(name: str, value: object, exact: int = EXACT) -> Cell:
-    """What stands for a value in a trace. A value that is no number stays what the program refuses."""
+def is_boolean(value: object) -> bool:
+    """Whether it is one, of Python or of numpy."""
+    return type(value).__name__ in ("bool", "bool_")
+
+
+def is_whole(value: object) -> bool:
+    """Whether its type has whole numbers only; numpy's durations count as such for Python, and aren't here."""
+    return isinstance(value, Integral) and not is_boolean(value) and type(value).__name__ != "timedelta64"
+
+
+def cell_of(name: str, value: Any, exact: int = EXACT) -> Cell:
+    """What stands for a value in a trace. Of a type that has no numbers it is what the program refuses, whatever its text is."""
     if isinstance(value, str) or type(value) is int:
         return value
     if is_missing(value):
         return missing_cell(name)
-    if isinstance(value, Integral) and type(value).__name__ not in ("bool", "bool_"):
+    if is_whole(value):
         return int(value)
-    if isinstance(value, Real) and not isinstance(value, Integral):
-        return float_cell(float(value), exact)
+    if isinstance(value, (Real, Decimal)) and not isinstance(value, Integral):
+        return float_cell(value, exact_of(value, exact))
     if isinstance(value, datetime) and value.tzinfo is not None:
         return nanoseconds(value)
-    return str(value)
+    return str(value) if isinstance(value, IPv4Address) else f"{type(value).__name__}: {value}"
 
 
 def missing_cell(name: str) -> str:
     """A dropped packet has no time at which it left the queue."""
-    return "inf" if name == DROPPED else ""
+    return "inf" if name.strip(" \t") == DROPPED else ""
 
 
-def float_cell(value: float, exact: int = EXACT) -> Cell:
-    """A whole number that is exact, `inf`, or else the float with its point or exponent, which is no number of a trace."""
+def exact_of(value: object, exact: int = EXACT) -> int:
+    """From which number on a number that needn't be whole isn't exact: a float of its size, or of a column's."""
+    return 2**64 if isinstance(value, (Rational, Decimal)) else min(exact, FLOATS.get(getattr(value, "itemsize", 8), EXACT))
+
+
+def float_cell(value: Any, exact: int = EXACT) -> Cell:
+    """A whole number that is exact, `inf`, or else the value with its point or exponent, which is no number of a trace."""
     if value == math.inf:
         return "inf"
-    return int(value) if 0 <= value < exact and value.is_integer() else repr(value)
+    return int(value) if 0 <= value < exact and value % 1 == 0 else repr(value)
 
 
 def nanoseconds(time: datetime) -> int:
@@ -104,6 +125,9 @@ def nanoseconds(time: datetime) -> int:
 
 def explained(refused: TraceRefused, columns: Sequence[Column]) -> TraceRefused:
     """The refusal of a trace that was made of these columns, with the value that was refused."""
+    if refused.fault == "FieldMissing":
+        why = f"the columns of the DataFrame are {', '.join(repr(column.name) for column in columns)}"
+        return TraceRefused(refused.fault, refused.record, refused.field, refused.path, why)
     column = next((one for one in columns if one.name.strip(" \t") == refused.field), None)
     if column is None or refused.record is None or refused.fault != "BadNumber":
         return refused
@@ -112,29 +136,30 @@ def explained(refused: TraceRefused, columns: Sequence[Column]) -> TraceRefused:
     return TraceRefused(refused.fault, refused.record, refused.field, refused.path, why)
 
 
-def _fault_of(column: Column, value: object) -> str:
+def _fault_of(column: Column, value: Any) -> str:
     """What keeps the value of a column from being a number of a trace."""
     if is_missing(value):
         return "there is no value, which only `tout` may lack"
-    if type(value).__name__ in ("bool", "bool_"):
+    if is_boolean(value):
         return f"{value} is a boolean"
     if isinstance(value, datetime):
         return f"{value} " + ("is before 1970" if value.tzinfo else "has no time zone: Series.dt.tz_localize gives it one")
-    if isinstance(value, Real) and not isinstance(value, Integral):
-        return _fault_of_float(column, float(value))
-    if isinstance(value, Integral):
+    if is_whole(value):
         return f"{value} is negative" if value < 0 else f"{value} is 2^64 or more"
+    if isinstance(value, (Real, Decimal)) and not isinstance(value, Integral):
+        return _fault_of_float(column, value)
     return f"{value!r} is no number"
 
 
-def _fault_of_float(column: Column, value: float) -> str:
+def _fault_of_float(column: Column, value: Any) -> str:
     if value == math.inf:
         return "inf stands for a dropped packet, in `tout` only"
     if value < 0:
         return f"{value} is negative"
-    if not value.is_integer():
-        return f"{value} has a fraction"
+    if value >= 2**64 or value % 1 != 0:
+        return f"{value} is 2^64 or more" if value >= 2**64 else f"{value} has a fraction"
+    exact = exact_of(value, column.exact)
     return (
-        f"{value} is a float of 2^{column.exact.bit_length() - 1} or more, whose last digits are lost: read the column as text, "
+        f"{value} is a float of 2^{exact.bit_length() - 1} or more, whose last digits are lost: read the column as text, "
         f"by dtype={{{column.name!r}: str}}"
     )

@@ -27,10 +27,10 @@ def run(
     """The tables of the query over the packets of the trace; with `every` also its views.
 
     query: the path of a query (str or os.PathLike), or its text as bytes; query_text: its text as a str, in place of
-    query. trace: a path; the bytes of a trace; an open file, read from its place on; or a DataFrame, of pandas or with
-    the interchange protocol, whose columns are named as the fields, in pandas also the levels of its index: numbers
-    are whole, addresses numbers or texts as 10.0.0.1, times in the unit that the trace has (those with a time zone in
-    nanoseconds since 1970), and a packet without `tout` was dropped.
+    query. trace: a path, whose file is unpacked if gzip packed it; the bytes of a trace; an open file, read from its
+    place on; or a DataFrame, of pandas or with the interchange protocol, whose columns are named as the fields, in
+    pandas also the levels of its index: numbers are whole, addresses numbers or texts as 10.0.0.1, times in the unit
+    that the trace has (those with a time zone in nanoseconds since 1970), and a packet without `tout` was dropped.
 
     buckets and ways: of the cache, in sets and in keys for each; pipe: how many evicted keys wait for the store; lag:
     how many packets pass while one is stored; refresh: after how many packets the caches are emptied; every: after how

@@ -42,10 +42,10 @@ def to_pandas(table: Table, addresses: bool = False) -> Any:
     """See Table.to_pandas."""
     pandas = _module("pandas", "DataFrames", "install python3-pandas (Debian), or pip install pandas")
     numpy = _module("numpy", "DataFrames", "install python3-numpy (Debian), or pip install numpy")
-    columns = [_pandas_column(pandas, numpy, table, at, addresses) for at in range(len(table.columns))]
     keys = len(table.keys or ())
-    index = _index(pandas, numpy, columns[:keys], table.keys) if keys else pandas.RangeIndex(len(table))
-    frame = pandas.DataFrame(dict(enumerate(columns[keys:])), index=index, copy=True)
+    index = _index(pandas, numpy, table, keys, addresses) if keys else pandas.RangeIndex(len(table))
+    columns = [_pandas_column(pandas, numpy, table, at, addresses) for at in range(keys, len(table.columns))]
+    frame = pandas.DataFrame(dict(enumerate(columns)), index=index, copy=True)
     frame.columns = list(table.columns[keys:])  # of which two may have one name
     return frame
 
@@ -58,23 +58,28 @@ def _pandas_column(pandas: Any, numpy: Any, table: Table, at: int, addresses: bo
     if _is_epoch(table, at):
         marks = numpy.frombuffer(table.arrays[at - 1], dtype=numpy.uint64)
         return pandas.arrays.IntegerArray(words.copy(), marks == Mark.EXACT)
-    if addresses and table.columns[at] in ADDRESSES:
-        return numpy.array(_addresses(table.arrays[at]), dtype=object)
-    return words
+    return _readable(numpy, table, at, words, addresses)
 
 
-def _index(pandas: Any, numpy: Any, columns: list[Any], names: Any) -> Any:
-    """The index of these keys. For several keys it is put together here: pandas would look for the values by hashing."""
-    if len(columns) == 1:
-        return pandas.Index(columns[0], name=names[0])
+def _readable(numpy: Any, table: Table, at: int, words: Any, addresses: bool) -> Any:
+    """Words of a column, as texts if they are addresses that are asked for so."""
+    is_text = addresses and table.columns[at] in ADDRESSES
+    return numpy.array(_addresses(words.tolist()), dtype=object) if is_text else words
+
+
+def _index(pandas: Any, numpy: Any, table: Table, keys: int, addresses: bool) -> Any:
+    """The index of the keys. For several keys it is put together here: pandas would look for the values by hashing."""
+    columns = [numpy.frombuffer(words, dtype=numpy.uint64) for words in table.arrays[:keys]]
+    if keys == 1:
+        return pandas.Index(_readable(numpy, table, 0, columns[0], addresses), name=table.columns[0])
     pairs = [_levels(numpy, column) for column in columns]
-    levels, codes = [level for level, _ in pairs], [code for _, code in pairs]
-    return pandas.MultiIndex(levels, codes, names=names, verify_integrity=False)
+    levels = [_readable(numpy, table, at, level, addresses) for at, (level, _) in enumerate(pairs)]
+    return pandas.MultiIndex(levels, [codes for _, codes in pairs], names=table.keys, verify_integrity=False)
 
 
 def _levels(numpy: Any, column: Any) -> tuple[Any, Any]:
     """The values of a column in ascending order, and for each row the number of its value."""
-    if len(column) and column.dtype != object:
+    if len(column):
         if (column[1:] >= column[:-1]).all():
             begins = numpy.concatenate(([True], column[1:] != column[:-1]))
             return column[begins], numpy.cumsum(begins) - 1
@@ -93,7 +98,7 @@ def to_arrow(table: Table, addresses: bool = False) -> Any:
     for at, name in enumerate(table.columns):
         words = table.arrays[at]
         if at == table.form.mark:
-            codes = arrow.array(bytearray(words), type=arrow.int8())
+            codes = arrow.array(words.tolist(), type=arrow.int8())
             columns.append(arrow.DictionaryArray.from_arrays(codes, arrow.array(MARK_NAMES)))
         elif _is_epoch(table, at):
             marks = table.arrays[at - 1]

@@ -3,10 +3,8 @@
 import sys
 from typing import Any
 
-from marple.columns import EXACT, Column, cell_of, float_cell, missing_cell
-from marple.interchange import interchange_columns
-
-EXACT_BY_SIZE = {2: 2**11, 4: 2**24, 8: EXACT}  # of floats, by their bytes
+from marple.columns import EXACT, FLOATS, Column, cell_of, float_cell, missing_cell
+from marple.interchange import UNITS, interchange_columns
 
 
 def is_frame(thing: object) -> bool:
@@ -24,25 +22,25 @@ def columns_of(frame: Any) -> list[Column]:
     if not _is_pandas(frame):
         return interchange_columns(frame)
     index = frame.index
-    levels = [index.get_level_values(at).to_series() for at, name in enumerate(index.names) if name is not None]
-    names = [name for name in index.names if name is not None]
-    columns = [frame.iloc[:, at] for at in range(frame.shape[1])]
-    return [_column(str(name), series) for name, series in zip([*names, *frame.columns], [*levels, *columns])]
+    levels = [(name, index.get_level_values(at).to_series()) for at, name in enumerate(index.names) if name is not None]
+    columns = [(name, frame.iloc[:, at]) for at, name in enumerate(frame.columns)]
+    return [_column(name if isinstance(name, str) else str(name), series) for name, series in (*levels, *columns)]
 
 
 def _column(name: str, series: Any) -> Column:
-    exact = EXACT_BY_SIZE.get(getattr(series.dtype, "itemsize", 8), EXACT) if _kind(series) == "f" else EXACT
-    return Column(name, str(series.dtype), _cells(name, series, exact), lambda row: _value(series, row), exact)
+    exact = _exact(series.dtype)
+    return Column(name, str(series.dtype), _cells(name, series, exact), series.iloc.__getitem__, exact)
+
+
+def _exact(dtype: Any) -> int:
+    """From which number on values of this type, or of its categories, may be floats that aren't exact."""
+    own = dtype.categories.dtype if type(dtype).__name__ == "CategoricalDtype" else getattr(dtype, "subtype", dtype)
+    return FLOATS.get(getattr(own, "itemsize", 8), EXACT) if getattr(own, "kind", "O") == "f" else EXACT
 
 
 def _kind(series: Any) -> str:
     """The letter of a numpy type: i and u are whole numbers, f is floats. None of these for other types."""
     return getattr(series.dtype, "kind", "O") if type(series.dtype).__module__.startswith("numpy") else "O"
-
-
-def _value(series: Any, row: int) -> object:
-    value = series.iloc[row]
-    return value.item() if type(value).__module__ == "numpy" else value
 
 
 def _cells(name: str, series: Any, exact: int) -> list[Any]:
@@ -53,15 +51,21 @@ def _cells(name: str, series: Any, exact: int) -> list[Any]:
         missing = missing_cell(name)
         return [float_cell(value, exact) if value == value else missing for value in series.tolist()]
     if getattr(series.dtype, "tz", None) is not None:
-        times = series.dt.tz_convert("UTC").dt.tz_localize(None).to_numpy("datetime64[ns]").view("int64").tolist()
+        times = since_1970(series.dt.tz_convert("UTC").dt.tz_localize(None).to_numpy())
         return _filled(times, series, missing_cell(name))
     if type(series.dtype).__name__ == "CategoricalDtype":
-        cells = [cell_of(name, value) for value in series.cat.categories]
+        cells = [cell_of(name, value, exact) for value in series.cat.categories]
         missing = missing_cell(name)
         return [cells[code] if code >= 0 else missing for code in series.cat.codes.tolist()]
     numpy = type(series.dtype).__module__.startswith("numpy")
     values = series if numpy else series.to_numpy(dtype=object, na_value=None)
-    return [value if type(value) is str else cell_of(name, value) for value in values.tolist()]
+    return [value if type(value) is str else cell_of(name, value, exact) for value in values.tolist()]
+
+
+def since_1970(times: Any) -> list[int]:
+    """The nanoseconds since 1970 of numpy's times in any unit, which in 64 bits may be too many."""
+    unit = UNITS[times.dtype.str[4]]
+    return [time * unit for time in map(int, times.view("int64").tolist())]
 
 
 def _filled(values: list[Any], series: Any, missing: str) -> list[Any]:

@@ -5,7 +5,8 @@ from collections.abc import Sequence
 from itertools import chain
 from typing import Any
 
-from marple.columns import Column, cell_of, missing_cell
+from marple.columns import EXACT, FLOATS, Column, cell_of, missing_cell
+from marple.plans import FIELDS
 
 INT, UINT, FLOAT, BOOL, STRING, DATETIME, CATEGORICAL = 0, 1, 2, 20, 21, 22, 23
 NAMES = {INT: "int", UINT: "uint", FLOAT: "float", BOOL: "bool", STRING: "string", DATETIME: "datetime"}
@@ -14,20 +15,27 @@ NEVER, NAN, SENTINEL, BITS, BYTES = range(5)  # how a column says which values a
 CODES = {(INT, 8): "b", (INT, 16): "h", (INT, 32): "i", (INT, 64): "q", (UINT, 8): "B", (UINT, 16): "H", (UINT, 32): "I"}
 CODES |= {(UINT, 64): "Q", (FLOAT, 32): "f", (FLOAT, 64): "d"}
 UNITS = {"s": 10**9, "m": 10**6, "u": 1000, "n": 1}  # of times, in nanoseconds
-FLOATS = {16: 2**11, 32: 2**24, 64: 2**53}  # up to here whole numbers are exact
 
 
 def interchange_columns(frame: Any) -> list[Column]:
-    """The columns of a DataFrame that has the protocol."""
-    whole = frame.__dataframe__()
+    """The columns of a DataFrame that has the protocol; without those that are no fields and that the protocol can't give, as
+    lists and decimals.
+    """
+    whole, columns = frame.__dataframe__(), []
     chunks = list(whole.get_chunks())
-    names = list(whole.column_names())
-    return [_column(str(name), [chunk.get_column(at) for chunk in chunks]) for at, name in enumerate(names)]
+    for at, name in enumerate(map(str, whole.column_names())):
+        try:
+            columns.append(_column(name, [chunk.get_column(at) for chunk in chunks]))
+        except Exception:  # each library has its own
+            if name.strip(" \t") in FIELDS:
+                raise
+    return columns
 
 
 def _column(name: str, pieces: Sequence[Any]) -> Column:
     kind, bits, form, _ = pieces[0].dtype if pieces else (STRING, 8, "u", "=")
-    exact = FLOATS.get(bits, 2**53) if kind == FLOAT else 2**53
+    own, wide, *_ = pieces[0].describe_categorical["categories"].dtype if kind == CATEGORICAL else (kind, bits)
+    exact = FLOATS.get(wide // 8, EXACT) if own == FLOAT else EXACT
     values = list(chain.from_iterable(map(_values, pieces)))
     missing = missing_cell(name)
     cells = [missing if value is None else cell_of(name, value, exact) for value in values]

@@ -1,11 +1,18 @@
 """What a caller gives as query or trace, as a file that the program can read."""
 
+import gzip
+import math
 import os
+import re
 import select
 import stat
 import tempfile
+import threading
 import time
+import zlib
 from collections.abc import Callable, Iterator
+from concurrent.futures import Future
+from concurrent.futures import TimeoutError as NotDone  # before Python 3.11 not the built-in one
 from contextlib import contextmanager
 from dataclasses import dataclass
 from typing import IO, Any, Optional, Union
@@ -20,6 +27,9 @@ Trace = Any  # a path, bytes, an open file, or a DataFrame: a union can't name l
 BLOCK = 1 << 20
 MOST = 268_435_457  # no trace and no query is read further than this: it would be too long
 NO_WRITER = 10.0  # for how many seconds a FIFO may have no writer
+GZIP = re.compile(rb"\x1f\x8b\x08")  # how a file begins that is compressed by gzip
+UNREADABLE = (OSError, ValueError, EOFError, zlib.error)
+OWN = ("/dev/stdin", "/dev/fd/", "/proc/")  # where each process has its own files
 
 
 class Deadline:
@@ -29,7 +39,7 @@ class Deadline:
         if seconds is not None and not seconds > 0:
             raise ValueError(f"timeout is a number of seconds above 0, or None; {seconds!r} isn't")
         self.seconds = seconds
-        self.end = None if seconds is None else time.monotonic() + seconds
+        self.end = None if seconds is None or seconds == math.inf else time.monotonic() + seconds
 
     def left(self) -> Optional[float]:
         """How many seconds are left, or None where there is no end. Raises TimedOut at the end."""
@@ -41,6 +51,26 @@ class Deadline:
 
     def passed(self) -> TimedOut:
         return TimedOut(f"the call took longer than its timeout of {self.seconds:g} s")
+
+    def wait_for(self, act: Callable[[], Any]) -> Any:
+        """What a call gives. Raises TimedOut at the end, where nobody waits for the call any more."""
+        if (left := self.left()) is None:
+            return act()
+        result: Future[Any] = Future()
+        threading.Thread(target=_fulfil, args=(result, act), daemon=True).start()
+        try:
+            return result.result(left)
+        except NotDone:
+            if result.done():  # just now, or this is its own
+                return result.result()
+            raise self.passed() from None
+
+
+def _fulfil(result: "Future[Any]", act: Callable[[], Any]) -> None:
+    try:
+        result.set_result(act())
+    except BaseException as fault:
+        result.set_exception(fault)
 
 
 def text_of_query(
@@ -152,9 +182,8 @@ def trace_file(trace: Trace, deadline: Optional[Deadline] = None) -> Iterator[Tr
         with written(trace) as path:
             yield TraceFile(path, "of bytes", lambda refused: refused)
     elif hasattr(trace, "read"):
-        with tempfile.NamedTemporaryFile(prefix="marple-") as file:
-            _copy(trace, file)
-            yield TraceFile(file.name, "of an open file", lambda refused: refused)
+        with _kept(_read_on(trace, deadline or Deadline()), "of an open file") as path:
+            yield TraceFile(path, "of an open file", lambda refused: refused)
     else:
         raise TypeError(
             "a trace is a path (str or os.PathLike), bytes, an open file, a DataFrame of pandas, or one that has the "
@@ -168,20 +197,64 @@ def _in_file(refused: TraceRefused, path: str) -> TraceRefused:
 
 @contextmanager
 def _own_file(path: str, deadline: Deadline) -> Iterator[str]:
-    """The path itself; but a FIFO is copied, so that the program doesn't wait for it. What can't be read is left to the
-    program, which refuses a query before a trace.
+    """The path itself; but what the program can't read is copied, and what is compressed by gzip is unpacked. What can't be
+    read at all is left to the program, which refuses a query before a trace.
     """
-    if not _is_fifo(path):
+    if "\0" in path:
+        raise InputError(f"cannot read the trace {_shown(path)}: embedded null byte")
+    if (packed := is_packed(path)) or _is_for_us(path):
+        with _kept(unpacked(path) if packed else _blocks(path, deadline), _shown(path)) as kept:
+            yield kept
+    else:
         yield os.path.abspath(path) if path else path
-        return
-    with tempfile.NamedTemporaryFile(prefix="marple-") as kept:
-        try:
-            for block in _blocks(path, deadline):
-                kept.write(block)
-            kept.flush()
-        except (OSError, ValueError) as fault:
-            raise InputError(f"cannot read the trace {_shown(path)}: {_reason(fault)}") from fault
-        yield kept.name
+
+
+def _is_for_us(path: str) -> bool:
+    """Whether only this process can read a file: a FIFO, for whose writer the program would wait for ever; a name by which
+    the program has another file; and one that is no text, which it doesn't take.
+    """
+    return _is_fifo(path) or os.path.abspath(path).startswith(OWN) or path != path.encode(errors="replace").decode()
+
+
+@contextmanager
+def _kept(blocks: Iterator[bytes], name: str) -> Iterator[str]:
+    """The path of a file that has these blocks, of which those above MOST bytes aren't read. Raises InputError."""
+    with tempfile.NamedTemporaryFile(prefix="marple-") as file:
+        left = MOST
+        while left > 0 and (block := _next(blocks, name)):
+            left -= file.write(block)
+        file.flush()
+        yield file.name
+
+
+def _next(blocks: Iterator[bytes], name: str) -> bytes:
+    try:
+        return next(blocks, b"")
+    except UNREADABLE as fault:
+        raise InputError(f"cannot read the trace {name}: {_reason(fault)}") from fault
+
+
+def _read_on(source: Any, deadline: Deadline) -> Iterator[bytes]:
+    """What an open file has from its place on: bytes, or text as UTF-8."""
+    while (block := deadline.wait_for(lambda: source.read(BLOCK))) is not None:
+        yield block.encode("utf-8", "replace") if isinstance(block, str) else block
+    raise ValueError("it doesn't wait for what it will have, and has nothing now")
+
+
+def is_packed(path: str) -> bool:
+    """Whether a file is there that is compressed by gzip."""
+    try:
+        with open(path if os.path.isfile(path) else os.devnull, "rb") as file:
+            return GZIP.match(file.read(3)) is not None
+    except OSError:
+        return False
+
+
+def unpacked(path: str) -> Iterator[bytes]:
+    """What a file that is compressed by gzip has, a block after the other. Raises an error of UNREADABLE."""
+    with gzip.open(path) as packed:
+        while block := packed.read(BLOCK):
+            yield block
 
 
 def _is_fifo(path: str) -> bool:
@@ -200,14 +273,6 @@ def unreadable(trace: TraceFile) -> InputError:
     except (OSError, ValueError) as fault:
         reason = _reason(fault)
     return InputError(f"cannot read the trace {_shown(trace.name)}: {reason}")
-
-
-def _copy(source: Any, file: IO[bytes]) -> None:
-    """Copies what an open file has from its place on: bytes, or text as UTF-8."""
-    left = MOST
-    while left > 0 and (block := source.read(BLOCK)):
-        left -= file.write(block.encode() if isinstance(block, str) else block)
-    file.flush()
 
 
 @contextmanager

@@ -1,6 +1,8 @@
-"""What several tests use: the cases of the repository, and comparisons of tables."""
+"""What several tests use: the cases of the repository, comparisons of tables, and what is drawn at random."""
 
 import functools
+import os
+import random
 import tempfile
 from pathlib import Path
 
@@ -8,6 +10,8 @@ import marple
 
 TOP = Path(__file__).resolve().parents[2]
 CASES = TOP / "tests" / "cases"
+SEED = int(os.environ.get("MARPLE_TEST_SEED", random.randrange(10**6)))
+TIMES = int(os.environ.get("MARPLE_TEST_TIMES", 1))  # how often as many random tests as usual
 
 
 def cases() -> list[Path]:
@@ -34,6 +38,12 @@ def choices() -> dict[str, str]:
 def generated(packets: int, start: int) -> bytes:
     """A trace of the generator."""
     return marple.gen(packets, start)
+
+
+def drawing(name: str) -> random.Random:
+    """Random numbers for a test, from a seed that is printed, or that of the environment."""
+    print(f"{name}: MARPLE_TEST_SEED={SEED}", flush=True)
+    return random.Random(SEED)
 
 
 class Folder:

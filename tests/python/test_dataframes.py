@@ -5,25 +5,27 @@ The expected texts are those that the module csv reads, and the expected tables 
 
 import array
 import csv
+import decimal
+import fractions
 import importlib.util
 import io
 import ipaddress
 import math
 import random
 import unittest
+from unittest import mock
 
-from support import TOP
+from support import TOP, drawing
 
 import marple
 from marple.columns import text_of
-from marple.frames import columns_of
+from marple.frames import columns_of, since_1970
 
 HAS_PANDAS = importlib.util.find_spec("pandas") is not None
 if HAS_PANDAS:
     import numpy
     import pandas
 
-SEED = random.SystemRandom().randrange(2**32)
 COUNT = b"def count([c],[]) { c = c + 1; }\nr = groupby(pktstream, [srcip], count);\nprint r;\n"
 WAITED = (
     b"def waited([longest],[d]) { longest = max(longest, d); }\nalive = filter(pktstream, tout != infinity);\n"
@@ -54,8 +56,7 @@ class Times(unittest.TestCase):
     """Times in nanoseconds since 1970, of which floats lose the last digits."""
 
     def setUp(self):
-        print(f"seed {SEED}")
-        draw = random.Random(SEED)
+        draw = drawing("test_dataframes")
         start = 1_760_000_000_000_000_000
         self.lines = ["srcip,tin,tout"]
         for number in range(200):
@@ -117,8 +118,7 @@ class Random(unittest.TestCase):
         return draw.choice(words + special.get(name, []))
 
     def test_gives_what_its_file_gives(self):
-        print(f"seed {SEED}")
-        draw, kinds = random.Random(SEED), set()
+        draw, kinds = drawing("test_dataframes"), set()
         for _ in range(40):
             names = draw.sample(self.NAMES, len(self.NAMES))
             rows = [[self.cell(draw, name) for name in names] for _ in range(draw.randrange(30))]
@@ -166,6 +166,14 @@ class NoNumbers(unittest.TestCase):
             "object), row 2: 2026-11-30 00:00:00 has no time zone": series([1, times[1]], dtype=object),
             "object), row 2: 'x' is no number": [1, "x"],
             "category), row 2: 'x' is no number": series(["1", "x"], dtype="category"),
+            "Float32), row 2: 16777216.0 is a float of 2^24 or more": series([5, 16777217], dtype="Float32"),
+            "object), row 2: 16777216.0 is a float of 2^24 or more": series([1, numpy.float32(16777217)], dtype=object),
+            "object), row 2: 100000000000000001/100000000000000000 has a fraction": [1, fractions.Fraction(10**17 + 1, 10**17)],
+            "object), row 2: 1.5 has a fraction": [1, decimal.Decimal("1.5")],
+            "object), row 2: b'7' is no number": [1, b"7"],
+            "object), row 2: Period('2026', 'A-DEC') is no number": [1, pandas.Period("2026", "A-DEC")],
+            "object), row 2: numpy.datetime64('2026') is no number": [1, numpy.datetime64("2026")],
+            "object), row 2: numpy.timedelta64(7,'ns') is no number": [1, numpy.timedelta64(7, "ns")],
         }
         for shown, values in cases.items():
             with self.subTest(shown):
@@ -173,7 +181,12 @@ class NoNumbers(unittest.TestCase):
 
     def test_are_refused_from_the_first_row(self):
         times = pandas.Series(pandas.to_datetime(["2026-11-29"]))
-        for values, shown in ((times, "datetime64[ns]), row 1: 2026-11-29"), ([False], "bool), row 1: False is a boolean")):
+        years, lengths = pandas.Series(pandas.period_range("2026", periods=1, freq="A")), pandas.to_timedelta([7], unit="ns")
+        for values, shown in (
+            (times, "datetime64[ns]), row 1: 2026-11-29"), ([False], "bool), row 1: False is a boolean"),
+            (years, "period[A-DEC]), row 1: Period('2026', 'A-DEC') is no number"),
+            (lengths, "timedelta64[ns]), row 1: Timedelta('0 days 00:00:00.000000007') is no number"),
+        ):  # fmt: skip
             with self.subTest(shown), self.assertRaises(marple.TraceRefused) as refused:
                 marple.run(COUNT, pandas.DataFrame({"srcip": values}))
             self.assertIn(f"column 'srcip' ({shown}", str(refused.exception))
@@ -185,17 +198,18 @@ class NoNumbers(unittest.TestCase):
     def test_of_dropped_packets_are_infinite(self):
         query = b"def f([d],[tout]) { if (tout == infinity) { d = d + 1; } } r = groupby(pktstream, [srcip], f); print r;"
         lacking = pandas.Series([pandas.NA, 5], dtype="UInt64")
-        for values in ([math.nan, 5.0], [math.inf, 5.0], ["inf", 5], [None, "5"], lacking, lacking.astype(object)):
+        others = [[one, 5] for one in (decimal.Decimal("NaN"), decimal.Decimal("Infinity"), numpy.datetime64("NaT"))]
+        for values in ([math.nan, 5.0], [math.inf, 5.0], ["inf", 5], [None, "5"], lacking, lacking.astype(object), *others):
             with self.subTest(values=str(values)):
-                frame = pandas.DataFrame({"srcip": [1, 2], "tout": values})
-                self.assertEqual(marple.run(query, frame)["r"].column("d"), [1, 0])
+                for name in ("tout", " tout"):
+                    frame = pandas.DataFrame({"srcip": [1, 2], name: values})
+                    self.assertEqual(marple.run(query, frame)["r"].column("d"), [1, 0])
 
 
 @unittest.skipUnless(HAS_PANDAS, "pandas")
 class Columns(unittest.TestCase):
     def test_are_written_as_csv_reads_them(self):
-        print(f"seed {SEED}")
-        draw = random.Random(SEED)
+        draw = drawing("test_dataframes")
         marks = ["a", '"', ",", "\n", "\r", " ", "é", "'", "x", "0"]
         for _ in range(300):
             word = lambda most: "".join(draw.choice(marks) for _ in range(draw.randint(0, most)))  # noqa: E731
@@ -215,6 +229,23 @@ class Columns(unittest.TestCase):
         for values in (texts, list(map(ipaddress.IPv4Address, words)), pandas.Series(texts, dtype="category")):
             self.assertEqual(marple.run(COUNT, pandas.DataFrame({"srcip": values})).text, expected)
 
+    def test_of_decimals_and_texts_of_own_types(self):
+        class Text(str):
+            def __str__(self) -> str:
+                return "other"
+
+        words = [5, 2**64 - 1, 7_000]
+        expected = marple.run(COUNT, pandas.DataFrame({"srcip": words})).text
+        numbers = [decimal.Decimal("5.00"), decimal.Decimal(2**64 - 1), decimal.Decimal("7E+3")]
+        for values in (numbers, [Text(word) for word in words], [fractions.Fraction(word) for word in words]):
+            self.assertEqual(marple.run(COUNT, pandas.DataFrame({Text("srcip"): values}, dtype=object)).text, expected)
+
+    def test_of_times_are_nanoseconds_in_any_unit(self):
+        for unit, number in {"s": 2**34, "ms": 2**44, "us": 2**54, "ns": 2**63 - 1}.items():
+            times = numpy.array([number, 5], dtype=f"datetime64[{unit}]")
+            one = {"s": 10**9, "ms": 10**6, "us": 10**3, "ns": 1}[unit]
+            self.assertEqual(since_1970(times), [number * one, 5 * one])
+
     def test_are_levels_of_the_index_too(self):
         frame = pandas.DataFrame({"srcip": [1, 2, 1], "dstip": [5, 6, 5], "tin": [0, 1, 2]})
         query = COUNT.replace(b"[srcip]", b"[srcip, dstip]")
@@ -233,14 +264,19 @@ class Columns(unittest.TestCase):
         with self.assertRaises(marple.TraceRefused):
             marple.run(COUNT, pandas.DataFrame())
 
+    def test_of_other_names_are_named(self):
+        for names, shown in ((["src", "tin"], "'src', 'tin'"), ([("srcip", "min"), ("srcip", "max")], "\"('srcip', 'min')\", ")):
+            with self.assertRaises(marple.TraceRefused) as refused:
+                marple.run(COUNT, pandas.DataFrame([[1, 2]], columns=names))
+            self.assertIn(f"FieldMissing(srcip): the columns of the DataFrame are {shown}", str(refused.exception))
+
 
 @unittest.skipUnless(HAS_PANDAS, "pandas")
 class OfTheProtocol(unittest.TestCase):
     """Other libraries are read by the interchange protocol, as pandas is by itself."""
 
     def test_give_the_same_trace(self):
-        print(f"seed {SEED}")
-        draw = random.Random(SEED)
+        draw = drawing("test_dataframes")
         for _ in range(100):
             size = draw.randint(1, 40)
             whole = [draw.randrange(2 ** draw.choice((7, 31, 63))) for _ in range(size)]
@@ -288,6 +324,9 @@ class WithoutALibrary(unittest.TestCase):
         column = FakeColumn((1, 64, "L", "="), 3, (3, 0), buffers)
         names, *rows = records(text_of(interchange_columns(FakeFrame({"tout": column}))))
         self.assertEqual((names, rows), (["tout"], [["5"], ["inf"], ["7"]]))
+        later = FakeColumn((1, 64, "L", "="), 1, (0, None), {"data": buffers["data"], "validity": None}, 2)
+        frame = FakeFrame({"tout": column}, FakeFrame({"tout": later}))
+        self.assertEqual(records(text_of(interchange_columns(frame)))[1:], [["5"], ["inf"], ["7"], ["7"]])
 
     def test_texts_with_long_offsets_are_read(self):
         from marple.interchange import interchange_columns
@@ -299,6 +338,30 @@ class WithoutALibrary(unittest.TestCase):
         }  # fmt: skip
         column = FakeColumn((21, 8, "U", "="), 3, (3, 0), buffers)
         self.assertEqual(records(text_of(interchange_columns(FakeFrame({"a": column})))), [["a"], ["10.0.0.1"], [""], ["é"]])
+
+
+    def test_floats_of_categories_are_exact(self):
+        """They have as many digits as their own type, not as that of their numbers."""
+        from marple.interchange import interchange_columns
+
+        floats = FakeColumn((2, 32, "f", "="), 2, (0, None), {"data": (FakeBuffer([5.0, 16777217.0], "f"), (2, 32, "f", "="))})
+        codes = {"data": (FakeBuffer([0, 1, -1], "b"), (0, 8, "c", "="))}
+        column = FakeColumn((23, 8, "c", "="), 3, (2, -1), codes)
+        column.describe_categorical = {"is_ordered": False, "is_dictionary": True, "categories": floats}
+        rows = records(text_of(interchange_columns(FakeFrame({"tout": column}))))
+        self.assertEqual(rows, [["tout"], ["5"], ["16777216.0"], ["inf"]])
+
+
+    def test_other_columns_that_cannot_be_read_are_left_out(self):
+        """Polars and Arrow have lists, decimals and more, for which the protocol has no place."""
+        from marple.interchange import interchange_columns
+
+        numbers = FakeColumn((1, 64, "L", "="), 2, (0, None), {"data": (FakeBuffer([5, 6], "Q"), (1, 64, "L", "="))})
+        lists = mock.Mock(spec=["dtype"])
+        type(lists).dtype = mock.PropertyMock(side_effect=ValueError("no such type in the protocol"))
+        self.assertEqual(text_of(interchange_columns(FakeFrame({"lists": lists, "tin": numbers}))), b"tin\n5\n6\n")
+        with self.assertRaisesRegex(ValueError, "no such type"):
+            interchange_columns(FakeFrame({"tin": numbers, "qsize": lists}))
 
 
 class FakeBuffer:
@@ -324,16 +387,16 @@ class FakeColumn:
 
 
 class FakeFrame:
-    """A DataFrame of the protocol, of one piece."""
+    """A DataFrame of the protocol, of one piece or more."""
 
-    def __init__(self, columns):
-        self.columns = columns
+    def __init__(self, columns, *later):
+        self.columns, self.later = columns, later
 
     def __dataframe__(self, nan_as_null: bool = False, allow_copy: bool = True):
         return self
 
     def get_chunks(self):
-        return [self]
+        return [self, *self.later]
 
     def column_names(self):
         return list(self.columns)

@@ -14,12 +14,11 @@ import unittest
 from pathlib import Path
 from unittest import mock
 
-from support import TOP, Folder
+from support import TOP, Folder, drawing
 
 import marple
 
 HAS_PANDAS = importlib.util.find_spec("pandas") is not None
-SEED = random.SystemRandom().randrange(2**32)
 GREATEST = 2**64 - 1
 SMALL = b"""table r other 0 4
 srcip,dstip,mark,epoch,epochs,n
@@ -60,8 +59,7 @@ class Random(unittest.TestCase):
     """Tables with rows drawn at random, whole and in pieces."""
 
     def setUp(self):
-        print(f"seed {SEED}")
-        self.draw = random.Random(SEED)
+        self.draw = drawing("test_exports")
 
     def check(self, table: marple.Table, lines: list[list[str]]):
         columns = list(zip(*lines[1:])) or [() for _ in lines[0]]
@@ -139,18 +137,76 @@ class Random(unittest.TestCase):
 
     @unittest.skipUnless(importlib.util.find_spec("pyarrow"), "pyarrow")
     def test_are_tables_of_arrow(self):
-        import pyarrow.parquet
+        self.check_arrow()
 
-        folder = Folder(self)
+    def test_are_tables_of_a_library_like_arrow(self):
+        """One that has the same calls, and takes no other arguments."""
+        kept: dict[str, object] = {}
+        parquet = mock.Mock(read_table=kept.get, write_table=lambda table, path: kept.update({path: table}))
+        with mock.patch.dict(sys.modules, {"pyarrow": LikeArrow, "pyarrow.parquet": parquet}):
+            self.check_arrow()
+
+    def check_arrow(self) -> None:
+        parquet, folder = importlib.import_module("pyarrow.parquet"), Folder(self)
         for _ in range(50):
             text, lines = random_table(self.draw)
             table = marple.read_tables(text)["t"]
             made = table.to_arrow()
             table.to_parquet(folder.path("t.parquet"))
-            for one in (made, pyarrow.parquet.read_table(folder.path("t.parquet"))):
+            for one in (made, parquet.read_table(folder.path("t.parquet"))):
                 cells = [one.column(name).to_pylist() for name in lines[0]]
                 shown = [["*" if cell is None else str(cell) for cell in column] for column in cells]
                 self.assertEqual([list(row) for row in zip(*shown)], lines[1:])
+
+
+class LikeArrow:
+    """What of pyarrow makes a table: the same names, arguments and refusals, over lists."""
+
+    @staticmethod
+    def uint64() -> range:
+        return range(2**64)
+
+    @staticmethod
+    def int8() -> range:
+        return range(-(2**7), 2**7)
+
+    @staticmethod
+    def string() -> type:
+        return str
+
+    @staticmethod
+    def py_buffer(thing) -> memoryview:
+        return memoryview(thing).cast("B")
+
+    @staticmethod
+    def array(values, type=None) -> mock.Mock:
+        """A column of what a sequence has, one by one, and None where there is nothing."""
+        own = [value for value in values]
+        for value in own:
+            fits = isinstance(value, str) if type in (None, str) else value is None or value in type
+            if not fits:
+                raise ValueError(f"{value!r} is not of {type}")
+        return mock.Mock(to_pylist=lambda: own, spec=["to_pylist"])
+
+    class Array:
+        @staticmethod
+        def from_buffers(type: range, length: int, buffers: list):
+            validity, data = buffers
+            if validity is not None or len(data) < 8 * length:
+                raise ValueError("the buffers don't fit")
+            return LikeArrow.array(data.cast("Q")[:length].tolist(), type)
+
+    class DictionaryArray:
+        @staticmethod
+        def from_arrays(indices, dictionary):
+            return LikeArrow.array([dictionary.to_pylist()[at] for at in indices.to_pylist()])
+
+    class Table:
+        @staticmethod
+        def from_arrays(arrays: list, names: list):
+            if len({len(one.to_pylist()) for one in arrays}) > 1 or len(arrays) != len(names):
+                raise ValueError("columns of different lengths")
+            return mock.Mock(column=dict(zip(names, arrays)).__getitem__, spec=["column"])
 
 
 class Addresses(unittest.TestCase):

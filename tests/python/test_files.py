@@ -1,13 +1,12 @@
 """Files of any bytes give in parts what runs over each of them give: the same counts, or the same first fault."""
 
-import os
 import random
 import unittest
 from collections import Counter
 from pathlib import Path
 from unittest import mock
 
-from support import Folder
+from support import TIMES, Folder, drawing
 
 import marple
 from marple import parts
@@ -69,10 +68,8 @@ class AnyFiles(unittest.TestCase):
         return expected[1] is not None
 
     def test_a_hundred_in_random_pieces(self):
-        seed = int(os.environ.get("MARPLE_TEST_SEED", random.randrange(10**6)))
-        print(f"test_files: MARPLE_TEST_SEED={seed}")
-        draw, made, faults = random.Random(seed), 0, 0
-        while made < 100:
+        draw, made, faults = drawing("test_files"), 0, 0
+        while made < 100 * TIMES:
             traces = [self.folder.write(f"{made}-{number}", random_file(draw)) for number in range(draw.randint(1, 4))]
             made += len(traces)
             piece = draw.choice((1, 3, 10, 30, 100))

@@ -1,7 +1,9 @@
 """What may be given as a query, a trace, an option and a program, and what is said of anything else."""
 
+import gzip
 import io
 import os
+import queue
 import subprocess
 import sys
 import threading
@@ -97,12 +99,63 @@ class Traces(Case):
             with self.assertRaisesRegex(TypeError, "a path .*, bytes, an open file, a DataFrame of pandas"):
                 marple.run(COUNT, trace)
 
+    def test_of_gzip_are_unpacked(self):
+        """A query that reads no field took the lines of the packed file for packets."""
+        path = self.folder.write("trace.csv.gz", gzip.compress(TRACE))
+        packets = b"def count([c],[]) { c = c + 1; } m = map(pktstream, [a = 0]); r = groupby(m, [a], count); print r;"
+        self.assertEqual(marple.run(packets, path)["r"].rows, [(0, 0, 0, 1, 3)])
+        self.assertEqual(marple.run(COUNT, path, timeout=60)["r"].rows, ROWS)
+        self.folder.write("trace.csv.gz", gzip.compress(TRACE)[:-9])
+        with self.assertRaisesRegex(marple.InputError, f"cannot read the trace {path}: .*end-of-stream"):
+            marple.run(COUNT, path)
+
+    def test_of_standard_input_are_that_of_this_process(self):
+        """The program, which has none, took it for an empty file."""
+        script = f"import marple; print(marple.run({COUNT!r}, '/dev/stdin')['r'].rows)"
+        with open(self.folder.write("trace.csv", TRACE), "rb") as file:
+            done = subprocess.run([sys.executable, "-c", script], stdin=file, capture_output=True, text=True, check=False)
+        self.assertIn("(7, <Mark.EXACT: 0>, 0, 1, 2)", done.stdout, done.stderr)
+
+    def test_of_names_that_are_no_text_are_read(self):
+        """The program doesn't take such a word."""
+        path = os.path.join(os.fsencode(self.folder.place.name), b"\xff.csv")
+        Path(os.fsdecode(path)).write_bytes(TRACE)
+        self.assertEqual(marple.run(COUNT, os.fsdecode(path))["r"].rows, ROWS)
+
+    def test_that_are_open_are_waited_for_no_longer_than_the_timeout(self):
+        reader, writer = os.pipe()
+        self.addCleanup(os.close, writer)
+        os.write(writer, TRACE)
+        for buffering in (-1, 0):
+            file = open(os.dup(reader), "rb", buffering=buffering)
+            done = queue.SimpleQueue()
+            threading.Thread(target=lambda: done.put(self.fault(file, timeout=0.3)), daemon=True).start()  # noqa: B023
+            self.assertIsInstance(done.get(timeout=30), marple.TimedOut)
+
+    def test_that_are_open_and_do_not_wait_are_refused(self):
+        """What they had until then was taken for the whole."""
+        reader, writer = os.pipe()
+        self.addCleanup(os.close, writer)
+        os.set_blocking(reader, False)
+        os.write(writer, TRACE)
+        with open(reader, "rb", buffering=0) as file:
+            refused = self.fault(file)
+        self.assertRegex(str(refused), "cannot read the trace of an open file: it doesn't wait")
+
+    def fault(self, trace, **options) -> Exception | None:
+        try:
+            marple.run(COUNT, trace, **options)
+        except marple.MarpleError as fault:
+            return fault
+
     def test_that_cannot_be_read_are_named_with_the_reason(self):
         place = self.folder.place.name
         for path, reason in ((f"{place}/none.csv", "No such file or directory"), (place, "Is a directory")):
             with self.assertRaises(marple.InputError) as refused:
                 marple.run(COUNT, path)
             self.assertEqual(str(refused.exception), f"cannot read the trace {path}: {reason}")
+        with self.assertRaisesRegex(marple.InputError, "cannot read the trace 'a.*b': embedded null byte"):
+            marple.run(COUNT, "a\0b")
 
     def test_that_are_refused_are_named(self):
         path = self.folder.write("trace.csv", b"srcip\nx\n")
@@ -185,6 +238,7 @@ class Options(Case):
         for wrong in (0, -1):
             with self.assertRaisesRegex(ValueError, "timeout is a number of seconds above 0"):
                 marple.run(COUNT, TRACE, timeout=wrong)
+        self.assertEqual(marple.run(COUNT, TRACE, timeout=float("inf"))["r"].rows, ROWS)
 
 
 def is_running(process: int) -> bool:

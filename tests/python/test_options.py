@@ -3,6 +3,7 @@
 import bz2
 import csv
 import gzip
+import io
 import lzma
 import re
 import subprocess
@@ -58,8 +59,14 @@ class Bounds(unittest.TestCase):
 
     def test_of_traces(self):
         self.assertEqual(parts.run(QUERY, self.trace).text, marple.run(QUERY, self.trace).text)
+        self.assertEqual(parts.run(query_text=SUMS.decode(), traces=[self.trace])["r"].rows, parts.run(SUMS, self.trace)["r"].rows)
+        self.assertEqual(parts.run(QUERY, (one for one in [self.trace])).text, marple.run(QUERY, self.trace).text)
         with self.assertRaises(parts.OptionRefused):
             parts.run(QUERY, [])
+        frame = mock.Mock(spec=["__dataframe__", "__iter__"], __iter__=lambda frame: iter(["srcip"]))
+        for traces in (None, 7, generated(*TRACE), io.StringIO("a\nb\n"), [self.trace, 7], frame):
+            with self.assertRaisesRegex(TypeError, "traces are a path .*os.PathLike.* or several; not [a-zA-Z]+$"):
+                parts.run(QUERY, traces)
 
     def test_of_a_client_and_workers(self):
         with self.assertRaises(parts.OptionRefused):

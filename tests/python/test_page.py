@@ -57,6 +57,15 @@ class ThePage(unittest.TestCase):
                         self.skipTest(module)
                 self.assertEqual(self.printed(command).rstrip("\n"), answer.rstrip("\n"))
 
+    @unittest.skipIf(importlib.util.find_spec("pandas") is None, "pandas")
+    def test_p99_tells_flows_from_one_port_apart(self):
+        fields = "srcip,dstip,srcport,dstport,proto,tin,tout"
+        rows = ["1,2,443,5001,6,0,1000000", "1,3,443,5002,6,10,39000010", "1,3,443,5002,6,20,39000020"]
+        Path(self.folder.path("two.csv")).write_text("\n".join([fields, *rows, ""]))
+        shown = self.printed("PYTHONPATH=python python3 examples/cookbook/p99.py two.csv").splitlines()[1:]
+        self.assertEqual([line.split()[1:2] + line.split()[3:] for line in shown],
+                         [["0.0.0.2", "5001", "6", "1", "1", "1"], ["0.0.0.3", "5002", "6", "39", "39", "39"]])
+
 
 if __name__ == "__main__":
     unittest.main()

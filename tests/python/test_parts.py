@@ -7,7 +7,7 @@ from collections import Counter
 from pathlib import Path
 from unittest import mock
 
-from support import TOP, Folder, but_for_epochs, choices, generated
+from support import TIMES, TOP, Folder, but_for_epochs, choices, drawing, generated
 
 import marple
 from marple import Mark, parts
@@ -51,6 +51,15 @@ class JoinedTables(unittest.TestCase):
                     self.assertEqual(answer.by, tuple(choices()[name].split(",")) if choices()[name] != "sums" else ())
                     self.check_same(answer, expected)
                     self.assertTrue(answer.parts >= number if answer.by else answer.parts > 1)
+
+    def test_are_those_of_the_whole_at_random(self):
+        draw = drawing("test_parts")
+        for number in range(8 * TIMES):
+            name, trace = draw.choice(partable()), marple.gen(draw.randint(1, 3_000), draw.randrange(2**31))
+            options = {"parts": draw.randint(1, 60), "workers": draw.choice((None, 2)), "piece": draw.randint(2_000, 200_000)}
+            with self.subTest(number=number, query=name, **options):
+                answer = parts.run(TOP / name, self.folder.traces(trace, draw.randint(1, 5)), **options)
+                self.check_same(answer, marple.run(TOP / name, trace))
 
     def check_same(self, answer: marple.Answer, expected: marple.Answer):
         self.assertEqual(list(answer), list(expected))

@@ -7,9 +7,10 @@ import subprocess
 import sys
 import time
 import unittest
+from contextlib import suppress
 from pathlib import Path
 
-from support import TOP, Folder, generated
+from support import TIMES, TOP, Folder, drawing, generated
 
 import marple
 from marple.program import find_program
@@ -153,6 +154,40 @@ class Stopped(unittest.TestCase):
             time.sleep(0.05)
         self.check_goes_on()
         self.assertFalse([name for name in os.listdir(self.work) if re.fullmatch(r".*\.[0-9a-f]{32}", name)])
+
+
+def family_of(process: int) -> list[int]:
+    """A process, those that it began and that go on, and theirs."""
+    try:
+        begun = Path(f"/proc/{process}/task/{process}/children").read_text().split()
+    except (FileNotFoundError, ProcessLookupError):
+        begun = []
+    return [process, *(one for child in begun for one in family_of(int(child)))]
+
+
+class KilledAtRandom(unittest.TestCase):
+    def test_a_second_call_goes_on(self):
+        """One of the processes is killed, whatever it is at: the one that asks, a worker or the program."""
+        folder, draw = Folder(self), drawing("test_stops")
+        trace = folder.write("trace.csv", generated(*TRACE))
+        expected, took = marple.run(QUERY, trace).text, 0.0
+        for number in range(5 * TIMES):
+            command = [sys.executable, "-m", "marple.parts", str(QUERY), trace, "--parts", "12", "--workers", "2"]
+            command += ["--work", folder.path(f"work-{number}")]
+            begun, pause = time.monotonic(), draw.random()
+            call = subprocess.Popen(command, stdout=subprocess.DEVNULL, stderr=subprocess.DEVNULL)
+            if took:
+                time.sleep(took * pause)
+                family = family_of(call.pid)
+                with suppress(ProcessLookupError):
+                    os.kill(draw.choice(family), signal.SIGKILL)
+                while any(map(is_running, family[1:])):
+                    self.assertLess(time.monotonic() - begun, SLOW + took)
+                    time.sleep(0.02)
+            call.wait(timeout=SLOW)
+            took = took or time.monotonic() - begun
+            done = subprocess.run(command, capture_output=True, text=True, check=False)
+            self.assertEqual((done.returncode, done.stdout), (0, expected), done.stderr)
 
 
 class NoRoom(unittest.TestCase):

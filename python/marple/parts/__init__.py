@@ -9,12 +9,13 @@ docs/SCALING.md says why the tables are those of one run over all traces, and wh
 
 import os
 import tempfile
-from collections.abc import Callable, Iterator, Mapping, Sequence
+from collections.abc import Callable, Iterable, Iterator, Mapping, Sequence
 from contextlib import contextmanager
 from typing import Any
 
-from marple.commands import Query, asked, query_text
+from marple.commands import Query, asked
 from marple.finals import Asking
+from marple.frames import is_frame
 from marple.parts.choice import Choice, choose
 from marple.parts.engine import Engine, engine_of
 from marple.parts.job import Job
@@ -38,6 +39,7 @@ from marple.parts.refusals import (
 )
 from marple.parts.tasks import Ran
 from marple.program import Program, find_program
+from marple.sources import text_of_query
 from marple.tables import Answer, tables_of_file
 
 __all__ = [
@@ -48,7 +50,7 @@ __all__ = [
 
 PIECE = 64 << 20
 Path = str | os.PathLike[str]
-Traces = Path | Sequence[Path]
+Traces = Path | Iterable[Path]
 
 
 class PartsAnswer(Answer):
@@ -61,14 +63,14 @@ class PartsAnswer(Answer):
 
 
 def run(
-    query: Query, traces: Traces, *, by: str | Sequence[str] | None = None, parts: int | None = None,
-    workers: int | None = None, client: Any = None, work: Path | None = None, buckets: int | None = None,
-    ways: int | None = None, pipe: int | None = None, lag: int | None = None, program: Program | None = None,
-    piece: int = PIECE, report: Callable[[str], None] = lambda line: None,
+    query: Query | None = None, traces: Traces = (), *, query_text: str | None = None, by: str | Sequence[str] | None = None,
+    parts: int | None = None, workers: int | None = None, client: Any = None, work: Path | None = None,
+    buckets: int | None = None, ways: int | None = None, pipe: int | None = None, lag: int | None = None,
+    program: Program | None = None, piece: int = PIECE, report: Callable[[str], None] = lambda line: None,
 ) -> PartsAnswer:  # fmt: skip
     """The tables of the query over the packets of all traces, in their order, by runs over parts of them.
 
-    query: a path, or its text as bytes. traces: a path, or those of files with one header; what is compressed by gzip
+    query, query_text: as at `marple.run`. traces: a path, or those of files with one header; what is compressed by gzip
     is unpacked first. by: fields to split by, or one field; by default all that the query allows. parts: how many at
     least. workers: how many processes of this machine do the tasks; client: a distributed.Client, whose workers see the
     traces and the folder at the same paths; without either the tasks run in turn here. work: a folder for what is made
@@ -77,7 +79,7 @@ def run(
     progress. Warns as `marple.run` does. Raises what that raises, where a TraceRefused has the file in `path`, and PartsRefused.
     """
     given = {"buckets": buckets, "ways": ways, "pipe": pipe, "lag": lag}
-    text, ask = asked(query_text(query), program)
+    text, ask = asked(text_of_query(query, query_text), program)
     with folder_of(work) as folder, engine_of(workers, client) as engine:
         joined, choice, runs = tables_file(
             text, traces, by=by, parts=parts, engine=engine, work=folder, sums=work is not None, given=given,
@@ -105,12 +107,22 @@ def tables_file(
     program = find_program(program)
     choice = choose(query, by, program)
     report(f"by {','.join(choice.by)}: {choice.reason}" if choice.by else f"by pieces as they come: {choice.reason}")
-    paths = [os.path.abspath(path) for path in ([traces] if isinstance(traces, str | os.PathLike) else traces)]
-    if not paths:
-        raise OptionRefused("there is no trace")
+    paths = _paths(traces)
     job = Job(query, paths, choice, parts, given, program, engine, os.path.abspath(work), sums, piece, report)
     joined, runs = job.run()
     return joined, choice, runs
+
+
+def _paths(traces: Traces) -> list[str]:
+    """The paths of the traces. Raises TypeError where it is something else, and OptionRefused where there are none."""
+    listed: Any = [traces] if isinstance(traces, str | os.PathLike) else traces
+    are_paths = isinstance(listed, Iterable) and not is_frame(listed) and not hasattr(listed, "read")
+    given = list(listed) if are_paths else [listed]
+    if not all(isinstance(path, str | os.PathLike) for path in given):
+        raise TypeError(f"traces are a path (str or os.PathLike) or several; not {type(traces).__name__}")
+    if not given:
+        raise OptionRefused("there is no trace")
+    return [os.path.abspath(path) for path in given]
 
 
 @contextmanager

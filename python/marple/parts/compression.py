@@ -1,21 +1,18 @@
 """Traces that are compressed: those of gzip are unpacked into the folder of the work, others are refused."""
 
-import gzip
 import re
-import zlib
 from collections.abc import Iterator
 
 from marple.faults import InputError
 from marple.parts.refusals import CompressionRefused
 from marple.parts.work import Made, keep, written
+from marple.sources import GZIP, UNREADABLE, unpacked
 
-GZIP = re.compile(rb"\x1f\x8b\x08")
 OTHERS = {
     "bzip2": re.compile(rb"BZh[1-9](?:\x31\x41\x59\x26\x53\x59|\x17\x72\x45\x38\x50\x90)"),
     "xz": re.compile(rb"\xfd7zXZ\x00"),
     "zstd": re.compile(rb"\x28\xb5\x2f\xfd"),
 }
-BLOCK = 1 << 20
 
 
 def is_compressed(path: str) -> bool:
@@ -45,8 +42,6 @@ def _unpack(path: str, plain: str) -> Made:
 def _unpacked(path: str) -> Iterator[bytes]:
     """What a trace has, a block after the other."""
     try:
-        with gzip.open(path) as packed:
-            while block := packed.read(BLOCK):
-                yield block
-    except (OSError, EOFError, zlib.error) as fault:
+        yield from unpacked(path)
+    except UNREADABLE as fault:
         raise InputError(f"cannot read the trace {path}: {fault}") from fault
