@@ -31,6 +31,7 @@ UNFIT = {
 }
 QUERY_REFUSED, TRACE_REFUSED = 4, 5
 LONGEST = 65_536  # bytes of a query; of a longer one no more is looked at
+Remedies = dict[str, page.Remedy]
 COMPLAINT = re.compile("marple: (out of memory|bad command line|cannot (read|write)|query: |trace: )")
 
 
@@ -119,7 +120,7 @@ def lacking_words(query: Query, others: set[str]) -> str:
     return said
 
 
-def other_words(query: Query, remedies: dict[str, str]) -> str:
+def other_words(query: Query, remedies: Remedies) -> str:
     """For each fold that isn't linear the places that keep it from being so, each with its remedy."""
     said = ""
     done = set()
@@ -138,7 +139,7 @@ def other_words(query: Query, remedies: dict[str, str]) -> str:
     return said
 
 
-def loss_words(query: Query, remedies: dict[str, str]) -> str:
+def loss_words(query: Query, remedies: Remedies) -> str:
     """The places where the infinity of a dropped packet's `tout` is reckoned with, and the remedy."""
     said = ""
     for token in losses.places_of_losses(query.items):
@@ -156,9 +157,9 @@ def cause_words(cause: folds.Cause) -> str:
     return f"`{cause.op}` of {carried}"
 
 
-def remedy_line(remedies: dict[str, str], fault: str, where: str = "") -> str:
-    words = page.remedy(remedies, fault, where)
-    return f"{words}\n" if words else ""
+def remedy_line(remedies: Remedies, fault: str, where: str = "") -> str:
+    found = page.remedy(remedies, fault, where)
+    return found.lines() if found else ""
 
 
 def command_words(query: Query, fault: str, start: int) -> str:
@@ -182,7 +183,7 @@ def argument_words(query: Query, binding: Binding, scope: Scope) -> str:
     return said
 
 
-def grammar_words(query: Query, fault: str, start: int, remedies: dict[str, str]) -> str:
+def grammar_words(query: Query, fault: str, start: int, remedies: Remedies) -> str:
     """What is said of a fault of the tokens or of the grammar."""
     hint = (hints.address_hint(query.text, start) if fault == "BadByte" else None) or meant(fault, query.text, start)
     if hint:
@@ -194,7 +195,7 @@ def grammar_words(query: Query, fault: str, start: int, remedies: dict[str, str]
     return said + remedy_line(remedies, fault)
 
 
-def fault_words(query: Query, fault: str, start: int, remedies: dict[str, str]) -> str:
+def fault_words(query: Query, fault: str, start: int, remedies: Remedies) -> str:
     """The place of a query's fault, its remedy, and what may have been meant."""
     said = query.place(start, fault)
     if fault in ("BadByte", "UnexpectedToken"):
@@ -216,7 +217,7 @@ def fault_words(query: Query, fault: str, start: int, remedies: dict[str, str]) 
 class Session:
     """One call of the command: what it was asked, and where the program and the remedies are."""
 
-    def __init__(self, program: str, remedies: dict[str, str], asked: argparse.Namespace):
+    def __init__(self, program: str, remedies: Remedies, asked: argparse.Namespace):
         self.program, self.remedies, self.asked = program, remedies, asked
 
     def words_for(self, command: str) -> list[str]:

@@ -83,6 +83,8 @@ PROTOCOL = f"(?P<protocol>{'|'.join(PROTOCOLS)})"
 UNIT = r"(?P<unit>ns|us|ms|sec|s|min|h)\b(?!\s*[=(])"
 COMMENT = "A comment begins with `#`, and goes to the end of the line; `/` divides, and rounds down."
 NO_TEXTS = "There are no texts: protocols, ports and addresses are numbers."
+NO_SQL = ("This isn't SQL: a query makes streams of `pktstream`, groups them by a fold, and prints tables: "
+          "`def count([c], []) {{ c = c + 1; }} r = groupby(pktstream, [srcip], count); print r;`")
 HABITS = (
     Habit("UnexpectedToken", r"\bdef\s+(?P<name>\w+)\b[\s\S]*\bgroupby\s*\([^;]*,\s*(?P=name)\s*", r"\(",
           "A groupby names its fold, whose arguments are the columns of their names: write `{name}` without brackets."),
@@ -94,9 +96,13 @@ HABITS = (
     Habit("UnexpectedToken", "", r"and\b(?!\s*=)", "Write `&&` for `and`."),
     Habit("UnexpectedToken", "", r"or\b(?!\s*=)", "Write `||` for `or`."),
     Habit("UnexpectedToken", r"\bnot\s+", "", "Write `!` for `not`, and what it is of in brackets: `!(proto == 6)`."),
-    Habit("UnexpectedToken", r"(?:^|[;}])\s*(?:select|with)\s+", "",
-          "This isn't SQL: a query makes streams of `pktstream`, groups them by a fold, and prints tables: "
-          "`def count([c], []) {{ c = c + 1; }} r = groupby(pktstream, [srcip], count); print r;`"),
+    Habit("UnexpectedToken", r"(?:^|[;}])\s*(?:select|with)\s+", "", NO_SQL),
+    Habit("UnexpectedToken", r"=\s*", r"(?:select|with)\b", NO_SQL),
+    Habit("UnexpectedToken", r"=\s*", r"\w+\s+where\b", "What keeps some packets is a filter: `x = filter(pktstream, proto == 6);`."),
+    Habit("UnexpectedToken", r"\bprint\s+(?P<table>\w+)\s+", r"(?:where|having|limit|order|sort)\b",
+          "A final keeps some rows of a table: `final few = filter({table}, ..);`, or those that are greatest in a column: "
+          "`final most = top({table}, column, 10);`. `print few;` comes after it."),
+    Habit("UnexpectedToken", r"\bgroupby\s+", AGGREGATE + r"\s*\(", aggregate_words),
     Habit("UnexpectedToken", r"\bgroupby\s*\([^;]*\[\s*", r"\]",
           "A groupby has a key: for one row over all packets make a column that is the same everywhere, "
           "`everything = map(pktstream, [all = 0]);`, and take `[all]`."),

@@ -75,7 +75,7 @@ def part_at(items: list[Item], place: int) -> Optional[Part]:
 
 
 def situation(fault: str, part: Optional[Part], scope: Scope) -> str:
-    """The words after the fault in the list of docs/LANGUAGE.md, or none."""
+    """The words after the fault in the list of docs/ERRORS.md, or none."""
     if part is None:
         return ""
     item: Union[Item, Binding] = part.item
