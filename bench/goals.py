@@ -49,16 +49,9 @@ def instructions(bench: str, race: str, subject: str, peer: str) -> Value:
     return lambda found: found[bench, race, subject].instructions / found[bench, race, peer].instructions
 
 
-def own_instructions(bench: str, race: str, packets: int) -> Value:
-    """The instructions of marple for a packet, without those of the crate `csv`."""
-
-    def value(found: Figures) -> float:
-        figure = found[bench, race, "marple"]
-        if not figure.reading:
-            raise KeyError("no instructions of the crate csv were seen")
-        return (figure.instructions - figure.reading) / packets
-
-    return value
+def instructions_for_each(bench: str, race: str, packets: int) -> Value:
+    """The instructions of marple for a packet."""
+    return lambda found: found[bench, race, "marple"].instructions / packets
 
 
 def growth(bench: str, first: str, last: str, subject: str, peer: str) -> Value:
@@ -97,10 +90,10 @@ def query_goals() -> list[Goal]:
     found = []
     for query in (*QUERIES, OOS):
         value = instructions("queries", query, "marple", "limit")
-        found.append(Goal("queries", f"instructions in `limit`'s, {query}", 2.5, value))
-    for query, limit in ((QUERIES[0], 620), (OOS, 1250)):
-        value = own_instructions("queries", query, 100_000)
-        found.append(Goal("queries", f"own instructions for a packet, {query}", limit, value))
+        found.append(Goal("queries", f"instructions in `limit`'s, {query}", 1.7, value))
+    for query, limit in ((QUERIES[0], 1200), (OOS, 1850)):
+        value = instructions_for_each("queries", query, 100_000)
+        found.append(Goal("queries", f"instructions for a packet, {query}", limit, value))
     return found
 
 
@@ -121,7 +114,7 @@ def parts_goals() -> list[Goal]:
 
 
 def package_goals() -> list[Goal]:
-    """Goals of the package for Python, beside pandas' own CSV."""
+    """Goals of the package for Python, compared with pandas' own CSV."""
     found = []
     for what, case, peer in (
         ("a trace of a DataFrame", "a trace of whole numbers", "to_csv"),

@@ -3,6 +3,7 @@
 from __future__ import annotations
 
 import os
+import re
 import shutil
 import statistics
 import subprocess
@@ -56,7 +57,6 @@ class Figure:
     seconds: list[float] = field(default_factory=list)
     peaks: list[int] = field(default_factory=list)
     instructions: int | None = None
-    reading: int | None = None
 
     def time(self) -> float:
         """The median of the processor times."""
@@ -105,43 +105,19 @@ def measure(race: Race, runs: int | None = None) -> dict[str, Figure]:
             figure.seconds.append(seconds)
             figure.peaks.append(peak)
     for name, command in race.small.items():
-        figures[name].instructions, figures[name].reading = count_instructions(command)
+        figures[name].instructions = count_instructions(command)
     return figures
 
 
-def count_instructions(command: Command) -> tuple[int | None, int | None]:
-    """The instructions of a run by callgrind, and how many of them the crate `csv` took; nothing without valgrind."""
+def count_instructions(command: Command) -> int | None:
+    """The instructions of a run by callgrind; nothing without valgrind."""
     if shutil.which("valgrind") is None:
-        return None, None
+        return None
     with tempfile.NamedTemporaryFile(mode="r") as report:
         valgrind = ["valgrind", "--quiet", "--tool=callgrind", f"--callgrind-out-file={report.name}"]
         subprocess.run([*valgrind, *command], stdin=subprocess.DEVNULL, stdout=subprocess.DEVNULL, check=True)
-        return sum_costs(Path(report.name).read_text(errors="replace").splitlines())
-
-
-def sum_costs(lines: list[str]) -> tuple[int, int]:
-    """Of the lines of a callgrind file: all instructions, and those of the functions of the crate `csv`."""
-    names: dict[str, str] = {}
-    total = reading = 0
-    function = ""
-    is_call = False
-    for line in lines:
-        if line.startswith("fn="):
-            number, _, name = line[3:].partition(" ")
-            function = names.setdefault(number, name)
-        elif line.startswith("cfn="):
-            number, _, name = line[4:].partition(" ")
-            names.setdefault(number, name)
-        elif line.startswith("calls="):
-            is_call = True
-        elif line and line[0] in "0123456789+-*":
-            # the line after `calls=` has the cost of the called function
-            if not is_call:
-                cost = int(line.split()[1])
-                total += cost
-                reading += cost if function.startswith(("csv::", "csv_core::")) else 0
-            is_call = False
-    return total, reading
+        total = re.search(r"(?m)^totals: (\d+)$", Path(report.name).read_text(errors="replace"))
+        return int(total[1]) if total else None
 
 
 def report_progress(text: str) -> None:

@@ -19,7 +19,7 @@ Measured = dict[str, list[tuple[Race, dict[str, Figure]]]]
 
 
 def output_of(command: list[str]) -> str:
-    """The first line that a command prints, or nothing where it isn't there."""
+    """The first line that a command prints, or nothing if it isn't there."""
     if shutil.which(command[0]) is None:
         return ""
     ended = subprocess.run(command, capture_output=True, text=True, cwd=TOP, check=False)
@@ -35,10 +35,10 @@ def machine() -> str:
 
 
 def when_and_where(load: float) -> str:
-    """The day, the commit, the machine."""
+    """The day, the version, the commit, the machine."""
     today = datetime.date.today()
-    commit = output_of(["git", "rev-parse", "--short", "HEAD"])
-    return f"{today.day} {today:%B %Y}, commit {commit}. Machine: {machine()}; load {load:.1f} when the run began."
+    commit, version = output_of(["git", "rev-parse", "--short", "HEAD"]), (TOP / "VERSION").read_text().strip()
+    return f"{today.day} {today:%B %Y}, version {version}, commit {commit}. Machine: {machine()}; load {load:.1f} when the run began."
 
 
 def wrapped(text: str) -> list[str]:
@@ -54,12 +54,12 @@ def preface(load: float, runs: int | None) -> list[str]:
         when_and_where(load),
         f"Versions: {'; '.join(version for version in versions if version.strip())}.",
     ]
-    often = "five times each, or three times where a run takes more than 4 s and in `many` and `parts`"
+    often = "five times each, or three times if a run takes more than 4 s and in `many` and `parts`"
     if runs:
         often = "once each" if runs == 1 else f"{runs} times each"
-        often += ", or three times where a run takes more than 4 s" if runs > 3 else ""
+        often += ", or three times if a run takes more than 4 s" if runs > 3 else ""
     legend = (
-        "Times are processor time, and of the clock where the case says so: the median of the runs, with the least and "
+        "Times are processor time, and of the clock if the case says so: the median of the runs, with the least and "
         f"the greatest. The programs of a case run in turn, {often}. A ratio is the figure in the first line of the "
         "case divided by that of the line. Instructions are counted by callgrind, of `queries` over 100,000 packets."
     )
@@ -87,7 +87,7 @@ def goal_table(figures: Figures) -> list[str]:
 
 
 def ratio(subject: float | None, peer: float | None) -> str:
-    """A ratio with two digits, where both figures are there."""
+    """A ratio with two digits, if both figures are there."""
     return f"{subject / peer:.2f}" if subject is not None and peer else ""
 
 

@@ -28,7 +28,7 @@ def marple_program() -> str:
     """The program under test: $MARPLE, or the proved one of the repository, which must be that of its sources."""
     if named := os.environ.get("MARPLE"):
         return str(Path(named).resolve()) if "/" in named else named
-    words = 'top=$1; . "$1/tools/building/proved.sh"; is_proved && echo "$program"'
+    words = 'top=$1; . "$1/tools/building/proved.sh"; is_proved marple && echo "$program"'
     asked = subprocess.run(["sh", "-c", words, "sh", TOP], stdout=subprocess.PIPE, text=True, check=False)
     if asked.returncode != 0:
         raise BenchError("the program isn't proved, or its sources are newer: ./build proves it")
@@ -69,7 +69,7 @@ class Workshop:
 def copied_program(shop: Workshop) -> tuple[str, list[str]]:
     """Copies the bench's folder `program` into the room. Its name, and the libraries that it uses.
 
-    The sources of `program` carry one more suffix, since the gate reads the sources of `crates` alone.
+    The sources of `program` carry one more suffix, since the gate reads only the sources of `crates`.
     """
     name, _, used = (shop.here / "program/needs.txt").read_text().partition(":")
     folder = shop.room / name

@@ -1,4 +1,4 @@
-"""Each kind of final over the rows of 1,048,576 packets that nearly each have a new key, beside the same in Rust."""
+"""Each kind of final over the rows of 1,048,576 packets that nearly each have a new key, compared with the same in Rust."""
 
 from __future__ import annotations
 

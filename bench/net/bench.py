@@ -1,4 +1,4 @@
-"""A count over 1,000,000 packets of one switch and 4,096 keys by `net`, beside `run` with the same caches and pipes."""
+"""A count over 1,000,000 packets of one switch and 4,096 keys by `net`, compared with `run` with the same caches and pipes."""
 
 from __future__ import annotations
 

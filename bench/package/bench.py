@@ -1,4 +1,4 @@
-"""DataFrames as traces and tables as DataFrames, beside pandas' own CSV; and a call of the program.
+"""DataFrames as traces and tables as DataFrames, compared with pandas' own CSV; and a call of the program.
 
 `measure.py` measures them in one process of the Python that PYTHON names, or of /usr/bin/python3, where that has pandas.
 """

@@ -27,7 +27,7 @@ ALL = "1-14"
 COLUMNS = "4,9,10,11"  # those that the query reads
 MILLION = 1_000_000
 STAGES = ("look", "split", "run", "join")
-FASTER, SLOWER = 3.0, 2.0  # the goals: 4 workers beside one, and splitting beside running
+FASTER, SLOWER = 3.0, 2.0  # the goals: 4 workers compared with one, and splitting with running
 
 
 def progress(line: str) -> None:
@@ -200,8 +200,9 @@ def versions() -> str:
 
     asked = ["git", "rev-parse", "--short", "HEAD"]
     commit = subprocess.run(asked, capture_output=True, text=True, check=False).stdout.strip()
+    version = (Path(__file__).resolve().parents[2] / "VERSION").read_text().strip()
     python = sys.version.split()[0]
-    return f"commit {commit}, Python {python}, numpy {numpy.__version__}"
+    return f"version {version}, commit {commit}, Python {python}, numpy {numpy.__version__}"
 
 
 def preface(traces: Traces, load: float, runs: int) -> list[str]:
@@ -269,7 +270,7 @@ def program_runs(query: str, room: Path, packets: int, runs: int) -> tuple[list[
 
 
 def splitting_runs(query: str, room: Path, packets: int, runs: int) -> tuple[list[str], list[Case]]:
-    """What splitting a million packets costs beside running them: a table, and the same as cases."""
+    """What splitting a million packets costs compared with running them: a table, and the same as cases."""
     packets = min(packets, MILLION)
     plain = first_rows(room, packets, ALL)
     lines = [

@@ -1,4 +1,4 @@
-"""Five queries over the generator's trace of 1,000,000 packets, beside Rust, awk, datamash and sqlite3.
+"""Five queries over the generator's trace of 1,000,000 packets, compared with Rust, awk, datamash and sqlite3.
 
 `hand` does in Rust what marple does but for the epochs, and `limit` the least that gives the answer.
 """

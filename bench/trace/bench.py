@@ -1,4 +1,4 @@
-"""Making a trace of 1,000,000 packets, and a count by source over it, beside the same in Rust."""
+"""Making a trace of 1,000,000 packets, and a count by source over it, compared with the same in Rust."""
 
 from __future__ import annotations
 

@@ -1,4 +1,4 @@
-"""A run of 1,000,000 packets over 65,536 keys with a view after each 100,000 packets, beside one without views."""
+"""A run of 1,000,000 packets over 65,536 keys with a view after each 100,000 packets, compared with one without views."""
 
 from __future__ import annotations
 

@@ -1,4 +1,4 @@
-//! hand QUERY TRACE: what marple makes of a trace for these queries, handwritten in Rust with std alone: the same
+//! hand QUERY TRACE: what marple makes of a trace for these queries, handwritten in Rust with only std: the same
 //! records (quotes, empty lines, CR LF, a byte order mark), the same forms of numbers, the same first fault, and the
 //! fold over all packets of each key. There are no epochs: one pass, and a map from key to state.
 
