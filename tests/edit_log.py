@@ -20,6 +20,9 @@ COLUMNS = "| Wrong body | Crate | Edit | Refused by |\n|---|---|---|---|\n"
 # A place, with or without its line; then a goal, or what isn't proved with the goal's name at the end.
 ERROR = re.compile(r"(?:by a limit of the prover: )?(\S+?)(?::\d+:\d+)?: error: `([^`]+)`")
 UNPROVED = re.compile(r"(?:by a limit of the prover: )?(\S+?):\d+:\d+: it is not proved that .*\(`([^`]+)`\)")
+# A goal of safety: that a sum fits, that an index is in range. It says nothing of what a function means.
+BOUND = re.compile(r"(?:overflow_|slice_bounds|cast|unreachable-|(?:index|slice)(?:_mut)?-(?:.*-)?requires)")
+MEANING = 5  # goals of this rank or a lower one are about what a function means, or about a law
 NOTHING = "not shown"
 GATE = "the gate"  # which tries the edits of must-fail in each run
 
@@ -87,6 +90,8 @@ def goal_of(said: str) -> Goal | None:
         return None
     place, goal = place_of(found[1]), found[2]
     start, clause = goal.split("-", 1)[0], goal.partition("-clause-")[2]
+    if BOUND.match(goal):
+        return Goal(MEANING + 1, f"the bound `{goal}` in {place}")
     called = re.match(r"(.+?)(?:-\w+)*?-requires\b", goal)
     if called:
         return Goal(4, f"what `{called[1]}` requires{f', clause `{clause}`,' * bool(clause)} in {place}")
@@ -96,15 +101,16 @@ def goal_of(said: str) -> Goal | None:
         return Goal(2, f"the invariant in {place}")
     if start == "loop" or goal.endswith(("-preserved", "-init")):
         return Goal(3, f"a loop's invariant in {place}")
-    return Goal(5, f"goal `{goal}` in {place}")
+    return Goal(MEANING, f"goal `{goal}` in {place}")
+
+
+def best_goal(tried: Tried) -> Goal:
+    """The goal that says most of the contract, among those at which an edit was refused."""
+    return min((goal for goal in map(goal_of, tried.said) if goal), key=lambda one: one.rank, default=Goal(MEANING + 2, NOTHING))
 
 
 def refused_by(tried: Tried) -> str:
-    """The goal that says most of the contract, among those at which an edit was refused."""
-    if tried.verdict != "refused":
-        return tried.verdict.lower()
-    goals = [goal for goal in map(goal_of, tried.said) if goal]
-    return min(goals, key=lambda one: one.rank).words if goals else NOTHING
+    return best_goal(tried).words if tried.verdict == "refused" else tried.verdict.lower()
 
 
 def edits_of_row(crates: str, edits: str, there: Iterable[str]) -> list[str]:
@@ -131,13 +137,13 @@ def cell_of(edit: str, log: Mapping[str, Tried]) -> str:
 
 
 def summary(log: Mapping[str, Tried], there: list[str]) -> str:
-    """How many edits there are, and of how many the log shows a goal."""
+    """How many edits there are, and of how many the log shows by what they were refused."""
     known = [log[it] for it in there if it in log]
-    shown = sum(refused_by(one) != NOTHING for one in known if one.verdict == "refused")
-    refused = sum(one.verdict == "refused" for one in known)
+    ranks = [best_goal(one).rank for one in known if one.verdict == "refused"]
+    meaning, none = sum(it <= MEANING for it in ranks), sum(it > MEANING + 1 for it in ranks)
     return (
-        f"Of the {len(there)} edits the log has {len(known)}, of which {refused} were refused: {shown} at a goal that the prover "
-        f"names, and {refused - shown} without one.\n"
+        f"Of the {len(there)} edits the log has {len(known)}, of which {len(ranks)} were refused: {meaning} by a clause, an invariant or a "
+        f"law that the prover names, {len(ranks) - meaning - none} only by a bound, and {none} without a goal.\n"
     )
 
 

@@ -16,6 +16,8 @@ VANISHED = re.compile(
 ERROR = re.compile(r"(?m)^(?:\./)?(\S+?:\d+:\d+: error: .*(?:\n[ \t]+.*)*)")
 # A goal that the prover was to find an answer for itself.
 GOAL = re.compile(r"(?m)^note: (?:\./)?(\S+?:\d+:\d+: it is not proved that .*)")
+# A function that the prover looked no further into, nor into those that call it.
+UNCOVERED = re.compile(r"(?m)^fn \S+: no proof: .*the borrow checker does not cover this function.*")
 OF_RT = re.compile(r"(?m)^rt: must-fail (\S+\.edit): (.*)$")
 
 
@@ -28,23 +30,40 @@ def vanished(said: list[str]) -> str:
     return next((it for it in said if VANISHED.search(it)), "")
 
 
-def refusal(status: int, text: str) -> list[str]:
+def said_against(status: int, text: str) -> list[str]:
     """All errors and unproved goals by which the prover refuses a crate, whole; none if it is proved.
 
-    Raises BadEdit if it couldn't read something, or didn't come to a verdict.
+    Raises BadEdit if it didn't come to a verdict.
     """
     if status == 0:
         return []
     errors = [joined(it) for it in ERROR.findall(text)]
     said = errors + [joined(it) for it in GOAL.findall(text)]
     last = text.rstrip("\n").rpartition("\n")[2]
-    if vanished(errors):
-        raise BadEdit(f"it is refused for a name that is gone: {vanished(errors)}")
+    uncovered = UNCOVERED.search(text)
+    if uncovered:
+        raise BadEdit(f"no clause was tried: {uncovered[0]}")
     if status == 1 and last.startswith("logic=not-proved"):
         return said or [last]
     if status == 3:
         return [f"by a limit of the prover: {it}" for it in said or [last]]
     raise BadEdit(f"the prover, which ended with status {status}, came to no verdict: {(errors or [last])[0]}")
+
+
+def shown(said: list[str]) -> list[str]:
+    """What was said against an edit. Raises BadEdit if the prover couldn't read something."""
+    gone = vanished([it for it in said if ": error: " in it])
+    if gone:
+        raise BadEdit(f"it is refused for a name that is gone: {gone}")
+    return said
+
+
+def refusal(status: int, text: str) -> list[str]:
+    """What the prover says against a crate with one edit, and nothing if it is proved.
+
+    Raises BadEdit if it couldn't read something, or didn't come to a verdict.
+    """
+    return shown(said_against(status, text))
 
 
 def of_rt(log: str) -> dict[str, str]:
