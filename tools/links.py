@@ -39,10 +39,15 @@ def anchors_of(page: Path) -> frozenset[str]:
     return frozenset(made) | frozenset(re.findall(r'<a id="([^"]+)"', text))
 
 
+def links_of(page: Path) -> list[str]:
+    """What a page of Markdown links to."""
+    return re.findall(r"\]\(([^)\s]+)\)", code_left_out(page.read_text(encoding="utf-8")))
+
+
 def wrong_in_markdown(pages: list[Path]) -> Iterator[Link]:
     """The links of the pages that lead to no file, or to no place of one."""
     for page in pages:
-        for target in re.findall(r"\]\(([^)\s]+)\)", code_left_out(page.read_text(encoding="utf-8"))):
+        for target in links_of(page):
             if ELSEWHERE.match(target):
                 continue
             path, _, anchor = target.partition("#")
