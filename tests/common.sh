@@ -48,7 +48,7 @@ need_proved_program() {
     if [ -z "${MARPLE:-}" ]; then
         # shellcheck source=tools/building/proved.sh
         . "$top/tools/building/proved.sh"
-        if ! is_proved; then
+        if ! is_proved marple; then
             echo "$0: the program isn't proved, or its sources are newer: ./build proves it" >&2
             exit 1
         fi
