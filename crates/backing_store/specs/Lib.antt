@@ -6,7 +6,9 @@ pub mod StoreLending
 pub mod States
 pub mod StoreView
 pub mod Stored
+pub mod RowOrder
 pub mod SortedRows
+pub mod Places
 pub mod LendingStates
 pub mod LendingRows
 pub mod StoreLaws

@@ -5,6 +5,7 @@ mod held;
 mod keys;
 mod laws;
 mod marks;
+mod order;
 mod shown;
 mod slices;
 mod states;

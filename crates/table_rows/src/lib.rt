@@ -2,7 +2,6 @@
 #![tactic(auto)]
 
 mod lent;
-mod order;
 mod rows;
 mod span;
 

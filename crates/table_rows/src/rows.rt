@@ -1,14 +1,11 @@
 //! The rows of a table.
 
-ghost use Rattle.std.specs.Prelude.{◌≡◌, ◌+◌, ◌<◌, ◌≤◌, ◌↔◌, ◌++◌, ◌∷◌, [], length, option_map, slice_get, slice_set, filter, Some};
+ghost use Rattle.std.specs.Prelude.{◌≡◌, ◌+◌, ◌<◌, ◌≤◌, ◌↔◌, ◌++◌, ◌∷◌, [], length, option_map, slice_get, slice_set, Some};
 ghost use Rattle.std.specs.Prelude.{IsTrue, OnOk, OnErr, vec_capacity, vec_len};
-ghost use Rattle.epoch_model.specs.Keys.{Key};
 ghost use Rattle.epoch_model.specs.declared.tables.Row.{Row};
 ghost use Rattle.table_rows.specs.LentRows.{row_of};
-ghost use Rattle.table_rows.specs.RowOrder.{Ascends, is_of};
 
 use crate::lent::RowRef;
-use crate::order::sorted_spans;
 use crate::span::{LENGTHS, Span, row_in};
 use epoch_model::Mark;
 use std::alloc::{AllocError, Global};
@@ -201,17 +198,5 @@ impl Rows {
             epochs: 0,
             ..span
         };
-    }
-
-    /// Puts the rows in ascending order of their keys, compared word by word. Rows of one key keep their order. On an
-    /// error the rows are unchanged.
-    pub fn sort(&mut self, alloc: Global) -> Result<(), AllocError>
-        ensures ascends { OnOk result (Ascends self.new) }
-        ensures same { OnOk result ((key : Key) → filter (is_of key) self.new ≡ filter (is_of key) self.old) }
-        ensures err { OnErr result (self.new ≡ self.old) }
-    {
-        let spans = sorted_spans(alloc, self.words.as_slice(), self.spans.as_slice())?;
-        self.spans = spans;
-        Ok(())
     }
 }

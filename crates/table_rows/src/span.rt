@@ -2,7 +2,7 @@
 
 ghost use Rattle.std.specs.Prelude.{◌≡◌};
 ghost use Rattle.table_rows.specs.LentRows.{row_of};
-ghost use Rattle.table_rows.specs.Spans.{key_in, row_in, EndsWithin};
+ghost use Rattle.table_rows.specs.Spans.{row_in, EndsWithin};
 
 use crate::lent::RowRef;
 use epoch_model::Mark;
@@ -17,19 +17,6 @@ pub struct Span {
     pub epoch: u64,
     pub epochs: u64,
     pub mark: Mark,
-}
-
-/// The words of a span's key, and fewer only where the words end earlier.
-pub fn key_in<'a>(words: &'a [u64], span: &Span) -> &'a [u64]
-    ensures { result.now ≡ key_in words.now span.now }
-{
-    match words.get(span.start..) {
-        Some([key_words, _, rest @ ..]) => match rest.get(..*key_words as usize) {
-            Some(key) => key,
-            None => rest,
-        },
-        _ => &[],
-    }
 }
 
 /// The row of a span, lent.
