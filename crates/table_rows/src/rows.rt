@@ -6,10 +6,13 @@ ghost use Rattle.epoch_model.specs.declared.tables.Row.{Row};
 ghost use Rattle.table_rows.specs.LentRows.{row_of};
 
 use crate::lent::RowRef;
-use crate::span::{LENGTHS, Span, row_in};
+use crate::span::{Span, row_in};
 use epoch_model::Mark;
 use std::alloc::{AllocError, Global};
 use std::marker::Model;
+
+// The most words of a key, and the most values of a row: a span has no room for larger numbers.
+const MOST_WORDS: usize = 65_535;
 
 /// Rows in the order in which they were added, seen as a list of rows.
 #[derive(Drop)]
@@ -61,8 +64,7 @@ impl Rows {
         ensures { self.new ≡ self.old }
     {
         self.spans.reserve(rows)?;
-        let lengths = rows.saturating_mul(LENGTHS);
-        self.words.reserve(words.saturating_add(lengths))
+        self.words.reserve(words)
     }
 
     /// Adds a row at the end. On an error the rows are unchanged.
@@ -83,18 +85,22 @@ impl Rows {
         } ∷ []) }
         ensures err { OnErr result (self.new ≡ self.old) }
     {
+        if key.len() > MOST_WORDS || values.len() > MOST_WORDS {
+            return Err(AllocError);
+        }
         let start = self.words.len();
-        let lengths = [key.len() as u64, values.len() as u64];
-        self.words.reserve(LENGTHS + key.len() + values.len())?;
-        push_few(&mut self.words, &lengths);
+        self.words.reserve(key.len() + values.len())?;
+        self.spans.reserve(1)?;
         push_few(&mut self.words, key);
         push_few(&mut self.words, values);
-        self.spans.push(Span {
+        self.spans.push_reserved(Span {
             start,
             epoch,
             epochs,
+            key_words: key.len() as u16,
+            value_words: values.len() as u16,
             mark,
-        })?;
+        });
         Ok(())
     }
 
