@@ -1,3 +1,4 @@
+pub mod SipHash
 pub mod Marks
 pub mod KeyList
 pub mod Searches

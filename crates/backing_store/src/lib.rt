@@ -7,6 +7,7 @@ mod laws;
 mod marks;
 mod order;
 mod shown;
+mod sip;
 mod slices;
 mod states;
 mod store;

@@ -6,4 +6,4 @@ mod rows;
 mod span;
 
 pub use lent::RowRef;
-pub use rows::Rows;
+pub use rows::{Rows, push_few};

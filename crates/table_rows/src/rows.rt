@@ -34,10 +34,10 @@ impl Model for Rows {
     ghost invariant = { IsSound };
 }
 
-// Adds these words, for which there is room, at the end. They are pushed one by one, since those of a row are so few that to
-// call the C library for a copy would take longer.
+/// Adds these words, for which there is room, at the end. They are pushed one by one, since those of a row are so few that to
+/// call the C library for a copy would take longer.
 #[inline(always)]
-fn push_few(words: &mut Vec<u64>, few: &[u64])
+pub fn push_few(words: &mut Vec<u64>, few: &[u64])
     requires { vec_len words.old + length few.now ≤ vec_capacity words.old }
     ensures items { words.new.items ≡ words.old.items ++ few.now }
     ensures len { vec_len words.new ≡ vec_len words.old + length few.now }
