@@ -5,8 +5,10 @@ pub mod StoreFacts
 pub mod StoreKept
 pub mod StoreWhole
 pub mod ZipFacts
+pub mod StableSorts
 pub mod SameRows
 pub mod SortedFacts
+pub mod PlaceFacts
 pub mod LentFacts
 pub mod LawFacts
 mod StoredStates

@@ -1,3 +1,4 @@
+pub mod SipHash
 pub mod Marks
 pub mod KeyList
 pub mod Searches
@@ -6,7 +7,9 @@ pub mod StoreLending
 pub mod States
 pub mod StoreView
 pub mod Stored
+pub mod RowOrder
 pub mod SortedRows
+pub mod Places
 pub mod LendingStates
 pub mod LendingRows
 pub mod StoreLaws

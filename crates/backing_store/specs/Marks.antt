@@ -1,9 +1,8 @@
 -- Marks of keys, by which keys are found. Each key has one that no other has.
-use Rattle.std.specs.Prelude.{◌≡◌, ℕ, List, [], ◌∷◌, ◌+◌, ◌*◌, ◌%◌, ◌^◌, ◌<◌, drop, false, fold, length, nat_eq, slice_get, slice_index, take, Some}
+use Rattle.std.specs.Prelude.{◌≡◌, ℕ, List, [], ◌∷◌, ◌+◌, ◌*◌, ◌%◌, ◌^◌, ◌<◌, drop, false, length, nat_eq, slice_get, slice_index, take, Some}
 use Rattle.std.specs.List.{list_any}
-use Rattle.std.specs.Hash.{slice, u64}
-use Rattle.std.specs.Hash.DefaultHasher.{finish, initial, write}
 use Rattle.epoch_model.specs.Keys.{Key}
+use Rattle.backing_store.specs.SipHash.{sip_hash}
 
 -- the row of a width at a place
 abbrev pub row_at : ℕ → List ℕ → ℕ → List ℕ
@@ -12,7 +11,7 @@ row_at width words at = take width (drop (at * width) words)
 -- where the search for a key's mark begins
 unfoldable pub fingerprint : Key → ℕ
 fingerprint (word ∷ []) = word
-fingerprint key = finish (fold write initial (slice u64 key))
+fingerprint key = sip_hash key
 
 -- the mark that is a number of steps after a mark
 abbrev pub mark_after : ℕ → ℕ → ℕ

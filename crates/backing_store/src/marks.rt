@@ -4,10 +4,11 @@ ghost use Rattle.std.specs.Prelude.{◌≡◌, ◌++◌, ◌∷◌, [], length, 
 ghost use Rattle.backing_store.specs.Marks.{fingerprint, AreKeys, IsNextMarkOf};
 ghost use Rattle.backing_store.specs.Searches.{Finds};
 
+use crate::sip::sip_hash;
 use crate::slices::{is_same, row};
 use indexmap::IndexSet;
 use std::alloc::AllocError;
-use std::hash::{DefaultHasher, Hash, Hasher};
+use table_rows::push_few;
 
 /// What a search for a key found.
 #[derive(Clone, Copy, Debug)]
@@ -26,9 +27,7 @@ fn fingerprint(key: &[u64]) -> u64
     if key.len() == 1 {
         return key[0];
     }
-    let mut hasher = DefaultHasher::new();
-    key.hash(&mut hasher);
-    hasher.finish()
+    sip_hash(key)
 }
 
 /// Searches a key, from its fingerprint on.
@@ -63,8 +62,8 @@ pub fn add_key(
     ensures ok { OnOk result ((words.new.items ≡ words.old.items ++ key.now) × (marks.new.keys ≡ marks.old.keys ++ mark ∷ [])) }
     ensures err { OnErr result ((words.new.items ≡ words.old.items) × (marks.new.keys ≡ marks.old.keys)) }
 {
-    marks.reserve(1)?;
-    words.extend_from_slice(key)?;
+    words.reserve(key.len())?;
     marks.insert(mark)?;
+    push_few(words, key);
     Ok(())
 }

@@ -6,6 +6,7 @@ ghost use Rattle.std.specs.Prelude.{IfOk, OnOk, OnErr};
 use crate::slices::row;
 use std::alloc::{AllocError, Global};
 use std::marker::Model;
+use table_rows::push_few;
 
 /// Rows with their words in one array.
 pub struct States {
@@ -72,7 +73,8 @@ impl States {
         ensures err { OnErr result (self.new ≡ self.old) }
     {
         self.of.reserve(1)?;
-        self.words.extend_from_slice(words)?;
+        self.words.reserve(words.len())?;
+        push_few(&mut self.words, words);
         self.of.push_reserved(of);
         Ok(())
     }

@@ -7,9 +7,12 @@ ghost use Rattle.std.specs.List.{zip};
 ghost use Rattle.backing_store.specs.SortedRows.{IsMade, sorted_rows};
 ghost use Rattle.backing_store.specs.Store.{AreOnce, AreRowsOf, IsLastRowOf, IsStore, counted, epochs_of, number_of};
 ghost use Rattle.backing_store.specs.Stored.{stored};
+ghost use Rattle.backing_store.specs.Places.{AreByKey};
+ghost use Rattle.backing_store.specs.RowOrder.{Ascends};
 
 use crate::keys::Keys;
 use crate::marks::Search;
+use crate::order::{Place, sorted_places};
 use crate::states::States;
 use epoch_model::Mark;
 use std::alloc::{AllocError, Global};
@@ -44,34 +47,38 @@ impl Drop for BackingStore {
     }
 }
 
-// The rows in the order of their making, each with its number among its key's rows.
+// The rows at these places, each with its number among its key's rows, which stand one after another.
 fn made_rows(
     alloc: Global,
     keys: &Keys,
     merged: &Vec<Merged>,
     states: &States,
+    places: &[Place],
 ) -> Result<Rows, AllocError>
     requires many { length merged.now.items ≡ length keys.now.keys }
     requires once { AreOnce (map stored (zip keys.now.keys merged.now.items)) }
     requires rows { AreRowsOf (length keys.now.keys) states.now.width states.now.rows }
-    ensures { IfOk result (λ made. IsMade (map stored (zip keys.now.keys merged.now.items)) made states.now.rows) }
+    requires places { AreByKey keys.now.keys states.now.rows places.now }
+    ensures { IfOk result (λ made. IsMade (map stored (zip keys.now.keys merged.now.items)) made states.now.rows × Ascends made) }
 {
-    let mut given = vec![in alloc; 0u64; keys.len()]?;
     let mut made = Rows::new(alloc);
     let width = keys.width().saturating_add(states.width());
-    made.reserve(states.len(), states.len().saturating_mul(width))?;
-    for at in 0..states.len() {
-        let of = states.of(at);
-        let epoch = given[of] + 1;
+    made.reserve(places.len(), places.len().saturating_mul(width))?;
+    // At first the number of no key.
+    let mut last = keys.len();
+    let mut epoch = 0u64;
+    for place in places {
+        let of = states.of(place.at);
+        epoch = if of == last { epoch + 1 } else { 1 };
+        last = of;
         let kept = merged[of];
         made.push(
             keys.key(of),
             Mark::Plain,
             epoch,
             kept.epochs,
-            states.row(at),
+            states.row(place.at),
         )?;
-        given[of] = epoch;
     }
     Ok(made)
 }
@@ -183,9 +190,8 @@ impl BackingStore {
     pub fn sorted(&self) -> Result<Rows, AllocError>
         ensures { IfOk result (λ rows. rows ≡ sorted_rows self.now) }
     {
-        let mut rows = made_rows(self.alloc, &self.keys, &self.merged, &self.states)?;
-        rows.sort(self.alloc)?;
-        Ok(rows)
+        let places = sorted_places(self.alloc, &self.keys, &self.states)?;
+        made_rows(self.alloc, &self.keys, &self.merged, &self.states, &places)
     }
 
     /// A copy of the store, in separate memory.

@@ -3,36 +3,17 @@ ghost use Rattle.std.specs.Prelude.{◌≡◌, ◌≤◌, ◌++◌, ◌∷◌, [
 ghost use Rattle.marple_base.specs.Faults.{Rose};
 ghost use Rattle.marple_base.specs.Sink.{TakesFront};
 ghost use Rattle.table_rows.specs.LentRows.{row_of};
-ghost use Rattle.table_printer.specs.TableText.{joined, mark_text, class_text, epoch_text, numbers, line, group_parts, final_parts};
+ghost use Rattle.table_printer.specs.TableText.{joined, mark_text, epoch_text, numbers, line, group_parts, final_parts};
 ghost use Rattle.table_printer.specs.TableText.{row_parts, heading, kind_text, title, table_text};
 ghost use Rattle.table_printer.specs.Parts.{parts_from};
 ghost use Rattle.marple_base.specs.Pieces.{TakesAllBut};
 
+use crate::backwards::{MOST_COLUMNS, ROOM, line_before};
 use crate::parts::{push_names, push_number, push_part, push_word, push_words};
+use crate::words::{class_word, mark_word};
 use final_queries::{Mark, RowRef, Rows, Table, TableKind};
 use marple_base::{Sink, Text, TextBuffer, WriteError};
-use query_lang::Class;
 use std::alloc::AllocError;
-
-fn class_word(class: Class) -> &'static [u8]
-    ensures { result.now ≡ class_text class }
-{
-    match class {
-        Class::Linear => b"linear",
-        Class::Other => b"other",
-    }
-}
-
-fn mark_word(mark: Mark) -> &'static [u8]
-    ensures { result.now ≡ mark_text mark }
-{
-    match mark {
-        Mark::Exact => b"exact",
-        Mark::Valid => b"valid",
-        Mark::Invalid => b"invalid",
-        Mark::Plain => b"plain",
-    }
-}
 
 /// Writes the line that says what a table is.
 fn push_title(text: &mut TextBuffer, table: &Table) -> Result<(), AllocError>
@@ -114,6 +95,7 @@ fn push_epoch(text: &mut TextBuffer, begins: bool, row: &RowRef) -> Result<(), A
     push_word(text, false, row.epochs)
 }
 
+// Writes a row part by part, however many it has.
 fn push_row(text: &mut TextBuffer, kind: TableKind, row: &RowRef) -> Result<(), AllocError>
     ensures { OnOk result (text.new ≡ text.old ++ line (row_parts kind (row_of row.now))) }
 {
@@ -125,6 +107,24 @@ fn push_row(text: &mut TextBuffer, kind: TableKind, row: &RowRef) -> Result<(), 
     }
     push_words(text, begins, row.values)?;
     text.push(b'\n')
+}
+
+// Writes a row, and all of it at once where it is sure to fit into the room.
+fn push_line(
+    text: &mut TextBuffer,
+    kind: TableKind,
+    row: &RowRef,
+    room: &mut [u8],
+) -> Result<(), AllocError>
+    requires { length room.old ≡ 1024 }
+    ensures text { OnOk result (text.new ≡ text.old ++ line (row_parts kind (row_of row.now))) }
+    ensures room { length room.new ≡ 1024 }
+{
+    if row.columns.len() > MOST_COLUMNS {
+        return push_row(text, kind, row);
+    }
+    let start = line_before(room, kind, row);
+    text.push_slice(&room[start..])
 }
 
 // Writes the two lines before the rows.
@@ -175,9 +175,10 @@ pub fn write_table<O: Sink>(
     ensures out_later { O.faults out.old ≤ O.faults out.new }
 {
     push_head(text, table)?;
+    let mut room = [0u8; ROOM];
     'rows: for at in 0..table.rows.len() {
         take_room(text, &table.rows, at)?;
-        push_row(text, table.kind, &table.rows.get(at))?;
+        push_line(text, table.kind, &table.rows.get(at), &mut room)?;
         text.write_when_full(out)?;
     }
     Ok(())

@@ -1,20 +1,14 @@
 -- The row of a span.
-use Rattle.std.specs.Prelude.{ℕ, List, ◌+◌, ◌≤◌, length, map, slice_index, take, drop, All}
+use Rattle.std.specs.Prelude.{ℕ, List, ◌+◌, ◌≤◌, length, map, take, drop, All}
 use Rattle.epoch_model.specs.declared.tables.Row.{Row}
 use Rattle.table_rows.specs.declared.span.Span.{Span}
 
--- A row's words, from its start on: the number of words of its key, that of its values, the key, and the values.
-abbrev pub key_words : List ℕ → Span → ℕ
-key_words words span = slice_index words span.start
-
-abbrev pub value_words : List ℕ → Span → ℕ
-value_words words span = slice_index words (span.start + 1)
-
+-- A row's words, from its start on: the key, and then the values.
 abbrev pub key_in : List ℕ → Span → List ℕ
-key_in words span = take (key_words words span) (drop (span.start + 2) words)
+key_in words span = take span.key_words (drop span.start words)
 
 abbrev pub values_in : List ℕ → Span → List ℕ
-values_in words span = take (value_words words span) (drop (span.start + 2 + key_words words span) words)
+values_in words span = take span.value_words (drop (span.start + span.key_words) words)
 
 abbrev pub row_in : List ℕ → Span → Row
 row_in words span = record {
@@ -30,7 +24,7 @@ rows_in words spans = map (row_in words) spans
 
 -- the words are long enough for the span
 abbrev pub EndsWithin : List ℕ → Span → Type 0
-EndsWithin words span = span.start + 2 + key_words words span + value_words words span ≤ length words
+EndsWithin words span = span.start + span.key_words + span.value_words ≤ length words
 
 abbrev pub AllWithin : List ℕ → List Span → Type 0
 AllWithin words spans = All (EndsWithin words) spans

@@ -2,9 +2,8 @@
 #![tactic(auto)]
 
 mod lent;
-mod order;
 mod rows;
 mod span;
 
 pub use lent::RowRef;
-pub use rows::Rows;
+pub use rows::{Rows, push_few};

@@ -1,18 +1,18 @@
 //! The rows of a table.
 
-ghost use Rattle.std.specs.Prelude.{◌≡◌, ◌+◌, ◌<◌, ◌≤◌, ◌↔◌, ◌++◌, ◌∷◌, [], length, option_map, slice_get, slice_set, filter, Some};
+ghost use Rattle.std.specs.Prelude.{◌≡◌, ◌+◌, ◌<◌, ◌≤◌, ◌↔◌, ◌++◌, ◌∷◌, [], length, option_map, slice_get, slice_set, Some};
 ghost use Rattle.std.specs.Prelude.{IsTrue, OnOk, OnErr, vec_capacity, vec_len};
-ghost use Rattle.epoch_model.specs.Keys.{Key};
 ghost use Rattle.epoch_model.specs.declared.tables.Row.{Row};
 ghost use Rattle.table_rows.specs.LentRows.{row_of};
-ghost use Rattle.table_rows.specs.RowOrder.{Ascends, is_of};
 
 use crate::lent::RowRef;
-use crate::order::sorted_spans;
-use crate::span::{LENGTHS, Span, row_in};
+use crate::span::{Span, row_in};
 use epoch_model::Mark;
 use std::alloc::{AllocError, Global};
 use std::marker::Model;
+
+// The most words of a key, and the most values of a row: a span has no room for larger numbers.
+const MOST_WORDS: usize = 65_535;
 
 /// Rows in the order in which they were added, seen as a list of rows.
 #[derive(Drop)]
@@ -34,10 +34,10 @@ impl Model for Rows {
     ghost invariant = { IsSound };
 }
 
-// Adds these words, for which there is room, at the end. They are pushed one by one, since those of a row are so few that to
-// call the C library for a copy would take longer.
+/// Adds these words, for which there is room, at the end. They are pushed one by one, since those of a row are so few that to
+/// call the C library for a copy would take longer.
 #[inline(always)]
-fn push_few(words: &mut Vec<u64>, few: &[u64])
+pub fn push_few(words: &mut Vec<u64>, few: &[u64])
     requires { vec_len words.old + length few.now ≤ vec_capacity words.old }
     ensures items { words.new.items ≡ words.old.items ++ few.now }
     ensures len { vec_len words.new ≡ vec_len words.old + length few.now }
@@ -64,8 +64,7 @@ impl Rows {
         ensures { self.new ≡ self.old }
     {
         self.spans.reserve(rows)?;
-        let lengths = rows.saturating_mul(LENGTHS);
-        self.words.reserve(words.saturating_add(lengths))
+        self.words.reserve(words)
     }
 
     /// Adds a row at the end. On an error the rows are unchanged.
@@ -86,18 +85,22 @@ impl Rows {
         } ∷ []) }
         ensures err { OnErr result (self.new ≡ self.old) }
     {
+        if key.len() > MOST_WORDS || values.len() > MOST_WORDS {
+            return Err(AllocError);
+        }
         let start = self.words.len();
-        let lengths = [key.len() as u64, values.len() as u64];
-        self.words.reserve(LENGTHS + key.len() + values.len())?;
-        push_few(&mut self.words, &lengths);
+        self.words.reserve(key.len() + values.len())?;
+        self.spans.reserve(1)?;
         push_few(&mut self.words, key);
         push_few(&mut self.words, values);
-        self.spans.push(Span {
+        self.spans.push_reserved(Span {
             start,
             epoch,
             epochs,
+            key_words: key.len() as u16,
+            value_words: values.len() as u16,
             mark,
-        })?;
+        });
         Ok(())
     }
 
@@ -201,17 +204,5 @@ impl Rows {
             epochs: 0,
             ..span
         };
-    }
-
-    /// Puts the rows in ascending order of their keys, compared word by word. Rows of one key keep their order. On an
-    /// error the rows are unchanged.
-    pub fn sort(&mut self, alloc: Global) -> Result<(), AllocError>
-        ensures ascends { OnOk result (Ascends self.new) }
-        ensures same { OnOk result ((key : Key) → filter (is_of key) self.new ≡ filter (is_of key) self.old) }
-        ensures err { OnErr result (self.new ≡ self.old) }
-    {
-        let spans = sorted_spans(alloc, self.words.as_slice(), self.spans.as_slice())?;
-        self.spans = spans;
-        Ok(())
     }
 }

@@ -13,8 +13,8 @@ returns-clause-keys c =
     let marks = c.args.marks.now.keys in
     let mark = c.args.mark in
     let new : c.insert.new.self.keys ≡ marks ++ mark ∷ [] = c.in_ok-insert.ensures.keys
-    ∙ (ap (λ ks. insert_key eqb ks mark) c.in_ok-reserve.ensures.keys ∙ inserted marks mark c.requires.mark.free) in
-    rw (c.in_ok-extend_from_slice.ensures.items, new) (keys_more c.args.width c.args.words.now.items marks c.args.key.now mark
+    ∙ inserted marks mark c.requires.mark.free in
+    rw (c.push_few.ensures.items, c.in_ok-reserve.ensures.items, new) (keys_more c.args.width c.args.words.now.items marks c.args.key.now mark
     c.requires.keys c.requires.width c.requires.mark.of)
 
 pub returns-clause-ok : goal.returns-clause-ok
@@ -22,5 +22,5 @@ returns-clause-ok c =
     let marks = c.args.marks.now.keys in
     let mark = c.args.mark in
     let new : c.insert.new.self.keys ≡ marks ++ mark ∷ [] = c.in_ok-insert.ensures.keys
-    ∙ (ap (λ ks. insert_key eqb ks mark) c.in_ok-reserve.ensures.keys ∙ inserted marks mark c.requires.mark.free) in
-    (c.in_ok-extend_from_slice.ensures.items, new)
+    ∙ inserted marks mark c.requires.mark.free in
+    (c.push_few.ensures.items ∙ ap (λ (words : List ℕ). words ++ c.args.key.now) c.in_ok-reserve.ensures.items, new)

@@ -1,8 +1,7 @@
-use Rattle.std.proofs.Common.{◌≡◌, ◌≢◌, [], ◌∷◌, fold, get_or, length, refl, ap, ◌∙◌, arith}
-use Rattle.std.specs.Hash.{slice, u64}
-use Rattle.std.specs.Hash.DefaultHasher.{finish, initial, write}
+use Rattle.std.proofs.Common.{◌≡◌, ◌≢◌, [], ◌∷◌, get_or, length, refl, ◌∙◌, arith}
 use Rattle.epoch_model.specs.Keys.{Key}
 use Rattle.backing_store.specs.Marks.{fingerprint}
+use Rattle.backing_store.specs.SipHash.{sip_hash}
 use Rattle.backing_store.proofs.marks.fingerprint.Goals as goal
 
 one_word : (key : Key) → length key ≡ 1 → get_or key 0 0 ≡ fingerprint key
@@ -11,7 +10,7 @@ one_word [] long = absurd (omega (arith, long))
 one_word (word ∷ []) long = refl
 one_word (word ∷ more ∷ key) long = absurd (omega (arith, long))
 
-many_words : (key : Key) → length key ≢ 1 → finish (fold write initial (slice u64 key)) ≡ fingerprint key
+many_words : (key : Key) → length key ≢ 1 → sip_hash key ≡ fingerprint key
 unfolding fingerprint
 many_words [] long = refl
 many_words (word ∷ []) long = absurd (long refl)
@@ -21,8 +20,4 @@ pub returns-then-key-eq1 : goal.returns-then-key-eq1
 returns-then-key-eq1 c = one_word c.args.key.now c.if-key-eq1.true
 
 pub returns : goal.returns
-returns c =
-    let key = c.args.key.now in
-    c.finish.ensures
-    ∙ (ap finish (c.hash.ensures ∙ ap (λ h. fold write h (slice u64 key)) c.new-hasher.ensures)
-    ∙ many_words key c.if-key-eq1.false)
+returns c = c.sip_hash.ensures ∙ many_words c.args.key.now c.if-key-eq1.false

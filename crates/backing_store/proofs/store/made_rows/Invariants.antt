@@ -1,13 +1,18 @@
-use Rattle.std.proofs.Common.{◌≡◌, ℕ, ◌<◌, get_or, length, map, take}
+use Rattle.std.proofs.Common.{◌≡◌, ◌-◌, ◌<◌, get_or, length, map, take}
 use Rattle.std.specs.List.{zip}
+use Rattle.backing_store.specs.Places.{key_there, rows_there}
 use Rattle.backing_store.specs.SortedRows.{IsMade}
 use Rattle.backing_store.specs.Store.{states_at}
 use Rattle.backing_store.specs.Stored.{stored}
+use Rattle.backing_store.specs.declared.order.Place.{Place}
+use Rattle.backing_store.proofs.PlaceFacts.{place_number}
 use Rattle.backing_store.proofs.store.made_rows.Given as goal
 
-abbrev pub invariant-loop-at : goal.invariant-loop-at
-invariant-loop-at l = record {
-  size : length l.given.items ≡ length l.keys.keys;
-  counts : (n : ℕ) → n < length l.keys.keys → get_or l.given.items n 0 ≡ length (states_at (take l.at l.states.rows) n);
-  made : IsMade (map stored (zip l.keys.keys l.merged.items)) l.made (take l.at l.states.rows);
+abbrev pub invariant-loop-place : goal.invariant-loop-place
+invariant-loop-place l = record {
+  made : IsMade (map stored (zip l.keys.keys l.merged.items)) l.made (rows_there l.states.rows (take l.place-index l.places));
+  keys : map (λ row. row.key) l.made ≡ map (key_there l.keys.keys l.states.rows) (take l.place-index l.places);
+  before : (d : Place) → 0 < l.place-index → l.last ≡ place_number l.states.rows (get_or l.places (l.place-index - 1) d);
+  begins : l.place-index ≡ 0 → l.last ≡ length l.keys.keys;
+  counted : 0 < l.place-index → l.epoch ≡ length (states_at (rows_there l.states.rows (take l.place-index l.places)) l.last);
 }

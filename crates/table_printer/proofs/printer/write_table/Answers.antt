@@ -34,9 +34,9 @@ returns-in_err-take_room-clause-err g c =
     (front_is_taken (g.O.Sink.taken c.args.out.now) (g.O.Sink.taken c.rows.out) _ (c.args.text.now ++ table_text c.args.table.now)
     c.rows.invariant.written)
 
-pub returns-in_err-push_row-clause-err : goal.returns-in_err-push_row-clause-err
-returns-in_err-push_row-clause-err g c =
-    on_err c.from_residual-in_err-push_row.result _
+pub returns-in_err-push_line-clause-err : goal.returns-in_err-push_line-clause-err
+returns-in_err-push_line-clause-err g c =
+    on_err c.from_residual-in_err-push_line.result _
     (front_is_taken (g.O.Sink.taken c.args.out.now) (g.O.Sink.taken c.rows.out) _ (c.args.text.now ++ table_text c.args.table.now)
     c.rows.invariant.written)
 
@@ -55,7 +55,7 @@ returns-in_err-write_when_full-clause-err g c =
     on_err c.from_residual-in_err-write_when_full.result _
     (part_broke old mid new c.rows.text (line_of row) rest whole (subst (λ left. TakesAllBut old mid (c.rows.text ++ left) whole) next
     c.rows.invariant.written)
-    (subst (TakesFront mid new) (c.in_ok-push_row.ensures ∙ ap (λ text. text ++ line_of row) c.take_room.ensures)
+    (subst (TakesFront mid new) (c.in_ok-push_line.ensures.text ∙ ap (λ text. text ++ line_of row) c.take_room.ensures)
     c.in_err-write_when_full.ensures.front))
 
 pub rows-preserved : goal.rows-preserved
@@ -74,7 +74,7 @@ rows-preserved g c =
     record {
       written = part_more old mid new c.rows.text later (line_of row) rest whole
           (subst (λ left. TakesAllBut old mid (c.rows.text ++ left) whole) next c.rows.invariant.written)
-          (subst (TakesAllBut mid new later) (c.in_ok-push_row.ensures ∙ ap (λ text. text ++ line_of row) c.take_room.ensures)
+          (subst (TakesAllBut mid new later) (c.in_ok-push_line.ensures.text ∙ ap (λ text. text ++ line_of row) c.take_room.ensures)
           c.in_ok-write_when_full.ensures.ok);
       out_later = omega (arith, c.rows.invariant.out_later, c.write_when_full.ensures.cause.later);
     }

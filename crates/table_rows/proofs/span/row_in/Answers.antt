@@ -1,6 +1,5 @@
 use Rattle.std.proofs.Common.{◌≡◌, ◌∙◌, ◌+◌, ◌-◌, ap, ap₂, take, drop, arith}
 use Rattle.std.proofs.lemmas.List.{take-take, drop-take, drop-drop}
-use Rattle.table_rows.specs.Spans.{key_words, value_words}
 use Rattle.table_rows.proofs.SpanFacts.{row_with}
 use Rattle.table_rows.proofs.span.row_in.Goals as goal
 
@@ -8,9 +7,9 @@ pub returns : goal.returns
 returns c =
     let span = c.args.span.now in
     let words = c.args.words.now in
-    let start = span.start + 2 in
-    let keys = key_words words span in
-    let values = value_words words span in
+    let start = span.start in
+    let keys = span.key_words in
+    let values = span.value_words in
     let long : start + keys + values - start ≡ keys + values = omega arith in
     let columns = ap (λ n. take n (drop start words)) long in
     ap₂ (row_with span)

@@ -1,9 +1,27 @@
 use Rattle.std.proofs.Common.{◌∙◌, subst}
 use Rattle.std.specs.List.{zip}
+use Rattle.std.proofs.lemmas.Result.{IfOk-weaker}
 use Rattle.backing_store.specs.Store.{AreRowsOf}
+use Rattle.backing_store.proofs.PlaceFacts.{distinct_keys, widths_of}
 use Rattle.backing_store.proofs.SortedFacts.{rows_sorted}
 use Rattle.backing_store.proofs.ZipFacts.{length-zip, length-stored}
 use Rattle.backing_store.proofs.store.BackingStore.sorted.Goals as goal
+
+pub sorted_places-requires-clause-rows : goal.sorted_places-requires-clause-rows
+sorted_places-requires-clause-rows c =
+    let a = c.self.inside in
+    subst (λ n. AreRowsOf n a.states.width a.states.rows) (length-stored (zip a.keys.keys a.merged.items)
+    ∙ length-zip a.keys.keys a.merged.items c.self.invariant.many) c.self.invariant.whole.0.rows
+
+pub sorted_places-requires-clause-distinct : goal.sorted_places-requires-clause-distinct
+sorted_places-requires-clause-distinct c =
+    let a = c.self.inside in
+    distinct_keys a.keys.keys a.merged.items c.self.invariant.many c.self.invariant.whole.0.once
+
+pub sorted_places-requires-clause-widths : goal.sorted_places-requires-clause-widths
+sorted_places-requires-clause-widths c =
+    let a = c.self.inside in
+    widths_of a.keys.keys a.merged.items a.keys.width c.self.invariant.many c.self.invariant.whole.0.keys
 
 pub made_rows-requires-clause-rows : goal.made_rows-requires-clause-rows
 made_rows-requires-clause-rows c =
@@ -14,5 +32,5 @@ made_rows-requires-clause-rows c =
 pub returns : goal.returns
 returns c =
     let kept = rw c.self.view_is at c.self.invariant.whole.0 in
-    rows_sorted c.args.self.now c.sort.new.self kept c.in_ok-sort.ensures.ascends
-    (λ key. c.in_ok-sort.ensures.same key ∙ rw (← c.self.view_is) (c.in_ok-rows.ensures key))
+    IfOk-weaker c.made_rows.result _ _ (λ made is. rows_sorted c.args.self.now made kept is.1
+    (λ key. rw (← c.self.view_is) (is.0 key))) c.made_rows.ensures
