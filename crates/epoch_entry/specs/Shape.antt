@@ -23,6 +23,12 @@ pub record IsShaped (p : FoldProgram) : Type 0 where
   pub apart : (i j : ℕ) → i < length p.layout.history → j < length p.layout.linear
       → slice_index p.layout.history i ≢ slice_index p.layout.linear j
 
+-- each row moves all variables, and none is logged
+pub record MovesAll (p : FoldProgram) : Type 0 where
+  pub moves : p.moves ≡ true
+  pub depth : p.depth ≡ 0
+  pub alone : length p.layout.history ≡ 0
+
 -- there is one variable, each row moves it, and none is logged
 pub record MovesOne (p : FoldProgram) : Type 0 where
   pub moves : p.moves ≡ true

@@ -9,6 +9,7 @@ mod kind;
 mod laws;
 mod linear;
 mod log;
+mod moving;
 mod other;
 mod purpose;
 mod step;

@@ -1,1 +1,1 @@
-pub mod RingLists
+pub mod RingFacts

@@ -1,22 +1,24 @@
 //! The pipe of evicted records.
 
-ghost use Rattle.std.specs.Prelude.{◌≡◌, ◌+◌, ◌<◌, ◌≤◌, ◌==◌, ◌++◌, ◌∷◌, [], Bool, not, nat_lt, length};
-ghost use Rattle.std.specs.Prelude.{drop, slice_index_or, if◌then◌else◌, IfOk};
+ghost use Rattle.std.specs.Prelude.{◌≡◌, ◌+◌, ◌<◌, ◌≤◌, ◌++◌, ◌∷◌, [], Bool, nat_lt, length, drop, slice_index_or, IfOk};
 ghost use Rattle.evict_pipe.specs.Pipes.{Pipe, with_records, IsSoundPipe};
 
 use crate::copying::write_record;
-use circular_buffer::HeapCircularBuffer;
-use marple_base::{Steps, copy_words};
+use crate::places::start_of;
+use marple_base::Steps;
 use std::alloc::{AllocError, Global};
 use std::marker::Model;
 use std::sync::ledger::Ledger;
 
-/// Records of a fixed number of words, first in, first out. Only `new` allocates memory: a row is in use or free.
+/// Records of a fixed number of words, first in, first out. Only `new` allocates memory.
 pub struct EvictPipe {
     record_words: usize,
     places: u32,
-    held: HeapCircularBuffer<Vec<u64>>,
-    free: HeapCircularBuffer<Vec<u64>>,
+    /// The place of the oldest record.
+    first: u32,
+    len: u32,
+    /// The words of all places, one after another. The first place comes after the last one.
+    words: Vec<u64>,
 }
 
 // One step at each exit of an owner, where a derived drop would be one for each part.
@@ -25,23 +27,26 @@ impl Drop for EvictPipe {
         let EvictPipe {
             record_words: _,
             places: _,
-            held: _,
-            free: _,
+            first: _,
+            len: _,
+            words: _,
         } = self;
     }
 }
 
 impl Model for EvictPipe {
-    ghost use Rattle.std.specs.Prelude.{map};
     ghost use Rattle.evict_pipe.specs.Pipes.{Pipe};
-    ghost use Rattle.evict_pipe.specs.Rings.{IsPipe};
+    ghost use Rattle.evict_pipe.specs.Rings.{IsRing, records_in};
 
     ghost Value = { Pipe };
 
-    ghost view = { λ p. record { record_words = p.record_words; places = p.places; records = map (λ row. row.items) p.held.items } };
+    ghost view = { λ p. record {
+      record_words = p.record_words;
+      places = p.places;
+      records = records_in p.record_words p.places p.words.items p.first p.len;
+    } };
 
-    ghost invariant = { λ p. IsPipe p.record_words p.places (map (λ row. row.items) p.held.items) p.held.capacity
-        (map (λ row. row.items) p.free.items) p.free.capacity };
+    ghost invariant = { λ p. IsRing p.record_words p.places p.words.items p.first p.len };
 }
 
 impl EvictPipe {
@@ -51,16 +56,12 @@ impl EvictPipe {
         requires words { (0 < record_words) × (record_words ≤ 512) }
         ensures { IfOk result (λ pipe. pipe ≡ record { record_words = record_words; places = records; records = [] }) }
     {
-        let held = HeapCircularBuffer::with_capacity(alloc, records as usize)?;
-        let mut free = HeapCircularBuffer::with_capacity(alloc, records as usize)?;
-        for _place in 0..records {
-            let _none = free.push_back(vec![in alloc; 0; record_words]?);
-        }
         Ok(EvictPipe {
             record_words,
             places: records,
-            held,
-            free,
+            first: 0,
+            len: 0,
+            words: vec![in alloc; 0; records as usize * record_words]?,
         })
     }
 
@@ -69,7 +70,7 @@ impl EvictPipe {
         ensures number { result ≡ length self.now.records }
         ensures sound { IsSoundPipe self.now }
     {
-        self.held.len() as u32
+        self.len
     }
 
     /// Is a place free?
@@ -86,27 +87,19 @@ impl EvictPipe {
         ensures records { self.new ≡ with_records self.old (self.old.records ++ (key.now ++ entry.now) ∷ []) }
         ensures cost { steps.new ≡ steps.old + self.old.record_words }
     {
-        let Some(mut row) = self.free.pop_front() else {
-            unreachable!()
-        };
-        write_record(&mut row, key, entry, steps);
-        let _none = self.held.push_back(row);
+        let start = start_of(self.record_words, self.places, self.first, self.len);
+        let end = start + self.record_words;
+        write_record(&mut self.words[start..end], key, entry, steps);
+        self.len += 1;
     }
 
-    /// Copies the oldest record, if there is one.
-    pub fn front_into<L: Ledger>(&self, into: &mut [u64], steps: &mut Steps<L>) -> bool
-        requires { length into.old ≡ self.now.record_words }
-        ensures some { result ≡ not (length self.now.records == 0) }
-        ensures copied { into.new ≡ (if result then slice_index_or self.now.records 0 [] else into.old) }
-        ensures cost { steps.new ≡ steps.old + (if result then self.now.record_words else 0) }
+    /// The words of the oldest record.
+    pub fn front(&self) -> &[u64]
+        requires { 0 < length self.now.records }
+        ensures words { result.now ≡ slice_index_or self.now.records 0 [] }
+        ensures length { length result.now ≡ self.now.record_words }
     {
-        match self.held.front() {
-            Some(row) => {
-                copy_words(row, into, steps);
-                true
-            }
-            None => false,
-        }
+        self.record(0)
     }
 
     /// Copies a record, the oldest being 0.
@@ -115,10 +108,17 @@ impl EvictPipe {
         requires words { length into.old ≡ self.now.record_words }
         ensures { into.new ≡ slice_index_or self.now.records i [] }
     {
-        let Some(row) = self.held.get(i as usize) else {
-            unreachable!()
-        };
-        into.copy_from_slice(row);
+        into.copy_from_slice(self.record(i));
+    }
+
+    // The words of a record, the oldest being 0.
+    fn record(&self, i: u32) -> &[u64]
+        requires { i < length self.now.records }
+        ensures words { result.now ≡ slice_index_or self.now.records i [] }
+        ensures length { length result.now ≡ self.now.record_words }
+    {
+        let start = start_of(self.record_words, self.places, self.first, i);
+        &self.words[start..start + self.record_words]
     }
 
     /// Removes the oldest record.
@@ -126,8 +126,8 @@ impl EvictPipe {
         requires { 0 < length self.old.records }
         ensures { self.new ≡ with_records self.old (drop 1 self.old.records) }
     {
-        if let Some(row) = self.held.pop_front() {
-            let _none = self.free.push_back(row);
-        }
+        let next = self.first + 1;
+        self.first = if next < self.places { next } else { 0 };
+        self.len -= 1;
     }
 }

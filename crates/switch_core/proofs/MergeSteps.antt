@@ -1,5 +1,5 @@
 -- A front whose oldest record was merged represents the machine after the merge, and the store holds the merged epoch.
-use Rattle.std.proofs.Common.{◌≡◌, ℕ, zero, suc, ◌+◌, ◌<◌, ◌≤◌, Bool, true, false, if◌then◌else◌, List, [], ◌∷◌, ◌++◌, length, take, drop}
+use Rattle.std.proofs.Common.{◌≡◌, ℕ, zero, suc, ◌+◌, ◌<◌, ◌≤◌, true, false, List, [], ◌∷◌, ◌++◌, length, take, drop}
 use Rattle.std.proofs.Common.{get_or, refl, sym, ap, ◌∙◌, subst, arith, append-nil, length-drop}
 use Rattle.std.specs.Prelude.{nat_lt}
 use Rattle.std.proofs.lemmas.Bool.{lt-ltb, le-ltb}
@@ -109,8 +109,3 @@ merged_next m few = by_test (nat_lt m.merged (length m.closed))
 pub kept_next : (f : Folding) (store : Store) (m : Machine) → m.merged ≤ length m.closed
     → StoreHolds f store (take m.merged m.closed ++ next_merged m) → StoreStands f store (merge m)
 kept_next f store m few held = subst (StoreHolds f store) (sym (merged_next m few)) held
-
--- a record that is copied or not takes its words at most
-pub copied_within : (copied : Bool) (words : ℕ) → (if copied then words else 0) ≤ words
-copied_within true words = omega arith
-copied_within false words = omega arith

@@ -5,7 +5,7 @@ use Rattle.std.specs.Prelude.{ℕ, ◌+◌, ◌*◌}
 abbrev pub evict_cost : ℕ → ℕ → ℕ
 evict_cost key_words entry_words = key_words + entry_words + 1
 
--- a key of this many words and its entry are copied out of the pipe, and the entry is merged, which takes this many steps at most
+-- a key of this many words and its entry leave the pipe, and the entry is merged, which takes this many steps at most
 abbrev pub merge_cost : ℕ → ℕ → ℕ → ℕ
 merge_cost key_words entry_words merging = key_words + entry_words + merging
 

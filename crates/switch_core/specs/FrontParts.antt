@@ -31,12 +31,11 @@ pub record IsFront (ways : ℕ) (sizes : Sizes) (cache : Cache) (pipe : Pipe) : 
   pub record_words : pipe.record_words ≡ cache.key_words + cache.entry_words
   pub few_key_words : cache.key_words ≤ 8
 
--- and so are those of the room to work in and of the initial state
+-- and so are those of the scratch words and of the initial state
 pub record AreFrontParts (ways : ℕ) (sizes : Sizes) (f : Folding) (cache : Cache) (pipe : Pipe)
-    (scratch room initial : List ℕ) : Type 0 where
+    (scratch initial : List ℕ) : Type 0 where
   pub front : IsFront ways sizes cache pipe
   pub scratch_words : length scratch ≡ sizes.scratch
-  pub room_words : length room ≡ pipe.record_words
   pub initial_words : length initial ≡ sizes.state
   pub initial_state : initial ≡ f.initial
 

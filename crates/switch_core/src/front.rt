@@ -41,7 +41,6 @@ pub struct Front<K: EpochKind, const WAYS: usize> {
     cache: BucketCache<WAYS>,
     pipe: EvictPipe,
     scratch: Vec<u64>,
-    room: Vec<u64>,
     initial: Vec<u64>,
 }
 
@@ -53,7 +52,7 @@ impl<K: EpochKind, const WAYS: usize> Model for Front<K, WAYS> {
     ghost view = { λ f. record { kind = f.kind; cache = f.cache; pipe = f.pipe } };
 
     ghost invariant = { λ f. AreFrontParts WAYS (K.sizes f.kind) (K.folding f.kind) f.cache f.pipe
-        f.scratch.items f.room.items f.initial.items };
+        f.scratch.items f.initial.items };
 }
 
 impl<K: EpochKind, const WAYS: usize> Front<K, WAYS> {
@@ -82,7 +81,6 @@ impl<K: EpochKind, const WAYS: usize> Front<K, WAYS> {
         let cache = BucketCache::new(alloc, buckets, key_words, entry_words)?;
         let pipe = EvictPipe::new(alloc, pipe_records, key_words + entry_words)?;
         let scratch = vec![in alloc; 0; kind.scratch_words()]?;
-        let room = vec![in alloc; 0; key_words + entry_words]?;
         let mut initial = vec![in alloc; 0; kind.state_words()]?;
         kind.initial(&mut initial);
         Ok(Front {
@@ -90,7 +88,6 @@ impl<K: EpochKind, const WAYS: usize> Front<K, WAYS> {
             cache,
             pipe,
             scratch,
-            room,
             initial,
         })
     }
@@ -213,11 +210,10 @@ impl<K: EpochKind, const WAYS: usize> Front<K, WAYS> {
         ensures cost { let cache = self.old.cache in
             steps.new ≤ steps.old + merge_cost cache.key_words cache.entry_words (K.merge_bound self.old.kind) }
     {
-        let _copied = self.pipe.front_into(&mut self.room, steps);
         merge_record(
             &self.kind,
             store,
-            &self.room,
+            self.pipe.front(),
             &self.initial,
             &mut self.scratch,
             steps,

@@ -1,6 +1,6 @@
 //! What keeps a front in order beside its packets, with the store that it is handed: room in its pipe, merges, and sweeps.
 
-ghost use Rattle.std.specs.Prelude.{◌≡◌, ◌≢◌, ◌+◌, ◌*◌, ◌<◌, ◌≤◌, ℕ, suc, [], ◌∷◌, OnOk, OnErr, length, replicate};
+ghost use Rattle.std.specs.Prelude.{◌≡◌, ◌≢◌, ◌+◌, ◌*◌, ◌<◌, ◌≤◌, ℕ, suc, [], ◌∷◌, OnOk, OnErr, drop, length, replicate};
 ghost use Rattle.epoch_model.specs.Machine.{Merge};
 ghost use Rattle.bucket_cache.specs.Caches.{list_at};
 ghost use Rattle.switch_core.specs.Closing.{held_in};
@@ -29,6 +29,51 @@ pub enum Upkeep {
     Rest,
 }
 
+// Merges once.
+#[inline(always)]
+fn merge_once<K: EpochKind, const WAYS: usize, L: Ledger>(
+    front: &mut Front<K, WAYS>,
+    store: &mut BackingStore,
+    steps: &mut Steps<L>,
+) -> Result<(), AllocError>
+    requires { FitsStore (K.sizes front.old.kind) front.old.cache store.old }
+    ensures carries { OnOk result (CarriesAll K.stands K.folding WAYS (Merge ∷ [])
+        (with_store front.old store.old) (with_store front.new store.new)) }
+    ensures err { OnErr result ((front.new ≡ front.old) × (store.new ≡ store.old)) }
+    ensures ready { OnOk result (length front.new.pipe.records < front.new.pipe.places) }
+    ensures records { OnOk result (front.new.pipe.records ≡ drop 1 front.old.pipe.records) }
+    ensures cache { front.new.cache ≡ front.old.cache }
+    ensures sizes { KeepsSizes (with_store front.old store.old) (with_store front.new store.new) }
+    ensures steps { steps.old ≤ steps.new }
+    ensures cost { let cache = front.old.cache in
+        steps.new ≤ steps.old + merge_cost cache.key_words cache.entry_words (K.merge_bound front.old.kind) }
+{
+    let _merged = front.merge_into(store, steps)?;
+    Ok(())
+}
+
+// Merges once, so that the pipe has room. Not inlined, since few packets find a full pipe.
+#[inline(never)]
+fn make_room<K: EpochKind, const WAYS: usize, L: Ledger>(
+    front: &mut Front<K, WAYS>,
+    store: &mut BackingStore,
+    steps: &mut Steps<L>,
+) -> Result<(), AllocError>
+    requires { FitsStore (K.sizes front.old.kind) front.old.cache store.old }
+    ensures carries { OnOk result (CarriesAll K.stands K.folding WAYS (Merge ∷ [])
+        (with_store front.old store.old) (with_store front.new store.new)) }
+    ensures err { OnErr result ((front.new ≡ front.old) × (store.new ≡ store.old)) }
+    ensures ready { OnOk result (length front.new.pipe.records < front.new.pipe.places) }
+    ensures records { OnOk result (front.new.pipe.records ≡ drop 1 front.old.pipe.records) }
+    ensures cache { front.new.cache ≡ front.old.cache }
+    ensures sizes { KeepsSizes (with_store front.old store.old) (with_store front.new store.new) }
+    ensures steps { steps.old ≤ steps.new }
+    ensures cost { let cache = front.old.cache in
+        steps.new ≤ steps.old + merge_cost cache.key_words cache.entry_words (K.merge_bound front.old.kind) }
+{
+    merge_once(front, store, steps)
+}
+
 // Merges once where the pipe is full.
 #[inline(always)]
 fn make_ready<K: EpochKind, const WAYS: usize, L: Ledger>(
@@ -52,28 +97,7 @@ fn make_ready<K: EpochKind, const WAYS: usize, L: Ledger>(
     if front.ready() {
         return Ok(());
     }
-    let _merged = front.merge_into(store, steps)?;
-    Ok(())
-}
-
-// Merges once.
-#[inline(always)]
-fn merge_once<K: EpochKind, const WAYS: usize, L: Ledger>(
-    front: &mut Front<K, WAYS>,
-    store: &mut BackingStore,
-    steps: &mut Steps<L>,
-) -> Result<(), AllocError>
-    requires { FitsStore (K.sizes front.old.kind) front.old.cache store.old }
-    ensures carries { OnOk result (CarriesAll K.stands K.folding WAYS (Merge ∷ [])
-        (with_store front.old store.old) (with_store front.new store.new)) }
-    ensures err { OnErr result ((front.new ≡ front.old) × (store.new ≡ store.old)) }
-    ensures ready { OnOk result (length front.new.pipe.records < front.new.pipe.places) }
-    ensures sizes { KeepsSizes (with_store front.old store.old) (with_store front.new store.new) }
-    ensures steps { steps.old ≤ steps.new }
-    ensures cost { let cache = front.old.cache in
-        steps.new ≤ steps.old + merge_cost cache.key_words cache.entry_words (K.merge_bound front.old.kind) }
-{
-    let _merged = front.merge_into(store, steps)?;
+    make_room(front, store, steps)?;
     Ok(())
 }
 

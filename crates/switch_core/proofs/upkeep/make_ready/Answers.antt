@@ -2,7 +2,7 @@
 use Rattle.std.proofs.Common.{◌≡◌, true, false, length, refl, sym, ap, ◌∙◌, subst, length-drop}
 use Rattle.std.specs.Prelude.{nat_lt}
 use Rattle.switch_core.specs.FrontEvents.{CarriesAll, with_store}
-use Rattle.switch_core.proofs.Carrying.{keeps_start, keeps_same}
+use Rattle.switch_core.proofs.Carrying.{keeps_start}
 use Rattle.switch_core.proofs.Emptying.{left_fewer, left_same, room_none, room_one}
 use Rattle.switch_core.proofs.upkeep.make_ready.Goals as goal
 
@@ -26,21 +26,20 @@ returns-then-ready-clause-sizes g c = keeps_start (with_store c.args.front.now c
 pub returns-clause-carries : goal.returns-clause-carries
 returns-clause-carries g c =
     let front = c.args.front.now in
-    let new = with_store c.merge_into.new.self c.merge_into.new.store in
+    let new = with_store c.make_room.new.front c.make_room.new.store in
     let full : nat_lt (length front.pipe.records) front.pipe.places ≡ false = sym c.ready.ensures ∙ c.if-ready.false in
     subst (λ events. CarriesAll g.K.EpochKind.stands g.K.EpochKind.folding g.row.WAYS events (with_store front c.args.store.now) new)
-    (sym (room_one front.pipe.places (length front.pipe.records) full)) (new, c.in_ok-_merged.ensures.carries, refl)
+    (sym (room_one front.pipe.places (length front.pipe.records) full)) c.in_ok-make_room.ensures.carries
 
 pub returns-clause-waiting : goal.returns-clause-waiting
 returns-clause-waiting g c =
     let front = c.args.front.now in
     let full : nat_lt (length front.pipe.records) front.pipe.places ≡ false = sym c.ready.ensures ∙ c.if-ready.false in
-    ap length c.in_ok-_merged.ensures.records
+    ap length c.in_ok-make_room.ensures.records
     ∙ (length-drop 1 front.pipe.records ∙ sym (left_fewer front.pipe.places (length front.pipe.records) full))
 
 pub returns-clause-sizes : goal.returns-clause-sizes
-returns-clause-sizes g c = c.in_ok-_merged.ensures.carries.sizes
+returns-clause-sizes g c = c.make_room.ensures.sizes
 
-pub returns-in_err-_merged-clause-sizes : goal.returns-in_err-_merged-clause-sizes
-returns-in_err-_merged-clause-sizes g c =
-    keeps_same c.args.front.now c.merge_into.new.self c.args.store.now c.merge_into.new.store c.in_err-_merged.ensures.err
+pub returns-in_err-make_room-clause-sizes : goal.returns-in_err-make_room-clause-sizes
+returns-in_err-make_room-clause-sizes g c = c.make_room.ensures.sizes

@@ -1,21 +1,45 @@
-use Rattle.std.proofs.Common.{◌≡◌, ℕ, List, Vec, Global, ◌++◌, length, take, drop, sym, ap, ◌∙◌, length-append}
-use Rattle.std.proofs.lemmas.List.{take_at}
-use Rattle.std.specs.Vec.{with_items}
-use Rattle.evict_pipe.proofs.RingLists.{ring-pushed}
+use Rattle.std.proofs.Common.{◌≡◌, ◌+◌, ◌<◌, ◌++◌, length, subst, sym, ap, ◌∙◌, arith, length-append}
+use Rattle.evict_pipe.specs.Rings.{place_after, records_in, IsRing}
+use Rattle.evict_pipe.proofs.RingFacts.{after-low, length-records, pushed, written}
 use Rattle.evict_pipe.proofs.pipe.EvictPipe.push.Goals as goal
 
-abbrev items : Vec ℕ Global → List ℕ
-items row = row.items
+pub start_of-start-requires-clause-range : goal.start_of-start-requires-clause-range
+start_of-start-requires-clause-range g c =
+    let p = c.self.inside in
+    let long = length-records p.record_words p.places p.words.items p.first p.len in
+    subst (λ n. n < p.places) (ap (λ pipe. length pipe.records) (sym c.self.view_is) ∙ long)
+    (subst (λ n. length c.args.self.now.records < n) (ap (λ pipe. pipe.places) (sym c.self.view_is)) c.requires.room)
 
 pub invariant_of-self : goal.invariant_of-self
 invariant_of-self g c =
     let p = c.self.inside in
-    let row = c.in-Some.row in
-    let new = c.write_record.new.row in
-    let whole : take row.len (new ++ drop (length new) row.items) ≡ new =
-    take_at new (drop (length new) row.items) row.len (c.write_record.auto.row ∙ c.deref_mut.ensures.len) in
-    let words : length new ≡ p.record_words = ap length c.write_record.ensures.written
-    ∙ (length-append c.args.key.now c.args.entry.now ∙ (c.requires.words ∙ ap (λ x. x.record_words) (sym c.self.view_is))) in
-    ring-pushed items p.record_words p.places p.held p.free c.push_back-none.new.self c.pop_front.new.self row (with_items row new)
-    c.self.invariant
-    (sym c.in-Some.is ∙ c.pop_front.ensures.value) (ap length whole ∙ words) c.pop_front.ensures.items c.push_back-none.ensures.items
+    let ring = c.self.invariant in
+    let long = length-records p.record_words p.places p.words.items p.first p.len in
+    let room : p.len < p.places = subst (λ n. n < p.places) (ap (λ pipe. length pipe.records) (sym c.self.view_is) ∙ long)
+    (subst (λ n. length c.args.self.now.records < n) (ap (λ pipe. pipe.places) (sym c.self.view_is)) c.requires.room) in
+    let new = c.args.key.now ++ c.args.entry.now in
+    let wide : length new ≡ p.record_words = length-append c.args.key.now c.args.entry.now
+    ∙ (c.requires.words ∙ ap (λ pipe. pipe.record_words) (sym c.self.view_is)) in
+    let after = written p.words c.start_of-start.result p.record_words (place_after p.places p.first p.len) p.places c.deref_mut.result.now
+    c.write_record.new.row new c.deref_mut.ensures.value c.start_of-start.ensures c.write_record.ensures.written
+    (after-low p.places p.first p.len ring.oldest room) ring.whole wide in
+    subst (λ words. IsRing p.record_words p.places words p.first (p.len + 1)) (sym after.0)
+    (record { whole = after.1; width = ring.width; few = ring.few; oldest = ring.oldest; within = omega (arith, room) })
+
+pub returns-clause-records : goal.returns-clause-records
+returns-clause-records g c =
+    let p = c.self.inside in
+    let ring = c.self.invariant in
+    let items = p.words.items in
+    let long = length-records p.record_words p.places items p.first p.len in
+    let room : p.len < p.places = subst (λ n. n < p.places) (ap (λ pipe. length pipe.records) (sym c.self.view_is) ∙ long)
+    (subst (λ n. length c.args.self.now.records < n) (ap (λ pipe. pipe.places) (sym c.self.view_is)) c.requires.room) in
+    let new = c.args.key.now ++ c.args.entry.now in
+    let wide : length new ≡ p.record_words = length-append c.args.key.now c.args.entry.now
+    ∙ (c.requires.words ∙ ap (λ pipe. pipe.record_words) (sym c.self.view_is)) in
+    let after = written p.words c.start_of-start.result p.record_words (place_after p.places p.first p.len) p.places c.deref_mut.result.now
+    c.write_record.new.row new c.deref_mut.ensures.value c.start_of-start.ensures c.write_record.ensures.written
+    (after-low p.places p.first p.len ring.oldest room) ring.whole wide in
+    rw (← c.self.view_is) (ap (λ rows. record { record_words = p.record_words; places = p.places; records = rows })
+    (ap (λ words. records_in p.record_words p.places words p.first (p.len + 1)) after.0
+    ∙ pushed p.record_words p.places items p.first p.len new ring room wide))

@@ -6,7 +6,7 @@ use Rattle.switch_core.specs.Costs.{merge_cost}
 use Rattle.switch_core.specs.FrontParts.{front_of}
 use Rattle.switch_core.specs.FrontEvents.{FrontMakes, MergesNext}
 use Rattle.switch_core.specs.Lanes.{RecordStands}
-use Rattle.switch_core.proofs.MergeSteps.{front_merged, next_held, copied_within}
+use Rattle.switch_core.proofs.MergeSteps.{front_merged, next_held}
 use Rattle.switch_core.proofs.front.Front.merge_oldest.Goals as goal
 
 pub returns-clause-makes : goal.returns-clause-makes
@@ -33,33 +33,21 @@ returns-clause-held g c =
     let some : 0 < length old.pipe.records = subst (λ x. 0 < length x.pipe.records) (sym c.self.view_is) c.requires.some in
     let key : c.args.store.now.key_words ≡ old.cache.key_words = subst (λ x. c.args.store.now.key_words ≡ x.cache.key_words)
     (sym c.self.view_is) c.requires.fits.key in
-    let long : length c.front_into-copied.new.into ≡ old.room.len = c.front_into-copied.auto.into ∙ c.deref_mut.ensures.len in
-    let copied : c.front_into-copied.result ≡ true = grind (arith, nat_tests, c.front_into-copied.ensures.some, some) in
-    let words : c.deref.result.now ≡ get_or old.pipe.records 0 [] = c.deref.ensures.value
-    ∙ (subst (λ n. take n (c.front_into-copied.new.into ++ drop (length c.front_into-copied.new.into) old.room.items)
-    ≡ c.front_into-copied.new.into) long (take-append_seam c.front_into-copied.new.into
-    (drop (length c.front_into-copied.new.into) old.room.items)) ∙ (c.front_into-copied.ensures.copied ∙ rw copied refl)) in
     subst (λ x. MergesNext (g.K.EpochKind.stands x.kind) (g.K.EpochKind.folding x.kind) x c.args.store.now c.merge_record.new.store)
     c.self.view_is
     (λ m epochs s held. next_held stands f old.cache old.pipe c.args.store.now c.merge_record.new.store m epochs some
     (λ epoch stood kept. c.in_ok-merge_record.ensures.ok epoch epochs
-    (subst (λ n. RecordStands stands n c.deref.result.now epoch) (sym key)
-    (subst (λ ws. RecordStands stands old.cache.key_words ws epoch) (sym words) stood)) kept) s held)
+    (subst (λ n. RecordStands stands n c.front.result.now epoch) (sym key)
+    (subst (λ ws. RecordStands stands old.cache.key_words ws epoch) (sym c.front.ensures.words) stood)) kept) s held)
 
 pub returns-clause-cost : goal.returns-clause-cost
 returns-clause-cost g c =
-    let words = c.self.invariant.front.record_words in
-    let copied = copied_within c.front_into-copied.result c.self.inside.pipe.record_words in
-    let counted = c.front_into-copied.ensures.cost in
     let merged = c.merge_record.ensures.cost in
     subst (λ x. c.merge_record.new.steps ≤ c.args.steps.now + merge_cost x.cache.key_words x.cache.entry_words
     (g.K.EpochKind.merge_bound x.kind)) c.self.view_is (omega arith)
 
 pub returns-in_err-merge_record-clause-cost : goal.returns-in_err-merge_record-clause-cost
 returns-in_err-merge_record-clause-cost g c =
-    let words = c.self.invariant.front.record_words in
-    let copied = copied_within c.front_into-copied.result c.self.inside.pipe.record_words in
-    let counted = c.front_into-copied.ensures.cost in
     let merged = c.merge_record.ensures.cost in
     subst (λ x. c.merge_record.new.steps ≤ c.args.steps.now + merge_cost x.cache.key_words x.cache.entry_words
     (g.K.EpochKind.merge_bound x.kind)) c.self.view_is (omega arith)
