@@ -1,1 +1,12 @@
 pub mod PartNumbers
+pub mod PlainRows
+pub mod FinalWalk
+pub mod Groupbys
+pub mod GroupParts
+pub mod Headings
+pub mod JoinKeys
+pub mod JoinWalk
+pub mod TableMerges
+pub mod ReadPackets
+pub mod WholeFacts
+pub mod OtherFacts

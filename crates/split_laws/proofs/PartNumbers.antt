@@ -1,18 +1,16 @@
 -- The parts of a splitting are numbered from 0 on.
-use Rattle.std.proofs.Common.{◌≡◌, ◌≢◌, ℕ, zero, suc, ◌+◌, ◌<◌, ◌≤◌, ◌==◌, Bool, true, false, cond, ◌||◌, List, [], ◌∷◌, length, map}
-use Rattle.std.proofs.Common.{refl, sym, ap, subst, ◌∙◌, arith}
-use Rattle.std.specs.Prelude.{All, Ok, filter}
+use Rattle.std.proofs.Common.{◌≡◌, ◌≢◌, ℕ, zero, suc, ◌+◌, ◌<◌, ◌≤◌, ◌==◌, Bool, true, false, cond, ◌||◌, List, [], ◌∷◌, map}
+use Rattle.std.proofs.Common.{refl, ap, subst, ◌∙◌, arith}
+use Rattle.std.specs.Prelude.{All}
 use Rattle.std.specs.List.{range_with_len}
 use Rattle.std.proofs.lemmas.List.Elements.{All-nil, All-cons}
 use Rattle.epoch_model.proofs.KeyLists.{by_test}
 use Rattle.epoch_model.proofs.MachineSteps.{bucket_of-lt}
-use Rattle.epoch_model.specs.Epochs.{Geometry}
-use Rattle.epoch_model.specs.Keys.{Key, bucket_of}
-use Rattle.epoch_model.specs.Tables.{Folding, group_rows}
+use Rattle.epoch_model.specs.Keys.{Key}
+use Rattle.epoch_model.specs.Tables.{group_rows}
 use Rattle.epoch_model.specs.declared.tables.Row.{Row}
 use Rattle.marple_base.specs.declared.field.Field.{Field}
 use Rattle.marple_base.specs.declared.field.Packet.{Packet}
-use Rattle.query_lang.specs.declared.typed.TypedQuery.{TypedQuery}
 use Rattle.query_types.specs.Uses.{uses}
 use Rattle.additive_laws.proofs.Counts.{not_number, same_number}
 use Rattle.additive_laws.specs.TraceLaws.{AreApart, has_number}
@@ -39,7 +37,7 @@ has_none a (suc n) k below = by_test (a == k)
     (λ e. let same : a ≡ k = same_number a k e in absurd (omega (arith, same)))
     (λ e. ap (λ t. t || has_number k (range_with_len (a + 1) n)) e ∙ has_none (a + 1) n k (omega arith))
 
-are_apart : (a n : ℕ) → AreApart (range_with_len a n)
+pub are_apart : (a n : ℕ) → AreApart (range_with_len a n)
 are_apart a zero = tt
 are_apart a (suc n) = (has_none (a + 1) n a (omega arith), are_apart (a + 1) n)
 
@@ -56,11 +54,11 @@ module _ (fields : List Field) (salt parts : ℕ) (some : 0 < parts) where
       (has_in 0 parts (partition words) (omega arith) (omega (arith, bucket_of-lt parts (salt ∷ words_at fields words) some)))
       (each_below packets)
 
-  are_the_parts : (packets : List (List ℕ)) → AreTheParts partition packets (range_with_len 0 parts)
+  pub are_the_parts : (packets : List (List ℕ)) → AreTheParts partition packets (range_with_len 0 parts)
   are_the_parts packets = record { apart = are_apart 0 parts; each = each_below packets }
 
   -- the words of a part's packets are those of the part
-  words_at_part : (n : ℕ) (packets : List Packet) → part_at partition n (words_of packets) ≡ words_of (packets_at partition n packets)
+  pub words_at_part : (n : ℕ) (packets : List Packet) → part_at partition n (words_of packets) ≡ words_of (packets_at partition n packets)
   words_at_part n [] = refl
   words_at_part n (packet ∷ packets) = by (partition packet.words == n) (words_at_part n packets)
     where
