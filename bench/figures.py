@@ -113,11 +113,6 @@ def of_link(*names: str) -> Callable[[], list[float]]:
     return lambda: [link()[it] for it in names]
 
 
-def shifted(file: str, name: str) -> Callable[[], list[float]]:
-    """A constant of the code, in MB."""
-    return lambda: figures(file, rf"\b{name} = N << 20")
-
-
 def of_building() -> list[float]:
     return [*figures(BUILD, r"N minutes elapsed"), *figures(BUILD, r"it took N minutes")]
 
@@ -178,9 +173,6 @@ OF_SCALING: list[Sentence] = [
     (r"At the N packets a second that each of four workers has, this is N days", of_link("rate", "days")),
     (r"N workers would keep pace .{,60} N machines like this one", lambda: [link()["days"], ceil(link()["days"] / 4)]),
     (r"`--work` would take N TB more", of_link("bytes")),
-    (r"looked through in pieces of at most N MB", shifted("python/marple/parts/__init__.py", "PIECE")),
-    (r"a task holds a block of N MB", shifted("python/marple/parts/records.py", "BLOCK")),
-    (r"up to N MB until they are written", shifted("python/marple/parts/splitting.py", "ROUND")),
 ]
 SENTENCES: dict[str, list[Sentence]] = {README: OF_README, MANUAL: [], SCALING: OF_SCALING, START: []}
 

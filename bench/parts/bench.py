@@ -1,7 +1,6 @@
 """A query over 20,000,000 packets of a million keys in parts, by one, two and four workers; and what splitting costs.
 
-`run.sh` measures it, if the Python that PYTHON names, or /usr/bin/python3, has numpy. PACKETS and KEYS in the environment
-give other numbers of packets and keys.
+`run.sh` measures it. PACKETS and KEYS in the environment give other numbers of packets and keys.
 """
 
 from __future__ import annotations
@@ -10,18 +9,12 @@ import json
 import os
 import subprocess
 
-from measure import BenchError, Figure, Race, report_progress
+from measure import BenchError, Figure, Race
 from workshop import Workshop
-
-NEEDED = "import numpy"
 
 
 def measured(shop: Workshop, runs: int | None) -> list[tuple[Race, dict[str, Figure]]]:
-    """The figures of `run.sh`; none where there is no numpy."""
-    python = os.environ.get("PYTHON", "/usr/bin/python3")
-    if subprocess.run([python, "-c", NEEDED], stderr=subprocess.DEVNULL, check=False).returncode != 0:
-        report_progress(f"parts: not measured, since {python} has no numpy")
-        return []
+    """The figures of `run.sh`."""
     command = [str(shop.here / "run.sh"), os.environ.get("PACKETS", "20000000"), os.environ.get("KEYS", "1000000")]
     given = os.environ | {"ROOM": str(shop.room), "MARPLE": shop.marple, "RUNS": str(runs or 3)}
     if subprocess.run(command, env=given, stdout=subprocess.DEVNULL, check=False).returncode != 0:

@@ -12,6 +12,7 @@ import resource
 import shutil
 import subprocess
 import sys
+import tempfile
 import textwrap
 import time
 from dataclasses import asdict, dataclass, field
@@ -20,13 +21,12 @@ from statistics import median
 
 from marple import find_program, parts
 from marple.parts.processes import Workers
-from marple.parts.records import Span, read_header
-from marple.parts.splitting import Splitting, write_piece
+from marple.program import find_tools
 
 ALL = "1-14"
 COLUMNS = "4,9,10,11"  # those that the query reads
 MILLION = 1_000_000
-STAGES = ("look", "split", "run", "join")
+STAGES = ("split", "run", "join")
 FASTER, SLOWER = 3.0, 2.0  # the goals: 4 workers compared with one, and splitting with running
 
 
@@ -37,12 +37,6 @@ def progress(line: str) -> None:
 def peak() -> int:
     """The peak of this process in MB."""
     return resource.getrusage(resource.RUSAGE_SELF).ru_maxrss // 1024
-
-
-def processor_seconds() -> float:
-    """The processor time of this process."""
-    used = resource.getrusage(resource.RUSAGE_SELF)
-    return used.ru_utime + used.ru_stime
 
 
 def spread(values: list[float]) -> str:
@@ -77,7 +71,7 @@ class Stages:
 
     def seconds(self) -> tuple[float, ...]:
         """The seconds of each stage."""
-        ends = [self.ends[name] for name in ("looked", "split", "ran", "end")]
+        ends = [self.ends[name] for name in ("split", "ran", "end")]
         return tuple(end - before for end, before in zip(ends, [0, *ends], strict=False))
 
 
@@ -101,12 +95,12 @@ def timed_parts(query: str, room: Path, workers: int) -> PartsRun:
     return measured
 
 
-# Runs of the program, and splitting
+# Runs of the programs
 
 
 @dataclass(frozen=True)
 class Run:
-    """A run of the program: seconds of clock and of the processor, and its peak in MB."""
+    """A run of a program: seconds of clock and of the processor, and its peak in MB."""
 
     clock: float
     processor: float
@@ -133,24 +127,26 @@ def quoted(trace: Path, room: Path) -> Path:
     return path
 
 
-def timed_run(query: str, trace: Path) -> Run:
-    """A run of the program over a trace."""
+def timed(*words: str) -> Run:
+    """A run of the program of these words."""
     began = time.monotonic()
-    process = subprocess.Popen([find_program(), "run", query, str(trace)], stdout=subprocess.DEVNULL)
+    process = subprocess.Popen(words, stdout=subprocess.DEVNULL)
     _, status, used = os.wait4(process.pid, 0)
     process.returncode = os.waitstatus_to_exitcode(status)
     if process.returncode != 0:
-        sys.exit(f"the program failed over {trace}")
+        sys.exit(f"{' '.join(words)} failed")
     return Run(time.monotonic() - began, used.ru_utime + used.ru_stime, used.ru_maxrss // 1024)
 
 
-def timed_split(trace: Path, room: Path, has_quotes: bool) -> float:
-    """Seconds of the processor that splitting a trace into 8 parts takes."""
-    header = read_header(str(trace))
-    splitting = Splitting(("srcip",), (header.names.index("srcip"),), 8, 0)
-    began = processor_seconds()
-    write_piece(splitting, [Span(str(trace), header.end, header.size, has_quotes)], str(room / "piece"))
-    return processor_seconds() - began
+def timed_run(query: str, trace: Path) -> Run:
+    """A run over a trace."""
+    return timed(find_program(), "run", query, str(trace))
+
+
+def timed_split(query: str, trace: Path, room: Path) -> Run:
+    """Splits a trace into 8 parts."""
+    with tempfile.TemporaryDirectory(dir=room) as folder:
+        return timed(find_tools(), "split", query, str(trace), "--parts", "8", "--into", folder)
 
 
 # The page
@@ -196,13 +192,10 @@ def machine() -> str:
 
 
 def versions() -> str:
-    import numpy
-
     asked = ["git", "rev-parse", "--short", "HEAD"]
     commit = subprocess.run(asked, capture_output=True, text=True, check=False).stdout.strip()
     version = (Path(__file__).resolve().parents[2] / "VERSION").read_text().strip()
-    python = sys.version.split()[0]
-    return f"version {version}, commit {commit}, Python {python}, numpy {numpy.__version__}"
+    return f"version {version}, commit {commit}, Python {sys.version.split()[0]}"
 
 
 def preface(traces: Traces, load: float, runs: int) -> list[str]:
@@ -281,14 +274,14 @@ def splitting_runs(query: str, room: Path, packets: int, runs: int) -> tuple[lis
     for what, trace in (("plain", plain), ("each field in quotes", quoted(plain, room))):
         splits, ran = [], []
         for _ in range(runs):
-            splits.append(timed_split(trace, room, trace is not plain))
+            splits.append(timed_split(query, trace, room))
             ran.append(timed_run(query, trace))
-        processor = [one.processor for one in ran]
         cases.append(Case(f"{packets:,} packets, {what}"))
-        cases[-1].add("splitting", splits, [peak()] * runs)
-        cases[-1].add("running", processor, [one.peak for one in ran])
+        for name, own in (("splitting", splits), ("running", ran)):
+            cases[-1].add(name, [one.processor for one in own], [one.peak for one in own])
         ratios.append(cases[-1].time("splitting") / cases[-1].time("running"))
-        lines.append(f"| {what} | {spread(splits)} | {spread(processor)} | {ratios[-1]:.2f} |")
+        shown = " | ".join(spread([one.processor for one in own]) for own in (splits, ran))
+        lines.append(f"| {what} | {shown} | {ratios[-1]:.2f} |")
     shown = f"{ratios[0]:.2f}, and {ratios[1]:.2f} with quotes"
     goal = f"Goal, splitting takes at most {SLOWER:g} times as long as running: {shown}"
     return [*lines, "", verdict(goal, max(ratios) <= SLOWER)], cases

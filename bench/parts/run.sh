@@ -4,7 +4,7 @@
 # Usage: bench/parts/run.sh [--write] [PACKETS [KEYS]]
 # 20,000,000 packets of 1,000,000 keys in files of 1,000,000 by default, which take 4 GB in $ROOM. A folder that ROOM names is
 # kept with its traces, which the next run with the same numbers uses again; without it a folder in /tmp is removed at the end.
-# The program is $MARPLE, or ./marple; PYTHON is a Python with numpy (Debian: python3-numpy), /usr/bin/python3 by default.
+# The programs are $MARPLE, or ./marple, and the marple-tools of its checkout. PYTHON is a Python, /usr/bin/python3 by default.
 # WORKERS are the numbers of workers, "1 2 4" by default; RUNS is how often each is measured, 3 by default. --write puts the
 # figures into bench/README.md.
 set -eu

@@ -63,6 +63,11 @@ class Group:
     body: tuple[str, ...]
 
 
+def read_fields(text: str) -> tuple[str, ...]:
+    """The fields that are read by a plan whose text `compile` writes."""
+    return tuple(next(line for line in text.splitlines() if line.startswith("reads")).split(" ")[1:])
+
+
 def read_groups(text: str) -> dict[str, Group]:
     """The groupbys of a text that `compile` writes, by their names."""
     groups: dict[str, Group] = {}

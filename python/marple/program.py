@@ -28,8 +28,27 @@ def find_program(program: Optional[Program] = None) -> str:
     A proved program is looked for once per process. Raises ProgramMissing, which names all places.
     """
     named = program if program is not None else os.environ.get("MARPLE")
-    if named is None or named == "":
-        return _proved()
+    return _proved("marple") if named is None or named == "" else _named(named)
+
+
+def find_tools(program: Optional[Program] = None) -> str:
+    """The path of marple-tools: the one named by the environment's MARPLE_TOOLS, whatever it is; else, if a program is
+    named, the one beside that, in its folder or its checkout; else a proved one, as for `find_program`.
+
+    Raises ProgramMissing, which names all places.
+    """
+    named = os.environ.get("MARPLE_TOOLS")
+    if named:
+        return _named(named)
+    if program is not None or os.environ.get("MARPLE"):
+        beside = Path(find_program(program))
+        for place in (beside.with_name("marple-tools"), *(built_in(top, "marple-tools") for top in beside.parents[3:4])):
+            if place.is_file() and os.access(place, os.X_OK):
+                return str(place)
+    return _proved("marple-tools")
+
+
+def _named(named: Program) -> str:
     if isinstance(named, str) and os.sep not in named:
         found = shutil.which(named)
         if found is None:
@@ -43,50 +62,59 @@ def find_program(program: Optional[Program] = None) -> str:
     return path
 
 
-def _proved() -> str:
+def _proved(name: str) -> str:
     path = os.environ.get("PATH", "")
-    found = _search(CHECKOUT, path)
+    found = _search(CHECKOUT, path, name)
     if not os.access(found, os.X_OK):  # it was taken away since
         _search.cache_clear()
-        found = _search(CHECKOUT, path)
+        found = _search(CHECKOUT, path, name)
     return found
 
 
+def built_in(top: Path, name: str) -> Path:
+    """Where ./build puts the program of this name in the checkout `top`."""
+    crate = name.replace("-", "_")
+    return top / "crates" / crate / "out" / crate
+
+
 @lru_cache(maxsize=None)
-def _search(top: Path, path: str) -> str:
-    """The proved program of the checkout `top`, or an installed one. Raises ProgramMissing."""
-    built = top / "crates" / "marple" / "out" / "marple"
+def _search(top: Path, path: str, name: str) -> str:
+    """The proved program of this name in the checkout `top`, or an installed one. Raises ProgramMissing."""
+    built = built_in(top, name)
     looked = []
-    if is_proved(top):
+    if is_proved(top, name):
         return str(built)
     looked.append(f"{built}, which " + ("isn't proved of its sources" if built.exists() else "isn't built"))
-    for place in (*(os.path.join(folder, "marple") for folder in path.split(os.pathsep) if folder), _home_program()):
+    for place in (*(os.path.join(folder, name) for folder in path.split(os.pathsep) if folder), _home_program(name)):
         if not os.access(place, os.X_OK) or os.path.isdir(place):
             looked.append(place)
         elif _is_script(place):
             looked.append(f"{place}, which is a script and may run a program that isn't proved")
         else:
             return os.path.abspath(place)
-    _raise_missing(looked)
+    _raise_missing(name, looked)
 
 
-def _raise_missing(looked: list[str]) -> NoReturn:
+def _raise_missing(name: str, looked: list[str]) -> NoReturn:
+    what, names = ("", "program=.. or the environment variable MARPLE")
+    if name != "marple":
+        what, names = f" {name}", "the environment variable MARPLE_TOOLS"
     raise ProgramMissing(
-        "there is no proved program. It was looked for at\n" + "".join(f"  {place}\n" for place in dict.fromkeys(looked))
-        + "Build it in the checkout (./build), or install it from there (./install). Another program is used if "
-        "program=.. or the environment variable MARPLE names it"
+        f"there is no proved program{what}. It was looked for at\n" + "".join(f"  {place}\n" for place in dict.fromkeys(looked))
+        + f"Build it in the checkout (./build), or install it from there (./install). Another program is used if {names} names it"
     )
 
 
-def _home_program() -> str:
-    """Where ./install puts the program if it isn't told a place."""
-    return os.path.expanduser("~/.local/bin/marple")
+def _home_program(name: str) -> str:
+    """Where ./install puts the program of this name if it isn't told a place."""
+    return os.path.expanduser(f"~/.local/bin/{name}")
 
 
-def is_proved(top: Path) -> bool:
-    """Whether the checkout has a program that is proved of its sources, as the checkout itself says."""
+def is_proved(top: Path, name: str = "marple") -> bool:
+    """Whether the checkout has a program of this name that is proved of its sources, as the checkout itself says."""
     asked = top / "tools" / "building" / "is-proved"
-    return asked.is_file() and subprocess.run([asked], stdin=subprocess.DEVNULL, check=False).returncode == 0
+    command = [str(asked), name.replace("-", "_")]
+    return asked.is_file() and subprocess.run(command, stdin=subprocess.DEVNULL, check=False).returncode == 0
 
 
 def _is_script(path: str) -> bool:

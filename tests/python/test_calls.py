@@ -184,7 +184,7 @@ class TheProgram(unittest.TestCase):
         for program_file in (self.built, self.installed, self.asked):
             program_file.parent.mkdir(parents=True)
         for patch in (
-            mock.patch.dict(os.environ, {"MARPLE": "", "PATH": str(top / "bin")}),
+            mock.patch.dict(os.environ, {"MARPLE": "", "MARPLE_TOOLS": "", "PATH": str(top / "bin")}),
             mock.patch.object(program, "CHECKOUT", top),
         ):
             patch.start()
@@ -219,6 +219,27 @@ class TheProgram(unittest.TestCase):
             self.assertEqual(program.find_program(), str(script))
         with self.assertRaises(marple.ProgramMissing):
             program.find_program("no-such-program")
+
+    def test_has_a_second_one(self):
+        """marple-tools is the one that is named, or the one beside a named program, or a proved one."""
+        with self.assertRaisesRegex(marple.ProgramMissing, "no proved program marple-tools"):
+            program.find_tools()
+        built = self.built.parents[2] / "marple_tools" / "out" / "marple_tools"
+        built.parent.mkdir(parents=True)
+        installed, named = self.installed.with_name("marple-tools"), Path(self.folder.path("named"))
+        for path in (self.built, built, self.installed, installed, named):
+            self.make(path)
+        self.make(self.asked, b'#!/bin/sh\n[ "$1" = marple_tools ]\n')
+        self.assertEqual(program.find_tools(), str(built))
+        self.assertEqual(program.find_tools(self.installed), str(installed))
+        self.assertEqual(program.find_tools(self.built), str(built))
+        self.assertEqual(program.find_tools(named), str(built))
+        with mock.patch.dict(os.environ, {"MARPLE_TOOLS": str(named)}):
+            self.assertEqual(program.find_tools(), str(named))
+        self.make(self.asked, b"#!/bin/sh\nexit 1\n")
+        program._search.cache_clear()
+        self.assertEqual(program.find_tools(), str(installed))
+        self.assertEqual(program.find_tools(named), str(installed))
 
 
 if __name__ == "__main__":

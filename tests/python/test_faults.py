@@ -77,15 +77,18 @@ class SeveralFiles(unittest.TestCase):
             self.check(self.refused([good, early, late], query, parts=3, piece=70), 1, "BadNumber(2,tin)")
             self.check(self.refused([good, HEADERS[0] + b"1\n", late], query, parts=3, piece=70), 1, "FieldCount(1)")
 
-    def test_of_parts_that_were_split_again(self):
+    def test_before_parts_are_split_again(self):
         records = [b"%d,%d\n" % (number % 30, number) for number in range(400)]
         records[333] = b"3,x\n"
         with mock.patch.multiple(job, PACKETS=20, ROOM=4, AGAIN=4):
             lines: list[str] = []
             traces = [HEADERS[0] + b"".join(own) for own in (records[:200], records[200:])]
-            fault = self.refused(traces, piece=500, report=lines.append)
+            self.check(self.refused(traces, piece=500, report=lines.append), 1, "BadNumber(134,tin)")
+            self.assertFalse(any("splitting it again" in line for line in lines), lines)
+            traces[1] = traces[1].replace(b"x", b"333")
+            paths = [self.folder.write(f"{number}.csv", trace) for number, trace in enumerate(traces)]
+            self.assertEqual(parts.run(BY_KEY, paths, report=lines.append)["r"].column("m")[3], 393)
         self.assertTrue(any("splitting it again" in line for line in lines), lines)
-        self.check(fault, 1, "BadNumber(134,tin)")
 
     def test_of_more_faults_than_a_run_takes(self):
         trace = HEADERS[0] + b"".join(b"%d,1\n" % number for number in range(70)) + b"x,1\n" * 60
@@ -98,11 +101,13 @@ class SeveralFiles(unittest.TestCase):
         self.check(self.refused([b"srcip,tin\n1,2\n", b"\n"]), 1, "NoHeader")
 
     def test_of_other_columns(self):
-        with self.assertRaisesRegex(parts.HeadersDiffer, "1.csv names other columns"):
-            self.paths = [self.folder.write("0.csv", b"srcip,tin\n"), self.folder.write("1.csv", b"tin,srcip\n")]
-            parts.run(BY_KEY, self.paths)
-        same = [self.folder.write("0.csv", b"srcip,tin\n1,2\n"), self.folder.write("1.csv", b'"srcip", tin\n1,3\n')]
-        self.assertEqual(parts.run(BY_KEY, same)["r"].column("m"), [3])
+        """Each file has a header of its own."""
+        for query, expected in ((BY_KEY, {1: 3, 4: 2}), (BY_SUMS, {0: 9})):
+            contents = (b"srcip,tin\n1,2\n", b'"srcip", tin\n1,3\n', b"tin,note,srcip\n2,x,4\n2,y,1\n5,,4\n"[:-6])
+            paths = [self.folder.write(f"{number}.csv", content) for number, content in enumerate(contents)]
+            rows = parts.run(query, paths)["r"].rows
+            self.assertEqual({row[0]: row[-1] for row in rows}, expected)
+        self.check(self.refused([b"srcip,tin\n1,2\n", b"tin,note\n1,2\n"]), 1, "FieldMissing(srcip)")
 
     def test_of_files_that_are_not_there(self):
         with self.assertRaisesRegex(marple.InputError, "cannot read the trace .*/none.csv"):

@@ -15,7 +15,7 @@ from support import TOP, Folder, but_for_epochs, generated
 
 import marple
 from marple import parts
-from marple.parts import compression, records
+from marple.parts import compression
 
 QUERY = TOP / "examples" / "cookbook" / "flows.query"
 COUNT = b"def count([c],[]) { c = c + 1; }\n"
@@ -112,15 +112,6 @@ class TheLimitOfFields(unittest.TestCase):
         trace = folder.write("trace.csv", b'srcip,note\n5,"a note,\nlonger than that"\n6,"' + b"x" * 200_000)
         self.assertEqual(parts.run(COUNT + b"r = groupby(pktstream, [srcip], count); print r;", [trace])["r"].epochs, 2)
         self.assertEqual(parts.run(SUMS, [trace])["r"].rows[0][-1], 2)
-        self.assertEqual(csv.field_size_limit(), 4)
-
-
-    def test_comes_back_as_the_last_thread_leaves(self):
-        self.addCleanup(csv.field_size_limit, csv.field_size_limit(4))
-        with records.ANY_SIZE:
-            with records.ANY_SIZE:
-                pass
-            self.assertGreater(csv.field_size_limit(), 10**9)
         self.assertEqual(csv.field_size_limit(), 4)
 
 

@@ -1,17 +1,25 @@
-"""What the splitter takes for a record, a field and a number is what docs/FORMATS.md says, whatever the bytes."""
+"""What the program splits by is what docs/FORMATS.md takes for a record, a field and a number, whatever the bytes."""
 
+import itertools
 import random
+import re
 import unittest
+from pathlib import Path
 
-from support import Folder
+from support import Folder, generated
 
-from marple.faults import TraceRefused
-from marple.parts import records, splitting, tasks
-from marple.parts.records import Span
-from marple.parts.splitting import Splitting
+from marple.faults import refusal_of
+from marple.parts import tasks
+from marple.parts.choice import Choice
+from marple.parts.tasks import Split
+from marple.program import find_tools
 
 ALPHABET = [b",", b",", b"\n", b"\n", b"\r", b"\r\n", b'"', b'""', b" ", b"\t", b"1", b"2", b"07", b"10.0.0.1", b"x"]
 ALPHABET += [b"\xff"]
+MARK = b"\xef\xbb\xbf"
+MOST = 2**64 - 1
+QUAD = re.compile(rb"([0-9]{1,3})\.([0-9]{1,3})\.([0-9]{1,3})\.([0-9]{1,3})")
+NAMES, PLACES = (b"srcip", b"note", b"tout"), ((0, "srcip"), (2, "tout"))
 
 
 def states(data: bytes) -> list[list[bytes]]:
@@ -35,6 +43,30 @@ def states(data: bytes) -> list[list[bytes]]:
     return made if state == "record" else [*made, [*fields, field]]
 
 
+def number_of(text: bytes, field: str) -> int | None:
+    """The number that a field's text is, or None."""
+    text = text.strip(b" \t")
+    if re.fullmatch(rb"[0-9]{1,20}", text):
+        return int(text) if int(text) <= MOST else None
+    if field in ("srcip", "dstip") and (quad := QUAD.fullmatch(text)):
+        first, second, third, fourth = map(int, quad.groups())
+        return first << 24 | second << 16 | third << 8 | fourth if max(first, second, third, fourth) <= 255 else None
+    return MOST if field == "tout" and text == b"inf" else None
+
+
+def expected_of(data: bytes) -> tuple[str, list[tuple[int, ...]]]:
+    """The first fault of the records after a header, if there is one, and the numbers of each record."""
+    keys = []
+    for number, fields in enumerate(states(data), 1):
+        if len(fields) != len(NAMES):
+            return f"FieldCount({number})", []
+        words = [(number_of(fields[at], name), name) for at, name in PLACES]
+        if bad := [name for word, name in words if word is None]:
+            return f"BadNumber({number},{bad[0]})", []
+        keys.append(tuple(word for word, _ in words))
+    return "", keys
+
+
 def random_bytes(draw: random.Random, size: int, quotes: bool = True) -> bytes:
     letters = ALPHABET if quotes else [letter for letter in ALPHABET if b'"' not in letter]
     return b"".join(draw.choice(letters) for _ in range(size))
@@ -44,199 +76,168 @@ def random_records(draw: random.Random, count: int, quotes: bool = True) -> byte
     """Records with numbers in their first and third field, but for a few, and anything in the second."""
     text = b""
     for _ in range(count):
-        key, time = (draw.choice((b"1", b" 2\t", b"07", b"10.0.0.1", b"x" if draw.random() < 0.1 else b"3")) for _ in "ab")
+        key, time = (draw.choice((b"1", b" 2\t", b"07", b"10.0.0.1", b"x" if draw.random() < 0.05 else b"3")) for _ in "ab")
         note = random_bytes(draw, draw.randint(0, 5), quotes=False).translate(None, b"\r\n,")
         if quotes and draw.random() < 0.5:
             key, note = b'"%s"' % key, b'"%s"' % random_bytes(draw, 4).replace(b'"', b'""')
-        fields = [key, note, time.replace(b"10.0.0.1", b"inf"), *[b"4"] * draw.randint(0, 1)]
+        fields = [key, note, time.replace(b"10.0.0.1", b"inf"), *[b"4"] * (draw.random() < 0.05)]
         text += b",".join(fields) + draw.choice((b"\n", b"\r\n", b"\r", b"\n\n", b"\r\r\n"))
-    return text + draw.choice((b"", b"5", b"5,,6", b'5,,6,"' if quotes else b"5,,6,"))
+    return text + draw.choice((b"", b"", b"5", b"5,,6", b'5,,"6' if quotes else b"5,,6"))
 
 
-def fields_of(piece: splitting.Piece, part: int) -> list[list[bytes]]:
-    """The records of a part, read as a trace is."""
-    text = b""
-    for span in piece.spans(part):
-        with open(span.path, "rb") as file:
-            text += file.read()[span.start : span.end]
-    return states(text)
+class ASplit(unittest.TestCase):
+    """Traces are split by two fields of three columns."""
 
-
-class SplitRecords(unittest.TestCase):
     def setUp(self):
-        self.folder = Folder(self)
-        self.split = 0  # how many records were
-        blocks = (records.BLOCK, splitting.ROUND)
-        self.addCleanup(lambda: (setattr(records, "BLOCK", blocks[0]), setattr(splitting, "ROUND", blocks[1])))
+        self.folder, self.names = Folder(self), itertools.count()
+        self.query("srcip", "tout")
 
-    def check(self, data: bytes, quoted: bool, draw: random.Random):
-        records.BLOCK, splitting.ROUND = draw.randint(1, 40), draw.randint(1, 60)
-        path = self.folder.write("data", data)
-        split = Splitting(("srcip", "tout"), (0, 2), 3, draw.randint(0, 2))
-        piece = splitting.write_piece(split, [Span(path, 0, len(data), quoted)], self.folder.path("piece"))
-        expected, is_broken = [[] for _ in range(3)], False
-        for fields in states(data):
-            places = ((0, "srcip"), (2, "tout"))
-            key = [records.number_of(fields[at], name) if at < len(fields) else None for at, name in places]
-            is_broken = None in key
-            expected[0 if is_broken else split.part_of(key)].append(fields)
-            if is_broken:
-                break
-        self.assertIs(piece.broken, is_broken, data)
-        self.split += sum(map(len, expected))
-        for part in range(3):
-            self.assertEqual(fields_of(piece, part), expected[part], data)
-            self.assertEqual(piece.records(part), len(expected[part]), data)
-        self.check_places(split, Span(path, 0, len(data), quoted), data, draw)
+    def query(self, *by: str) -> None:
+        [text] = Choice(by, (), "", by).splitting(b"")
+        self.queries = [self.folder.write("query", text)]
 
-    def check_places(self, split: Splitting, span: Span, data: bytes, draw: random.Random):
-        """The n-th record of a part is found where it stands."""
-        numbers = [0, 0, 0]
-        for place, fields in enumerate(states(data), 1):
-            key = split.key_of(fields)
-            part = 0 if None in key else split.part_of(key)
-            numbers[part] += 1
-            if draw.random() < 0.2:
-                self.assertEqual(tasks.find_record(split, [span], part, numbers[part]), place, data)
-            if None in key:
-                break
+    def split(self, trace: bytes, parts: int = 3, level: int = 1) -> Split:
+        path = self.folder.write("trace", trace)
+        return tasks.split(find_tools(), self.queries, path, parts, level, self.folder.path(f"parts-{next(self.names)}"), True)
+
+    def keys(self, split: Split) -> list[list[tuple[int, ...]]]:
+        """The numbers of the records of each part."""
+        lines = [Path(text.records.path).read_text().splitlines()[1:] for text in split.texts]
+        for own, text in zip(lines, split.texts, strict=True):
+            self.assertEqual(len(own), text.records.packets)
+        return [[tuple(MOST if cell == "inf" else int(cell) for cell in line.split(",")) for line in own] for own in lines]
+
+    def shown(self, trace: bytes) -> str:
+        """The fault of a trace; nothing if it has none."""
+        split = self.split(trace)
+        return refusal_of(split.status, split.complaint).shown if split.status else ""
+
+
+class Records(ASplit):
+    def check(self, data: bytes) -> int:
+        """How many records were split."""
+        fault, keys = expected_of(data)
+        split = self.split(b",".join(NAMES) + b"\n" + data)
+        if fault:
+            self.assertEqual((split.status, split.complaint, split.texts), (5, f"marple: trace: {fault}\n", ()), data)
+            return 0
+        self.assertEqual((split.status, split.complaint), (0, ""), data)
+        parts = self.keys(split)
+        for at, own in enumerate(parts):
+            others = {key for place, other in enumerate(parts) for key in other if place != at}
+            self.assertFalse(others & set(own), data)
+            self.assertEqual(own, [key for key in keys if key in own], data)
+        self.assertEqual(sum(map(len, parts)), len(keys), data)
+        return len(keys)
 
     def test_with_quotes(self):
         draw = random.Random(1)
-        for _ in range(300):
-            self.check(random_bytes(draw, draw.randint(0, 60)), True, draw)
-            self.check(random_records(draw, draw.randint(0, 9)), True, draw)
-        self.assertGreater(self.split, 1000)
+        checked = [self.check(random_bytes(draw, draw.randint(0, 60))) for _ in range(150)]
+        checked += [self.check(random_records(draw, draw.randint(0, 9))) for _ in range(300)]
+        self.assertGreater(sum(checked), 500)
 
     def test_without_quotes(self):
         draw = random.Random(2)
-        for _ in range(300):
-            self.check(random_bytes(draw, draw.randint(0, 60), quotes=False), False, draw)
-            self.check(random_records(draw, draw.randint(0, 9), quotes=False), False, draw)
-        self.assertGreater(self.split, 1000)
+        checked = [self.check(random_bytes(draw, draw.randint(0, 60), quotes=False)) for _ in range(150)]
+        checked += [self.check(random_records(draw, draw.randint(0, 9), quotes=False)) for _ in range(300)]
+        self.assertGreater(sum(checked), 500)
 
     def test_of_lines_alone(self):
         draw = random.Random(3)
+        checked = 0
         for _ in range(60):
-            most = (2**64, 9, 2**70)
-            lines = [b"%d,%d,%d\n" % tuple(draw.randrange(size) for size in most) for _ in range(8)]
-            self.check(b"".join(lines), False, draw)
-
-    def test_cut_at_their_ends(self):
-        draw = random.Random(4)
-        for number in range(200):
-            quoted = number % 2 == 0
-            data = random_bytes(draw, draw.randint(1, 60), quotes=quoted)
-            records.BLOCK = draw.randint(1, 40)
-            path = self.folder.write("data", data)
-            most, pieces = draw.randint(1, 4), draw.randint(1, 3)
-            cuts = tasks.cut(Span(path, 0, len(data), quoted), most, 1000, pieces)
-            read = [states(data[span.start : span.end]) for span, _ in cuts]
-            self.assertEqual([fields for own in read for fields in own], states(data), data)
-            self.assertEqual([len(own) for own in read], [count for _, count in cuts], data)
-            self.assertTrue(all(count <= most for _, count in cuts))
+            most = (2**64, 9, 2**64)
+            checked += self.check(b"".join(b"%d,%d,%d\n" % tuple(draw.randrange(size) for size in most) for _ in range(8)))
+        self.assertEqual(checked, 480)
 
 
-class Stretches(unittest.TestCase):
-    """Cutting a file at any bytes gives its records again, each once."""
-
-    def test_of_any_size(self):
-        from marple.parts.job import _spans
-
-        folder, draw = Folder(self), random.Random(5)
-        for _ in range(200):
-            data = b"a,b\n" + random_bytes(draw, draw.randint(1, 60), quotes=draw.random() < 0.5)
-            path, size = folder.write("data", data), draw.randint(1, 20)
-            header = records.read_header(path)
-            looked = [
-                tasks.look(path, start, min(start + size, len(data))) for start in range(header.end, len(data), size)
-            ]
-            begins = [header.end, *(one.begins for one in looked[1:] if one.begins is not None)]
-            quote = min((one.quote for one in looked if one.quote is not None), default=None)
-            spans = _spans(path, sorted(set(begins)), len(data), quote)
-            read = []
-            for span in spans:
-                self.assertTrue(span.quoted or b'"' not in data[span.start : span.end], data)
-                read += states(data[span.start : span.end])
-            self.assertEqual(read, states(data)[1:], data)
+class OtherForms(ASplit):
+    def test_have_the_same_parts(self):
+        """Neither quotes nor another form of a number changes the part of a record."""
+        self.query("srcip", "dstip", "tout", "qsize")
+        header, _, rest = generated(3000, 9).partition(b"\n")
+        strange = re.sub(rb"(?<![^,\n])([0-9]+)(?=,)", rb" 00\g<1>\t", rest)
+        quoted = re.sub(rb"[^,\n]+", rb'"\g<0>"', rest)
+        plain = self.keys(self.split(header + b"\n" + rest, 7))
+        for other in (strange, quoted):
+            self.assertNotEqual(other, rest)
+            self.assertEqual(self.keys(self.split(header + b"\n" + other, 7)), plain)
+        self.assertEqual(sum(map(len, plain)), 3000)
 
 
-class PiecesOfOneSize(unittest.TestCase):
-    def test_are_as_many_as_asked_for(self):
-        """A record that ends a little later than a piece does makes no piece of its own."""
-        folder = Folder(self)
-        path = folder.write("data", b"1,2,3\n" * 97)
-        for pieces in (1, 2, 3, 5, 40):
-            cuts = tasks.cut(Span(path, 0, 582, False), 1000, 1000, pieces)
-            self.assertEqual((len(cuts), sum(count for _, count in cuts)), (pieces, 97))
-
-    def test_never_begin_by_empty_lines(self):
-        path = Folder(self).write("data", b"\n" * 2000 + b"1,2,3\n" + b"\n" * 2000)
-        [(span, count)] = tasks.cut(Span(path, 0, 4006, False), 10, 1000)
-        self.assertEqual((span.start, count), (2000, 1))
-        self.assertLessEqual(span.end - span.start, 1000)
-
-
-class Headers(unittest.TestCase):
+class Headers(ASplit):
     def test_are_the_first_record(self):
-        folder = Folder(self)
-        expected = {
-            b"srcip,tin\n1,2\n": (("srcip", "tin"), 10),
-            b"\xef\xbb\xbfsrcip\n1\n": (("srcip",), 9),
-            b'\xef\xbb\xbf"srcip",tin\r\n1,2\n': (("srcip", "tin"), 16),
-            b'\n\r\n "x", tin\t\n': ((' "x"'.strip(), "tin"), 14),
-            b"srcip": (("srcip",), 5),
-            b'"src""ip': (('src"ip',), 8),
-            b"\xef\xbb\xbf\xef\xbb\xbfsrcip\n": (("\xef\xbb\xbfsrcip",), 12),
-            b"\n\xef\xbb\xbfsrcip\n": (("\xef\xbb\xbfsrcip",), 10),
-        }
-        for data, (names, end) in expected.items():
-            header = records.read_header(folder.write("data", data))
-            self.assertEqual((header.names, header.end), (names, end), data)
-            self.assertEqual(len(states(header.text + b"1,2\n")), 2, data)
-            if names[0].startswith("\xef\xbb\xbf"):  # a run takes one mark off
-                self.assertTrue(header.text.startswith(2 * records.BYTE_ORDER_MARK))
-        for data in (b"", b"\n\r\n\n", b"\xef\xbb\xbf"):
-            with self.assertRaises(TraceRefused) as refused:
-                records.read_header(folder.write("data", data))
-            self.assertEqual(refused.exception.fault, "NoHeader")
+        for header in (b"srcip,tout\n", MARK + b'"srcip",tout\r\n', b'\n\r\n "x",srcip , tout\t\n', b'"src""ip",tout,srcip\n'):
+            self.assertEqual(self.shown(header), "", header)
+            self.assertEqual(self.shown(header + b",".join([b"1"] * (header.count(b",") + 1))), "", header)
+        for header in (b"srcip", b'"src""ip', MARK + MARK + b"srcip,tout\n", b"\n" + MARK + b"srcip,tout\n"):
+            self.assertIn(self.shown(header), ("FieldMissing(srcip)", "FieldMissing(tout)"), header)
+        for header in (b"", b"\n\r\n\n", MARK):
+            self.assertEqual(self.shown(header), "NoHeader")
 
 
-class Numbers(unittest.TestCase):
+class Numbers(ASplit):
     def test_are_those_of_the_formats(self):
-        most = 2**64 - 1
         expected = {
             (b"7", "tin"): 7, (b" \t007\t", "tin"): 7, (b"", "tin"): None, (b"-1", "tin"): None, (b"1.0", "tin"): None,
-            (b"%d" % most, "tin"): most, (b"%d" % (most + 1), "tin"): None, (b"0" * 20, "tin"): 0, (b"0" * 21, "tin"): None,
+            (b"%d" % MOST, "tin"): MOST, (b"%d" % (MOST + 1), "tin"): None, (b"0" * 20, "tin"): 0, (b"0" * 21, "tin"): None,
             (b"10.0.0.1", "srcip"): 167772161, (b"010.000.0.001", "dstip"): 167772161, (b"10.0.0.1", "tin"): None,
             (b"10.0.0.256", "srcip"): None, (b"10.0.0", "srcip"): None, (b"10.0.0.1.", "srcip"): None,
-            (b"10.0.0.0001", "srcip"): None, (b"inf", "tout"): most, (b"inf", "tin"): None, (b" inf ", "tout"): most,
+            (b"10.0.0.0001", "srcip"): None, (b"inf", "tout"): MOST, (b"inf", "tin"): None, (b" inf ", "tout"): MOST,
             (b"Inf", "tout"): None, (b"1\n", "tin"): None, (b"\xb2", "tin"): None,
         }  # fmt: skip
         for (text, field), value in expected.items():
-            self.assertEqual(records.number_of(text, field), value, (text, field))
+            self.assertEqual(number_of(text, field), value, (text, field))
+            self.query(field)
+            split = self.split(b'%s\n"%s"\n' % (field.encode(), text), parts=1)
+            found = self.keys(split) if split.status == 0 else split.complaint
+            wrong = f"marple: trace: BadNumber(1,{field})\n"
+            self.assertEqual(found, wrong if value is None else [[(value,)]], (text, field))
 
 
-class Parts(unittest.TestCase):
+class Parts(ASplit):
     def test_are_even_and_differ_between_levels(self):
-        first, second = (Splitting(("srcip",), (0,), 8, level) for level in (0, 1))
-        keys = [[167772160 + number] for number in range(80_000)]
-        sizes = [0] * 8
-        moved = 0
-        for key in keys:
-            sizes[first.part_of(key)] += 1
-            moved += first.part_of(key) != second.part_of(key)
+        self.query("srcip")
+        trace = b"srcip\n" + b"".join(b"%d\n" % (167772160 + number) for number in range(80_000))
+        first, second = (self.keys(self.split(trace, 8, level)) for level in (1, 2))
+        sizes = list(map(len, first))
         self.assertTrue(all(9_500 < size < 10_500 for size in sizes), sizes)
+        parts = {key: at for at, own in enumerate(first) for key in own}
+        moved = sum(parts[key] != at for at, own in enumerate(second) for key in own)
         self.assertTrue(68_000 < moved < 72_000, moved)
 
     def test_are_not_the_buckets_of_a_cache(self):
-        split = Splitting(("srcip",), (0,), 8, 0)
-        buckets = {number: set() for number in range(8)}
-        for word in range(8_192):
-            bucket = ((word * 0x9E3779B97F4A7C15 % 2**64) >> 32) % 64
-            buckets[split.part_of([word])].add(bucket)
-        self.assertTrue(all(len(own) == 64 for own in buckets.values()))
+        self.query("srcip")
+        parts = self.keys(self.split(b"srcip\n" + b"".join(b"%d\n" % word for word in range(8_192)), 8))
+        for own in parts:
+            self.assertEqual(len({((word * 0x9E3779B97F4A7C15 % 2**64) >> 32) % 64 for (word,) in own}), 64)
 
+
+class Cuts(unittest.TestCase):
+    """Cutting lines at any bytes gives them again, each once."""
+
+    def setUp(self):
+        self.folder = Folder(self)
+
+    def test_are_at_their_ends(self):
+        draw = random.Random(4)
+        for _ in range(200):
+            lines = [b"%d\n" % draw.randrange(10 ** draw.randint(1, 9)) for _ in range(draw.randint(1, 30))]
+            text = tasks.text_of(self.folder.write("data", b"srcip\n" + b"".join(lines)))
+            self.assertEqual((text.header, text.records.packets), (b"srcip\n", len(lines)))
+            most = draw.randint(1, 9)
+            spans = tasks.cut(text.records, draw.randint(1, 5), most)
+            content = Path(text.records.path).read_bytes()
+            read = [content[span.start : span.end].splitlines(True) for span in spans]
+            self.assertEqual([line for own in read for line in own], lines)
+            self.assertEqual([len(own) for own in read], [span.packets for span in spans])
+            self.assertTrue(all(0 < span.packets <= most for span in spans))
+
+    def test_are_as_many_as_asked_for(self):
+        """A record that ends a little later than a piece does makes no piece of its own."""
+        text = tasks.text_of(self.folder.write("data", b"srcip\n" + b"1,2,3\n" * 97))
+        for pieces in (1, 2, 3, 5, 40):
+            self.assertEqual(len(tasks.cut(text.records, pieces, 1000)), pieces)
 
 if __name__ == "__main__":
     unittest.main()

@@ -211,7 +211,7 @@ class NoRoom(unittest.TestCase):
         """A process may write no more than so many bytes: as on a disk that is full."""
         def limited() -> None:
             import resource
-            resource.setrlimit(resource.RLIMIT_FSIZE, (10_000, resource.RLIM_INFINITY))
+            resource.setrlimit(resource.RLIMIT_FSIZE, (3_000, resource.RLIM_INFINITY))
             signal.signal(signal.SIGXFSZ, signal.SIG_IGN)
 
         for words in ((), ("--workers", "2"), ("--work", self.folder.path("work"))):

@@ -63,7 +63,7 @@ class ASecondCall(unittest.TestCase):
         self.run_parts(program)
         program.runs()
         for name in os.listdir(self.work):
-            if name in ("part-2.json", "split-whole-1.json", "tables"):
+            if name in ("part-2.json", "split-whole-0.json", "tables"):
                 os.unlink(os.path.join(self.work, name))
         Path(self.work, "part-2").write_text("half a ta")
         self.assertEqual(self.run_parts(program), self.expected)
@@ -90,7 +90,9 @@ class ASecondCall(unittest.TestCase):
         program = Logged(self.folder)
         self.run_parts(program)
         program.runs()
-        names = sorted(name for name in os.listdir(self.work) if name.startswith(("part-", "split-")))
+        found = [path for path in Path(self.work).rglob("*") if path.is_file()]
+        names = sorted(str(path.relative_to(self.work)) for path in found)
+        names = [name for name in names if name.startswith(("part-", "split-"))]
         self.assertGreater(len(names), 8)
         for name in names:
             path = Path(self.work, name)
@@ -109,7 +111,7 @@ class ASecondCall(unittest.TestCase):
         """What the runs read may be gone or shorter than it was when it was split."""
         def cut_one(line: str) -> None:
             if line.startswith("split ") and line.split()[1] == line.split()[3]:
-                path = Path(self.work, "split-whole-1")
+                path = Path(self.work, "split-whole-0", "part-1.csv")
                 path.write_bytes(path.read_bytes()[:1000])
 
         with self.assertRaises(parts.TraceChanged):
@@ -129,8 +131,11 @@ class ASecondCall(unittest.TestCase):
     def test_puts_away_what_was_left_half_made(self):
         program = Logged(self.folder)
         self.run_parts(program)
-        for name in ("part-2", "part-0.json", "split-whole-1", "query", "tables", "work.json", "trace-0"):
+        for name in ("part-2", "part-0.json", "split-whole-0.json", "query", "query-1", "tables", "work.json", "trace-0"):
             Path(self.work, f"{name}.0123456789abcdef0123456789abcdef").write_text("half")
+        half = Path(self.work, "split-whole-1.0123456789abcdef0123456789abcdef")
+        half.mkdir()
+        (half / "part-0.csv").write_text("half")
         self.run_parts(program)
         self.assertFalse([name for name in os.listdir(self.work) if len(name.rsplit(".", 1)[-1]) == 32])
 
@@ -159,7 +164,7 @@ class ATraceThatChanges(unittest.TestCase):
         self.content = generated(*TRACE)
         self.trace = Path(self.folder.write("trace.csv", self.content))
 
-    def check(self, stage: str, change: Callable[[], None]) -> None:
+    def check(self, stage: str, change: Callable[[], None], *earlier: str) -> None:
         self.trace.write_bytes(self.content)
         changes = iter([change])
 
@@ -168,20 +173,21 @@ class ATraceThatChanges(unittest.TestCase):
                 next(changes, lambda: None)()
 
         with self.assertRaises(parts.TraceChanged) as refused:
-            parts.run(QUERY, [self.trace], parts=3, piece=8_000, report=report)
+            parts.run(QUERY, [*earlier, self.trace], parts=3, piece=8_000, report=report)
         self.assertIsNone(next(changes, None))
         self.assertEqual(refused.exception.status, 3)
         self.assertIn(str(self.trace), str(refused.exception))
 
     def test_is_refused(self):
         half = self.content[: self.content.index(b"\n", len(self.content) // 2) + 1]
-        for stage in ("looked", "split", "joining"):
+        for stage in ("split", "ran", "joining"):
             for content in (half, self.content + b"x\n", self.content[:-2] + b"7\n"):
                 with self.subTest(stage=stage, size=len(content)):
                     self.check(stage, lambda content=content: self.trace.write_bytes(content))
 
     def test_is_refused_though_it_has_a_fault_now(self):
-        self.check("looked", lambda: self.trace.write_bytes(self.content.replace(b"\n", b"\nx,", 1)))
+        earlier = self.folder.write("earlier.csv", self.content)
+        self.check("split", lambda: self.trace.write_bytes(self.content.replace(b"\n", b"\nx,", 1)), earlier)
 
 
 class TheCommand(unittest.TestCase):
@@ -260,10 +266,10 @@ class Lines(unittest.TestCase):
 
         stream = Terminal()
         progress = Progress(stream)
-        for line in ("looked through 1 of 2", "looked through 2 of 2", "ran 1 of 1"):
+        for line in ("unpacked 1 of 2", "unpacked 2 of 2", "ran 1 of 1"):
             progress.report(line)
         progress.end()
-        self.assertEqual(stream.getvalue(), "\rlooked through 1 of 2\rlooked through 2 of 2\rran 1 of 1           \n")
+        self.assertEqual(stream.getvalue(), "\runpacked 1 of 2\runpacked 2 of 2\rran 1 of 1     \n")
 
     def test_of_progress_are_few_elsewhere(self):
         stream = io.StringIO()

@@ -27,25 +27,23 @@ from marple.parts.refusals import (
     FieldRefused,
     FinalGroupby,
     FinalOfTop,
-    HeadersDiffer,
     KeyTooLarge,
     OptionRefused,
     PartsRefused,
     QueryUnread,
-    RecordTooLong,
     TraceChanged,
     WorkerDied,
     WorkTaken,
 )
 from marple.parts.tasks import Ran
-from marple.program import Program, find_program
+from marple.program import Program, find_program, find_tools
 from marple.sources import text_of_query
 from marple.tables import Answer, tables_of_file
 
 __all__ = [
     "Choice", "ClusterLost", "CompressionRefused", "FieldNeeded", "FieldRefused", "FinalGroupby", "FinalOfTop",
-    "HeadersDiffer", "KeyTooLarge", "OptionRefused", "PartsAnswer", "PartsRefused", "QueryUnread", "RecordTooLong",
-    "TraceChanged", "WorkTaken", "WorkerDied", "choose", "run", "tables_file",
+    "KeyTooLarge", "OptionRefused", "PartsAnswer", "PartsRefused", "QueryUnread", "TraceChanged", "WorkTaken",
+    "WorkerDied", "choose", "run", "tables_file",
 ]  # fmt: skip
 
 PIECE = 64 << 20
@@ -70,13 +68,14 @@ def run(
 ) -> PartsAnswer:  # fmt: skip
     """The tables of the query over the packets of all traces, in their order, by runs over parts of them.
 
-    query, query_text: as at `marple.run`. traces: a path, or those of files with one header; what is compressed by gzip
-    is unpacked first. by: fields to split by, or one field; by default all that the query allows. parts: how many at
+    query, query_text: as at `marple.run`. traces: a path, or several, each of a file with a header; what is compressed by
+    gzip is unpacked first. by: fields to split by, or one field; by default all that the query allows. parts: how many at
     least. workers: how many processes of this machine do the tasks; client: a distributed.Client, whose workers see the
     traces and the folder at the same paths; without either the tasks run in turn here. work: a folder for what is made
     on the way, where a second call with the same arguments goes on; by default one that is deleted at the end.
-    The options are those of the program for each part. piece: how many bytes a task splits at most. report: takes lines of
-    progress. Warns as `marple.run` does. Raises what that raises, where a TraceRefused has the file in `path`, and PartsRefused.
+    The options are those of the program for each part. piece: how many bytes a part has at most if states add, so that
+    traces are cut anywhere. report: takes lines of progress. Warns as `marple.run` does. Raises what that raises, where a
+    TraceRefused has the file in `path`, and PartsRefused.
     """
     given = {"buckets": buckets, "ways": ways, "pipe": pipe, "lag": lag}
     text, ask = asked(text_of_query(query, query_text), program)
@@ -104,11 +103,11 @@ def tables_file(
     """
     check_option("parts", parts)
     check_option("piece", piece)
-    program = find_program(program)
+    program, tools = find_program(program), find_tools(program)
     choice = choose(query, by, program)
     report(f"by {','.join(choice.by)}: {choice.reason}" if choice.by else f"by pieces as they come: {choice.reason}")
     paths = _paths(traces)
-    job = Job(query, paths, choice, parts, given, program, engine, os.path.abspath(work), sums, piece, report)
+    job = Job(query, paths, choice, parts, given, program, tools, engine, os.path.abspath(work), sums, piece, report)
     joined, runs = job.run()
     return joined, choice, runs
 

@@ -67,7 +67,7 @@ def words() -> argparse.ArgumentParser:
     parser = argparse.ArgumentParser(prog="python -m marple.parts", description=__doc__)
     parser.add_argument("--version", action="version", version=f"marple {__version__}")
     parser.add_argument("query", metavar="QUERY", help="the query's file")
-    parser.add_argument("traces", metavar="TRACE", nargs="+", help="files of one header, in the order of their packets")
+    parser.add_argument("traces", metavar="TRACE", nargs="+", help="files, each with a header, in the order of their packets")
     parser.add_argument("--by", metavar="FIELD[,FIELD]", help="the fields to split by (all that the query allows)")
     parser.add_argument("--parts", type=int, metavar="N", help="how many parts at least")
     where = parser.add_mutually_exclusive_group()

@@ -5,7 +5,7 @@ from dataclasses import dataclass
 
 from marple.commands import compile, plan
 from marple.parts.refusals import FieldNeeded, FieldRefused, FinalGroupby, FinalOfTop, QueryUnread
-from marple.plans import FIELDS, Group, Unread, only_adds, read_groups
+from marple.plans import FIELDS, Group, Unread, only_adds, read_fields, read_groups
 from marple.program import Program
 from marple.queries import Item, Items, UnreadQuery, read_query
 
@@ -26,12 +26,32 @@ class Join:
 
 @dataclass(frozen=True)
 class Choice:
-    """by: the fields whose numbers decide the part, or none where the packets may go to any part; joins: of the tables.
+    """by: the fields whose numbers decide the part, or none if the packets may go to any part; joins: of the tables; reads:
+    the fields that the query reads; splits: whether marple-tools splits by these fields if it is given the query.
     """
 
     by: tuple[str, ...]
     joins: tuple[Join, ...]
     reason: str
+    reads: tuple[str, ...]
+    splits: bool = False
+
+    def splitting(self, query: bytes) -> list[bytes]:
+        """The texts by which marple-tools may split: the query, or another one that reads the same fields; if it reads none,
+        one for each field that a trace may have.
+        """
+        if self.splits:
+            return [query]
+        if not self.reads:
+            return [_splitting((name,), ()) for name in FIELDS]
+        keys = self.by or self.reads[:1]
+        return [_splitting(keys, [name for name in self.reads if name not in keys])]
+
+
+def _splitting(keys: Sequence[str], others: Sequence[str]) -> bytes:
+    """A query that has these keys and reads these other fields too."""
+    text = f"def part([], [{', '.join(others)}]) {{ }}\nr = groupby(pktstream, [{', '.join(keys)}], part);\nprint r;\n"
+    return text.encode()
 
 
 def choose(query: bytes, by: str | Sequence[str] | None, program: Program | None = None) -> Choice:
@@ -45,29 +65,35 @@ def choose(query: bytes, by: str | Sequence[str] | None, program: Program | None
     try:
         items = read_query(query)
         needed = items.needed()
-        groups = _groups(items, needed, program)
+        compiled = _compiled(items, needed, program)
+        groups = _groups(items, needed, compiled)
         fields = _keeping(items, groups)
         sums = all(only_adds(group.body) for group in groups)
     except (UnreadQuery, Unread) as unread:
         raise QueryUnread(str(unread)) from unread
     _refuse_finals(needed)
+    reads = read_fields(compiled)
     if by is not None:
         _refuse_fields(by, fields, groups)
-        return _by_fields(items, by, "as asked for")
+        return _by_fields(items, by, reads, "as asked for")
     if fields:
-        return _by_fields(items, fields, "keys of every groupby that is printed or read")
+        return _by_fields(items, fields, reads, "keys of every groupby that is printed or read")
     if not sums or any(item.final for item in needed):
         raise FieldNeeded(_field_needed(groups, sums))
     printed = _printed(items, groups)
     joins = [Join(group.name, len(group.keys), starts=tuple(group.states.values())) for group in printed]
-    return Choice((), tuple(joins), "no field is a key of every groupby, and all states add")
+    return Choice((), tuple(joins), "no field is a key of every groupby, and all states add", reads)
 
 
-def _groups(items: Items, needed: tuple[Item, ...], program: Program | None) -> list[Group]:
+def _compiled(items: Items, needed: tuple[Item, ...], program: Program | None) -> str:
+    """The plan of the groupbys that the printed tables are made from."""
+    return compile(items.printing([item.name for item in needed if not item.final]), program=program)
+
+
+def _groups(items: Items, needed: tuple[Item, ...], compiled: str) -> list[Group]:
     """The groupbys that the printed tables are made from, as the program compiles them."""
-    names = [item.name for item in needed if not item.final]
-    compiled = read_groups(compile(items.printing(names), program=program))
-    groups = [compiled[name] for name in names]
+    known = read_groups(compiled)
+    groups = [known[item.name] for item in needed if not item.final]
     for group in groups:
         if tuple(group.keys) != items.keys_of(group.name):
             raise UnreadQuery(f"the keys of {group.name} were read otherwise than the program does")
@@ -86,10 +112,12 @@ def _printed(items: Items, groups: list[Group]) -> list[Group]:
     return [by_name[name] for name in items.prints]
 
 
-def _by_fields(items: Items, by: tuple[str, ...], reason: str) -> Choice:
+def _by_fields(items: Items, by: tuple[str, ...], reads: tuple[str, ...], reason: str) -> Choice:
     tables = items.tables
     joins = [Join(name, len(items.keys_of(name)), best=tables[name].best) for name in items.prints]
-    return Choice(by, tuple(joins), reason)
+    every = [set(item.keys) for item in tables.values() if not item.final]  # marple-tools splits by keys of all groupbys
+    splits = {name for name in FIELDS if name not in items.made and all(name in keys for keys in every)} == set(by)
+    return Choice(by, tuple(joins), reason, reads, splits)
 
 
 def _refuse_finals(needed: tuple[Item, ...]) -> None:

@@ -38,20 +38,8 @@ class QueryUnread(PartsRefused):
     """The query is of a form that the choice doesn't know."""
 
 
-class HeadersDiffer(PartsRefused):
-    """Two traces name other columns."""
-
-    status = 5
-
-
 class KeyTooLarge(PartsRefused):
     """One key alone has more than one run takes."""
-
-    status = 5
-
-
-class RecordTooLong(PartsRefused):
-    """One record alone has more bytes than one run takes."""
 
     status = 5
 

@@ -4,102 +4,132 @@ import os
 import re
 import subprocess
 import tempfile
-from collections.abc import Iterator, Sequence
+from collections.abc import Callable, Iterator, Sequence
+from contextlib import suppress
 from dataclasses import asdict, dataclass
+from itertools import pairwise
 from typing import IO, Any, cast
 
-from marple.parts.records import BLOCK, Span, record_sizes
 from marple.parts.reading import blocks_of
-from marple.parts.refusals import RecordTooLong
-from marple.parts.splitting import Piece, Round, Splitting, with_parts, write_piece
 from marple.parts.stopping import signals_held
-from marple.parts.work import keep, written
+from marple.parts.work import Made, keep, written, written_folder
 
-END = re.compile(rb"[\r\n]")
-FED = 1 << 20  # how many bytes are written into the program's pipe at a time
+BLOCK = 1 << 20
+OF_FIELDS = re.compile("(?:FieldMissing|FieldTwice|BadNumber)\\(")  # the faults of a trace that another query may not find
 
 
 @dataclass(frozen=True)
-class Looked:
-    """What stands in a stretch of a file: the first place at which a record may begin, the number of line ends, and the
-    first quote, each None where there is none.
+class Span:
+    """Records, each of one line: the bytes of a file from start to end, and how many records they are."""
+
+    path: str
+    start: int
+    end: int
+    packets: int
+
+
+@dataclass(frozen=True)
+class Text:
+    """The text of a trace whose records have one line each: its header, and its records."""
+
+    header: bytes
+    records: Span
+
+
+@dataclass(frozen=True)
+class Split:
+    """How `marple-tools split` ended, and the texts of the parts if it was with 0."""
+
+    status: int
+    complaint: str
+    texts: tuple[Text, ...]
+
+
+class _Refused(Exception):
+    """The splitting ended with another status than 0, so that what it wrote goes."""
+
+
+def split(
+    tools: str, queries: Sequence[str], trace: str, number: int, salt: int, folder: str, sums: bool
+) -> Split:  # fmt: skip
+    """Splits a trace into this many parts in a new folder, by the first of these queries whose fields it has, with a number
+    in each record. A second call finds what the first one did, if that was done to the end.
     """
+    def make() -> Made:
+        for query in queries:
+            made = _split([tools, "split", query, trace], number, salt, folder)
+            if not OF_FIELDS.search(made["complaint"]):
+                break
+        return made
 
-    begins: int | None
-    ends: int
-    quote: int | None
-
-
-def look(path: str, start: int, end: int) -> Looked:
-    """Looks through the bytes of a file from start, which is above 0, to end. A record begins after a line end, which may
-    be the byte before start; where quotes come earlier in the file, perhaps not.
-    """
-    begins: int | None = None
-    quote: int | None = None
-    ends = 0
-    if END.match(next(blocks_of(path, start - 1, start, 1))):
-        begins = start
-    for block in blocks_of(path, start, end, BLOCK):
-        ends += block.count(b"\n") or block.count(b"\r")
-        if begins is None and (found := END.search(block)):
-            begins = start + found.end()
-        if quote is None and (at := block.find(b'"')) >= 0:
-            quote = start + at
-        start += len(block)
-    return Looked(begins, ends, quote)
+    made = keep(folder, make, sums, lambda made: bool(made["status"] == 0))
+    header = made["header"].encode()
+    spans = [Span(path, len(header), *own) for path, own in zip(_names(folder, number), made["texts"], strict=False)]
+    return Split(made["status"], made["complaint"], tuple(Text(header, span) for span in spans))
 
 
-def split(splitting: Splitting, spans: Sequence[Span], path: str, sums: bool) -> Piece:
-    """Splits the records of the spans. A second call finds what the first one did."""
-    made = keep(path, lambda: asdict(write_piece(splitting, spans, path)), sums)
-    rounds = tuple(Round(one["start"], tuple(one["bytes"]), tuple(one["records"])) for one in made["rounds"])
-    return Piece(path, made["quoted"], rounds, made["broken"])
+def _names(folder: str, number: int) -> list[str]:
+    return [os.path.join(folder, f"part-{part}.csv") for part in range(number)]
 
 
-def cut(span: Span, most_records: int, most_bytes: int, pieces: int = 1) -> list[tuple[Span, int]]:
-    """Cuts a span into this many spans of one size, as near as can be, or more: none has more than this many records and
-    bytes. With the number of records of each.
-    """
-    if pieces == 1 and span.end - span.start <= most_bytes:
-        count = sum(size > 0 for sizes in record_sizes(span) for size in sizes)
-        if count <= most_records:
-            return [(span, count)] if count else []
-    goals = [span.start + (span.end - span.start) * number // pieces for number in range(pieces, 0, -1)]
-    spans, start, at, count = [], span.start, span.start, 0
-    for sizes in record_sizes(span):
-        for size in sizes:
-            if size > most_bytes:
-                raise RecordTooLong(f"a record of {span.path} has {size} bytes: one run takes {most_bytes}")
-            if count == most_records or count and (at >= goals[-1] or at + abs(size) - start > most_bytes):
-                spans.append((Span(span.path, start, at, span.quoted), count))
-                start, count = at, 0
-            while len(goals) > 1 and at >= goals[-1]:
-                goals.pop()
-            if size < 0 and count == 0:
-                start = at - size  # no span begins by empty lines
-            at, count = at + abs(size), count + (size > 0)
-    if count:
-        spans.append((Span(span.path, start, span.end, span.quoted), count))
-    return spans
+def _split(words: Sequence[str], number: int, salt: int, folder: str) -> Made:
+    made: Made = {"status": 0, "complaint": "", "header": "", "texts": []}
+    with suppress(_Refused), written_folder(folder) as own:
+        command = [*words, "--parts", str(number), "--into", own, "--salt", str(salt)]
+        ended = _call(command, subprocess.DEVNULL, lambda pipe: None)
+        if ended.status != 0:
+            made |= {"status": ended.status, "complaint": ended.complaint}
+            raise _Refused
+        for text in map(text_of, _names(own, number)):
+            made["header"] = text.header.decode()
+            made["texts"].append((text.records.end, text.records.packets))
+    return made
 
 
-def sole_key(splitting: Splitting, spans: Sequence[Span]) -> tuple[int | None, ...] | None:
-    """The key that all records of the spans have, or None where there are several."""
-    keys = (key for span in spans for key in splitting.keys_of(span))
+def estimated(path: str) -> tuple[int, int]:
+    """The size of a trace, and about how many records it has, by its first block."""
+    size = os.path.getsize(path)
+    first = next(blocks_of(path, 0, size, BLOCK), b"")
+    ends = first.count(b"\n") or first.count(b"\r")
+    return size, size * ends // max(len(first), 1)
+
+
+def text_of(path: str) -> Text:
+    """The text of a file that has a header, and a line for each record."""
+    with open(path, "rb") as file:
+        header = file.readline()
+        end = file.seek(0, os.SEEK_END)
+    return Text(header, _span(path, len(header), end))
+
+
+def _span(path: str, start: int, end: int) -> Span:
+    return Span(path, start, end, sum(block.count(b"\n") for block in blocks_of(path, start, end, BLOCK)))
+
+
+def cut(span: Span, pieces: int, most: int) -> list[Span]:
+    """Cuts records into this many spans of one size, as near as can be, or more: none has more than `most` records."""
+    places = [span.start]
+    with open(span.path, "rb") as file:
+        for number in range(1, pieces):
+            file.seek(span.start + (span.end - span.start) * number // pieces - 1)
+            places.append(file.tell() + len(file.readline()))
+    spans = [_span(span.path, *ends) for ends in pairwise([*places, span.end]) if ends[0] < ends[1]]
+    return spans if all(one.packets <= most for one in spans) else cut(span, 2 * pieces, most)
+
+
+def sole_key(columns: Sequence[int], spans: Sequence[Span]) -> tuple[str, ...] | None:
+    """The words that all records of these files have in the columns, or None if there are several."""
+    keys = (tuple(cells[at] for at in columns) for span in spans for cells in _cells(span.path))
     first = next(keys, None)
     return first if all(key == first for key in keys) else None
 
 
-def find_record(splitting: Splitting, spans: Sequence[Span], part: int, number: int) -> int:
-    """Which record of the spans, from 1, is the one with this number, from 1, among those of the part."""
-    before = 0
-    for records, parts in with_parts(splitting, spans):
-        for at, own in enumerate(parts):
-            number -= own % splitting.parts == part  # what has no part stands in part 0
-            if number == 0:
-                return before + at + 1
-        before += len(records)
-    raise ValueError("the part has fewer records")
+def _cells(path: str) -> Iterator[list[str]]:
+    """The words of each record of a text."""
+    with open(path, encoding="ascii") as file:
+        next(file)
+        for line in file:
+            yield line.rstrip("\n").split(",")
 
 
 @dataclass(frozen=True)
@@ -120,25 +150,54 @@ class Ran:
     peak: int
 
 
-def run_part(words: Sequence[str], header: bytes, spans: Sequence[Span], packets: int, path: str, sums: bool) -> Ran:
+def run_part(words: Sequence[str], header: bytes, spans: Sequence[Span], path: str, sums: bool) -> Ran:
     """Runs the program over the header and the records of the spans. A second call finds what the first one did, if
     that gave tables.
     """
-    made = keep(
-        path, lambda: asdict(_run_part(words, header, spans, packets, path)), sums, lambda made: bool(made["status"] == 0)
-    )
+    made = keep(path, lambda: asdict(_run_part(words, header, spans, path)), sums, lambda made: bool(made["status"] == 0))
     given: dict[str, Any] = made | {"path": path, "tables": tuple(made["tables"])}
     return Ran(**given)
 
 
-def _run_part(words: Sequence[str], header: bytes, spans: Sequence[Span], packets: int, path: str) -> Ran:
-    with written(path) as output, tempfile.TemporaryFile() as complaint:
+def _run_part(words: Sequence[str], header: bytes, spans: Sequence[Span], path: str) -> Ran:
+    def feed(pipe: IO[bytes]) -> None:
+        pipe.write(header)
+        for span in spans:
+            for block in blocks_of(span.path, span.start, span.end, BLOCK):
+                pipe.write(block)
+
+    with written(path) as output:
+        ended = _call(words, output, feed)
+    packets = sum(span.packets for span in spans)
+    size = len(header) + sum(span.end - span.start for span in spans)
+    return Ran(path, ended.status, ended.complaint, tuple(_table_starts(path)), packets, size, ended.seconds, ended.peak)
+
+
+@dataclass(frozen=True)
+class _Ended:
+    """How a program ended, what it wrote to standard error, its seconds of processor time, and its peak in KiB."""
+
+    status: int
+    complaint: str
+    seconds: float
+    peak: int
+
+
+def _call(words: Sequence[str], output: IO[bytes] | int, feed: Callable[[IO[bytes]], None]) -> _Ended:
+    """Runs a program to its end. If it reads no further than it has to, the rest isn't fed."""
+    with tempfile.TemporaryFile() as complaint:
         begun: list[subprocess.Popen[bytes]] = []
         try:
             with signals_held():
-                begun.append(subprocess.Popen(words, stdin=subprocess.PIPE, stdout=output, stderr=complaint))
+                # signals are left as they are, so that a file that may not grow is a fault of writing
+                begun.append(
+                    subprocess.Popen(
+                        words, stdin=subprocess.PIPE, stdout=output, stderr=complaint, restore_signals=False
+                    )
+                )
             (process,) = begun
-            size = _feed(cast(IO[bytes], process.stdin), header, spans)
+            with suppress(BrokenPipeError), cast(IO[bytes], process.stdin) as pipe:
+                feed(pipe)
             _, status, used = os.wait4(process.pid, 0)
         except BaseException:
             for process in begun:
@@ -148,22 +207,7 @@ def _run_part(words: Sequence[str], header: bytes, spans: Sequence[Span], packet
         process.returncode = os.waitstatus_to_exitcode(status)
         complaint.seek(0)
         text = complaint.read().decode(errors="replace")
-    seconds = round(used.ru_utime + used.ru_stime, 3)
-    return Ran(path, process.returncode, text, tuple(_table_starts(path)), packets, size, seconds, used.ru_maxrss)
-
-
-def _feed(pipe: IO[bytes], header: bytes, spans: Sequence[Span]) -> int:
-    """Writes a trace into a pipe. How many bytes it has. Where the program reads no further, the rest isn't written."""
-    size = len(header) + sum(span.end - span.start for span in spans)
-    try:
-        with pipe:
-            pipe.write(header)
-            for span in spans:
-                for block in blocks_of(span.path, span.start, span.end, FED):
-                    pipe.write(block)
-    except BrokenPipeError:
-        pass
-    return size
+    return _Ended(process.returncode, text, round(used.ru_utime + used.ru_stime, 3), used.ru_maxrss)
 
 
 def _table_starts(path: str) -> Iterator[int]:

@@ -5,6 +5,8 @@ import hashlib
 import json
 import os
 import re
+import shutil
+import tempfile
 import uuid
 from collections.abc import Callable, Iterator
 from contextlib import contextmanager, suppress
@@ -13,10 +15,24 @@ from typing import IO, Any, BinaryIO
 from marple.parts.refusals import WorkTaken
 
 # the name of a file of the work that isn't complete
-HALF = re.compile(r"(?:work\.json|query|header|tables|(?:part|split|trace)-[\w.-]+)[\w.]*\.[0-9a-f]{32}")
+HALF = re.compile(r"(?:work\.json|query(?:-\d+)?|header|tables|(?:part|split|trace)-[\w.-]+)[\w.]*\.[0-9a-f]{32}")
 SUM_BYTES = 16
 BLOCK = 1 << 20
 Made = dict[str, Any]  # what was said of a file as it was made
+
+
+@contextmanager
+def written_folder(path: str) -> Iterator[str]:
+    """A folder that is filled under another name, which it gives, and has its own name when it is complete."""
+    own = f"{path}.{uuid.uuid4().hex}"
+    os.mkdir(own)
+    try:
+        yield own
+        _delete(path)
+        os.replace(own, path)
+    except BaseException:
+        _delete(own)
+        raise
 
 
 @contextmanager
@@ -28,14 +44,13 @@ def written(path: str, mode: str = "wb") -> Iterator[IO[Any]]:
             yield file
         os.replace(own, path)
     except BaseException:
-        with suppress(FileNotFoundError):
-            os.unlink(own)
+        _delete(own)
         raise
 
 
 def keep(path: str, make: Callable[[], Made], sums: bool, is_done: Callable[[Made], bool] = lambda made: True) -> Made:
-    """What was said of the file as it was made, if it was made and still is what was recorded. Otherwise it is made now,
-    and that is recorded if it is done. sums: whether the content is recorded too, and not only the size.
+    """What was said of the file as it was made, or of the folder, if it was made and still is what was recorded. Otherwise
+    it is made now, and that is recorded if it is done. sums: whether the content is recorded too, and not only the size.
     """
     found = _read_json(f"{path}.json")
     if isinstance(found, dict) and found.get("file") is not None and found["file"] == _recorded(path, sums):
@@ -48,9 +63,11 @@ def keep(path: str, make: Callable[[], Made], sums: bool, is_done: Callable[[Mad
     return made
 
 
-def _recorded(path: str, sums: bool) -> list[int | str | None] | None:
-    """The size of a file and, if asked for, the sum of what it has; None where there is no file."""
+def _recorded(path: str, sums: bool) -> list[Any] | None:
+    """The size of a file and, if asked for, the sum of what it has; of a folder that of each file; None if there is none."""
     try:
+        if os.path.isdir(path):
+            return [[name, _recorded(os.path.join(path, name), sums)] for name in sorted(os.listdir(path))]
         with open(path, "rb") as file:
             size = os.fstat(file.fileno()).st_size
             return [size, _sum(file) if sums else None]
@@ -108,8 +125,27 @@ def _clean(folder: str) -> None:
     halves = [name for name in names if HALF.fullmatch(name)]
     if "work.json" in names or len(halves) == len(names):
         for name in halves:
-            with suppress(FileNotFoundError):
-                os.unlink(os.path.join(folder, name))
+            _delete(os.path.join(folder, name))
+
+
+def why_full(folder: str) -> str:
+    """Why nothing can be written in a folder, as the system says it; nothing if it can."""
+    try:
+        with tempfile.TemporaryFile(dir=folder) as file:
+            file.write(bytes(BLOCK))
+            file.flush()
+    except OSError as fault:
+        return f": {fault.strerror}"
+    return ""
+
+
+def _delete(path: str) -> None:
+    """Deletes a file, or a folder with what it has, if it is there."""
+    if os.path.isdir(path):
+        shutil.rmtree(path, ignore_errors=True)
+    else:
+        with suppress(FileNotFoundError):
+            os.unlink(path)
 
 
 class Work:
