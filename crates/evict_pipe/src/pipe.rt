@@ -1,11 +1,12 @@
 //! The pipe of evicted records.
 
-ghost use Rattle.std.specs.Prelude.{◌≡◌, ◌+◌, ◌<◌, ◌≤◌, ◌++◌, ◌∷◌, [], Bool, nat_lt, length, drop, slice_index_or, IfOk};
+ghost use Rattle.std.specs.Prelude.{◌≡◌, ◌+◌, ◌<◌, ◌≤◌, ◌==◌, ◌++◌, ◌∷◌, [], Bool, not, nat_lt, length, drop, slice_index_or};
+ghost use Rattle.std.specs.Prelude.{if◌then◌else◌, IfOk};
 ghost use Rattle.evict_pipe.specs.Pipes.{Pipe, with_records, IsSoundPipe};
 
 use crate::copying::write_record;
 use crate::places::start_of;
-use marple_base::Steps;
+use marple_base::{Steps, copy_words};
 use std::alloc::{AllocError, Global};
 use std::marker::Model;
 use std::sync::ledger::Ledger;
@@ -100,6 +101,20 @@ impl EvictPipe {
         ensures length { length result.now ≡ self.now.record_words }
     {
         self.record(0)
+    }
+
+    /// Copies the oldest record, if there is one.
+    pub fn front_into<L: Ledger>(&self, into: &mut [u64], steps: &mut Steps<L>) -> bool
+        requires { length into.old ≡ self.now.record_words }
+        ensures some { result ≡ not (length self.now.records == 0) }
+        ensures copied { into.new ≡ (if result then slice_index_or self.now.records 0 [] else into.old) }
+        ensures cost { steps.new ≡ steps.old + (if result then self.now.record_words else 0) }
+    {
+        if self.len() == 0 {
+            return false;
+        }
+        copy_words(self.front(), into, steps);
+        true
     }
 
     /// Copies a record, the oldest being 0.

@@ -17,10 +17,10 @@
 //! the words of the column, then the history, a product for each element of the map and each linear variable, and the
 //! words of the map.
 //!
-//! An eviction writes the key and the entry into the pipe, and takes one for the bucket that has a key less. A merge takes
-//! one for each word of the key and of the entry, which come out of the pipe. Then the body is run on each logged row;
-//! where the log is full, each linear variable is read, has a product with each of them, is copied and is written, and the
-//! history is written. What the store does to find the key isn't counted.
+//! An eviction writes the key and the entry into the pipe, and takes one for the bucket that has a key less. At a merge the
+//! body is run on each logged row of the entry, which stays in the pipe until then; where the log is full, each linear
+//! variable is read, has a product with each of them, is copied and is written, and the history is written. What the store
+//! does to find the key isn't counted.
 
 ghost use Rattle.std.specs.Prelude.{◌≡◌, ◌<◌, ◌≤◌};
 
@@ -72,14 +72,14 @@ const FILTERED: Case = Case {
             Event::Packet(2, 100),
             16 + 1 + 1 + 1 + (1 + 3) + 1 + 1 + 3 + 8,
         ),
-        // 1 word of the key and 3 of the entry out of the pipe + 1 variable read + 1 product + 1 copied + 1 written
-        (Event::Merge, (1 + 3) + 1 + 1 + 1 + 1),
+        // 1 variable read + 1 product + 1 copied + 1 written
+        (Event::Merge, 1 + 1 + 1 + 1),
         // a packet that the filter drops: 16 registers
         (Event::Packet(3, 1000), 16),
         // 1 word of the key and 3 of the entry into the pipe + 1 for the bucket that has a key less
         (Event::Evict, (1 + 3) + 1),
         // the pipe is full, and no epoch is open: a merge
-        (Event::Sweep, 8),
+        (Event::Sweep, 4),
         // nothing is left
         (Event::Evict, 0),
         (Event::Merge, 0),
@@ -88,7 +88,7 @@ const FILTERED: Case = Case {
         (Event::Packet(1, 100), 31),
         (Event::Packet(2, 100), 36),
         // the pipe is full before the eviction and after it: a merge + an eviction + a merge
-        (Event::Sweep, 8 + 5 + 8),
+        (Event::Sweep, 4 + 5 + 4),
     ],
 };
 
@@ -117,14 +117,13 @@ const TWO_WAYS: Case = Case {
             Event::Packet(2, 100),
             2 + 2 + (1 + 1) + (2 + 3) + 2 + 2 + 3 + 8,
         ),
-        // a full pipe and two open epochs: three merges, each of 2 words of the key and 3 of the entry out of the pipe
-        // + 1 variable read + 1 product + 1 copied + 1 written, and two evictions, each of 2 words of the key and 3 of the
-        // entry into the pipe + 1 for the bucket
-        (Event::Sweep, 3 * ((2 + 3) + 4) + 2 * ((2 + 3) + 1)),
+        // a full pipe and two open epochs: three merges, each of 1 variable read + 1 product + 1 copied + 1 written, and two
+        // evictions, each of 2 words of the key and 3 of the entry into the pipe + 1 for the bucket
+        (Event::Sweep, 3 * 4 + 2 * ((2 + 3) + 1)),
         // a new key, and then an eviction and a merge by themselves
         (Event::Packet(1, 100), 2 + 2 + 1 + 2 + 3 + 8),
         (Event::Evict, (2 + 3) + 1),
-        (Event::Merge, (2 + 3) + 4),
+        (Event::Merge, 4),
     ],
 };
 
@@ -153,9 +152,9 @@ const COMPOSED: Case = Case {
             Event::Packet(2, 4),
             1 + 1 + 1 + 1 + (1 + 9) + 1 + 1 + 8 + 25,
         ),
-        // 1 word of the key and 9 of the entry out of the pipe + 21 for the logged row + 2 variables read + 4 products
+        // 21 for the logged row + 2 variables read + 4 products
         // + 2 copied + 2 written + 1 of the history
-        (Event::Merge, (1 + 9) + 21 + 2 + 4 + 2 + 2 + 1),
+        (Event::Merge, 21 + 2 + 4 + 2 + 2 + 1),
         // 1 word of the key and 9 of the entry into the pipe + 1 for the bucket
         (Event::Evict, (1 + 9) + 1),
     ],
@@ -185,13 +184,13 @@ const MOVED: Case = Case {
             Event::Packet(2, 4),
             1 + 2 + 1 + 1 + (1 + 9) + 1 + 1 + 5 + 21,
         ),
-        // a full log: 1 word of the key and 9 of the entry out of the pipe + 2 * 14 for the logged rows + 1 variable read
+        // a full log: 2 * 14 for the logged rows + 1 variable read
         // + 1 product + 1 copied + 1 written + 2 of the history
-        (Event::Merge, (1 + 9) + 2 * 14 + 1 + 1 + 1 + 1 + 2),
+        (Event::Merge, 2 * 14 + 1 + 1 + 1 + 1 + 2),
         // 1 word of the key and 9 of the entry into the pipe + 1 for the bucket
         (Event::Evict, (1 + 9) + 1),
-        // a log of one row: 1 word of the key and 9 of the entry out of the pipe + 14 for the row
-        (Event::Merge, (1 + 9) + 14),
+        // a log of one row: 14 for the row
+        (Event::Merge, 14),
     ],
 };
 
@@ -212,8 +211,8 @@ const COMPOSED_MAXIMA: Case = Case {
         (Event::Packet(1, 4), 1 + 1 + 1 + 1 + 1 + 28),
         // 1 word of the key and 5 of the entry into the pipe + 1 for the bucket
         (Event::Evict, (1 + 5) + 1),
-        // 1 word of the key and 5 of the entry out of the pipe + 1 variable read + 1 product + 1 copied + 1 written
-        (Event::Merge, (1 + 5) + 1 + 1 + 1 + 1),
+        // 1 variable read + 1 product + 1 copied + 1 written
+        (Event::Merge, 1 + 1 + 1 + 1),
     ],
 };
 
@@ -230,8 +229,8 @@ const MOVED_MAXIMA: Case = Case {
         (Event::Packet(1, 4), 1 + 1 + 1 + 1 + 1 + 9),
         // 1 word of the key and 5 of the entry into the pipe + 1 for the bucket
         (Event::Evict, (1 + 5) + 1),
-        // 1 word of the key and 5 of the entry out of the pipe + 1 variable read + 1 product + 1 copied + 1 written
-        (Event::Merge, (1 + 5) + 1 + 1 + 1 + 1),
+        // 1 variable read + 1 product + 1 copied + 1 written
+        (Event::Merge, 1 + 1 + 1 + 1),
     ],
 };
 
@@ -251,8 +250,8 @@ const OTHER: Case = Case {
         (Event::Packet(1, 4), 1 + 1 + 1 + 1 + 1 + 8),
         // 1 word of the key and 1 of the entry into the pipe + 1 for the bucket
         (Event::Evict, (1 + 1) + 1),
-        // 1 word of the key and 1 of the entry out of the pipe + 1 of the state
-        (Event::Merge, (1 + 1) + 1),
+        // 1 of the state
+        (Event::Merge, 1),
     ],
 };
 
@@ -269,8 +268,8 @@ const BOUNDS: Case = Case {
         (Event::Packet(1, 4), 1 + 1 + 1 + 1 + 1 + 3 * 8),
         // 1 word of the key and 3 of the entry into the pipe + 1 for the bucket
         (Event::Evict, (1 + 3) + 1),
-        // 1 word of the key and 3 of the entry out of the pipe + 3 of the states
-        (Event::Merge, (1 + 3) + 3),
+        // 3 of the states
+        (Event::Merge, 3),
     ],
 };
 

@@ -28,3 +28,5 @@ mod kinds;
 mod lanes;
 #[cfg(test)]
 mod one_lane;
+#[cfg(test)]
+mod pipes;
