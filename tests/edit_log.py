@@ -19,7 +19,10 @@ HEAD = re.compile(r"([A-Z a-z]+): ([\w/-]+\.edit), (\d+) s")
 COLUMNS = "| Wrong body | Crate | Edit | Refused by |\n|---|---|---|---|\n"
 # A place, with or without its line; then a goal, or what isn't proved with the goal's name at the end.
 ERROR = re.compile(r"(?:by a limit of the prover: )?(\S+?)(?::\d+:\d+)?: error: `([^`]+)`")
-UNPROVED = re.compile(r"(?:by a limit of the prover: )?(\S+?):\d+:\d+: it is not proved that .*\(`([^`]+)`\)")
+UNPROVED = re.compile(r"(?:by a limit of the prover: )?(\S+?):\d+:\d+: it is not proved that (.*) \(`([^`]+)`\)")
+# Goals of functions that call one another begin with the function's name.
+ENSURED = re.compile(r"(?:(\w+)-)?(returns\b.*)")
+ASKED = re.compile(r"what `([^`]+)` requires")
 # A goal of safety: that a sum fits, that an index is in range. It says nothing of what a function means.
 BOUND = re.compile(r"(?:overflow_|slice_bounds|cast|unreachable-|(?:index|slice)(?:_mut)?-(?:.*-)?requires)")
 MEANING = 5  # goals of this rank or a lower one are about what a function means, or about a law
@@ -85,14 +88,21 @@ def place_of(file: str) -> str:
 
 def goal_of(said: str) -> Goal | None:
     """What one thing that the prover said is about; None where it names no goal."""
-    found = ERROR.match(said) or UNPROVED.match(said)
-    if not found:
-        return None
-    place, goal = place_of(found[1]), found[2]
+    unproved, found = UNPROVED.match(said), ERROR.match(said)
+    if unproved:
+        return goal_at(place_of(unproved[1]), unproved[3], unproved[2])
+    return goal_at(place_of(found[1]), found[2], "") if found else None
+
+
+def goal_at(place: str, goal: str, words: str) -> Goal:
+    """The goal of this name at a place, of which the prover may have said in words what it is."""
+    ensured = ENSURED.fullmatch(goal) if words else None
+    if ensured and ensured[1]:
+        place, goal = f"`{ensured[1]}`", ensured[2]
     start, clause = goal.split("-", 1)[0], goal.partition("-clause-")[2]
     if BOUND.match(goal):
         return Goal(MEANING + 1, f"the bound `{goal}` in {place}")
-    called = re.match(r"(.+?)(?:-\w+)*?-requires\b", goal)
+    called = ASKED.match(words) or re.match(r"(.+?)(?:-\w+)*?-requires\b", goal)
     if called:
         return Goal(4, f"what `{called[1]}` requires{f', clause `{clause}`,' * bool(clause)} in {place}")
     if start.startswith("returns"):

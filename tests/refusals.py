@@ -31,14 +31,14 @@ def vanished(said: list[str]) -> str:
 
 
 def said_against(status: int, text: str) -> list[str]:
-    """All errors and unproved goals by which the prover refuses a crate, whole; none if it is proved.
+    """All errors and unproved goals by which the prover refuses a crate, whole and each once; none if it is proved.
 
     Raises BadEdit if it didn't come to a verdict.
     """
     if status == 0:
         return []
     errors = [joined(it) for it in ERROR.findall(text)]
-    said = errors + [joined(it) for it in GOAL.findall(text)]
+    said = [*dict.fromkeys(errors + [joined(it) for it in GOAL.findall(text)])]
     last = text.rstrip("\n").rpartition("\n")[2]
     uncovered = UNCOVERED.search(text)
     if uncovered:
