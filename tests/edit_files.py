@@ -100,6 +100,11 @@ def can_join(edit: Path, group: list[Path], folder: Path) -> bool:
     return True
 
 
+def function_on(text: str, line: int) -> str:
+    """The name of the last function whose head is on this line of a source or before it."""
+    return function_at(text, len("".join(text.splitlines(keepends=True)[:line])) - 1)
+
+
 def is_about(said: str, function: Function, texts: Mapping[str, str]) -> bool:
     """Whether what the prover said of a crate with these files is about the function: its body, or a file of its proof."""
     place = PLACE.match(said)
@@ -107,7 +112,17 @@ def is_about(said: str, function: Function, texts: Mapping[str, str]) -> bool:
         return False
     path, line = place[1], int(place[2])
     if path == function.file:
-        lines = texts[path].splitlines(keepends=True)
-        return function_at(texts[path], len("".join(lines[: line - 1])) + len(lines[line - 1]) - 1) == function.name
+        return function_on(texts[path], line) == function.name
     module = function.file.removeprefix("src/").removesuffix(".rt")
     return path.startswith(f"proofs/{module}/") and path.split("/")[-2].removeprefix("+") == function.name
+
+
+def with_function(said: str, texts: Mapping[str, str], folder: Path) -> str:
+    """What the prover said of a crate with these files, and after it the function, if it is about a place in a source."""
+    place = PLACE.match(said)
+    source = folder / place[1] if place and place[1].startswith("src/") else None
+    if not place or not source or not source.is_file():
+        return said
+    text = texts[place[1]] if place[1] in texts else source.read_text(encoding="utf-8")
+    name = function_on(text, int(place[2]))
+    return f"{said}; in `{name}`" if name else said

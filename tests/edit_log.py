@@ -1,7 +1,7 @@
 """The log of tried edits, bench/edits/log.txt, and the table of docs/TESTING.md that is made of it.
 
 The log has for each edit a line `VERDICT: CRATE/FOLDER/NAME.edit, N s`, and after it, indented, a line for each thing that the
-prover said against it.
+prover said against it, with the function at its end if it is said of a place in a source.
 """
 
 from __future__ import annotations
@@ -23,6 +23,8 @@ UNPROVED = re.compile(r"(?:by a limit of the prover: )?(\S+?):\d+:\d+: it is not
 # Goals of functions that call one another begin with the function's name.
 ENSURED = re.compile(r"(?:(\w+)-)?(returns\b.*)")
 ASKED = re.compile(r"what `([^`]+)` requires")
+# The function of a place in a source, which tests/edits adds.
+OWNER = re.compile(r"; in `(\w+)`$")
 # A goal of safety: that a sum fits, that an index is in range. It says nothing of what a function means.
 BOUND = re.compile(r"(?:overflow_|slice_bounds|cast|unreachable-|(?:index|slice)(?:_mut)?-(?:.*-)?requires)")
 MEANING = 5  # goals of this rank or a lower one are about what a function means, or about a law
@@ -88,9 +90,9 @@ def place_of(file: str) -> str:
 
 def goal_of(said: str) -> Goal | None:
     """What one thing that the prover said is about; None where it names no goal."""
-    unproved, found = UNPROVED.match(said), ERROR.match(said)
+    unproved, found, owner = UNPROVED.match(said), ERROR.match(said), OWNER.search(said)
     if unproved:
-        return goal_at(place_of(unproved[1]), unproved[3], unproved[2])
+        return goal_at(f"`{owner[1]}`" if owner else place_of(unproved[1]), unproved[3], unproved[2])
     return goal_at(place_of(found[1]), found[2], "") if found else None
 
 
