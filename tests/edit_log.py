@@ -90,10 +90,12 @@ def place_of(file: str) -> str:
 
 def goal_of(said: str) -> Goal | None:
     """What one thing that the prover said is about; None where it names no goal."""
-    unproved, found, owner = UNPROVED.match(said), ERROR.match(said), OWNER.search(said)
-    if unproved:
-        return goal_at(f"`{owner[1]}`" if owner else place_of(unproved[1]), unproved[3], unproved[2])
-    return goal_at(place_of(found[1]), found[2], "") if found else None
+    unproved, owner = UNPROVED.match(said), OWNER.search(said)
+    found = unproved or ERROR.match(said)
+    if not found:
+        return None
+    place = f"`{owner[1]}`" if owner else place_of(found[1])
+    return goal_at(place, unproved[3], unproved[2]) if unproved else goal_at(place, found[2], "")
 
 
 def goal_at(place: str, goal: str, words: str) -> Goal:

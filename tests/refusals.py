@@ -16,6 +16,10 @@ VANISHED = re.compile(
 ERROR = re.compile(r"(?m)^(?:\./)?(\S+?:\d+:\d+: error: .*(?:\n[ \t]+.*)*)")
 # A goal that the prover was to find an answer for itself.
 GOAL = re.compile(r"(?m)^note: (?:\./)?(\S+?:\d+:\d+: it is not proved that .*)")
+# A goal whose answer the prover sought for itself, and broke off.
+SEARCH = re.compile(
+    r"(?m)^note: what antt said of a `search` in the proof that rattle made: (?:\./)?(\S+?:\d+:\d+: error: .*(?:\n[ \t]+.*)*)"
+)
 # A function that the prover looked no further into, nor into those that call it.
 UNCOVERED = re.compile(r"(?m)^fn \S+: no proof: .*the borrow checker does not cover this function.*")
 OF_RT = re.compile(r"(?m)^rt: must-fail (\S+\.edit): (.*)$")
@@ -38,7 +42,7 @@ def said_against(status: int, text: str) -> list[str]:
     if status == 0:
         return []
     errors = [joined(it) for it in ERROR.findall(text)]
-    said = [*dict.fromkeys(errors + [joined(it) for it in GOAL.findall(text)])]
+    said = [*dict.fromkeys(errors + [joined(it) for row in (GOAL, SEARCH) for it in row.findall(text)])]
     last = text.rstrip("\n").rpartition("\n")[2]
     uncovered = UNCOVERED.search(text)
     if uncovered:
